@@ -96,7 +96,3 @@ KnownBy s h e word.Drained =
 
 abbrev pub Known : Start → List Entry → Entry → Type 0
 Known s h e = KnownBy s h e e.word
-
--- each entry that a step makes is known by its word
-pub known : (s : Start) (h : List Entry) (step : Step) (e : Entry) → entry_for s h e.seat step ≡ Ok (Some e) → Known s h e
-known s h step e made = ?
