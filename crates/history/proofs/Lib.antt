@@ -4,3 +4,7 @@ pub mod Plain
 pub mod PartLemmas
 pub mod Breaks
 pub mod Writing
+pub mod LineLemmas
+pub mod Sums
+pub mod Changes
+pub mod Entering
