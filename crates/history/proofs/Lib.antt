@@ -14,3 +14,4 @@ pub mod SleepLemmas
 pub mod Owners
 pub mod OneWait
 pub mod WhoWaits
+pub mod Passing
