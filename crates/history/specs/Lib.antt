@@ -1,6 +1,11 @@
 pub mod Fault
 pub mod Header
+pub mod Text
+pub mod Spelling
+pub mod Reading
+pub mod EntryWords
 pub mod Entry
+pub mod Entries
 pub mod Object
 pub mod Start
 pub mod Counts

@@ -5,7 +5,13 @@
 #![tactic(auto)]
 
 pub mod arrival;
+pub mod entries;
 pub mod entry;
+pub mod entry_text;
 pub mod fault;
 pub mod header;
+pub mod header_text;
+pub mod number;
 pub mod step;
+pub mod text;
+pub mod words;
