@@ -11,3 +11,4 @@ pub mod Changes
 pub mod Entering
 pub mod ListSums
 pub mod Owing
+pub mod Asleep

@@ -58,7 +58,7 @@ releases o e = released_by o e.word e.n
 -- does anybody come back.
 pub record AreApart (s : Start) (h : List Entry) : Type 0 where
   pub in_line : StandOnce (line s h)
-  pub asleep : (c : ℕ) → AreOnce (sleepers s h c)
+  pub asleep : (c : ℕ) → c < s.header.conditions → AreOnce (sleepers s h c)
   pub condition : (i : ℕ) → sleeps_below s.header.conditions s h i ≡ true → ((last_sleep s h i).condition < s.header.conditions) × (has i (sleepers s h (last_sleep s h i).condition) ≡ true)
   pub back : AllByRecursion (λ a. a.back ≡ true → is_lock s.header.object ≡ true) (line s h)
 
@@ -411,12 +411,12 @@ owed_signal_all s e h p seat condition n =
   plus_none x = omega arith
 
 -- where a seat is in no line it may still sleep
-phase_sleeping : (o : Option Arrival) (b : Bool) → phase_by o b ≡ Sleeping → b ≡ true
+pub phase_sleeping : (o : Option Arrival) (b : Bool) → phase_by o b ≡ Sleeping → b ≡ true
 phase_sleeping (Some a) b p = cc
 phase_sleeping None true p = refl
 phase_sleeping None false p = cc
 
-phase_idle : (o : Option Arrival) (b : Bool) → phase_by o b ≡ Idle → (o ≡ None) × (b ≡ false)
+pub phase_idle : (o : Option Arrival) (b : Bool) → phase_by o b ≡ Idle → (o ≡ None) × (b ≡ false)
 phase_idle (Some a) b p = absurd (cc)
 phase_idle None true p = absurd (cc)
 phase_idle None false p = (refl, refl)
@@ -428,13 +428,13 @@ owed_lapse s e h p seat apart sleeps is =
     let condition : e.at < s.header.conditions = subst (λ x. x < s.header.conditions) (sym c) k.0 in
     let there : has e.seat (sleepers s h e.at) ≡ true = ap (λ x. has e.seat (sleepers s h x)) c ∙ k.1 in
     owed_moved s e h word.Lapse (e.seat ∷ []) 1 p refl refl seat condition refl refl
-        (join _ _ _ (sum_of_without (sleeper_owes s h) e.seat (sleepers s h e.at) (apart.asleep e.at) there)) refl
+        (join _ _ _ (sum_of_without (sleeper_owes s h) e.seat (sleepers s h e.at) (apart.asleep e.at condition) there)) refl
   where
   join : (x f t : ℕ) → x + f ≡ t → f + 0 + x ≡ t
   join x f t q = omega (arith, q)
 
 -- an await
-no_condition_below : (n : ℕ) (s : Start) (h : List Entry) (i c : ℕ) → sleeps_below n s h i ≡ false → c < n → has i (sleepers s h c) ≡ false
+pub no_condition_below : (n : ℕ) (s : Start) (h : List Entry) (i c : ℕ) → sleeps_below n s h i ≡ false → c < n → has i (sleepers s h c) ≡ false
 no_condition_below zero s h i c t l = absurd (omega arith)
 no_condition_below (suc n) s h i c t l =
     let parts = neither _ _ t in
@@ -447,7 +447,7 @@ no_condition_below (suc n) s h i c t l =
   less ne = omega (arith, ne, l)
 
 -- by an await only the last sleep of its own seat changes
-sleep_of_others : (s : Start) (e : Entry) (h : List Entry) (i : ℕ) → i ≢ e.seat → last_sleep s (e ∷ h) i ≡ last_sleep s h i
+pub sleep_of_others : (s : Start) (e : Entry) (h : List Entry) (i : ℕ) → i ≢ e.seat → last_sleep s (e ∷ h) i ≡ last_sleep s h i
 sleep_of_others s e h i ne = rw (ne_eqb e.seat i (λ q. ne (sym q))) refl
 
 owed_await : (s : Start) (e : Entry) (h : List Entry) → e.word ≡ word.Await → e.seat < s.header.seats → OnCondition s h e → e.n ≡ held s h e.seat X → owed s (e ∷ h) + 0 ≡ owed s h + 2
