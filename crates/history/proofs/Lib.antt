@@ -12,3 +12,4 @@ pub mod Entering
 pub mod ListSums
 pub mod Owing
 pub mod Asleep
+pub mod RoomLemmas
