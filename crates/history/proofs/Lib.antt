@@ -13,3 +13,4 @@ pub mod ListSums
 pub mod Owing
 pub mod Asleep
 pub mod RoomLemmas
+pub mod Permits

@@ -65,7 +65,7 @@ pub results_fit : (s : Start) (h : List Entry) (steps : List (ℕ × Step)) → 
 results_fit s h [] fits = fits
 results_fit s h (first ∷ steps) fits = results_fit s (answer s h first.0 first.1).1 steps (answer_fits s h first.0 first.1 fits)
 
-total_nothing : (n : ℕ) → total n (λ i. 0) ≡ 0
+pub total_nothing : (n : ℕ) → total n (λ i. 0) ≡ 0
 total_nothing zero = refl
 total_nothing (suc n) = let e = total_nothing n in omega (arith, e)
 
