@@ -9,8 +9,11 @@ pub mod LineLemmas
 pub mod Sums
 pub mod Changes
 pub mod Entering
+pub mod Times
+pub mod SleepLemmas
+pub mod Owners
+pub mod OneWait
 pub mod ListSums
 pub mod Owing
-pub mod Asleep
 pub mod RoomLemmas
 pub mod Permits

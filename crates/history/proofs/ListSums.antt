@@ -1,12 +1,14 @@
 -- Sums over lists and over the first numbers.
 use Rattle.std.proofs.Common.{◌≡◌, ◌≢◌, ◌⊎◌, ⊎_elim, ℕ, zero, suc, ◌+◌, ◌-◌, ◌<◌, ◌≤◌, Bool, true, false, not, ◌||◌, cond, eqb, List, [], ◌∷◌, ◌++◌, length, map, take, drop, Option, Some, None, refl, ap, ◌∙◌, sym, subst, arith}
-use Rattle.std.specs.List.{filter, AllByRecursion}
+use Rattle.std.specs.List.{filter}
 use Rattle.std.proofs.lemmas.Bool.{cases_eq, eq-eqb, ne_eqb, eqb-true}
 use Rattle.history.specs.declared.arrival.Arrival.{Arrival}
 use Rattle.history.specs.Counts.{total}
 use Rattle.history.specs.Line.{place_of}
 use Rattle.history.specs.Room.{sum_of}
 use Rattle.history.specs.Sleepers.{has, without}
+use Rattle.history.specs.Waiting.{times, seats_of}
+use Rattle.history.proofs.Times.{never_has, never_placed, once_same}
 
 -- sums over a list
 pub sum_of_append : {A : Type 0} (f : A → ℕ) (xs ys : List A) → sum_of f (xs ++ ys) ≡ sum_of f xs + sum_of f ys
@@ -41,15 +43,6 @@ sum_of_split f (suc n) (x ∷ xs) =
     let ih : sum_of f (take n xs) + sum_of f (drop n xs) ≡ sum_of f xs = sum_of_split f n xs in
     omega (arith, ih)
 
--- Lists of seats, and lines, in which each seat is once.
-abbrev pub AreOnce : List ℕ → Type 0
-AreOnce [] = Unit {0}
-AreOnce (i ∷ seats) = (has i seats ≡ false) × AreOnce seats
-
-abbrev pub StandOnce : List Arrival → Type 0
-StandOnce [] = Unit {0}
-StandOnce (a ∷ q) = (place_of a.seat q ≡ None) × StandOnce q
-
 -- a list without a seat that it lacks is that list, and one without a seat that is in it once lacks that seat's term
 without_none : (i : ℕ) (seats : List ℕ) → has i seats ≡ false → without i seats ≡ seats
 without_none i [] none = refl
@@ -59,22 +52,23 @@ without_none i (j ∷ seats) none = by (eqb j i) none (λ n. without_none i seat
   by true none ih = cc
   by false none ih = ap (λ l. j ∷ l) (ih none)
 
-pub sum_of_without : (f : ℕ → ℕ) (i : ℕ) (seats : List ℕ) → AreOnce seats → has i seats ≡ true → sum_of f (without i seats) + f i ≡ sum_of f seats
+pub sum_of_without : (f : ℕ → ℕ) (i : ℕ) (seats : List ℕ) → times i seats ≤ 1 → has i seats ≡ true → sum_of f (without i seats) + f i ≡ sum_of f seats
 sum_of_without f i [] once there = cc
-sum_of_without f i (j ∷ seats) once there = ⊎_elim same (λ ne. other ne (λ t. sum_of_without f i seats once.1 t)) (cases_eq j i)
+sum_of_without f i (j ∷ seats) once there = ⊎_elim same (λ ne. other ne (λ l t. sum_of_without f i seats l t)) (cases_eq j i)
   where
   same : j ≡ i → sum_of f (without i (j ∷ seats)) + f i ≡ sum_of f (j ∷ seats)
   same e =
     let t : eqb j i ≡ true = eq-eqb j i e in
-    let n : has i seats ≡ false = ap (λ x. has x seats) (sym e) ∙ once.0 in
+    let o = once_same j i e in
+    let n : has i seats ≡ false = never_has i seats (omega (arith, once, o)) in
     let w : sum_of f (without i seats) ≡ sum_of f seats = ap (sum_of f) (without_none i seats n) in
     let x : f j ≡ f i = ap f e in
     rw t (omega (arith, w, x))
-  other : (j ≡ i → ⊥) → (has i seats ≡ true → sum_of f (without i seats) + f i ≡ sum_of f seats) → sum_of f (without i (j ∷ seats)) + f i ≡ sum_of f (j ∷ seats)
+  other : (j ≡ i → ⊥) → (times i seats ≤ 1 → has i seats ≡ true → sum_of f (without i seats) + f i ≡ sum_of f seats) → sum_of f (without i (j ∷ seats)) + f i ≡ sum_of f (j ∷ seats)
   other ne ih =
     let t : eqb j i ≡ false = ne_eqb j i ne in
     let r : has i seats ≡ true = rw t at there in
-    let w : sum_of f (without i seats) + f i ≡ sum_of f seats = ih r in
+    let w : sum_of f (without i seats) + f i ≡ sum_of f seats = ih (omega (arith, once)) r in
     rw t (omega (arith, w))
 
 -- the line without a seat
@@ -97,9 +91,9 @@ line_without_none i (a ∷ q) none = ⊎_elim same (λ ne. other ne (λ n. line_
     let n : place_of i q ≡ None = rw t at none in
     rw u (ap (λ l. a ∷ l) (ih n))
 
-pub sum_of_line_without : (f : Arrival → ℕ) (i : ℕ) (a : Arrival) (q : List Arrival) → StandOnce q → place_of i q ≡ Some a → sum_of f (line_without i q) + f a ≡ sum_of f q
+pub sum_of_line_without : (f : Arrival → ℕ) (i : ℕ) (a : Arrival) (q : List Arrival) → times i (seats_of q) ≤ 1 → place_of i q ≡ Some a → sum_of f (line_without i q) + f a ≡ sum_of f q
 sum_of_line_without f i a [] once there = cc
-sum_of_line_without f i a (x ∷ q) once there = ⊎_elim same (λ ne. other ne (λ t. sum_of_line_without f i a q once.1 t)) (cases_eq x.seat i)
+sum_of_line_without f i a (x ∷ q) once there = ⊎_elim same (λ ne. other ne (λ l t. sum_of_line_without f i a q l t)) (cases_eq x.seat i)
   where
   same : x.seat ≡ i → sum_of f (line_without i (x ∷ q)) + f a ≡ sum_of f (x ∷ q)
   same e =
@@ -107,50 +101,18 @@ sum_of_line_without f i a (x ∷ q) once there = ⊎_elim same (λ ne. other ne 
     let u : eqb i x.seat ≡ true = eq-eqb i x.seat (sym e) in
     let s : ◌≡◌ {A = Option Arrival} (Some x) (Some a) = rw t at there in
     let xa : x ≡ a = cc in
-    let n : place_of i q ≡ None = ap (λ j. place_of j q) (sym e) ∙ once.0 in
+    let o = once_same x.seat i e in
+    let n : place_of i q ≡ None = never_placed i q (omega (arith, once, o)) in
     let w : sum_of f (line_without i q) ≡ sum_of f q = ap (sum_of f) (line_without_none i q n) in
     let y : f x ≡ f a = ap f xa in
     rw u (omega (arith, w, y))
-  other : (x.seat ≡ i → ⊥) → (place_of i q ≡ Some a → sum_of f (line_without i q) + f a ≡ sum_of f q) → sum_of f (line_without i (x ∷ q)) + f a ≡ sum_of f (x ∷ q)
+  other : (x.seat ≡ i → ⊥) → (times i (seats_of q) ≤ 1 → place_of i q ≡ Some a → sum_of f (line_without i q) + f a ≡ sum_of f q) → sum_of f (line_without i (x ∷ q)) + f a ≡ sum_of f (x ∷ q)
   other ne ih =
     let t : eqb x.seat i ≡ false = ne_eqb x.seat i ne in
     let u : eqb i x.seat ≡ false = ne_eqb i x.seat (λ y. ne (sym y)) in
     let r : place_of i q ≡ Some a = rw t at there in
-    let w : sum_of f (line_without i q) + f a ≡ sum_of f q = ih r in
+    let w : sum_of f (line_without i q) + f a ≡ sum_of f q = ih (omega (arith, once)) r in
     rw u (omega (arith, w))
-
--- who stands in line for a seat is of that seat, and is as all in the line are
-pub place_seat : (i : ℕ) (a : Arrival) (q : List Arrival) → place_of i q ≡ Some a → a.seat ≡ i
-place_seat i a [] there = cc
-place_seat i a (x ∷ q) there = ⊎_elim same (λ ne. other ne (λ t. place_seat i a q t)) (cases_eq x.seat i)
-  where
-  same : x.seat ≡ i → a.seat ≡ i
-  same e =
-    let t : eqb x.seat i ≡ true = eq-eqb x.seat i e in
-    let s : ◌≡◌ {A = Option Arrival} (Some x) (Some a) = rw t at there in
-    let xa : x ≡ a = cc in
-    ap (λ y. y.seat) (sym xa) ∙ e
-  other : (x.seat ≡ i → ⊥) → (place_of i q ≡ Some a → a.seat ≡ i) → a.seat ≡ i
-  other ne ih =
-    let t : eqb x.seat i ≡ false = ne_eqb x.seat i ne in
-    let r : place_of i q ≡ Some a = rw t at there in
-    ih r
-
-pub place_all : (P : Arrival → Type 0) (i : ℕ) (a : Arrival) (q : List Arrival) → AllByRecursion P q → place_of i q ≡ Some a → P a
-place_all P i a [] all there = absurd (cc)
-place_all P i a (x ∷ q) all there = ⊎_elim same (λ ne. other ne (λ t. place_all P i a q all.1 t)) (cases_eq x.seat i)
-  where
-  same : x.seat ≡ i → P a
-  same e =
-    let t : eqb x.seat i ≡ true = eq-eqb x.seat i e in
-    let s : ◌≡◌ {A = Option Arrival} (Some x) (Some a) = rw t at there in
-    let xa : x ≡ a = cc in
-    subst P xa all.0
-  other : (x.seat ≡ i → ⊥) → (place_of i q ≡ Some a → P a) → P a
-  other ne ih =
-    let t : eqb x.seat i ≡ false = ne_eqb x.seat i ne in
-    let r : place_of i q ≡ Some a = rw t at there in
-    ih r
 
 -- two functions that agree but at a seat have one sum where that seat is missing
 pub sum_of_others : (f g : ℕ → ℕ) (i : ℕ) (seats : List ℕ) → ((j : ℕ) → j ≢ i → f j ≡ g j) → has i seats ≡ false → sum_of f seats ≡ sum_of g seats

@@ -21,12 +21,17 @@ use Rattle.history.specs.Object.{is_lock, is_semaphore, in_holds}
 use Rattle.history.specs.Phase.{Phase, Idle, InLine, Sleeping, phase, phase_by}
 use Rattle.history.specs.Room.{sum_of, holds_owe, arrival_owes, sleeper_owes, sleepers_owe, owed}
 use Rattle.history.specs.Sleepers.{sleepers, sleepers_after, sleep_after, last_sleep, sleeps_below, has, without}
-use Rattle.history.specs.Start.{Start, Sleep}
+use Rattle.history.specs.Legal.{IsLegal, AreSeated}
+use Rattle.history.specs.Start.{Start, Sleep, opening}
+use Rattle.history.specs.Waiting.{times, seats_of, IsOneWait}
 use Rattle.history.specs.Steps.{gave, at_most_one, back, lapse}
 use Rattle.history.proofs.Changes.{all_stay}
-use Rattle.history.proofs.Entering.{Known, KnownBy, Asked, OnCondition, LeavesLine}
+use Rattle.history.proofs.Entering.{Known, KnownBy, Asked, OnCondition, LeavesLine, known}
 use Rattle.history.proofs.LineLemmas.{line_after, stays, no_arrival}
-use Rattle.history.proofs.ListSums.{sum_of_append, sum_of_same, sum_of_more, sum_of_map, sum_of_split, AreOnce, StandOnce, sum_of_without, line_without, sum_of_line_without, place_seat, place_all, sum_of_others, sum_of_line_others, total_agree, total_change_below}
+use Rattle.history.proofs.ListSums.{sum_of_append, sum_of_same, sum_of_more, sum_of_map, sum_of_split, sum_of_without, line_without, sum_of_line_without, sum_of_others, sum_of_line_others, total_agree, total_change_below}
+use Rattle.history.proofs.OneWait.{Waits, SavedIfBack, placed, waits}
+use Rattle.history.proofs.SleepLemmas.{awake_nowhere, idle_parts, last_sleep_other, sleeping_parts, sleeps_at, times-waiting}
+use Rattle.history.proofs.Times.{never_has, place_once, total_part}
 use Rattle.history.proofs.Sums.{total_same, total_change}
 
 -- For how many entries more room is reserved by an entry, and what it releases. A hold of a lock is given
@@ -54,13 +59,22 @@ reserves o e = reserved_by o e.word
 abbrev pub releases : Object → Entry → ℕ
 releases o e = released_by o e.word e.n
 
--- What is needed of those who wait: each does so once, for what its last sleep says, and only at a lock
--- does anybody come back.
-pub record AreApart (s : Start) (h : List Entry) : Type 0 where
-  pub in_line : StandOnce (line s h)
-  pub asleep : (c : ℕ) → c < s.header.conditions → AreOnce (sleepers s h c)
-  pub condition : (i : ℕ) → sleeps_below s.header.conditions s h i ≡ true → ((last_sleep s h i).condition < s.header.conditions) × (has i (sleepers s h (last_sleep s h i).condition) ≡ true)
-  pub back : AllByRecursion (λ a. a.back ≡ true → is_lock s.header.object ≡ true) (line s h)
+-- a seat is in line or on a condition once, and where it doesn't sleep on none
+in_line_once : (s : Start) (h : List Entry) → IsOneWait s h → (i : ℕ) → times i (seats_of (line s h)) ≤ 1
+in_line_once s h once i = let w = times-waiting s h i in let o = once i in omega (arith, w, o)
+
+asleep_once : (s : Start) (h : List Entry) → IsOneWait s h → (i c : ℕ) → c < s.header.conditions → times i (sleepers s h c) ≤ 1
+asleep_once s h once i c l =
+    let w = times-waiting s h i in
+    let p = total_part s.header.conditions (λ d. times i (sleepers s h d)) c l in
+    let o = once i in
+    omega (arith, w, p, o)
+
+sleeps_not : (s : Start) (h : List Entry) (i c : ℕ) → sleeps_below s.header.conditions s h i ≡ false → c < s.header.conditions → has i (sleepers s h c) ≡ false
+sleeps_not s h i c t l =
+    let z = awake_nowhere s.header.conditions s h i t in
+    let p = total_part s.header.conditions (λ d. times i (sleepers s h d)) c l in
+    never_has i (sleepers s h c) (omega (arith, z, p))
 
 -- the holds
 abbrev if_lock : Object → ℕ → ℕ
@@ -251,13 +265,13 @@ line_joined s e h w p ends awake =
   join a b x y p q = omega (arith, p, q)
 
 -- a seat leaves the line
-line_left : (s : Start) (e : Entry) (h : List Entry) (w : Word) (a : Arrival) → e.word ≡ w → ends_arrival w ≡ true → falls_asleep w ≡ false → AreApart s h → place_of e.seat (line s h) ≡ Some a → line_owes s (e ∷ h) + arrival_owes s h a ≡ line_owes s h + 0
+line_left : (s : Start) (e : Entry) (h : List Entry) (w : Word) (a : Arrival) → e.word ≡ w → ends_arrival w ≡ true → falls_asleep w ≡ false → Waits s h → place_of e.seat (line s h) ≡ Some a → line_owes s (e ∷ h) + arrival_owes s h a ≡ line_owes s h + 0
 line_left s e h w a p ends awake apart there =
     let c = line_change s e h w p awake in
     let f = arrival_owes s h in
     let d : sum_of f (filter (stays w e.seat) (line s h)) ≡ sum_of f (line_without e.seat (line s h)) = ap (λ b. sum_of f (filter (λ x. not (b && eqb e.seat x.seat)) (line s h))) ends in
     let n : sum_of f (arrivals_by s w e h) ≡ 0 = ap (sum_of f) (no_arrival s w e h ends) in
-    let r = sum_of_line_without f e.seat a (line s h) apart.in_line there in
+    let r = sum_of_line_without f e.seat a (line s h) (in_line_once s h apart.once e.seat) there in
     join _ _ _ _ _ _ c d n r
   where
   join : (t u x y z v : ℕ) → t ≡ x + y → x ≡ z → y ≡ 0 → z + v ≡ u → t + v ≡ u + 0
@@ -305,7 +319,7 @@ lock_gave (Latch c) k i m n g = refl
 
 -- the words by which a seat leaves the line
 owed_left : (s : Start) (e : Entry) (h : List Entry) (w : Word) (a : Arrival) (l m : ℕ) → e.word ≡ w → ends_arrival w ≡ true → falls_asleep w ≡ false → moves_no_sleeper w ≡ true → e.seat < s.header.seats
-    → AreApart s h → place_of e.seat (line s h) ≡ Some a
+    → Waits s h → place_of e.seat (line s h) ≡ Some a
     → l + if_lock s.header.object (holds_after s.header.object w e.n (own s h e)) ≡ m + if_lock s.header.object (own s h e) + arrival_owes s h a
     → owed s (e ∷ h) + l ≡ owed s h + m
 owed_left s e h w a l m p t f u seat apart there q =
@@ -329,19 +343,19 @@ lock_granted (ReadWrite p) n x r e = omega (arith, e)
 lock_granted (Semaphore p c) n x r e = omega (arith, e)
 lock_granted (Latch c) n x r e = omega (arith, e)
 
-owed_granted : (s : Start) (e : Entry) (h : List Entry) (a : Arrival) → e.word ≡ word.Granted → e.seat < s.header.seats → AreApart s h → LeavesLine s h e a → owed s (e ∷ h) + 1 ≡ owed s h + 0
+owed_granted : (s : Start) (e : Entry) (h : List Entry) (a : Arrival) → e.word ≡ word.Granted → e.seat < s.header.seats → Waits s h → LeavesLine s h e a → owed s (e ∷ h) + 1 ≡ owed s h + 0
 owed_granted s e h a p seat apart k =
     owed_left s e h word.Granted a 1 0 p refl refl refl seat apart k.stands (lock_granted s.header.object e.n (own s h e) _ (queued_owes s h a k.queued))
 
-owed_gave_up : (s : Start) (e : Entry) (h : List Entry) (a : Arrival) → e.word ≡ word.Left → e.seat < s.header.seats → AreApart s h → LeavesLine s h e a → owed s (e ∷ h) + cond (is_lock s.header.object) 2 1 ≡ owed s h + 0
+owed_gave_up : (s : Start) (e : Entry) (h : List Entry) (a : Arrival) → e.word ≡ word.Left → e.seat < s.header.seats → Waits s h → LeavesLine s h e a → owed s (e ∷ h) + cond (is_lock s.header.object) 2 1 ≡ owed s h + 0
 owed_gave_up s e h a p seat apart k =
     let r = queued_owes s h a k.queued in
     owed_left s e h word.Left a (cond (is_lock s.header.object) 2 1) 0 p refl refl refl seat apart k.stands (omega (arith, r))
 
-owed_back : (s : Start) (e : Entry) (h : List Entry) (a : Arrival) → e.word ≡ word.Back → e.seat < s.header.seats → AreApart s h → place_of e.seat (line s h) ≡ Some a → a.back ≡ true → e ≡ back s h e.seat → owed s (e ∷ h) + 1 ≡ owed s h + 0
+owed_back : (s : Start) (e : Entry) (h : List Entry) (a : Arrival) → e.word ≡ word.Back → e.seat < s.header.seats → Waits s h → place_of e.seat (line s h) ≡ Some a → a.back ≡ true → e ≡ back s h e.seat → owed s (e ∷ h) + 1 ≡ owed s h + 0
 owed_back s e h a p seat apart there b is =
-    let lock : is_lock s.header.object ≡ true = place_all (λ x. x.back ≡ true → is_lock s.header.object ≡ true) e.seat a (line s h) apart.back there b in
-    let r : arrival_owes s h a ≡ (last_sleep s h e.seat).holds + 1 = back_owes s h a b ∙ ap (λ i. (last_sleep s h i).holds + 1) (place_seat e.seat a (line s h) there) in
+    let lock : is_lock s.header.object ≡ true = (placed (SavedIfBack s h) e.seat (line s h) a apart.line there b).saved.lock in
+    let r : arrival_owes s h a ≡ (last_sleep s h e.seat).holds + 1 = back_owes s h a b ∙ ap (λ i. (last_sleep s h i).holds + 1) (place_once e.seat (line s h) a there).0 in
     let n : e.n ≡ (last_sleep s h e.seat).holds = ap (λ (x : Entry). x.n) is in
     owed_left s e h word.Back a 1 0 p refl refl refl seat apart there (by (is_lock s.header.object) _ _ _ _ lock n r)
   where
@@ -410,57 +424,31 @@ owed_signal_all s e h p seat condition n =
   plus_none : (x : ℕ) → x + 0 ≡ x
   plus_none x = omega arith
 
--- where a seat is in no line it may still sleep
-pub phase_sleeping : (o : Option Arrival) (b : Bool) → phase_by o b ≡ Sleeping → b ≡ true
-phase_sleeping (Some a) b p = cc
-phase_sleeping None true p = refl
-phase_sleeping None false p = cc
-
-pub phase_idle : (o : Option Arrival) (b : Bool) → phase_by o b ≡ Idle → (o ≡ None) × (b ≡ false)
-phase_idle (Some a) b p = absurd (cc)
-phase_idle None true p = absurd (cc)
-phase_idle None false p = (refl, refl)
-
-owed_lapse : (s : Start) (e : Entry) (h : List Entry) → e.word ≡ word.Lapse → e.seat < s.header.seats → AreApart s h → phase s h e.seat ≡ Sleeping → e ≡ lapse s h e.seat e.end → owed s (e ∷ h) + 1 ≡ owed s h + 0
+owed_lapse : (s : Start) (e : Entry) (h : List Entry) → e.word ≡ word.Lapse → e.seat < s.header.seats → Waits s h → phase s h e.seat ≡ Sleeping → e ≡ lapse s h e.seat e.end → owed s (e ∷ h) + 1 ≡ owed s h + 0
 owed_lapse s e h p seat apart sleeps is =
-    let k = apart.condition e.seat (phase_sleeping _ _ sleeps) in
+    let k = sleeps_at s.header.conditions s h e.seat (sleeping_parts _ _ sleeps).1 in
+    let same : (last_sleep s h e.seat).condition ≡ k.0 = (apart.sleepers k.0 e.seat k.2).condition in
     let c : e.at ≡ (last_sleep s h e.seat).condition = ap (λ (x : Entry). x.at) is in
-    let condition : e.at < s.header.conditions = subst (λ x. x < s.header.conditions) (sym c) k.0 in
-    let there : has e.seat (sleepers s h e.at) ≡ true = ap (λ x. has e.seat (sleepers s h x)) c ∙ k.1 in
+    let condition : e.at < s.header.conditions = subst (λ x. x < s.header.conditions) (sym (c ∙ same)) k.1 in
+    let there : has e.seat (sleepers s h e.at) ≡ true = ap (λ x. has e.seat (sleepers s h x)) (c ∙ same) ∙ k.2 in
     owed_moved s e h word.Lapse (e.seat ∷ []) 1 p refl refl seat condition refl refl
-        (join _ _ _ (sum_of_without (sleeper_owes s h) e.seat (sleepers s h e.at) (apart.asleep e.at condition) there)) refl
+        (join _ _ _ (sum_of_without (sleeper_owes s h) e.seat (sleepers s h e.at) (asleep_once s h apart.once e.seat e.at condition) there)) refl
   where
   join : (x f t : ℕ) → x + f ≡ t → f + 0 + x ≡ t
   join x f t q = omega (arith, q)
 
 -- an await
-pub no_condition_below : (n : ℕ) (s : Start) (h : List Entry) (i c : ℕ) → sleeps_below n s h i ≡ false → c < n → has i (sleepers s h c) ≡ false
-no_condition_below zero s h i c t l = absurd (omega arith)
-no_condition_below (suc n) s h i c t l =
-    let parts = neither _ _ t in
-    ⊎_elim (λ e. ap (λ x. has i (sleepers s h x)) (sym e) ∙ parts.0) (λ ne. no_condition_below n s h i c parts.1 (less ne)) (cases_eq n c)
-  where
-  neither : (a b : Bool) → (a || b) ≡ false → (a ≡ false) × (b ≡ false)
-  neither true b t = absurd (cc)
-  neither false b t = (refl, t)
-  less : (n ≡ c → ⊥) → c < n
-  less ne = omega (arith, ne, l)
-
--- by an await only the last sleep of its own seat changes
-pub sleep_of_others : (s : Start) (e : Entry) (h : List Entry) (i : ℕ) → i ≢ e.seat → last_sleep s (e ∷ h) i ≡ last_sleep s h i
-sleep_of_others s e h i ne = rw (ne_eqb e.seat i (λ q. ne (sym q))) refl
-
 owed_await : (s : Start) (e : Entry) (h : List Entry) → e.word ≡ word.Await → e.seat < s.header.seats → OnCondition s h e → e.n ≡ held s h e.seat X → owed s (e ∷ h) + 0 ≡ owed s h + 2
 owed_await s e h p seat on n =
     let o = s.header.object in
     let d = s.header.conditions in
-    let idle = phase_idle _ _ on.idle in
-    let away : (c : ℕ) → c < d → has e.seat (sleepers s h c) ≡ false = λ c l. no_condition_below d s h e.seat c idle.1 l in
+    let idle = idle_parts _ _ on.idle in
+    let away : (c : ℕ) → c < d → has e.seat (sleepers s h c) ≡ false = λ c l. sleeps_not s h e.seat c idle.1 l in
     let line_is : line s (e ∷ h) ≡ line s h =
         line_after s e h ∙ ap (λ w. filter (stays w e.seat) (line s h) ++ arrivals_by s w e h) p ∙ append-nil _ ∙ all_stay word.Await e.seat (line s h) refl in
     let f = sleeper_owes s (e ∷ h) in
     let g = sleeper_owes s h in
-    let others : (j : ℕ) → j ≢ e.seat → f j ≡ g j = λ j ne. sleeper_owes_as s h (e ∷ h) j (ap (λ (z : Sleep). z.holds) (sleep_of_others s e h j ne)) in
+    let others : (j : ℕ) → j ≢ e.seat → f j ≡ g j = λ j ne. sleeper_owes_as s h (e ∷ h) j (ap (λ (z : Sleep). z.holds) (last_sleep_other s e h j (λ q. ne (sym q)))) in
     let elsewhere : (c : ℕ) → c < d → c ≢ e.at → asleep_owe s (e ∷ h) c ≡ asleep_owe s h c = λ c l ne.
         ap (sum_of f) (list_elsewhere c ne) ∙ sum_of_others f g e.seat (sleepers s h c) others (away c l) in
     let here : asleep_owe s (e ∷ h) e.at ≡ asleep_owe s h e.at + (e.n + 2 + 0) =
@@ -471,7 +459,7 @@ owed_await s e h p seat on n =
     let b : Balance s e h (if_lock o (own s h e)) (if_lock o 0) 0 0 0 (e.n + 2) =
         record {
           holds = holds_by s e h word.Await p seat;
-          line = ap (λ x. x + 0) (ap (sum_of (arrival_owes s (e ∷ h))) line_is ∙ sum_of_line_others (arrival_owes s (e ∷ h)) (arrival_owes s h) e.seat (line s h) (λ a ne. arrival_owes_as s h (e ∷ h) a (ap (λ (z : Sleep). z.holds) (sleep_of_others s e h a.seat ne))) idle.0);
+          line = ap (λ x. x + 0) (ap (sum_of (arrival_owes s (e ∷ h))) line_is ∙ sum_of_line_others (arrival_owes s (e ∷ h)) (arrival_owes s h) e.seat (line s h) (λ a ne. arrival_owes_as s h (e ∷ h) a (ap (λ (z : Sleep). z.holds) (last_sleep_other s e h a.seat (λ q. ne (sym q))))) idle.0);
           asleep = join _ _ _ _ _ _ (sleepers_total d s (e ∷ h)) (sleepers_total d s h) (total_change_below d (asleep_owe s (e ∷ h)) (asleep_owe s h) e.at on.condition elsewhere) here;
         } in
     let x : own s h e ≡ e.n = ap (held s h e.seat) on.mode ∙ sym n in
@@ -497,7 +485,7 @@ no_lock (Semaphore p c) x y t = refl
 no_lock (Latch c) x y t = refl
 
 -- what is owed behind one entry that its seat's step makes
-pub owed_known : (s : Start) (e : Entry) (h : List Entry) → Known s h e → AreApart s h → e.seat < s.header.seats → owed s (e ∷ h) + releases s.header.object e ≡ owed s h + reserves s.header.object e
+pub owed_known : (s : Start) (e : Entry) (h : List Entry) → Known s h e → Waits s h → e.seat < s.header.seats → owed s (e ∷ h) + releases s.header.object e ≡ owed s h + reserves s.header.object e
 owed_known s e h known apart seat = by e.word refl known
   where
   by : (w : Word) → e.word ≡ w → KnownBy s h e w → owed s (e ∷ h) + released_by s.header.object w e.n ≡ owed s h + reserved_by s.header.object w
@@ -516,3 +504,7 @@ owed_known s e h known apart seat = by e.word refl known
   by word.Back p k = owed_back s e h k.0 p seat apart k.1 k.2 k.4
   by word.Counted p k = owed_still s e h word.Counted 0 0 p refl refl seat refl
   by word.Drained p k = owed_still s e h word.Drained 0 0 p refl refl seat (ap (λ x. 0 + x) (no_lock s.header.object _ _ k.1))
+
+-- what is owed behind one entry more of a legal history
+pub owed_step : (k : Header) (e : Entry) (h : List Entry) → IsLegal (opening k) (e ∷ h) → AreSeated (opening k) (e ∷ h) → owed (opening k) (e ∷ h) + releases k.object e ≡ owed (opening k) h + reserves k.object e
+owed_step k e h legal seats = owed_known (opening k) e h (known (opening k) h legal.0.0 e legal.0.1) (waits k h legal.1) seats.0

@@ -26,9 +26,8 @@ use Rattle.history.specs.Line.{line, place_of}
 use Rattle.history.specs.Object.{created, in_holds, is_lock, is_semaphore}
 use Rattle.history.specs.Start.{Start, opening}
 use Rattle.history.specs.Steps.{at_least_none, gave, plain}
-use Rattle.history.proofs.Asleep.{BackAtLock, back_at_lock}
 use Rattle.history.proofs.Entering.{Known, KnownBy, known}
-use Rattle.history.proofs.ListSums.{place_all}
+use Rattle.history.proofs.OneWait.{Waits, SavedIfBack, placed, waits}
 use Rattle.history.proofs.Owners.{ready_could}
 use Rattle.history.proofs.RoomLemmas.{total_nothing}
 use Rattle.history.proofs.Sums.{total_change, total_same}
@@ -121,7 +120,7 @@ take_moves s e h w p t holds frees own c =
         (frees_as s e h w p (free s h -ℤ pos e.n) frees)
         (λ x. own_as s e h w p x 0 (own e.n x))
 
-moves : (s : Start) (e : Entry) (h : List Entry) → is_semaphore s.header.object ≡ true → Known s h e → AllByRecursion (BackAtLock s) (line s h) → Moves s e h
+moves : (s : Start) (e : Entry) (h : List Entry) → is_semaphore s.header.object ≡ true → Known s h e → Waits s h → Moves s e h
 moves s e h t known back = by e.word refl known
   where
   by : (w : Word) → e.word ≡ w → KnownBy s h e w → Moves s e h
@@ -144,7 +143,7 @@ moves s e h t known back = by e.word refl known
         (frees_as s e h word.Drained p (free s h -ℤ pos e.n) refl)
         (λ x. own_as s e h word.Drained p x 0 refl)
   by word.Back p k =
-    absurd (semaphore_no_lock s.header.object t (place_all (BackAtLock s) e.seat k.0 (line s h) back k.1 k.2))
+    absurd (semaphore_no_lock s.header.object t (placed (SavedIfBack s h) e.seat (line s h) k.0 back.line k.1 k.2).saved.lock)
   by word.Await p k = absurd (semaphore_no_lock s.header.object t k.0.lock)
   by word.Queued p k = idle_moves s e h (ap idles p)
   by word.Missed p k = idle_moves s e h (ap idles p)
@@ -203,4 +202,4 @@ nothing_held n c = by _ (total_nothing n)
 pub conserved : (k : Header) (h : List Entry) → is_semaphore k.object ≡ true → IsLegal (opening k) h → AreSeated (opening k) h → IsConserved (opening k) h
 conserved k [] t legal seats = nothing_held k.seats (created k.object)
 conserved k (e ∷ h) t legal seats =
-    conserved_more (opening k) e h t seats.0 (moves (opening k) e h t (known (opening k) h legal.0.0 e legal.0.1) (back_at_lock k h legal.1)) (conserved k h t legal.1 seats.1)
+    conserved_more (opening k) e h t seats.0 (moves (opening k) e h t (known (opening k) h legal.0.0 e legal.0.1) (waits k h legal.1)) (conserved k h t legal.1 seats.1)

@@ -16,7 +16,8 @@ use Rattle.history.specs.Start.{Start, opening}
 use Rattle.history.specs.Steps.{entry_for}
 use Rattle.history.proofs.Entering.{Known}
 use Rattle.history.proofs.Sums.{total_same}
-use Rattle.history.proofs.Owing.{AreApart, owed_known, released_by, releases, reserved_by, reserves}
+use Rattle.history.proofs.OneWait.{Waits}
+use Rattle.history.proofs.Owing.{owed_known, released_by, releases, reserved_by, reserves}
 
 -- an entry that was owed reserves nothing, and releases itself
 owed_releases : (o : Object) (w : Word) (n : ℕ) → was_owed_by o w n ≡ true → (reserved_by o w ≡ 0) × (1 ≤ released_by o w n)
@@ -34,7 +35,7 @@ owed_releases o word.SignalAll n t = (refl, let l = ltb-true 0 n t in omega (ari
 owed_releases o _ n t = absurd (cc)
 
 -- an entry that was owed has room
-pub owed_has_room : (s : Start) (e : Entry) (h : List Entry) → Known s h e → AreApart s h → e.seat < s.header.seats → Fits s h → was_owed s.header.object e ≡ true → has_room s h e ≡ true
+pub owed_has_room : (s : Start) (e : Entry) (h : List Entry) → Known s h e → Waits s h → e.seat < s.header.seats → Fits s h → was_owed s.header.object e ≡ true → has_room s h e ≡ true
 owed_has_room s e h known apart seat fits t =
     let r = owed_releases s.header.object e.word e.n t in
     le-leb _ _ (room _ _ _ _ _ _ (owed_known s e h known apart seat) r.0 r.1 fits)

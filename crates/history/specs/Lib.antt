@@ -22,3 +22,4 @@ pub mod Room
 pub mod Answers
 pub mod Order
 pub mod Conservation
+pub mod Waiting
