@@ -17,3 +17,4 @@ pub mod ListSums
 pub mod Owing
 pub mod RoomLemmas
 pub mod Permits
+pub mod OneOwner

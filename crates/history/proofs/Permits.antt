@@ -203,3 +203,84 @@ pub conserved : (k : Header) (h : List Entry) → is_semaphore k.object ≡ true
 conserved k [] t legal seats = nothing_held k.seats (created k.object)
 conserved k (e ∷ h) t legal seats =
     conserved_more (opening k) e h t seats.0 (moves (opening k) e h t (known (opening k) h legal.0.0 e legal.0.1) (waits k h legal.1)) (conserved k h t legal.1 seats.1)
+
+-- a drain takes what there is
+drained_is : (f : ℤ) → (at_least_none f ≡ 0) ⊎ (pos (at_least_none f) ≡ f)
+drained_is (pos a) = by (ltb a 0)
+  where
+  by : (b : Bool) → (cond b 0 a ≡ 0) ⊎ (pos (cond b 0 a) ≡ pos a)
+  by true = inl refl
+  by false = inr refl
+drained_is (negsuc b) = inl refl
+
+fits_taken : (f : ℤ) (n : ℕ) → FitsSigned w32 f → int_le (pos 0) (f -ℤ pos n) ≡ true → FitsSigned w32 (f -ℤ pos n)
+fits_taken f n p q = omega (arith, ints)
+
+fits_returned : (f : ℤ) (n : ℕ) → FitsSigned w32 f → int_lt (pos 2147483647) (f +ℤ pos n) ≡ false → FitsSigned w32 (f +ℤ pos n)
+fits_returned f n p q = omega (arith, ints)
+
+fits_drained : (f : ℤ) (n : ℕ) → FitsSigned w32 f → n ≡ at_least_none f → FitsSigned w32 (f -ℤ pos n)
+fits_drained f n p q = ⊎_elim (λ z. none (q ∙ z)) (λ all. rest (ap pos q ∙ all)) (drained_is f)
+  where
+  none : n ≡ 0 → FitsSigned w32 (f -ℤ pos n)
+  none z = omega (arith, ints, p, z)
+  rest : pos n ≡ f → FitsSigned w32 (f -ℤ pos n)
+  rest z = omega (arith, ints, p, z)
+
+few : (f : ℤ) (n : ℕ) → FitsSigned w32 f → int_le (pos 0) (f -ℤ pos n) ≡ true → n ≤ 2147483647
+few f n p q = omega (arith, ints)
+
+few_drained : (f : ℤ) (n : ℕ) → FitsSigned w32 f → n ≡ at_least_none f → n ≤ 2147483647
+few_drained f n p q = ⊎_elim (λ z. none (q ∙ z)) (λ all. rest (ap pos q ∙ all)) (drained_is f)
+  where
+  none : n ≡ 0 → n ≤ 2147483647
+  none z = omega (arith, z)
+  rest : pos n ≡ f → n ≤ 2147483647
+  rest z = omega (arith, ints, p, z)
+
+fits_more : (s : Start) (e : Entry) (h : List Entry) → Moves s e h → FitsSigned w32 (free s h) → FitsSigned w32 (free s (e ∷ h))
+fits_more s e h (Takes shared there holds frees own) fits = subst (FitsSigned w32) (sym frees) (fits_taken (free s h) e.n fits there)
+fits_more s e h (Drains shared all holds frees own) fits = subst (FitsSigned w32) (sym frees) (fits_drained (free s h) e.n fits all)
+fits_more s e h (Gives shared below holds frees own) fits = subst (FitsSigned w32) (sym frees) (fits_returned (free s h) e.n fits below)
+fits_more s e h (Keeps holds frees own) fits = subst (FitsSigned w32) (sym frees) fits
+
+-- free permits stay numbers of 32 bits, and no request is for more than there may be
+pub free_fits : (k : Header) (h : List Entry) → IsInRange k → is_semaphore k.object ≡ true → IsLegal (opening k) h → FitsSigned w32 (free (opening k) h)
+free_fits k [] range t legal = by k.object range.opening t
+  where
+  by : (o : Object) → IsOpening o k.conditions → is_semaphore o ≡ true → FitsSigned w32 (created o)
+  by (Semaphore p c) r u = r.1
+  by (Lock p) r u = absurd (cc)
+  by (ReadWrite p) r u = absurd (cc)
+  by (Latch c) r u = absurd (cc)
+free_fits k (e ∷ h) range t legal =
+    fits_more (opening k) e h (moves (opening k) e h t (known (opening k) h legal.0.0 e legal.0.1) (waits k h legal.1)) (free_fits k h range t legal.1)
+
+pub free_at_most : (k : Header) (h : List Entry) → IsInRange k → is_semaphore k.object ≡ true → IsLegal (opening k) h → free (opening k) h ≤ℤ pos 2147483647
+free_at_most k h range t legal = bound (free (opening k) h) (free_fits k h range t legal)
+  where
+  bound : (f : ℤ) → FitsSigned w32 f → f ≤ℤ pos 2147483647
+  bound f p = omega (arith, ints)
+
+-- no seat holds more permits than its entries can have taken
+few_taken : (s : Start) (e : Entry) (h : List Entry) → Moves s e h → FitsSigned w32 (free s h) → (x : ℕ) → holds_after s.header.object e.word e.n x ≤ x + 2147483647
+few_taken s e h (Takes shared there holds frees own) fits x =
+    let a : e.n ≤ 2147483647 = few (free s h) e.n fits there in
+    let b = holds x in
+    omega (arith, a, b)
+few_taken s e h (Drains shared all holds frees own) fits x =
+    let a : e.n ≤ 2147483647 = few_drained (free s h) e.n fits all in
+    let b = holds x in
+    omega (arith, a, b)
+few_taken s e h (Gives shared below holds frees own) fits x = let b = holds x in omega (arith, b)
+few_taken s e h (Keeps holds frees own) fits x = let b = holds x in omega (arith, b)
+
+pub held_at_most : (k : Header) (h : List Entry) → IsInRange k → is_semaphore k.object ≡ true → IsLegal (opening k) h → (i : ℕ) (m : Mode) → held (opening k) h i m ≤ 2147483647 * length h
+held_at_most k [] range t legal i m = omega arith
+held_at_most k (e ∷ h) range t legal i m =
+    by (eqb e.seat i && same_mode e.mode m) (held (opening k) h i m) (length h) (held_at_most k h range t legal.1 i m)
+        (few_taken (opening k) e h (moves (opening k) e h t (known (opening k) h legal.0.0 e legal.0.1) (waits k h legal.1)) (free_fits k h range t legal.1))
+  where
+  by : (b : Bool) (x n : ℕ) → x ≤ 2147483647 * n → ((y : ℕ) → holds_after k.object e.word e.n y ≤ y + 2147483647) → cond b (holds_after k.object e.word e.n x) x ≤ 2147483647 * suc n
+  by true x n l f = let g = f x in omega (arith, l, g)
+  by false x n l f = omega (arith, l)
