@@ -18,3 +18,4 @@ pub mod Owing
 pub mod RoomLemmas
 pub mod Permits
 pub mod OneOwner
+pub mod WhoWaits
