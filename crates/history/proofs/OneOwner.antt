@@ -43,23 +43,24 @@ cases_below a b = ⊎_elim (λ t. inl (ltb-true a b t)) (λ f. inr (ltb-false a 
 others_own_nothing : (s : Start) (h : List Entry) (i : ℕ) → Owned s h → is_none_or (owner (counts s h)) i ≡ true → (j : ℕ) → j ≢ i → held s h j X ≡ 0
 others_own_nothing s h i v t j ne = by (owner (counts s h)) refl t
   where
-  within : owner (counts s h) ≡ None → held s h j X ≡ 0
-  within p = ⊎_elim (λ l. nobody_holds (counts s h) j p l) (λ l. v.seats j X l) (cases_below j s.header.seats)
-  by : (o : Option ℕ) → owner (counts s h) ≡ o → is_none_or o i ≡ true → held s h j X ≡ 0
-  by None p u = within p
-  by (Some x) p u =
-    let same : x ≡ i = eqb-true x i u in
-    let holds : 0 < held s h i X = subst (λ y. 0 < held s h y X) same (owner_holds (counts s h) x p).1 in
-    ⊎_elim (λ z. z) (λ some. absurd (ne (sym (v.one i j holds some)))) (none_or_some (held s h j X))
+    within : owner (counts s h) ≡ None → held s h j X ≡ 0
+    within p = ⊎_elim (λ l. nobody_holds (counts s h) j p l) (λ l. v.seats j X l) (cases_below j s.header.seats)
+
+    by : (o : Option ℕ) → owner (counts s h) ≡ o → is_none_or o i ≡ true → held s h j X ≡ 0
+    by None p u = within p
+    by (Some x) p u =
+        let same : x ≡ i = eqb-true x i u in
+        let holds : 0 < held s h i X = subst (λ y. 0 < held s h y X) same (owner_holds (counts s h) x p).1 in
+        ⊎_elim (λ z. z) (λ some. absurd (ne (sym (v.one i j holds some)))) (none_or_some (held s h j X))
 
 -- where nobody reads, nobody has shared holds
 nobody_reads : (s : Start) (h : List Entry) → Owned s h → total s.header.seats (λ i. held s h i S) ≡ 0 → (j : ℕ) → held s h j S ≡ 0
 nobody_reads s h v none j = ⊎_elim within (λ l. v.seats j S l) (cases_below j s.header.seats)
   where
-  within : j < s.header.seats → held s h j S ≡ 0
-  within l =
-    let p = total_part s.header.seats (λ i. held s h i S) j l in
-    omega (arith, p, none)
+    within : j < s.header.seats → held s h j S ≡ 0
+    within l =
+        let p = total_part s.header.seats (λ i. held s h i S) j l in
+        omega (arith, p, none)
 
 -- What an entry of a lock does to holds: its seat takes exclusively where nobody else holds anything, takes
 -- to read where nobody else owns and not all may read, or no holds grow.
@@ -76,36 +77,38 @@ both s h i x y j S ne = y j ne
 could_write : (s : Start) (h : List Entry) (i n : ℕ) → Owned s h → could (counts s h) i X n ≡ true → is_lock s.header.object ≡ true → (j : ℕ) (m : Mode) → j ≢ i → held s h j m ≡ 0
 could_write s h i n v t lock = by s.header.object t lock v.shared
   where
-  k : Counts
-  k = counts s h
-  writes : (b : Bool) → is_seat (owner k) i ≡ b → cond b (ltb (k.held i X) max_shared) (is_none_or (owner k) i && eqb (readers k) 0) ≡ true → (j : ℕ) (m : Mode) → j ≢ i → held s h j m ≡ 0
-  writes true q u =
-    let holds : 0 < held s h i X = (owner_holds (counts s h) i (seat_is (owner (counts s h)) i q)).1 in
-    both s h i
+    k : Counts
+    k = counts s h
+
+    writes : (b : Bool) → is_seat (owner k) i ≡ b → cond b (ltb (k.held i X) max_shared) (is_none_or (owner k) i && eqb (readers k) 0) ≡ true → (j : ℕ) (m : Mode) → j ≢ i → held s h j m ≡ 0
+    writes true q u =
+        let holds : 0 < held s h i X = (owner_holds (counts s h) i (seat_is (owner (counts s h)) i q)).1 in
+        both s h i
         (λ j ne. ⊎_elim (λ z. z) (λ some. absurd (ne (sym (v.one i j holds some)))) (none_or_some (held s h j X)))
         (λ j ne. ⊎_elim (λ z. z) (λ some. absurd (ne (sym (v.alone i j holds some)))) (none_or_some (held s h j S)))
-  writes false q u =
-    let parts = and_parts (is_none_or (owner (counts s h)) i) (eqb (readers (counts s h)) 0) u in
-    both s h i (others_own_nothing s h i v parts.0) (λ j ne. nobody_reads s h v (eqb-true _ 0 parts.1) j)
-  by : (o : Object) → could_of o k i X n ≡ true → is_lock o ≡ true → total s.header.seats (λ j. held s h j S) ≤ most_shared o → (j : ℕ) (m : Mode) → j ≢ i → held s h j m ≡ 0
-  by (Lock policy) u l few =
-    let parts = and_parts (is_none_or (owner (counts s h)) i) (ltb (held s h i X) max_holds) u in
-    both s h i (others_own_nothing s h i v parts.0) (λ j ne. nobody_reads s h v (omega (arith, few)) j)
-  by (ReadWrite policy) u l few = writes (is_seat (owner (counts s h)) i) refl u
-  by (Semaphore policy permits) u l few = absurd (cc)
-  by (Latch opening) u l few = absurd (cc)
+    writes false q u =
+        let parts = and_parts (is_none_or (owner (counts s h)) i) (eqb (readers (counts s h)) 0) u in
+        both s h i (others_own_nothing s h i v parts.0) (λ j ne. nobody_reads s h v (eqb-true _ 0 parts.1) j)
+
+    by : (o : Object) → could_of o k i X n ≡ true → is_lock o ≡ true → total s.header.seats (λ j. held s h j S) ≤ most_shared o → (j : ℕ) (m : Mode) → j ≢ i → held s h j m ≡ 0
+    by (Lock policy) u l few =
+        let parts = and_parts (is_none_or (owner (counts s h)) i) (ltb (held s h i X) max_holds) u in
+        both s h i (others_own_nothing s h i v parts.0) (λ j ne. nobody_reads s h v (omega (arith, few)) j)
+    by (ReadWrite policy) u l few = writes (is_seat (owner (counts s h)) i) refl u
+    by (Semaphore policy permits) u l few = absurd (cc)
+    by (Latch opening) u l few = absurd (cc)
 
 -- who could read finds that nobody else owns, and that fewer read than may
 could_read : (s : Start) (h : List Entry) (i n : ℕ) → Owned s h → could (counts s h) i S n ≡ true → is_lock s.header.object ≡ true → ((j : ℕ) → j ≢ i → held s h j X ≡ 0) × (total s.header.seats (λ j. held s h j S) < most_shared s.header.object)
 could_read s h i n v t lock = by s.header.object t lock
   where
-  by : (o : Object) → could_of o (counts s h) i S n ≡ true → is_lock o ≡ true → ((j : ℕ) → j ≢ i → held s h j X ≡ 0) × (total s.header.seats (λ j. held s h j S) < most_shared o)
-  by (Lock policy) u l = absurd (cc)
-  by (ReadWrite policy) u l =
-    let parts = and_parts (is_none_or (owner (counts s h)) i) (ltb (readers (counts s h)) max_shared) u in
-    (others_own_nothing s h i v parts.0, ltb-true _ max_shared parts.1)
-  by (Semaphore policy permits) u l = absurd (cc)
-  by (Latch opening) u l = absurd (cc)
+    by : (o : Object) → could_of o (counts s h) i S n ≡ true → is_lock o ≡ true → ((j : ℕ) → j ≢ i → held s h j X ≡ 0) × (total s.header.seats (λ j. held s h j S) < most_shared o)
+    by (Lock policy) u l = absurd (cc)
+    by (ReadWrite policy) u l =
+        let parts = and_parts (is_none_or (owner (counts s h)) i) (ltb (readers (counts s h)) max_shared) u in
+        (others_own_nothing s h i v parts.0, ltb-true _ max_shared parts.1)
+    by (Semaphore policy permits) u l = absurd (cc)
+    by (Latch opening) u l = absurd (cc)
 
 -- the words by which no holds grow
 abbrev lessens : Word → Bool
@@ -143,55 +146,57 @@ takes_change : (s : Start) (e : Entry) (h : List Entry) (w : Word) → e.word �
     → ((n x : ℕ) → holds_after s.header.object w n x ≡ x + in_holds s.header.object n) → could (counts s h) e.seat e.mode e.n ≡ true → Changes s e h
 takes_change s e h w p v lock holds t = by e.mode refl t
   where
-  one : (x : ℕ) → holds_after s.header.object e.word e.n x ≡ x + 1
-  one x = ap (λ u. holds_after s.header.object u e.n x) p ∙ holds e.n x ∙ ap (λ n. x + n) (lock_holds s.header.object e.n lock)
-  by : (m : Mode) → e.mode ≡ m → could (counts s h) e.seat m e.n ≡ true → Changes s e h
-  by X q u = Writes q (could_write s h e.seat e.n v u lock)
-  by S q u = let r = could_read s h e.seat e.n v u lock in Reads q r.0 r.1 one
+    one : (x : ℕ) → holds_after s.header.object e.word e.n x ≡ x + 1
+    one x = ap (λ u. holds_after s.header.object u e.n x) p ∙ holds e.n x ∙ ap (λ n. x + n) (lock_holds s.header.object e.n lock)
+
+    by : (m : Mode) → e.mode ≡ m → could (counts s h) e.seat m e.n ≡ true → Changes s e h
+    by X q u = Writes q (could_write s h e.seat e.n v u lock)
+    by S q u = let r = could_read s h e.seat e.n v u lock in Reads q r.0 r.1 one
 
 changes : (s : Start) (e : Entry) (h : List Entry) → is_lock s.header.object ≡ true → Known s h e → Waits s h → Owned s h → Changes s e h
 changes s e h lock known waits v = by e.word refl known
   where
-  less : lessens e.word ≡ true → Changes s e h
-  less t = Lessens (λ x. lessens_by s.header.object e.word e.n x t)
-  by : (w : Word) → e.word ≡ w → KnownBy s h e w → Changes s e h
-  by word.Got p k = takes_change s e h word.Got p v lock (λ n x. refl) k.1
-  by word.TryGot p k = takes_change s e h word.TryGot p v lock (λ n x. refl) k.1
-  by word.Granted p k =
-    let c = ready_could s h e.seat k.0 k.2 k.1.stands in
-    let m : e.mode ≡ k.0.mode = ap (λ (x : Entry). x.mode) k.1.entry in
-    let n : e.n ≡ k.0.n = ap (λ (x : Entry). x.n) k.1.entry in
-    takes_change s e h word.Granted p v lock (λ n x. refl) (ap (λ x. could (counts s h) e.seat x e.n) m ∙ ap (could (counts s h) e.seat k.0.mode) n ∙ c)
-  by word.Back p k =
-    let b = placed (SavedIfBack s h) e.seat (line s h) k.0 waits.line k.1 k.2 in
-    let c = ready_could s h e.seat k.0 k.3 k.1 in
-    Writes (ap (λ (x : Entry). x.mode) k.4) (could_write s h e.seat k.0.n v (ap (λ m. could (counts s h) e.seat m k.0.n) (sym b.mode) ∙ c) lock)
-  by word.Drained p k = absurd (semaphore_no_lock s.header.object k.1 lock)
-  by word.Queued p k = less (ap lessens p)
-  by word.Missed p k = less (ap lessens p)
-  by word.Left p k = less (ap lessens p)
-  by word.Gave p k = less (ap lessens p)
-  by (word.Refused f) p k = less (ap lessens p)
-  by word.Await p k = less (ap lessens p)
-  by word.Lapse p k = less (ap lessens p)
-  by word.Signal p k = less (ap lessens p)
-  by word.SignalAll p k = less (ap lessens p)
-  by word.Counted p k = less (ap lessens p)
+    less : lessens e.word ≡ true → Changes s e h
+    less t = Lessens (λ x. lessens_by s.header.object e.word e.n x t)
+
+    by : (w : Word) → e.word ≡ w → KnownBy s h e w → Changes s e h
+    by word.Got p k = takes_change s e h word.Got p v lock (λ n x. refl) k.1
+    by word.TryGot p k = takes_change s e h word.TryGot p v lock (λ n x. refl) k.1
+    by word.Granted p k =
+        let c = ready_could s h e.seat k.0 k.2 k.1.stands in
+        let m : e.mode ≡ k.0.mode = ap (λ (x : Entry). x.mode) k.1.entry in
+        let n : e.n ≡ k.0.n = ap (λ (x : Entry). x.n) k.1.entry in
+        takes_change s e h word.Granted p v lock (λ n x. refl) (ap (λ x. could (counts s h) e.seat x e.n) m ∙ ap (could (counts s h) e.seat k.0.mode) n ∙ c)
+    by word.Back p k =
+        let b = placed (SavedIfBack s h) e.seat (line s h) k.0 waits.line k.1 k.2 in
+        let c = ready_could s h e.seat k.0 k.3 k.1 in
+        Writes (ap (λ (x : Entry). x.mode) k.4) (could_write s h e.seat k.0.n v (ap (λ m. could (counts s h) e.seat m k.0.n) (sym b.mode) ∙ c) lock)
+    by word.Drained p k = absurd (semaphore_no_lock s.header.object k.1 lock)
+    by word.Queued p k = less (ap lessens p)
+    by word.Missed p k = less (ap lessens p)
+    by word.Left p k = less (ap lessens p)
+    by word.Gave p k = less (ap lessens p)
+    by (word.Refused f) p k = less (ap lessens p)
+    by word.Await p k = less (ap lessens p)
+    by word.Lapse p k = less (ap lessens p)
+    by word.Signal p k = less (ap lessens p)
+    by word.SignalAll p k = less (ap lessens p)
+    by word.Counted p k = less (ap lessens p)
 
 -- the holds after an entry
 held_less : (s : Start) (e : Entry) (h : List Entry) → ((x : ℕ) → holds_after s.header.object e.word e.n x ≤ x) → (i : ℕ) (m : Mode) → held s (e ∷ h) i m ≤ held s h i m
 held_less s e h less i m = by (eqb e.seat i && same_mode e.mode m)
   where
-  by : (b : Bool) → cond b (holds_after s.header.object e.word e.n (held s h i m)) (held s h i m) ≤ held s h i m
-  by true = less (held s h i m)
-  by false = omega arith
+    by : (b : Bool) → cond b (holds_after s.header.object e.word e.n (held s h i m)) (held s h i m) ≤ held s h i m
+    by true = less (held s h i m)
+    by false = omega arith
 
 other_mode : (s : Start) (e : Entry) (h : List Entry) (i : ℕ) (m n : Mode) → e.mode ≡ m → same_mode m n ≡ false → held s (e ∷ h) i n ≡ held s h i n
 other_mode s e h i m n p t = by (eqb e.seat i) _ (ap (λ x. same_mode x n) p ∙ t)
   where
-  by : (b c : Bool) → c ≡ false → cond (b && c) (holds_after s.header.object e.word e.n (held s h i n)) (held s h i n) ≡ held s h i n
-  by true c q = rw q refl
-  by false c q = refl
+    by : (b c : Bool) → c ≡ false → cond (b && c) (holds_after s.header.object e.word e.n (held s h i n)) (held s h i n) ≡ held s h i n
+    by true c q = rw q refl
+    by false c q = refl
 
 total_less : (n : ℕ) (f g : ℕ → ℕ) → ((i : ℕ) → f i ≤ g i) → total n f ≤ total n g
 total_less zero f g less = omega arith
@@ -201,11 +206,11 @@ total_less (suc n) f g less = let ih = total_less n f g less in let l = less n i
 own_alone : (s : Start) (e : Entry) (h : List Entry) (m : Mode) → ((j : ℕ) → j ≢ e.seat → held s h j m ≡ 0) → (i : ℕ) → 0 < held s (e ∷ h) i m → i ≡ e.seat
 own_alone s e h m nobody i some = ⊎_elim (λ same. same) (λ ne. absurd (none ne)) (cases_eq i e.seat)
   where
-  none : (i ≡ e.seat → ⊥) → ⊥
-  none ne =
-    let a : held s (e ∷ h) i m ≡ held s h i m = held_other s e h i m (λ q. ne (sym q)) in
-    let b : held s h i m ≡ 0 = nobody i ne in
-    omega (arith, a, b, some)
+    none : (i ≡ e.seat → ⊥) → ⊥
+    none ne =
+        let a : held s (e ∷ h) i m ≡ held s h i m = held_other s e h i m (λ q. ne (sym q)) in
+        let b : held s h i m ≡ 0 = nobody i ne in
+        omega (arith, a, b, some)
 
 seats_next : (s : Start) (e : Entry) (h : List Entry) → e.seat < s.header.seats → Owned s h → (i : ℕ) (m : Mode) → s.header.seats ≤ i → held s (e ∷ h) i m ≡ 0
 seats_next s e h seat v i m l = held_other s e h i m (λ q. absurd (omega (arith, seat, l, q))) ∙ v.seats i m l
@@ -213,12 +218,12 @@ seats_next s e h seat v i m l = held_other s e h i m (λ q. absurd (omega (arith
 shared_by_one : (s : Start) (e : Entry) (h : List Entry) → e.mode ≡ S → e.seat < s.header.seats → ((x : ℕ) → holds_after s.header.object e.word e.n x ≡ x + 1) → total s.header.seats (λ i. held s (e ∷ h) i S) ≡ total s.header.seats (λ i. held s h i S) + 1
 shared_by_one s e h m seat one =
     let c : total s.header.seats (λ i. held s (e ∷ h) i S) + held s h e.seat S ≡ total s.header.seats (λ i. held s h i S) + held s (e ∷ h) e.seat S =
-        total_change s.header.seats (λ i. held s (e ∷ h) i S) (λ i. held s h i S) e.seat seat (λ i ne. held_other s e h i S (λ q. ne (sym q))) in
+    total_change s.header.seats (λ i. held s (e ∷ h) i S) (λ i. held s h i S) e.seat seat (λ i ne. held_other s e h i S (λ q. ne (sym q))) in
     let d : held s (e ∷ h) e.seat S ≡ held s h e.seat S + 1 = at in
     omega (arith, c, d)
   where
-  at : held s (e ∷ h) e.seat S ≡ held s h e.seat S + 1
-  at = rw (eq-eqb e.seat e.seat refl) (ap (λ x. cond (same_mode x S) (holds_after s.header.object e.word e.n (held s h e.seat S)) (held s h e.seat S)) m ∙ one _)
+    at : held s (e ∷ h) e.seat S ≡ held s h e.seat S + 1
+    at = rw (eq-eqb e.seat e.seat refl) (ap (λ x. cond (same_mode x S) (holds_after s.header.object e.word e.n (held s h e.seat S)) (held s h e.seat S)) m ∙ one _)
 
 owned_next : (s : Start) (e : Entry) (h : List Entry) → e.seat < s.header.seats → Owned s h → Changes s e h → Owned s (e ∷ h)
 owned_next s e h seat v (Writes mode nobody) =
@@ -236,9 +241,9 @@ owned_next s e h seat v (Reads mode nobody few one) =
       seats = seats_next s e h seat v;
     }
   where
-  beside : (i j : ℕ) → i ≡ e.seat → 0 < held s h i X → 0 < held s (e ∷ h) j S → (j ≡ e.seat) ⊎ (j ≡ e.seat → ⊥) → i ≡ j
-  beside i j p a b (inl q) = p ∙ sym q
-  beside i j p a b (inr ne) = v.alone i j a (subst (λ n. 0 < n) (held_other s e h j S (λ q. ne (sym q))) b)
+    beside : (i j : ℕ) → i ≡ e.seat → 0 < held s h i X → 0 < held s (e ∷ h) j S → (j ≡ e.seat) ⊎ (j ≡ e.seat → ⊥) → i ≡ j
+    beside i j p a b (inl q) = p ∙ sym q
+    beside i j p a b (inr ne) = v.alone i j a (subst (λ n. 0 < n) (held_other s e h j S (λ q. ne (sym q))) b)
 owned_next s e h seat v (Lessens less) =
     record {
       one = λ i j a b. v.one i j (was i X a) (was j X b);
@@ -247,8 +252,8 @@ owned_next s e h seat v (Lessens less) =
       seats = seats_next s e h seat v;
     }
   where
-  was : (i : ℕ) (m : Mode) → 0 < held s (e ∷ h) i m → 0 < held s h i m
-  was i m a = let l = held_less s e h less i m in omega (arith, l, a)
+    was : (i : ℕ) (m : Mode) → 0 < held s (e ∷ h) i m → 0 < held s h i m
+    was i m a = let l = held_less s e h less i m in omega (arith, l, a)
 
 owned_from : (k : Header) (h : List Entry) → is_lock k.object ≡ true → IsLegal (opening k) h → AreSeated (opening k) h → Owned (opening k) h
 owned_from k [] lock legal seats =
