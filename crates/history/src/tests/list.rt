@@ -107,12 +107,12 @@ fn room_ends_at_the_cap(rt: HostRuntime) -> Result<(), Fail> {
 #[test]
 fn many_entries_grow_the_list_seldom(rt: HostRuntime) -> Result<(), Fail> {
     let mut history = History::open(rt.alloc(), 100_000);
-    let mut grown = 0;
+    let mut grown: u64 = 0;
     for _ in 0..100_000 {
         let before = history.places();
         history.make_room(1)?;
         if history.places() != before {
-            grown += 1;
+            grown = grown.saturating_add(1);
         }
         history.add(of(0, Word::Got), 0);
     }

@@ -69,7 +69,14 @@ fn writers_leave_the_bytes_as_they_were(rt: HostRuntime) -> Result<(), Fail> {
 
 #[test]
 fn a_refused_growth_leaves_the_list_as_it_was(rt: HostRuntime) -> Result<(), Fail> {
-    let entry = Entry { seat: 0, word: Word::Got, mode: Mode::X, n: 1, at: 0, end: End::None };
+    let entry = Entry {
+        seat: 0,
+        word: Word::Got,
+        mode: Mode::X,
+        n: 1,
+        at: 0,
+        end: End::None,
+    };
     let mut history = History::open(rt.alloc(), 1_000_000);
     history.make_room(2)?;
     let places = history.places();
@@ -77,7 +84,10 @@ fn a_refused_growth_leaves_the_list_as_it_was(rt: HostRuntime) -> Result<(), Fai
     let taken = all_memory(rt.alloc())?;
     assert_eq!(rt; history.make_room(100_000), Err(Fault::OutOfMemory));
     assert_eq!(rt; history.make_room(1_000_000), Err(Fault::HistoryFull));
-    assert_eq!(rt; (history.len(), history.owed(), history.places()), (1, 1, places));
+    assert_eq!(rt;
+        (history.len(), history.owed(), history.places()),
+        (1, 1, places)
+    );
     assert_eq!(rt; history.get(0), Some(entry));
     // What is reserved still stands.
     history.make_room(0)?;

@@ -87,7 +87,8 @@ fn each_entry_is_read_and_written(rt: HostRuntime) -> Result<(), Fail> {
         assert!(rt; entry.is_spelt(), "{text}");
         let mut out = Vec::from_slice(rt.alloc(), b"0 3 ")?;
         entry.write_words(&mut out)?;
-        assert_eq!(rt; out.strip_prefix(b"0 3 "), Some(text.as_bytes()), "{text}");
+        let line = format!(in rt.alloc(); "0 3 {text}")?;
+        assert_eq!(rt; out.as_slice(), line.as_bytes());
     }
     Ok(())
 }
@@ -216,21 +217,19 @@ fn texts_are_cut_at_their_line_breaks(rt: HostRuntime) -> Result<(), Fail> {
 
 #[test]
 fn faults_have_a_number_and_a_name(rt: HostRuntime) -> Result<(), Fail> {
-    let mut number = 0;
-    for (fault, name) in [
-        (Fault::NotOwner, "NotOwner"),
-        (Fault::TooManyHolds, "TooManyHolds"),
-        (Fault::TooManyPermits, "TooManyPermits"),
-        (Fault::Interrupted, "Interrupted"),
-        (Fault::HoldsRead, "HoldsRead"),
-        (Fault::OutOfPhase, "OutOfPhase"),
-        (Fault::NoSuchCondition, "NoSuchCondition"),
-        (Fault::BadAmount, "BadAmount"),
-        (Fault::WrongMode, "WrongMode"),
-        (Fault::HistoryFull, "HistoryFull"),
-        (Fault::OutOfMemory, "OutOfMemory"),
+    for (number, fault, name) in [
+        (1, Fault::NotOwner, "NotOwner"),
+        (2, Fault::TooManyHolds, "TooManyHolds"),
+        (3, Fault::TooManyPermits, "TooManyPermits"),
+        (4, Fault::Interrupted, "Interrupted"),
+        (5, Fault::HoldsRead, "HoldsRead"),
+        (6, Fault::OutOfPhase, "OutOfPhase"),
+        (7, Fault::NoSuchCondition, "NoSuchCondition"),
+        (8, Fault::BadAmount, "BadAmount"),
+        (9, Fault::WrongMode, "WrongMode"),
+        (10, Fault::HistoryFull, "HistoryFull"),
+        (11, Fault::OutOfMemory, "OutOfMemory"),
     ] {
-        number += 1;
         assert_eq!(rt; fault.number(), number);
         assert_eq!(rt; fault.name(), name);
         assert_eq!(rt; format!(in rt.alloc(); "{fault}")?.as_str(), name);
