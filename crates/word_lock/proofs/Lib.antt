@@ -1,0 +1,9 @@
+pub mod Lists
+pub mod PointLaws
+pub mod Rules
+pub mod Exchanging
+pub mod Storing
+pub mod Looking
+pub mod Splitting
+pub mod Joining
+pub mod Opening

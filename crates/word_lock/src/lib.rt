@@ -1,0 +1,15 @@
+//! A lock over one word and one slot.
+#![tactic(auto)]
+
+mod chronicle;
+mod held;
+mod point;
+mod steps;
+mod token;
+mod view;
+
+pub use chronicle::Chronicle;
+pub use held::Held;
+pub use point::Point;
+pub use token::Token;
+pub use view::SeatLog;
