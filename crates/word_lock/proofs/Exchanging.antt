@@ -11,7 +11,7 @@ use Rattle.word_lock.specs.declared.view.View.{View}
 use Rattle.word_lock.specs.Point.{Before}
 use Rattle.word_lock.specs.Rule.{view_after_take, AllAgree, IsKnownBy, IsFree, IsTaken, RuleHolds, TellsTake}
 use Rattle.word_lock.proofs.Lists.{stays_set, set_there}
-use Rattle.word_lock.proofs.PointLaws.{before_refl}
+use Rattle.word_lock.proofs.PointLaws.{before_refl, before_header}
 use Rattle.word_lock.proofs.Rules.{IsWord}
 
 module _ {T : Type 0} (point : T → Point) (fact : T → Type 0) (sound : Point → Type 0) (start : Point) where
@@ -55,7 +55,8 @@ module _ {T : Type 0} (point : T → Point) (fact : T → Type 0) (sound : Point
 
   pub exchanges : (slots id : ℕ) (me : M) → me.0.live ≡ true → Allows Rule slots id me 0 (λ n. either (eqb n 0) 1 n) (TellsTake point fact (step slots 0 0 1 none) me)
   exchanges slots id me live s r _ at _ = ⊎_elim
-      (λ h. let zero_there : get_or s.words 0 0 ≡ 0 = ap (λ (ws : List ℕ). get_or ws 0 0) h.word in let mine = r.known id me.0 at in (
+      (λ h. let zero_there : get_or s.words 0 0 ≡ 0 = ap (λ (ws : List ℕ). get_or ws 0 0) h.word in let mine = r.known id me.0 at in
+      let begins : Before me.0.seen (point h.value) = subst (λ (z : Point). Before me.0.seen z) (sym h.shows) (mine.seen live) in (
         view_after_take me.0 (point h.value),
         takes 0 (Some h.value),
         ap (λ (hs : List (Option (Maybe T))). get_elem? hs 0) h.home,
@@ -67,7 +68,8 @@ module _ {T : Type 0} (point : T → Point) (fact : T → Type 0) (sound : Point
             refl,
             record {
               meets = h.meets;
-              seen = subst (λ (z : Point). Before me.0.seen z) (sym h.shows) (mine.seen live);
+              header = sym (before_header me.0.seen (point h.value) begins);
+              seen = begins;
               agrees = subst (λ (z : Point). AllAgree z me.0.logs) (sym h.shows) mine.agrees;
               distinct = λ j k l m e f same. ap (λ (z : ℕ × ℕ). z.1) (sym (mine.placed j l e) ∙ (ap r.place same ∙ mine.placed k m f));
             },

@@ -7,3 +7,5 @@ pub mod Looking
 pub mod Splitting
 pub mod Joining
 pub mod Opening
+pub mod Meeting
+pub mod Tokens

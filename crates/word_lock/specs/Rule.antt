@@ -8,7 +8,7 @@ use Rattle.history.specs.declared.entry.Entry.{Entry}
 use Rattle.word_lock.specs.declared.point.Point.{Point}
 use Rattle.word_lock.specs.declared.view.SeatLog.{SeatLog}
 use Rattle.word_lock.specs.declared.view.View.{View}
-use Rattle.word_lock.specs.Point.{Before, Agrees, added, blank_point}
+use Rattle.word_lock.specs.Point.{header_of, Before, Agrees, added, blank_point}
 
 -- logs with no entry, of the n seats from k on
 abbrev pub empty_logs : ℕ → ℕ → List SeatLog
@@ -114,6 +114,7 @@ pub record RuleHolds {T : Type 0} (point : T → Point) (fact : T → Type 0) (s
 -- what one who has taken the value x knows of it, having come with the view v
 pub record IsFound {T : Type 0} (point : T → Point) (fact : T → Type 0) (v : View) (x : T) : Type 0 where
   pub meets : fact x
+  pub header : header_of (point x) ≡ header_of v.seen
   pub seen : Before v.seen (point x)
   pub agrees : AllAgree (point x) v.logs
   pub distinct : AreDistinct v.logs

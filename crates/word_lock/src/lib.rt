@@ -2,7 +2,9 @@
 #![tactic(auto)]
 
 mod chronicle;
+mod dealing;
 mod held;
+mod lock;
 mod point;
 mod steps;
 mod token;
@@ -10,6 +12,7 @@ mod view;
 
 pub use chronicle::Chronicle;
 pub use held::Held;
+pub use lock::WordLock;
 pub use point::Point;
 pub use token::Token;
 pub use view::SeatLog;
