@@ -9,3 +9,4 @@ pub mod Joining
 pub mod Opening
 pub mod Meeting
 pub mod Tokens
+pub mod Sections
