@@ -3,6 +3,9 @@ use Rattle.std.proofs.Common.{◌≡◌, ℕ, zero, suc, ◌+◌, List, [], ◌�
 use Rattle.std.proofs.lemmas.List.{length-append}
 use Rattle.word_lock.specs.declared.point.Point.{Point}
 use Rattle.word_lock.specs.declared.view.SeatLog.{SeatLog}
+use Rattle.std.specs.List.{All}
+use Rattle.std.proofs.lemmas.List.Elements.{All-nil, All-cons}
+use Rattle.word_lock.specs.Ready.{IsReady}
 use Rattle.word_lock.specs.Ticket.{LockId, Ticket, first_seat, first_entries, opening_ticket, opening_tickets}
 use Rattle.word_lock.proofs.Opening.{opening_tickets_more}
 
@@ -32,3 +35,10 @@ last_opening_ticket lock p n l t e =
     let count : length l ≡ length (opening_tickets lock p 0 n) =
     omega (arith, length-append l (t ∷ []), length-opening_tickets lock p 0 n, length-opening_tickets lock p 0 (suc n), (let h : length (opening_tickets lock p 0 (suc n)) ≡ length (l ++ t ∷ []) = (λ d. length (e d)) in h)) in
     last_is l (opening_tickets lock p 0 n) t (opening_ticket lock n p) count (sym e ∙ sym (opening_tickets_more lock p 0 n n here))
+
+-- each token of an opening may step
+pub opening_tickets_ready : (lock : LockId) (p : Point) (k n : ℕ) → All (λ t. IsReady lock (first_seat t.logs) t) (opening_tickets lock p k n)
+opening_tickets_ready lock p k zero = All-nil (λ t. IsReady lock (first_seat t.logs) t)
+opening_tickets_ready lock p k (suc n) =
+    All-cons (λ t. IsReady lock (first_seat t.logs) t) (opening_ticket lock k p) (opening_tickets lock p (suc k) n) record { own = refl; free = refl; one = refl; seat_is = refl }
+    (opening_tickets_ready lock p (suc k) n)
