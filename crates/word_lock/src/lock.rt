@@ -1,4 +1,4 @@
-//! The lock.
+//! The lock. What its rule says and why each step keeps it stands at the head of the crate.
 ghost use Rattle.std.specs.Prelude.{◌≡◌, ℕ, true, false, List, [], ◌∷◌, ◌++◌, ◌<◌, length, Some, None, IfSome, IfNone, IfOk, IfErr};
 ghost use Rattle.word_lock.specs.Point.{header_of, Before, Follows};
 ghost use Rattle.word_lock.specs.Rule.{view_after_take, view_after_give, AllAgree, AreDistinct, IsFound};
@@ -14,16 +14,20 @@ use crate::view::View;
 use atomic_table::Seat;
 use history::fault::Fault;
 use std::alloc::Global;
+use std::hint::spin_loop;
 use std::marker::Model;
 use std::sync::Wait;
 use std::sync::atomic::{AtomicU64, Ordering};
+
+// How often a thread looks at the word before it parks.
+const LOOKS: u32 = 1000;
 
 /// A value that one token at a time may have. A contract sees which lock it is, and the header of the
 /// value that it was opened with.
 #[derive(Drop)]
 pub struct WordLock<T: Chronicle> {
     table: LockTable<T, Global>,
-    // How many threads are about to park on the word, or parked there.
+    // How many threads park on the word, or are about to.
     sleepers: AtomicU64,
 }
 
@@ -63,6 +67,7 @@ impl<T: Chronicle> WordLock<T> {
     }
 
     /// Takes the value, and waits until it is there.
+    #[inline]
     pub fn lock<R: Wait>(&self, rt: &R, token: &mut Token) -> Held<T>
         requires own { token.old.lock ≡ self.now }
         requires free { token.old.free ≡ true }
@@ -77,12 +82,15 @@ impl<T: Chronicle> WordLock<T> {
             if let Some(held) = self.lock_now(token) {
                 return held;
             }
-            self.sleep(rt);
+            if self.stays_taken() {
+                self.sleep(rt);
+            }
         }
         unreachable!()
     }
 
     /// Takes the value if it is there: one exchange, which waits for nobody. None changes nothing.
+    #[inline(always)]
     pub fn lock_now(&self, token: &mut Token) -> Option<Held<T>>
         requires own { token.old.lock ≡ self.now }
         requires free { token.old.free ≡ true }
@@ -104,8 +112,9 @@ impl<T: Chronicle> WordLock<T> {
         }
     }
 
-    /// Gives the value back, and wakes one who waits for it. It takes no memory and waits for nobody.
-    /// What was added since the value was taken is all of the token's own seat.
+    /// Gives the value back: what was added since it was taken is of the token's own seat. It wakes one
+    /// who sleeps, takes no memory and waits for nobody.
+    #[inline(always)]
     pub fn unlock(&self, token: &mut Token, held: Held<T>)
         requires own { (held_ticket held).lock ≡ self.now }
         requires holds { token.old.free ≡ false }
@@ -163,6 +172,7 @@ impl<T: Chronicle> WordLock<T> {
     }
 
     // The exchange of 0 to 1, and the value out of the slot where it wins.
+    #[inline(always)]
     fn take_value(&self, seat: &mut Seat<Option<T>, View>) -> Option<T>
         requires own { seat.old.table_id ≡ self.now.table }
         requires idle { (seat.old.me.1 ≡ []) × IsIdle seat.old.me.0 }
@@ -171,10 +181,7 @@ impl<T: Chronicle> WordLock<T> {
         ensures some { IfSome result (λ x. seat.new.me ≡ (view_after_take seat.old.me.0 (T.point x), (0, None) ∷ [])) }
         ensures found { IfSome result (λ x. IsFound T.point T.fact seat.old.me.0 x) }
     {
-        let found = self
-            .table
-            .shared
-            .compare_exchange::<Take>(seat, 0, 0, 1);
+        let found = self.table.shared.compare_exchange::<Take>(seat, 0, 0, 1);
         let is_taken = found != 0;
         if is_taken {
             return None;
@@ -186,6 +193,7 @@ impl<T: Chronicle> WordLock<T> {
     }
 
     // The value into the slot, and the store of 0.
+    #[inline(always)]
     fn put_value(&self, seat: &mut Seat<Option<T>, View>, value: T)
         requires own { seat.old.table_id ≡ self.now.table }
         requires holds { (seat.old.me.1 ≡ (0, None) ∷ []) × (seat.old.me.0.holds ≡ true) × (seat.old.me.0.live ≡ true) }
@@ -204,11 +212,7 @@ impl<T: Chronicle> WordLock<T> {
     }
 
     // One view of two, which then looks what the list is.
-    fn tie(
-        &self,
-        one: Seat<Option<T>, View>,
-        two: Seat<Option<T>, View>,
-    ) -> Seat<Option<T>, View>
+    fn tie(&self, one: Seat<Option<T>, View>, two: Seat<Option<T>, View>) -> Seat<Option<T>, View>
         requires own { (one.table_id ≡ self.now.table) × (two.table_id ≡ self.now.table) }
         requires idle { (one.me.1 ≡ []) × (two.me.1 ≡ []) × IsIdle one.me.0 × IsIdle two.me.0 }
         ensures own { result.table_id ≡ self.now.table }
@@ -226,18 +230,32 @@ impl<T: Chronicle> WordLock<T> {
         seat
     }
 
-    // Parks while the word is 1. A thread is counted as a sleeper before the system compares the word, and
-    // `wake` reads the count after the store of 0: so either the thread finds the word changed and doesn't
-    // sleep, or it is seen in the count and woken.
+    // Whether the word is 1 at each of many looks. Most sections are shorter than a call of the system.
+    fn stays_taken(&self) -> bool {
+        for _ in 0..LOOKS {
+            if self.table.shared.peek(0) == 0 {
+                return false;
+            }
+            spin_loop();
+        }
+        true
+    }
+
+    // Parks while the word is 1. A thread is counted before the system compares the word, and `wake` reads
+    // the count after the store of 0. So either the thread finds the word changed and doesn't sleep, or it
+    // is seen in the count.
+    #[cold]
     fn sleep<R: Wait>(&self, rt: &R) {
         self.sleepers.fetch_add(1, Ordering::SeqCst);
         self.table.shared.park(rt, 0, 1);
         self.sleepers.fetch_sub(1, Ordering::SeqCst);
     }
 
-    // Waking is a call of the system, also where nobody sleeps.
+    // Waking is a call of the system even where nobody sleeps, so it is left out then. It is left out too
+    // where the word is 1 again: whoever took it wakes at its own store.
+    #[inline(always)]
     fn wake(&self) {
-        if self.sleepers.load(Ordering::SeqCst) != 0 {
+        if self.sleepers.load(Ordering::SeqCst) != 0 && self.table.shared.peek(0) == 0 {
             self.table.shared.wake_one(0);
         }
     }

@@ -35,6 +35,7 @@ impl Token {
         self.free
     }
 
+    #[inline(always)]
     pub(crate) fn of<T>(seat: Seat<Option<T>, View>) -> Token
         requires { (seat.me.1 ≡ []) × IsIdle seat.me.0 }
         ensures { result ≡ ticket seat.table_id true seat.me.0 }
@@ -46,6 +47,7 @@ impl Token {
     }
 
     // Leaves the token without a view, until it is given one by `of`.
+    #[inline(always)]
     pub(crate) fn take<T>(&mut self) -> Seat<Option<T>, View>
         requires { self.old.free ≡ true }
         ensures left { self.new.free ≡ false }

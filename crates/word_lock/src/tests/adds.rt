@@ -40,12 +40,7 @@ pub fn add<R: Wait>(
 }
 
 /// How many entries the seat `of` has, if nobody has the value.
-pub fn count_now(
-    lock: &WordLock<Notes>,
-    token: &mut Token,
-    seat: u16,
-    of: u16,
-) -> Option<usize>
+pub fn count_now(lock: &WordLock<Notes>, token: &mut Token, seat: u16, of: u16) -> Option<usize>
     requires { IsReady lock.now seat token.old }
     ensures { IsReady lock.now seat token.new }
 {
