@@ -7,6 +7,7 @@ use crate::dealing::make_table;
 use linked_list_allocator::LocalHeap;
 use std::alloc::AllocError;
 use std::process::Abort;
+use std::rt::Clock;
 use std::sync::Wait;
 use std::test::Fail;
 use std::thread::{Threads, join};
@@ -14,7 +15,7 @@ use std::thread::{Threads, join};
 mod adds;
 mod notes;
 
-use adds::{add, count_now, last, two_add};
+use adds::{add, add_slowly, count_now, last, two_add};
 use notes::{HEADER, Notes, got};
 
 // Whether one token finds the value out while the other, whose seat is 0, adds an entry.
@@ -108,6 +109,46 @@ fn four_add<R: Threads + Wait + Sync>(
             requires { IsReady lock.now 2 c × IsReady lock.now 3 d × IsSync R.row }
             ensures { IfOk result (λ t. (t.lock ≡ lock.entry.now) × (t.free ≡ true)) }
         { two_add(rt, lock, c, d, 2, 3, 500) },
+    );
+    let x = x?;
+    let y = y?;
+    Ok(lock.join(x, y))
+}
+
+// The second thread comes while the first one has the lock, sleeps, and is woken.
+#[test]
+fn one_who_sleeps_is_woken(rt: HostRuntime) -> Result<(), Fail> {
+    let Ok((lock, mut tokens)) = WordLock::open(rt.alloc(), Notes::new(rt.alloc()), 2) else {
+        panic!(rt; "memory")
+    };
+    let b = last(&lock, &mut tokens, 1);
+    let a = last(&lock, &mut tokens, 0);
+    let token = two_add_slowly(&rt, &lock, a, b)?;
+    let notes = lock.close(&rt, token);
+    assert_eq!(rt; (notes.count_of(0), notes.count_of(1)), (1, 1));
+    Ok(())
+}
+
+fn two_add_slowly<R: Threads + Wait + Clock + Sync>(
+    rt: &R,
+    lock: &WordLock<Notes>,
+    a: Token,
+    b: Token,
+) -> Result<Token, AllocError>
+    requires a { IsReady lock.now 0 a }
+    requires b { IsReady lock.now 1 b }
+    ensures { IfOk result (λ t. (t.lock ≡ lock.now) × (t.free ≡ true)) }
+{
+    let (x, y) = join(
+        rt,
+        move || -> Result<Token, AllocError>
+            requires { IsReady lock.now 0 a }
+            ensures { IfOk result (λ t. IsReady lock.entry.now 0 t) }
+        { add_slowly(rt, lock, a, 0, 0, 40) },
+        move || -> Result<Token, AllocError>
+            requires { IsReady lock.now 1 b }
+            ensures { IfOk result (λ t. IsReady lock.entry.now 1 t) }
+        { add_slowly(rt, lock, b, 1, 10, 0) },
     );
     let x = x?;
     let y = y?;

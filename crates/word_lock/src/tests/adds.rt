@@ -7,8 +7,10 @@ ghost use Rattle.word_lock.specs.Ready.{IsReady};
 use super::notes::{Notes, got};
 use crate::{Token, WordLock};
 use std::alloc::AllocError;
+use std::rt::Clock;
 use std::sync::Wait;
-use std::thread::{Threads, join};
+use std::thread::{Threads, join, sleep};
+use std::time::Duration;
 
 /// The last of the tokens that `open` gave.
 pub fn last(lock: &WordLock<Notes>, tokens: &mut Vec<Token>, left: u16) -> Token
@@ -37,6 +39,28 @@ pub fn add<R: Wait>(
     let added = held.value.add(got(seat));
     lock.unlock(token, held);
     added
+}
+
+/// Adds one entry `before` milliseconds from now, and has the lock for `within` milliseconds.
+pub fn add_slowly<R: Wait + Clock>(
+    rt: &R,
+    lock: &WordLock<Notes>,
+    token: Token,
+    seat: u16,
+    before: u64,
+    within: u64,
+) -> Result<Token, AllocError>
+    requires { IsReady lock.now seat token }
+    ensures { IfOk result (λ t. IsReady lock.now seat t) }
+{
+    let mut token = token;
+    sleep(rt, Duration::from_millis(before));
+    let mut held = lock.lock(rt, &mut token);
+    sleep(rt, Duration::from_millis(within));
+    let added = held.value.add(got(seat));
+    lock.unlock(&mut token, held);
+    added?;
+    Ok(token)
 }
 
 /// How many entries the seat `of` has, if nobody has the value.
