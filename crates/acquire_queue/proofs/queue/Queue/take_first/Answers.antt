@@ -1,0 +1,2 @@
+use Rattle.acquire_queue.proofs.queue.Queue.take_first.Goals as goal
+
