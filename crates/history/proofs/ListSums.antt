@@ -48,7 +48,8 @@ sum_of_split f (suc n) (x ∷ xs) =
     let ih : sum_of f (take n xs) + sum_of f (drop n xs) ≡ sum_of f xs = sum_of_split f n xs in
     omega (arith, ih)
 
--- a list without a seat that it lacks is that list, and one without a seat that is in it once lacks that seat's term
+-- A list without a seat that it lacks is that list. The sum over one without a seat that stands in it once
+-- lacks that seat's term.
 without_none : (i : ℕ) (seats : List ℕ) → has i seats ≡ false → without i seats ≡ seats
 without_none i [] none = refl
 without_none i (j ∷ seats) none = by (eqb j i) none (λ n. without_none i seats n)

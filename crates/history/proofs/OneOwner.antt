@@ -365,7 +365,8 @@ saved_away k h legal i t =
     by : (o : Option Arrival) (b : Bool) → place_of i (line s h) ≡ o →
         sleeps_below k.conditions s h i ≡ b → is_away (phase_by o b) ≡ true → IsSaved s h i
     by (Some a) b p q u =
-        as_saved (subst (Saved s h) (place_once i (line s h) a p).0 (placed (SavedIfBack s h) i (line s h) a v.line p u).saved)
+        let r = placed (SavedIfBack s h) i (line s h) a v.line p u in
+        as_saved (subst (Saved s h) (place_once i (line s h) a p).0 r.saved)
     by None true p q u =
         let at = sleeps_at k.conditions s h i q in
         as_saved (v.sleepers at.0 i at.2).saved
