@@ -15,3 +15,4 @@ pub mod Owners
 pub mod OneWait
 pub mod WhoWaits
 pub mod Passing
+pub mod Answering
