@@ -1,0 +1,4 @@
+pub mod MemorySink
+pub mod MemorySource
+pub mod Turns
+pub mod Whole
