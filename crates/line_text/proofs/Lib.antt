@@ -1,0 +1,5 @@
+pub mod Breaks
+pub mod Lawful
+pub mod Growing
+pub mod OneReading
+pub mod Cuts
