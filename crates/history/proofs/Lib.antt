@@ -1,0 +1,4 @@
+pub mod LineLemmas
+pub mod Sums
+pub mod Changes
+pub mod Entering

@@ -1,0 +1,75 @@
+-- What a seat could take, when it is at its limit, and who is held back by a line.
+use Rattle.std.specs.Prelude.{ℕ, ◌==◌, nat_lt, Bool, true, false, ◌&&◌, ◌||◌, not, if◌then◌else◌, Option, Some, None, pos, ◌-ℤ◌, int_le}
+use Rattle.history.specs.declared.entry.Mode.{Mode}
+use Rattle.history.specs.declared.entry.Mode.TheVariants.{X, S}
+use Rattle.history.specs.declared.header.Object.{Object}
+use Rattle.history.specs.declared.header.Object.TheVariants.{Lock, ReadWrite, Semaphore, Latch}
+use Rattle.history.specs.Counts.{Counts, owner, readers}
+use Rattle.history.specs.Entry.{is_exclusive}
+use Rattle.history.specs.Object.{is_fair_policy}
+
+-- the greatest number of holds of a lock by one seat, and of write holds, or of all read holds
+abbrev pub max_holds : ℕ
+max_holds = 2147483647
+
+abbrev pub max_shared : ℕ
+max_shared = 65535
+
+-- this seat, and no other
+abbrev pub is_seat : Option ℕ → ℕ → Bool
+is_seat None i = false
+is_seat (Some j) i = j == i
+
+-- nobody, or this seat
+abbrev pub is_none_or : Option ℕ → ℕ → Bool
+is_none_or None i = true
+is_none_or (Some j) i = j == i
+
+-- A lock goes to its owner, below the limit, or to anybody where nobody owns. To write, nobody else may
+-- own and nobody read, but for the owner itself; to read, nobody else may own. Permits must be free for
+-- all of the request, and a latch opens at 0. A mode that the object lacks is never taken.
+abbrev pub could_of : Object → Counts → ℕ → Mode → ℕ → Bool
+could_of (Lock policy) k i X n = is_none_or (owner k) i && nat_lt (k.held i X) max_holds
+could_of (ReadWrite policy) k i X n =
+    if is_seat (owner k) i then nat_lt (k.held i X) max_shared else is_none_or (owner k) i && (readers k == 0)
+could_of (ReadWrite policy) k i S n = is_none_or (owner k) i && nat_lt (readers k) max_shared
+could_of (Semaphore policy permits) k i S n = int_le (pos 0) (k.free -ℤ pos n)
+could_of (Latch opening) k i S n = k.count == 0
+could_of _ k i m n = false
+
+-- whether a seat could take n in a mode
+abbrev pub could : Counts → ℕ → Mode → ℕ → Bool
+could k i m n = could_of k.object k i m n
+
+-- The limit is met by a seat with as many exclusive holds as may be, and for new reads, where nobody else
+-- owns, by as many read holds of all seats as may be.
+abbrev pub limit_of : Object → Counts → ℕ → Mode → Bool
+limit_of (Lock policy) k i X = k.held i X == max_holds
+limit_of (ReadWrite policy) k i X = k.held i X == max_shared
+limit_of (ReadWrite policy) k i S = is_none_or (owner k) i && (readers k == max_shared)
+limit_of _ k i m = false
+
+abbrev pub limit : Counts → ℕ → Mode → Bool
+limit k i m = limit_of k.object k i m
+
+-- A call of the owner, and a read by a seat that reads, is reentrant. Permits are no holds of this kind.
+abbrev pub is_reentrant_of : Object → Counts → ℕ → Mode → Bool
+is_reentrant_of (Lock policy) k i m = is_seat (owner k) i
+is_reentrant_of (ReadWrite policy) k i m = is_seat (owner k) i || (not (is_exclusive m) && nat_lt 0 (k.held i S))
+is_reentrant_of _ k i m = false
+
+abbrev pub is_reentrant : Counts → ℕ → Mode → Bool
+is_reentrant k i m = is_reentrant_of k.object k i m
+
+-- The new calls that a line holds back, by the mode that its first asks for: all in a fair object, and in a
+-- non-fair read-write lock the reads where the first asks to write. A latch holds nobody back.
+abbrev pub line_blocks : Object → Mode → Option Mode → Bool
+line_blocks o m None = false
+line_blocks (Lock policy) m (Some first) = is_fair_policy policy
+line_blocks (ReadWrite policy) m (Some first) = is_fair_policy policy || (not (is_exclusive m) && is_exclusive first)
+line_blocks (Semaphore policy permits) m (Some first) = is_fair_policy policy
+line_blocks (Latch opening) m (Some first) = false
+
+-- a new call that isn't reentrant, and that the line holds back
+abbrev pub held_back : Counts → Option Mode → ℕ → Mode → Bool
+held_back k first i m = not (is_reentrant k i m) && line_blocks k.object m first

@@ -1,0 +1,30 @@
+-- Tests on the words and modes of an entry.
+use Rattle.std.specs.Prelude.{Bool, true, false}
+use Rattle.history.specs.declared.entry.Mode.{Mode}
+use Rattle.history.specs.declared.entry.Mode.TheVariants.{X, S}
+use Rattle.history.specs.declared.entry.Word.{Word}
+use Rattle.history.specs.declared.entry.Word.TheVariants.{Got, TryGot, Queued, Granted, Missed, Left, Gave, Refused, Await, Lapse, Signal, SignalAll, Back, Counted, Drained}
+
+abbrev pub is_exclusive : Mode → Bool
+is_exclusive X = true
+is_exclusive S = false
+
+abbrev pub same_mode : Mode → Mode → Bool
+same_mode X X = true
+same_mode S S = true
+same_mode X S = false
+same_mode S X = false
+
+-- the entries by which a seat leaves the line
+abbrev pub ends_arrival : Word → Bool
+ends_arrival Granted = true
+ends_arrival Left = true
+ends_arrival Back = true
+ends_arrival _ = false
+
+-- the entries that end a call: all but those that leave it waiting
+abbrev pub ends_call : Word → Bool
+ends_call Queued = false
+ends_call Await = false
+ends_call Lapse = false
+ends_call _ = true

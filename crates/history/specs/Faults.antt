@@ -1,0 +1,52 @@
+-- The steps that are refused and not recorded, whatever the history says: a mode or step that the object
+-- lacks, a condition that it lacks, an amount that it doesn't count in.
+use Rattle.std.specs.Prelude.{ℕ, ◌==◌, nat_lt, nat_le, Bool, true, false, ◌&&◌, ◌||◌, not}
+use Rattle.history.specs.declared.entry.Mode.{Mode}
+use Rattle.history.specs.declared.header.Header.{Header}
+use Rattle.history.specs.declared.header.Object.{Object}
+use Rattle.history.specs.declared.header.Object.TheVariants.{Lock, ReadWrite, Semaphore, Latch}
+use Rattle.history.specs.declared.step.Step.{Step}
+use Rattle.history.specs.declared.step.Step.TheVariants.{Acquire, Try, TryFair, EntryInterrupt, Give, Look, Expire, Interrupt, Await, Signal, SignalAll, Drain}
+use Rattle.history.specs.Entry.{is_exclusive}
+use Rattle.history.specs.Object.{is_lock, is_semaphore, is_latch}
+
+-- a lock is exclusive alone, a semaphore and a latch are shared alone
+abbrev pub lacks_mode : Object → Mode → Bool
+lacks_mode (Lock policy) m = not (is_exclusive m)
+lacks_mode (ReadWrite policy) m = false
+lacks_mode (Semaphore policy permits) m = is_exclusive m
+lacks_mode (Latch count) m = is_exclusive m
+
+abbrev pub is_wrong_mode : Object → Step → Bool
+is_wrong_mode o (Acquire m n) = lacks_mode o m
+is_wrong_mode o (Try m n) = lacks_mode o m || is_latch o
+is_wrong_mode o (TryFair m n) = lacks_mode o m
+is_wrong_mode o (EntryInterrupt m n) = lacks_mode o m
+is_wrong_mode o (Give m n) = lacks_mode o m
+is_wrong_mode o (Await c) = not (is_lock o)
+is_wrong_mode o (Signal c) = not (is_lock o)
+is_wrong_mode o (SignalAll c) = not (is_lock o)
+is_wrong_mode o Drain = not (is_semaphore o)
+is_wrong_mode o _ = false
+
+abbrev pub is_no_condition : Header → Step → Bool
+is_no_condition k (Await c) = nat_le k.conditions c
+is_no_condition k (Signal c) = nat_le k.conditions c
+is_no_condition k (SignalAll c) = nat_le k.conditions c
+is_no_condition k _ = false
+
+-- the greatest amount of a request
+abbrev pub max_amount : ℕ
+max_amount = 2147483647
+
+-- only a semaphore counts in other amounts than 1
+abbrev pub is_bad_number : Object → ℕ → Bool
+is_bad_number o n = nat_lt max_amount n || (not (is_semaphore o) && not (n == 1))
+
+abbrev pub is_bad_amount : Object → Step → Bool
+is_bad_amount o (Acquire m n) = is_bad_number o n
+is_bad_amount o (Try m n) = is_bad_number o n
+is_bad_amount o (TryFair m n) = is_bad_number o n
+is_bad_amount o (EntryInterrupt m n) = is_bad_number o n
+is_bad_amount o (Give m n) = is_bad_number o n
+is_bad_amount o _ = false

@@ -1,0 +1,49 @@
+-- What the four objects have, and with what they open.
+use Rattle.std.specs.Prelude.{ℕ, Bool, true, false, not, ℤ, pos}
+use Rattle.history.specs.declared.header.Object.{Object}
+use Rattle.history.specs.declared.header.Object.TheVariants.{Lock, ReadWrite, Semaphore, Latch}
+use Rattle.history.specs.declared.header.Policy.{Policy}
+use Rattle.history.specs.declared.header.Policy.TheVariants.{Fair, NonFair}
+
+abbrev pub is_fair_policy : Policy → Bool
+is_fair_policy Fair = true
+is_fair_policy NonFair = false
+
+-- a latch has no policy
+abbrev pub is_fair : Object → Bool
+is_fair (Lock policy) = is_fair_policy policy
+is_fair (ReadWrite policy) = is_fair_policy policy
+is_fair (Semaphore policy permits) = is_fair_policy policy
+is_fair (Latch count) = false
+
+-- a lock or a read-write lock, which are owned, have conditions and keep room for each hold
+abbrev pub is_lock : Object → Bool
+is_lock (Lock policy) = true
+is_lock (ReadWrite policy) = true
+is_lock (Semaphore policy permits) = false
+is_lock (Latch count) = false
+
+abbrev pub is_semaphore : Object → Bool
+is_semaphore (Semaphore policy permits) = true
+is_semaphore _ = false
+
+abbrev pub is_latch : Object → Bool
+is_latch (Latch count) = true
+is_latch _ = false
+
+-- the permits that a semaphore was made with
+abbrev pub created : Object → ℤ
+created (Semaphore policy permits) = permits
+created _ = pos 0
+
+-- the number that a latch counts down from
+abbrev pub opening_count : Object → ℕ
+opening_count (Latch count) = count
+opening_count _ = 0
+
+-- what a request for n is in holds: one hold of a lock, n permits, nothing of a latch
+abbrev pub in_holds : Object → ℕ → ℕ
+in_holds (Lock policy) n = 1
+in_holds (ReadWrite policy) n = 1
+in_holds (Semaphore policy permits) n = n
+in_holds (Latch count) n = 0

@@ -1,0 +1,38 @@
+-- That nobody in line is passed, said of arrivals and of what ended them alone.
+use Rattle.std.specs.Prelude.{◌≡◌, ◌<◌, ℕ, Bool, true, false, List, [], ◌∷◌, ◌++◌, length, Option, Some, None}
+use Rattle.std.specs.List.{AllByRecursion}
+use Rattle.history.specs.declared.entry.Entry.{Entry}
+use Rattle.history.specs.declared.entry.Word.{Word}
+use Rattle.history.specs.declared.entry.Word.TheVariants.{Got, Granted, Back}
+use Rattle.history.specs.Could.{is_reentrant}
+use Rattle.history.specs.Counts.{counts}
+use Rattle.history.specs.Line.{Arrived, arrivals, Ending, ending}
+use Rattle.history.specs.Object.{is_fair}
+use Rattle.history.specs.Start.{Start}
+
+-- an arrival that was granted, or came back
+abbrev pub is_passage : Word → Bool
+is_passage Granted = true
+is_passage Back = true
+is_passage _ = false
+
+-- an arrival's wait ended before an entry's number
+pub record EndedBefore (h : List Entry) (place : ℕ) (a : Arrived) : Type 0 where
+  pub end : Ending
+  pub is : ending h a.who.seat a.place ≡ Some end
+  pub before : end.place < place
+
+-- whoever is granted or comes back finds that all who arrived before it have ended
+abbrev pub IsInOrder : Start → List Entry → Type 0
+IsInOrder s h =
+    (before after : List Arrived) (b : Arrived) (x : Ending) →
+    arrivals s h ≡ before ++ b ∷ after → ending h b.who.seat b.place ≡ Some x → is_passage x.word ≡ true →
+    AllByRecursion (EndedBefore h x.place) before
+
+-- in a fair object a new call that isn't reentrant takes only where all who arrived before have ended
+abbrev pub IsFairOrder : Start → List Entry → Type 0
+IsFairOrder s [] = Unit {0}
+IsFairOrder s (e ∷ h) =
+    (e.word ≡ Got → is_fair s.header.object ≡ true → is_reentrant (counts s h) e.seat e.mode ≡ false →
+        AllByRecursion (EndedBefore h (length h)) (arrivals s h))
+    × IsFairOrder s h

@@ -1,0 +1,34 @@
+-- A seat is idle, stands in line or sleeps, and each step is for one who waits or for one who is idle.
+use Rattle.std.specs.Prelude.{ℕ, Bool, true, false, not, List, Option, Some, None}
+use Rattle.history.specs.declared.arrival.Arrival.{Arrival}
+use Rattle.history.specs.declared.entry.Entry.{Entry}
+use Rattle.history.specs.declared.step.Step.{Step}
+use Rattle.history.specs.declared.step.Step.TheVariants.{Acquire, Try, TryFair, EntryInterrupt, Give, Look, Expire, Interrupt, Await, Signal, SignalAll, Drain}
+use Rattle.history.specs.Line.{line, place_of}
+use Rattle.history.specs.Sleepers.{sleeps_below}
+use Rattle.history.specs.Start.{Start}
+
+pub data Phase : Type 0 where
+  Idle : Phase
+  InLine : (a : Arrival) → Phase
+  Sleeping : Phase
+
+abbrev pub phase_by : Option Arrival → Bool → Phase
+phase_by (Some a) sleeps = InLine a
+phase_by None true = Sleeping
+phase_by None false = Idle
+
+abbrev pub phase : Start → List Entry → ℕ → Phase
+phase s h i = phase_by (place_of i (line s h)) (sleeps_below s.header.conditions s h i)
+
+-- the steps of one who waits
+abbrev pub waits : Step → Bool
+waits Look = true
+waits Expire = true
+waits Interrupt = true
+waits _ = false
+
+abbrev pub suits : Phase → Step → Bool
+suits Idle step = not (waits step)
+suits (InLine a) step = waits step
+suits Sleeping step = waits step

@@ -1,0 +1,42 @@
+-- For how many entries room stays reserved, and which entries have room.
+use Rattle.std.specs.Prelude.{ℕ, zero, suc, ◌+◌, nat_le, Bool, if◌then◌else◌, List, [], ◌∷◌, length}
+use Rattle.history.specs.declared.arrival.Arrival.{Arrival}
+use Rattle.history.specs.declared.entry.Entry.{Entry}
+use Rattle.history.specs.declared.entry.Mode.TheVariants.{X, S}
+use Rattle.history.specs.declared.header.Object.{Object}
+use Rattle.history.specs.Counts.{held, total}
+use Rattle.history.specs.Line.{line}
+use Rattle.history.specs.Object.{is_lock}
+use Rattle.history.specs.Sleepers.{sleepers, last_sleep}
+use Rattle.history.specs.Start.{Start}
+
+-- the sum of a number over a list
+abbrev pub sum_of : {A : Type 0} → (A → ℕ) → List A → ℕ
+sum_of f [] = 0
+sum_of f (x ∷ xs) = f x + sum_of f xs
+
+-- one for each hold of a lock or read-write lock: it will be given back
+abbrev pub holds_owe : Start → List Entry → ℕ
+holds_owe s h = if is_lock s.header.object then total s.header.seats (λ i. held s h i X + held s h i S) else 0
+
+-- a queued acquire will take or leave, and what it takes of a lock it will give back; one on its way back
+-- will come back and give up all its saved holds
+abbrev pub arrival_owes : Start → List Entry → Arrival → ℕ
+arrival_owes s h a =
+    if a.back then (last_sleep s h a.seat).holds + 1 else if is_lock s.header.object then 2 else 1
+
+-- a sleeper will lapse, come back, and give up all its saved holds
+abbrev pub sleeper_owes : Start → List Entry → ℕ → ℕ
+sleeper_owes s h i = (last_sleep s h i).holds + 2
+
+abbrev pub sleepers_owe : ℕ → Start → List Entry → ℕ
+sleepers_owe zero s h = 0
+sleepers_owe (suc c) s h = sleepers_owe c s h + sum_of (sleeper_owes s h) (sleepers s h c)
+
+-- the entries for which room stays reserved
+abbrev pub owed : Start → List Entry → ℕ
+owed s h = holds_owe s h + sum_of (arrival_owes s h) (line s h) + sleepers_owe s.header.conditions s h
+
+-- an entry has room where it fits with all that is owed behind it
+abbrev pub has_room : Start → List Entry → Entry → Bool
+has_room s h e = nat_le (length h + 1 + owed s (e ∷ h)) s.header.cap
