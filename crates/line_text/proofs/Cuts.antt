@@ -1,7 +1,7 @@
 -- Each proper beginning of a text of a lawful form is cut short.
 use Rattle.std.proofs.Common.{◌≡◌, ◌≢◌, ℕ, ◌+◌, ◌<◌, ◌^◌, List, [], ◌∷◌, ◌++◌, length, refl, sym, ap, ◌∙◌, arith, append_assoc, inl, inr, ◌⊎◌}
 use Rattle.std.proofs.lemmas.List.Elements.{All-from_recursion}
-use Rattle.line_text.specs.Lines.{IsLine, ended}
+use Rattle.history.specs.Text.{IsLine, ended}
 use Rattle.line_text.specs.Form.{Form, lines_of, AreItems}
 use Rattle.line_text.specs.Reading.{Begins, IsText, IsCutShort}
 use Rattle.line_text.proofs.Lawful.{Lacks, IsLawful}

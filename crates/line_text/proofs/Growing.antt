@@ -1,7 +1,7 @@
 -- One more line is read.
 use Rattle.std.proofs.Common.{Bool, false, ◌≡◌, ◌≢◌, ℕ, ◌+◌, ◌<◌, ◌^◌, List, [], ◌∷◌, ◌++◌, length, refl, sym, ap, subst, ◌∙◌, arith, append_assoc, append-nil, inl, inr, eqb}
 use Rattle.std.proofs.lemmas.Bool.{eqb-false}
-use Rattle.line_text.specs.Lines.{ended}
+use Rattle.history.specs.Text.{ended}
 use Rattle.line_text.specs.Form.{Form, lines_of, AreItems}
 use Rattle.line_text.specs.Reading.{Begins, HasBadLine}
 

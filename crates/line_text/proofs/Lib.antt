@@ -1,4 +1,3 @@
-pub mod Breaks
 pub mod Lawful
 pub mod Growing
 pub mod OneReading

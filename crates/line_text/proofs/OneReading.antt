@@ -3,7 +3,7 @@ use Rattle.std.proofs.Common.{◌≡◌, ◌≢◌, ℕ, ◌+◌, ◌<◌, ◌^�
 use Rattle.std.proofs.lemmas.List.Elements.{recursion_from_All}
 use Rattle.line_text.specs.declared.fault.TextFault.{TextFault}
 use Rattle.line_text.specs.declared.fault.TextFault.TheVariants.{BadHeader, BadLine, CutShort, OutOfMemory}
-use Rattle.line_text.specs.Lines.{IsLine, ended}
+use Rattle.history.specs.Text.{IsLine, ended}
 use Rattle.line_text.specs.Form.{Form, lines_of, AreItems}
 use Rattle.line_text.specs.Reading.{Begins, IsText, IsCutShort, HasBadHeader, IsBadLine, HasBadLine, Reading, IsReading}
 use Rattle.line_text.proofs.Lawful.{Lacks, IsLawful}

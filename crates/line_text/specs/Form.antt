@@ -1,6 +1,6 @@
 -- A form of text: what its lines spell.
 use Rattle.std.specs.Prelude.{ℕ, ◌+◌, List, [], ◌∷◌, ◌++◌}
-use Rattle.line_text.specs.Lines.{ended}
+use Rattle.history.specs.Text.{ended}
 
 -- Items are numbered from 0, and their lines may tell the number. The end line may tell what the items are.
 pub record Form (H I : Type 0) : Type 1 where

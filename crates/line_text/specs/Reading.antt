@@ -2,7 +2,7 @@
 use Rattle.std.specs.Prelude.{◌≡◌, ◌≢◌, ℕ, ◌+◌, ◌<◌, ◌^◌, List, [], ◌∷◌, ◌++◌, length, Result, Ok, Err, ◌⊎◌}
 use Rattle.line_text.specs.declared.fault.TextFault.{TextFault}
 use Rattle.line_text.specs.declared.fault.TextFault.TheVariants.{BadHeader, BadLine, CutShort, OutOfMemory}
-use Rattle.line_text.specs.Lines.{IsLine, ended}
+use Rattle.history.specs.Text.{IsLine, ended}
 use Rattle.line_text.specs.Form.{Form, lines_of, AreItems}
 
 -- The text begins with a header and these items, and the rest follows.

@@ -7,4 +7,3 @@
 #![tactic(auto)]
 
 pub mod fault;
-pub mod line;
