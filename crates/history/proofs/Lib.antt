@@ -1,3 +1,9 @@
+pub mod Numbers
+pub mod Splits
+pub mod Plain
+pub mod PartLemmas
+pub mod Breaks
+pub mod Writing
 pub mod LineLemmas
 pub mod Sums
 pub mod Changes

@@ -1,5 +1,9 @@
 pub mod Fault
 pub mod Header
+pub mod Text
+pub mod Spelling
+pub mod Reading
+pub mod EntryWords
 pub mod Entry
 pub mod Object
 pub mod Start

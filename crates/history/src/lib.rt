@@ -6,6 +6,11 @@
 
 pub mod arrival;
 pub mod entry;
+pub mod entry_text;
 pub mod fault;
 pub mod header;
+pub mod header_text;
+pub mod number;
 pub mod step;
+pub mod text;
+pub mod words;
