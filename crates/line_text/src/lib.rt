@@ -7,3 +7,4 @@
 #![tactic(auto)]
 
 pub mod fault;
+pub mod header_line;
