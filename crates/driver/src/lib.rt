@@ -7,8 +7,10 @@
 pub mod device;
 pub mod memory_sink;
 pub mod memory_source;
+pub mod replay;
 pub mod sink;
 pub mod source;
+pub mod stand_in;
 pub mod stream_fault;
 mod turns;
 pub mod whole;
