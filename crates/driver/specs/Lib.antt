@@ -1,6 +1,7 @@
 pub mod MemorySink
 pub mod MemorySource
 pub mod Replay
+pub mod ReplayStream
 pub mod ReplayText
 pub mod StandIn
 pub mod Turns

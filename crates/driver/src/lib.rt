@@ -8,6 +8,7 @@ pub mod device;
 pub mod memory_sink;
 pub mod memory_source;
 pub mod replay;
+pub mod replay_stream;
 pub mod sink;
 pub mod source;
 pub mod stand_in;
