@@ -1,1 +1,2 @@
 pub mod EntryLines
+pub mod EntryReading

@@ -1,4 +1,6 @@
-//! The history text: a header, the entries of a history with their numbers, and two counts.
+//! The history text.
 #![tactic(auto)]
 
+pub mod end_line;
 pub mod entry_line;
+pub mod entry_words;

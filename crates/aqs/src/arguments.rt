@@ -1,0 +1,31 @@
+//! The command line.
+
+use crate::fault::Fault;
+use clap::{Arg, Command};
+use std::alloc::Global;
+use std::convert::AsStr;
+
+/// What `aqs replay` is asked for.
+#[derive(Debug, Drop)]
+pub struct Replay {
+    /// The file to read, or none for standard input.
+    pub file: Option<String>,
+}
+
+/// What the words of a command line ask for, the program's name first.
+pub fn arguments<S: AsStr>(alloc: Global, words: &[S]) -> Result<Replay, Fault> {
+    let replay = Command::new(alloc, "replay").arg(Arg::new(alloc, "file"))?;
+    let command = Command::new(alloc, "aqs").subcommand(replay)?;
+    let matches = command.try_get_matches_from(words)?;
+    let Some((_, replay)) = matches.subcommand() else {
+        return Ok(Replay { file: None });
+    };
+    match replay.get_str("file") {
+        None => Ok(Replay { file: None }),
+        // Behind `--` the parser lets it through.
+        Some(file) if file.starts_with('-') => Err(Fault::Usage),
+        Some(file) => Ok(Replay {
+            file: Some(String::from_str(alloc, file)?),
+        }),
+    }
+}
