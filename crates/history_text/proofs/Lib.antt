@@ -1,3 +1,4 @@
+pub mod EntryLemmas
 pub mod Lists
 pub mod Made
 pub mod Returning

@@ -17,9 +17,8 @@ entry_line number e = decimal number ++ codes " " ++ decimal e.seat ++ codes " "
 abbrev pub counts_line : ℕ → ℕ → List ℕ
 counts_line entries calls = codes "end " ++ decimal entries ++ codes " " ++ decimal calls
 
--- an entry that has a line in a text with this header, at this number
-pub record IsEntry (h : Header) (k : ℕ) (e : Entry) : Type 0 where
-  pub number : k < h.cap
+-- an entry that has a line in a text with this header
+pub record HasLine (h : Header) (e : Entry) : Type 0 where
   pub seat : e.seat < h.seats
   pub words : IsSpelt e
   pub amount : e.n ≤ 2147483647
