@@ -1,5 +1,8 @@
 -- What a replay has told, and what is left to tell.
-use Rattle.std.proofs.Common.{◌≡◌, ◌⊎◌, inl, inr, ℕ, ◌+◌, ◌<◌, Bool, true, false, cond, List, [], ◌∷◌, ◌++◌, length, Option, Some, None, Result, Ok, Err, refl, ap, sym, subst, ◌∙◌, arith, append_assoc, append-nil}
+use Rattle.std.proofs.Common.{◌≡◌, ◌⊎◌, inl, inr, ℕ, ◌+◌, ◌<◌, Bool, true, false, cond, List, [], ◌∷◌, ◌++◌, length, Option, Some, None, Result, Ok, Err, refl, ap, sym, subst, ◌∙◌, arith, append_assoc, append-nil, drop, get_or, add-one}
+use Rattle.std.proofs.Math.Seq.{drop-cons}
+use Rattle.history.specs.declared.entry.Mode.TheVariants.{X}
+use Rattle.history.specs.declared.step.Step.TheVariants.{Acquire}
 use Rattle.history.specs.declared.entry.Entry.{Entry}
 use Rattle.history.specs.declared.fault.Fault.{Fault}
 use Rattle.history.specs.declared.fault.Fault.TheVariants.{HistoryFull, OutOfMemory}
@@ -18,7 +21,7 @@ use Rattle.history_text.proofs.Spelt.{IsSound, sound_more, spelt}
 use Rattle.driver.specs.Replay.{HasLine, calls_of}
 use Rattle.history_text.specs.EntryLines.{counts_line}
 use Rattle.driver.specs.ReplayText.{answer_line, answer_lines, entries_of, history_behind}
-use Rattle.driver.specs.StandIn.{View, IsAnswered}
+use Rattle.driver.specs.Answering.{Answered, IsAnswered}
 
 -- ---- one answer
 
@@ -81,6 +84,17 @@ entries_left-cons : (s : Start) (h : List Entry) (x : ℕ × Step) (steps : List
 unfolding entries_left
 entries_left-cons s h x steps new q = rw q refl
 
+-- one step later the same history is behind all
+pub driven : (s : Start) (all : List (ℕ × Step)) (h new : List Entry) (x : ℕ × Step) (left : List (ℕ × Step)) → entries_left s h (x ∷ left) ≡ entries_left s [] all → new ≡ (answer s h x.0 x.1).1 → entries_left s new left ≡ entries_left s [] all
+driven s all h new x left was q = sym (entries_left-cons s h x left new q) ∙ was
+
+pub driven_all : (h : Header) (all : List (ℕ × Step)) (entries : List Entry) (left : List (ℕ × Step)) → entries_left (opening h) entries left ≡ entries_left (opening h) [] all → left ≡ [] → entries ≡ history_behind h all
+driven_all h all entries left was none = sym (entries_left-nil (opening h) entries) ∙ rw none at was ∙ entries_left-is (opening h) [] all
+
+-- the first of what is left
+pub split : (steps : List (ℕ × Step)) (i : ℕ) → i < length steps → drop i steps ≡ get_or steps i (0, Acquire X 0) ∷ drop (i + 1) steps
+split steps i lt = rw add-one (drop-cons steps i (0, Acquire X 0) lt)
+
 -- ---- a replay under way
 
 -- What was written, with the lines that are left, is all; and so is the history.
@@ -129,7 +143,7 @@ told_all h front all out entries number ended_calls left out' told none o =
 pub has_line : (s : Start) (h : List Entry) (i : ℕ) (step : Step) (r : Result Answer Fault) → IsSound s h → i < s.header.seats → r ≡ (answer s h i step).0 → HasLine r
 has_line s h i step r sound below p = rw p (follows s h i step sound below).line
 
-pub answered : (old new : View) (header : Header) (i : ℕ) (step : Step) (r : Result Answer Fault) → IsAnswered old i step r new → old.header ≡ header → (r ≡ Err OutOfMemory → ⊥)
+pub answered : (old new : Answered) (header : Header) (i : ℕ) (step : Step) (r : Result Answer Fault) → IsAnswered old i step r new → old.header ≡ header → (r ≡ Err OutOfMemory → ⊥)
     → (r ≡ (answer (opening header) old.entries i step).0) × (new.entries ≡ (answer (opening header) old.entries i step).1) × (new.header ≡ header)
 answered old new header i step r (inl a) same refused =
     (a.answer ∙ ap (λ (k : Header). (answer (opening k) old.entries i step).0) same, a.entries ∙ ap (λ (k : Header). (answer (opening k) old.entries i step).1) same, a.header ∙ same)

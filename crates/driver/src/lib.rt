@@ -4,14 +4,21 @@
 //! text that is refused. Sources and sinks tell their bytes to the contracts, where these are known.
 #![tactic(auto)]
 
+mod answering;
 pub mod device;
+pub mod form;
 pub mod memory_sink;
 pub mod memory_source;
-pub mod replay;
+mod refusing;
+mod replay;
 pub mod replay_stream;
 pub mod sink;
 pub mod source;
-pub mod stand_in;
 pub mod stream_fault;
 mod turns;
-pub mod whole;
+mod whole;
+
+#[cfg(test)]
+mod examples;
+#[cfg(test)]
+mod tests;

@@ -1,13 +1,12 @@
 //! The replay text.
 
 ghost use Rattle.std.specs.Prelude.{◌≡◌, ◌++◌, ◌≤◌, ◌<◌, ◌↔◌, [], All, OnOk, IfOk, IsTrue, Err, if◌then◌else◌};
-ghost use Rattle.history.specs.Entry.{ends_call};
 ghost use Rattle.history.specs.Header.{IsInRange};
 ghost use Rattle.history.specs.Text.{ended};
 ghost use Rattle.driver.specs.Replay.{HasLine, calls_of};
-ghost use Rattle.driver.specs.ReplayText.{answer_line, entries_of, header_line, replay_text};
+ghost use Rattle.driver.specs.ReplayText.{answer_line, entries_of, header_line, history_behind, replay_text};
 
-use crate::stand_in::Core;
+use crate::answering::Answering;
 use history::entry::Word;
 use history::fault::Fault;
 use history::header::Header;
@@ -89,17 +88,17 @@ fn calls_in(answer: &Result<Answer, Fault>) -> u64
     }
 }
 
-/// The answers of a fresh core to the steps: each step is answered, and its line written, in turn.
+/// The answers of a fresh object to the steps: each step is answered, and its line written, in turn.
 ///
 /// A step that is refused for want of memory ends the replay.
-pub fn replay<C: Core>(
+pub fn replay<O: Answering>(
     alloc: Global,
     header: &Header,
-    core: &mut C,
+    object: &mut O,
     steps: &[(u16, Step)],
 ) -> Result<Vec<u8>, AllocError>
-    requires header { (C.view_of core.old).header ≡ header.now }
-    requires fresh { (C.view_of core.old).entries ≡ [] }
+    requires header { (O.view_of object.old).header ≡ header.now }
+    requires fresh { (O.view_of object.old).entries ≡ [] }
     requires range { IsInRange header.now }
     requires seats { All (λ s. s.0 < header.now.seats) steps.now }
     ensures { IfOk result (λ text. text.items ≡ replay_text header.now steps.now) }
@@ -110,8 +109,8 @@ pub fn replay<C: Core>(
     out.push(b'\n')?;
     let mut entries: u64 = 0;
     let mut calls: u64 = 0;
-    for (i, step) in steps.iter().enumerate() {
-        let answer = core.step(step.0, step.1);
+    for step in steps {
+        let answer = object.answer(step.0, step.1);
         if lacks_memory(&answer) {
             return Err(AllocError);
         }
@@ -122,4 +121,24 @@ pub fn replay<C: Core>(
     put_counts(&mut out, entries, calls)?;
     out.push(b'\n')?;
     Ok(out)
+}
+
+/// Has a fresh object answer the steps, for the history that it keeps of them.
+pub fn drive<O: Answering>(
+    object: &mut O,
+    header: &Header,
+    steps: &[(u16, Step)],
+) -> Result<(), AllocError>
+    requires header { (O.view_of object.old).header ≡ header.now }
+    requires fresh { (O.view_of object.old).entries ≡ [] }
+    requires seats { All (λ s. s.0 < header.now.seats) steps.now }
+    ensures { OnOk result ((O.view_of object.new).entries ≡ history_behind header.now steps.now) }
+{
+    for step in steps {
+        let answer = object.answer(step.0, step.1);
+        if lacks_memory(&answer) {
+            return Err(AllocError);
+        }
+    }
+    Ok(())
 }

@@ -1,5 +1,6 @@
 -- Each entry of a legal history of an object as opened has a spelling.
 use Rattle.std.proofs.Common.{◌≡◌, ◌⊎◌, inl, inr, ℕ, ◌<◌, Bool, true, false, not, ◌||◌, cond, eqb, ltb, List, [], ◌∷◌, Option, Some, None, Result, Ok, Err, refl, ap, ◌∙◌, sym, subst, arith}
+use Rattle.std.specs.List.{AllByRecursion}
 use Rattle.std.proofs.lemmas.Bool.{or_parts, not-false, eqb-true}
 use Rattle.history.specs.declared.arrival.Arrival.{Arrival}
 use Rattle.history.specs.declared.entry.End.{End}
@@ -89,3 +90,14 @@ sound_more s h i step e sound below q =
 pub spelt : (s : Start) (h : List Entry) (i : ℕ) (step : Step) (e : Entry) → IsSound s h → entry_for s h i step ≡ Ok (Some e) → IsSpelt e
 spelt s h i step e sound q =
     spelt_by s h e e.word sound.returning (known s h step e (of_seat s h i step e q)) (seat_made s h i step e q).fault
+
+-- ---- a legal history from an opening
+
+sound_of : (header : Header) (h : List Entry) → IsLegal (opening header) h → AreSeated (opening header) h → IsSound (opening header) h
+sound_of header [] legal seated = sound_open header
+sound_of header (e ∷ h) legal seated = sound_more (opening header) h e.seat legal.0.0 e (sound_of header h legal.1 seated.1) seated.0 legal.0.1
+
+pub all_spelt : (header : Header) (h : List Entry) → IsLegal (opening header) h → AreSeated (opening header) h → AllByRecursion IsSpelt h
+all_spelt header [] legal seated = tt
+all_spelt header (e ∷ h) legal seated =
+    (spelt (opening header) h e.seat legal.0.0 e (sound_of header h legal.1 seated.1) legal.0.1, all_spelt header h legal.1 seated.1)

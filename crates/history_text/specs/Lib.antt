@@ -1,2 +1,3 @@
 pub mod EntryLines
 pub mod EntryReading
+pub mod HistoryText

@@ -1,5 +1,4 @@
 use Rattle.std.proofs.Common.{◌≡◌, ℕ, ◌+◌, ◌<◌, ◌≤◌, ◌++◌, List, [], ◌∷◌, false, length, drop, get_or, Result, Err, sym, ap, subst, ◌∙◌, arith, add-one}
-use Rattle.std.proofs.Math.Seq.{drop-cons}
 use Rattle.std.proofs.lemmas.Bool.{false≢true}
 use Rattle.std.proofs.lemmas.List.{drop_all}
 use Rattle.history.specs.declared.entry.Entry.{Entry}
@@ -11,39 +10,33 @@ use Rattle.history.specs.Answers.{answer}
 use Rattle.history.specs.Start.{opening}
 use Rattle.history.specs.Text.{ended}
 use Rattle.driver.specs.ReplayText.{header_line}
-use Rattle.driver.proofs.Told.{Told, told_more, told_all, has_line, answered}
+use Rattle.driver.proofs.Told.{Told, told_more, told_all, has_line, answered, split}
 use Rattle.driver.proofs.replay.replay.Goals as goal
 
--- what stands in the list nowhere
-nobody : ℕ × Step
-nobody = (0, Acquire X 0)
-
-split : (steps : List (ℕ × Step)) (i : ℕ) → i < length steps → drop i steps ≡ get_or steps i (0, Acquire X 0) ∷ drop (i + 1) steps
-split steps i lt = rw add-one (drop-cons steps i (0, Acquire X 0) lt)
 
 pub put_answer-requires : goal.put_answer-requires
 put_answer-requires g c =
-    let x = get_or c.args.steps.now c.loop-i.i (0, Acquire X 0) in
-    let old = g.C.Core.view_of c.loop-i.core in
-    let a = answered old (g.C.Core.view_of c.step-answer.new.self) c.args.header.now x.0 x.1 c.step-answer.result c.step-answer.ensures c.loop-i.invariant.header (λ e. false≢true (c.if-lacks_memory.ensures.1 e)) in
-    has_line (opening c.args.header.now) old.entries x.0 x.1 c.step-answer.result c.loop-i.invariant.told.sound (c.requires.seats c.loop-i.i (0, Acquire X 0) c.loop-i-test.true) a.0
+    let x = get_or c.args.steps.now c.loop-step.step-index (0, Acquire X 0) in
+    let old = g.O.Answering.view_of c.loop-step.object in
+    let a = answered old (g.O.Answering.view_of c.answer-answer.new.self) c.args.header.now x.0 x.1 c.answer-answer.result c.answer-answer.ensures c.loop-step.invariant.header (λ e. false≢true (c.if-lacks_memory.ensures.1 e)) in
+    has_line (opening c.args.header.now) old.entries x.0 x.1 c.answer-answer.result c.loop-step.invariant.told.sound (c.requires.seats c.loop-step.step-index (0, Acquire X 0) c.loop-step-test.true) a.0
 
-pub loop-i-preserved : goal.loop-i-preserved
-loop-i-preserved g c =
-    let x = get_or c.args.steps.now c.loop-i.i (0, Acquire X 0) in
-    let old = g.C.Core.view_of c.loop-i.core in
-    let new = g.C.Core.view_of c.step-answer.new.self in
-    let a = answered old new c.args.header.now x.0 x.1 c.step-answer.result c.step-answer.ensures c.loop-i.invariant.header (λ e. false≢true (c.if-lacks_memory.ensures.1 e)) in
-    let was = rw (split c.args.steps.now c.loop-i.i c.loop-i-test.true) at c.loop-i.invariant.told in
-    let told = told_more (opening c.args.header.now) (ended (header_line c.args.header.now)) c.args.steps.now c.loop-i.out.items old.entries c.loop-i.entries c.loop-i.calls x (drop (c.loop-i.i + 1) c.args.steps.now) c.step-answer.result c.put_answer.new.out.items new.entries was (c.requires.seats c.loop-i.i (0, Acquire X 0) c.loop-i-test.true) a.0 a.1 c.in_ok-put_answer.ensures in
+pub loop-step-preserved : goal.loop-step-preserved
+loop-step-preserved g c =
+    let x = get_or c.args.steps.now c.loop-step.step-index (0, Acquire X 0) in
+    let old = g.O.Answering.view_of c.loop-step.object in
+    let new = g.O.Answering.view_of c.answer-answer.new.self in
+    let a = answered old new c.args.header.now x.0 x.1 c.answer-answer.result c.answer-answer.ensures c.loop-step.invariant.header (λ e. false≢true (c.if-lacks_memory.ensures.1 e)) in
+    let was = rw (split c.args.steps.now c.loop-step.step-index c.loop-step-test.true) at c.loop-step.invariant.told in
+    let told = told_more (opening c.args.header.now) (ended (header_line c.args.header.now)) c.args.steps.now c.loop-step.out.items old.entries c.loop-step.entries c.loop-step.calls x (drop (c.loop-step.step-index + 1) c.args.steps.now) c.answer-answer.result c.put_answer.new.out.items new.entries was (c.requires.seats c.loop-step.step-index (0, Acquire X 0) c.loop-step-test.true) a.0 a.1 c.in_ok-put_answer.ensures in
     record {
       header = a.2;
       told = rw (c.entries_in-entries.ensures.value, c.calls_in-calls.ensures.value) told;
-      few_entries = omega (arith, c.entries_in-entries.ensures.few, c.loop-i.invariant.few_entries);
-      few_calls = omega (arith, c.calls_in-calls.ensures.few, c.loop-i.invariant.few_calls);
+      few_entries = omega (arith, c.entries_in-entries.ensures.few, c.loop-step.invariant.few_entries);
+      few_calls = omega (arith, c.calls_in-calls.ensures.few, c.loop-step.invariant.few_calls);
     }
 
 pub returns : goal.returns
 returns g c =
-    told_all c.args.header.now (ended (header_line c.args.header.now)) c.args.steps.now c.loop-i.out.items (g.C.Core.view_of c.loop-i.core).entries c.loop-i.entries c.loop-i.calls (drop c.loop-i.i c.args.steps.now) c.push-2.new.self.items
-        c.loop-i.invariant.told (drop_all c.loop-i.i c.args.steps.now c.loop-i-test.false) (c.in_ok-push-2.ensures.items ∙ ap (λ (t : List ℕ). t ++ 10 ∷ []) c.in_ok-put_counts.ensures)
+    told_all c.args.header.now (ended (header_line c.args.header.now)) c.args.steps.now c.loop-step.out.items (g.O.Answering.view_of c.loop-step.object).entries c.loop-step.entries c.loop-step.calls (drop c.loop-step.step-index c.args.steps.now) c.push-2.new.self.items
+        c.loop-step.invariant.told (drop_all c.loop-step.step-index c.args.steps.now c.loop-step-test.false) (c.in_ok-push-2.ensures.items ∙ ap (λ (t : List ℕ). t ++ 10 ∷ []) c.in_ok-put_counts.ensures)

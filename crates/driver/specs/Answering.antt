@@ -1,4 +1,4 @@
--- What a core answers, until it stands.
+-- What an object answers to a step.
 use Rattle.std.specs.Prelude.{◌≡◌, ◌⊎◌, ℕ, List, Result, Err}
 use Rattle.history.specs.declared.entry.Entry.{Entry}
 use Rattle.history.specs.declared.fault.Fault.{Fault}
@@ -9,16 +9,19 @@ use Rattle.history.specs.declared.step.Step.{Step}
 use Rattle.history.specs.Answers.{answer}
 use Rattle.history.specs.Start.{opening}
 
-pub record View : Type 0 where
+-- A header that stays, and the entries so far, the newest first.
+pub record Answered : Type 0 where
   pub header : Header
   pub entries : List Entry
 
-pub record IsAnswer (old : View) (given : Result Answer Fault × List Entry) (r : Result Answer Fault) (new : View) : Type 0 where
+-- the answer and the history behind it are those that the definitions give
+pub record IsAnswer (old : Answered) (given : Result Answer Fault × List Entry) (r : Result Answer Fault) (new : Answered) : Type 0 where
   pub answer : r ≡ given.0
   pub entries : new.entries ≡ given.1
   pub header : new.header ≡ old.header
 
-abbrev pub IsAnswered : View → ℕ → Step → Result Answer Fault → View → Type 0
+-- a step's answer, or want of memory with nothing changed
+abbrev pub IsAnswered : Answered → ℕ → Step → Result Answer Fault → Answered → Type 0
 IsAnswered old i step r new =
     IsAnswer old (answer (opening old.header) old.entries i step) r new
     ⊎ ((r ≡ Err OutOfMemory) × (new ≡ old))
