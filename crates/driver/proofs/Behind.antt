@@ -6,8 +6,10 @@ use Rattle.history.specs.declared.entry.Entry.{Entry}
 use Rattle.history.specs.declared.header.Header.{Header}
 use Rattle.history.specs.declared.step.Step.{Step}
 use Rattle.history.specs.Answers.{answer, results}
-use Rattle.history.specs.Start.{Start, opening}
-use Rattle.history_text.proofs.Spelt.{IsSound, sound_open, all_spelt}
+use Rattle.history.specs.Start.{opening}
+use Rattle.history.specs.Legal.{IsLegal, AreSeated}
+use Rattle.history.proofs.Passing.{in_order, fair_order}
+use Rattle.history_text.proofs.Spelt.{all_spelt}
 use Rattle.line_text.specs.Form.{AreItems}
 use Rattle.line_text.specs.Reading.{IsText}
 use Rattle.steps.specs.StepsText.{steps_form}
@@ -28,16 +30,34 @@ seated h k (s ∷ steps) p = (p.0.0, seated h (k + 1) steps p.1)
 pub are_seated : (text : List ℕ) (h : Header) (steps : List (ℕ × Step)) → IsText steps_form text h steps → All (λ s. s.0 < h.seats) steps
 are_seated text h steps is = All-from_recursion (IsSeated h.seats) steps (seated h 0 steps is.begins.each)
 
-sound_results : (s : Start) (h : List Entry) (steps : List (ℕ × Step)) → IsSound s h → AllByRecursion (IsSeated s.header.seats) steps → IsSound s (results s h steps).1
-sound_results s h [] sound p = sound
-sound_results s h (x ∷ steps) sound p = sound_results s (answer s h x.0 x.1).1 steps (follows s h x.0 x.1 sound p.0).sound p.1
+pub record IsHistory (header : Header) (h : List Entry) : Type 0 where
+  pub legal : IsLegal (opening header) h
+  pub seated : AreSeated (opening header) h
+
+results_are : (header : Header) (h : List Entry) (steps : List (ℕ × Step)) → IsHistory header h → AllByRecursion (IsSeated header.seats) steps → IsHistory header (results (opening header) h steps).1
+results_are header h [] is p = is
+results_are header h (x ∷ steps) is p =
+    let f = follows header h x.0 x.1 is.legal p.0 in
+    results_are header (answer (opening header) h x.0 x.1).1 steps (record { legal = f.legal; seated = f.seated is.seated }) p.1
+
+none_recorded : (header : Header) → IsHistory header []
+none_recorded header = record { legal = tt; seated = tt }
 
 pub replayed : (form : Form) (text : List ℕ) (h : Header) (steps : List (ℕ × Step)) (written : List ℕ) → IsText steps_form text h steps → written ≡ answer_text form h steps → Replayed form text (λ bytes. written ≡ bytes)
 replayed form text h steps written is same =
-    let sound = sound_results (opening h) [] steps (sound_open h) (seated h 0 steps is.begins.each) in
-    record { header = h; steps = steps; is = is; legal = sound.legal; seated = sound.seated; written = same }
+    let all = results_are h [] steps (none_recorded h) (seated h 0 steps is.begins.each) in
+    record {
+      header = h;
+      steps = steps;
+      is = is;
+      legal = all.legal;
+      seated = all.seated;
+      in_order = in_order h (history_behind h steps) all.legal;
+      in_fair_order = fair_order (opening h) (history_behind h steps) all.legal;
+      written = same;
+    }
 
 pub spelt_behind : (h : Header) (steps : List (ℕ × Step)) → All (λ s. s.0 < h.seats) steps → All IsSpelt (reverse (history_behind h steps))
 spelt_behind h steps all =
-    let sound = sound_results (opening h) [] steps (sound_open h) (recursion_from_All (IsSeated h.seats) steps all) in
-    All-from_recursion IsSpelt (reverse (history_behind h steps)) (each-reverse IsSpelt (history_behind h steps) (all_spelt h (history_behind h steps) sound.legal sound.seated))
+    let is = results_are h [] steps (none_recorded h) (recursion_from_All (IsSeated h.seats) steps all) in
+    All-from_recursion IsSpelt (reverse (history_behind h steps)) (each-reverse IsSpelt (history_behind h steps) (all_spelt h (history_behind h steps) is.legal))

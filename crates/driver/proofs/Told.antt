@@ -10,14 +10,14 @@ use Rattle.history.specs.declared.step.Answer.{Answer}
 use Rattle.history.specs.declared.step.Answer.TheVariants.{Recorded, Sleep}
 use Rattle.history.specs.declared.step.Step.{Step}
 use Rattle.history.specs.Answers.{recorded, answer_by, answer, results}
-use Rattle.history.specs.Legal.{calls}
+use Rattle.history.specs.Legal.{calls, IsLegal, AreSeated}
 use Rattle.history.specs.Naming.{named}
 use Rattle.history.specs.Room.{has_room}
 use Rattle.history.specs.declared.header.Header.{Header}
 use Rattle.history.specs.Start.{Start, opening}
 use Rattle.history.specs.Steps.{entry_for}
 use Rattle.history.specs.Text.{ended}
-use Rattle.history_text.proofs.Spelt.{IsSound, sound_more, spelt}
+use Rattle.history_text.proofs.Spelt.{legal_more, seated_more, spelt}
 use Rattle.driver.specs.Replay.{HasLine, calls_of}
 use Rattle.history_text.specs.EntryLines.{counts_line}
 use Rattle.driver.specs.ReplayText.{answer_line, answer_lines, entries_of, history_behind}
@@ -26,29 +26,31 @@ use Rattle.driver.specs.Answering.{Answered, IsAnswered}
 -- ---- one answer
 
 -- what an answer and the history behind it are known to be
-pub record Follows (s : Start) (h : List Entry) (r : Result Answer Fault) (new : List Entry) : Type 0 where
+pub record Follows (header : Header) (h : List Entry) (r : Result Answer Fault) (new : List Entry) : Type 0 where
   pub line : HasLine r
   pub entries : length new ≡ length h + entries_of r
-  pub calls : calls s new ≡ calls s h + calls_of r
-  pub sound : IsSound s new
+  pub calls : calls (opening header) new ≡ calls (opening header) h + calls_of r
+  pub legal : IsLegal (opening header) new
+  pub seated : AreSeated (opening header) h → AreSeated (opening header) new
 
-none_added : (s : Start) (h : List Entry) (r : Result Answer Fault) → HasLine r → entries_of r ≡ 0 → calls_of r ≡ 0 → IsSound s h → Follows s h r h
-none_added s h r line e c sound = record { line = line; entries = omega (arith, e); calls = omega (arith, c); sound = sound }
+none_added : (header : Header) (h : List Entry) (r : Result Answer Fault) → HasLine r → entries_of r ≡ 0 → calls_of r ≡ 0 → IsLegal (opening header) h → Follows header h r h
+none_added header h r line e c legal = record { line = line; entries = omega (arith, e); calls = omega (arith, c); legal = legal; seated = λ s. s }
 
-recorded_follows : (s : Start) (h : List Entry) (i : ℕ) (step : Step) (e : Entry) (room : Bool) (whom : Option ℕ) → IsSound s h → i < s.header.seats → entry_for s h i step ≡ Ok (Some e)
-    → (r : Result Answer Fault × List Entry) → r ≡ cond room (Ok (Recorded e whom), e ∷ h) (Err HistoryFull, h) → Follows s h r.0 r.1
-recorded_follows s h i step e true whom sound below made r is =
-    rw is (record { line = spelt s h i step e sound made; entries = omega arith; calls = refl; sound = sound_more s h i step e sound below made })
-recorded_follows s h i step e false whom sound below made r is = rw is (none_added s h (Err HistoryFull) tt refl refl sound)
+recorded_follows : (header : Header) (h : List Entry) (i : ℕ) (step : Step) (e : Entry) (room : Bool) (whom : Option ℕ) → IsLegal (opening header) h → i < header.seats → entry_for (opening header) h i step ≡ Ok (Some e)
+    → (r : Result Answer Fault × List Entry) → r ≡ cond room (Ok (Recorded e whom), e ∷ h) (Err HistoryFull, h) → Follows header h r.0 r.1
+recorded_follows header h i step e true whom legal below made r is =
+    rw is (record { line = spelt header h i step e legal made; entries = omega arith; calls = refl; legal = legal_more (opening header) h i step e legal made; seated = λ s. seated_more (opening header) h i step e s below made })
+recorded_follows header h i step e false whom legal below made r is = rw is (none_added header h (Err HistoryFull) tt refl refl legal)
 
-answer_follows : (s : Start) (h : List Entry) (i : ℕ) (step : Step) (o : Result (Option Entry) Fault) → IsSound s h → i < s.header.seats → entry_for s h i step ≡ o
-    → Follows s h (answer_by s h o).0 (answer_by s h o).1
-answer_follows s h i step (Err fault) sound below made = none_added s h (Err fault) tt refl refl sound
-answer_follows s h i step (Ok None) sound below made = none_added s h (Ok Sleep) tt refl refl sound
-answer_follows s h i step (Ok (Some e)) sound below made = recorded_follows s h i step e (has_room s h e) (named s h e) sound below made (recorded s h e) refl
+answer_follows : (header : Header) (h : List Entry) (i : ℕ) (step : Step) (o : Result (Option Entry) Fault) → IsLegal (opening header) h → i < header.seats → entry_for (opening header) h i step ≡ o
+    → Follows header h (answer_by (opening header) h o).0 (answer_by (opening header) h o).1
+answer_follows header h i step (Err fault) legal below made = none_added header h (Err fault) tt refl refl legal
+answer_follows header h i step (Ok None) legal below made = none_added header h (Ok Sleep) tt refl refl legal
+answer_follows header h i step (Ok (Some e)) legal below made =
+    recorded_follows header h i step e (has_room (opening header) h e) (named (opening header) h e) legal below made (recorded (opening header) h e) refl
 
-pub follows : (s : Start) (h : List Entry) (i : ℕ) (step : Step) → IsSound s h → i < s.header.seats → Follows s h (answer s h i step).0 (answer s h i step).1
-follows s h i step sound below = answer_follows s h i step (entry_for s h i step) sound below refl
+pub follows : (header : Header) (h : List Entry) (i : ℕ) (step : Step) → IsLegal (opening header) h → i < header.seats → Follows header h (answer (opening header) h i step).0 (answer (opening header) h i step).1
+follows header h i step legal below = answer_follows header h i step (entry_for (opening header) h i step) legal below refl
 
 -- ---- the answers that are left
 
@@ -98,18 +100,19 @@ split steps i lt = rw add-one (drop-cons steps i (0, Acquire X 0) lt)
 -- ---- a replay under way
 
 -- What was written, with the lines that are left, is all; and so is the history.
-pub record Told (s : Start) (front : List ℕ) (all : List (ℕ × Step)) (out : List ℕ) (h : List Entry) (number ended_calls : ℕ) (left : List (ℕ × Step)) : Type 0 where
-  pub lines : out ++ lines_left s h number left ≡ front ++ lines_left s [] 0 all
-  pub entries : entries_left s h left ≡ entries_left s [] all
+pub record Told (header : Header) (front : List ℕ) (all : List (ℕ × Step)) (out : List ℕ) (h : List Entry) (number ended_calls : ℕ) (left : List (ℕ × Step)) : Type 0 where
+  pub lines : out ++ lines_left (opening header) h number left ≡ front ++ lines_left (opening header) [] 0 all
+  pub entries : entries_left (opening header) h left ≡ entries_left (opening header) [] all
   pub count : number ≡ length h
-  pub calls : ended_calls ≡ calls s h
-  pub sound : IsSound s h
+  pub calls : ended_calls ≡ calls (opening header) h
+  pub legal : IsLegal (opening header) h
 
-pub told_more : (s : Start) (front : List ℕ) (all : List (ℕ × Step)) (out : List ℕ) (h : List Entry) (number ended_calls : ℕ) (x : ℕ × Step) (left : List (ℕ × Step)) (r : Result Answer Fault) (out' : List ℕ) (h' : List Entry)
-    → Told s front all out h number ended_calls (x ∷ left) → x.0 < s.header.seats → r ≡ (answer s h x.0 x.1).0 → h' ≡ (answer s h x.0 x.1).1 → out' ≡ out ++ ended (answer_line number x.0 r)
-    → Told s front all out' h' (number + entries_of r) (ended_calls + calls_of r) left
-told_more s front all out h number ended_calls x left r out' h' told below p q o =
-    let f : Follows s h r h' = rw (p, q) (follows s h x.0 x.1 told.sound below) in
+pub told_more : (header : Header) (front : List ℕ) (all : List (ℕ × Step)) (out : List ℕ) (h : List Entry) (number ended_calls : ℕ) (x : ℕ × Step) (left : List (ℕ × Step)) (r : Result Answer Fault) (out' : List ℕ) (h' : List Entry)
+    → Told header front all out h number ended_calls (x ∷ left) → x.0 < header.seats → r ≡ (answer (opening header) h x.0 x.1).0 → h' ≡ (answer (opening header) h x.0 x.1).1 → out' ≡ out ++ ended (answer_line number x.0 r)
+    → Told header front all out' h' (number + entries_of r) (ended_calls + calls_of r) left
+told_more header front all out h number ended_calls x left r out' h' told below p q o =
+    let s = opening header in
+    let f : Follows header h r h' = rw (p, q) (follows header h x.0 x.1 told.legal below) in
     let line = ended (answer_line number x.0 r) in
     let rest = lines_left s h' (number + entries_of r) left in
     let next : out ++ lines_left s h number (x ∷ left) ≡ out' ++ rest =
@@ -119,12 +122,12 @@ told_more s front all out h number ended_calls x left r out' h' told below p q o
       entries = sym (entries_left-cons s h x left h' q) ∙ told.entries;
       count = omega (arith, told.count, f.entries);
       calls = omega (arith, told.calls, f.calls);
-      sound = f.sound;
+      legal = f.legal;
     }
 
 -- nothing is left
 pub told_all : (h : Header) (front : List ℕ) (all : List (ℕ × Step)) (out : List ℕ) (entries : List Entry) (number ended_calls : ℕ) (left : List (ℕ × Step)) (out' : List ℕ)
-    → Told (opening h) front all out entries number ended_calls left → left ≡ [] → out' ≡ (out ++ counts_line number ended_calls) ++ 10 ∷ []
+    → Told h front all out entries number ended_calls left → left ≡ [] → out' ≡ (out ++ counts_line number ended_calls) ++ 10 ∷ []
     → out' ≡ front ++ answer_lines 0 all (results (opening h) [] all).0 ++ ended (counts_line (length (history_behind h all)) (calls (opening h) (history_behind h all)))
 told_all h front all out entries number ended_calls left out' told none o =
     let s = opening h in
@@ -140,8 +143,8 @@ told_all h front all out entries number ended_calls left out' told none o =
 
 -- ---- what a core answers
 
-pub has_line : (s : Start) (h : List Entry) (i : ℕ) (step : Step) (r : Result Answer Fault) → IsSound s h → i < s.header.seats → r ≡ (answer s h i step).0 → HasLine r
-has_line s h i step r sound below p = rw p (follows s h i step sound below).line
+pub has_line : (header : Header) (h : List Entry) (i : ℕ) (step : Step) (r : Result Answer Fault) → IsLegal (opening header) h → i < header.seats → r ≡ (answer (opening header) h i step).0 → HasLine r
+has_line header h i step r legal below p = rw p (follows header h i step legal below).line
 
 pub answered : (old new : Answered) (header : Header) (i : ℕ) (step : Step) (r : Result Answer Fault) → IsAnswered old i step r new → old.header ≡ header → (r ≡ Err OutOfMemory → ⊥)
     → (r ≡ (answer (opening header) old.entries i step).0) × (new.entries ≡ (answer (opening header) old.entries i step).1) × (new.header ≡ header)

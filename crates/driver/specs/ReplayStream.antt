@@ -4,6 +4,7 @@ use Rattle.std.specs.Io.KnownBytes.{Keeps, Appends}
 use Rattle.history.specs.declared.header.Header.{Header}
 use Rattle.history.specs.declared.step.Step.{Step}
 use Rattle.history.specs.Legal.{IsLegal, AreSeated}
+use Rattle.history.specs.Order.{IsInOrder, IsFairOrder}
 use Rattle.history.specs.Start.{opening}
 use Rattle.line_text.specs.declared.fault.TextFault.{TextFault}
 use Rattle.line_text.specs.Reading.{IsText, IsReading}
@@ -20,13 +21,16 @@ abbrev pub answer_text : Form → Header → List (ℕ × Step) → List ℕ
 answer_text Replay h steps = replay_text h steps
 answer_text History h steps = history_text h (history_behind h steps)
 
--- The text is a steps text, and this is written for it; the history behind the answers is legal.
+-- The text is a steps text, and this is written for it. The history behind the answers is legal; nobody in
+-- line is passed by who was granted after it, and in a fair object by no new call that isn't reentrant.
 pub record Replayed (form : Form) (text : List ℕ) (Written : List ℕ → Type 0) : Type 0 where
   pub header : Header
   pub steps : List (ℕ × Step)
   pub is : IsText steps_form text header steps
   pub legal : IsLegal (opening header) (history_behind header steps)
   pub seated : AreSeated (opening header) (history_behind header steps)
+  pub in_order : IsInOrder (opening header) (history_behind header steps)
+  pub in_fair_order : IsFairOrder (opening header) (history_behind header steps)
   pub written : Written (answer_text form header steps)
 
 -- From the bytes that a source has, and what a sink held before and holds after.

@@ -6,158 +6,30 @@ use Rattle.std.proofs.lemmas.List.{append-nil}
 use Rattle.std.proofs.lemmas.List.Splits.{join_with_byte-slice_split}
 use Rattle.history.specs.declared.entry.Entry.{Entry}
 use Rattle.history.specs.declared.entry.End.{End}
-use Rattle.history.specs.declared.entry.End.TheVariants as end
 use Rattle.history.specs.declared.entry.Mode.{Mode}
-use Rattle.history.specs.declared.entry.Mode.TheVariants.{X, S}
 use Rattle.history.specs.declared.entry.Word.{Word}
 use Rattle.history.specs.declared.entry.Word.TheVariants as word
-use Rattle.history.specs.declared.fault.Fault.{Fault}
-use Rattle.history.specs.declared.fault.Fault.TheVariants as fault
 use Rattle.history.specs.declared.header.Header.{Header}
-use Rattle.history.specs.EntryWords.{mode_word, end_word, entry_words, spelt, HasWords, GaveUp, CameBack}
-use Rattle.history.specs.Fault.{fault_name, IsRecorded}
+use Rattle.history.specs.EntryWords.{entry_words, spelt}
 use Rattle.history.specs.Header.{IsInRange}
 use Rattle.history.specs.Reading.{Words}
 use Rattle.history.specs.Text.{line_of, words_of}
+use Rattle.history.proofs.EntryAgain.{plain_entry, words_again_read}
 use Rattle.history.proofs.Numbers.{number_again}
-use Rattle.history.proofs.Plain.{is_plain, ArePlain, words_again, decimal_plain}
+use Rattle.history.proofs.Plain.{ArePlain, words_again, decimal_plain}
 use Rattle.history_text.specs.EntryLines.{HasLine, entry_line, counts_line}
-use Rattle.history_text.specs.EntryReading.{counts_at, amount_at, condition_at, numbered_at, shared_at, gave_up_at, came_back_at, fault_at, asked_word_of, entry_at, line_at}
+use Rattle.history_text.specs.EntryReading.{counts_at, line_at}
 
--- ---- the parts
-
-amount_again : (m : Mode) (n : ℕ) → n ≤ 2147483647 → amount_at (mode_word m ∷ decimal n ∷ []) ≡ Some ((m, n), [])
-unfolding amount_at
-amount_again X n le = rw (number_again n (omega arith), le-leb 0 n (omega arith), le-leb n 2147483647 le) refl
-amount_again S n le = rw (number_again n (omega arith), le-leb 0 n (omega arith), le-leb n 2147483647 le) refl
-
-amount_then : (m : Mode) (n : ℕ) (w : List ℕ) → n ≤ 2147483647 → amount_at (mode_word m ∷ decimal n ∷ w ∷ []) ≡ Some ((m, n), w ∷ [])
-unfolding amount_at
-amount_then X n w le = rw (number_again n (omega arith), le-leb 0 n (omega arith), le-leb n 2147483647 le) refl
-amount_then S n w le = rw (number_again n (omega arith), le-leb 0 n (omega arith), le-leb n 2147483647 le) refl
-
-condition_again : (c : ℕ) (ws : Words) → c ≤ 15 → condition_at (decimal c ∷ ws) ≡ Some (c, ws)
-unfolding condition_at
-condition_again c ws le = rw (number_again c (omega arith), le-leb 0 c (omega arith), le-leb c 15 le) refl
-
-numbered_again : (c n : ℕ) (ws : Words) → c ≤ 15 → n ≤ 2147483647 → numbered_at (decimal c ∷ decimal n ∷ ws) ≡ Some ((c, n), ws)
-unfolding numbered_at
-numbered_again c n ws le l = rw (condition_again c (decimal n ∷ ws) le, number_again n (omega arith), le-leb 0 n (omega arith), le-leb n 2147483647 l) refl
-
-shared_again : (least most n : ℕ) → least ≤ n → n ≤ most → most ≤ 2147483647 → shared_at least most (codes "s" ∷ decimal n ∷ []) ≡ Some (n, [])
-unfolding shared_at
-shared_again least most n l m k = rw (number_again n (omega arith), le-leb least n l, le-leb n most m) refl
-
-gave_up_again : (e : End) → GaveUp e → gave_up_at (end_word e ∷ []) ≡ Some (e, [])
-unfolding gave_up_at
-gave_up_again end.None p = absurd p
-gave_up_again end.Timeout p = refl
-gave_up_again end.Interrupt p = refl
-gave_up_again end.Signalled p = absurd p
-
-came_back_again : (e : End) → CameBack e → came_back_at (end_word e ∷ []) ≡ Some (e, [])
-unfolding came_back_at
-came_back_again end.None p = absurd p
-came_back_again end.Timeout p = refl
-came_back_again end.Interrupt p = refl
-came_back_again end.Signalled p = refl
-
-fault_again : (f : Fault) → IsRecorded f → fault_at (fault_name f ∷ []) ≡ Some (f, [])
-unfolding fault_at
-fault_again fault.NotOwner p = refl
-fault_again fault.TooManyHolds p = refl
-fault_again fault.TooManyPermits p = refl
-fault_again fault.Interrupted p = refl
-fault_again fault.HoldsRead p = refl
-fault_again fault.OutOfPhase p = absurd (omega arith)
-fault_again fault.NoSuchCondition p = absurd (omega arith)
-fault_again fault.BadAmount p = absurd (omega arith)
-fault_again fault.WrongMode p = absurd (omega arith)
-fault_again fault.HistoryFull p = absurd (omega arith)
-fault_again fault.OutOfMemory p = absurd (omega arith)
-
--- ---- the words of an entry
-
-abbrev Made : Word → Mode → ℕ → ℕ → End → ℕ → Type 0
-Made w m n at e i = entry_at i (spelt w m n at e) ≡ Some (record { seat = i; word = w; mode = m; n = n; at = at; end = e }, [])
-
-made_again : (w : Word) (m : Mode) (n at : ℕ) (e : End) (i : ℕ) → HasWords w m n at e → n ≤ 2147483647 → at ≤ 15 → Made w m n at e i
-unfolding entry_at asked_word_of
-made_again word.Got m n at e i p le l = rw (p.0, p.1, amount_again m n le) refl
-made_again word.TryGot m n at e i p le l = rw (p.0, p.1, amount_again m n le) refl
-made_again word.Queued m n at e i p le l = rw (p.0, p.1, amount_again m n le) refl
-made_again word.Granted m n at e i p le l = rw (p.0, p.1, amount_again m n le) refl
-made_again word.Missed m n at e i p le l = rw (p.0, p.1, amount_again m n le) refl
-made_again word.Gave m n at e i p le l = rw (p.0, p.1, amount_again m n le) refl
-made_again word.Left m n at e i p le l = rw (p.0, amount_then m n (end_word e) le, gave_up_again e p.1) refl
-made_again (word.Refused f) m n at e i p le l = rw (p.0, p.1, amount_then m n (fault_name f) le, fault_again f p.2) refl
-made_again word.Await m n at e i p le l = rw (p.0, p.1, numbered_again at n [] l le) refl
-made_again word.Signal m n at e i p le l = rw (p.0, p.1, numbered_again at n [] l le) refl
-made_again word.SignalAll m n at e i p le l = rw (p.0, p.1, numbered_again at n [] l le) refl
-made_again word.Lapse m n at e i p le l = rw (p.0, p.1, condition_again at (end_word e ∷ []) l, gave_up_again e p.2) refl
-made_again word.Back m n at e i p le l = rw (p.0, numbered_again at n (end_word e ∷ []) l le, came_back_again e p.1) refl
-made_again word.Counted m n at e i p le l = rw (p.0, p.1, p.2, p.3, shared_again 1 1 1 (omega arith) (omega arith) (omega arith)) refl
-made_again word.Drained m n at e i p le l = rw (p.0, p.1, p.2, shared_again 0 2147483647 n (omega arith) le (omega arith)) refl
-
-entry_again : (h : Header) (e : Entry) → HasLine h e → entry_at e.seat (entry_words e) ≡ Some (e, [])
-entry_again h e fits = made_again e.word e.mode e.n e.at e.end e.seat fits.words fits.amount fits.condition
+-- ---- the words of a line
 
 line_again : (h : Header) (k : ℕ) (e : Entry) → k < 2 ^ 64 → IsInRange h → HasLine h e → line_at k h.seats (decimal k ∷ decimal e.seat ∷ entry_words e) ≡ Some (e, [])
 unfolding line_at
 line_again h k e lt range fits =
-    rw (number_again k lt, le-leb k k (omega arith), number_again e.seat (omega (arith, fits.seat, range.seats)), le-leb 0 e.seat (omega arith), le-leb e.seat (h.seats - 1) (omega (arith, fits.seat))) (entry_again h e fits)
-
--- ---- plain words
-
-mode_plain : (m : Mode) → is_plain (mode_word m) ≡ true
-mode_plain X = refl
-mode_plain S = refl
-
-end_plain : (e : End) → is_plain (end_word e) ≡ true
-end_plain end.None = refl
-end_plain end.Timeout = refl
-end_plain end.Interrupt = refl
-end_plain end.Signalled = refl
-
-fault_plain : (f : Fault) → is_plain (fault_name f) ≡ true
-fault_plain fault.NotOwner = refl
-fault_plain fault.TooManyHolds = refl
-fault_plain fault.TooManyPermits = refl
-fault_plain fault.Interrupted = refl
-fault_plain fault.HoldsRead = refl
-fault_plain fault.OutOfPhase = refl
-fault_plain fault.NoSuchCondition = refl
-fault_plain fault.BadAmount = refl
-fault_plain fault.WrongMode = refl
-fault_plain fault.HistoryFull = refl
-fault_plain fault.OutOfMemory = refl
-
-asked_plain : (m : Mode) (n : ℕ) (ws : Words) → n < 2 ^ 64 → ArePlain ws → ArePlain (mode_word m ∷ decimal n ∷ ws)
-asked_plain m n ws lt p = (mode_plain m, (decimal_plain n lt, p))
-
-numbers_plain : (c n : ℕ) (ws : Words) → c < 2 ^ 64 → n < 2 ^ 64 → ArePlain ws → ArePlain (decimal c ∷ decimal n ∷ ws)
-numbers_plain c n ws l lt p = (decimal_plain c l, (decimal_plain n lt, p))
-
-spelt_plain : (w : Word) (m : Mode) (n at : ℕ) (e : End) → n < 2 ^ 64 → at < 2 ^ 64 → ArePlain (spelt w m n at e)
-spelt_plain word.Got m n at e lt l = (refl, asked_plain m n [] lt tt)
-spelt_plain word.TryGot m n at e lt l = (refl, asked_plain m n [] lt tt)
-spelt_plain word.Queued m n at e lt l = (refl, asked_plain m n [] lt tt)
-spelt_plain word.Granted m n at e lt l = (refl, asked_plain m n [] lt tt)
-spelt_plain word.Missed m n at e lt l = (refl, asked_plain m n [] lt tt)
-spelt_plain word.Gave m n at e lt l = (refl, asked_plain m n [] lt tt)
-spelt_plain word.Left m n at e lt l = (refl, asked_plain m n (end_word e ∷ []) lt (end_plain e, tt))
-spelt_plain (word.Refused f) m n at e lt l = (refl, asked_plain m n (fault_name f ∷ []) lt (fault_plain f, tt))
-spelt_plain word.Await m n at e lt l = (refl, numbers_plain at n [] l lt tt)
-spelt_plain word.Signal m n at e lt l = (refl, numbers_plain at n [] l lt tt)
-spelt_plain word.SignalAll m n at e lt l = (refl, numbers_plain at n [] l lt tt)
-spelt_plain word.Lapse m n at e lt l = (refl, (decimal_plain at l, (end_plain e, tt)))
-spelt_plain word.Back m n at e lt l = (refl, numbers_plain at n (end_word e ∷ []) l lt (end_plain e, tt))
-spelt_plain word.Counted m n at e lt l = (refl, asked_plain m n [] lt tt)
-spelt_plain word.Drained m n at e lt l = (refl, asked_plain m n [] lt tt)
+    rw (number_again k lt, le-leb k k (omega arith), number_again e.seat (omega (arith, fits.seat, range.seats)), le-leb 0 e.seat (omega arith), le-leb e.seat (h.seats - 1) (omega (arith, fits.seat))) (words_again_read e fits.written)
 
 pub line_plain : (h : Header) (k : ℕ) (e : Entry) → k < 2 ^ 64 → IsInRange h → HasLine h e → ArePlain (decimal k ∷ decimal e.seat ∷ entry_words e)
 line_plain h k e lt range fits =
-    (decimal_plain k lt, (decimal_plain e.seat (omega (arith, fits.seat, range.seats)), spelt_plain e.word e.mode e.n e.at e.end (omega (arith, fits.amount)) (omega (arith, fits.condition))))
+    (decimal_plain k lt, (decimal_plain e.seat (omega (arith, fits.seat, range.seats)), plain_entry e fits.written))
 
 -- ---- the line, as a line of words
 

@@ -1,8 +1,8 @@
 -- One more entry is written.
-use Rattle.std.proofs.Common.{◌≡◌, ℕ, ◌+◌, ◌<◌, ◌≤◌, List, [], ◌∷◌, ◌++◌, length, take, get_or, reverse, All, Option, Some, refl, sym, ap, subst, ◌∙◌, arith, append_assoc}
+use Rattle.std.proofs.Common.{◌≡◌, ℕ, ◌+◌, ◌<◌, ◌≤◌, List, [], ◌∷◌, ◌++◌, length, take, get_or, reverse, All, Option, None, Some, inl, inr, ◌⊎◌, refl, sym, ap, subst, ◌∙◌, arith, append_assoc}
 use Rattle.std.specs.List.{slice_get}
-use Rattle.std.proofs.lemmas.List.{take_more, length-take, length-reverse}
-use Rattle.std.proofs.lemmas.Option.{get_or_from_slice_get, slice_get_within}
+use Rattle.std.proofs.lemmas.List.{take_more, take_all, length-take}
+use Rattle.std.proofs.lemmas.Option.{get_or_from_slice_get, slice_get_within, slice_get_cases}
 use Rattle.history.specs.declared.entry.Entry.{Entry}
 use Rattle.history.specs.declared.header.Header.{Header}
 use Rattle.history.specs.Entries.{ended_calls}
@@ -39,3 +39,14 @@ all_lines h entries out mid new count calls was p q r n =
   where
     regrouped : (a b c : List ℕ) → ((a ++ b) ++ c) ++ 10 ∷ [] ≡ a ++ (b ++ (c ++ 10 ∷ []))
     regrouped a b c = simp append_assoc
+
+some_is_none : {X : Type 0} (x : X) → Some x ≡ None → ⊥
+some_is_none x e = cc
+
+-- past the last entry all are taken
+pub past : (xs : List Entry) (i : ℕ) → slice_get xs i ≡ None → take i xs ≡ xs
+past xs i none = by (slice_get_cases xs i).1
+  where
+    by : ((x : Entry) × (i < length xs) × (slice_get xs i ≡ Some x) × (get_or xs i x ≡ x)) ⊎ ((length xs ≤ i) × (slice_get xs i ≡ None)) → take i xs ≡ xs
+    by (inl p) = absurd (some_is_none p.0 (sym p.2 ∙ none))
+    by (inr p) = take_all i xs p.0

@@ -4,5 +4,4 @@ pub mod HistoryReading
 pub mod HistoryWriting
 pub mod Lists
 pub mod Made
-pub mod Returning
 pub mod Spelt

@@ -1,5 +1,5 @@
 -- Each entry of a legal history of an object as opened has a spelling.
-use Rattle.std.proofs.Common.{◌≡◌, ◌⊎◌, inl, inr, ℕ, ◌<◌, Bool, true, false, not, ◌||◌, cond, eqb, ltb, List, [], ◌∷◌, Option, Some, None, Result, Ok, Err, refl, ap, ◌∙◌, sym, subst, arith}
+use Rattle.std.proofs.Common.{◌≡◌, ◌≢◌, ◌⊎◌, inl, inr, ℕ, ◌<◌, Bool, true, false, not, ◌||◌, cond, eqb, ltb, List, [], ◌∷◌, Option, Some, None, Result, Ok, Err, refl, ap, ◌∙◌, sym, subst, arith}
 use Rattle.std.specs.List.{AllByRecursion}
 use Rattle.std.proofs.lemmas.Bool.{or_parts, not-false, eqb-true}
 use Rattle.history.specs.declared.arrival.Arrival.{Arrival}
@@ -16,6 +16,7 @@ use Rattle.history.specs.declared.header.Object.TheVariants.{Lock, ReadWrite, Se
 use Rattle.history.specs.declared.step.Step.{Step}
 use Rattle.history.specs.EntryWords.{IsSpelt, HasWords, GaveUp, CameBack}
 use Rattle.history.specs.Faults.{lacks_mode, is_bad_number}
+use Rattle.history.specs.Line.{line, place_of}
 use Rattle.history.specs.Legal.{IsLegal, AreSeated}
 use Rattle.history.specs.Object.{is_latch}
 use Rattle.history.specs.Phase.{phase}
@@ -24,7 +25,8 @@ use Rattle.history.specs.Start.{Start, opening}
 use Rattle.history.specs.Steps.{entry_for}
 use Rattle.history.proofs.Entering.{Known, KnownBy, known, by_phase}
 use Rattle.history_text.proofs.Made.{IsMadeBy, RefusesByRecorded, made}
-use Rattle.history_text.proofs.Returning.{Returning, returning_open, returning_more, comes_back, gave_up}
+use Rattle.history.proofs.OneWait.{Waits, waits}
+use Rattle.history.proofs.WhoWaits.{comes_back}
 
 shared : (m : Mode) → lacks_mode (Latch 0) m ≡ false → m ≡ S
 shared X q = cc
@@ -38,7 +40,23 @@ latch_asks (Latch c) m n l q r =
     let parts = or_parts (ltb 2147483647 n) (not (eqb n 1)) r in
     (shared m q, eqb-true n 1 (not-false (eqb n 1) parts.1))
 
-spelt_by : (s : Start) (h : List Entry) (e : Entry) (w : Word) → Returning s h → KnownBy s h e w → RefusesByRecorded w → HasWords w e.mode e.n e.at e.end
+gave_up : (e : End) → (e ≡ end.Timeout) ⊎ (e ≡ end.Interrupt) → GaveUp e
+gave_up e (inl q) = subst GaveUp (sym q) tt
+gave_up e (inr q) = subst GaveUp (sym q) tt
+
+came_back : (e : End) → e ≢ end.None → CameBack e
+came_back end.None p = absurd (p refl)
+came_back end.Timeout p = tt
+came_back end.Interrupt p = tt
+came_back end.Signalled p = tt
+
+-- who comes back has an end to come back with
+way_back : (s : Start) (h : List Entry) (i : ℕ) (a : Arrival) → Waits s h → place_of i (line s h) ≡ Some a → a.back ≡ true → CameBack (last_sleep s h i).how
+way_back s h i a w p b =
+    let known = comes_back s h w i a p b in
+    subst (λ (j : ℕ). CameBack (last_sleep s h j).how) known.1 (came_back (last_sleep s h a.seat).how known.0.how)
+
+spelt_by : (s : Start) (h : List Entry) (e : Entry) (w : Word) → Waits s h → KnownBy s h e w → RefusesByRecorded w → HasWords w e.mode e.n e.at e.end
 spelt_by s h e word.Got r k f = (k.0.at, k.0.end)
 spelt_by s h e word.TryGot r k f = (k.0.at, k.0.end)
 spelt_by s h e word.Queued r k f = (k.at, k.end)
@@ -55,22 +73,14 @@ spelt_by s h e word.Left r k f = (ap (λ (x : Entry). x.at) k.1.entry, gave_up e
     how (inl p) = inl p.0
     how (inr p) = inr p
 spelt_by s h e word.Back r k f =
-    (ap (λ (x : Entry). x.mode) k.4, subst CameBack (sym (ap (λ (x : Entry). x.end) k.4)) (comes_back s h e.seat k.0 r k.1 k.2))
+    (ap (λ (x : Entry). x.mode) k.4, subst CameBack (sym (ap (λ (x : Entry). x.end) k.4)) (way_back s h e.seat k.0 r k.1 k.2))
 spelt_by s h e word.Await r k f = (k.0.mode, k.0.end)
 spelt_by s h e word.Signal r k f = (k.0.mode, k.0.end)
 spelt_by s h e word.SignalAll r k f = (k.0.mode, k.0.end)
 spelt_by s h e word.Lapse r k f = (ap (λ (x : Entry). x.mode) k.2, ap (λ (x : Entry). x.n) k.2, gave_up e.end k.1)
 spelt_by s h e word.Drained r k f = (ap (λ (x : Entry). x.mode) k.2, ap (λ (x : Entry). x.at) k.2, ap (λ (x : Entry). x.end) k.2)
 
--- ---- what a history from an opening is known to be
-
-pub record IsSound (s : Start) (h : List Entry) : Type 0 where
-  pub legal : IsLegal s h
-  pub seated : AreSeated s h
-  pub returning : Returning s h
-
-pub sound_open : (header : Header) → IsSound (opening header) []
-sound_open header = record { legal = tt; seated = tt; returning = returning_open header }
+-- ---- a legal history from an opening
 
 pub seat_made : (s : Start) (h : List Entry) (i : ℕ) (step : Step) (e : Entry) → entry_for s h i step ≡ Ok (Some e) → IsMadeBy i e
 seat_made s h i step e q = made s h i step e (phase s h i) (by_phase s h i step e q)
@@ -78,26 +88,18 @@ seat_made s h i step e q = made s h i step e (phase s h i) (by_phase s h i step 
 of_seat : (s : Start) (h : List Entry) (i : ℕ) (step : Step) (e : Entry) → entry_for s h i step ≡ Ok (Some e) → entry_for s h e.seat step ≡ Ok (Some e)
 of_seat s h i step e q = subst (λ (j : ℕ). entry_for s h j step ≡ Ok (Some e)) (sym (seat_made s h i step e q).seat) q
 
-pub sound_more : (s : Start) (h : List Entry) (i : ℕ) (step : Step) (e : Entry) → IsSound s h → i < s.header.seats → entry_for s h i step ≡ Ok (Some e) → IsSound s (e ∷ h)
-sound_more s h i step e sound below q =
-    let own = of_seat s h i step e q in
-    record {
-      legal = ((step, own), sound.legal);
-      seated = (omega (arith, (seat_made s h i step e q).seat, below), sound.seated);
-      returning = returning_more s h e sound.returning (known s h step e own);
-    }
+-- one more entry of a seat that a step of it makes
+pub legal_more : (s : Start) (h : List Entry) (i : ℕ) (step : Step) (e : Entry) → IsLegal s h → entry_for s h i step ≡ Ok (Some e) → IsLegal s (e ∷ h)
+legal_more s h i step e legal q = ((step, of_seat s h i step e q), legal)
 
-pub spelt : (s : Start) (h : List Entry) (i : ℕ) (step : Step) (e : Entry) → IsSound s h → entry_for s h i step ≡ Ok (Some e) → IsSpelt e
-spelt s h i step e sound q =
-    spelt_by s h e e.word sound.returning (known s h step e (of_seat s h i step e q)) (seat_made s h i step e q).fault
+pub seated_more : (s : Start) (h : List Entry) (i : ℕ) (step : Step) (e : Entry) → AreSeated s h → i < s.header.seats → entry_for s h i step ≡ Ok (Some e) → AreSeated s (e ∷ h)
+seated_more s h i step e seated below q = (omega (arith, (seat_made s h i step e q).seat, below), seated)
 
--- ---- a legal history from an opening
+pub spelt : (header : Header) (h : List Entry) (i : ℕ) (step : Step) (e : Entry) → IsLegal (opening header) h → entry_for (opening header) h i step ≡ Ok (Some e) → IsSpelt e
+spelt header h i step e legal q =
+    let s = opening header in
+    spelt_by s h e e.word (waits header h legal) (known s h step e (of_seat s h i step e q)) (seat_made s h i step e q).fault
 
-sound_of : (header : Header) (h : List Entry) → IsLegal (opening header) h → AreSeated (opening header) h → IsSound (opening header) h
-sound_of header [] legal seated = sound_open header
-sound_of header (e ∷ h) legal seated = sound_more (opening header) h e.seat legal.0.0 e (sound_of header h legal.1 seated.1) seated.0 legal.0.1
-
-pub all_spelt : (header : Header) (h : List Entry) → IsLegal (opening header) h → AreSeated (opening header) h → AllByRecursion IsSpelt h
-all_spelt header [] legal seated = tt
-all_spelt header (e ∷ h) legal seated =
-    (spelt (opening header) h e.seat legal.0.0 e (sound_of header h legal.1 seated.1) legal.0.1, all_spelt header h legal.1 seated.1)
+pub all_spelt : (header : Header) (h : List Entry) → IsLegal (opening header) h → AllByRecursion IsSpelt h
+all_spelt header [] legal = tt
+all_spelt header (e ∷ h) legal = (spelt header h e.seat legal.0.0 e legal.1 legal.0.1, all_spelt header h legal.1)

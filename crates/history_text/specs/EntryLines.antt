@@ -1,8 +1,8 @@
 -- The lines of a history text.
-use Rattle.std.specs.Prelude.{ℕ, ◌<◌, ◌≤◌, List, [], ◌∷◌, ◌++◌, codes, decimal}
+use Rattle.std.specs.Prelude.{ℕ, ◌<◌, List, ◌++◌, codes, decimal}
 use Rattle.history.specs.declared.entry.Entry.{Entry}
 use Rattle.history.specs.declared.header.Header.{Header}
-use Rattle.history.specs.EntryWords.{entry_words, IsSpelt}
+use Rattle.history.specs.EntryWords.{entry_words, IsWritten}
 use Rattle.history.specs.Spelling.{part_of}
 use Rattle.history.specs.Text.{line_of}
 
@@ -20,6 +20,4 @@ counts_line entries calls = codes "end " ++ decimal entries ++ codes " " ++ deci
 -- an entry that has a line in a text with this header
 pub record HasLine (h : Header) (e : Entry) : Type 0 where
   pub seat : e.seat < h.seats
-  pub words : IsSpelt e
-  pub amount : e.n ≤ 2147483647
-  pub condition : e.at ≤ 15
+  pub written : IsWritten e

@@ -8,7 +8,6 @@ ghost use Rattle.history.specs.Reading.{with_rest};
 ghost use Rattle.history_text.specs.EntryLines.{HasLine, entry_line};
 ghost use Rattle.history_text.specs.EntryReading.{line_at};
 
-use crate::entry_words::entry;
 use history::entry::Entry;
 use history::header::Header;
 use history::words::Words;
@@ -22,7 +21,7 @@ fn numbered_entry(words: &mut Words<'_>, number: u64, header: &Header) -> Option
 {
     words.number(number, number)?;
     let seat = words.number(0, u64::from(header.seats - 1))?;
-    entry(words, seat as u16)
+    words.entry(seat as u16)
 }
 
 /// The entry of a line, with this number and under this header.

@@ -9,7 +9,6 @@
 mod end_line;
 pub mod entry_line;
 mod entry_reading;
-mod entry_words;
 pub mod fitting;
 pub mod history_text;
 mod law;

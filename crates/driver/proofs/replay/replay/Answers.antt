@@ -19,7 +19,7 @@ put_answer-requires g c =
     let x = get_or c.args.steps.now c.loop-step.step-index (0, Acquire X 0) in
     let old = g.O.Answering.view_of c.loop-step.object in
     let a = answered old (g.O.Answering.view_of c.answer-answer.new.self) c.args.header.now x.0 x.1 c.answer-answer.result c.answer-answer.ensures c.loop-step.invariant.header (λ e. false≢true (c.if-lacks_memory.ensures.1 e)) in
-    has_line (opening c.args.header.now) old.entries x.0 x.1 c.answer-answer.result c.loop-step.invariant.told.sound (c.requires.seats c.loop-step.step-index (0, Acquire X 0) c.loop-step-test.true) a.0
+    has_line c.args.header.now old.entries x.0 x.1 c.answer-answer.result c.loop-step.invariant.told.legal (c.requires.seats c.loop-step.step-index (0, Acquire X 0) c.loop-step-test.true) a.0
 
 pub loop-step-preserved : goal.loop-step-preserved
 loop-step-preserved g c =
@@ -28,7 +28,7 @@ loop-step-preserved g c =
     let new = g.O.Answering.view_of c.answer-answer.new.self in
     let a = answered old new c.args.header.now x.0 x.1 c.answer-answer.result c.answer-answer.ensures c.loop-step.invariant.header (λ e. false≢true (c.if-lacks_memory.ensures.1 e)) in
     let was = rw (split c.args.steps.now c.loop-step.step-index c.loop-step-test.true) at c.loop-step.invariant.told in
-    let told = told_more (opening c.args.header.now) (ended (header_line c.args.header.now)) c.args.steps.now c.loop-step.out.items old.entries c.loop-step.entries c.loop-step.calls x (drop (c.loop-step.step-index + 1) c.args.steps.now) c.answer-answer.result c.put_answer.new.out.items new.entries was (c.requires.seats c.loop-step.step-index (0, Acquire X 0) c.loop-step-test.true) a.0 a.1 c.in_ok-put_answer.ensures in
+    let told = told_more c.args.header.now (ended (header_line c.args.header.now)) c.args.steps.now c.loop-step.out.items old.entries c.loop-step.entries c.loop-step.calls x (drop (c.loop-step.step-index + 1) c.args.steps.now) c.answer-answer.result c.put_answer.new.out.items new.entries was (c.requires.seats c.loop-step.step-index (0, Acquire X 0) c.loop-step-test.true) a.0 a.1 c.in_ok-put_answer.ensures in
     record {
       header = a.2;
       told = rw (c.entries_in-entries.ensures.value, c.calls_in-calls.ensures.value) told;
