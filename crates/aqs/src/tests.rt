@@ -2,6 +2,7 @@
 
 use crate::arguments::arguments;
 use crate::fault::Fault;
+use driver::form::Form;
 use driver::stream_fault::StreamFault;
 use std::test::Fail;
 use steps::TextFault;
@@ -20,8 +21,24 @@ fn asks_for_a_file_or_standard_input(rt: HostRuntime) -> Result<(), Fail> {
 }
 
 #[test]
+fn asks_for_a_history(rt: HostRuntime) -> Result<(), Fail> {
+    let asked: [(&[&str], Form); 4] = [
+        (&["aqs"], Form::Replay),
+        (&["aqs", "replay", "steps.txt"], Form::Replay),
+        (&["aqs", "replay", "--history"], Form::History),
+        (&["aqs", "replay", "steps.txt", "--history"], Form::History),
+    ];
+    for (words, form) in asked {
+        assert!(rt; arguments(rt.alloc(), words)?.form == form);
+    }
+    Ok(())
+}
+
+#[test]
 fn refuses_other_command_lines(rt: HostRuntime) {
-    let others: [&[&str]; 12] = [
+    let others: [&[&str]; 14] = [
+        &["aqs", "--history"],
+        &["aqs", "replay", "--history", "--history"],
         &["aqs", "--help"],
         &["aqs", "-h"],
         &["aqs", "--version"],
