@@ -6,3 +6,4 @@ mod Semaphores
 mod Latches
 mod Naming
 mod Histories
+mod Pairs
