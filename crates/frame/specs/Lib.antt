@@ -1,0 +1,2 @@
+pub mod Hooks
+pub mod Owners

@@ -1,0 +1,5 @@
+//! The core of a synchroniser: hooks say what can be taken, and the core keeps the line, the sleepers,
+//! the holds and the history.
+#![tactic(auto)]
+
+pub mod hooks;

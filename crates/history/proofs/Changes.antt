@@ -1,0 +1,127 @@
+-- What each word of a lock's history changes, and what it leaves.
+use Rattle.std.proofs.Common.{◌≡◌, ◌≢◌, ℕ, zero, suc, ◌+◌, ◌-◌, ◌*◌, ◌<◌, ◌≤◌, Bool, true, false, not, ◌&&◌, cond, eqb, List, [], ◌∷◌, ◌++◌, length, Option, Some, None, refl, ap, ◌∙◌, sym, subst, arith, rules, ℤ}
+use mathlib.Core.Path.{fun_ext}
+use Rattle.std.specs.List.{filter, AllByRecursion, sum_by}
+use Rattle.std.proofs.lemmas.List.{append-nil, length_push}
+use Rattle.std.proofs.lemmas.List.Sums.{sum_by-append}
+use Rattle.history.specs.declared.entry.Entry.{Entry}
+use Rattle.history.specs.declared.entry.End.{End}
+use Rattle.history.specs.declared.arrival.Arrival.{Arrival}
+use Rattle.history.specs.declared.entry.Mode.{Mode}
+use Rattle.history.specs.declared.entry.Mode.TheVariants.{X, S}
+use Rattle.history.specs.declared.entry.Word.{Word}
+use Rattle.history.specs.declared.entry.Word.TheVariants.{Got, TryGot, Queued, Granted, Missed, Left, Gave, Refused, Await, Lapse, Signal, SignalAll, Back, Counted, Drained}
+use Rattle.history.specs.Start.{Start}
+use Rattle.history.specs.declared.header.Object.{Object}
+use Rattle.history.specs.Entry.{ends_arrival, same_mode}
+use Rattle.history.specs.Changes.{took, gave_back}
+use Rattle.history.specs.Counts.{Counts, counts, held, holds_after, free, free_after, count, counted, counted_after}
+use Rattle.history.specs.Object.{opening_count}
+use Rattle.history.specs.Line.{line, arrivals_by}
+use Rattle.history.proofs.LineLemmas.{line_after, stays}
+
+-- the words that take, that change no number, and that neither add to the line nor take from it
+abbrev pub takes : Word → Bool
+takes Got = true
+takes TryGot = true
+takes Granted = true
+takes _ = false
+
+abbrev pub counts_nothing : Word → Bool
+counts_nothing Queued = true
+counts_nothing Missed = true
+counts_nothing Left = true
+counts_nothing (Refused f) = true
+counts_nothing _ = false
+
+abbrev pub moves_nobody : Word → Bool
+moves_nobody Got = true
+moves_nobody TryGot = true
+moves_nobody Missed = true
+moves_nobody Gave = true
+moves_nobody (Refused f) = true
+moves_nobody _ = false
+
+-- the numbers after an entry
+held_kept : (o : Object) (w : Word) (n x : ℕ) → counts_nothing w ≡ true → holds_after o w n x ≡ x
+held_kept o Queued n x t = refl
+held_kept o Missed n x t = refl
+held_kept o Left n x t = refl
+held_kept o (Refused f) n x t = refl
+held_kept o _ n x t = cc
+
+free_kept : (w : Word) (n : ℕ) (x : ℤ) → counts_nothing w ≡ true → free_after w n x ≡ x
+free_kept Queued n x t = refl
+free_kept Missed n x t = refl
+free_kept Left n x t = refl
+free_kept (Refused f) n x t = refl
+free_kept _ n x t = cc
+
+counted_kept : (w : Word) (x : ℕ) → counts_nothing w ≡ true → counted_after w x ≡ x
+counted_kept Queued x t = refl
+counted_kept Missed x t = refl
+counted_kept Left x t = refl
+counted_kept (Refused f) x t = refl
+counted_kept _ x t = cc
+
+either_way : (b : Bool) (x y : ℕ) → x ≡ y → cond b x y ≡ y
+either_way true x y e = e
+either_way false x y e = refl
+
+pub held_same : (s : Start) (e : Entry) (h : List Entry) (i : ℕ) (m : Mode) → counts_nothing e.word ≡ true → held s (e ∷ h) i m ≡ held s h i m
+held_same s e h i m t = either_way (eqb e.seat i && same_mode e.mode m) _ _ (held_kept s.header.object e.word e.n (held s h i m) t)
+
+pub counts_same : (s : Start) (e : Entry) (h : List Entry) → counts_nothing e.word ≡ true → counts s (e ∷ h) ≡ counts s h
+counts_same s e h t =
+    let f : held s (e ∷ h) ≡ held s h = fun_ext (λ i. fun_ext (λ m. held_same s e h i m t)) in
+    let g : free s (e ∷ h) ≡ free s h = free_kept e.word e.n (free s h) t in
+    let c : count s (e ∷ h) ≡ count s h = ap (λ x. opening_count s.header.object - x) (counted_kept e.word (counted s h) t) in
+    λ i. record { object = s.header.object; seats = s.header.seats; held = f i; free = g i; count = c i }
+
+pub counts_took : (s : Start) (e : Entry) (h : List Entry) → takes e.word ≡ true → counts s (e ∷ h) ≡ took (counts s h) e.seat e.mode e.n
+counts_took s e h t = by e.word t
+  where
+  by : (w : Word) → takes w ≡ true → counts s (record { seat = e.seat; word = w; mode = e.mode; n = e.n; at = e.at; end = e.end } ∷ h) ≡ took (counts s h) e.seat e.mode e.n
+  by Got t = refl
+  by TryGot t = refl
+  by Granted t = refl
+  by _ t = cc
+
+-- the line after an entry
+pub all_stay : (w : Word) (i : ℕ) (q : List Arrival) → ends_arrival w ≡ false → filter (stays w i) q ≡ q
+all_stay w i [] t = refl
+all_stay w i (a ∷ q) t =
+    let s : stays w i a ≡ true = rw t refl in
+    rw s (ap (λ l. a ∷ l) (all_stay w i q t))
+
+moves_none : (s : Start) (w : Word) (e : Entry) (h : List Entry) → moves_nobody w ≡ true → (ends_arrival w ≡ false) × (arrivals_by s w e h ≡ [])
+moves_none s Got e h t = (refl, refl)
+moves_none s TryGot e h t = (refl, refl)
+moves_none s Missed e h t = (refl, refl)
+moves_none s Gave e h t = (refl, refl)
+moves_none s (Refused f) e h t = (refl, refl)
+moves_none s _ e h t = cc
+
+pub line_same : (s : Start) (e : Entry) (h : List Entry) → moves_nobody e.word ≡ true → line s (e ∷ h) ≡ line s h
+line_same s e h t =
+    let n = moves_none s e.word e h t in
+    line_after s e h ∙ ap (λ l. filter (stays e.word e.seat) (line s h) ++ l) n.1 ∙ append-nil _ ∙ all_stay e.word e.seat (line s h) n.0
+
+pub line_queued : (s : Start) (e : Entry) (h : List Entry) → e.word ≡ Queued → line s (e ∷ h) ≡ line s h ++ record { seat = e.seat; mode = e.mode; n = e.n; back = false } ∷ []
+line_queued s e h t =
+    line_after s e h
+    ∙ ap (λ w. filter (stays w e.seat) (line s h) ++ arrivals_by s w e h) t
+    ∙ ap (λ l. l ++ record { seat = e.seat; mode = e.mode; n = e.n; back = false } ∷ []) (all_stay Queued e.seat (line s h) refl)
+
+abbrev pub leaves : Word → Bool
+leaves Granted = true
+leaves Left = true
+leaves _ = false
+
+pub line_less : (s : Start) (e : Entry) (h : List Entry) → leaves e.word ≡ true → line s (e ∷ h) ≡ filter (λ a. not (eqb e.seat a.seat)) (line s h)
+line_less s e h t = line_after s e h ∙ by e.word t
+  where
+  by : (w : Word) → leaves w ≡ true → filter (stays w e.seat) (line s h) ++ arrivals_by s w e h ≡ filter (λ a. not (eqb e.seat a.seat)) (line s h)
+  by Granted t = append-nil _
+  by Left t = append-nil _
+  by _ t = cc

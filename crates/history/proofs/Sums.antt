@@ -1,0 +1,66 @@
+-- What an entry makes of the numbers.
+use Rattle.std.proofs.Common.{◌≡◌, ◌≢◌, ◌⊎◌, ⊎_elim, inl, inr, ℕ, zero, suc, ◌+◌, ◌<◌, ◌≤◌, Bool, true, false, ltb, List, ◌∷◌, Option, Some, None, refl, ap, arith}
+use Rattle.std.proofs.lemmas.Bool.{cases_eq, lt-ltb}
+use Rattle.history.specs.declared.entry.Entry.{Entry}
+use Rattle.history.specs.declared.entry.End.{End}
+use Rattle.history.specs.declared.entry.Mode.{Mode}
+use Rattle.history.specs.declared.entry.Word.TheVariants.{Got, TryGot, Granted, Gave}
+use Rattle.history.specs.Start.{Start}
+use Rattle.history.specs.Changes.{took, gave_back}
+use Rattle.history.specs.Counts.{counts, total}
+use Rattle.history.specs.Counts.{seat_with}
+
+pub counts_got : (s : Start) (h : List Entry) (i : ℕ) (m : Mode) (n at : ℕ) (how : End) → counts s (record { seat = i; word = Got; mode = m; n = n; at = at; end = how } ∷ h) ≡ took (counts s h) i m n
+counts_got s h i m n at how = refl
+
+pub counts_gave : (s : Start) (h : List Entry) (i : ℕ) (m : Mode) (n at : ℕ) (how : End) → counts s (record { seat = i; word = Gave; mode = m; n = n; at = at; end = how } ∷ h) ≡ gave_back (counts s h) i m n
+counts_gave s h i m n at how = refl
+
+-- the seat that has something, where one has or none
+pub seat_with_none : (n : ℕ) (f : ℕ → ℕ) → ((i : ℕ) → f i ≡ 0) → seat_with n f ≡ None
+seat_with_none zero f h = refl
+seat_with_none (suc n) f h = rw (h n) (seat_with_none n f h)
+
+pub seat_with_one : (n : ℕ) (f : ℕ → ℕ) (j : ℕ) → j < n → 0 < f j → ((i : ℕ) → i ≢ j → f i ≡ 0) → seat_with n f ≡ Some j
+seat_with_one zero f j l p h = absurd (omega arith)
+seat_with_one (suc n) f j l p h =
+    ⊎_elim same (λ ne. other ne (λ l'. seat_with_one n f j l' p h)) (cases_eq n j)
+  where
+  same : n ≡ j → seat_with (suc n) f ≡ Some j
+  same e =
+    let t : ltb 0 (f n) ≡ true = rw e (lt-ltb _ _ p) in
+    rw t (ap Some e)
+  other : (n ≡ j → ⊥) → (j < n → seat_with n f ≡ Some j) → seat_with (suc n) f ≡ Some j
+  other ne ih =
+    let z : f n ≡ 0 = h n ne in
+    let l' : j < n = omega (arith, ne, l) in
+    rw z (ih l')
+
+-- the sum over the seats
+pub total_same : (n : ℕ) (f g : ℕ → ℕ) → ((i : ℕ) → f i ≡ g i) → total n f ≡ total n g
+total_same zero f g h = refl
+total_same (suc n) f g h = let e = total_same n f g h in let d = h n in omega (arith, e, d)
+
+pub total_change : (n : ℕ) (f g : ℕ → ℕ) (j : ℕ) → j < n → ((i : ℕ) → i ≢ j → f i ≡ g i) → total n f + g j ≡ total n g + f j
+total_change zero f g j l h = absurd (omega arith)
+total_change (suc n) f g j l h =
+    ⊎_elim same (λ ne. other ne (λ l'. total_change n f g j l' h)) (cases_eq n j)
+  where
+  below : (m : ℕ) → m ≤ j → total m f ≡ total m g
+  below zero b = refl
+  below (suc m) b =
+    let ne : m ≢ j = omega arith in
+    let e : total m f ≡ total m g = below m (omega arith) in
+    let d : f m ≡ g m = h m ne in
+    omega (arith, e, d)
+  same : n ≡ j → total (suc n) f + g j ≡ total (suc n) g + f j
+  same e =
+    let b : total n f ≡ total n g = below n (omega (arith, e)) in
+    let x : f n ≡ f j = ap f e in
+    let y : g n ≡ g j = ap g e in
+    omega (arith, b, x, y)
+  other : (n ≡ j → ⊥) → (j < n → total n f + g j ≡ total n g + f j) → total (suc n) f + g j ≡ total (suc n) g + f j
+  other ne ih =
+    let r : total n f + g j ≡ total n g + f j = ih (omega (arith, ne, l)) in
+    let d : f n ≡ g n = h n ne in
+    omega (arith, r, d)
