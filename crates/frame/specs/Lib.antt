@@ -1,1 +1,4 @@
 pub mod Hooks
+pub mod Seat
+pub mod Checks
+pub mod Effects

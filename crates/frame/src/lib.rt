@@ -2,4 +2,7 @@
 //! the holds and the history.
 #![tactic(auto)]
 
+mod checks;
+mod effects;
 pub mod hooks;
+mod seat;

@@ -1,0 +1,123 @@
+//! What the core keeps of each seat.
+
+ghost use Rattle.std.specs.Prelude.{◌≡◌, ◌+◌, ◌<◌, ◌^◌};
+ghost use Rattle.history.specs.Counts.{holds_after};
+ghost use Rattle.history.specs.Object.{in_holds};
+ghost use Rattle.frame.specs.Seat.{awaiting_after, seat_after, lapsed, no_holds, holds_in};
+
+use history::entry::{End, Entry, Mode, Word};
+use history::header::Object;
+
+/// What a seat gave up to sleep on a condition, and how its await will end.
+#[derive(Clone, Copy, Debug, PartialEq, Eq)]
+pub struct Awaiting {
+    pub condition: u8,
+    /// The exclusive holds that it will have again.
+    pub holds: u32,
+    pub how: End,
+}
+
+/// The holds of a seat, and its await from the sleep until it comes back.
+#[derive(Clone, Copy, Debug, PartialEq, Eq)]
+pub struct Seat {
+    pub exclusive: u32,
+    /// Shared holds; a semaphore's may pass 32 bits.
+    pub shared: u64,
+    pub awaiting: Option<Awaiting>,
+}
+
+impl Seat {
+    /// A seat that holds nothing.
+    pub fn free() -> Seat
+        ensures { result ≡ no_holds }
+    {
+        Seat {
+            exclusive: 0,
+            shared: 0,
+            awaiting: None,
+        }
+    }
+
+    pub fn holds(self, mode: Mode) -> u64
+        ensures { result ≡ holds_in mode self }
+    {
+        match mode {
+            Mode::X => u64::from(self.exclusive),
+            Mode::S => self.shared,
+        }
+    }
+
+    /// What an entry of its own makes of it.
+    pub fn after(self, object: Object, entry: Entry) -> Seat
+        requires exclusive { (seat_after object entry self).exclusive < 2 ^ 32 }
+        requires shared { (seat_after object entry self).shared < 2 ^ 64 }
+        ensures { result ≡ seat_after object entry self }
+    {
+        let awaiting = awaiting_after(entry, self.awaiting);
+        match entry.mode {
+            Mode::X => Seat {
+                exclusive: holds_after(object, entry, u64::from(self.exclusive)) as u32,
+                shared: self.shared,
+                awaiting,
+            },
+            Mode::S => Seat {
+                exclusive: self.exclusive,
+                shared: holds_after(object, entry, self.shared),
+                awaiting,
+            },
+        }
+    }
+}
+
+fn awaiting_after(entry: Entry, was: Option<Awaiting>) -> Option<Awaiting>
+    ensures { result ≡ awaiting_after entry.word entry was }
+{
+    match entry.word {
+        Word::Await => Some(Awaiting {
+            condition: entry.at,
+            holds: entry.n,
+            how: End::Signalled,
+        }),
+        Word::Lapse => lapsed(entry.end, was),
+        Word::Back => None,
+        _ => was,
+    }
+}
+
+fn lapsed(how: End, was: Option<Awaiting>) -> Option<Awaiting>
+    ensures { result ≡ lapsed how was }
+{
+    match was {
+        None => None,
+        Some(awaiting) => Some(Awaiting {
+            condition: awaiting.condition,
+            holds: awaiting.holds,
+            how,
+        }),
+    }
+}
+
+/// The holds behind an entry, of those before it in its mode.
+fn holds_after(object: Object, entry: Entry, had: u64) -> u64
+    requires { holds_after object entry.word entry.n had < 2 ^ 64 }
+    ensures { result ≡ holds_after object entry.word entry.n had }
+{
+    match entry.word {
+        Word::Got | Word::TryGot | Word::Granted => had + in_holds(object, entry.n),
+        Word::Drained | Word::Back => had + u64::from(entry.n),
+        Word::Gave => had.saturating_sub(in_holds(object, entry.n)),
+        Word::Await => 0,
+        _ => had,
+    }
+}
+
+/// What a request for n is in holds.
+fn in_holds(object: Object, n: u32) -> u64
+    ensures { result ≡ in_holds object n }
+{
+    match object {
+        Object::Lock(_) | Object::ReadWrite(_) => 1,
+        Object::Semaphore(_, _) => u64::from(n),
+        Object::Latch(_) => 0,
+    }
+}
