@@ -1,5 +1,5 @@
 -- What a core is to its callers, and how its fields stand for it.
-use Rattle.std.specs.Prelude.{◌≡◌, ◌⊎◌, ◌≤◌, ◌<◌, ℕ, ◌+◌, ◌*◌, true, false, List, ◌∷◌, length, slice_get, Result, Ok, Err, Option, Some, None}
+use Rattle.std.specs.Prelude.{◌≡◌, ◌⊎◌, ◌≤◌, ◌<◌, ℕ, ◌+◌, ◌*◌, true, false, List, ◌∷◌, length, slice_get, slice_index, Result, Ok, Err, Option, Some, None}
 use Rattle.acquire_queue.specs.Line.{Line}
 use Rattle.history.specs.declared.entry.Entry.{Entry}
 use Rattle.history.specs.declared.fault.Fault.{Fault}
@@ -32,14 +32,16 @@ start_of v = opening v.header
 
 -- The fields stand for the history: hooks, line, sleepers and seats are as its entries make them, and room is
 -- kept as it asks.
-pub record Stands (agrees : Counts → Type 0) (k : Header) (kept : HistoryView) (queue : Line) (table : List Seat) : Type 0 where
+pub record Stands (agrees : Counts → Type 0) (k : Header) (kept : HistoryView) (queue : Line) (waiting : List ℕ) (table : List Seat) : Type 0 where
   pub range : IsInRange k
   pub hooks : agrees (counts (opening k) kept.entries)
   pub line : queue.arrivals ≡ line (opening k) kept.entries
   pub places : queue.seats ≡ k.seats
   pub joins : queue.joined ≤ 256 * length kept.entries
+  pub conditions : length waiting ≡ k.conditions
+  pub sleepers : (c : ℕ) → c < k.conditions → slice_index waiting c ≡ length (sleepers (opening k) kept.entries c)
   pub seats : length table ≡ k.seats
-  pub table : (i : ℕ) → i < k.seats → slice_get table i ≡ Some (seat_of k.object kept.entries i)
+  pub tabled : (i : ℕ) → i < k.seats → slice_get table i ≡ Some (seat_of k.object kept.entries i)
   pub cap : kept.cap ≡ k.cap
   pub owed : kept.owed ≡ owed (opening k) kept.entries
   pub legal : IsLegal (opening k) kept.entries

@@ -4,5 +4,9 @@
 
 mod checks;
 mod effects;
+mod entries;
 pub mod hooks;
-mod seat;
+pub mod machine;
+pub mod seat;
+
+pub use history::step::{Answer, Step};
