@@ -9,3 +9,7 @@ pub mod LineLemmas
 pub mod Sums
 pub mod Changes
 pub mod Entering
+pub mod Times
+pub mod SleepLemmas
+pub mod Owners
+pub mod OneWait

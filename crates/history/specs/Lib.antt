@@ -21,3 +21,4 @@ pub mod Legal
 pub mod Room
 pub mod Answers
 pub mod Order
+pub mod Waiting
