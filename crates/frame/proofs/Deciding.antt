@@ -1,5 +1,6 @@
 -- What a step makes, by its fault and by its seat's phase.
 use Rattle.std.proofs.Common.{◌≡◌, ℕ, Bool, true, false, not, cond, List, Option, Some, None, Result, Ok, Err, refl, ap, ◌∙◌, sym, subst}
+use Rattle.std.specs.Prelude.{is_some}
 use Rattle.history.specs.declared.arrival.Arrival.{Arrival}
 use Rattle.history.specs.declared.entry.Entry.{Entry}
 use Rattle.history.specs.declared.fault.Fault.{Fault}
@@ -9,10 +10,14 @@ use Rattle.history.specs.Could.{could}
 use Rattle.history.specs.Counts.{Counts}
 use Rattle.history.specs.Faults.{is_wrong_mode, is_no_condition, is_bad_amount}
 use Rattle.history.specs.Naming.{ready_by}
-use Rattle.history.specs.Phase.{phase}
+use Rattle.history.specs.Line.{line, place_of}
+use Rattle.history.specs.Phase.{Phase, Idle, InLine, Sleeping, phase, phase_by, suits}
+use Rattle.history.specs.Sleepers.{sleeps_below}
 use Rattle.history.specs.Start.{Start}
-use Rattle.history.specs.Steps.{entry_for}
+use Rattle.history.specs.Steps.{entry_for, phase_entry}
+use Rattle.frame.specs.declared.seat.Awaiting.{Awaiting}
 use Rattle.frame.specs.Checks.{refused_as, in_phase}
+use Rattle.frame.specs.Waits.{is_awaiting}
 
 refused_by : {A : Type 0} (a b c : Bool) (r : Result A Fault) (f : Fault) →
     cond a (Some fault.WrongMode) (cond b (Some fault.NoSuchCondition) (cond c (Some fault.BadAmount) None)) ≡ Some f →
@@ -72,3 +77,49 @@ ready_goes k o a p q = rw p (rw q refl)
 pub ready_waits : (k : Counts) (o : Option Arrival) (a : Arrival) → o ≡ Some a →
     could k a.seat a.mode a.n ≡ false → None ≡ ready_by k o
 ready_waits k o a p q = rw p (rw q refl)
+
+-- what an admitted step makes, by whether it suits its seat's phase
+pub in_phase_made : (s : Start) (h : List Entry) (i : ℕ) (step : Step) (p : Phase) (o : Option Entry) →
+    phase s h i ≡ p → suits p step ≡ true → o ≡ phase_entry s h i step p →
+    ◌≡◌ {A = Result (Option Entry) Fault} (Ok o) (in_phase s h i step (phase s h i))
+in_phase_made s h i step p o is suit made =
+    rw is (by (suits p step) suit)
+  where
+  by : (b : Bool) → b ≡ true → ◌≡◌ {A = Result (Option Entry) Fault} (Ok o) (cond (not b) (Err fault.OutOfPhase) (Ok (phase_entry s h i step p)))
+  by true t = let ok : Option Entry → Result (Option Entry) Fault = λ x. Ok x in ap ok made
+  by false t = absurd (cc)
+
+pub in_phase_refused : (s : Start) (h : List Entry) (i : ℕ) (step : Step) (p : Phase) →
+    phase s h i ≡ p → suits p step ≡ false →
+    ◌≡◌ {A = Result (Option Entry) Fault} (Err fault.OutOfPhase) (in_phase s h i step (phase s h i))
+in_phase_refused s h i step p is suit = rw is (by (suits p step) suit)
+  where
+  by : (b : Bool) → b ≡ false → ◌≡◌ {A = Result (Option Entry) Fault} (Err fault.OutOfPhase) (cond (not b) (Err fault.OutOfPhase) (Ok (phase_entry s h i step p)))
+  by true t = absurd (cc)
+  by false t = refl
+
+-- the phase of a seat in line, and of one that isn't
+pub phase_line : (s : Start) (h : List Entry) (i : ℕ) (a : Arrival) → place_of i (line s h) ≡ Some a → phase s h i ≡ InLine a
+phase_line s h i a p = rw p refl
+
+pub phase_sleeping : (s : Start) (h : List Entry) (i : ℕ) (o : Option Awaiting) (w : Awaiting) →
+    place_of i (line s h) ≡ None → is_some o ≡ is_awaiting (phase s h i) → o ≡ Some w → phase s h i ≡ Sleeping
+phase_sleeping s h i o w p is q =
+    let t : is_awaiting (phase_by None (sleeps_below s.header.conditions s h i)) ≡ true =
+        ap (λ x. is_awaiting (phase_by x (sleeps_below s.header.conditions s h i))) (sym p) ∙ sym is ∙ ap is_some q in
+    rw p (by (sleeps_below s.header.conditions s h i) t)
+  where
+  by : (b : Bool) → is_awaiting (phase_by None b) ≡ true → phase_by None b ≡ Sleeping
+  by true t = refl
+  by false t = cc
+
+pub phase_idle : (s : Start) (h : List Entry) (i : ℕ) (o : Option Awaiting) →
+    place_of i (line s h) ≡ None → is_some o ≡ is_awaiting (phase s h i) → o ≡ None → phase s h i ≡ Idle
+phase_idle s h i o p is q =
+    let t : is_awaiting (phase_by None (sleeps_below s.header.conditions s h i)) ≡ false =
+        ap (λ x. is_awaiting (phase_by x (sleeps_below s.header.conditions s h i))) (sym p) ∙ sym is ∙ ap is_some q in
+    rw p (by (sleeps_below s.header.conditions s h i) t)
+  where
+  by : (b : Bool) → is_awaiting (phase_by None b) ≡ false → phase_by None b ≡ Idle
+  by true t = cc
+  by false t = refl

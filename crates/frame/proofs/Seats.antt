@@ -64,9 +64,10 @@ sleep_more _ e was s w ih q = ih w q
 pub seat_sleep : (k : Header) (h : List Entry) (i : ℕ) (w : Awaiting) →
     (seat_of k.object h i).awaiting ≡ Some w → last_sleep (opening k) h i ≡ sleep_of w
 seat_sleep k [] i w q = cc
-seat_sleep k (e ∷ h) i w q = by (eqb e.seat i) q
+seat_sleep k (e ∷ h) i w q = by (eqb e.seat i) (λ v p. seat_sleep k h i v p) q
   where
-  by : (b : Bool) → (cond b (seat_after k.object e (seat_of k.object h i)) (seat_of k.object h i)).awaiting ≡ Some w →
+  by : (b : Bool) → ((v : Awaiting) → (seat_of k.object h i).awaiting ≡ Some v → last_sleep (opening k) h i ≡ sleep_of v) →
+      (cond b (seat_after k.object e (seat_of k.object h i)) (seat_of k.object h i)).awaiting ≡ Some w →
       cond b (sleep_after e.word e (last_sleep (opening k) h i)) (last_sleep (opening k) h i) ≡ sleep_of w
-  by true q = sleep_more e.word e (seat_of k.object h i).awaiting (last_sleep (opening k) h i) w (λ v p. seat_sleep k h i v p) q
-  by false q = seat_sleep k h i w q
+  by true ih q = sleep_more e.word e (seat_of k.object h i).awaiting (last_sleep (opening k) h i) w ih q
+  by false ih q = ih w q

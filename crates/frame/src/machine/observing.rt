@@ -1,10 +1,10 @@
 //! What a core tells of itself. No observer takes memory.
 
-ghost use Rattle.std.specs.Prelude.{◌≡◌, ◌<◌, ◌≤◌, ◌+◌, ◌≤ℤ◌, pos, length, nat_lt, true};
+ghost use Rattle.std.specs.Prelude.{◌≡◌, ◌<◌, ◌≤◌, ◌+◌, ◌≤ℤ◌, pos, length, nat_lt, true, Some, is_some};
 ghost use Rattle.history.specs.declared.entry.Mode.TheVariants.{X, S};
 ghost use Rattle.history.specs.Counts.{counts, count, held, owner};
 ghost use Rattle.history.specs.Faults.{max_amount};
-ghost use Rattle.history.specs.Sleepers.{sleepers};
+ghost use Rattle.history.specs.Sleepers.{sleepers, last_sleep};
 ghost use Rattle.frame.specs.Observed.{available};
 ghost use Rattle.history.specs.Legal.{IsLegal};
 ghost use Rattle.history.specs.Line.{line, first_of};
@@ -15,7 +15,9 @@ ghost use Rattle.history.specs.Room.{owed};
 ghost use Rattle.frame.specs.Core.{start_of};
 ghost use Rattle.frame.specs.Hooks.{level_of};
 ghost use Rattle.frame.specs.Seat.{seat_of};
-ghost use Rattle.frame.specs.Waits.{IsWait};
+ghost use Rattle.frame.specs.declared.seat.Awaiting.{Awaiting};
+ghost use Rattle.frame.specs.Waits.{sleep_of, is_awaiting};
+ghost use Rattle.history.specs.Phase.{phase};
 
 use super::Core;
 use crate::hooks::Hooks;
@@ -100,7 +102,8 @@ impl<H: Hooks + Drop> Core<H> {
         ensures exclusive { result.exclusive ≡ held (start_of self.now) self.now.entries seat X }
         ensures shared { result.shared ≡ held (start_of self.now) self.now.entries seat S }
         ensures owns { is_lock self.now.header.object ≡ true → is_seat (owner (counts (start_of self.now) self.now.entries)) seat ≡ nat_lt 0 result.exclusive }
-        ensures waits { IsWait (start_of self.now) self.now.entries seat result.awaiting }
+        ensures sleep { (w : Awaiting) → result.awaiting ≡ Some w → last_sleep (start_of self.now) self.now.entries seat ≡ sleep_of w }
+        ensures awaits { is_some result.awaiting ≡ is_awaiting (phase (start_of self.now) self.now.entries seat) }
     {
         let _header = &self.header;
         self.kept(seat)

@@ -4,7 +4,6 @@ use Rattle.frame.proofs.Deciding.{entry_refused, entry_admitted}
 use Rattle.frame.proofs.machine.Core.decide.Goals as goal
 
 pub returns-in-Some : goal.returns-in-Some
-returns-in-Some g c = ?
-
-pub returns-in-None : goal.returns-in-None
-returns-in-None g c = ?
+returns-in-Some g c =
+    let v = c.args.self.now in
+    sym (entry_refused (start_of v) v.entries c.args.seat c.args.step c.in-Some.fault (?))
