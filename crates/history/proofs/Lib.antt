@@ -13,3 +13,4 @@ pub mod Times
 pub mod SleepLemmas
 pub mod Owners
 pub mod OneWait
+pub mod WhoWaits

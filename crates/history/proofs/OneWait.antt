@@ -303,7 +303,7 @@ take_has n i xs t =
     once_has i xs (omega (arith, o, e))
 
 -- a sleeper that lapses sleeps on the condition of its last sleep
-lapsing : (s : Start) (h : List Entry) (e : Entry) → Waits s h → phase s h e.seat ≡ Sleeping →
+pub lapsing : (s : Start) (h : List Entry) (e : Entry) → Waits s h → phase s h e.seat ≡ Sleeping →
     e ≡ lapse s h e.seat e.end → (has e.seat (sleepers s h e.at) ≡ true) × Sleeps s h e.at e.seat
 lapsing s h e v p q =
     let parts = sleeping_parts (place_of e.seat (line s h)) (sleeps_below s.header.conditions s h e.seat) p in
