@@ -14,3 +14,7 @@ pub mod SleepLemmas
 pub mod Owners
 pub mod OneWait
 pub mod WhoWaits
+pub mod ListSums
+pub mod Owing
+pub mod RoomLemmas
+pub mod Permits

@@ -21,4 +21,5 @@ pub mod Legal
 pub mod Room
 pub mod Answers
 pub mod Order
+pub mod Conservation
 pub mod Waiting
