@@ -1,5 +1,5 @@
 -- What a step makes, by its fault and by its seat's phase.
-use Rattle.std.proofs.Common.{◌≡◌, ℕ, Bool, true, false, not, cond, List, Option, Some, None, Result, Ok, Err, refl, ap, ◌∙◌, sym, subst}
+use Rattle.std.proofs.Common.{◌≡◌, ℕ, ◌<◌, arith, Bool, true, false, not, cond, List, Option, Some, None, Result, Ok, Err, refl, ap, ◌∙◌, sym, subst}
 use Rattle.std.specs.Prelude.{is_some}
 use Rattle.history.specs.declared.arrival.Arrival.{Arrival}
 use Rattle.history.specs.declared.entry.Entry.{Entry}
@@ -12,12 +12,15 @@ use Rattle.history.specs.Faults.{is_wrong_mode, is_no_condition, is_bad_amount}
 use Rattle.history.specs.Naming.{ready_by}
 use Rattle.history.specs.Line.{line, place_of}
 use Rattle.history.specs.Phase.{Phase, Idle, InLine, Sleeping, phase, phase_by, suits}
-use Rattle.history.specs.Sleepers.{sleeps_below}
+use Rattle.history.specs.Sleepers.{sleepers, has, sleeps_below}
 use Rattle.history.specs.Start.{Start}
+use Rattle.condition_queue.specs.declared.sleeper.Sleeper.{Sleeper}
+use Rattle.condition_queue.specs.Sleepers.{Sleepers, asleep_on, sleeps_on}
+use Rattle.history.proofs.OneWait.{Waits}
+use Rattle.history.proofs.SleepLemmas.{sleeps_at, sleeps_there}
+use Rattle.std.proofs.lemmas.Bool.{eq-eqb}
 use Rattle.history.specs.Steps.{entry_for, phase_entry}
-use Rattle.frame.specs.declared.seat.Awaiting.{Awaiting}
 use Rattle.frame.specs.Checks.{refused_as, in_phase}
-use Rattle.frame.specs.Waits.{is_awaiting}
 
 refused_by : {A : Type 0} (a b c : Bool) (r : Result A Fault) (f : Fault) →
     cond a (Some fault.WrongMode) (cond b (Some fault.NoSuchCondition) (cond c (Some fault.BadAmount) None)) ≡ Some f →
@@ -102,24 +105,25 @@ in_phase_refused s h i step p is suit = rw is (by (suits p step) suit)
 pub phase_line : (s : Start) (h : List Entry) (i : ℕ) (a : Arrival) → place_of i (line s h) ≡ Some a → phase s h i ≡ InLine a
 phase_line s h i a p = rw p refl
 
-pub phase_sleeping : (s : Start) (h : List Entry) (i : ℕ) (o : Option Awaiting) (w : Awaiting) →
-    place_of i (line s h) ≡ None → is_some o ≡ is_awaiting (phase s h i) → o ≡ Some w → phase s h i ≡ Sleeping
-phase_sleeping s h i o w p is q =
-    let t : is_awaiting (phase_by None (sleeps_below s.header.conditions s h i)) ≡ true =
-        ap (λ x. is_awaiting (phase_by x (sleeps_below s.header.conditions s h i))) (sym p) ∙ sym is ∙ ap is_some q in
-    rw p (by (sleeps_below s.header.conditions s h i) t)
-  where
-  by : (b : Bool) → is_awaiting (phase_by None b) ≡ true → phase_by None b ≡ Sleeping
-  by true t = refl
-  by false t = cc
+pub phase_away : (s : Start) (h : List Entry) (i : ℕ) (b : Bool) → place_of i (line s h) ≡ None →
+    b ≡ sleeps_below s.header.conditions s h i → phase s h i ≡ phase_by None b
+phase_away s h i b p q = rw p (ap (phase_by None) (sym q))
 
-pub phase_idle : (s : Start) (h : List Entry) (i : ℕ) (o : Option Awaiting) →
-    place_of i (line s h) ≡ None → is_some o ≡ is_awaiting (phase s h i) → o ≡ None → phase s h i ≡ Idle
-phase_idle s h i o p is q =
-    let t : is_awaiting (phase_by None (sleeps_below s.header.conditions s h i)) ≡ false =
-        ap (λ x. is_awaiting (phase_by x (sleeps_below s.header.conditions s h i))) (sym p) ∙ sym is ∙ ap is_some q in
-    rw p (by (sleeps_below s.header.conditions s h i) t)
+-- who sleeps, by what the waiters say of a seat
+pub sleeps_is : (s : Start) (h : List Entry) (i : ℕ) (w : Sleepers) (r : Option Sleeper) → Waits s h →
+    ((c : ℕ) → asleep_on w c ≡ sleepers s h c) → ((c : ℕ) → has i (asleep_on w c) ≡ sleeps_on c r) →
+    is_some r ≡ sleeps_below s.header.conditions s h i
+sleeps_is s h i w None v lists listed = by (sleeps_below s.header.conditions s h i) refl
   where
-  by : (b : Bool) → is_awaiting (phase_by None b) ≡ false → phase_by None b ≡ Idle
-  by true t = cc
+  by : (b : Bool) → sleeps_below s.header.conditions s h i ≡ b → false ≡ b
+  by true t =
+    let at = sleeps_at s.header.conditions s h i t in
+    let z : true ≡ false = sym at.2 ∙ ap (has i) (sym (lists at.0)) ∙ listed at.0 in
+    cc
   by false t = refl
+sleeps_is s h i w (Some x) v lists listed =
+    let t : has i (sleepers s h x.condition) ≡ true =
+        ap (has i) (sym (lists x.condition)) ∙ listed x.condition ∙ eq-eqb x.condition x.condition refl in
+    let on = v.sleepers x.condition i t in
+    let below : x.condition < s.header.conditions = let l = on.saved.condition in let d = on.condition in omega (arith, l, d) in
+    sym (sleeps_there s.header.conditions s h i x.condition below t)

@@ -1,3 +1,4 @@
 pub mod Deciding
 pub mod Seats
-pub mod Awaiting
+pub mod Counting
+pub mod OneOwner

@@ -1,6 +1,7 @@
 -- What a core is to its callers, and how its fields stand for it.
-use Rattle.std.specs.Prelude.{◌≡◌, ◌⊎◌, ◌≤◌, ◌<◌, ℕ, ◌+◌, ◌*◌, true, false, List, ◌∷◌, length, slice_get, slice_index, Result, Ok, Err, Option, Some, None}
+use Rattle.std.specs.Prelude.{◌≡◌, ◌⊎◌, ◌≤◌, ◌<◌, ℕ, ◌+◌, ◌*◌, true, false, List, ◌∷◌, length, slice_get, Result, Ok, Err, Option, Some, None}
 use Rattle.acquire_queue.specs.Line.{Line}
+use Rattle.condition_queue.specs.Sleepers.{Sleepers, asleep_on}
 use Rattle.history.specs.declared.entry.Entry.{Entry}
 use Rattle.history.specs.declared.fault.Fault.{Fault}
 use Rattle.history.specs.declared.fault.Fault.TheVariants.{HistoryFull, OutOfMemory}
@@ -13,13 +14,12 @@ use Rattle.history.specs.Entries.{HistoryView}
 use Rattle.history.specs.Header.{IsInRange}
 use Rattle.history.specs.Legal.{IsLegal, AreSeated}
 use Rattle.history.specs.Line.{line}
-use Rattle.history.specs.Room.{owed, has_room}
+use Rattle.history.specs.Room.{owed, has_room, was_owed}
 use Rattle.history.specs.Sleepers.{sleepers}
 use Rattle.history.specs.Start.{Start, opening}
 use Rattle.history.specs.Steps.{entry_for}
 use Rattle.frame.specs.declared.seat.Seat.{Seat}
 use Rattle.frame.specs.Seat.{seat_of}
-use Rattle.frame.specs.Reserve.{releases}
 
 -- A header that stays, and a history that only grows, the newest entry first.
 pub record CoreView : Type 0 where
@@ -32,14 +32,15 @@ start_of v = opening v.header
 
 -- The fields stand for the history: hooks, line, sleepers and seats are as its entries make them, and room is
 -- kept as it asks.
-pub record Stands (agrees : Counts → Type 0) (k : Header) (kept : HistoryView) (queue : Line) (waiting : List ℕ) (table : List Seat) : Type 0 where
+pub record Stands (agrees : Counts → Type 0) (k : Header) (kept : HistoryView) (queue : Line) (waiters : Sleepers) (table : List Seat) : Type 0 where
   pub range : IsInRange k
   pub hooks : agrees (counts (opening k) kept.entries)
   pub line : queue.arrivals ≡ line (opening k) kept.entries
   pub places : queue.seats ≡ k.seats
-  pub joins : queue.joined ≤ 256 * length kept.entries
-  pub conditions : length waiting ≡ k.conditions
-  pub sleepers : (c : ℕ) → c < k.conditions → slice_index waiting c ≡ length (sleepers (opening k) kept.entries c)
+  pub joins : queue.joined ≤ 65536 * length kept.entries
+  pub sleepers : (c : ℕ) → asleep_on waiters c ≡ sleepers (opening k) kept.entries c
+  pub conditions : waiters.conditions ≡ k.conditions
+  pub beds : waiters.seats ≡ k.seats
   pub seats : length table ≡ k.seats
   pub tabled : (i : ℕ) → i < k.seats → slice_get table i ≡ Some (seat_of k.object kept.entries i)
   pub cap : kept.cap ≡ k.cap
@@ -53,21 +54,21 @@ pub record IsNext (v : CoreView) (e : Entry) : Type 0 where
   pub step : Step
   pub made : entry_for (start_of v) v.entries e.seat step ≡ Ok (Some e)
 
--- An entry was added, or there was no room, or no memory. What releases room finds both.
+-- An entry was added, or there was no room, or no memory. What was owed finds both.
 abbrev pub IsAdded : CoreView → Entry → Result (Unit {0}) Fault → CoreView → Type 0
 IsAdded old e (Ok u) new =
     (has_room (start_of old) old.entries e ≡ true) × (new ≡ record old { entries = e ∷ old.entries })
 IsAdded old e (Err HistoryFull) new = (has_room (start_of old) old.entries e ≡ false) × (new ≡ old)
 IsAdded old e (Err OutOfMemory) new =
-    (has_room (start_of old) old.entries e ≡ true) × (releases old.header.object e ≡ 0) × (new ≡ old)
+    (has_room (start_of old) old.entries e ≡ true) × (was_owed old.header.object e ≡ false) × (new ≡ old)
 IsAdded old e (Err _) new = ⊥
 
--- Memory was refused to an entry that has room and releases none, and nothing has changed.
+-- Memory was refused to an entry that has room and was owed to nobody, and nothing has changed.
 pub record LacksMemory (old : CoreView) (made : Result (Option Entry) Fault) (new : CoreView) : Type 0 where
   pub entry : Entry
   pub is : made ≡ Ok (Some entry)
   pub has_room : has_room (start_of old) old.entries entry ≡ true
-  pub releases_none : releases old.header.object entry ≡ 0
+  pub not_owed : was_owed old.header.object entry ≡ false
   pub unchanged : new ≡ old
 
 -- the answer and the history behind it are those that the definitions give

@@ -6,9 +6,9 @@ ghost use Rattle.history.specs.Naming.{named_by};
 ghost use Rattle.history.specs.Sleepers.{last_sleep};
 ghost use Rattle.history.specs.Start.{Start};
 ghost use Rattle.history.specs.Steps.{plain, ended, queued_entry, sleeping_entry, back};
-ghost use Rattle.frame.specs.Waits.{sleep_of};
+ghost use Rattle.frame.specs.Seat.{sleep_of};
 
-use crate::seat::Awaiting;
+use crate::seat::LastSleep;
 use history::arrival::Arrival;
 use history::entry::{End, Entry, Mode, Word};
 use history::step::Step;
@@ -66,22 +66,22 @@ pub fn queued_entry(goes: bool, seat: u16, arrival: Arrival, step: Step) -> Opti
 }
 
 /// The end of an await: all that was given up is held again.
-pub fn back(seat: u16, awaiting: Awaiting) -> Entry
-    ensures { (s : Start) (h : List Entry) → last_sleep s h seat ≡ sleep_of awaiting → result ≡ back s h seat }
+pub fn back(seat: u16, sleep: LastSleep) -> Entry
+    ensures { (s : Start) (h : List Entry) → sleep_of sleep ≡ last_sleep s h seat → result ≡ back s h seat }
 {
     Entry {
         seat,
         word: Word::Back,
         mode: Mode::X,
-        n: awaiting.holds,
-        at: awaiting.condition,
-        end: awaiting.how,
+        n: sleep.holds,
+        at: sleep.condition,
+        end: sleep.how,
     }
 }
 
 /// What a sleeper makes of a step; `None` is sleep.
-pub fn sleeping_entry(seat: u16, awaiting: Awaiting, step: Step) -> Option<Entry>
-    ensures { (s : Start) (h : List Entry) → last_sleep s h seat ≡ sleep_of awaiting → result ≡ sleeping_entry s h seat step }
+pub fn sleeping_entry(seat: u16, sleep: LastSleep, step: Step) -> Option<Entry>
+    ensures { (s : Start) (h : List Entry) → sleep_of sleep ≡ last_sleep s h seat → result ≡ sleeping_entry s h seat step }
 {
     let end = match step {
         Step::Expire => End::Timeout,
@@ -93,7 +93,7 @@ pub fn sleeping_entry(seat: u16, awaiting: Awaiting, step: Step) -> Option<Entry
         word: Word::Lapse,
         mode: Mode::X,
         n: 0,
-        at: awaiting.condition,
+        at: sleep.condition,
         end,
     })
 }

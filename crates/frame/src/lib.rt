@@ -8,5 +8,6 @@ mod entries;
 pub mod hooks;
 pub mod machine;
 pub mod seat;
+mod waiting;
 
 pub use history::step::{Answer, Step};

@@ -11,6 +11,7 @@ ghost use Rattle.history.specs.declared.fault.Fault.TheVariants.{OutOfMemory};
 use crate::hooks::Hooks;
 use crate::seat::Seat;
 use acquire_queue::queue::Queue;
+use condition_queue::waiters::Waiters;
 use history::entries::History;
 use history::fault::Fault;
 use history::header::Header;
@@ -27,7 +28,7 @@ pub struct Core<H: Hooks + Drop> {
     header: Header,
     history: History,
     queue: Queue,
-    waiting: Vec<u32>,
+    waiters: Waiters,
     seats: Vec<Seat>,
 }
 
@@ -38,7 +39,7 @@ impl<H: Hooks + Drop> Model for Core<H> {
 
     ghost view = { λ a. record { header = a.header; entries = a.history.entries } };
 
-    ghost invariant = { λ a. Stands (H.agrees a.hooks) a.header a.history a.queue a.waiting.items a.seats.items };
+    ghost invariant = { λ a. Stands (H.agrees a.hooks) a.header a.history a.queue a.waiters a.seats.items };
 }
 
 impl<H: Hooks + Drop> Core<H> {
@@ -60,9 +61,9 @@ impl<H: Hooks + Drop> Core<H> {
             Err(_) => return Err(Fault::OutOfMemory),
             Ok(queue) => queue,
         };
-        let waiting = match vec![in alloc; 0; conditions as usize] {
+        let waiters = match Waiters::open(alloc, conditions, seats) {
             Err(_) => return Err(Fault::OutOfMemory),
-            Ok(waiting) => waiting,
+            Ok(waiters) => waiters,
         };
         let table = match vec![in alloc; Seat::free(); seats as usize] {
             Err(_) => return Err(Fault::OutOfMemory),
@@ -79,7 +80,7 @@ impl<H: Hooks + Drop> Core<H> {
             header,
             history: History::open(alloc, cap),
             queue,
-            waiting,
+            waiters,
             seats: table,
         })
     }

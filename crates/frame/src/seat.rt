@@ -3,38 +3,42 @@
 ghost use Rattle.std.specs.Prelude.{◌≡◌, ◌+◌, ◌<◌, ◌^◌};
 ghost use Rattle.history.specs.Counts.{holds_after};
 ghost use Rattle.history.specs.Object.{in_holds};
-ghost use Rattle.frame.specs.Seat.{awaiting_after, seat_after, lapsed, no_holds, holds_in};
+ghost use Rattle.frame.specs.Seat.{sleep_behind, seat_after, no_holds, holds_in};
 
 use history::entry::{End, Entry, Mode, Word};
 use history::header::Object;
 
-/// What a seat gave up to sleep on a condition, and how its await will end.
+/// What a seat gave up when it last slept on a condition, and how that await ends.
 #[derive(Clone, Copy, Debug, PartialEq, Eq)]
-pub struct Awaiting {
+pub struct LastSleep {
     pub condition: u8,
-    /// The exclusive holds that it will have again.
+    /// The exclusive holds that it has again when it comes back.
     pub holds: u32,
     pub how: End,
 }
 
-/// The holds of a seat, and its await from the sleep until it comes back.
+/// The holds of a seat and its last sleep.
 #[derive(Clone, Copy, Debug, PartialEq, Eq)]
 pub struct Seat {
     pub exclusive: u32,
     /// Shared holds; a semaphore's may pass 32 bits.
     pub shared: u64,
-    pub awaiting: Option<Awaiting>,
+    pub sleep: LastSleep,
 }
 
 impl Seat {
-    /// A seat that holds nothing.
+    /// A seat that holds nothing and never slept.
     pub fn free() -> Seat
         ensures { result ≡ no_holds }
     {
         Seat {
             exclusive: 0,
             shared: 0,
-            awaiting: None,
+            sleep: LastSleep {
+                condition: 0,
+                holds: 0,
+                how: End::None,
+            },
         }
     }
 
@@ -53,47 +57,37 @@ impl Seat {
         requires shared { (seat_after object entry self).shared < 2 ^ 64 }
         ensures { result ≡ seat_after object entry self }
     {
-        let awaiting = awaiting_after(entry, self.awaiting);
+        let sleep = sleep_after(entry, self.sleep);
         match entry.mode {
             Mode::X => Seat {
                 exclusive: holds_after(object, entry, u64::from(self.exclusive)) as u32,
                 shared: self.shared,
-                awaiting,
+                sleep,
             },
             Mode::S => Seat {
                 exclusive: self.exclusive,
                 shared: holds_after(object, entry, self.shared),
-                awaiting,
+                sleep,
             },
         }
     }
 }
 
-fn awaiting_after(entry: Entry, was: Option<Awaiting>) -> Option<Awaiting>
-    ensures { result ≡ awaiting_after entry.word entry was }
+fn sleep_after(entry: Entry, was: LastSleep) -> LastSleep
+    ensures { result ≡ sleep_behind entry.word entry was }
 {
     match entry.word {
-        Word::Await => Some(Awaiting {
+        Word::Await => LastSleep {
             condition: entry.at,
             holds: entry.n,
             how: End::Signalled,
-        }),
-        Word::Lapse => lapsed(entry.end, was),
-        Word::Back => None,
+        },
+        Word::Lapse => LastSleep {
+            condition: was.condition,
+            holds: was.holds,
+            how: entry.end,
+        },
         _ => was,
-    }
-}
-
-fn lapsed(how: End, was: Option<Awaiting>) -> Option<Awaiting>
-    ensures { result ≡ lapsed how was }
-{
-    match was {
-        None => None,
-        Some(awaiting) => Some(Awaiting {
-            condition: awaiting.condition,
-            holds: awaiting.holds,
-            how,
-        }),
     }
 }
 

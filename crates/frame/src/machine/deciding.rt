@@ -3,7 +3,7 @@
 ghost use Rattle.std.specs.Prelude.{◌≡◌, ◌<◌, ◌≤◌, ◌+◌, length, Some, None, false, true};
 ghost use Rattle.history.specs.Counts.{counts};
 ghost use Rattle.history.specs.Could.{is_seat, limit, held_back};
-ghost use Rattle.history.specs.Line.{line, first_mode, place_of};
+ghost use Rattle.history.specs.Line.{first_mode};
 ghost use Rattle.history.specs.Naming.{ready};
 ghost use Rattle.history.specs.Phase.{phase, waits};
 ghost use Rattle.history.specs.Object.{is_lock};
@@ -145,7 +145,7 @@ impl<H: Hooks + Drop> Core<H> {
     }
 
     /// A signal is the owner's, and has the number of sleepers that it moves.
-    fn signals(&self, seat: u16, word: Word, moved: u32, condition: u8) -> Entry
+    fn signals(&self, seat: u16, word: Word, moved: u16, condition: u8) -> Entry
         requires seat { seat < self.now.header.seats }
         requires lock { is_lock self.now.header.object ≡ true }
         ensures { result ≡ signals (counts (start_of self.now) self.now.entries) word moved seat condition }
@@ -157,7 +157,7 @@ impl<H: Hooks + Drop> Core<H> {
             seat,
             word,
             mode: Mode::X,
-            n: moved,
+            n: u32::from(moved),
             at: condition,
             end: End::None,
         }
@@ -197,23 +197,16 @@ impl<H: Hooks + Drop> Core<H> {
 
     /// The entry of one in line, or sleep.
     fn line_entry(&self, seat: u16, arrival: Arrival, step: Step) -> Option<Entry>
-        requires seat { seat < self.now.header.seats }
-        requires stands { place_of seat (line (start_of self.now) self.now.entries) ≡ Some arrival }
+        requires { seat < self.now.header.seats }
         ensures { result ≡ line_entry (start_of self.now) self.now.entries (is_seat (ready (start_of self.now) self.now.entries) seat) seat arrival step }
     {
         let goes = self.is_ready(seat);
         if !arrival.back {
-            return queued_entry(goes, seat, arrival, step);
-        }
-        match self.seat(seat).awaiting {
-            None => None,
-            Some(awaiting) => {
-                if goes {
-                    Some(back(seat, awaiting))
-                } else {
-                    None
-                }
-            }
+            queued_entry(goes, seat, arrival, step)
+        } else if goes {
+            Some(back(seat, self.seat(seat).sleep))
+        } else {
+            None
         }
     }
 
@@ -223,7 +216,7 @@ impl<H: Hooks + Drop> Core<H> {
         requires admitted { refused_as self.now.header step ≡ None }
         ensures { result ≡ in_phase (start_of self.now) self.now.entries seat step (phase (start_of self.now) self.now.entries seat) }
     {
-        match self.queue.arrival_of(seat) {
+        match self.place_of(seat) {
             Some(arrival) => {
                 if waits(step) {
                     Ok(self.line_entry(seat, arrival, step))
@@ -231,22 +224,16 @@ impl<H: Hooks + Drop> Core<H> {
                     Err(Fault::OutOfPhase)
                 }
             }
-            None => match self.seat(seat).awaiting {
-                Some(awaiting) => {
-                    if waits(step) {
-                        Ok(sleeping_entry(seat, awaiting, step))
-                    } else {
-                        Err(Fault::OutOfPhase)
-                    }
+            None => {
+                let sleeps = self.sleeps(seat);
+                if sleeps != waits(step) {
+                    Err(Fault::OutOfPhase)
+                } else if sleeps {
+                    Ok(sleeping_entry(seat, self.seat(seat).sleep, step))
+                } else {
+                    Ok(Some(self.idle_entry(seat, step)))
                 }
-                None => {
-                    if waits(step) {
-                        Err(Fault::OutOfPhase)
-                    } else {
-                        Ok(Some(self.idle_entry(seat, step)))
-                    }
-                }
-            },
+            }
         }
     }
 

@@ -1,23 +1,20 @@
 //! What a core tells of itself. No observer takes memory.
 
-ghost use Rattle.std.specs.Prelude.{◌≡◌, ◌<◌, ◌≤◌, ◌+◌, ◌≤ℤ◌, pos, length, nat_lt, true, Some, is_some};
+ghost use Rattle.std.specs.Prelude.{◌≡◌, ◌<◌, ◌≤◌, ◌+◌, ◌≤ℤ◌, pos, length, nat_lt, true};
 ghost use Rattle.history.specs.declared.entry.Mode.TheVariants.{X, S};
 ghost use Rattle.history.specs.Counts.{counts, count, held, owner};
 ghost use Rattle.history.specs.Faults.{max_amount};
-ghost use Rattle.history.specs.Sleepers.{sleepers, last_sleep};
+ghost use Rattle.history.specs.Sleepers.{sleepers, last_sleep, sleeps_below};
 ghost use Rattle.frame.specs.Observed.{available};
 ghost use Rattle.history.specs.Legal.{IsLegal};
-ghost use Rattle.history.specs.Line.{line, first_of};
+ghost use Rattle.history.specs.Line.{line, first_of, place_of};
 ghost use Rattle.history.specs.Naming.{ready};
 ghost use Rattle.history.specs.Could.{could, is_seat};
 ghost use Rattle.history.specs.Object.{is_lock};
 ghost use Rattle.history.specs.Room.{owed};
 ghost use Rattle.frame.specs.Core.{start_of};
 ghost use Rattle.frame.specs.Hooks.{level_of};
-ghost use Rattle.frame.specs.Seat.{seat_of};
-ghost use Rattle.frame.specs.declared.seat.Awaiting.{Awaiting};
-ghost use Rattle.frame.specs.Waits.{sleep_of, is_awaiting};
-ghost use Rattle.history.specs.Phase.{phase};
+ghost use Rattle.frame.specs.Seat.{seat_of, sleep_of};
 
 use super::Core;
 use crate::hooks::Hooks;
@@ -59,11 +56,10 @@ impl<H: Hooks + Drop> Core<H> {
     }
 
     /// How many sleep on a condition.
-    pub fn waiters(&self, condition: u8) -> u32
-        requires { condition < self.now.header.conditions }
+    pub fn waiters(&self, condition: u8) -> u16
         ensures { result ≡ length (sleepers (start_of self.now) self.now.entries condition) }
     {
-        self.waiting[condition as usize]
+        self.waiters.len(condition)
     }
 
     /// The free permits of a semaphore, which may be below 0; else 0.
@@ -101,9 +97,8 @@ impl<H: Hooks + Drop> Core<H> {
         ensures kept { result ≡ seat_of self.now.header.object self.now.entries seat }
         ensures exclusive { result.exclusive ≡ held (start_of self.now) self.now.entries seat X }
         ensures shared { result.shared ≡ held (start_of self.now) self.now.entries seat S }
-        ensures owns { is_lock self.now.header.object ≡ true → is_seat (owner (counts (start_of self.now) self.now.entries)) seat ≡ nat_lt 0 result.exclusive }
-        ensures sleep { (w : Awaiting) → result.awaiting ≡ Some w → last_sleep (start_of self.now) self.now.entries seat ≡ sleep_of w }
-        ensures awaits { is_some result.awaiting ≡ is_awaiting (phase (start_of self.now) self.now.entries seat) }
+        ensures owns { is_seat (owner (counts (start_of self.now) self.now.entries)) seat ≡ nat_lt 0 result.exclusive }
+        ensures sleep { sleep_of result.sleep ≡ last_sleep (start_of self.now) self.now.entries seat }
     {
         let _header = &self.header;
         self.kept(seat)
@@ -128,6 +123,20 @@ impl<H: Hooks + Drop> Core<H> {
         ensures { result ≡ first_of (line (start_of self.now) self.now.entries) }
     {
         self.queue.first()
+    }
+
+    /// What a seat asks for in line.
+    pub(super) fn place_of(&self, seat: u16) -> Option<Arrival>
+        ensures { result ≡ place_of seat (line (start_of self.now) self.now.entries) }
+    {
+        self.queue.arrival_of(seat)
+    }
+
+    /// Whether a seat sleeps on a condition.
+    pub(super) fn sleeps(&self, seat: u16) -> bool
+        ensures { result ≡ sleeps_below self.now.header.conditions (start_of self.now) self.now.entries seat }
+    {
+        self.waiters.sleeper_of(seat).is_some()
     }
 
     /// The seat of the first in line, where that could take what it asks for.
