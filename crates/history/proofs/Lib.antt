@@ -13,8 +13,9 @@ pub mod Times
 pub mod SleepLemmas
 pub mod Owners
 pub mod OneWait
-pub mod WhoWaits
 pub mod ListSums
 pub mod Owing
 pub mod RoomLemmas
 pub mod Permits
+pub mod OneOwner
+pub mod WhoWaits

@@ -24,9 +24,9 @@ owed_releases : (o : Object) (w : Word) (n : ℕ) → was_owed_by o w n ≡ true
 owed_releases o word.Granted n t = (refl, omega arith)
 owed_releases o word.Left n t = (refl, by (is_lock o))
   where
-  by : (b : Bool) → 1 ≤ cond b 2 1
-  by true = omega arith
-  by false = omega arith
+    by : (b : Bool) → 1 ≤ cond b 2 1
+    by true = omega arith
+    by false = omega arith
 owed_releases o word.Lapse n t = (refl, omega arith)
 owed_releases o word.Back n t = (refl, omega arith)
 owed_releases o word.Gave n t = (refl, rw t (omega arith))
@@ -40,8 +40,8 @@ owed_has_room s e h known apart seat fits t =
     let r = owed_releases s.header.object e.word e.n t in
     le-leb _ _ (room _ _ _ _ _ _ (owed_known s e h known apart seat) r.0 r.1 fits)
   where
-  room : (before behind less more n cap : ℕ) → behind + less ≡ before + more → more ≡ 0 → 1 ≤ less → n + before ≤ cap → n + 1 + behind ≤ cap
-  room before behind less more n cap p q r f = omega (arith, p, q, r, f)
+    room : (before behind less more n cap : ℕ) → behind + less ≡ before + more → more ≡ 0 → 1 ≤ less → n + before ≤ cap → n + 1 + behind ≤ cap
+    room before behind less more n cap p q r f = omega (arith, p, q, r, f)
 
 -- what an answer leaves fits
 either_fits : {A : Type 0} (s : Start) (b : Bool) (p q : A × List Entry) → (b ≡ true → Fits s p.1) → Fits s q.1 → Fits s (cond b p q).1
@@ -51,16 +51,16 @@ either_fits s false p q f g = g
 recorded_fits : (s : Start) (h : List Entry) (e : Entry) → Fits s h → Fits s (recorded s h e).1
 recorded_fits s h e fits = either_fits s (has_room s h e) _ _ (λ t. sum _ _ _ (leb-true _ _ t)) fits
   where
-  sum : (n o c : ℕ) → n + 1 + o ≤ c → suc n + o ≤ c
-  sum n o c l = omega (arith, l)
+    sum : (n o c : ℕ) → n + 1 + o ≤ c → suc n + o ≤ c
+    sum n o c l = omega (arith, l)
 
 pub answer_fits : (s : Start) (h : List Entry) (i : ℕ) (step : Step) → Fits s h → Fits s (answer s h i step).1
 answer_fits s h i step fits = by (entry_for s h i step)
   where
-  by : (r : Result (Option Entry) Fault) → Fits s (answer_by s h r).1
-  by (Err fault) = fits
-  by (Ok None) = fits
-  by (Ok (Some e)) = recorded_fits s h e fits
+    by : (r : Result (Option Entry) Fault) → Fits s (answer_by s h r).1
+    by (Err fault) = fits
+    by (Ok None) = fits
+    by (Ok (Some e)) = recorded_fits s h e fits
 
 pub results_fit : (s : Start) (h : List Entry) (steps : List (ℕ × Step)) → Fits s h → Fits s (results s h steps).1
 results_fit s h [] fits = fits
@@ -78,11 +78,12 @@ nobody_owes (suc n) k = let ih = nobody_owes n k in omega (arith, ih)
 pub opening_fits : (k : Header) → Fits (opening k) []
 opening_fits k = none _ _ _ _ (by (is_lock k.object)) refl (nobody_owes k.conditions k)
   where
-  by : (b : Bool) → cond b (total k.seats (λ i. 0 + 0)) 0 ≡ 0
-  by true = total_same k.seats (λ i. 0 + 0) (λ i. 0) (λ i. refl) ∙ total_nothing k.seats
-  by false = refl
-  none : (a b c cap : ℕ) → a ≡ 0 → b ≡ 0 → c ≡ 0 → 0 + (a + b + c) ≤ cap
-  none a b c cap p q r = omega (arith, p, q, r)
+    by : (b : Bool) → cond b (total k.seats (λ i. 0 + 0)) 0 ≡ 0
+    by true = total_same k.seats (λ i. 0 + 0) (λ i. 0) (λ i. refl) ∙ total_nothing k.seats
+    by false = refl
+
+    none : (a b c cap : ℕ) → a ≡ 0 → b ≡ 0 → c ≡ 0 → 0 + (a + b + c) ≤ cap
+    none a b c cap p q r = omega (arith, p, q, r)
 
 pub owed_fits : (k : Header) (steps : List (ℕ × Step)) → Fits (opening k) (results (opening k) [] steps).1
 owed_fits k steps = results_fit (opening k) [] steps (opening_fits k)

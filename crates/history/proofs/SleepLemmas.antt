@@ -1,7 +1,7 @@
 -- What an entry makes of the sleepers, and what it leaves of the other seats.
-use Rattle.std.proofs.Common.{◌≡◌, ◌≢◌, ◌⊎◌, inl, inr, ⊎_elim, ℕ, zero, suc, ◌+◌, ◌<◌, ◌≤◌, Bool, true, false, ◌&&◌, ◌||◌, cond, eqb, List, [], ◌∷◌, ◌++◌, take, drop, Option, Some, None, refl, ap, ◌∙◌, sym, subst, arith}
+use Rattle.std.proofs.Common.{◌≡◌, ◌≢◌, ◌⊎◌, inl, inr, ⊎_elim, ℕ, zero, suc, ◌+◌, ◌<◌, ◌≤◌, Bool, true, false, ◌||◌, cond, eqb, List, [], ◌∷◌, ◌++◌, drop, Option, Some, None, refl, ap, ◌∙◌, sym, subst, arith}
 use Rattle.std.specs.List.{filter}
-use Rattle.std.proofs.lemmas.Bool.{cases_eq, cases_Bool, eq-eqb, ne_eqb, or_cases, or_parts}
+use Rattle.std.proofs.lemmas.Bool.{cases_eq, eq-eqb, ne_eqb, or_cases, or_parts}
 use Rattle.history.specs.declared.arrival.Arrival.{Arrival}
 use Rattle.history.specs.declared.entry.Entry.{Entry}
 use Rattle.history.specs.declared.entry.Mode.{Mode}
@@ -9,9 +9,9 @@ use Rattle.history.specs.declared.entry.Word.{Word}
 use Rattle.history.specs.declared.entry.Word.TheVariants as word
 use Rattle.history.specs.Counts.{held, total}
 use Rattle.history.specs.Line.{line, arrivals_by}
-use Rattle.history.specs.Phase.{Idle, Sleeping, phase, phase_by}
+use Rattle.history.specs.Phase.{Idle, Sleeping, phase_by}
 use Rattle.history.specs.Sleepers.{sleepers, sleepers_after, sleeps_below, last_sleep, has, without}
-use Rattle.history.specs.Start.{Start, Sleep}
+use Rattle.history.specs.Start.{Start}
 use Rattle.history.specs.Waiting.{times, seats_of, asleep, waiting}
 use Rattle.history.proofs.LineLemmas.{line_after, stays}
 use Rattle.history.proofs.Sums.{total_change, total_same}
@@ -55,10 +55,10 @@ pub sleepers_same : (s : Start) (e : Entry) (h : List Entry) (c : ℕ) → leave
     sleepers s (e ∷ h) c ≡ sleepers s h c
 sleepers_same s e h c t = by (eqb e.at c)
   where
-  by : (b : Bool) →
-      cond b (sleepers_after e.word e.seat e.n (sleepers s h c)) (sleepers s h c) ≡ sleepers s h c
-  by true = left_as_they_are e.word e.seat e.n (sleepers s h c) t
-  by false = refl
+    by : (b : Bool) →
+        cond b (sleepers_after e.word e.seat e.n (sleepers s h c)) (sleepers s h c) ≡ sleepers s h c
+    by true = left_as_they_are e.word e.seat e.n (sleepers s h c) t
+    by false = refl
 
 -- who sleeps after an entry slept before, or fell asleep by it
 fewer_has : (i : ℕ) (xs ys : List ℕ) → times i ys ≤ times i xs → has i ys ≡ true → has i xs ≡ true
@@ -69,9 +69,9 @@ has_after : (w : Word) (j n i : ℕ) (xs : List ℕ) → has i (sleepers_after w
 has_after word.Await j n i xs t =
     ⊎_elim (λ same. inr (refl, same))
     (λ ne.
-        let e = times-append i xs (j ∷ []) in
-        let o : one_if (eqb j i) ≡ 0 = ap one_if (ne_eqb j i ne) in
-        inl (fewer_has i xs (xs ++ j ∷ []) (omega (arith, e, o)) t))
+    let e = times-append i xs (j ∷ []) in
+    let o : one_if (eqb j i) ≡ 0 = ap one_if (ne_eqb j i ne) in
+    inl (fewer_has i xs (xs ++ j ∷ []) (omega (arith, e, o)) t))
     (cases_eq j i)
 has_after word.Signal j n i xs t =
     let e = times-take_drop i n xs in inl (fewer_has i xs (drop n xs) (omega (arith, e)) t)
@@ -79,25 +79,29 @@ has_after word.SignalAll j n i xs t = cc
 has_after word.Lapse j n i xs t =
     ⊎_elim
     (λ same.
-        let o = has_once i (without j xs) t in
-        let z : times i (without j xs) ≡ 0 = ap (λ k. times i (without k xs)) same ∙ times-without_same i xs in
-        absurd (omega (arith, o, z)))
+    let o = has_once i (without j xs) t in
+    let z : times i (without j xs) ≡ 0 = ap (λ k. times i (without k xs)) same
+    ∙ times-without_same i xs in
+    absurd (omega (arith, o, z)))
     (λ ne.
-        let e = times-without_other i j xs ne in
-        inl (fewer_has i xs (without j xs) (omega (arith, e)) t))
+    let e = times-without_other i j xs ne in
+    inl (fewer_has i xs (without j xs) (omega (arith, e)) t))
     (cases_eq j i)
 has_after _ j n i xs t = inl t
 
 pub slept_before : (s : Start) (e : Entry) (h : List Entry) (c i : ℕ) → has i (sleepers s (e ∷ h) c) ≡ true →
     (has i (sleepers s h c) ≡ true) ⊎ ((e.word ≡ word.Await) × (e.at ≡ c) × (e.seat ≡ i))
-slept_before s e h c i t = ⊎_elim here (λ ne. inl (subst (λ xs. has i xs ≡ true) (sleepers_other s e h c ne) t)) (cases_eq e.at c)
+slept_before s e h c i t = ⊎_elim here
+    (λ ne. inl (subst (λ xs. has i xs ≡ true) (sleepers_other s e h c ne) t)) (cases_eq e.at c)
   where
-  here : e.at ≡ c → (has i (sleepers s h c) ≡ true) ⊎ ((e.word ≡ word.Await) × (e.at ≡ c) × (e.seat ≡ i))
-  here same =
-    let u : has i (sleepers_after e.word e.seat e.n (sleepers s h c)) ≡ true =
-        subst (λ b. has i (cond b (sleepers_after e.word e.seat e.n (sleepers s h c)) (sleepers s h c)) ≡ true)
+    here : e.at ≡ c → (has i (sleepers s h c) ≡ true) ⊎ ((e.word ≡ word.Await) × (e.at ≡ c) × (e.seat ≡ i))
+    here same =
+        let u : has i (sleepers_after e.word e.seat e.n (sleepers s h c)) ≡ true =
+        subst (λ b. has i (cond b (sleepers_after e.word e.seat e.n (sleepers s h c)) (sleepers s h c)) ≡
+        true)
         (eq-eqb e.at c same) t in
-    ⊎_elim (λ old. inl old) (λ new. inr (new.0, same, new.1)) (has_after e.word e.seat e.n i (sleepers s h c) u)
+        ⊎_elim (λ old. inl old) (λ new. inr (new.0, same, new.1))
+        (has_after e.word e.seat e.n i (sleepers s h c) u)
 
 -- whether a seat sleeps, said by the lists
 pub sleeps_at : (c : ℕ) (s : Start) (h : List Entry) (i : ℕ) → sleeps_below c s h i ≡ true →
@@ -115,16 +119,17 @@ sleeps_there (suc c) s h i d l t =
     ⊎_elim (λ same. here same)
     (λ ne. later (sleeps_there c s h i d (omega (arith, ne, l)) t)) (cases_eq d c)
   where
-  here : d ≡ c → (has i (sleepers s h c) || sleeps_below c s h i) ≡ true
-  here same =
-    let u : has i (sleepers s h c) ≡ true = subst (λ x. has i (sleepers s h x) ≡ true) same t in
-    rw u refl
-  later : sleeps_below c s h i ≡ true → (has i (sleepers s h c) || sleeps_below c s h i) ≡ true
-  later u = by (has i (sleepers s h c))
-    where
-    by : (b : Bool) → (b || sleeps_below c s h i) ≡ true
-    by true = refl
-    by false = u
+    here : d ≡ c → (has i (sleepers s h c) || sleeps_below c s h i) ≡ true
+    here same =
+        let u : has i (sleepers s h c) ≡ true = subst (λ x. has i (sleepers s h x) ≡ true) same t in
+        rw u refl
+
+    later : sleeps_below c s h i ≡ true → (has i (sleepers s h c) || sleeps_below c s h i) ≡ true
+    later u = by (has i (sleepers s h c))
+      where
+        by : (b : Bool) → (b || sleeps_below c s h i) ≡ true
+        by true = refl
+        by false = u
 
 pub awake_nowhere : (c : ℕ) (s : Start) (h : List Entry) (i : ℕ) → sleeps_below c s h i ≡ false →
     total c (λ d. times i (sleepers s h d)) ≡ 0
@@ -156,7 +161,8 @@ times-asleep (suc c) s h i =
     omega (arith, e, d)
 
 pub times-waiting : (s : Start) (h : List Entry) (i : ℕ) →
-    times i (waiting s h) ≡ times i (seats_of (line s h)) + total s.header.conditions (λ c. times i (sleepers s h c))
+    times i (waiting s h) ≡ times i (seats_of (line s h)) + total s.header.conditions
+    (λ c. times i (sleepers s h c))
 times-waiting s h i =
     let e = times-append i (seats_of (line s h)) (asleep s.header.conditions s h) in
     let d = times-asleep s.header.conditions s h i in
@@ -164,7 +170,8 @@ times-waiting s h i =
 
 -- a line grows by no more than who arrives, and one condition alone changes
 pub times-line_after : (s : Start) (e : Entry) (h : List Entry) (i : ℕ) →
-    times i (seats_of (line s (e ∷ h))) ≤ times i (seats_of (line s h)) + times i (seats_of (arrivals_by s e.word e h))
+    times i (seats_of (line s (e ∷ h))) ≤ times i (seats_of (line s h)) + times i
+    (seats_of (arrivals_by s e.word e h))
 times-line_after s e h i =
     let l : times i (seats_of (line s (e ∷ h))) ≡ _ = ap (λ q. times i (seats_of q)) (line_after s e h) in
     let p = times-line i (filter (stays e.word e.seat) (line s h)) (arrivals_by s e.word e h) in

@@ -22,4 +22,5 @@ pub mod Room
 pub mod Answers
 pub mod Order
 pub mod Conservation
+pub mod Ownership
 pub mod Waiting
