@@ -11,16 +11,17 @@ use Rattle.history.specs.declared.step.Step.{Step}
 use Rattle.history.specs.Answers.{answer, answer_by, recorded, results}
 use Rattle.history.specs.Counts.{total}
 use Rattle.history.specs.Object.{is_lock}
-use Rattle.history.specs.Room.{Fits, has_room, holds_owe, owed, sleepers_owe, was_owed, was_owed_by}
+use Rattle.history.specs.Room.{released_by, reserved_by, Fits, has_room, holds_owe, owed, sleepers_owe, was_owed, was_owed_by}
 use Rattle.history.specs.Start.{Start, opening}
 use Rattle.history.specs.Steps.{entry_for}
 use Rattle.history.proofs.Entering.{Known}
 use Rattle.history.proofs.Sums.{total_same}
 use Rattle.history.proofs.OneWait.{Waits}
-use Rattle.history.proofs.Owing.{owed_known, released_by, releases, reserved_by, reserves}
+use Rattle.history.proofs.Owing.{owed_known}
 
 -- an entry that was owed reserves nothing, and releases itself
-owed_releases : (o : Object) (w : Word) (n : ℕ) → was_owed_by o w n ≡ true → (reserved_by o w ≡ 0) × (1 ≤ released_by o w n)
+owed_releases : (o : Object) (w : Word) (n : ℕ) → was_owed_by o w n ≡ true →
+    (reserved_by o w ≡ 0) × (1 ≤ released_by o w n)
 owed_releases o word.Granted n t = (refl, omega arith)
 owed_releases o word.Left n t = (refl, by (is_lock o))
   where
@@ -35,16 +36,19 @@ owed_releases o word.SignalAll n t = (refl, let l = ltb-true 0 n t in omega (ari
 owed_releases o _ n t = absurd (cc)
 
 -- an entry that was owed has room
-pub owed_has_room : (s : Start) (e : Entry) (h : List Entry) → Known s h e → Waits s h → e.seat < s.header.seats → Fits s h → was_owed s.header.object e ≡ true → has_room s h e ≡ true
+pub owed_has_room : (s : Start) (e : Entry) (h : List Entry) → Known s h e → Waits s h →
+    e.seat < s.header.seats → Fits s h → was_owed s.header.object e ≡ true → has_room s h e ≡ true
 owed_has_room s e h known apart seat fits t =
     let r = owed_releases s.header.object e.word e.n t in
     le-leb _ _ (room _ _ _ _ _ _ (owed_known s e h known apart seat) r.0 r.1 fits)
   where
-    room : (before behind less more n cap : ℕ) → behind + less ≡ before + more → more ≡ 0 → 1 ≤ less → n + before ≤ cap → n + 1 + behind ≤ cap
+    room : (before behind less more n cap : ℕ) → behind + less ≡ before + more → more ≡ 0 → 1 ≤ less →
+        n + before ≤ cap → n + 1 + behind ≤ cap
     room before behind less more n cap p q r f = omega (arith, p, q, r, f)
 
 -- what an answer leaves fits
-either_fits : {A : Type 0} (s : Start) (b : Bool) (p q : A × List Entry) → (b ≡ true → Fits s p.1) → Fits s q.1 → Fits s (cond b p q).1
+either_fits : {A : Type 0} (s : Start) (b : Bool) (p q : A × List Entry) → (b ≡ true → Fits s p.1) →
+    Fits s q.1 → Fits s (cond b p q).1
 either_fits s true p q f g = f refl
 either_fits s false p q f g = g
 
@@ -54,7 +58,8 @@ recorded_fits s h e fits = either_fits s (has_room s h e) _ _ (λ t. sum _ _ _ (
     sum : (n o c : ℕ) → n + 1 + o ≤ c → suc n + o ≤ c
     sum n o c l = omega (arith, l)
 
-pub answer_fits : (s : Start) (h : List Entry) (i : ℕ) (step : Step) → Fits s h → Fits s (answer s h i step).1
+pub answer_fits : (s : Start) (h : List Entry) (i : ℕ) (step : Step) → Fits s h →
+    Fits s (answer s h i step).1
 answer_fits s h i step fits = by (entry_for s h i step)
   where
     by : (r : Result (Option Entry) Fault) → Fits s (answer_by s h r).1
@@ -62,9 +67,11 @@ answer_fits s h i step fits = by (entry_for s h i step)
     by (Ok None) = fits
     by (Ok (Some e)) = recorded_fits s h e fits
 
-pub results_fit : (s : Start) (h : List Entry) (steps : List (ℕ × Step)) → Fits s h → Fits s (results s h steps).1
+pub results_fit : (s : Start) (h : List Entry) (steps : List (ℕ × Step)) → Fits s h →
+    Fits s (results s h steps).1
 results_fit s h [] fits = fits
-results_fit s h (first ∷ steps) fits = results_fit s (answer s h first.0 first.1).1 steps (answer_fits s h first.0 first.1 fits)
+results_fit s h (first ∷ steps) fits =
+    results_fit s (answer s h first.0 first.1).1 steps (answer_fits s h first.0 first.1 fits)
 
 pub total_nothing : (n : ℕ) → total n (λ i. 0) ≡ 0
 total_nothing zero = refl

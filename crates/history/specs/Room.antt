@@ -47,6 +47,31 @@ has_room s h e = nat_le (length h + 1 + owed s (e ∷ h)) s.header.cap
 abbrev pub Fits : Start → List Entry → Type 0
 Fits s h = length h + owed s h ≤ s.header.cap
 
+-- For how many entries more room is reserved by an entry, and what it releases. A hold of a lock is given
+-- back, an acquire in line takes or leaves and gives back, a sleeper lapses or is moved, and comes back.
+abbrev pub reserved_by : Object → Word → ℕ
+reserved_by o word.Got = if is_lock o then 1 else 0
+reserved_by o word.TryGot = if is_lock o then 1 else 0
+reserved_by o word.Queued = if is_lock o then 2 else 1
+reserved_by o word.Await = 2
+reserved_by o _ = 0
+
+abbrev pub released_by : Object → Word → ℕ → ℕ
+released_by o word.Granted n = 1
+released_by o word.Left n = if is_lock o then 2 else 1
+released_by o word.Gave n = if is_lock o then 1 else 0
+released_by o word.Lapse n = 1
+released_by o word.Signal n = n
+released_by o word.SignalAll n = n
+released_by o word.Back n = 1
+released_by o _ n = 0
+
+abbrev pub reserves : Object → Entry → ℕ
+reserves o e = reserved_by o e.word
+
+abbrev pub releases : Object → Entry → ℕ
+releases o e = released_by o e.word e.n
+
 -- The entries that were owed before they came: a hold of a lock is given back, one who waits goes on or
 -- leaves, and a signal moves somebody.
 abbrev pub was_owed_by : Object → Word → ℕ → Bool
