@@ -145,6 +145,12 @@ granted_allowed s h e a w seat stands is goes =
       could = subst (λ y. could (counts s h) e.seat e.mode y ≡ true) n (subst (λ y. could (counts s h) e.seat y a.n ≡ true) m goes);
     }
 
+-- what a seat saved, and that it holds nothing
+record Saves (s : Start) (h : List Entry) (j : ℕ) : Type 0 where
+  some : 1 ≤ (last_sleep s h j).holds
+  most : (last_sleep s h j).holds ≤ most_holds s.header.object
+  none_held : held s h j X ≡ 0
+
 back_allowed : (s : Start) (h : List Entry) (e : Entry) (a : Arrival) → Waits s h → e.seat < s.header.seats →
     place_of e.seat (line s h) ≡ Some a → a.back ≡ true → could (counts s h) e.seat a.mode a.n ≡ true →
     e ≡ back s h e.seat → IsRestorable (counts s h) e.seat e.n
@@ -161,11 +167,6 @@ back_allowed s h e a v seat stands returns goes is =
       some = let l = saved.some in omega (arith, l, n);
       most = let l = saved.most in omega (arith, l, n, limit);
     }
-  where
-  record Saves (s : Start) (h : List Entry) (j : ℕ) : Type 0 where
-    some : 1 ≤ (last_sleep s h j).holds
-    most : (last_sleep s h j).holds ≤ most_holds s.header.object
-    none_held : held s h j X ≡ 0
 
 allowed_by : (s : Start) (h : List Entry) (e : Entry) (w : Word) → Waits s h → e.seat < s.header.seats → e.word ≡ w →
     KnownBy s h e w → IsAllowed w (counts s h) e

@@ -1,4 +1,6 @@
 pub mod Deciding
 pub mod Seats
 pub mod Counting
-pub mod OneOwner
+pub mod Bounds
+pub mod Moving
+pub mod Stepping

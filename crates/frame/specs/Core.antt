@@ -30,17 +30,21 @@ pub record CoreView : Type 0 where
 abbrev pub start_of : CoreView → Start
 start_of v = opening v.header
 
+-- The line and the sleepers are those of the history.
+pub record Keeps (k : Header) (h : List Entry) (queue : Line) (waiters : Sleepers) : Type 0 where
+  pub line : queue.arrivals ≡ line (opening k) h
+  pub places : queue.seats ≡ k.seats
+  pub joins : queue.joined ≤ 65536 * length h
+  pub sleepers : (c : ℕ) → asleep_on waiters c ≡ sleepers (opening k) h c
+  pub conditions : waiters.conditions ≡ k.conditions
+  pub beds : waiters.seats ≡ k.seats
+
 -- The fields stand for the history: hooks, line, sleepers and seats are as its entries make them, and room is
 -- kept as it asks.
 pub record Stands (agrees : Counts → Type 0) (k : Header) (kept : HistoryView) (queue : Line) (waiters : Sleepers) (table : List Seat) : Type 0 where
   pub range : IsInRange k
   pub hooks : agrees (counts (opening k) kept.entries)
-  pub line : queue.arrivals ≡ line (opening k) kept.entries
-  pub places : queue.seats ≡ k.seats
-  pub joins : queue.joined ≤ 65536 * length kept.entries
-  pub sleepers : (c : ℕ) → asleep_on waiters c ≡ sleepers (opening k) kept.entries c
-  pub conditions : waiters.conditions ≡ k.conditions
-  pub beds : waiters.seats ≡ k.seats
+  pub waiting : Keeps k kept.entries queue waiters
   pub seats : length table ≡ k.seats
   pub tabled : (i : ℕ) → i < k.seats → slice_get table i ≡ Some (seat_of k.object kept.entries i)
   pub cap : kept.cap ≡ k.cap
@@ -58,7 +62,8 @@ pub record IsNext (v : CoreView) (e : Entry) : Type 0 where
 abbrev pub IsAdded : CoreView → Entry → Result (Unit {0}) Fault → CoreView → Type 0
 IsAdded old e (Ok u) new =
     (has_room (start_of old) old.entries e ≡ true) × (new ≡ record old { entries = e ∷ old.entries })
-IsAdded old e (Err HistoryFull) new = (has_room (start_of old) old.entries e ≡ false) × (new ≡ old)
+IsAdded old e (Err HistoryFull) new =
+    (has_room (start_of old) old.entries e ≡ false) × (was_owed old.header.object e ≡ false) × (new ≡ old)
 IsAdded old e (Err OutOfMemory) new =
     (has_room (start_of old) old.entries e ≡ true) × (was_owed old.header.object e ≡ false) × (new ≡ old)
 IsAdded old e (Err _) new = ⊥

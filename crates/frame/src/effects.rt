@@ -3,7 +3,7 @@
 ghost use Rattle.std.specs.Prelude.{◌≡◌};
 ghost use Rattle.history.specs.Counts.{Counts};
 ghost use Rattle.frame.specs.Effects.{IsAllowed, counts_after};
-ghost use Rattle.frame.specs.Reserve.{reserves, releases};
+ghost use Rattle.history.specs.Room.{reserves, releases};
 
 use crate::checks::is_lock;
 use crate::hooks::Hooks;

@@ -97,7 +97,7 @@ impl<H: Hooks + Drop> Core<H> {
         ensures kept { result ≡ seat_of self.now.header.object self.now.entries seat }
         ensures exclusive { result.exclusive ≡ held (start_of self.now) self.now.entries seat X }
         ensures shared { result.shared ≡ held (start_of self.now) self.now.entries seat S }
-        ensures owns { is_seat (owner (counts (start_of self.now) self.now.entries)) seat ≡ nat_lt 0 result.exclusive }
+        ensures owns { is_lock self.now.header.object ≡ true → is_seat (owner (counts (start_of self.now) self.now.entries)) seat ≡ nat_lt 0 result.exclusive }
         ensures sleep { sleep_of result.sleep ≡ last_sleep (start_of self.now) self.now.entries seat }
     {
         let _header = &self.header;

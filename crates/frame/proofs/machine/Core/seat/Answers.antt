@@ -6,7 +6,8 @@ use Rattle.history.specs.Start.{opening}
 use Rattle.frame.specs.declared.seat.Seat.{Seat}
 use Rattle.frame.specs.Core.{CoreView, start_of}
 use Rattle.frame.specs.Seat.{sleep_of}
-use Rattle.frame.proofs.OneOwner.{one_owner, owner_is}
+use Rattle.history.proofs.OneOwner.{owned}
+use Rattle.frame.proofs.Bounds.{owner_is}
 use Rattle.frame.proofs.Seats.{seat_held, seat_sleep}
 use Rattle.frame.proofs.machine.Core.seat.Goals as goal
 
@@ -25,7 +26,7 @@ returns-clause-owns g c =
     let legal : IsLegal (opening k) h = let P : CoreView → Type 0 = λ v. IsLegal (start_of v) v.entries in subst P c.self.view_is c.self.invariant.legal in
     let seated : AreSeated (opening k) h = let P : CoreView → Type 0 = λ v. AreSeated (start_of v) v.entries in subst P c.self.view_is c.self.invariant.seated in
     let same = ap (λ (x : Seat). x.exclusive) c.kept.ensures ∙ seat_held k h c.args.seat X in
-    owner_is (counts (opening k) h) c.args.seat c.requires (one_owner k h legal seated) ∙ ap (ltb 0) (sym same)
+    λ lock. owner_is (counts (opening k) h) c.args.seat c.requires (owned k h lock legal seated).one ∙ ap (ltb 0) (sym same)
 
 pub returns-clause-sleep : goal.returns-clause-sleep
 returns-clause-sleep g c =
