@@ -3,13 +3,16 @@ use Rattle.std.specs.Prelude.{◌≡◌, ◌⊎◌, ◌≤◌, ◌<◌, ℕ, ◌
 use Rattle.acquire_queue.specs.Line.{Line}
 use Rattle.condition_queue.specs.Sleepers.{Sleepers, asleep_on}
 use Rattle.history.specs.declared.entry.Entry.{Entry}
+use Rattle.history.specs.declared.entry.Mode.{Mode}
+use Rattle.history.specs.declared.entry.Word.TheVariants.{Refused}
 use Rattle.history.specs.declared.fault.Fault.{Fault}
 use Rattle.history.specs.declared.fault.Fault.TheVariants.{HistoryFull, OutOfMemory}
 use Rattle.history.specs.declared.header.Header.{Header}
 use Rattle.history.specs.declared.step.Answer.{Answer}
+use Rattle.history.specs.declared.step.Answer.TheVariants.{Recorded, Sleep}
 use Rattle.history.specs.declared.step.Step.{Step}
 use Rattle.history.specs.Answers.{answer, recorded}
-use Rattle.history.specs.Counts.{Counts, counts}
+use Rattle.history.specs.Counts.{Counts, counts, held}
 use Rattle.history.specs.Entries.{HistoryView}
 use Rattle.history.specs.Header.{IsInRange}
 use Rattle.history.specs.Legal.{IsLegal, AreSeated}
@@ -49,6 +52,7 @@ pub record Stands (agrees : Counts → Type 0) (k : Header) (kept : HistoryView)
   pub tabled : (i : ℕ) → i < k.seats → slice_get table i ≡ Some (seat_of k.object kept.entries i)
   pub cap : kept.cap ≡ k.cap
   pub owed : kept.owed ≡ owed (opening k) kept.entries
+  pub room : length kept.entries + kept.owed ≤ k.cap
   pub legal : IsLegal (opening k) kept.entries
   pub seated : AreSeated (opening k) kept.entries
 
@@ -87,6 +91,19 @@ abbrev pub IsRecorded : CoreView → Entry → Result Answer Fault → CoreView 
 IsRecorded old e r new =
     IsAnswer old (recorded (start_of old) old.entries e) r new
     ⊎ ((r ≡ Err OutOfMemory) × LacksMemory old (Ok (Some e)) new)
+
+-- a refusal is one entry more, and no holding has changed; a sleep changes nothing
+abbrev pub KeepsHolds : CoreView → Answer → CoreView → Type 0
+KeepsHolds old (Recorded e named) new =
+    (fault : Fault) → e.word ≡ Refused fault →
+    (new.entries ≡ e ∷ old.entries)
+    × ((i : ℕ) (m : Mode) → held (start_of old) new.entries i m ≡ held (start_of old) old.entries i m)
+KeepsHolds old Sleep new = new ≡ old
+
+-- the entry of a step was owed before it came
+abbrev pub MakesOwed : CoreView → ℕ → Step → Type 0
+MakesOwed v i step =
+    (e : Entry) × (entry_for (start_of v) v.entries i step ≡ Ok (Some e)) × (was_owed v.header.object e ≡ true)
 
 -- a step's answer, or want of memory
 abbrev pub IsAnswered : CoreView → ℕ → Step → Result Answer Fault → CoreView → Type 0

@@ -1,6 +1,6 @@
 //! What the core keeps of each seat.
 
-ghost use Rattle.std.specs.Prelude.{◌≡◌, ◌+◌, ◌<◌, ◌^◌};
+ghost use Rattle.std.specs.Prelude.{◌≡◌, ◌+◌, ◌<◌, ◌^◌, length, slice_index_or, slice_set};
 ghost use Rattle.history.specs.Counts.{holds_after};
 ghost use Rattle.history.specs.Object.{in_holds};
 ghost use Rattle.frame.specs.Seat.{sleep_behind, seat_after, no_holds, holds_in};
@@ -114,4 +114,15 @@ fn in_holds(object: Object, n: u32) -> u64
         Object::Semaphore(_, _) => u64::from(n),
         Object::Latch(_) => 0,
     }
+}
+
+/// Has a table of seats tell what an entry makes of its seat.
+pub fn update(seats: &mut Vec<Seat>, object: Object, entry: Entry)
+    requires seat { entry.seat < length seats.old.items }
+    requires exclusive { (seat_after object entry (slice_index_or seats.old.items entry.seat no_holds)).exclusive < 2 ^ 32 }
+    requires shared { (seat_after object entry (slice_index_or seats.old.items entry.seat no_holds)).shared < 2 ^ 64 }
+    ensures { seats.new.items ≡ slice_set seats.old.items entry.seat (seat_after object entry (slice_index_or seats.old.items entry.seat no_holds)) }
+{
+    let seat = &mut seats[entry.seat as usize];
+    *seat = seat.after(object, entry);
 }
