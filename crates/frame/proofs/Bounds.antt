@@ -1,16 +1,23 @@
 -- Who owns, and that what is held fits.
-use Rattle.std.proofs.Common.{◌≡◌, ◌≢◌, ◌⊎◌, ⊎_elim, ℕ, zero, suc, ◌+◌, ◌-◌, ◌*◌, ◌<◌, ◌≤◌, Bool, true, false, ◌&&◌, cond, eqb, ltb, List, [], ◌∷◌, length, Option, Some, None, refl, ap, ◌∙◌, sym, subst, arith}
+use Rattle.std.proofs.Common.{◌≡◌, ◌≢◌, ◌⊎◌, ⊎_elim, ℕ, zero, suc, ◌+◌, ◌-◌, ◌*◌, ◌<◌, ◌≤◌, Bool, true, false, ◌&&◌, cond, eqb, ltb, List, [], ◌∷◌, length, Option, Some, None, refl, ap, ◌∙◌, sym, subst, arith, ℤ, pos, ◌≤ℤ◌}
 use Rattle.std.proofs.lemmas.Bool.{cases_eq, eq-eqb, ne_eqb, lt-ltb, le-ltb}
 use Rattle.history.specs.declared.entry.Entry.{Entry}
 use Rattle.history.specs.declared.entry.Mode.{Mode}
 use Rattle.history.specs.declared.entry.Mode.TheVariants.{X, S}
 use Rattle.history.specs.declared.entry.Word.{Word}
 use Rattle.history.specs.declared.entry.Word.TheVariants as word
+use Rattle.std.specs.Prelude.{FitsSigned}
+use Rattle.std.specs.Int.{w32, w64}
+use Rattle.std.proofs.lemmas.Int.{to_z-of_z}
+use mir.Val.{to_z, of_z}
 use Rattle.history.specs.declared.header.Header.{Header}
+use Rattle.history.specs.declared.header.Policy.{Policy}
+use Rattle.history.specs.Faults.{max_amount}
+use Rattle.frame.specs.Hooks.{level_of, level_by}
 use Rattle.history.specs.declared.header.Object.{Object}
 use Rattle.history.specs.declared.header.Object.TheVariants.{Lock, ReadWrite, Semaphore, Latch}
 use Rattle.history.specs.Could.{could, could_of, is_seat}
-use Rattle.history.specs.Counts.{Counts, counts, held, holds_after, owner, total}
+use Rattle.history.specs.Counts.{Counts, counts, free, held, holds_after, owner, total}
 use Rattle.history.specs.Entry.{same_mode}
 use Rattle.history.specs.Header.{IsInRange}
 use Rattle.history.specs.Legal.{IsLegal, AreSeated}
@@ -21,7 +28,7 @@ use Rattle.history.proofs.Entering.{Known, KnownBy, known}
 use Rattle.history.proofs.OneOwner.{owned}
 use Rattle.history.proofs.OneWait.{Waits, waits}
 use Rattle.history.proofs.Owners.{owner_holds, nobody_holds}
-use Rattle.history.proofs.Permits.{held_at_most}
+use Rattle.history.proofs.Permits.{held_at_most, free_fits, free_at_most}
 use Rattle.history.proofs.Times.{total_part}
 use Rattle.history.proofs.WhoWaits.{comes_back}
 use Rattle.frame.specs.Effects.{IsAllowed}
@@ -172,3 +179,19 @@ shared_fits k h range legal seated i l = by (is_lock k.object) (is_semaphore k.o
   by false true t u = let m = held_at_most k h range u legal i S in omega (arith, m)
   by false false t u =
     let z = held_nothing k S (no_shared (opening k) (latch k.object t u)) h legal seated i in omega (arith, z)
+
+-- the free permits that the hooks of a semaphore count
+level_free : (k : Header) (h : List Entry) (p : Policy) (n : ℤ) → k.object ≡ Semaphore p n → level_of (counts (opening k) h) ≡ free (opening k) h
+level_free k h p n q = ap (λ o. level_by o (counts (opening k) h)) q
+
+wide : (z : ℤ) → FitsSigned w32 z → FitsSigned w64 z
+wide z f = let l = f.sfits in record { sfits = omega (arith, l) }
+
+pub level_most : (k : Header) (h : List Entry) (p : Policy) (n z : ℤ) → IsInRange k → IsLegal (opening k) h → k.object ≡ Semaphore p n →
+    z ≡ level_of (counts (opening k) h) → to_z w64 (of_z w64 z) ≤ℤ pos max_amount
+level_most k h p n z range legal q is =
+    let same : z ≡ free (opening k) h = is ∙ level_free k h p n q in
+    let t : is_semaphore k.object ≡ true = ap is_semaphore q in
+    let fits : FitsSigned w32 z = subst (FitsSigned w32) (sym same) (free_fits k h range t legal) in
+    let most : z ≤ℤ pos max_amount = subst (λ x. x ≤ℤ pos max_amount) (sym same) (free_at_most k h range t legal) in
+    subst (λ x. x ≤ℤ pos max_amount) (sym (to_z-of_z w64 z (wide z fits))) most

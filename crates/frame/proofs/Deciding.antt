@@ -6,20 +6,23 @@ use Rattle.history.specs.declared.entry.Entry.{Entry}
 use Rattle.history.specs.declared.fault.Fault.{Fault}
 use Rattle.history.specs.declared.fault.Fault.TheVariants as fault
 use Rattle.history.specs.declared.step.Step.{Step}
-use Rattle.history.specs.Could.{could}
+use Rattle.history.specs.Could.{could, is_seat}
 use Rattle.history.specs.Counts.{Counts}
 use Rattle.history.specs.Faults.{is_wrong_mode, is_no_condition, is_bad_amount}
-use Rattle.history.specs.Naming.{ready_by}
+use Rattle.history.specs.Naming.{ready, ready_by}
 use Rattle.history.specs.Line.{line, place_of}
 use Rattle.history.specs.Phase.{Phase, Idle, InLine, Sleeping, phase, phase_by, suits}
 use Rattle.history.specs.Sleepers.{sleepers, has, sleeps_below}
 use Rattle.history.specs.Start.{Start}
 use Rattle.condition_queue.specs.declared.sleeper.Sleeper.{Sleeper}
 use Rattle.condition_queue.specs.Sleepers.{Sleepers, asleep_on, sleeps_on}
+use Rattle.history.proofs.Entering.{by_phase}
 use Rattle.history.proofs.OneWait.{Waits}
 use Rattle.history.proofs.SleepLemmas.{sleeps_at, sleeps_there}
 use Rattle.std.proofs.lemmas.Bool.{eq-eqb}
-use Rattle.history.specs.Steps.{entry_for, phase_entry}
+use Rattle.history.specs.declared.step.Step.TheVariants.{Acquire, Try, TryFair, EntryInterrupt, Give, Look, Expire, Interrupt, Await, Signal, SignalAll, Drain}
+use Rattle.history.specs.Steps.{entry_for, phase_entry, idle_entry, sleeping_entry, queued_entry, back}
+use Rattle.frame.specs.Core.{CoreView, start_of, IsNext}
 use Rattle.frame.specs.Checks.{refused_as, in_phase}
 
 refused_by : {A : Type 0} (a b c : Bool) (r : Result A Fault) (f : Fault) →
@@ -127,3 +130,62 @@ sleeps_is s h i w (Some x) v lists listed =
     let on = v.sleepers x.condition i t in
     let below : x.condition < s.header.conditions = let l = on.saved.condition in let d = on.condition in omega (arith, l, d) in
     sym (sleeps_there s.header.conditions s h i x.condition below t)
+
+-- the entry of a step is of its seat
+chosen_seat : (i : ℕ) (b : Bool) (x y : Entry) → x.seat ≡ i → y.seat ≡ i → (cond b x y).seat ≡ i
+chosen_seat i true x y p q = p
+chosen_seat i false x y p q = q
+
+idle_seat : (s : Start) (h : List Entry) (i : ℕ) (step : Step) → (idle_entry s h i step).seat ≡ i
+idle_seat s h i (Await c) = chosen_seat i _ _ _ refl (chosen_seat i _ _ _ refl refl)
+idle_seat s h i (Signal c) = chosen_seat i _ _ _ refl refl
+idle_seat s h i (SignalAll c) = chosen_seat i _ _ _ refl refl
+idle_seat s h i (Acquire m n) = refl
+idle_seat s h i (Try m n) = refl
+idle_seat s h i (TryFair m n) = refl
+idle_seat s h i (EntryInterrupt m n) = refl
+idle_seat s h i (Give m n) = refl
+idle_seat s h i Drain = refl
+idle_seat s h i Look = refl
+idle_seat s h i Expire = refl
+idle_seat s h i Interrupt = refl
+
+same_seat : (i : ℕ) (x e : Entry) → x.seat ≡ i → Some x ≡ Some e → e.seat ≡ i
+same_seat i x e p q = let same : x ≡ e = cc in ap (λ (y : Entry). y.seat) (sym same) ∙ p
+
+line_seat : (s : Start) (h : List Entry) (i : ℕ) (a : Arrival) (step : Step) (e : Entry) (comes goes : Bool) →
+    cond comes (cond goes (Some (back s h i)) None) (queued_entry goes i a step) ≡ Some e → e.seat ≡ i
+line_seat s h i a step e true true q = same_seat i _ e refl q
+line_seat s h i a step e true false q = cc
+line_seat s h i a Look e false true q = same_seat i _ e refl q
+line_seat s h i a Look e false false q = cc
+line_seat s h i a Expire e false true q = same_seat i _ e refl q
+line_seat s h i a Expire e false false q = same_seat i _ e refl q
+line_seat s h i a Interrupt e false true q = same_seat i _ e refl q
+line_seat s h i a Interrupt e false false q = same_seat i _ e refl q
+line_seat s h i a _ e false true q = cc
+line_seat s h i a _ e false false q = cc
+
+sleeping_seat : (s : Start) (h : List Entry) (i : ℕ) (step : Step) (e : Entry) → sleeping_entry s h i step ≡ Some e → e.seat ≡ i
+sleeping_seat s h i Expire e q = same_seat i _ e refl q
+sleeping_seat s h i Interrupt e q = same_seat i _ e refl q
+sleeping_seat s h i _ e q = cc
+
+phase_seat : (s : Start) (h : List Entry) (i : ℕ) (step : Step) (e : Entry) (p : Phase) → phase_entry s h i step p ≡ Some e → e.seat ≡ i
+phase_seat s h i step e Idle q = same_seat i (idle_entry s h i step) e (idle_seat s h i step) q
+phase_seat s h i step e (InLine a) q = line_seat s h i a step e a.back (is_seat (ready s h) i) q
+phase_seat s h i step e Sleeping q = sleeping_seat s h i step e q
+
+pub entry_seat : (s : Start) (h : List Entry) (i : ℕ) (step : Step) (e : Entry) → entry_for s h i step ≡ Ok (Some e) → e.seat ≡ i
+entry_seat s h i step e q = phase_seat s h i step e (phase s h i) (by_phase s h i step e q)
+
+-- so the entry that a step makes may be added now
+pub step_next : (v : CoreView) (i : ℕ) (step : Step) (e : Entry) → i < v.header.seats →
+    entry_for (start_of v) v.entries i step ≡ Ok (Some e) → IsNext v e
+step_next v i step e l q =
+    let same : i ≡ e.seat = sym (entry_seat (start_of v) v.entries i step e q) in
+    record {
+      seat = omega (arith, l, same);
+      step = step;
+      made = subst (λ j. entry_for (start_of v) v.entries j step ≡ Ok (Some e)) same q;
+    }

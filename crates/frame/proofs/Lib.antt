@@ -4,3 +4,4 @@ pub mod Counting
 pub mod Bounds
 pub mod Moving
 pub mod Stepping
+pub mod Recording

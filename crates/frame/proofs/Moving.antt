@@ -1,10 +1,11 @@
 -- What an entry makes of those who wait, and that they are as it needs them.
 use Rattle.std.proofs.Common.{◌≡◌, ◌⊎◌, ⊎_elim, ℕ, zero, suc, ◌+◌, ◌*◌, ◌^◌, ◌<◌, ◌≤◌, Bool, true, false, not, ◌&&◌, cond, eqb, List, [], ◌∷◌, ◌++◌, length, map, take, Option, Some, None, refl, ap, ◌∙◌, sym, subst, arith}
 use Rattle.std.specs.List.{filter}
-use Rattle.std.proofs.lemmas.Bool.{cases_eq, cases_lt}
+use Rattle.std.proofs.lemmas.Bool.{cases_eq, cases_lt, eq-eqb, false≢true}
 use Rattle.std.proofs.lemmas.List.{append-nil, length-append}
 use Rattle.acquire_queue.specs.Line.{Line}
-use Rattle.condition_queue.specs.Sleepers.{Sleepers, asleep_on}
+use Rattle.condition_queue.specs.declared.sleeper.Sleeper.{Sleeper}
+use Rattle.condition_queue.specs.Sleepers.{Sleepers, asleep_on, sleeper_of, sleeps_on}
 use Rattle.history.specs.declared.entry.Entry.{Entry}
 use Rattle.history.specs.declared.entry.Word.{Word}
 use Rattle.history.specs.declared.entry.Word.TheVariants as word
@@ -174,3 +175,11 @@ keeps_next k h e queue queue' waiters waiters' kept arrivals lists joined places
       conditions = conditions ∙ kept.conditions;
       beds = beds ∙ kept.beds;
     }
+
+-- who sleeps on no condition is awake
+pub awake_none : (w : Sleepers) (i : ℕ) (r : Option Sleeper) → r ≡ sleeper_of w i →
+    ((c : ℕ) → has i (asleep_on w c) ≡ false) → ((c : ℕ) → has i (asleep_on w c) ≡ sleeps_on c r) → sleeper_of w i ≡ None
+awake_none w i None is awake listed = sym is
+awake_none w i (Some x) is awake listed =
+    let t : true ≡ false = sym (eq-eqb x.condition x.condition refl) ∙ sym (listed x.condition) ∙ awake x.condition in
+    absurd (false≢true (sym t))

@@ -1,7 +1,7 @@
 -- What stands for a history stands for it with one entry more.
-use Rattle.std.proofs.Common.{◌≡◌, ◌≢◌, ◌⊎◌, ⊎_elim, ℕ, zero, suc, ◌+◌, ◌-◌, ◌*◌, ◌^◌, ◌<◌, ◌≤◌, Bool, true, false, cond, eqb, List, [], ◌∷◌, length, get_or, set, Option, Some, None, Result, Ok, Err, refl, ap, ◌∙◌, sym, subst, arith}
-use Rattle.std.specs.Prelude.{slice_get, IsOk}
-use Rattle.std.proofs.lemmas.Bool.{cases_eq, eq-eqb, ne_eqb, le-leb, lt-leb, ltb-true, cond_both}
+use Rattle.std.proofs.Common.{◌≡◌, ◌≢◌, ◌⊎◌, ⊎_elim, ◌↔◌, ℕ, zero, suc, ◌+◌, ◌-◌, ◌*◌, ◌^◌, ◌<◌, ◌≤◌, Bool, true, false, cond, eqb, List, [], ◌∷◌, length, get_or, set, Option, Some, None, Result, Ok, Err, refl, ap, ◌∙◌, sym, subst, arith}
+use Rattle.std.specs.Prelude.{slice_get}
+use Rattle.std.proofs.lemmas.Bool.{cases_eq, eq-eqb, ne_eqb, le-leb, lt-leb, ltb-true, cond_both, cases_lt, false≢true}
 use Rattle.std.proofs.lemmas.List.{length-set, get_or-set_same, get_or-set_other}
 use Rattle.std.proofs.lemmas.Option.{slice_get-get_or, get_or_from_slice_get}
 use Rattle.acquire_queue.specs.Line.{Line}
@@ -141,48 +141,87 @@ needs k h e was more less n p q r =
           omega (arith, p, q, r, x, y);
     }
 
--- no room, or no memory
-pub no_room : (v : CoreView) (e : Entry) (was more less len places : ℕ) → Needs v.header v.entries e was more less →
-    len ≡ length v.entries → len + was ≤ places →
-    (len + was + ((was + more - less + 1) - was) ≤ places → ⊥) →
-    v.header.cap < len + was + ((was + more - less + 1) - was) → IsAdded v e (Err fault.HistoryFull) v
-no_room v e was more less len places n p room never full =
-    let o = n.owed in
-    (lt-leb _ _ (omega (arith, p, room, o, full, some never)), not_owed, refl)
-  where
-  some : (len + was + ((was + more - less + 1) - was) ≤ places → ⊥) → 0 < (was + more - less + 1) - was
-  some never = by ((was + more - less + 1) - was) never
-    where
-    by : (m : ℕ) → (len + was + m ≤ places → ⊥) → 0 < m
-    by zero f = absurd (f (omega (arith, room)))
-    by (suc m) f = omega arith
-  not_owed : was_owed v.header.object e ≡ false
-  not_owed = by (was_owed v.header.object e) refl
-    where
-    by : (b : Bool) → was_owed v.header.object e ≡ b → b ≡ false
-    by false t = refl
-    by true t = let z = n.none t in let s = some never in absurd (omega (arith, z, s))
+-- room was asked for, and refused
+asks_more : (m len was places : ℕ) → len + was ≤ places → (len + was + m ≤ places → ⊥) → 0 < m
+asks_more zero len was places room f = absurd (f (omega (arith, room)))
+asks_more (suc m) len was places room f = omega arith
 
-pub no_memory : (v : CoreView) (e : Entry) (was more less len places : ℕ) → Needs v.header v.entries e was more less →
-    len ≡ length v.entries → len + was ≤ places →
-    (len + was + ((was + more - less + 1) - was) ≤ places → ⊥) →
-    len + was + ((was + more - less + 1) - was) ≤ v.header.cap → IsAdded v e (Err fault.OutOfMemory) v
-no_memory v e was more less len places n p room never fits =
-    let o = n.owed in
-    (le-leb _ _ (omega (arith, p, room, o, fits, some never)), not_owed, refl)
+not_owed : (k : Header) (h : List Entry) (e : Entry) (was more less : ℕ) → Needs k h e was more less →
+    0 < (was + more - less + 1) - was → was_owed k.object e ≡ false
+not_owed k h e was more less n some = by (was_owed k.object e) refl
   where
-  some : (len + was + ((was + more - less + 1) - was) ≤ places → ⊥) → 0 < (was + more - less + 1) - was
-  some never = by ((was + more - less + 1) - was) never
-    where
-    by : (m : ℕ) → (len + was + m ≤ places → ⊥) → 0 < m
-    by zero f = absurd (f (omega (arith, room)))
-    by (suc m) f = omega arith
-  not_owed : was_owed v.header.object e ≡ false
-  not_owed = by (was_owed v.header.object e) refl
-    where
-    by : (b : Bool) → was_owed v.header.object e ≡ b → b ≡ false
-    by false t = refl
-    by true t = let z = n.none t in let s = some never in absurd (omega (arith, z, s))
+  by : (b : Bool) → was_owed k.object e ≡ b → b ≡ false
+  by false t = refl
+  by true t = let z = n.none t in absurd (omega (arith, z, some))
+
+pub refused : (k : Header) (e : Entry) (f : Fault) (kept kept' : HistoryView) (was more less needed : ℕ) →
+    Needs k kept.entries e was more less → kept.cap ≡ k.cap → was ≡ kept.owed →
+    length kept.entries + was ≤ kept.places → needed ≡ (was + more - less + 1) - was →
+    ((◌≡◌ {A = Result (Unit {0}) Fault} (Err f) (Err fault.HistoryFull)) ↔ (kept.cap < length kept.entries + kept.owed + needed)) →
+    (f ≡ fault.HistoryFull) ⊎ (f ≡ fault.OutOfMemory) →
+    (length kept.entries + kept.owed + needed ≤ kept.places → (◌≡◌ {A = Bool} false true) × (kept' ≡ kept)) → kept' ≡ kept →
+    IsAdded (record { header = k; entries = kept.entries }) e (Err f) (record { header = k; entries = kept'.entries })
+refused k e f kept kept' was more less needed n cap is room q full which reserved same = ⊎_elim no_room no_memory which
+  where
+  v : CoreView
+  v = record { header = k; entries = kept.entries }
+  w : CoreView
+  w = record { header = k; entries = kept'.entries }
+  unchanged : w ≡ v
+  unchanged = ap (λ (y : HistoryView). (let u : CoreView = record { header = k; entries = y.entries } in u)) same
+  some : 0 < (was + more - less + 1) - was
+  some =
+    asks_more _ (length kept.entries) was kept.places room
+    (λ l. let z = (reserved (omega (arith, l, is, q))).0 in false≢true z)
+  P : Fault → Type 0
+  P g = IsAdded v e (Err g) w
+  no_room : f ≡ fault.HistoryFull → P f
+  no_room p =
+    let o = n.owed in
+    let err : Fault → Result (Unit {0}) Fault = λ x. Err x in
+    let over = full.0 (ap err p) in
+    let here : P fault.HistoryFull =
+        (lt-leb _ _ (omega (arith, is, room, o, over, some, q, cap)), not_owed k kept.entries e was more less n some, unchanged) in
+    subst P (sym p) here
+  no_memory : f ≡ fault.OutOfMemory → P f
+  no_memory p =
+    let o = n.owed in
+    let fits : length kept.entries + kept.owed + needed ≤ kept.cap =
+        ⊎_elim
+        (λ (over : kept.cap < length kept.entries + kept.owed + needed).
+            let z = full.1 over in let d : fault.OutOfMemory ≡ fault.HistoryFull = cc in absurd (cc))
+        (λ l. l)
+        (cases_lt kept.cap (length kept.entries + kept.owed + needed)) in
+    let here : P fault.OutOfMemory =
+        (le-leb _ _ (omega (arith, is, room, o, fits, some, q, cap)), not_owed k kept.entries e was more less n some, unchanged) in
+    subst P (sym p) here
+
+-- room was asked for, and is there
+pub fitted : (k : Header) (e : Entry) (kept mid : HistoryView) (was more less needed : ℕ) →
+    Needs k kept.entries e was more less → was ≡ kept.owed → needed ≡ (was + more - less + 1) - was →
+    length mid.entries + mid.owed + needed ≤ mid.cap → mid ≡ record kept { places = mid.places } → kept.cap ≡ k.cap →
+    length kept.entries + 1 + (was + more - less) ≤ k.cap
+fitted k e kept mid was more less needed n is q fits same cap =
+    let a : length mid.entries ≡ length kept.entries = ap (λ (y : HistoryView). length y.entries) same in
+    let b : mid.owed ≡ kept.owed = ap (λ (y : HistoryView). y.owed) same in
+    let c : mid.cap ≡ kept.cap = ap (λ (y : HistoryView). y.cap) same in
+    omega (arith, is, q, fits, cap, a, b, c)
+
+-- what an entry added makes of the history
+pub added : (kept mid new : HistoryView) (e : Entry) (o : ℕ) → mid ≡ record kept { places = mid.places } →
+    new ≡ record mid { entries = e ∷ mid.entries; owed = o } → (new.entries ≡ e ∷ kept.entries) × (new.cap ≡ kept.cap) × (new.owed ≡ o)
+added kept mid new e o same is = (
+    ap (λ (y : HistoryView). y.entries) is ∙ ap (λ (y : HistoryView). e ∷ y.entries) same,
+    ap (λ (y : HistoryView). y.cap) is ∙ ap (λ (y : HistoryView). y.cap) same,
+    ap (λ (y : HistoryView). y.owed) is,
+)
+
+pub is_added : (k : Header) (e : Entry) (u : Unit {0}) (kept new : HistoryView) (was more less : ℕ) → Needs k kept.entries e was more less →
+    length kept.entries + 1 + (was + more - less) ≤ k.cap → new.entries ≡ e ∷ kept.entries →
+    IsAdded (record { header = k; entries = kept.entries }) e (Ok u) (record { header = k; entries = new.entries })
+is_added k e u kept new was more less n fits entries =
+    let o = n.owed in
+    (le-leb _ _ (omega (arith, fits, o)), ap (λ g. (let w : CoreView = record { header = k; entries = g } in w)) entries)
 
 -- all that is kept
 pub stands_next : (agrees agrees' : Counts → Type 0) (k : Header) (kept kept' : HistoryView) (queue queue' : Line)

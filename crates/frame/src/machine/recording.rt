@@ -41,6 +41,9 @@ impl<H: Hooks + Drop> Core<H> {
     fn record(&mut self, entry: Entry) -> Result<Answer, Fault>
         requires { IsNext self.old entry }
         ensures recorded { IsRecorded self.old entry result self.new }
+        ensures header { self.new.header ≡ self.old.header }
+        ensures fault { OnErr result (self.new ≡ self.old) }
+        ensures refused { IfOk result (λ answer. KeepsHolds self.old answer self.new) }
         ensures owed { was_owed self.old.header.object entry ≡ true → IsOk result }
     {
         let before = self.ready();
