@@ -5,3 +5,5 @@ pub mod Bounds
 pub mod Moving
 pub mod Stepping
 pub mod Recording
+pub mod Owners
+pub mod Tables

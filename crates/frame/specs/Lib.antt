@@ -5,3 +5,4 @@ pub mod Effects
 pub mod Waiting
 pub mod Observed
 pub mod Core
+pub mod Owners

@@ -2,6 +2,8 @@ pub mod Numbers
 pub mod Splits
 pub mod Plain
 pub mod PartLemmas
+pub mod Readers
+pub mod EntryAgain
 pub mod Breaks
 pub mod Writing
 pub mod Lists
@@ -19,3 +21,5 @@ pub mod RoomLemmas
 pub mod Permits
 pub mod OneOwner
 pub mod WhoWaits
+pub mod Passing
+pub mod Answering

@@ -1,6 +1,6 @@
 -- Room: what was owed has it, and what is answered keeps it.
-use Rattle.std.proofs.Common.{◌≡◌, ℕ, zero, suc, ◌+◌, ◌<◌, ◌≤◌, Bool, true, false, cond, leb, ltb, List, [], ◌∷◌, length, Option, Some, None, Result, Ok, Err, refl, ap, ◌∙◌, sym, subst, arith}
-use Rattle.std.proofs.lemmas.Bool.{cases_Bool, le-leb, leb-true, ltb-true}
+use Rattle.std.proofs.Common.{◌≡◌, ℕ, zero, suc, ◌+◌, ◌<◌, ◌≤◌, Bool, true, false, cond, List, [], ◌∷◌, Option, Some, None, Result, Ok, Err, refl, ◌∙◌, arith}
+use Rattle.std.proofs.lemmas.Bool.{le-leb, leb-true, ltb-true}
 use Rattle.history.specs.declared.entry.Entry.{Entry}
 use Rattle.history.specs.declared.entry.Word.{Word}
 use Rattle.history.specs.declared.entry.Word.TheVariants as word
@@ -10,13 +10,14 @@ use Rattle.history.specs.declared.header.Object.{Object}
 use Rattle.history.specs.declared.step.Step.{Step}
 use Rattle.history.specs.Answers.{answer, answer_by, recorded, results}
 use Rattle.history.specs.Counts.{total}
+use Rattle.history.specs.Legal.{AreSeated, IsLegal}
 use Rattle.history.specs.Object.{is_lock}
-use Rattle.history.specs.Room.{released_by, reserved_by, Fits, has_room, holds_owe, owed, sleepers_owe, was_owed, was_owed_by}
+use Rattle.history.specs.Room.{released_by, reserved_by, Fits, has_room, sleepers_owe, was_owed, was_owed_by}
 use Rattle.history.specs.Start.{Start, opening}
 use Rattle.history.specs.Steps.{entry_for}
-use Rattle.history.proofs.Entering.{Known}
+use Rattle.history.proofs.Entering.{Known, known}
 use Rattle.history.proofs.Sums.{total_same}
-use Rattle.history.proofs.OneWait.{Waits}
+use Rattle.history.proofs.OneWait.{Waits, waits}
 use Rattle.history.proofs.Owing.{owed_known}
 
 -- an entry that was owed reserves nothing, and releases itself
@@ -45,6 +46,13 @@ owed_has_room s e h known apart seat fits t =
     room : (before behind less more n cap : ℕ) → behind + less ≡ before + more → more ≡ 0 → 1 ≤ less →
         n + before ≤ cap → n + 1 + behind ≤ cap
     room before behind less more n cap p q r f = omega (arith, p, q, r, f)
+
+-- and so has one of a legal history
+pub never_lacking : (k : Header) (e : Entry) (h : List Entry) → IsLegal (opening k) (e ∷ h) →
+    AreSeated (opening k) (e ∷ h) → Fits (opening k) h → was_owed k.object e ≡ true →
+    has_room (opening k) h e ≡ true
+never_lacking k e h legal seats =
+    owed_has_room (opening k) e h (known (opening k) h legal.0.0 e legal.0.1) (waits k h legal.1) seats.0
 
 -- what an answer leaves fits
 either_fits : {A : Type 0} (s : Start) (b : Bool) (p q : A × List Entry) → (b ≡ true → Fits s p.1) →

@@ -1,5 +1,5 @@
 -- The words that spell an entry behind its seat.
-use Rattle.std.specs.Prelude.{◌≡◌, ℕ, List, [], ◌∷◌, codes, decimal}
+use Rattle.std.specs.Prelude.{◌≡◌, ◌≤◌, ℕ, List, [], ◌∷◌, codes, decimal}
 use Rattle.history.specs.declared.entry.Entry.{Entry}
 use Rattle.history.specs.declared.entry.Mode.{Mode}
 use Rattle.history.specs.declared.entry.Mode.TheVariants.{X, S}
@@ -7,9 +7,7 @@ use Rattle.history.specs.declared.entry.End.{End}
 use Rattle.history.specs.declared.entry.End.TheVariants as end
 use Rattle.history.specs.declared.entry.Word.{Word}
 use Rattle.history.specs.declared.entry.Word.TheVariants as word
-use Rattle.history.specs.declared.fault.Fault.{Fault}
 use Rattle.history.specs.Fault.{fault_name, IsRecorded}
-use Rattle.history.specs.Text.{line_of}
 
 abbrev pub mode_word : Mode → List ℕ
 mode_word X = codes "x"
@@ -70,3 +68,9 @@ HasWords w m n at e = (at ≡ 0) × (e ≡ end.None)
 
 abbrev pub IsSpelt : Entry → Type 0
 IsSpelt e = HasWords e.word e.mode e.n e.at e.end
+
+-- an entry as a history text may have it: amounts of 31 bits, and at most 16 conditions
+pub record IsWritten (e : Entry) : Type 0 where
+  pub words : IsSpelt e
+  pub amount : e.n ≤ 2147483647
+  pub condition : e.at ≤ 15

@@ -4,6 +4,7 @@ pub mod Text
 pub mod Spelling
 pub mod Reading
 pub mod EntryWords
+pub mod EntryReading
 pub mod Entry
 pub mod Entries
 pub mod Object
