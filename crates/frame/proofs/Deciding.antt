@@ -1,13 +1,17 @@
 -- What a step makes, by its fault and by its seat's phase.
-use Rattle.std.proofs.Common.{◌≡◌, ℕ, ◌<◌, arith, Bool, true, false, not, cond, List, Option, Some, None, Result, Ok, Err, refl, ap, ◌∙◌, sym, subst}
+use Rattle.std.proofs.Common.{◌≡◌, ℕ, ◌<◌, arith, Bool, true, false, not, cond, ltb, List, Option, Some, None, Result, Ok, Err, refl, ap, ◌∙◌, sym, subst}
 use Rattle.std.specs.Prelude.{is_some}
 use Rattle.history.specs.declared.arrival.Arrival.{Arrival}
 use Rattle.history.specs.declared.entry.Entry.{Entry}
+use Rattle.history.specs.declared.entry.End.TheVariants as end
+use Rattle.history.specs.declared.entry.Mode.TheVariants.{X, S}
+use Rattle.history.specs.declared.entry.Word.{Word}
+use Rattle.history.specs.declared.entry.Word.TheVariants as word
 use Rattle.history.specs.declared.fault.Fault.{Fault}
 use Rattle.history.specs.declared.fault.Fault.TheVariants as fault
 use Rattle.history.specs.declared.step.Step.{Step}
 use Rattle.history.specs.Could.{could, is_seat}
-use Rattle.history.specs.Counts.{Counts}
+use Rattle.history.specs.Counts.{Counts, counts, owner}
 use Rattle.history.specs.Faults.{is_wrong_mode, is_no_condition, is_bad_amount}
 use Rattle.history.specs.Naming.{ready, ready_by}
 use Rattle.history.specs.Line.{line, place_of}
@@ -21,7 +25,7 @@ use Rattle.history.proofs.OneWait.{Waits}
 use Rattle.history.proofs.SleepLemmas.{sleeps_at, sleeps_there}
 use Rattle.std.proofs.lemmas.Bool.{eq-eqb}
 use Rattle.history.specs.declared.step.Step.TheVariants.{Acquire, Try, TryFair, EntryInterrupt, Give, Look, Expire, Interrupt, Await, Signal, SignalAll, Drain}
-use Rattle.history.specs.Steps.{entry_for, phase_entry, idle_entry, sleeping_entry, queued_entry, back}
+use Rattle.history.specs.Steps.{entry_for, phase_entry, idle_entry, sleeping_entry, queued_entry, back, awaits, signals, plain}
 use Rattle.frame.specs.Core.{CoreView, start_of, IsNext}
 use Rattle.frame.specs.Checks.{refused_as, in_phase}
 
@@ -132,14 +136,30 @@ sleeps_is s h i w (Some x) v lists listed =
     sym (sleeps_there s.header.conditions s h i x.condition below t)
 
 -- the entry of a step is of its seat
-chosen_seat : (i : ℕ) (b : Bool) (x y : Entry) → x.seat ≡ i → y.seat ≡ i → (cond b x y).seat ≡ i
-chosen_seat i true x y p q = p
-chosen_seat i false x y p q = q
+awaits_seat : (k : Counts) (i c : ℕ) → (awaits k i c).seat ≡ i
+awaits_seat k i c = by (not (is_seat (owner k) i)) (ltb 0 (k.held i S))
+  where
+  by : (a b : Bool) →
+      (cond a (plain i (word.Refused fault.NotOwner) X 1)
+      (cond b (plain i (word.Refused fault.HoldsRead) X 1)
+      (record { seat = i; word = word.Await; mode = X; n = k.held i X; at = c; end = end.None }))).seat ≡ i
+  by true b = refl
+  by false true = refl
+  by false false = refl
+
+signals_seat : (k : Counts) (w : Word) (n i c : ℕ) → (signals k w n i c).seat ≡ i
+signals_seat k w n i c = by (not (is_seat (owner k) i))
+  where
+  by : (a : Bool) →
+      (cond a (plain i (word.Refused fault.NotOwner) X 1)
+      (record { seat = i; word = w; mode = X; n = n; at = c; end = end.None })).seat ≡ i
+  by true = refl
+  by false = refl
 
 idle_seat : (s : Start) (h : List Entry) (i : ℕ) (step : Step) → (idle_entry s h i step).seat ≡ i
-idle_seat s h i (Await c) = chosen_seat i _ _ _ refl (chosen_seat i _ _ _ refl refl)
-idle_seat s h i (Signal c) = chosen_seat i _ _ _ refl refl
-idle_seat s h i (SignalAll c) = chosen_seat i _ _ _ refl refl
+idle_seat s h i (Await c) = awaits_seat (counts s h) i c
+idle_seat s h i (Signal c) = signals_seat (counts s h) word.Signal _ i c
+idle_seat s h i (SignalAll c) = signals_seat (counts s h) word.SignalAll _ i c
 idle_seat s h i (Acquire m n) = refl
 idle_seat s h i (Try m n) = refl
 idle_seat s h i (TryFair m n) = refl

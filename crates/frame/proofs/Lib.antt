@@ -7,3 +7,5 @@ pub mod Stepping
 pub mod Recording
 pub mod Owners
 pub mod Tables
+pub mod Opening
+pub mod Runs

@@ -6,3 +6,4 @@ pub mod Waiting
 pub mod Observed
 pub mod Core
 pub mod Owners
+pub mod Runs

@@ -7,6 +7,7 @@ mod effects;
 mod entries;
 pub mod hooks;
 pub mod machine;
+pub mod run;
 pub mod seat;
 mod waiting;
 

@@ -1,16 +1,17 @@
 //! What a core tells of itself. No observer takes memory.
 
-ghost use Rattle.std.specs.Prelude.{◌≡◌, ◌<◌, ◌≤◌, ◌+◌, ◌≤ℤ◌, pos, length, nat_lt, true};
+ghost use Rattle.std.specs.Prelude.{◌≡◌, ◌<◌, ◌≤◌, ◌+◌, ◌≤ℤ◌, pos, length, nat_lt, true, is_some};
 ghost use Rattle.history.specs.declared.entry.Mode.TheVariants.{X, S};
 ghost use Rattle.history.specs.Counts.{counts, count, held, owner};
 ghost use Rattle.history.specs.Faults.{max_amount};
 ghost use Rattle.history.specs.Sleepers.{sleepers, last_sleep, sleeps_below};
 ghost use Rattle.frame.specs.Observed.{available};
-ghost use Rattle.history.specs.Legal.{IsLegal};
+ghost use Rattle.history.specs.Legal.{IsLegal, AreSeated};
 ghost use Rattle.history.specs.Line.{line, first_of, place_of};
 ghost use Rattle.history.specs.Naming.{ready};
 ghost use Rattle.history.specs.Could.{could, is_seat};
 ghost use Rattle.history.specs.Object.{is_lock};
+ghost use Rattle.history.specs.Order.{IsInOrder, IsFairOrder};
 ghost use Rattle.history.specs.Room.{owed};
 ghost use Rattle.frame.specs.Core.{start_of};
 ghost use Rattle.frame.specs.Hooks.{level_of};
@@ -46,6 +47,24 @@ impl<H: Hooks + Drop> Core<H> {
         ensures { result ≡ held (start_of self.now) self.now.entries seat mode }
     {
         self.seat(seat).holds(mode)
+    }
+
+    /// Whether some seat has exclusive holds.
+    pub fn is_held(&self) -> bool
+        ensures { result ≡ is_some (owner (counts (start_of self.now) self.now.entries)) }
+    {
+        self.seats.iter().any(|seat| seat.exclusive > 0)
+    }
+
+    /// The history is legal, nobody in line is passed, and what is owed has room.
+    pub fn is_lawful(&self)
+        ensures legal { IsLegal (start_of self.now) self.now.entries }
+        ensures seated { AreSeated (start_of self.now) self.now.entries }
+        ensures order { IsInOrder (start_of self.now) self.now.entries }
+        ensures fair { IsFairOrder (start_of self.now) self.now.entries }
+        ensures room { length self.now.entries + owed (start_of self.now) self.now.entries ≤ self.now.header.cap }
+    {
+        let _header = &self.header;
     }
 
     /// How many stand in line.
