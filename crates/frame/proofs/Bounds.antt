@@ -1,6 +1,9 @@
 -- Who owns, and that what is held fits.
 use Rattle.std.proofs.Common.{◌≡◌, ◌≢◌, ◌⊎◌, ⊎_elim, ℕ, zero, suc, ◌+◌, ◌-◌, ◌*◌, ◌<◌, ◌≤◌, Bool, true, false, ◌&&◌, cond, eqb, ltb, List, [], ◌∷◌, length, Option, Some, None, refl, ap, ◌∙◌, sym, subst, arith, ℤ, pos, ◌≤ℤ◌}
-use Rattle.std.proofs.lemmas.Bool.{cases_eq, eq-eqb, ne_eqb, lt-ltb, le-ltb}
+use Rattle.std.specs.Prelude.{slice_get, is_some}
+use Rattle.std.specs.List.{list_any}
+use Rattle.std.proofs.lemmas.Bool.{cases_eq, eq-eqb, ne_eqb, lt-ltb, le-ltb, or_left, or_right, or_from}
+use Rattle.std.proofs.lemmas.Option.{slice_get_within}
 use Rattle.history.specs.declared.entry.Entry.{Entry}
 use Rattle.history.specs.declared.entry.Mode.{Mode}
 use Rattle.history.specs.declared.entry.Mode.TheVariants.{X, S}
@@ -31,8 +34,11 @@ use Rattle.history.proofs.Owners.{owner_holds, nobody_holds}
 use Rattle.history.proofs.Permits.{held_at_most, free_fits, free_at_most}
 use Rattle.history.proofs.Times.{total_part}
 use Rattle.history.proofs.WhoWaits.{comes_back}
+use Rattle.frame.specs.declared.seat.Seat.{Seat}
 use Rattle.frame.specs.Effects.{IsAllowed}
+use Rattle.frame.specs.Seat.{seat_of}
 use Rattle.frame.proofs.Counting.{allowed}
+use Rattle.frame.proofs.Seats.{seat_held}
 
 -- the owner is the seat that holds exclusively
 pub owner_is : (k : Counts) (i : ℕ) → i < k.seats →
@@ -195,3 +201,41 @@ level_most k h p n z range legal q is =
     let fits : FitsSigned w32 z = subst (FitsSigned w32) (sym same) (free_fits k h range t legal) in
     let most : z ≤ℤ pos max_amount = subst (λ x. x ≤ℤ pos max_amount) (sym same) (free_at_most k h range t legal) in
     subst (λ x. x ≤ℤ pos max_amount) (sym (to_z-of_z w64 z (wide z fits))) most
+
+-- whether a test of a table holds somewhere
+any_at : (test : Seat → Bool) (table : List Seat) (i : ℕ) (x : Seat) → slice_get table i ≡ Some x → test x ≡ true →
+    list_any test table ≡ true
+any_at test [] i x q t = cc
+any_at test (y ∷ table) zero x q t = let same : y ≡ x = cc in or_left (test y) _ (ap test same ∙ t)
+any_at test (y ∷ table) (suc i) x q t = or_right (test y) _ (any_at test table i x q t)
+
+any_none : (test : Seat → Bool) (table : List Seat) → ((i : ℕ) (x : Seat) → slice_get table i ≡ Some x → test x ≡ false) →
+    list_any test table ≡ false
+any_none test [] none = refl
+any_none test (y ∷ table) none = or_from (test y) _ (none 0 y refl) (any_none test table (λ i x q. none (suc i) x q))
+
+abbrev pub holds_exclusively : Seat → Bool
+holds_exclusively seat = ltb 0 seat.exclusive
+
+-- somebody owns where some seat holds exclusively
+pub held_by_any : (k : Header) (h : List Entry) (table : List Seat) → length table ≡ k.seats →
+    ((i : ℕ) → i < k.seats → slice_get table i ≡ Some (seat_of k.object h i)) →
+    list_any holds_exclusively table ≡ is_some (owner (counts (opening k) h))
+held_by_any k h table n all = by (owner (counts (opening k) h)) refl
+  where
+  by : (o : Option ℕ) → owner (counts (opening k) h) ≡ o → list_any holds_exclusively table ≡ is_some o
+  by (Some o) q =
+    let owns = owner_holds (counts (opening k) h) o q in
+    let l : 0 < (seat_of k.object h o).exclusive = let e = seat_held k h o X in let p = owns.1 in omega (arith, e, p) in
+    any_at holds_exclusively table o (seat_of k.object h o) (all o owns.0) (lt-ltb 0 _ l)
+  by None q =
+    any_none holds_exclusively table (λ i x at.
+      let inside : i < k.seats = let l = slice_get_within table i x at in omega (arith, l, n) in
+      let same : seat_of k.object h i ≡ x = some_seat (sym (all i inside) ∙ at) in
+      let z = nobody_holds (counts (opening k) h) i q inside in
+      let e = seat_held k h i X in
+      let d : (seat_of k.object h i).exclusive ≡ x.exclusive = ap (λ (y : Seat). y.exclusive) same in
+      le-ltb 0 x.exclusive (omega (arith, z, e, d)))
+    where
+    some_seat : {x y : Seat} → Some x ≡ Some y → x ≡ y
+    some_seat p = cc
