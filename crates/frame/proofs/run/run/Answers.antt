@@ -1,4 +1,4 @@
-use Rattle.std.proofs.Common.{◌≡◌, ℕ, ◌+◌, ◌≤◌, ◌<◌, List, ◌∷◌, ◌++◌, [], length, take, get_or, vec_len, vec_capacity, ap, ◌∙◌, subst, arith}
+use Rattle.std.proofs.Common.{◌≡◌, ℕ, ◌+◌, ◌∷◌, ◌++◌, [], take, get_or, ◌∙◌, arith}
 use Rattle.std.proofs.lemmas.List.{take_more, take_all}
 use Rattle.history.specs.declared.entry.Mode.TheVariants.{X}
 use Rattle.history.specs.declared.step.Step.{Step}
@@ -17,7 +17,7 @@ loop-seat-preserved g c =
     let len = c.push_reserved.ensures.len in
     let taken : take (i + 1) xs ≡ take i xs ++ get_or xs i d ∷ [] = take_more xs i d c.loop-seat-test.true in
     let more = answered_more c.args.core.now c.loop-seat.core c.step-answer.new.self (take i xs) c.loop-seat.answers.items
-        (get_or xs i d) c.step-answer.result inv.answered c.step-answer.ensures.answered in
+    (get_or xs i d) c.step-answer.result inv.answered c.step-answer.ensures.answered in
     record {
       answered = rw taken (rw items more);
       header = c.step-answer.ensures.header ∙ inv.header;
