@@ -9,7 +9,7 @@ pub mod device;
 pub mod form;
 pub mod memory_sink;
 pub mod memory_source;
-mod objects;
+mod refusing;
 mod replay;
 pub mod replay_stream;
 pub mod sink;

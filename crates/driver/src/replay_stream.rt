@@ -6,7 +6,7 @@ ghost use Rattle.driver.specs.ReplayStream.{answer_text, Replayed, Replays, IsOf
 
 use crate::answering::Answering;
 use crate::form::Form;
-use crate::objects::answer_text;
+use crate::refusing::Refusing;
 use crate::replay::{drive, replay};
 use crate::sink::Sink;
 use crate::source::Source;
@@ -60,7 +60,7 @@ fn answer_of(alloc: Global, bytes: &[u8], form: Form) -> Result<Vec<u8>, StreamF
 }
 
 /// What is written of an object's answers to the steps.
-pub fn answered<O: Answering>(
+fn answered<O: Answering>(
     alloc: Global,
     header: &Header,
     object: &mut O,
@@ -83,4 +83,19 @@ pub fn answered<O: Answering>(
             }
         }
     }
+}
+
+/// What is written of the answers of a fresh object of the header.
+fn answer_text(
+    alloc: Global,
+    header: &Header,
+    steps: &[(u16, Step)],
+    form: Form,
+) -> Result<Vec<u8>, AllocError>
+    requires range { IsInRange header.now }
+    requires seats { All (λ s. s.0 < header.now.seats) steps.now }
+    ensures { IfOk result (λ text. text.items ≡ answer_text form header.now steps.now) }
+{
+    let mut object = Refusing::open(alloc, header);
+    answered(alloc, header, &mut object, steps, form)
 }
