@@ -10,7 +10,7 @@ use Rattle.history.specs.Object.{in_holds}
 use Rattle.history.proofs.Sums.{seat_with_none, seat_with_one}
 use Rattle.history.specs.declared.header.Object.{Object}
 use Rattle.frame.specs.Hooks.{opening_counts}
-use Rattle.frame.specs.Owners.{holds_of, owner_in, is_owned, Owns}
+use Rattle.frame.specs.Owners.{holds_of, owner_in, is_owner_in, is_owned, Owns}
 
 -- the holds of the owner, and of any other seat
 at_own : (holds i : ℕ) → cond (eqb i i) holds 0 ≡ holds
@@ -109,11 +109,14 @@ owns_gave holds k i n h one =
     let e : holds_of (Some i) (holds - 1) i ≡ holds_of (Some i) holds i - in_holds k.object n = now ∙ sym (rw own (rw one refl)) in
     record { held = changed (Some i) (Some i) holds (holds - 1) i (λ had. had - in_holds k.object n) k.held h.held (eq-eqb i i refl) (eq-eqb i i refl) e; seat = h.seat }
 
-pub owns_gave_last : (k : Counts) (i n : ℕ) → Owns (Some i) 1 k → in_holds k.object n ≡ 1 → Owns None 0 (gave_back k i X n)
-owns_gave_last k i n h one =
+pub owns_freed : (rest : ℕ) (k : Counts) (i n : ℕ) → Owns (Some i) 1 k → in_holds k.object n ≡ 1 → Owns None rest (gave_back k i X n)
+owns_freed rest k i n h one =
     let own : holds_of (Some i) 1 i ≡ 1 = at_own 1 i in
     let e : 0 ≡ holds_of (Some i) 1 i - in_holds k.object n = sym (rw own (rw one refl)) in
-    record { held = changed (Some i) None 1 0 i (λ had. had - in_holds k.object n) k.held h.held (eq-eqb i i refl) refl e; seat = tt }
+    record {
+      held = changed (Some i) None 1 rest i (λ had. had - in_holds k.object n) k.held h.held (eq-eqb i i refl) refl e;
+      seat = tt;
+    }
 
 pub owns_let_go : (holds : ℕ) (k : Counts) (i : ℕ) → Owns (Some i) holds k → Owns None 0 (let_go k i)
 owns_let_go holds k i h =
@@ -124,12 +127,24 @@ owns_restored k i n h seat =
     let now : holds_of (Some i) n i ≡ 0 + n = at_own n i ∙ sym (zero-add n) in
     record { held = changed None (Some i) 0 n i (λ had. had + n) k.held h.held refl (eq-eqb i i refl) now; seat = seat }
 
-pub owns_shared : (o : Option ℕ) (holds : ℕ) (k : Counts) (i : ℕ) (change : ℕ → ℕ) (was : ℕ → Mode → ℕ) → ((j : ℕ) → was j X ≡ holds_of o holds j) → (j : ℕ) → holds_with i S change was j X ≡ holds_of o holds j
-owns_shared o holds k i change was h j = exclusive_kept i change was j ∙ h j
+-- where a seat that may be the owner has no hold, nobody owns
+pub no_owner : (most : ℕ) (o : Option ℕ) (holds i : ℕ) → is_owned most o holds ≡ true → is_none_or o i ≡ true → holds_of o holds i ≡ 0 → o ≡ None
+no_owner most None holds i t u z = refl
+no_owner most (Some j) holds i t u z =
+    let some : 0 < holds = owned_some most j holds t in
+    let own : holds_of (Some j) holds i ≡ holds = all_its_own most (Some j) holds i t u in
+    absurd (omega (arith, some, own, z))
 
 -- as opened nobody owns
 pub owns_opening : (o : Option ℕ) (holds : ℕ) (object : Object) (seats : ℕ) → o ≡ None → Owns o holds (opening_counts object seats)
 owns_opening o holds object seats e = rw e (record { held = λ i. refl; seat = tt })
+
+pub owner_seated : (o : Option ℕ) (seats : ℕ) → is_owner_in seats o ≡ true → owner_in seats o
+owner_seated None seats e = tt
+owner_seated (Some i) seats e = ltb-true i seats e
+
+pub seated_some : (i seats : ℕ) → i < seats → is_owner_in seats (Some i) ≡ true
+seated_some i seats p = lt-ltb i seats p
 
 -- so many seats that an owner is one of them
 abbrev pub seats_for : Option ℕ → ℕ

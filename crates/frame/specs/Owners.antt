@@ -1,5 +1,5 @@
 -- Who holds exclusively where one seat may: the owner, and how often.
-use Rattle.std.specs.Prelude.{◌≡◌, ℕ, ◌<◌, ◌==◌, nat_lt, nat_le, Bool, ◌&&◌, if◌then◌else◌, Option, Some, None}
+use Rattle.std.specs.Prelude.{◌≡◌, ℕ, ◌<◌, ◌==◌, nat_lt, nat_le, Bool, true, ◌&&◌, if◌then◌else◌, Option, Some, None}
 use Rattle.history.specs.declared.entry.Mode.TheVariants.{X}
 use Rattle.history.specs.Could.{is_seat}
 use Rattle.history.specs.Counts.{Counts}
@@ -12,6 +12,10 @@ holds_of owner holds i = if is_seat owner i then holds else 0
 abbrev pub owner_in : ℕ → Option ℕ → Type 0
 owner_in seats None = Unit {0}
 owner_in seats (Some i) = i < seats
+
+abbrev pub is_owner_in : ℕ → Option ℕ → Bool
+is_owner_in seats None = true
+is_owner_in seats (Some i) = nat_lt i seats
 
 -- an owner has a hold and no more than so many, and without an owner there is none
 abbrev pub is_owned : ℕ → Option ℕ → ℕ → Bool

@@ -1,7 +1,6 @@
 -- What an entry's words spell is read again.
-use Rattle.std.proofs.Common.{◌≡◌, ◌≢◌, ℕ, ◌^◌, ◌<◌, ◌≤◌, true, List, [], ◌∷◌, Option, Some, None, refl, sym, ap, ◌∙◌, arith, decimal}
+use Rattle.std.proofs.Common.{◌≡◌, ◌≢◌, ℕ, ◌^◌, ◌<◌, ◌≤◌, true, [], ◌∷◌, Some, refl, sym, ap, ◌∙◌, arith, decimal}
 use Rattle.std.specs.Prelude.{codes}
-use Rattle.std.proofs.lemmas.Bool.{le-leb}
 use Rattle.history.specs.declared.entry.Entry.{Entry}
 use Rattle.history.specs.declared.entry.End.{End}
 use Rattle.history.specs.declared.entry.End.TheVariants as end
@@ -15,23 +14,23 @@ use Rattle.history.specs.Fault.{fault_name, IsRecorded}
 use Rattle.history.specs.Text.{line_of, words_of}
 use Rattle.history.specs.EntryWords.{mode_word, end_word, spelt, entry_words, GaveUp, CameBack, HasWords, IsWritten}
 use Rattle.history.specs.EntryReading.{given_up_at, come_back_at, recorded_at, asked_at, condition_at, sleepers_at, left_at, refused_at, lapse_at, back_at, shared_at, named_entry_at, entry_at}
-use Rattle.history.specs.Reading.{Words, number_from}
-use Rattle.history.proofs.Numbers.{number_again}
+use Rattle.history.specs.Reading.{Words}
+use Rattle.history.proofs.Numbers.{number_at_again}
 use Rattle.history.proofs.Plain.{is_plain, ArePlain, words_again, decimal_plain}
 
 asked_again : (m : Mode) (n : ℕ) (ws : Words) → n ≤ 2147483647 → asked_at (mode_word m ∷ decimal n ∷ ws) ≡ Some ((m, n), ws)
 unfolding asked_at
-asked_again X n ws le = rw (number_again n (omega arith), le-leb 0 n (omega arith), le-leb n 2147483647 le) refl
-asked_again S n ws le = rw (number_again n (omega arith), le-leb 0 n (omega arith), le-leb n 2147483647 le) refl
+asked_again X n ws le = rw (number_at_again 0 2147483647 n ws (omega arith) (omega arith) le) refl
+asked_again S n ws le = rw (number_at_again 0 2147483647 n ws (omega arith) (omega arith) le) refl
 
 condition_again : (c : ℕ) (ws : Words) → c ≤ 15 → condition_at (decimal c ∷ ws) ≡ Some (c, ws)
 unfolding condition_at
-condition_again c ws le = rw (number_again c (omega arith), le-leb 0 c (omega arith), le-leb c 15 le) refl
+condition_again c ws le = number_at_again 0 15 c ws (omega arith) (omega arith) le
 
 sleepers_again : (c n : ℕ) (ws : Words) → c ≤ 15 → n ≤ 2147483647 → sleepers_at (decimal c ∷ decimal n ∷ ws) ≡ Some ((c, n), ws)
 unfolding sleepers_at
 sleepers_again c n ws c15 le =
-    rw (condition_again c (decimal n ∷ ws) c15, number_again n (omega arith), le-leb 0 n (omega arith), le-leb n 2147483647 le) refl
+    rw (condition_again c (decimal n ∷ ws) c15, number_at_again 0 2147483647 n ws (omega arith) (omega arith) le) refl
 
 given_up_again : (e : End) → GaveUp e → given_up_at (end_word e ∷ []) ≡ Some (e, [])
 given_up_again end.None gave = absurd gave
@@ -79,11 +78,11 @@ back_again seat c n e c15 le came = rw (sleepers_again c n (end_word e ∷ []) c
 
 counted_again : (seat : ℕ) → shared_at seat word.Counted 1 1 (codes "s" ∷ decimal 1 ∷ []) ≡ Some (made seat word.Counted S 1 0 end.None, [])
 unfolding shared_at
-counted_again seat = rw (number_again 1 (omega arith)) refl
+counted_again seat = rw (number_at_again 1 1 1 [] (omega arith) (omega arith) (omega arith)) refl
 
 drained_again : (seat n : ℕ) → n ≤ 2147483647 → shared_at seat word.Drained 0 2147483647 (codes "s" ∷ decimal n ∷ []) ≡ Some (made seat word.Drained S n 0 end.None, [])
 unfolding shared_at
-drained_again seat n le = rw (number_again n (omega arith), le-leb 0 n (omega arith), le-leb n 2147483647 le) refl
+drained_again seat n le = rw (number_at_again 0 2147483647 n [] (omega arith) (omega arith) le) refl
 
 -- the words of each entry
 words_are_read : (seat : ℕ) (w : Word) (m : Mode) (n at : ℕ) (e : End) → HasWords w m n at e → n ≤ 2147483647 → at ≤ 15 → entry_at seat (spelt w m n at e) ≡ Some (made seat w m n at e, [])
@@ -163,29 +162,17 @@ plain_entry e written = spelt_plain e.word e.mode e.n e.at e.end written.words (
 pub words_again_read : (e : Entry) → IsWritten e → entry_at e.seat (entry_words e) ≡ Some (e, [])
 words_again_read e written = words_are_read e.seat e.word e.mode e.n e.at e.end written.words written.amount written.condition
 
--- a line that begins with a word is cut at it
+-- no entry is read from no words
+some_words : (seat : ℕ) (ws : Words) (x : Entry × Words) → entry_at seat ws ≡ Some x → ws ≢ []
+unfolding entry_at
+some_words seat [] x read = absurd cc
+some_words seat (w ∷ ws) x read = λ empty. cc
+
 cut_again : (ws : Words) → ArePlain ws → ws ≢ [] → words_of (line_of ws) ≡ ws
 cut_again [] plain some = absurd (some refl)
 cut_again (w ∷ ws) plain some = words_again w ws plain
 
-has_some : (w : Word) (m : Mode) (n at : ℕ) (e : End) → spelt w m n at e ≢ []
-has_some word.Got m n at e = λ e. cc
-has_some word.TryGot m n at e = λ e. cc
-has_some word.Queued m n at e = λ e. cc
-has_some word.Granted m n at e = λ e. cc
-has_some word.Missed m n at e = λ e. cc
-has_some word.Left m n at e = λ e. cc
-has_some word.Gave m n at e = λ e. cc
-has_some (word.Refused f) m n at e = λ e. cc
-has_some word.Await m n at e = λ e. cc
-has_some word.Lapse m n at e = λ e. cc
-has_some word.Signal m n at e = λ e. cc
-has_some word.SignalAll m n at e = λ e. cc
-has_some word.Back m n at e = λ e. cc
-has_some word.Counted m n at e = λ e. cc
-has_some word.Drained m n at e = λ e. cc
-
 pub entry_again : (seat : ℕ) (e : Entry) → IsWritten e → e.seat ≡ seat → entry_at seat (words_of (line_of (entry_words e))) ≡ Some (e, [])
 entry_again seat e written is =
-    let cut = cut_again (entry_words e) (plain_entry e written) (has_some e.word e.mode e.n e.at e.end) in
-    ap (entry_at seat) cut ∙ ap (λ (i : ℕ). entry_at i (entry_words e)) (sym is) ∙ words_again_read e written
+    let read : entry_at seat (entry_words e) ≡ Some (e, []) = ap (λ (i : ℕ). entry_at i (entry_words e)) (sym is) ∙ words_again_read e written in
+    ap (entry_at seat) (cut_again (entry_words e) (plain_entry e written) (some_words seat (entry_words e) (e, []) read)) ∙ read

@@ -1,5 +1,5 @@
 -- Lists of entries, the newest first.
-use Rattle.std.proofs.Common.{◌≡◌, ℕ, ◌+◌, ◌≤◌, Bool, true, false, cond, List, [], ◌∷◌, ◌++◌, length, reverse, refl, ap, ◌∙◌, sym, arith}
+use Rattle.std.proofs.Common.{◌≡◌, ◌+◌, ◌≤◌, Bool, true, false, cond, List, [], ◌∷◌, ◌++◌, length, reverse, arith}
 use Rattle.std.proofs.lemmas.List.{reverse-append}
 use Rattle.history.specs.declared.entry.Entry.{Entry}
 use Rattle.history.specs.Entry.{ends_call}

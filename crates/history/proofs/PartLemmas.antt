@@ -1,13 +1,10 @@
 -- What an object part spells is read again.
-use Rattle.std.proofs.Common.{◌≡◌, ℕ, zero, suc, ◌+◌, ◌-◌, ◌^◌, ◌<◌, ◌≤◌, Bool, true, false, cond, ltb, leb, eqb, List, [], ◌∷◌, ◌++◌, length, get_or, Option, Some, None, refl, sym, ap, subst, ◌∙◌, arith, decimal}
+use Rattle.std.proofs.Common.{◌≡◌, ℕ, suc, ◌^◌, ◌<◌, ◌≤◌, true, List, [], ◌∷◌, length, Some, refl, ap, ◌∙◌, arith, decimal}
 use Rattle.std.specs.Prelude.{ℤ, pos, negsuc, FitsSigned, codes}
 use Rattle.std.specs.Int.{w32}
 use Rattle.std.specs.Fmt.{signed_decimal}
-use Rattle.std.specs.List.{join_with_byte}
-use Rattle.std.proofs.lemmas.Bool.{lt-ltb, le-leb, ne_eqb}
+use Rattle.std.proofs.lemmas.Bool.{le-leb, ne_eqb}
 use Rattle.std.proofs.lemmas.Fmt.{decimal_nonempty}
-use Rattle.std.proofs.lemmas.List.{append-nil}
-use Rattle.std.proofs.lemmas.List.Splits.{join_with_byte-slice_split}
 use Rattle.history.specs.declared.header.Header.{Header}
 use Rattle.history.specs.declared.header.Object.{Object}
 use Rattle.history.specs.declared.header.Object.TheVariants.{Lock, ReadWrite, Semaphore, Latch}
@@ -16,8 +13,8 @@ use Rattle.history.specs.declared.header.Policy.TheVariants.{Fair, NonFair}
 use Rattle.history.specs.Header.{IsInRange, IsOpening}
 use Rattle.history.specs.Text.{line_of, words_of}
 use Rattle.history.specs.Spelling.{policy_word, object_words, part_words, part_of}
-use Rattle.history.specs.Reading.{Words, number_from, permits_from, lock_at, semaphore_at, latch_at, header_at}
-use Rattle.history.proofs.Numbers.{number_again, digits_alone}
+use Rattle.history.specs.Reading.{Words, policy_at, permits_from, lock_at, semaphore_at, latch_at, header_at}
+use Rattle.history.proofs.Numbers.{number_again, number_at_again, digits_alone}
 use Rattle.history.proofs.Plain.{is_plain, ArePlain, words_again, decimal_plain, signed_plain}
 
 unsigned_again : (bs : List ℕ) (n : ℕ) → n < 2 ^ 31 → bs ≡ decimal n → permits_from bs ≡ Some (pos n)
@@ -32,27 +29,28 @@ unfolding permits_from
 permits_again (pos n) fits = unsigned_again (decimal n) n (omega (arith, fits)) refl
 permits_again (negsuc n) fits = rw (number_again (suc n) (omega (arith, fits)), le-leb 1 (suc n) (omega arith), le-leb (suc n) 2147483648 (omega (arith, fits))) refl
 
+-- a policy is read again
+policy_again : (p : Policy) (ws : Words) → policy_at (policy_word p ∷ ws) ≡ Some (p, ws)
+policy_again Fair ws = refl
+policy_again NonFair ws = refl
+
 lock_again : (o : Policy → Object) (p : Policy) (n c k : ℕ) → 1 ≤ n → n ≤ 256 → c ≤ 16 → 16 ≤ k → k < 2 ^ 32
     → lock_at o (policy_word p ∷ codes "seats" ∷ decimal n ∷ codes "conditions" ∷ decimal c ∷ codes "cap" ∷ decimal k ∷ []) ≡ Some (record { object = o p; seats = n; conditions = c; cap = k }, [])
 unfolding lock_at
-lock_again o Fair n c k n1 n2 c2 k1 k2 =
-    rw (number_again n (omega arith), le-leb 1 n n1, le-leb n 256 n2, number_again c (omega arith), le-leb 0 c (omega arith), le-leb c 16 c2, number_again k (omega arith), le-leb 16 k k1, le-leb k 4294967295 (omega arith)) refl
-lock_again o NonFair n c k n1 n2 c2 k1 k2 =
-    rw (number_again n (omega arith), le-leb 1 n n1, le-leb n 256 n2, number_again c (omega arith), le-leb 0 c (omega arith), le-leb c 16 c2, number_again k (omega arith), le-leb 16 k k1, le-leb k 4294967295 (omega arith)) refl
+lock_again o p n c k n1 n2 c2 k1 k2 =
+    rw (policy_again p _, number_at_again 1 256 n _ (omega arith) n1 n2, number_at_again 0 16 c _ (omega arith) (omega arith) c2, number_at_again 16 4294967295 k [] (omega arith) k1 (omega arith)) refl
 
 semaphore_again : (p : Policy) (z : ℤ) (n k : ℕ) → FitsSigned w32 z → 1 ≤ n → n ≤ 256 → 16 ≤ k → k < 2 ^ 32
     → semaphore_at (policy_word p ∷ codes "seats" ∷ decimal n ∷ codes "permits" ∷ signed_decimal z ∷ codes "cap" ∷ decimal k ∷ []) ≡ Some (record { object = Semaphore p z; seats = n; conditions = 0; cap = k }, [])
 unfolding semaphore_at
-semaphore_again Fair z n k fits n1 n2 k1 k2 =
-    rw (number_again n (omega arith), le-leb 1 n n1, le-leb n 256 n2, permits_again z fits, number_again k (omega arith), le-leb 16 k k1, le-leb k 4294967295 (omega arith)) refl
-semaphore_again NonFair z n k fits n1 n2 k1 k2 =
-    rw (number_again n (omega arith), le-leb 1 n n1, le-leb n 256 n2, permits_again z fits, number_again k (omega arith), le-leb 16 k k1, le-leb k 4294967295 (omega arith)) refl
+semaphore_again p z n k fits n1 n2 k1 k2 =
+    rw (policy_again p _, number_at_again 1 256 n _ (omega arith) n1 n2, permits_again z fits, number_at_again 16 4294967295 k [] (omega arith) k1 (omega arith)) refl
 
 latch_again : (q n k : ℕ) → q ≤ 2147483647 → 1 ≤ n → n ≤ 256 → 16 ≤ k → k < 2 ^ 32
     → latch_at (codes "seats" ∷ decimal n ∷ codes "count" ∷ decimal q ∷ codes "cap" ∷ decimal k ∷ []) ≡ Some (record { object = Latch q; seats = n; conditions = 0; cap = k }, [])
 unfolding latch_at
 latch_again q n k q2 n1 n2 k1 k2 =
-    rw (number_again n (omega arith), le-leb 1 n n1, le-leb n 256 n2, number_again q (omega arith), le-leb 0 q (omega arith), le-leb q 2147483647 q2, number_again k (omega arith), le-leb 16 k k1, le-leb k 4294967295 (omega arith)) refl
+    rw (number_at_again 1 256 n _ (omega arith) n1 n2, number_at_again 0 2147483647 q _ (omega arith) (omega arith) q2, number_at_again 16 4294967295 k [] (omega arith) k1 (omega arith)) refl
 
 pub object_again : (o : Object) (n c k : ℕ) → IsOpening o c → 1 ≤ n → n ≤ 256 → 16 ≤ k → k < 2 ^ 32
     → header_at (object_words o n c k) ≡ Some (record { object = o; seats = n; conditions = c; cap = k }, [])

@@ -219,6 +219,10 @@ idle_leaves_a_place s h i v l seat idle =
     let e = length_waiting s h in
     omega (arith, p, e)
 
+pub all_fit : (k : Header) (h : List Entry) → IsLegal (opening k) h → AreSeated (opening k) h →
+    length (line (opening k) h) + length (asleep k.conditions (opening k) h) ≤ k.seats
+all_fit k h l a = few_wait (opening k) h (waits k h l) (line_seated k h l a)
+
 pub line_fits : (k : Header) (h : List Entry) → IsLegal (opening k) h → AreSeated (opening k) h →
     length (line (opening k) h) ≤ k.seats
-line_fits k h l a = let f = few_wait (opening k) h (waits k h l) (line_seated k h l a) in omega (arith, f)
+line_fits k h l a = let f = all_fit k h l a in omega (arith, f)

@@ -7,9 +7,7 @@ use Rattle.history.specs.declared.entry.End.{End}
 use Rattle.history.specs.declared.entry.End.TheVariants as end
 use Rattle.history.specs.declared.entry.Word.{Word}
 use Rattle.history.specs.declared.entry.Word.TheVariants as word
-use Rattle.history.specs.declared.fault.Fault.{Fault}
 use Rattle.history.specs.Fault.{fault_name, IsRecorded}
-use Rattle.history.specs.Text.{line_of}
 
 abbrev pub mode_word : Mode → List ℕ
 mode_word X = codes "x"

@@ -1,5 +1,5 @@
 -- What the readers of words answer, from the words that are left to the words after.
-use Rattle.std.specs.Prelude.{◌≡◌, ℕ, zero, suc, ◌^◌, List, [], ◌∷◌, Option, None, Some, Bool, true, false, codes, decimal, bytes_eq, nat_lt, nat_le, ◌==◌, ◌&&◌, if◌then◌else◌, ℤ, pos, negsuc}
+use Rattle.std.specs.Prelude.{ℕ, ◌^◌, List, [], ◌∷◌, Option, None, Some, codes, decimal, bytes_eq, nat_lt, nat_le, ◌==◌, ◌&&◌, if◌then◌else◌, ℤ, pos}
 use Rattle.std.specs.Str.Parse.{digits_value}
 use Rattle.std.specs.Prelude.{neg_ℤ}
 use Rattle.history.specs.declared.entry.Mode.{Mode}

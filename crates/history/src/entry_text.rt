@@ -22,6 +22,7 @@ impl Mode {
     }
 
     /// The word for it in a text, with a space on either side.
+    #[inline(always)]
     fn spaced(self) -> &'static [u8]
         ensures { result.now ≡ 32 ∷ mode_word self ++ 32 ∷ [] }
     {
@@ -58,6 +59,7 @@ impl End {
     }
 
     /// The word for it in a text, with a space before it.
+    #[inline(always)]
     fn behind_space(self) -> &'static [u8]
         ensures { result.now ≡ 32 ∷ end_word self }
     {

@@ -15,6 +15,8 @@ use crate::text::place_of;
 use std::marker::Model;
 
 /// The words of a line that are still to be read.
+///
+/// A call that answers None has refused the line: how many words are left is then not said.
 #[derive(Drop)]
 pub struct Words<'a> {
     rest: Option<&'a [u8]>,
@@ -30,6 +32,7 @@ impl<'a> Model for Words<'a> {
 }
 
 impl<'a> Words<'a> {
+    /// The words of a line, cut at each space: two spaces together have an empty word between them.
     #[inline(always)]
     pub fn of(line: &'a [u8]) -> Self
         ensures { result ≡ words_of line.now }
@@ -37,7 +40,7 @@ impl<'a> Words<'a> {
         Words { rest: Some(line) }
     }
 
-    /// The first of the words that are left.
+    /// The first of the words that are left, or None where none is.
     #[inline(always)]
     pub fn next(&mut self) -> Option<&'a [u8]>
         ensures { MatchOption result (self.old ≡ [] × self.new ≡ []) (λ word. self.old ≡ word.now ∷ self.new) }
@@ -56,6 +59,7 @@ impl<'a> Words<'a> {
     }
 
     /// Takes this word, if it comes next.
+    #[inline(always)]
     pub fn expect(&mut self, word: &[u8]) -> Option<()>
         ensures is { with_rest result self.new ≡ keyword_at word.now self.old }
         ensures found { IfSome result (λ _. self.old ≡ word.now ∷ self.new) }

@@ -5,5 +5,8 @@
 #![tactic(auto)]
 
 pub mod conservation;
+pub mod order;
 pub mod ownership;
+pub mod results;
 pub mod room;
+pub mod waiting;

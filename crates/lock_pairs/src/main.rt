@@ -7,9 +7,8 @@
 mod mutex;
 mod word;
 
-use std::env;
-use std::io;
 use std::time::{Duration, Instant};
+use std::{env, io};
 
 const THREADS: [u16; 4] = [1, 2, 4, 8];
 
@@ -29,9 +28,13 @@ fn main(rt: HostRuntime) -> io::Result<()> {
         if measure {
             let word_lock = thousands_a_second(under_word_lock, middle.duration_since(start));
             let mutex = thousands_a_second(under_mutex, end.duration_since(middle));
-            println!(rt; "threads {threads}: word lock {word_lock}, mutex {mutex} thousand pairs a second")?;
+            println!(rt;
+                "threads {threads}: word lock {word_lock}, mutex {mutex} thousand pairs a second"
+            )?;
         } else {
-            println!(rt; "threads {threads}: word lock {under_word_lock}, mutex {under_mutex} pairs")?;
+            println!(rt;
+                "threads {threads}: word lock {under_word_lock}, mutex {under_mutex} pairs"
+            )?;
         }
     }
     Ok(())

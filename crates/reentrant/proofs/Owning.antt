@@ -12,7 +12,7 @@ use Rattle.history.specs.Counts.{Counts, owner}
 use Rattle.history.specs.Object.{in_holds}
 use Rattle.frame.specs.Hooks.{let_go_answer, IsRestorable}
 use Rattle.frame.specs.Owners.{holds_of, is_owned, Owns}
-use Rattle.frame.proofs.Owners.{owner_is, all_its_own, others_not, seat_is, shared_kept, owns_took, owns_gave, owns_restored, some_owned, owned_some, owned_most}
+use Rattle.frame.proofs.Owners.{owner_is, all_its_own, others_not, seat_is, no_owner, shared_kept, owns_took, owns_gave, owns_restored, some_owned, owned_most}
 use Rattle.reentrant.specs.Lock.{StandsBy}
 
 -- what can be taken, by the fields
@@ -118,17 +118,10 @@ nobody_new p o n k t h i m a may seat j m' b f = ⊎_elim same other (cases_eq j
     same e = could_is p (Some i) (n + 1) (took k i m a) then now j m' b ∙ by m' e (sym (could_is p o n k t h j m' b) ∙ f)
 
 -- Where a seat may have its holds back, nobody owns.
-no_owner : (o : Option ℕ) (n i : ℕ) → is_owned max_holds o n ≡ true → is_none_or o i ≡ true → holds_of o n i ≡ 0 → o ≡ None
-no_owner None n i t u z = refl
-no_owner (Some j) n i t u z =
-    let some : 0 < n = owned_some max_holds j n t in
-    let own : holds_of (Some j) n i ≡ n = all_its_own max_holds (Some j) n i t u in
-    absurd (omega (arith, some, own, z))
-
 pub stands_restored : (p : Policy) (o : Option ℕ) (n : ℕ) (k : Counts) → is_owned max_holds o n ≡ true → StandsBy p o n k → (i holds : ℕ) → IsRestorable k i holds → StandsBy p (Some i) holds (restored k i holds)
 stands_restored p o n k t h i holds r =
     let may : MayTake o n i X = may_take p o n k t h i X 1 r.could in
-    let none : o ≡ None = no_owner o n i t may.admitted (sym (h.owns.held i) ∙ r.none_held) in
+    let none : o ≡ None = no_owner max_holds o n i t may.admitted (sym (h.owns.held i) ∙ r.none_held) in
     let t' : is_owned max_holds None n ≡ true = rw none at t in
     let zero : n ≡ 0 = eqb-true n 0 t' in
     let owns : Owns None 0 k = rw (sym zero) (rw (sym none) h.owns) in

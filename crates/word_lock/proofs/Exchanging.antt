@@ -1,5 +1,5 @@
 -- The exchange of 0 to 1 keeps the rule, whether it wins or loses.
-use Rattle.std.proofs.Common.{◌≡◌, ◌≢◌, ℕ, true, false, List, [], ◌∷◌, set, get_or, refl, ap, sym, ◌∙◌, subst, inr, ⊎_elim, arith, eqb, eq-eqb, ne_eqb, Some}
+use Rattle.std.proofs.Common.{◌≡◌, ◌≢◌, ℕ, true, List, set, get_or, refl, ap, sym, ◌∙◌, subst, inr, ⊎_elim, arith, eqb, eq-eqb, ne_eqb, Some}
 use Rattle.std.specs.declared.option.Option.{Option as Maybe}
 use mathlib.Core.Option.{Option, none, some}
 use lib.ListN.{get_elem?}
@@ -9,10 +9,9 @@ use Rattle.atomic_table.proofs.Lists.{set_again}
 use Rattle.word_lock.specs.declared.point.Point.{Point}
 use Rattle.word_lock.specs.declared.view.View.{View}
 use Rattle.word_lock.specs.Point.{Before}
-use Rattle.word_lock.specs.Rule.{view_after_take, AllAgree, IsKnownBy, IsFree, IsTaken, RuleHolds, TellsTake}
+use Rattle.word_lock.specs.Rule.{view_after_take, AllAgree, IsKnownBy, IsFree, RuleHolds, TellsTake}
 use Rattle.word_lock.proofs.Lists.{stays_set, set_there}
 use Rattle.word_lock.proofs.PointLaws.{before_refl, before_header}
-use Rattle.word_lock.proofs.Rules.{IsWord}
 
 module _ {T : Type 0} (point : T → Point) (fact : T → Type 0) (sound : Point → Type 0) (start : Point) where
   abbrev M : Type 0

@@ -1,9 +1,9 @@
 -- A join keeps the rule: the logs of the view `other` are put behind the `n` logs of the view `id`.
-use Rattle.std.proofs.Common.{◌≡◌, ◌≢◌, ℕ, zero, suc, ◌+◌, true, false, cond, List, [], ◌∷◌, ◌++◌, length, set, refl, ap, sym, ◌∙◌, subst, ⊎_elim, eqb, eq-eqb, ne_eqb}
+use Rattle.std.proofs.Common.{◌≡◌, ◌≢◌, ℕ, zero, suc, ◌+◌, true, false, cond, List, ◌∷◌, length, set, refl, ap, sym, ◌∙◌, subst, ⊎_elim, eqb, eq-eqb, ne_eqb}
 use Rattle.std.specs.declared.option.Option.{Option as Maybe}
 use mathlib.Core.Option.{some, some-injective, some-ne-none}
 use lib.ListN.{get_elem?}
-use Rattle.atomic_table.specs.Table.{State, Joins}
+use Rattle.atomic_table.specs.Table.{Joins}
 use Rattle.atomic_table.proofs.Lists.{set_else}
 use Rattle.std.proofs.lemmas.Bool.{cond-true, cond-false}
 use Rattle.word_lock.specs.declared.point.Point.{Point}
@@ -11,7 +11,7 @@ use Rattle.word_lock.specs.declared.view.View.{View}
 use Rattle.word_lock.specs.Point.{Before}
 use Rattle.word_lock.specs.Rule.{joined_view, spent_view, AllBefore, IsKnownBy, RuleHolds}
 use Rattle.word_lock.proofs.Lists.{stays_set, one_at, at_join}
-use Rattle.word_lock.proofs.Rules.{HoldersIn, word_stays}
+use Rattle.word_lock.proofs.Rules.{word_stays}
 
 -- where the log at p stands after the join
 place_after : ℕ → ℕ → ℕ → ℕ × ℕ → ℕ × ℕ

@@ -3,7 +3,7 @@ use Rattle.std.proofs.Common.{◌≡◌, ℕ, true, false, List, [], ◌∷◌, 
 use Rattle.std.specs.declared.option.Option.{Option as Maybe}
 use mathlib.Core.Option.{none, some, some-ne-none}
 use lib.ListN.{get_elem?}
-use Rattle.atomic_table.specs.Table.{State, Me, step, keeps, Allows}
+use Rattle.atomic_table.specs.Table.{Me, step, keeps, Allows}
 use Rattle.atomic_table.proofs.Lists.{set_else}
 use Rattle.word_lock.specs.declared.point.Point.{Point}
 use Rattle.word_lock.specs.declared.view.View.{View}

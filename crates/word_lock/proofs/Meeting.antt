@@ -3,7 +3,6 @@ use Rattle.std.proofs.Common.{◌≡◌, List, [], ◌∷◌, ◌+◌, ◌++◌,
 use lib.ListN.{get_elem?}
 use Rattle.atomic_table.proofs.Lists.{at_longer}
 use Rattle.word_lock.specs.declared.point.Point.{Point}
-use Rattle.word_lock.specs.declared.view.SeatLog.{SeatLog}
 use Rattle.word_lock.specs.declared.view.View.{View}
 use Rattle.word_lock.specs.Point.{header_of, Before}
 use Rattle.word_lock.specs.Rule.{joined_view, AllAgree, IsLookedAt}

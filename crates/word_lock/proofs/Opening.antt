@@ -1,9 +1,7 @@
 -- The rule holds at the opening, and the tokens are dealt from the first view, one at each split.
-use Rattle.std.proofs.Common.{◌≡◌, ℕ, zero, suc, ◌+◌, true, false, List, [], ◌∷◌, ◌++◌, refl, ap, sym, ◌∙◌, subst, inl, arith, Some}
-use Rattle.std.specs.declared.option.Option.{Option as Maybe}
+use Rattle.std.proofs.Common.{◌≡◌, ℕ, zero, suc, ◌+◌, false, List, [], ◌∷◌, ◌++◌, refl, ap, sym, subst, inl, arith, Some}
 use mathlib.Core.Option.{some-injective, some-ne-none, some}
 use lib.ListN.{get_elem?}
-use Rattle.atomic_table.specs.Seated.{TableId}
 use Rattle.atomic_table.specs.Table.{opening}
 use Rattle.history.specs.declared.entry.Entry.{Entry}
 use Rattle.word_lock.specs.declared.point.Point.{Point}

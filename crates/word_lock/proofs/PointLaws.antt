@@ -7,7 +7,7 @@ use Rattle.std.proofs.lemmas.Bool.{eq-eqb, ne_eqb, cond-true, cond-false}
 use Rattle.std.proofs.Math.Seq.{take-append_seam}
 use Rattle.history.specs.declared.entry.Entry.{Entry}
 use Rattle.word_lock.specs.declared.point.Point.{Point}
-use Rattle.word_lock.specs.Point.{header_of, Begins, Before, entries_of, Agrees, added, AllOfSeat, Follows}
+use Rattle.word_lock.specs.Point.{header_of, Before, entries_of, Agrees, added, AllOfSeat, Follows}
 
 module _ {A : Type 0} where
   filter_all : (t : A → Bool) (xs : List A) → All (λ x. t x ≡ true) xs → filter t xs ≡ xs

@@ -1,5 +1,5 @@
 -- The word and the slot under a change of views: they are as before where the views that hold are.
-use Rattle.std.proofs.Common.{◌≡◌, ◌⊎◌, ℕ, true, false, List, inl, inr}
+use Rattle.std.proofs.Common.{◌≡◌, ◌⊎◌, ℕ, true, List, inl, inr}
 use Rattle.std.specs.declared.option.Option.{Option as Maybe}
 use mathlib.Core.Option.{some}
 use lib.ListN.{get_elem?}
@@ -7,7 +7,7 @@ use Rattle.atomic_table.specs.Table.{State}
 use Rattle.std.proofs.lemmas.Bool.{false_from_ne_true}
 use Rattle.word_lock.specs.declared.point.Point.{Point}
 use Rattle.word_lock.specs.declared.view.View.{View}
-use Rattle.word_lock.specs.Rule.{IsFree, IsTaken, OneHolds}
+use Rattle.word_lock.specs.Rule.{IsFree, IsTaken}
 
 -- each view of the first list that holds stands in the second one
 abbrev pub HoldersIn : List View → List View → Type 0

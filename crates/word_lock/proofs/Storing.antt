@@ -3,14 +3,14 @@ use Rattle.std.proofs.Common.{◌≡◌, ◌≢◌, ℕ, true, false, List, [], 
 use Rattle.std.specs.declared.option.Option.{Option as Maybe}
 use mathlib.Core.Option.{none, some}
 use lib.ListN.{get_elem?}
-use Rattle.atomic_table.specs.Table.{State, Me, step, gives, stepped, Allows, put_back, rest}
+use Rattle.atomic_table.specs.Table.{State, Me, step, gives, Allows, put_back, rest}
 use Rattle.std.proofs.lemmas.Bool.{false_from_ne_true}
 use Rattle.history.specs.declared.entry.Entry.{Entry}
 use Rattle.word_lock.specs.declared.point.Point.{Point}
 use Rattle.word_lock.specs.declared.view.SeatLog.{SeatLog}
 use Rattle.word_lock.specs.declared.view.View.{View}
 use Rattle.word_lock.specs.Point.{Before, Agrees, added, Follows}
-use Rattle.word_lock.specs.Rule.{with_added, view_after_give, IsKnownBy, IsTaken, RuleHolds, TellsGive}
+use Rattle.word_lock.specs.Rule.{with_added, view_after_give, IsKnownBy, RuleHolds, TellsGive}
 use Rattle.word_lock.proofs.Lists.{stays_set, one_only, one_at}
 use Rattle.word_lock.proofs.PointLaws.{before_refl, before_trans, follows_before, follows_own, follows_other}
 

@@ -1,4 +1,3 @@
-use Rattle.std.proofs.Common.{sym}
 use Rattle.history.specs.EntryReading.{entry_at}
 use Rattle.history.specs.EntryWords.{entry_words}
 use Rattle.history.specs.Text.{line_of}

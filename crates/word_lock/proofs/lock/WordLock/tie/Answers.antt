@@ -1,10 +1,10 @@
-use Rattle.std.proofs.Common.{rules, ◌≡◌, sym, ap, ◌∙◌}
+use Rattle.std.proofs.Common.{rules, sym, ap, ◌∙◌}
 use Rattle.std.specs.declared.option.Option.{Option as Maybe}
 use Rattle.atomic_table.specs.Table.{Me}
 use Rattle.word_lock.specs.declared.view.View.{View}
 use Rattle.word_lock.proofs.Joining.{joins}
 use Rattle.word_lock.proofs.Looking.{looks}
-use Rattle.word_lock.proofs.Meeting.{IsTied, tied}
+use Rattle.word_lock.proofs.Meeting.{tied}
 use Rattle.word_lock.proofs.lock.WordLock.tie.Goals as goal
 
 pub join_seat-requires : goal.join_seat-requires

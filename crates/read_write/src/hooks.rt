@@ -1,0 +1,257 @@
+//! Who writes and who reads.
+
+ghost use Rattle.std.specs.Prelude.{◌≡◌, ◌==◌, ◌||◌, ℕ, length, slice_index, true, IfOk, OnErr, Err};
+ghost use Rattle.frame.specs.Owners.{holds_of, is_owned, is_owner_in};
+ghost use Rattle.history.specs.Could.{is_none_or, is_seat, max_shared};
+ghost use Rattle.history.specs.Counts.{total};
+ghost use Rattle.history.specs.declared.entry.Mode.TheVariants.{X, S};
+ghost use Rattle.history.specs.declared.header.Object.TheVariants.{ReadWrite};
+
+use frame::hooks::{Gave, Hooks, Line, Taken};
+use history::entry::Mode;
+use history::fault::Fault;
+use history::header::{Object, Policy};
+use std::alloc::Global;
+
+/// The greatest number of write holds, and of read holds of all seats together.
+const MAX_HOLDS: u16 = 65_535;
+
+/// The hooks of a read-write lock: as in ReentrantReadWriteLock, the owner's write holds, each seat's read
+/// holds, and the read holds of all. An owner may read too, and so give up writing for reading.
+#[derive(Drop)]
+pub struct RwHooks {
+    policy: Policy,
+    owner: Option<u16>,
+    writes: u16,
+    /// The read holds of each seat.
+    reads: Vec<u16>,
+    /// Their sum, so that nobody has to walk over the seats.
+    readers: u16,
+    ghost owned: { is_owned max_shared owner writes ≡ true },
+    ghost seated: { is_owner_in (length reads.items) owner ≡ true },
+    ghost summed: { readers ≡ total (length reads.items) (slice_index reads.items) },
+}
+
+impl RwHooks {
+    ghost use Rattle.read_write.specs.State.{rw_of, state_of, holds_by, IsOpened};
+
+    /// The hooks of a lock that nobody writes or reads, for so many seats.
+    ///
+    /// # Errors
+    ///
+    /// [`Fault::OutOfMemory`] where the table of the seats is refused.
+    pub fn open(alloc: Global, policy: Policy, seats: u16) -> Result<RwHooks, Fault>
+        ensures object { IfOk result (λ hooks. rw_of hooks ≡ ReadWrite policy) }
+        ensures opened { IfOk result (λ hooks. IsOpened hooks seats) }
+        ensures fault { OnErr result (result ≡ Err Fault.OutOfMemory) }
+    {
+        match vec![in alloc; 0; usize::from(seats)] {
+            Err(_) => Err(Fault::OutOfMemory),
+            Ok(reads) => Ok(RwHooks {
+                policy,
+                owner: None,
+                writes: 0,
+                reads,
+                readers: 0,
+            }),
+        }
+    }
+
+    fn owns(&self, who: u16) -> bool
+        ensures { result ≡ is_seat self.now.owner who }
+    {
+        match self.owner {
+            None => false,
+            Some(owner) => owner == who,
+        }
+    }
+
+    fn admits(&self, who: u16) -> bool
+        ensures { result ≡ is_none_or self.now.owner who }
+    {
+        match self.owner {
+            None => true,
+            Some(owner) => owner == who,
+        }
+    }
+
+    fn holds(&self, who: u16, mode: Mode) -> u16
+        ensures { result ≡ holds_by (state_of self.now) who mode }
+    {
+        match mode {
+            Mode::X => { if self.owns(who) { self.writes } else { 0 } }
+            Mode::S => self.reads.get(usize::from(who)).copied().unwrap_or(0),
+        }
+    }
+}
+
+impl RwHooks {
+    ghost use Rattle.frame.specs.Hooks.{line_mode};
+    ghost use Rattle.read_write.specs.State.{state_of, could_by, reentrant_by};
+    ghost use Rattle.history.specs.Could.{line_blocks};
+
+    fn could_write(&self, who: u16) -> bool
+        ensures { result ≡ could_by self.now.owner self.now.writes self.now.readers who X }
+    {
+        if self.owns(who) {
+            self.writes < MAX_HOLDS
+        } else {
+            self.admits(who) && self.readers == 0
+        }
+    }
+
+    fn could_read(&self, who: u16) -> bool
+        ensures { result ≡ could_by self.now.owner self.now.writes self.now.readers who S }
+    {
+        self.admits(who) && self.readers < MAX_HOLDS
+    }
+
+    /// Whether nobody but the reader could read on: no read hold is left, or it writes too.
+    fn is_last_read(&self, who: u16) -> bool
+        ensures { result ≡ ((self.now.readers == max_shared) || is_seat self.now.owner who) }
+    {
+        self.readers == MAX_HOLDS || self.owns(who)
+    }
+
+    /// Whether a read hold less lets somebody write, or read again.
+    fn opens_by_read(&self) -> bool
+        ensures { result ≡ ((self.now.readers == 1) || (self.now.readers == max_shared)) }
+    {
+        self.readers == 1 || self.readers == MAX_HOLDS
+    }
+
+    /// A reader that asks to write isn't reentrant.
+    fn is_reentrant(&self, who: u16, mode: Mode) -> bool
+        ensures { result ≡ reentrant_by (state_of self.now) who mode }
+    {
+        match mode {
+            Mode::X => self.owns(who),
+            Mode::S => self.owns(who) || self.holds(who, Mode::S) > 0,
+        }
+    }
+
+    /// A fair line holds back all, and any line new readers where its first asks to write.
+    fn is_blocked(&self, mode: Mode, line: Line) -> bool
+        ensures { result ≡ line_blocks (ReadWrite self.now.policy) mode (line_mode line) }
+    {
+        match (line, self.policy) {
+            (Line::Empty, _) => false,
+            (_, Policy::Fair) => true,
+            (Line::FirstS, Policy::NonFair) => false,
+            (Line::FirstX, Policy::NonFair) => match mode {
+                Mode::X => false,
+                Mode::S => true,
+            },
+        }
+    }
+}
+
+impl Hooks for RwHooks {
+    ghost use Rattle.read_write.specs.Laws.{opens_so, same_policy, some_counts};
+    ghost use Rattle.read_write.specs.State.{Stands, rw_of, IsOpened};
+
+    ghost agrees = { Stands };
+
+    ghost object_of = { rw_of };
+
+    ghost is_opened = { IsOpened };
+
+    ghost opens = { opens_so };
+
+    ghost same_object = { same_policy };
+
+    ghost stands = { some_counts };
+
+    fn could(&self, who: u16, mode: Mode, _n: u32) -> bool {
+        match mode {
+            Mode::X => self.could_write(who),
+            Mode::S => self.could_read(who),
+        }
+    }
+
+    fn at_limit(&self, who: u16, mode: Mode) -> bool {
+        match mode {
+            Mode::X => self.holds(who, Mode::X) == MAX_HOLDS,
+            Mode::S => self.admits(who) && self.readers == MAX_HOLDS,
+        }
+    }
+
+    fn holds_back(&self, who: u16, mode: Mode, line: Line) -> bool {
+        !self.is_reentrant(who, mode) && self.is_blocked(mode, line)
+    }
+
+    fn take(&mut self, who: u16, mode: Mode, _n: u32) -> Taken {
+        match mode {
+            Mode::X => {
+                self.owner = Some(who);
+                self.writes += 1;
+                Taken::Last
+            }
+            Mode::S => {
+                self.reads[usize::from(who)] += 1;
+                self.readers += 1;
+                if self.is_last_read(who) {
+                    Taken::Last
+                } else {
+                    Taken::More
+                }
+            }
+        }
+    }
+
+    fn give(&mut self, who: u16, mode: Mode, _n: u32) -> Result<Gave, Fault> {
+        if self.holds(who, mode) == 0 {
+            return Err(Fault::NotOwner);
+        }
+        match mode {
+            Mode::X => {
+                self.writes -= 1;
+                if self.writes > 0 {
+                    return Ok(Gave::Kept);
+                }
+                self.owner = None;
+                Ok(Gave::Open)
+            }
+            Mode::S => {
+                let opens = self.opens_by_read();
+                self.reads[usize::from(who)] -= 1;
+                self.readers -= 1;
+                Ok(if opens { Gave::Open } else { Gave::Kept })
+            }
+        }
+    }
+
+    fn let_go_all(&mut self, who: u16) -> Result<u32, Fault> {
+        if !self.owns(who) {
+            return Err(Fault::NotOwner);
+        }
+        if self.holds(who, Mode::S) > 0 {
+            return Err(Fault::HoldsRead);
+        }
+        let writes = self.writes;
+        self.owner = None;
+        self.writes = 0;
+        Ok(u32::from(writes))
+    }
+
+    fn restore(&mut self, who: u16, holds: u32) {
+        self.owner = Some(who);
+        self.writes = holds as u16;
+    }
+
+    fn drain(&mut self) -> u32 {
+        0
+    }
+
+    fn as_opened(&self, seats: u16) -> bool {
+        self.owner.is_none() && self.readers == 0 && self.reads.len() == usize::from(seats)
+    }
+
+    fn object(&self) -> Object {
+        Object::ReadWrite(self.policy)
+    }
+
+    fn level(&self) -> i64 {
+        0
+    }
+}

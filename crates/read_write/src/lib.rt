@@ -1,0 +1,4 @@
+//! The hooks of a reentrant read-write lock.
+#![tactic(auto)]
+
+pub mod hooks;
