@@ -9,7 +9,6 @@ pub mod device;
 pub mod form;
 pub mod memory_sink;
 pub mod memory_source;
-mod refusing;
 mod replay;
 pub mod replay_stream;
 pub mod sink;

@@ -10,6 +10,7 @@ use crate::replay_stream::replay_stream;
 use crate::sink::Sink;
 use crate::source::Source;
 use crate::stream_fault::StreamFault;
+use std::process::Abort;
 use std::test::Fail;
 use steps::TextFault;
 
@@ -31,8 +32,8 @@ const ANSWER: &[u8] = b"aqs-replay 1 lock fair seats 2 conditions 1 cap 64\n\
 end 3 2\n";
 
 /// The answer to a text that comes and goes in pieces, and the sink afterwards.
-fn streamed(
-    rt: &HostRuntime,
+fn streamed<R: Abort + AllocGlobal>(
+    rt: &R,
     text: &[u8],
     form: Form,
     piece: usize,
