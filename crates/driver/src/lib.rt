@@ -6,6 +6,8 @@
 
 mod answering;
 pub mod device;
+#[cfg(test)]
+mod examples;
 pub mod form;
 pub mod memory_sink;
 pub mod memory_source;
@@ -14,10 +16,7 @@ pub mod replay_stream;
 pub mod sink;
 pub mod source;
 pub mod stream_fault;
-mod turns;
-mod whole;
-
-#[cfg(test)]
-mod examples;
 #[cfg(test)]
 mod tests;
+mod turns;
+mod whole;

@@ -11,13 +11,13 @@ use crate::sink::Sink;
 use crate::source::Source;
 use crate::stream_fault::StreamFault;
 use crate::whole::{read_all, write_all};
+use counting::latch::LatchHooks;
+use counting::semaphore::SemaphoreHooks;
 use frame::hooks::Hooks;
 use frame::machine::Core;
 use history::header::{Header, Object};
 use history::step::Step;
 use history_text::write_text;
-use counting::latch::LatchHooks;
-use counting::semaphore::SemaphoreHooks;
 use line_text::fault::TextFault;
 use read_write::hooks::RwHooks;
 use reentrant::lock::LockHooks;
@@ -128,7 +128,13 @@ fn answer_text(
             Err(_) => Err(AllocError),
         },
         Object::Semaphore(policy, permits) => {
-            opened(alloc, header, SemaphoreHooks::open(policy, permits), steps, form)
+            opened(
+                alloc,
+                header,
+                SemaphoreHooks::open(policy, permits),
+                steps,
+                form,
+            )
         }
         Object::Latch(count) => opened(alloc, header, LatchHooks::open(count), steps, form),
     }
