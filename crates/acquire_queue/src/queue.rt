@@ -94,7 +94,8 @@ impl Queue {
         ensures line { self.new.arrivals ≡ drop 1 self.old.arrivals }
 
         // The same, by its seat.
-        ensures left { IfSome result (λ first. self.new.arrivals ≡ filter (λ a. not (first.seat == a.seat)) self.old.arrivals) }
+        ensures left { IfSome result (λ first.
+            self.new.arrivals ≡ filter (λ a. not (first.seat == a.seat)) self.old.arrivals) }
         ensures joined { self.new.joined ≡ self.old.joined }
         ensures seats { self.new.seats ≡ self.old.seats }
     {

@@ -8,7 +8,7 @@ use Rattle.std.proofs.lemmas.List.{get_or_past, length-set, length-map, length_p
 use Rattle.history.specs.Sleepers.{has, without}
 use Rattle.condition_queue.specs.declared.sleeper.Sleeper.{Sleeper}
 use Rattle.condition_queue.specs.Sleepers.{IsKept, SleepOnce, sleeps_on}
-use Rattle.condition_queue.proofs.Lists.{has-append, has-without, once-push, once-without, length-once, has_first, without_first, field_at, at_set, field_set}
+use Rattle.condition_queue.proofs.Lists.{has-append, has-without, once-push, once-without, length-once, has_first, without_first, field_at, at_set, field_set, lists_changed}
 
 -- a seat sleeps on one condition at most
 pub sleeps_elsewhere : (c d : ℕ) (o : Option Sleeper) → sleeps_on c o ≡ true → d ≢ c → sleeps_on d o ≡ false
@@ -35,6 +35,12 @@ list_below seats lists rooms table kept c s asleep = condition_below lists c s (
 
 pub first_asleep : (seats : ℕ) (lists : List (List ℕ)) (rooms : List ℕ) (table : List (Option Sleeper)) → IsKept seats lists rooms table → (c s : ℕ) → slice_get (get_or lists c []) 0 ≡ Some s → sleeps_on c (get_or table s None) ≡ true
 first_asleep seats lists rooms table kept c s first = sym (kept.listed c s) ∙ has_first s (get_or lists c []) first
+
+pub first_below : (seats : ℕ) (lists : List (List ℕ)) (rooms : List ℕ) (table : List (Option Sleeper)) → IsKept seats lists rooms table → (c s : ℕ) → slice_get (get_or lists c []) 0 ≡ Some s → s < length table
+first_below seats lists rooms table kept c s first = seat_below table c s (first_asleep seats lists rooms table kept c s first)
+
+pub known_asleep : (o : Option Sleeper) (x : Sleeper) → o ≡ Some x → sleeps_on x.condition o ≡ true
+known_asleep o x told = ap (sleeps_on x.condition) told ∙ eq-eqb x.condition x.condition refl
 
 pub length-kept : (seats : ℕ) (lists : List (List ℕ)) (rooms : List ℕ) (table : List (Option Sleeper)) → IsKept seats lists rooms table → (c : ℕ) → length (get_or lists c []) ≤ seats
 length-kept seats lists rooms table kept c =
@@ -147,6 +153,12 @@ module _ {Z : Type 0} where
     left : (b h : Bool) → (not b && h) ≡ cond b false h
     left true h = refl
     left false h = refl
+
+  -- the lists without one who is known to sleep
+  pub lists_left : (seats : ℕ) (lists : List (VecDeque ℕ Z)) (table : List (Option Sleeper)) (seen : ℕ → List ℕ) (x : Sleeper) (s : ℕ) (q p : VecDeque ℕ Z) → IsKept seats (map deque_items lists) (map deque_capacity lists) table → ((d : ℕ) → get_or (map deque_items lists) d [] ≡ seen d) → get_or table s None ≡ Some x → q ≡ get_or lists x.condition q → p.items ≡ without s q.items → (d : ℕ) → get_or (map deque_items (set lists x.condition p)) d [] ≡ cond (eqb x.condition d) (without s (seen d)) (seen d)
+  lists_left seats lists table seen x s q p kept same told is becomes =
+      let below = list_below _ _ _ _ kept x.condition s (known_asleep (get_or table s None) x told) in
+      lists_changed (without s) lists seen x.condition q p same (omega (arith, below, length-map lists (deque_items {X = ℕ} {Z = Z}))) is becomes
 
   -- the first leaves
   pub kept_moved : (seats : ℕ) (lists : List (VecDeque ℕ Z)) (table : List (Option Sleeper)) (c s : ℕ) (q p : VecDeque ℕ Z) → IsKept seats (map deque_items lists) (map deque_capacity lists) table → slice_get (get_or (map deque_items lists) c []) 0 ≡ Some s → c < length lists → q ≡ get_or lists c q → deque_capacity p ≡ deque_capacity q → p.items ≡ drop 1 q.items → IsKept seats (map deque_items (set lists c p)) (map deque_capacity (set lists c p)) (set table s None)
