@@ -1,6 +1,6 @@
 //! A queue of arrivals.
 
-ghost use Rattle.std.specs.Prelude.{◌≡◌, true, ℕ, ◌+◌, ◌^◌, ◌<◌, ◌==◌, not, List, [], ◌∷◌, ◌++◌, length, drop, filter, position, is_some, is_none, IfOk, IfErr, IfSome};
+ghost use Rattle.std.specs.Prelude.{◌≡◌, ℕ, ◌+◌, ◌^◌, ◌<◌, ◌==◌, not, List, [], ◌∷◌, ◌++◌, length, drop, filter, position, is_some, is_none, IfOk, IfErr, IfSome, IsSome};
 ghost use Rattle.std.specs.Bool.{OnFalse};
 ghost use Rattle.std.specs.VecDeque.{deque_capacity};
 ghost use Rattle.history.specs.Line.{first_of, place_of};
@@ -152,7 +152,7 @@ impl Queue {
     pub fn live_len(&self) -> u16
         ensures len { result ≡ length self.now.arrivals }
         ensures once { StandOnce self.now.arrivals }
-        ensures below { (i : ℕ) → is_some (place_of i self.now.arrivals) ≡ true → i < self.now.seats }
+        ensures below { (i : ℕ) → IsSome (place_of i self.now.arrivals) → i < self.now.seats }
     {
         self.line.len() as u16
     }

@@ -1,6 +1,6 @@
 //! The sleepers of all conditions of one object.
 
-ghost use Rattle.std.specs.Prelude.{◌≡◌, false, true, ℕ, ◌+◌, ◌^◌, ◌<◌, ◌≤◌, ◌==◌, if◌then◌else◌, [], ◌∷◌, ◌++◌, length, slice_get, is_some, All, Some, None, IfOk, IfErr};
+ghost use Rattle.std.specs.Prelude.{◌≡◌, false, true, ℕ, ◌+◌, ◌^◌, ◌<◌, ◌≤◌, ◌==◌, if◌then◌else◌, [], ◌∷◌, ◌++◌, length, slice_get, is_some, All, Some, None, IfOk, IfErr, IfSome};
 ghost use Rattle.std.specs.Bool.{OnFalse};
 ghost use Rattle.std.specs.VecDeque.{deque_capacity};
 ghost use Rattle.history.specs.Line.{coming_back, place_of};
@@ -171,6 +171,7 @@ impl Waiters {
     pub fn sleeper_of(&self, seat: u16) -> Option<Sleeper>
         ensures sleeper { result ≡ sleeper_of self.now seat }
         ensures listed { (c : ℕ) → has seat (asleep_on self.now c) ≡ sleeps_on c result }
+        ensures condition { IfSome result (λ sleeper. sleeper.condition < self.now.conditions) }
     {
         match self.table.get(seat as usize) {
             None => None,

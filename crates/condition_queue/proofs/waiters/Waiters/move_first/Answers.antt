@@ -30,7 +30,7 @@ invariant_of-self c =
     let first : slice_get (get_or (map deque_items c.self.inside.lists.items) c.args.c []) 0 ≡ Some c.in-Some.seat =
         ap (λ (v : Sleepers). slice_get (asleep_on v c.args.c) 0) c.self.view_is ∙ sym c.in-Some.ensures in
     let low : c.args.c < length c.self.inside.lists.items = omega (arith, c.requires.condition, ap (λ (v : Sleepers). v.conditions) c.self.view_is) in
-    kept_moved _ _ _ c.args.c c.in-Some.seat _ _ c.self.invariant first low c.index_mut.ensures.value c.pop_front.ensures.capacity c.pop_front.ensures.rest
+    kept_moved _ _ _ c.self.invariant c.args.c _ low c.index_mut.ensures.value c.in-Some.seat _ c.pop_front.ensures.capacity c.pop_front.ensures.rest first
 
 pub returns-in-None-clause-moved : goal.returns-in-None-clause-moved
 returns-in-None-clause-moved c = sym (nobody_first (asleep_on c.args.self.now c.args.c) (sym c.in-None.ensures))
