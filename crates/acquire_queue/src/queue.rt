@@ -1,6 +1,6 @@
 //! A queue of arrivals.
 
-ghost use Rattle.std.specs.Prelude.{◌≡◌, true, ℕ, ◌+◌, ◌^◌, ◌<◌, ◌==◌, not, List, [], ◌∷◌, ◌++◌, length, drop, filter, position, is_some, is_none, IfOk, IfErr, IfSome};
+ghost use Rattle.std.specs.Prelude.{◌≡◌, ℕ, ◌+◌, ◌^◌, ◌<◌, ◌==◌, not, List, [], ◌∷◌, ◌++◌, length, drop, filter, position, is_some, is_none, IfOk, IfErr, IfSome, IsSome};
 ghost use Rattle.std.specs.Bool.{OnFalse};
 ghost use Rattle.std.specs.VecDeque.{deque_capacity};
 ghost use Rattle.history.specs.Line.{first_of, place_of};
@@ -93,7 +93,8 @@ impl Queue {
         ensures line { self.new.arrivals ≡ drop 1 self.old.arrivals }
 
         // The same, by its seat.
-        ensures left { IfSome result (λ first. self.new.arrivals ≡ filter (λ a. not (first.seat == a.seat)) self.old.arrivals) }
+        ensures left { IfSome result (λ first.
+            self.new.arrivals ≡ filter (λ a. not (first.seat == a.seat)) self.old.arrivals) }
         ensures joined { self.new.joined ≡ self.old.joined }
         ensures seats { self.new.seats ≡ self.old.seats }
     {
@@ -150,7 +151,7 @@ impl Queue {
     pub fn live_len(&self) -> u16
         ensures len { result ≡ length self.now.arrivals }
         ensures once { StandOnce self.now.arrivals }
-        ensures below { (i : ℕ) → is_some (place_of i self.now.arrivals) ≡ true → i < self.now.seats }
+        ensures below { (i : ℕ) → IsSome (place_of i self.now.arrivals) → i < self.now.seats }
     {
         self.line.len() as u16
     }

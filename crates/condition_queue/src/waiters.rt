@@ -1,6 +1,6 @@
 //! The sleepers of all conditions of one object.
 
-ghost use Rattle.std.specs.Prelude.{◌≡◌, false, true, ℕ, ◌+◌, ◌^◌, ◌<◌, ◌≤◌, ◌==◌, if◌then◌else◌, [], ◌∷◌, ◌++◌, length, slice_get, is_some, All, Some, None, IfOk, IfErr};
+ghost use Rattle.std.specs.Prelude.{◌≡◌, false, true, ℕ, ◌+◌, ◌^◌, ◌<◌, ◌≤◌, ◌==◌, if◌then◌else◌, [], ◌∷◌, ◌++◌, length, slice_get, is_some, All, Some, None, IfOk, IfErr, IfSome};
 ghost use Rattle.std.specs.Bool.{OnFalse};
 ghost use Rattle.std.specs.VecDeque.{deque_capacity};
 ghost use Rattle.history.specs.Line.{coming_back, place_of};
@@ -42,7 +42,8 @@ impl Model for Waiters {
       sleepers = w.table.items;
     } };
 
-    ghost invariant = { λ w. IsKept w.seats (map deque_items w.lists.items) (map deque_capacity w.lists.items) w.table.items };
+    ghost invariant = { λ w.
+        IsKept w.seats (map deque_items w.lists.items) (map deque_capacity w.lists.items) w.table.items };
 }
 
 impl Waiters {
@@ -75,8 +76,10 @@ impl Waiters {
         requires condition { c < self.old.conditions }
         requires seat { seat < self.old.seats }
         requires awake { sleeper_of self.old seat ≡ None }
-        ensures lists { (d : ℕ) → asleep_on self.new d ≡ (if c == d then asleep_on self.old d ++ seat ∷ [] else asleep_on self.old d) }
-        ensures sleepers { (i : ℕ) → sleeper_of self.new i ≡ (if seat == i then Some (record { condition = c; holds = holds }) else sleeper_of self.old i) }
+        ensures lists { (d : ℕ) → asleep_on self.new d
+            ≡ (if c == d then asleep_on self.old d ++ seat ∷ [] else asleep_on self.old d) }
+        ensures sleepers { (i : ℕ) → sleeper_of self.new i
+            ≡ (if seat == i then Some (record { condition = c; holds = holds }) else sleeper_of self.old i) }
         ensures conditions { self.new.conditions ≡ self.old.conditions }
         ensures seats { self.new.seats ≡ self.old.seats }
     {
@@ -90,11 +93,13 @@ impl Waiters {
     /// Takes a seat away from the condition that it sleeps on, and tells whether it slept.
     pub fn leave(&mut self, seat: u16) -> bool
         ensures slept { result ≡ is_some (sleeper_of self.old seat) }
-        ensures lists { (d : ℕ) → asleep_on self.new d ≡ (if sleeps_on d (sleeper_of self.old seat) then without seat (asleep_on self.old d) else asleep_on self.old d) }
+        ensures lists { (d : ℕ) → asleep_on self.new d
+            ≡ (if sleeps_on d (sleeper_of self.old seat) then without seat (asleep_on self.old d) else asleep_on self.old d) }
 
         // The same, whatever it slept on.
         ensures left { (d : ℕ) → asleep_on self.new d ≡ without seat (asleep_on self.old d) }
-        ensures sleepers { (i : ℕ) → sleeper_of self.new i ≡ (if seat == i then None else sleeper_of self.old i) }
+        ensures sleepers { (i : ℕ) → sleeper_of self.new i
+            ≡ (if seat == i then None else sleeper_of self.old i) }
         ensures awake { OnFalse result (self.new ≡ self.old) }
         ensures conditions { self.new.conditions ≡ self.old.conditions }
         ensures seats { self.new.seats ≡ self.old.seats }
@@ -114,7 +119,8 @@ impl Waiters {
     pub fn move_first(&mut self, c: u8, queue: &mut Queue) -> u32
         requires condition { c < self.old.conditions }
         requires seats { self.old.seats ≤ queue.old.seats }
-        requires apart { (i : ℕ) → has i (asleep_on self.old c) ≡ true → place_of i queue.old.arrivals ≡ None }
+        requires apart { (i : ℕ) → has i (asleep_on self.old c) ≡ true
+            → place_of i queue.old.arrivals ≡ None }
         requires countable { queue.old.joined + at_most_one (length (asleep_on self.old c)) < 2 ^ 64 }
         ensures moved { result ≡ at_most_one (length (asleep_on self.old c)) }
         ensures moves { Moves c result self.old self.new queue.old queue.new }
@@ -135,7 +141,8 @@ impl Waiters {
     pub fn move_all(&mut self, c: u8, queue: &mut Queue) -> u32
         requires condition { c < self.old.conditions }
         requires seats { self.old.seats ≤ queue.old.seats }
-        requires apart { (i : ℕ) → has i (asleep_on self.old c) ≡ true → place_of i queue.old.arrivals ≡ None }
+        requires apart { (i : ℕ) → has i (asleep_on self.old c) ≡ true
+            → place_of i queue.old.arrivals ≡ None }
         requires countable { queue.old.joined + length (asleep_on self.old c) < 2 ^ 64 }
         ensures moved { result ≡ length (asleep_on self.old c) }
         ensures moves { Moves c result self.old self.new queue.old queue.new }
@@ -162,6 +169,7 @@ impl Waiters {
     pub fn sleeper_of(&self, seat: u16) -> Option<Sleeper>
         ensures sleeper { result ≡ sleeper_of self.now seat }
         ensures listed { (c : ℕ) → has seat (asleep_on self.now c) ≡ sleeps_on c result }
+        ensures condition { IfSome result (λ sleeper. sleeper.condition < self.now.conditions) }
     {
         match self.table.get(seat as usize) {
             None => None,
@@ -187,7 +195,8 @@ fn reserve_lists(
     seats: u16,
 ) -> Result<Vec<VecDeque<u16>>, AllocError>
     ensures conditions { IfOk result (λ lists. length lists.items ≡ conditions) }
-    ensures reserved { IfOk result (λ lists. All (λ list. (list.items ≡ []) × (seats ≤ deque_capacity list)) lists.items) }
+    ensures reserved { IfOk result (λ lists.
+        All (λ list. (list.items ≡ []) × (seats ≤ deque_capacity list)) lists.items) }
 {
     let mut lists = Vec::with_capacity(alloc, conditions as usize)?;
     for _ in 0..conditions {
