@@ -1,2 +1,11 @@
+pub mod Deciding
+pub mod Seats
+pub mod Counting
+pub mod Bounds
+pub mod Moving
+pub mod Stepping
+pub mod Recording
 pub mod Owners
 pub mod Tables
+pub mod Opening
+pub mod Runs

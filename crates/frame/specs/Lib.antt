@@ -1,2 +1,9 @@
 pub mod Hooks
+pub mod Seat
+pub mod Checks
+pub mod Effects
+pub mod Waiting
+pub mod Observed
+pub mod Core
 pub mod Owners
+pub mod Runs

@@ -2,4 +2,13 @@
 //! the holds and the history.
 #![tactic(auto)]
 
+mod checks;
+mod effects;
+mod entries;
 pub mod hooks;
+pub mod machine;
+pub mod run;
+pub mod seat;
+mod waiting;
+
+pub use history::step::{Answer, Step};

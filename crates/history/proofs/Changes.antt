@@ -88,7 +88,7 @@ counts_took s e h t = by e.word t
   by _ t = cc
 
 -- the line after an entry
-all_stay : (w : Word) (i : ℕ) (q : List Arrival) → ends_arrival w ≡ false → filter (stays w i) q ≡ q
+pub all_stay : (w : Word) (i : ℕ) (q : List Arrival) → ends_arrival w ≡ false → filter (stays w i) q ≡ q
 all_stay w i [] t = refl
 all_stay w i (a ∷ q) t =
     let s : stays w i a ≡ true = rw t refl in

@@ -1,6 +1,12 @@
 pub mod Fault
 pub mod Header
+pub mod Text
+pub mod Spelling
+pub mod Reading
+pub mod EntryWords
+pub mod EntryReading
 pub mod Entry
+pub mod Entries
 pub mod Object
 pub mod Start
 pub mod Counts
@@ -16,3 +22,6 @@ pub mod Legal
 pub mod Room
 pub mod Answers
 pub mod Order
+pub mod Conservation
+pub mod Ownership
+pub mod Waiting

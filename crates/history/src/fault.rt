@@ -1,5 +1,9 @@
 //! Why a step was refused.
 
+use std::alloc::AllocError;
+use std::error::Error;
+use std::fmt;
+
 /// A fault of a step or a call. The first five are recorded as an entry `Refused`; after the others
 /// nothing has changed and nothing is recorded.
 #[derive(Clone, Copy, Debug, PartialEq, Eq)]
@@ -30,7 +34,7 @@ pub enum Fault {
 
 impl Fault {
     ghost use Rattle.std.specs.Prelude.{◌≡◌};
-    ghost use Rattle.history.specs.Fault.{fault_number};
+    ghost use Rattle.history.specs.Fault.{fault_number, fault_name};
 
     /// Its number in the table of faults, from 1; 1 to 5 are recorded.
     pub fn number(self) -> u8
@@ -49,5 +53,48 @@ impl Fault {
             Fault::HistoryFull => 10,
             Fault::OutOfMemory => 11,
         }
+    }
+
+    /// Its name, the word for it in a text.
+    pub fn name(self) -> &'static str
+        ensures { result.now ≡ fault_name self }
+    {
+        match self {
+            Fault::NotOwner => "NotOwner",
+            Fault::TooManyHolds => "TooManyHolds",
+            Fault::TooManyPermits => "TooManyPermits",
+            Fault::Interrupted => "Interrupted",
+            Fault::HoldsRead => "HoldsRead",
+            Fault::OutOfPhase => "OutOfPhase",
+            Fault::NoSuchCondition => "NoSuchCondition",
+            Fault::BadAmount => "BadAmount",
+            Fault::WrongMode => "WrongMode",
+            Fault::HistoryFull => "HistoryFull",
+            Fault::OutOfMemory => "OutOfMemory",
+        }
+    }
+}
+
+impl fmt::Display for Fault {
+    ghost use Rattle.std.specs.Prelude.{Some};
+    ghost use Rattle.history.specs.Fault.{fault_name};
+
+    ghost output = { λ fault. Some (fault_name fault) };
+
+    fn fmt<W: fmt::Write>(&self, f: &mut fmt::Formatter<W>) -> fmt::Result {
+        f.write_str(self.name())
+    }
+}
+
+impl Error for Fault {}
+
+impl From<AllocError> for Fault {
+    ghost use Rattle.std.specs.Prelude.{◌≡◌};
+    ghost use Rattle.history.specs.declared.fault.Fault.TheVariants.{OutOfMemory};
+
+    ghost from_gives = { λ _ fault. fault ≡ OutOfMemory };
+
+    fn from(_error: AllocError) -> Fault {
+        Fault::OutOfMemory
     }
 }

@@ -1,0 +1,45 @@
+//! Why the program stopped.
+
+use clap::Error;
+use clap::error::ErrorKind;
+use driver::stream_fault::StreamFault;
+use std::alloc::AllocError;
+
+/// A fault, which the program tells in one line.
+#[derive(Clone, Copy, Debug, PartialEq, Eq, thiserror::Error)]
+pub enum Fault {
+    /// The command line asks for nothing that the program does; help and the version are no exceptions.
+    #[error("usage")]
+    Usage,
+    #[error("out of memory")]
+    Memory,
+    #[error("{0}")]
+    Stream(StreamFault),
+}
+
+impl Fault {
+    /// The exit status: 2 for the command line, 3 for a text, 4 for a device, 5 for memory.
+    pub fn status(&self) -> u8 {
+        match self {
+            Fault::Usage => 2,
+            Fault::Stream(StreamFault::Text(_)) => 3,
+            Fault::Stream(StreamFault::ReadFailed | StreamFault::WriteFailed) => 4,
+            Fault::Stream(StreamFault::Memory) | Fault::Memory => 5,
+        }
+    }
+}
+
+impl From<AllocError> for Fault {
+    fn from(_e: AllocError) -> Fault {
+        Fault::Memory
+    }
+}
+
+impl From<Error> for Fault {
+    fn from(error: Error) -> Fault {
+        match error.kind() {
+            ErrorKind::OutOfMemory => Fault::Memory,
+            _ => Fault::Usage,
+        }
+    }
+}

@@ -1,0 +1,8 @@
+//! One who sleeps.
+
+/// The condition that a seat sleeps on, and the holds that it gave up for that.
+#[derive(Clone, Copy, Debug, PartialEq, Eq)]
+pub struct Sleeper {
+    pub condition: u8,
+    pub holds: u32,
+}

@@ -1,0 +1,218 @@
+//! The sleepers of all conditions of one object.
+
+ghost use Rattle.std.specs.Prelude.{◌≡◌, false, true, ℕ, ◌+◌, ◌^◌, ◌<◌, ◌≤◌, ◌==◌, if◌then◌else◌, [], ◌∷◌, ◌++◌, length, slice_get, is_some, All, Some, None, IfOk, IfErr};
+ghost use Rattle.std.specs.Bool.{OnFalse};
+ghost use Rattle.std.specs.VecDeque.{deque_capacity};
+ghost use Rattle.history.specs.Line.{coming_back, place_of};
+ghost use Rattle.history.specs.Sleepers.{has, without};
+ghost use Rattle.history.specs.Steps.{at_most_one};
+ghost use Rattle.condition_queue.specs.Moves.{Moves};
+ghost use Rattle.condition_queue.specs.Sleepers.{asleep_on, sleeper_of, sleeps_on, SleepOnce};
+
+use std::alloc::{AllocError, Global};
+use std::collections::VecDeque;
+use std::marker::Model;
+
+use acquire_queue::queue::Queue;
+use history::arrival::Arrival;
+use history::entry::Mode;
+use history::fault::Fault;
+
+use crate::sleeper::Sleeper;
+
+/// The sleepers of each condition of an object, the longest sleeper first. A seat sleeps on one condition
+/// at most.
+#[derive(Drop)]
+pub struct Waiters {
+    seats: u16,
+    lists: Vec<VecDeque<u16>>,
+    /// What each seat sleeps on, so that nobody has to be looked for.
+    table: Vec<Option<Sleeper>>,
+}
+
+impl Model for Waiters {
+    ghost use Rattle.std.specs.Prelude.{length, map};
+    ghost use Rattle.std.specs.VecDeque.{deque_items, deque_capacity};
+    ghost use Rattle.condition_queue.specs.Sleepers.{Sleepers, IsKept};
+
+    ghost Value = { Sleepers };
+
+    ghost view = { λ w. record {
+        seats = w.seats;
+        conditions = length w.lists.items;
+        lists = map deque_items w.lists.items;
+        sleepers = w.table.items;
+    } };
+
+    ghost invariant = { λ w. IsKept w.seats (map deque_items w.lists.items) (map deque_capacity w.lists.items) w.table.items };
+}
+
+impl Waiters {
+    /// Nobody asleep, for so many conditions and seats. It reserves all that will ever be needed;
+    /// `OutOfMemory` is the only fault.
+    pub fn open(alloc: Global, conditions: u8, seats: u16) -> Result<Waiters, Fault>
+        ensures empty { IfOk result (λ waiters. (c : ℕ) → asleep_on waiters c ≡ []) }
+        ensures awake { IfOk result (λ waiters. (i : ℕ) → sleeper_of waiters i ≡ None) }
+        ensures conditions { IfOk result (λ waiters. waiters.conditions ≡ conditions) }
+        ensures seats { IfOk result (λ waiters. waiters.seats ≡ seats) }
+        ensures refused { IfErr result (λ fault. fault ≡ Fault.OutOfMemory) }
+    {
+        let lists = match reserve_lists(alloc, conditions, seats) {
+            Err(_) => return Err(Fault::OutOfMemory),
+            Ok(lists) => lists,
+        };
+        let table = match vec![in alloc; None; seats as usize] {
+            Err(_) => return Err(Fault::OutOfMemory),
+            Ok(table) => table,
+        };
+        Ok(Waiters {
+            seats,
+            lists,
+            table,
+        })
+    }
+
+    /// Puts a seat to sleep on a condition, with the holds that it gave up. It takes no memory.
+    pub fn join(&mut self, c: u8, seat: u16, holds: u32)
+        requires condition { c < self.old.conditions }
+        requires seat { seat < self.old.seats }
+        requires awake { sleeper_of self.old seat ≡ None }
+        ensures lists { (d : ℕ) → asleep_on self.new d ≡ (if c == d then asleep_on self.old d ++ seat ∷ [] else asleep_on self.old d) }
+        ensures sleepers { (i : ℕ) → sleeper_of self.new i ≡ (if seat == i then Some (record { condition = c; holds = holds }) else sleeper_of self.old i) }
+        ensures conditions { self.new.conditions ≡ self.old.conditions }
+        ensures seats { self.new.seats ≡ self.old.seats }
+    {
+        self.table[seat as usize] = Some(Sleeper {
+            condition: c,
+            holds,
+        });
+        self.lists[c as usize].push_back_reserved(seat);
+    }
+
+    /// Takes a seat away from the condition that it sleeps on, and tells whether it slept.
+    pub fn leave(&mut self, seat: u16) -> bool
+        ensures slept { result ≡ is_some (sleeper_of self.old seat) }
+        ensures lists { (d : ℕ) → asleep_on self.new d ≡ (if sleeps_on d (sleeper_of self.old seat) then without seat (asleep_on self.old d) else asleep_on self.old d) }
+
+        // The same, whatever it slept on.
+        ensures left { (d : ℕ) → asleep_on self.new d ≡ without seat (asleep_on self.old d) }
+        ensures sleepers { (i : ℕ) → sleeper_of self.new i ≡ (if seat == i then None else sleeper_of self.old i) }
+        ensures awake { OnFalse result (self.new ≡ self.old) }
+        ensures conditions { self.new.conditions ≡ self.old.conditions }
+        ensures seats { self.new.seats ≡ self.old.seats }
+    {
+        match self.sleeper_of(seat) {
+            None => false,
+            Some(sleeper) => {
+                self.table[seat as usize] = None;
+                remove_seat(&mut self.lists[sleeper.condition as usize], seat);
+                true
+            }
+        }
+    }
+
+    /// Moves the longest sleeper of a condition to the end of the line, from where it will come back, and
+    /// answers how many it moved: 1, or 0 where nobody sleeps. It takes no memory.
+    pub fn move_first(&mut self, c: u8, queue: &mut Queue) -> u32
+        requires condition { c < self.old.conditions }
+        requires seats { self.old.seats ≤ queue.old.seats }
+        requires apart { (i : ℕ) → has i (asleep_on self.old c) ≡ true → place_of i queue.old.arrivals ≡ None }
+        requires countable { queue.old.joined + at_most_one (length (asleep_on self.old c)) < 2 ^ 64 }
+        ensures moved { result ≡ at_most_one (length (asleep_on self.old c)) }
+        ensures moves { Moves c result self.old self.new queue.old queue.new }
+    {
+        match self.first_on(c) {
+            None => 0,
+            Some(seat) => {
+                self.lists[c as usize].pop_front();
+                self.table[seat as usize] = None;
+                queue.join(on_its_way_back(seat));
+                1
+            }
+        }
+    }
+
+    /// Moves all sleepers of a condition to the end of the line, in their order, and answers how many. It
+    /// takes no memory.
+    pub fn move_all(&mut self, c: u8, queue: &mut Queue) -> u32
+        requires condition { c < self.old.conditions }
+        requires seats { self.old.seats ≤ queue.old.seats }
+        requires apart { (i : ℕ) → has i (asleep_on self.old c) ≡ true → place_of i queue.old.arrivals ≡ None }
+        requires countable { queue.old.joined + length (asleep_on self.old c) < 2 ^ 64 }
+        ensures moved { result ≡ length (asleep_on self.old c) }
+        ensures moves { Moves c result self.old self.new queue.old queue.new }
+    {
+        let sleepers = self.len(c);
+        for _ in 0..sleepers {
+            self.move_first(c, queue);
+        }
+        u32::from(sleepers)
+    }
+
+    /// How many sleep on a condition; 0 for one that the object doesn't have.
+    pub fn len(&self, c: u8) -> u16
+        ensures len { result ≡ length (asleep_on self.now c) }
+        ensures once { SleepOnce (asleep_on self.now c) }
+    {
+        match self.lists.get(c as usize) {
+            None => 0,
+            Some(list) => list.len() as u16,
+        }
+    }
+
+    /// What a seat sleeps on, found in one step; `None` where it is awake.
+    pub fn sleeper_of(&self, seat: u16) -> Option<Sleeper>
+        ensures sleeper { result ≡ sleeper_of self.now seat }
+        ensures listed { (c : ℕ) → has seat (asleep_on self.now c) ≡ sleeps_on c result }
+    {
+        match self.table.get(seat as usize) {
+            None => None,
+            Some(sleeper) => *sleeper,
+        }
+    }
+
+    /// The longest sleeper of a condition.
+    fn first_on(&self, c: u8) -> Option<u16>
+        ensures { result ≡ slice_get (asleep_on self.now c) 0 }
+    {
+        match self.lists.get(c as usize) {
+            None => None,
+            Some(list) => list.front().copied(),
+        }
+    }
+}
+
+/// A place for each seat on each condition.
+fn reserve_lists(alloc: Global, conditions: u8, seats: u16) -> Result<Vec<VecDeque<u16>>, AllocError>
+    ensures conditions { IfOk result (λ lists. length lists.items ≡ conditions) }
+    ensures reserved { IfOk result (λ lists. All (λ list. (list.items ≡ []) × (seats ≤ deque_capacity list)) lists.items) }
+{
+    let mut lists = Vec::with_capacity(alloc, conditions as usize)?;
+    for _ in 0..conditions {
+        lists.push(VecDeque::with_capacity(alloc, seats as usize)?)?;
+    }
+    Ok(lists)
+}
+
+/// A list of sleepers without a seat.
+fn remove_seat(list: &mut VecDeque<u16>, seat: u16)
+    ensures list { list.new.items ≡ without seat list.old.items }
+    ensures room { deque_capacity list.new ≡ deque_capacity list.old }
+{
+    list.retain(|i| *i != seat);
+}
+
+/// One that slept asks for the lock again.
+fn on_its_way_back(seat: u16) -> Arrival
+    ensures { result ≡ coming_back seat }
+{
+    Arrival {
+        seat,
+        mode: Mode::X,
+        n: 1,
+        back: true,
+    }
+}
+
+#[cfg(test)]
+mod tests;

@@ -1,0 +1,63 @@
+-- The history behind the answers to a steps text.
+use Rattle.std.proofs.Common.{◌≡◌, ℕ, ◌+◌, ◌<◌, ◌++◌, List, [], ◌∷◌, All, reverse}
+use Rattle.std.specs.List.{AllByRecursion}
+use Rattle.std.proofs.lemmas.List.Elements.{All-from_recursion, recursion_from_All}
+use Rattle.history.specs.declared.entry.Entry.{Entry}
+use Rattle.history.specs.declared.header.Header.{Header}
+use Rattle.history.specs.declared.step.Step.{Step}
+use Rattle.history.specs.Answers.{answer, results}
+use Rattle.history.specs.Start.{opening}
+use Rattle.history.specs.Legal.{IsLegal, AreSeated}
+use Rattle.history.proofs.Passing.{in_order, fair_order}
+use Rattle.history_text.proofs.Spelt.{all_spelt}
+use Rattle.line_text.specs.Form.{AreItems}
+use Rattle.line_text.specs.Reading.{IsText}
+use Rattle.steps.specs.StepsText.{steps_form}
+use Rattle.history.specs.EntryWords.{IsSpelt}
+use Rattle.history_text.proofs.Lists.{each-reverse}
+use Rattle.driver.specs.declared.form.Form.{Form}
+use Rattle.driver.specs.ReplayStream.{Replayed, answer_text}
+use Rattle.driver.specs.ReplayText.{history_behind}
+use Rattle.driver.proofs.Told.{follows}
+
+abbrev IsSeated : ℕ → ℕ × Step → Type 0
+IsSeated seats s = s.0 < seats
+
+seated : (h : Header) (k : ℕ) (steps : List (ℕ × Step)) → AreItems steps_form h k steps → AllByRecursion (IsSeated h.seats) steps
+seated h k [] p = tt
+seated h k (s ∷ steps) p = (p.0.0, seated h (k + 1) steps p.1)
+
+pub are_seated : (text : List ℕ) (h : Header) (steps : List (ℕ × Step)) → IsText steps_form text h steps → All (λ s. s.0 < h.seats) steps
+are_seated text h steps is = All-from_recursion (IsSeated h.seats) steps (seated h 0 steps is.begins.each)
+
+pub record IsHistory (header : Header) (h : List Entry) : Type 0 where
+  pub legal : IsLegal (opening header) h
+  pub seated : AreSeated (opening header) h
+
+results_are : (header : Header) (h : List Entry) (steps : List (ℕ × Step)) → IsHistory header h → AllByRecursion (IsSeated header.seats) steps → IsHistory header (results (opening header) h steps).1
+results_are header h [] is p = is
+results_are header h (x ∷ steps) is p =
+    let f = follows header h x.0 x.1 is.legal p.0 in
+    results_are header (answer (opening header) h x.0 x.1).1 steps (record { legal = f.legal; seated = f.seated is.seated }) p.1
+
+none_recorded : (header : Header) → IsHistory header []
+none_recorded header = record { legal = tt; seated = tt }
+
+pub replayed : (form : Form) (text : List ℕ) (h : Header) (steps : List (ℕ × Step)) (written : List ℕ) → IsText steps_form text h steps → written ≡ answer_text form h steps → Replayed form text (λ bytes. written ≡ bytes)
+replayed form text h steps written is same =
+    let all = results_are h [] steps (none_recorded h) (seated h 0 steps is.begins.each) in
+    record {
+      header = h;
+      steps = steps;
+      is = is;
+      legal = all.legal;
+      seated = all.seated;
+      in_order = in_order h (history_behind h steps) all.legal;
+      in_fair_order = fair_order (opening h) (history_behind h steps) all.legal;
+      written = same;
+    }
+
+pub spelt_behind : (h : Header) (steps : List (ℕ × Step)) → All (λ s. s.0 < h.seats) steps → All IsSpelt (reverse (history_behind h steps))
+spelt_behind h steps all =
+    let is = results_are h [] steps (none_recorded h) (recursion_from_All (IsSeated h.seats) steps all) in
+    All-from_recursion IsSpelt (reverse (history_behind h steps)) (each-reverse IsSpelt (history_behind h steps) (all_spelt h (history_behind h steps) is.legal))

@@ -1,0 +1,15 @@
+-- What reading all and writing all may answer and leave.
+use Rattle.std.specs.Prelude.{ℕ, List, Option, take}
+use Rattle.std.specs.Io.KnownBytes.{Appends}
+use Rattle.driver.specs.declared.stream_fault.StreamFault.{StreamFault}
+use Rattle.driver.specs.declared.stream_fault.StreamFault.TheVariants.{ReadFailed, WriteFailed, Memory}
+
+-- a front of the bytes is appended
+abbrev pub AppendsFront : Option (List ℕ) → Option (List ℕ) → List ℕ → Type 0
+AppendsFront old new bytes = (n : ℕ) × Appends old new (take n bytes)
+
+-- the faults of reading all
+abbrev pub IsOfReading : StreamFault → Type 0
+IsOfReading ReadFailed = Unit {0}
+IsOfReading Memory = Unit {0}
+IsOfReading fault = ⊥

@@ -1,0 +1,23 @@
+//! What answers the steps of an object's seats.
+
+ghost use Rattle.std.specs.Prelude.{◌≡◌, ◌<◌};
+ghost use Rattle.driver.specs.Answering.{Answered, IsAnswered};
+
+use history::entries::History;
+use history::fault::Fault;
+use history::step::{Answer, Step};
+
+/// An object that answers each step of its seats, with the history that it keeps of them: a core of some
+/// hooks.
+pub trait Answering {
+    /// The header, and the entries so far.
+    ghost view_of: { Self → Answered };
+
+    /// The answer that the definitions give, or want of memory, after which nothing has changed.
+    fn answer(&mut self, seat: u16, step: Step) -> Result<Answer, Fault>
+        requires { seat < (view_of self.old).header.seats }
+        ensures { IsAnswered (view_of self.old) seat step result (view_of self.new) };
+
+    fn history(&self) -> &History
+        ensures { result.now.entries ≡ (view_of self.now).entries };
+}

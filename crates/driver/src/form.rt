@@ -1,0 +1,10 @@
+//! What is written of a replay.
+
+/// What is written of a replay.
+#[derive(Clone, Copy, Debug, PartialEq, Eq)]
+pub enum Form {
+    /// The replay text: a line for the answer to each step.
+    Replay,
+    /// The history text: a line for each entry that was recorded.
+    History,
+}

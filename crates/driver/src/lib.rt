@@ -1,0 +1,24 @@
+//! From bytes to bytes: what a stream's text asks for is answered by a text.
+//!
+//! A stream reads all, builds its whole output, and only then writes, so that nothing is written for a
+//! text that is refused. Sources and sinks tell their bytes to the contracts, where these are known.
+#![tactic(auto)]
+
+mod answering;
+pub mod device;
+pub mod form;
+pub mod memory_sink;
+pub mod memory_source;
+mod refusing;
+mod replay;
+pub mod replay_stream;
+pub mod sink;
+pub mod source;
+pub mod stream_fault;
+mod turns;
+mod whole;
+
+#[cfg(test)]
+mod examples;
+#[cfg(test)]
+mod tests;

@@ -1,0 +1,26 @@
+//! Where bytes go.
+
+ghost use Rattle.std.specs.Prelude.{◌≡◌, ◌↔◌, ◌<◌, ◌≤◌, ℕ, List, Option, Bool, false, length, IsTrue, IsErr, IfOk};
+ghost use Rattle.std.specs.Io.KnownBytes.{WriteAppends};
+
+use crate::source::DeviceFailed;
+
+/// What can be written to. It fails at most once, and isn't asked again.
+pub trait Sink {
+    /// The bytes that it was given, where they are known.
+    ghost held: { Self → Option (List ℕ) };
+
+    /// Whether a write has failed.
+    ghost failed: { Self → Bool };
+
+    /// Takes a front of the piece, at least one byte of one that isn't empty, and says how much of it.
+    fn write(&mut self, piece: &[u8]) -> Result<usize, DeviceFailed>
+        requires { failed self.old ≡ false }
+        ensures bound { IfOk result (λ n. n ≤ length piece.now) }
+        ensures some { IfOk result (λ n. 0 < length piece.now → 0 < n) }
+        ensures bytes { WriteAppends (held self.old) (held self.new) result piece.now }
+        ensures failing { IsTrue (failed self.new) ↔ IsErr result };
+
+    fn has_failed(&self) -> bool
+        ensures { result ≡ failed self.now };
+}

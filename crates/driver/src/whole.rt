@@ -1,0 +1,46 @@
+//! All that a source has, and all that a sink is to get.
+
+ghost use Rattle.std.specs.Prelude.{◌≡◌, ◌↔◌, false, IsTrue, IsErr, IfOk, OnOk, OnErr, IfErr, IsErrOf, IfSome};
+ghost use Rattle.std.specs.Io.KnownBytes.{Appends};
+ghost use Rattle.driver.specs.Whole.{AppendsFront, IsOfReading};
+
+use crate::sink::Sink;
+use crate::source::{DeviceFailed, Source};
+use crate::stream_fault::StreamFault;
+use std::alloc::Global;
+
+/// All the bytes of a source.
+pub fn read_all<R: Source>(alloc: Global, reader: &mut R) -> Result<Vec<u8>, StreamFault>
+    requires { R.failed reader.old ≡ false }
+    ensures bytes { IfOk result (λ bytes. IfSome (R.left reader.old) (λ all. bytes.items ≡ all)) }
+    ensures failing { IsErrOf result StreamFault.ReadFailed ↔ IsTrue (R.failed reader.new) }
+    ensures kinds { IfErr result IsOfReading }
+{
+    let mut bytes = Vec::new(alloc);
+    let mut buffer = [0; 65536];
+    loop {
+        let Ok(n) = reader.read(&mut buffer) else {
+            return Err(StreamFault::ReadFailed);
+        };
+        if n == 0 {
+            return Ok(bytes);
+        }
+        if bytes.extend_from_slice(&buffer[..n]).is_err() {
+            return Err(StreamFault::Memory);
+        }
+    }
+}
+
+/// Writes all the bytes, or a front of them.
+pub fn write_all<W: Sink>(writer: &mut W, bytes: &[u8]) -> Result<(), DeviceFailed>
+    requires { W.failed writer.old ≡ false }
+    ensures ok { OnOk result (Appends (W.held writer.old) (W.held writer.new) bytes.now) }
+    ensures err { OnErr result (AppendsFront (W.held writer.old) (W.held writer.new) bytes.now) }
+    ensures failing { IsTrue (W.failed writer.new) ↔ IsErr result }
+{
+    let mut at = 0;
+    while at < bytes.len() {
+        at += writer.write(&bytes[at..])?;
+    }
+    Ok(())
+}

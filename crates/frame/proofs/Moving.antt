@@ -1,0 +1,185 @@
+-- What an entry makes of those who wait, and that they are as it needs them.
+use Rattle.std.proofs.Common.{◌≡◌, ◌⊎◌, ⊎_elim, ℕ, zero, suc, ◌+◌, ◌*◌, ◌^◌, ◌<◌, ◌≤◌, Bool, true, false, not, ◌&&◌, cond, eqb, List, [], ◌∷◌, ◌++◌, length, map, take, Option, Some, None, refl, ap, ◌∙◌, sym, subst, arith}
+use Rattle.std.specs.List.{filter}
+use Rattle.std.proofs.lemmas.Bool.{cases_eq, cases_lt, eq-eqb, false≢true}
+use Rattle.std.proofs.lemmas.List.{append-nil, length-append}
+use Rattle.acquire_queue.specs.Line.{Line}
+use Rattle.condition_queue.specs.declared.sleeper.Sleeper.{Sleeper}
+use Rattle.condition_queue.specs.Sleepers.{Sleepers, asleep_on, sleeper_of, sleeps_on}
+use Rattle.history.specs.declared.entry.Entry.{Entry}
+use Rattle.history.specs.declared.entry.Word.{Word}
+use Rattle.history.specs.declared.entry.Word.TheVariants as word
+use Rattle.history.specs.declared.header.Header.{Header}
+use Rattle.history.specs.Header.{IsInRange}
+use Rattle.history.specs.Legal.{IsLegal, AreSeated}
+use Rattle.history.specs.Line.{line, arrivals_by, place_of}
+use Rattle.history.specs.Phase.{Idle, phase}
+use Rattle.history.specs.Sleepers.{sleepers, sleepers_after, has, last_sleep, sleeps_below}
+use Rattle.history.specs.Start.{Start, opening}
+use Rattle.history.specs.Steps.{at_most_one}
+use Rattle.history.specs.Waiting.{asleep}
+use Rattle.history.proofs.Changes.{all_stay}
+use Rattle.history.proofs.Entering.{Known, KnownBy, OnCondition, known}
+use Rattle.history.proofs.LineLemmas.{line_after, stays}
+use Rattle.history.proofs.OneWait.{Waits, waits}
+use Rattle.history.proofs.SleepLemmas.{idle_parts, sleeping_parts, sleeps_there}
+use Rattle.history.proofs.WhoWaits.{asleep_out_of_line, sleeper_condition, no_sleepers_above, few_wait, line_seated}
+use Rattle.frame.specs.Core.{Keeps}
+use Rattle.frame.specs.Waiting.{line_behind, IsMovable, IsMovableBy, MayJoin, MaySleep, MayMove}
+
+-- the line
+line_by : (s : Start) (h : List Entry) (e : Entry) (w : Word) →
+    filter (stays w e.seat) (line s h) ++ arrivals_by s w e h ≡ line_behind w e (line s h) (sleepers s h e.at)
+line_by s h e word.Queued = ap (λ l. l ++ arrivals_by s word.Queued e h) (all_stay word.Queued e.seat (line s h) refl)
+line_by s h e word.Lapse = ap (λ l. l ++ arrivals_by s word.Lapse e h) (all_stay word.Lapse e.seat (line s h) refl)
+line_by s h e word.Signal = ap (λ l. l ++ arrivals_by s word.Signal e h) (all_stay word.Signal e.seat (line s h) refl)
+line_by s h e word.SignalAll = ap (λ l. l ++ arrivals_by s word.SignalAll e h) (all_stay word.SignalAll e.seat (line s h) refl)
+line_by s h e word.Granted = append-nil _
+line_by s h e word.Left = append-nil _
+line_by s h e word.Back = append-nil _
+line_by s h e word.Got = append-nil _ ∙ all_stay word.Got e.seat (line s h) refl
+line_by s h e word.TryGot = append-nil _ ∙ all_stay word.TryGot e.seat (line s h) refl
+line_by s h e word.Missed = append-nil _ ∙ all_stay word.Missed e.seat (line s h) refl
+line_by s h e word.Gave = append-nil _ ∙ all_stay word.Gave e.seat (line s h) refl
+line_by s h e (word.Refused f) = append-nil _ ∙ all_stay (word.Refused f) e.seat (line s h) refl
+line_by s h e word.Await = append-nil _ ∙ all_stay word.Await e.seat (line s h) refl
+line_by s h e word.Counted = append-nil _ ∙ all_stay word.Counted e.seat (line s h) refl
+line_by s h e word.Drained = append-nil _ ∙ all_stay word.Drained e.seat (line s h) refl
+
+pub line_next : (s : Start) (h : List Entry) (e : Entry) →
+    line s (e ∷ h) ≡ line_behind e.word e (line s h) (sleepers s h e.at)
+line_next s h e = line_after s e h ∙ line_by s h e e.word
+
+-- who waits nowhere sleeps nowhere, on no condition that there is or isn't
+awake_everywhere : (s : Start) (h : List Entry) (i : ℕ) → Waits s h → sleeps_below s.header.conditions s h i ≡ false →
+    (c : ℕ) → has i (sleepers s h c) ≡ false
+awake_everywhere s h i v t c = by (has i (sleepers s h c)) refl
+  where
+  by : (b : Bool) → has i (sleepers s h c) ≡ b → b ≡ false
+  by false p = refl
+  by true p =
+    let on = v.sleepers c i p in
+    let below : c < s.header.conditions = let l = on.saved.condition in let d = on.condition in omega (arith, l, d) in
+    let sleeps = sleeps_there s.header.conditions s h i c below p in
+    cc
+
+-- the sleepers of a condition are among all sleepers
+asleep_part : (n : ℕ) (s : Start) (h : List Entry) (c : ℕ) → c < n → length (sleepers s h c) ≤ length (asleep n s h)
+asleep_part zero s h c l = absurd (omega (arith, l))
+asleep_part (suc n) s h c l =
+    let sum = length-append (asleep n s h) (sleepers s h n) in
+    ⊎_elim
+    (λ (same : c ≡ n). let d = ap (λ x. length (sleepers s h x)) same in omega (arith, sum, d))
+    (λ ne. let m = asleep_part n s h c (omega (arith, ne, l)) in omega (arith, sum, m))
+    (cases_eq c n)
+
+pub few_sleepers : (k : Header) (h : List Entry) → IsLegal (opening k) h → AreSeated (opening k) h → (c : ℕ) →
+    length (sleepers (opening k) h c) ≤ k.seats
+few_sleepers k h legal seated c = by (cases_lt c k.conditions)
+  where
+  v : Waits (opening k) h
+  v = waits k h legal
+  by : (c < k.conditions) ⊎ (k.conditions ≤ c) → length (sleepers (opening k) h c) ≤ k.seats
+  by p = ⊎_elim
+    (λ below.
+        let part = asleep_part k.conditions (opening k) h c below in
+        let few = few_wait (opening k) h v (line_seated k h legal seated) in
+        omega (arith, part, few))
+    (λ above. let none = ap length (no_sleepers_above (opening k) h v c above) in omega (arith, none))
+    p
+
+joins_line : (k : Header) (h : List Entry) (e : Entry) (queue : Line) (waiters : Sleepers) → Keeps k h queue waiters →
+    e.seat < k.seats → place_of e.seat (line (opening k) h) ≡ None → MayJoin e queue
+joins_line k h e queue waiters kept seat absent =
+    record {
+      seat = let p = kept.places in omega (arith, p, seat);
+      absent = ap (place_of e.seat) kept.line ∙ absent;
+    }
+
+moves : (k : Header) (h : List Entry) (e : Entry) (queue : Line) (waiters : Sleepers) (n : ℕ) → Keeps k h queue waiters →
+    Waits (opening k) h → OnCondition (opening k) h e → e.n ≡ n → MayMove n e queue waiters
+moves k h e queue waiters n kept v on is =
+    record {
+      condition = let p = kept.conditions in let l = on.condition in omega (arith, p, l);
+      apart = λ i t.
+          ap (place_of i) kept.line
+          ∙ asleep_out_of_line (opening k) h i v.once
+              (sleeps_there k.conditions (opening k) h i e.at on.condition (ap (has i) (sym (kept.sleepers e.at)) ∙ t));
+      number = is;
+    }
+
+movable_by : (k : Header) (h : List Entry) (e : Entry) (queue : Line) (waiters : Sleepers) (w : Word) → Keeps k h queue waiters →
+    Waits (opening k) h → e.seat < k.seats → KnownBy (opening k) h e w → IsMovableBy w e queue waiters
+movable_by k h e queue waiters word.Queued kept v seat m =
+    joins_line k h e queue waiters kept seat (idle_parts _ _ m.idle).0
+movable_by k h e queue waiters word.Await kept v seat m =
+    record {
+      condition = let p = kept.conditions in let l = m.0.condition in omega (arith, p, l);
+      seat = let p = kept.beds in omega (arith, p, seat);
+      awake = λ c. ap (has e.seat) (kept.sleepers c) ∙ awake_everywhere (opening k) h e.seat v (idle_parts _ _ m.0.idle).1 c;
+    }
+movable_by k h e queue waiters word.Lapse kept v seat m =
+    let parts = sleeping_parts _ _ m.0 in
+    let at : (last_sleep (opening k) h e.seat).condition ≡ e.at = sym (ap (λ (x : Entry). x.at) m.2) in
+    let there = (sleeper_condition (opening k) h v e.seat parts.1).1 in
+    record {
+      join = joins_line k h e queue waiters kept seat parts.0;
+      asleep = ap (has e.seat) (kept.sleepers e.at) ∙ ap (λ c. has e.seat (sleepers (opening k) h c)) (sym at) ∙ there;
+    }
+movable_by k h e queue waiters word.Signal kept v seat m =
+    moves k h e queue waiters _ kept v m.0 (m.1 ∙ ap (λ l. at_most_one (length l)) (sym (kept.sleepers e.at)))
+movable_by k h e queue waiters word.SignalAll kept v seat m =
+    moves k h e queue waiters _ kept v m.0 (m.1 ∙ ap length (sym (kept.sleepers e.at)))
+movable_by k h e queue waiters word.Got kept v seat m = tt
+movable_by k h e queue waiters word.TryGot kept v seat m = tt
+movable_by k h e queue waiters word.Granted kept v seat m = tt
+movable_by k h e queue waiters word.Missed kept v seat m = tt
+movable_by k h e queue waiters word.Left kept v seat m = tt
+movable_by k h e queue waiters word.Gave kept v seat m = tt
+movable_by k h e queue waiters (word.Refused f) kept v seat m = tt
+movable_by k h e queue waiters word.Back kept v seat m = tt
+movable_by k h e queue waiters word.Counted kept v seat m = tt
+movable_by k h e queue waiters word.Drained kept v seat m = tt
+
+pub movable : (k : Header) (h : List Entry) (e : Entry) (queue : Line) (waiters : Sleepers) → Keeps k h queue waiters →
+    IsInRange k → IsLegal (opening k) h → AreSeated (opening k) h → length h ≤ k.cap → e.seat < k.seats →
+    Known (opening k) h e → IsMovable e queue waiters
+movable k h e queue waiters kept range legal seated short seat m =
+    record {
+      by_word = movable_by k h e queue waiters e.word kept (waits k h legal) seat m;
+      seats = let p = kept.places in let b = kept.beds in omega (arith, p, b);
+      few =
+          let f = few_sleepers k h legal seated e.at in
+          let l = ap length (kept.sleepers e.at) in
+          let r = range.seats in
+          omega (arith, f, l, r);
+      countable = let j = kept.joins in let c = range.cap in omega (arith, j, c, short);
+    }
+
+pub keeps_next : (k : Header) (h : List Entry) (e : Entry) (queue queue' : Line) (waiters waiters' : Sleepers) →
+    Keeps k h queue waiters →
+    queue'.arrivals ≡ line_behind e.word e queue.arrivals (asleep_on waiters e.at) →
+    ((c : ℕ) → asleep_on waiters' c ≡ cond (eqb e.at c) (sleepers_after e.word e.seat e.n (asleep_on waiters c)) (asleep_on waiters c)) →
+    queue'.joined ≤ queue.joined + 65536 → queue'.seats ≡ queue.seats → waiters'.seats ≡ waiters.seats →
+    waiters'.conditions ≡ waiters.conditions → Keeps k (e ∷ h) queue' waiters'
+keeps_next k h e queue queue' waiters waiters' kept arrivals lists joined places beds conditions =
+    record {
+      line =
+          arrivals
+          ∙ ap (λ l. line_behind e.word e l (asleep_on waiters e.at)) kept.line
+          ∙ ap (line_behind e.word e (line (opening k) h)) (kept.sleepers e.at)
+          ∙ sym (line_next (opening k) h e);
+      places = places ∙ kept.places;
+      joins = let j = kept.joins in omega (arith, j, joined);
+      sleepers = λ c. lists c ∙ ap (λ l. cond (eqb e.at c) (sleepers_after e.word e.seat e.n l) l) (kept.sleepers c);
+      conditions = conditions ∙ kept.conditions;
+      beds = beds ∙ kept.beds;
+    }
+
+-- who sleeps on no condition is awake
+pub awake_none : (w : Sleepers) (i : ℕ) (r : Option Sleeper) → r ≡ sleeper_of w i →
+    ((c : ℕ) → has i (asleep_on w c) ≡ false) → ((c : ℕ) → has i (asleep_on w c) ≡ sleeps_on c r) → sleeper_of w i ≡ None
+awake_none w i None is awake listed = sym is
+awake_none w i (Some x) is awake listed =
+    let t : true ≡ false = sym (eq-eqb x.condition x.condition refl) ∙ sym (listed x.condition) ∙ awake x.condition in
+    absurd (false≢true (sym t))

@@ -1,0 +1,71 @@
+-- A core that was just opened.
+use Rattle.std.proofs.Common.{◌≡◌, ℕ, zero, suc, ◌+◌, ◌*◌, ◌<◌, ◌≤◌, Bool, true, false, cond, List, [], length, get_or, replicate, Option, Some, refl, ap, ◌∙◌, sym, subst, arith}
+use Rattle.std.specs.Prelude.{slice_get}
+use Rattle.std.proofs.lemmas.List.{length-replicate, get_or-replicate}
+use Rattle.std.proofs.lemmas.Option.{slice_get-get_or}
+use Rattle.acquire_queue.specs.Line.{Line}
+use Rattle.condition_queue.specs.Sleepers.{Sleepers, asleep_on}
+use Rattle.history.specs.declared.header.Header.{Header}
+use Rattle.history.specs.Counts.{Counts, counts, total}
+use Rattle.history.specs.Entries.{HistoryView}
+use Rattle.history.specs.Header.{IsInRange}
+use Rattle.history.specs.Object.{is_lock}
+use Rattle.history.specs.Room.{owed, sleepers_owe}
+use Rattle.history.specs.Start.{opening}
+use Rattle.frame.specs.declared.seat.Seat.{Seat}
+use Rattle.frame.specs.Core.{Stands, Keeps}
+use Rattle.frame.specs.Seat.{no_holds}
+
+-- nothing is owed
+nobody_holds : (n : ℕ) → total n (λ i. 0 + 0) ≡ 0
+nobody_holds zero = refl
+nobody_holds (suc n) = let z = nobody_holds n in omega (arith, z)
+
+nobody_sleeps : (n : ℕ) (k : Header) → sleepers_owe n (opening k) [] ≡ 0
+nobody_sleeps zero k = refl
+nobody_sleeps (suc n) k = let z = nobody_sleeps n k in omega (arith, z)
+
+nothing_owed : (k : Header) → owed (opening k) [] ≡ 0
+nothing_owed k =
+    let z = nobody_sleeps k.conditions k in
+    let l : cond (is_lock k.object) (total k.seats (λ i. 0 + 0)) 0 ≡ 0 = either (is_lock k.object) in
+    omega (arith, z, l)
+  where
+  either : (b : Bool) → cond b (total k.seats (λ i. 0 + 0)) 0 ≡ 0
+  either true = nobody_holds k.seats
+  either false = refl
+
+pub opening_stands : (agrees : Counts → Type 0) (k : Header) (kept : HistoryView) (queue : Line) (waiters : Sleepers)
+    (table : List Seat) → IsInRange k → agrees (counts (opening k) []) →
+    kept ≡ record { cap = k.cap; entries = []; owed = 0; places = 0 } → queue.arrivals ≡ [] → queue.seats ≡ k.seats →
+    queue.joined ≡ 0 → ((c : ℕ) → asleep_on waiters c ≡ []) → waiters.conditions ≡ k.conditions → waiters.seats ≡ k.seats →
+    table ≡ replicate k.seats no_holds → Stands agrees k kept queue waiters table
+opening_stands agrees k kept queue waiters table range told is line places joined asleep conditions beds free =
+    let n : length table ≡ k.seats = ap length free ∙ length-replicate k.seats no_holds in
+    let none = nothing_owed k in
+    let empty : kept.entries ≡ [] = ap (λ (y : HistoryView). y.entries) is in
+    let owes : kept.owed ≡ 0 = ap (λ (y : HistoryView). y.owed) is in
+    let cap : kept.cap ≡ k.cap = ap (λ (y : HistoryView). y.cap) is in
+    let stands : Stands agrees k (record { cap = k.cap; entries = []; owed = 0; places = 0 }) queue waiters table =
+        record {
+          range = range;
+          hooks = told;
+          waiting = record {
+            line = line;
+            places = places;
+            joins = omega (arith, joined);
+            sleepers = asleep;
+            conditions = conditions;
+            beds = beds;
+          };
+          seats = n;
+          tabled = λ i l.
+              slice_get-get_or table i no_holds (omega (arith, n, l))
+              ∙ ap Some (ap (λ t. get_or t i no_holds) free ∙ get_or-replicate k.seats i no_holds no_holds l);
+          cap = refl;
+          owed = sym none;
+          room = omega arith;
+          legal = tt;
+          seated = tt;
+        } in
+    subst (λ y. Stands agrees k y queue waiters table) (sym is) stands

@@ -1,0 +1,121 @@
+-- What is answered where an entry was added, or not.
+use Rattle.std.proofs.Common.{◌≡◌, ◌⊎◌, inl, inr, ⊎_elim, ℕ, Bool, true, false, cond, List, ◌∷◌, Option, Some, None, Result, Ok, Err, refl, ap, ◌∙◌, sym, subst}
+use Rattle.history.specs.declared.entry.Entry.{Entry}
+use Rattle.history.specs.declared.entry.Mode.{Mode}
+use Rattle.history.specs.declared.fault.Fault.{Fault}
+use Rattle.history.specs.declared.fault.Fault.TheVariants.{HistoryFull, OutOfMemory}
+use Rattle.history.specs.declared.step.Answer.{Answer}
+use Rattle.history.specs.declared.step.Answer.TheVariants.{Recorded, Sleep}
+use Rattle.history.specs.declared.step.Step.{Step}
+use Rattle.history.specs.Answers.{answer, answer_by, recorded}
+use Rattle.history.specs.Counts.{held}
+use Rattle.history.specs.Naming.{ready, named, named_by}
+use Rattle.history.specs.Room.{has_room, was_owed}
+use Rattle.history.specs.Steps.{entry_for}
+use Rattle.history.proofs.Changes.{counts_nothing, held_same}
+use Rattle.frame.specs.Core.{CoreView, start_of, IsAdded, IsAnswer, IsAnswered, IsRecorded, KeepsHolds, LacksMemory, MakesOwed}
+
+abbrev with_entry : CoreView → Entry → CoreView
+with_entry v e = record v { entries = e ∷ v.entries }
+
+-- an entry that has room, and one that hasn't
+room_for : (v : CoreView) (e : Entry) → has_room (start_of v) v.entries e ≡ true →
+    recorded (start_of v) v.entries e ≡ (Ok (Recorded e (named (start_of v) v.entries e)), e ∷ v.entries)
+room_for v e t = rw t refl
+
+no_room_for : (v : CoreView) (e : Entry) → has_room (start_of v) v.entries e ≡ false →
+    recorded (start_of v) v.entries e ≡ (Err HistoryFull, v.entries)
+no_room_for v e t = rw t refl
+
+pub recorded_now : (v new : CoreView) (e : Entry) (u : Unit {0}) (before after name : Option ℕ) → IsAdded v e (Ok u) new →
+    before ≡ ready (start_of v) v.entries → after ≡ ready (start_of new) new.entries → name ≡ named_by before after e.seat →
+    IsRecorded v e (Ok (Recorded e name)) new
+recorded_now v new e u before after name is b a n =
+    let there : ready (start_of new) new.entries ≡ ready (start_of v) (e ∷ v.entries) =
+        ap (λ (w : CoreView). ready (start_of w) w.entries) is.1 in
+    let names : name ≡ named (start_of v) v.entries e =
+        n ∙ ap (λ x. named_by x after e.seat) b ∙ ap (λ x. named_by (ready (start_of v) v.entries) x e.seat) (a ∙ there) in
+    let made = room_for v e is.0 in
+    inl (record {
+      answer = ap (λ x. (let r : Result Answer Fault = Ok (Recorded e x) in r)) names ∙ sym (ap (λ p. p.0) made);
+      entries = ap (λ (w : CoreView). w.entries) is.1 ∙ sym (ap (λ p. p.1) made);
+      header = ap (λ (w : CoreView). w.header) is.1;
+    })
+
+pub recorded_not : (v new : CoreView) (e : Entry) (f : Fault) → IsAdded v e (Err f) new → IsRecorded v e (Err f) new
+recorded_not v new e HistoryFull is =
+    let made = no_room_for v e is.0 in
+    inl (record {
+      answer = sym (ap (λ p. p.0) made);
+      entries = ap (λ (w : CoreView). w.entries) is.2 ∙ sym (ap (λ p. p.1) made);
+      header = ap (λ (w : CoreView). w.header) is.2;
+    })
+recorded_not v new e OutOfMemory is =
+    inr (refl, record { entry = e; is = refl; has_room = is.0; not_owed = is.1; unchanged = is.2 })
+recorded_not v new e _ is = absurd is
+
+-- nothing has changed after a fault, and a fault isn't answered to an entry that was owed
+pub unchanged : (v new : CoreView) (e : Entry) (f : Fault) → IsAdded v e (Err f) new → new ≡ v
+unchanged v new e HistoryFull is = is.2
+unchanged v new e OutOfMemory is = is.2
+unchanged v new e _ is = absurd is
+
+pub never_refused : (v new : CoreView) (e : Entry) (f : Fault) → IsAdded v e (Err f) new → was_owed v.header.object e ≡ false
+never_refused v new e HistoryFull is = is.1
+never_refused v new e OutOfMemory is = is.1
+never_refused v new e _ is = absurd is
+
+-- a refusal changes no holding
+pub keeps_holds : (v new : CoreView) (e : Entry) (name : Option ℕ) → new ≡ with_entry v e → KeepsHolds v (Recorded e name) new
+keeps_holds v new e name is =
+    let grown : new.entries ≡ e ∷ v.entries = ap (λ (w : CoreView). w.entries) is in
+    λ fault word. (
+      grown,
+      λ i m. ap (λ h. held (start_of v) h i m) grown ∙ held_same (start_of v) e v.entries i m (ap counts_nothing word),
+    )
+
+-- a step's answer
+pub answered_fault : (v : CoreView) (i : ℕ) (step : Step) (f : Fault) → entry_for (start_of v) v.entries i step ≡ Err f →
+    IsAnswered v i step (Err f) v
+answered_fault v i step f q =
+    let made = ap (answer_by (start_of v) v.entries) q in
+    inl (record { answer = sym (ap (λ p. p.0) made); entries = sym (ap (λ p. p.1) made); header = refl })
+
+pub answered_sleep : (v : CoreView) (i : ℕ) (step : Step) → entry_for (start_of v) v.entries i step ≡ Ok None →
+    IsAnswered v i step (Ok Sleep) v
+answered_sleep v i step q =
+    let made = ap (answer_by (start_of v) v.entries) q in
+    inl (record { answer = sym (ap (λ p. p.0) made); entries = sym (ap (λ p. p.1) made); header = refl })
+
+pub answered_entry : (v new : CoreView) (i : ℕ) (step : Step) (e : Entry) (r : Result Answer Fault) →
+    entry_for (start_of v) v.entries i step ≡ Ok (Some e) → IsRecorded v e r new → IsAnswered v i step r new
+answered_entry v new i step e r q is =
+    let made = ap (answer_by (start_of v) v.entries) q in
+    ⊎_elim
+    (λ (a : IsAnswer v (recorded (start_of v) v.entries e) r new).
+        inl (record {
+          answer = a.answer ∙ sym (ap (λ p. p.0) made);
+          entries = a.entries ∙ sym (ap (λ p. p.1) made);
+          header = a.header;
+        }))
+    (λ (l : (r ≡ Err OutOfMemory) × LacksMemory v (Ok (Some e)) new).
+        inr (l.0, record {
+          entry = l.1.entry;
+          is = q ∙ l.1.is;
+          has_room = l.1.has_room;
+          not_owed = l.1.not_owed;
+          unchanged = l.1.unchanged;
+        }))
+    is
+
+-- the one entry of a step
+pub owed_entry : (v : CoreView) (i : ℕ) (step : Step) (e : Entry) → entry_for (start_of v) v.entries i step ≡ Ok (Some e) →
+    MakesOwed v i step → was_owed v.header.object e ≡ true
+owed_entry v i step e q m =
+    let same : m.0 ≡ e = some_same (ok_same (sym m.1 ∙ q)) in
+    subst (λ x. was_owed v.header.object x ≡ true) same m.2
+  where
+  ok_same : {x y : Option Entry} → ◌≡◌ {A = Result (Option Entry) Fault} (Ok x) (Ok y) → x ≡ y
+  ok_same p = cc
+  some_same : {x y : Entry} → Some x ≡ Some y → x ≡ y
+  some_same p = cc

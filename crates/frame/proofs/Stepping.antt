@@ -1,0 +1,249 @@
+-- What stands for a history stands for it with one entry more.
+use Rattle.std.proofs.Common.{◌≡◌, ◌≢◌, ◌⊎◌, ⊎_elim, ◌↔◌, ℕ, zero, suc, ◌+◌, ◌-◌, ◌*◌, ◌^◌, ◌<◌, ◌≤◌, Bool, true, false, cond, eqb, List, [], ◌∷◌, length, get_or, set, Option, Some, None, Result, Ok, Err, refl, ap, ◌∙◌, sym, subst, arith}
+use Rattle.std.specs.Prelude.{slice_get}
+use Rattle.std.proofs.lemmas.Bool.{cases_eq, eq-eqb, ne_eqb, le-leb, lt-leb, ltb-true, cond_both, cases_lt, false≢true}
+use Rattle.std.proofs.lemmas.List.{length-set, get_or-set_same, get_or-set_other}
+use Rattle.std.proofs.lemmas.Option.{slice_get-get_or, get_or_from_slice_get}
+use Rattle.acquire_queue.specs.Line.{Line}
+use Rattle.condition_queue.specs.Sleepers.{Sleepers}
+use Rattle.history.specs.declared.entry.Entry.{Entry}
+use Rattle.history.specs.declared.entry.Mode.TheVariants.{X, S}
+use Rattle.history.specs.declared.entry.Word.{Word}
+use Rattle.history.specs.declared.entry.Word.TheVariants as word
+use Rattle.history.specs.declared.fault.Fault.{Fault}
+use Rattle.history.specs.declared.fault.Fault.TheVariants as fault
+use Rattle.history.specs.declared.header.Header.{Header}
+use Rattle.history.specs.declared.header.Object.{Object}
+use Rattle.history.specs.declared.step.Step.{Step}
+use Rattle.history.specs.Counts.{Counts, counts, held}
+use Rattle.history.specs.Entries.{HistoryView}
+use Rattle.history.specs.Header.{IsInRange}
+use Rattle.history.specs.Legal.{IsLegal, AreSeated}
+use Rattle.history.specs.Object.{is_lock}
+use Rattle.history.specs.Room.{owed, has_room, was_owed, was_owed_by, releases, released_by, reserves, reserved_by}
+use Rattle.history.specs.Start.{opening}
+use Rattle.history.specs.Steps.{entry_for}
+use Rattle.history.proofs.Entering.{Known, known}
+use Rattle.history.proofs.OneWait.{waits}
+use Rattle.history.proofs.Owing.{owed_step}
+use Rattle.frame.specs.declared.seat.Seat.{Seat}
+use Rattle.frame.specs.Core.{CoreView, start_of, Stands, Keeps, IsNext, IsAdded}
+use Rattle.frame.specs.Effects.{IsAllowed, counts_after}
+use Rattle.frame.specs.Seat.{seat_of, seat_after, no_holds}
+use Rattle.frame.specs.Waiting.{IsMovable}
+use Rattle.frame.proofs.Bounds.{exclusive_fits, shared_fits}
+use Rattle.frame.proofs.Counting.{allowed, counts_next}
+use Rattle.frame.proofs.Moving.{movable}
+use Rattle.frame.proofs.Seats.{seat_held}
+
+-- What is known of an entry that a core is to add.
+pub record Next (k : Header) (h : List Entry) (e : Entry) : Type 0 where
+  pub seat : e.seat < k.seats
+  pub known : Known (opening k) h e
+  pub legal : IsLegal (opening k) (e ∷ h)
+  pub seated : AreSeated (opening k) (e ∷ h)
+  pub owed : owed (opening k) (e ∷ h) + releases k.object e ≡ owed (opening k) h + reserves k.object e
+  pub allowed : IsAllowed e.word (counts (opening k) h) e
+  pub counts : counts (opening k) (e ∷ h) ≡ counts_after e.word (counts (opening k) h) e
+
+pub next : (k : Header) (h : List Entry) (e : Entry) → IsLegal (opening k) h → AreSeated (opening k) h →
+    IsNext (record { header = k; entries = h }) e → Next k h e
+next k h e legal seated is =
+    let more : IsLegal (opening k) (e ∷ h) = ((is.step, is.made), legal) in
+    let all : AreSeated (opening k) (e ∷ h) = (is.seat, seated) in
+    let m = known (opening k) h is.step e is.made in
+    record {
+      seat = is.seat;
+      known = m;
+      legal = more;
+      seated = all;
+      owed = owed_step k e h more all;
+      allowed = allowed (opening k) h e (waits k h legal) m is.seat;
+      counts = counts_next (opening k) h e m;
+    }
+
+-- the table
+pub tabled : (k : Header) (h : List Entry) (table : List Seat) → length table ≡ k.seats →
+    ((i : ℕ) → i < k.seats → slice_get table i ≡ Some (seat_of k.object h i)) → (i : ℕ) → i < k.seats →
+    get_or table i no_holds ≡ seat_of k.object h i
+tabled k h table n all i l = get_or_from_slice_get table i (seat_of k.object h i) no_holds (all i l)
+
+pub tabled_next : (k : Header) (h : List Entry) (e : Entry) (table : List Seat) → length table ≡ k.seats → e.seat < k.seats →
+    ((i : ℕ) → i < k.seats → slice_get table i ≡ Some (seat_of k.object h i)) → (i : ℕ) → i < k.seats →
+    slice_get (set table e.seat (seat_after k.object e (get_or table e.seat no_holds))) i ≡ Some (seat_of k.object (e ∷ h) i)
+tabled_next k h e table n seat all i l =
+    let x = seat_after k.object e (get_or table e.seat no_holds) in
+    let len : length (set table e.seat x) ≡ k.seats = length-set table e.seat x ∙ n in
+    let at = slice_get-get_or (set table e.seat x) i no_holds (omega (arith, len, l)) in
+    at ∙ ap Some (⊎_elim
+        (λ (same : e.seat ≡ i).
+            let own : get_or (set table e.seat x) e.seat no_holds ≡ x = get_or-set_same table e.seat x no_holds (omega (arith, n, seat)) in
+            let was : get_or table e.seat no_holds ≡ seat_of k.object h i =
+                tabled k h table n all e.seat seat ∙ ap (seat_of k.object h) same in
+            ap (λ j. get_or (set table e.seat x) j no_holds) (sym same) ∙ own ∙ ap (seat_after k.object e) was
+            ∙ rw (eq-eqb e.seat i same) refl)
+        (λ (ne : e.seat ≢ i).
+            get_or-set_other table e.seat i x no_holds (λ q. ne (sym q)) ∙ tabled k h table n all i l
+            ∙ rw (ne_eqb e.seat i ne) refl)
+        (cases_eq e.seat i))
+
+-- the seat of the entry has room for what it will hold
+own_seat : (k : Header) (h : List Entry) (e : Entry) → seat_of k.object (e ∷ h) e.seat ≡ seat_after k.object e (seat_of k.object h e.seat)
+own_seat k h e = rw (eq-eqb e.seat e.seat refl) refl
+
+pub exclusive_next : (k : Header) (h : List Entry) (e : Entry) (x : Seat) → IsLegal (opening k) (e ∷ h) → AreSeated (opening k) (e ∷ h) →
+    x ≡ seat_of k.object h e.seat → (seat_after k.object e x).exclusive < 2 ^ 32
+exclusive_next k h e x legal seated is =
+    let l = exclusive_fits k (e ∷ h) legal seated e.seat in
+    let q : (seat_after k.object e x).exclusive ≡ held (opening k) (e ∷ h) e.seat X =
+        ap (λ (y : Seat). (seat_after k.object e y).exclusive) is
+        ∙ ap (λ (y : Seat). y.exclusive) (sym (own_seat k h e)) ∙ seat_held k (e ∷ h) e.seat X in
+    omega (arith, l, q)
+
+pub shared_next : (k : Header) (h : List Entry) (e : Entry) (x : Seat) → IsInRange k → IsLegal (opening k) (e ∷ h) → AreSeated (opening k) (e ∷ h) →
+    length h ≤ k.cap → x ≡ seat_of k.object h e.seat → (seat_after k.object e x).shared < 2 ^ 64
+shared_next k h e x range legal seated short is =
+    let l = shared_fits k (e ∷ h) range legal seated e.seat seated.0 in
+    let c = range.cap in
+    let q : (seat_after k.object e x).shared ≡ held (opening k) (e ∷ h) e.seat S =
+        ap (λ (y : Seat). (seat_after k.object e y).shared) is
+        ∙ ap (λ (y : Seat). y.shared) (sym (own_seat k h e)) ∙ seat_held k (e ∷ h) e.seat S in
+    omega (arith, l, q, c, short)
+
+-- an entry that was owed reserves nothing, and releases itself
+owed_releases : (o : Object) (w : Word) (n : ℕ) → was_owed_by o w n ≡ true → (reserved_by o w ≡ 0) × (1 ≤ released_by o w n)
+owed_releases o word.Granted n t = (refl, omega arith)
+owed_releases o word.Left n t = (refl, cond_both (is_lock o) 2 1 (λ x. 1 ≤ x) (λ _. omega arith) (λ _. omega arith))
+owed_releases o word.Lapse n t = (refl, omega arith)
+owed_releases o word.Back n t = (refl, omega arith)
+owed_releases o word.Gave n t = (refl, rw t (omega arith))
+owed_releases o word.Signal n t = (refl, let l = ltb-true 0 n t in omega (arith, l))
+owed_releases o word.SignalAll n t = (refl, let l = ltb-true 0 n t in omega (arith, l))
+owed_releases o _ n t = absurd (cc)
+
+-- The room that an entry needs, by what was owed before.
+pub record Needs (k : Header) (h : List Entry) (e : Entry) (was more less : ℕ) : Type 0 where
+  pub owed : was + more - less ≡ owed (opening k) (e ∷ h)
+  pub within : less ≤ was + more
+  pub none : was_owed k.object e ≡ true → (was + more - less + 1) - was ≡ 0
+
+pub needs : (k : Header) (h : List Entry) (e : Entry) (was more less : ℕ) → Next k h e → was ≡ owed (opening k) h →
+    more ≡ reserves k.object e → less ≡ releases k.object e → Needs k h e was more less
+needs k h e was more less n p q r =
+    let o = n.owed in
+    record {
+      owed = omega (arith, o, p, q, r);
+      within = omega (arith, o, p, q, r);
+      none = λ t.
+          let z = owed_releases k.object e.word e.n t in
+          let x : reserves k.object e ≡ 0 = z.0 in
+          let y : 1 ≤ releases k.object e = z.1 in
+          omega (arith, p, q, r, x, y);
+    }
+
+-- room was asked for, and refused
+asks_more : (m len was places : ℕ) → len + was ≤ places → (len + was + m ≤ places → ⊥) → 0 < m
+asks_more zero len was places room f = absurd (f (omega (arith, room)))
+asks_more (suc m) len was places room f = omega arith
+
+not_owed : (k : Header) (h : List Entry) (e : Entry) (was more less : ℕ) → Needs k h e was more less →
+    0 < (was + more - less + 1) - was → was_owed k.object e ≡ false
+not_owed k h e was more less n some = by (was_owed k.object e) refl
+  where
+  by : (b : Bool) → was_owed k.object e ≡ b → b ≡ false
+  by false t = refl
+  by true t = let z = n.none t in absurd (omega (arith, z, some))
+
+pub refused : (k : Header) (e : Entry) (f : Fault) (kept kept' : HistoryView) (was more less needed : ℕ) →
+    Needs k kept.entries e was more less → kept.cap ≡ k.cap → was ≡ kept.owed →
+    length kept.entries + was ≤ kept.places → needed ≡ (was + more - less + 1) - was →
+    ((◌≡◌ {A = Result (Unit {0}) Fault} (Err f) (Err fault.HistoryFull)) ↔ (kept.cap < length kept.entries + kept.owed + needed)) →
+    (f ≡ fault.HistoryFull) ⊎ (f ≡ fault.OutOfMemory) →
+    (length kept.entries + kept.owed + needed ≤ kept.places → (◌≡◌ {A = Bool} false true) × (kept' ≡ kept)) → kept' ≡ kept →
+    IsAdded (record { header = k; entries = kept.entries }) e (Err f) (record { header = k; entries = kept'.entries })
+refused k e f kept kept' was more less needed n cap is room q full which reserved same = ⊎_elim no_room no_memory which
+  where
+  v : CoreView
+  v = record { header = k; entries = kept.entries }
+  w : CoreView
+  w = record { header = k; entries = kept'.entries }
+  unchanged : w ≡ v
+  unchanged = ap (λ (y : HistoryView). (let u : CoreView = record { header = k; entries = y.entries } in u)) same
+  some : 0 < (was + more - less + 1) - was
+  some =
+    asks_more _ (length kept.entries) was kept.places room
+    (λ l. let z = (reserved (omega (arith, l, is, q))).0 in false≢true z)
+  P : Fault → Type 0
+  P g = IsAdded v e (Err g) w
+  no_room : f ≡ fault.HistoryFull → P f
+  no_room p =
+    let o = n.owed in
+    let err : Fault → Result (Unit {0}) Fault = λ x. Err x in
+    let over = full.0 (ap err p) in
+    let here : P fault.HistoryFull =
+        (lt-leb _ _ (omega (arith, is, room, o, over, some, q, cap)), not_owed k kept.entries e was more less n some, unchanged) in
+    subst P (sym p) here
+  no_memory : f ≡ fault.OutOfMemory → P f
+  no_memory p =
+    let o = n.owed in
+    let fits : length kept.entries + kept.owed + needed ≤ kept.cap =
+        ⊎_elim
+        (λ (over : kept.cap < length kept.entries + kept.owed + needed).
+            let z = full.1 over in let d : fault.OutOfMemory ≡ fault.HistoryFull = cc in absurd (cc))
+        (λ l. l)
+        (cases_lt kept.cap (length kept.entries + kept.owed + needed)) in
+    let here : P fault.OutOfMemory =
+        (le-leb _ _ (omega (arith, is, room, o, fits, some, q, cap)), not_owed k kept.entries e was more less n some, unchanged) in
+    subst P (sym p) here
+
+-- room was asked for, and is there
+pub fitted : (k : Header) (e : Entry) (kept mid : HistoryView) (was more less needed : ℕ) →
+    Needs k kept.entries e was more less → was ≡ kept.owed → needed ≡ (was + more - less + 1) - was →
+    length mid.entries + mid.owed + needed ≤ mid.cap → mid ≡ record kept { places = mid.places } → kept.cap ≡ k.cap →
+    length kept.entries + 1 + (was + more - less) ≤ k.cap
+fitted k e kept mid was more less needed n is q fits same cap =
+    let a : length mid.entries ≡ length kept.entries = ap (λ (y : HistoryView). length y.entries) same in
+    let b : mid.owed ≡ kept.owed = ap (λ (y : HistoryView). y.owed) same in
+    let c : mid.cap ≡ kept.cap = ap (λ (y : HistoryView). y.cap) same in
+    omega (arith, is, q, fits, cap, a, b, c)
+
+-- what an entry added makes of the history
+pub added : (kept mid new : HistoryView) (e : Entry) (o : ℕ) → mid ≡ record kept { places = mid.places } →
+    new ≡ record mid { entries = e ∷ mid.entries; owed = o } → (new.entries ≡ e ∷ kept.entries) × (new.cap ≡ kept.cap) × (new.owed ≡ o)
+added kept mid new e o same is = (
+    ap (λ (y : HistoryView). y.entries) is ∙ ap (λ (y : HistoryView). e ∷ y.entries) same,
+    ap (λ (y : HistoryView). y.cap) is ∙ ap (λ (y : HistoryView). y.cap) same,
+    ap (λ (y : HistoryView). y.owed) is,
+)
+
+pub is_added : (k : Header) (e : Entry) (u : Unit {0}) (kept new : HistoryView) (was more less : ℕ) → Needs k kept.entries e was more less →
+    length kept.entries + 1 + (was + more - less) ≤ k.cap → new.entries ≡ e ∷ kept.entries →
+    IsAdded (record { header = k; entries = kept.entries }) e (Ok u) (record { header = k; entries = new.entries })
+is_added k e u kept new was more less n fits entries =
+    let o = n.owed in
+    (le-leb _ _ (omega (arith, fits, o)), ap (λ g. (let w : CoreView = record { header = k; entries = g } in w)) entries)
+
+-- all that is kept
+pub stands_next : (agrees agrees' : Counts → Type 0) (k : Header) (kept kept' : HistoryView) (queue queue' : Line)
+    (waiters waiters' : Sleepers) (table table' : List Seat) (e : Entry) →
+    Stands agrees k kept queue waiters table → Next k kept.entries e →
+    agrees' (counts_after e.word (counts (opening k) kept.entries) e) → Keeps k (e ∷ kept.entries) queue' waiters' →
+    table' ≡ set table e.seat (seat_after k.object e (get_or table e.seat no_holds)) →
+    kept'.entries ≡ e ∷ kept.entries → kept'.cap ≡ kept.cap → kept'.owed ≡ owed (opening k) (e ∷ kept.entries) →
+    length kept.entries + 1 + kept'.owed ≤ k.cap → Stands agrees' k kept' queue' waiters' table'
+stands_next agrees agrees' k kept kept' queue queue' waiters waiters' table table' e s n told waiting is entries cap owes room =
+    let h = kept.entries in
+    record {
+      range = s.range;
+      hooks = subst agrees' (sym n.counts ∙ ap (counts (opening k)) (sym entries)) told;
+      waiting = subst (λ g. Keeps k g queue' waiters') (sym entries) waiting;
+      seats = ap length is ∙ length-set table e.seat _ ∙ s.seats;
+      tabled = λ i l.
+          ap (λ t. slice_get t i) is ∙ tabled_next k h e table s.seats n.seat s.tabled i l
+          ∙ ap (λ g. Some (seat_of k.object g i)) (sym entries);
+      cap = cap ∙ s.cap;
+      owed = owes ∙ ap (owed (opening k)) (sym entries);
+      room = let l = ap length entries in omega (arith, l, room);
+      legal = subst (IsLegal (opening k)) (sym entries) n.legal;
+      seated = subst (AreSeated (opening k)) (sym entries) n.seated;
+    }

@@ -1,0 +1,15 @@
+use Rattle.std.proofs.Common.{◌≡◌, sym, subst}
+use Rattle.history.specs.Counts.{counts}
+use Rattle.history.specs.Start.{opening}
+use Rattle.frame.specs.Core.{CoreView, start_of}
+use Rattle.frame.specs.Hooks.{level_of}
+use Rattle.frame.proofs.Bounds.{level_most}
+use Rattle.frame.proofs.machine.Core.available.Goals as goal
+
+pub returns-in-Semaphore-clause-most : goal.returns-in-Semaphore-clause-most
+returns-in-Semaphore-clause-most g c =
+    let a = c.self.inside in
+    let s = c.self.invariant in
+    let P : CoreView → Type 0 = λ v. c.level.result ≡ level_of (counts (start_of v) v.entries) in
+    level_most a.header a.history.entries c.in-Semaphore.field-0 c.in-Semaphore.field-1 c.level.result s.range s.legal
+    c.in-Semaphore.is (subst P (sym c.self.view_is) c.level.ensures)

@@ -1,0 +1,112 @@
+-- What a core is to its callers, and how its fields stand for it.
+use Rattle.std.specs.Prelude.{◌≡◌, ◌⊎◌, ◌≤◌, ◌<◌, ℕ, ◌+◌, ◌*◌, true, false, List, ◌∷◌, length, slice_get, Result, Ok, Err, Option, Some, None}
+use Rattle.acquire_queue.specs.Line.{Line}
+use Rattle.condition_queue.specs.Sleepers.{Sleepers, asleep_on}
+use Rattle.history.specs.declared.entry.Entry.{Entry}
+use Rattle.history.specs.declared.entry.Mode.{Mode}
+use Rattle.history.specs.declared.entry.Word.TheVariants.{Refused}
+use Rattle.history.specs.declared.fault.Fault.{Fault}
+use Rattle.history.specs.declared.fault.Fault.TheVariants.{HistoryFull, OutOfMemory}
+use Rattle.history.specs.declared.header.Header.{Header}
+use Rattle.history.specs.declared.step.Answer.{Answer}
+use Rattle.history.specs.declared.step.Answer.TheVariants.{Recorded, Sleep}
+use Rattle.history.specs.declared.step.Step.{Step}
+use Rattle.history.specs.Answers.{answer, recorded}
+use Rattle.history.specs.Counts.{Counts, counts, held}
+use Rattle.history.specs.Entries.{HistoryView}
+use Rattle.history.specs.Header.{IsInRange}
+use Rattle.history.specs.Legal.{IsLegal, AreSeated}
+use Rattle.history.specs.Line.{line}
+use Rattle.history.specs.Room.{owed, has_room, was_owed}
+use Rattle.history.specs.Sleepers.{sleepers}
+use Rattle.history.specs.Start.{Start, opening}
+use Rattle.history.specs.Steps.{entry_for}
+use Rattle.frame.specs.declared.seat.Seat.{Seat}
+use Rattle.frame.specs.Seat.{seat_of}
+
+-- A header that stays, and a history that only grows, the newest entry first.
+pub record CoreView : Type 0 where
+  pub header : Header
+  pub entries : List Entry
+
+-- what stood before the first entry: the object as opened
+abbrev pub start_of : CoreView → Start
+start_of v = opening v.header
+
+-- The line and the sleepers are those of the history.
+pub record Keeps (k : Header) (h : List Entry) (queue : Line) (waiters : Sleepers) : Type 0 where
+  pub line : queue.arrivals ≡ line (opening k) h
+  pub places : queue.seats ≡ k.seats
+  pub joins : queue.joined ≤ 65536 * length h
+  pub sleepers : (c : ℕ) → asleep_on waiters c ≡ sleepers (opening k) h c
+  pub conditions : waiters.conditions ≡ k.conditions
+  pub beds : waiters.seats ≡ k.seats
+
+-- The fields stand for the history: hooks, line, sleepers and seats are as its entries make them, and room is
+-- kept as it asks.
+pub record Stands (agrees : Counts → Type 0) (k : Header) (kept : HistoryView) (queue : Line) (waiters : Sleepers) (table : List Seat) : Type 0 where
+  pub range : IsInRange k
+  pub hooks : agrees (counts (opening k) kept.entries)
+  pub waiting : Keeps k kept.entries queue waiters
+  pub seats : length table ≡ k.seats
+  pub tabled : (i : ℕ) → i < k.seats → slice_get table i ≡ Some (seat_of k.object kept.entries i)
+  pub cap : kept.cap ≡ k.cap
+  pub owed : kept.owed ≡ owed (opening k) kept.entries
+  pub room : length kept.entries + kept.owed ≤ k.cap
+  pub legal : IsLegal (opening k) kept.entries
+  pub seated : AreSeated (opening k) kept.entries
+
+-- an entry that a step of its seat makes now
+pub record IsNext (v : CoreView) (e : Entry) : Type 0 where
+  pub seat : e.seat < v.header.seats
+  pub step : Step
+  pub made : entry_for (start_of v) v.entries e.seat step ≡ Ok (Some e)
+
+-- An entry was added, or there was no room, or no memory. What was owed finds both.
+abbrev pub IsAdded : CoreView → Entry → Result (Unit {0}) Fault → CoreView → Type 0
+IsAdded old e (Ok u) new =
+    (has_room (start_of old) old.entries e ≡ true) × (new ≡ record old { entries = e ∷ old.entries })
+IsAdded old e (Err HistoryFull) new =
+    (has_room (start_of old) old.entries e ≡ false) × (was_owed old.header.object e ≡ false) × (new ≡ old)
+IsAdded old e (Err OutOfMemory) new =
+    (has_room (start_of old) old.entries e ≡ true) × (was_owed old.header.object e ≡ false) × (new ≡ old)
+IsAdded old e (Err _) new = ⊥
+
+-- Memory was refused to an entry that has room and was owed to nobody, and nothing has changed.
+pub record LacksMemory (old : CoreView) (made : Result (Option Entry) Fault) (new : CoreView) : Type 0 where
+  pub entry : Entry
+  pub is : made ≡ Ok (Some entry)
+  pub has_room : has_room (start_of old) old.entries entry ≡ true
+  pub not_owed : was_owed old.header.object entry ≡ false
+  pub unchanged : new ≡ old
+
+-- the answer and the history behind it are those that the definitions give
+pub record IsAnswer (old : CoreView) (given : Result Answer Fault × List Entry) (r : Result Answer Fault) (new : CoreView) : Type 0 where
+  pub answer : r ≡ given.0
+  pub entries : new.entries ≡ given.1
+  pub header : new.header ≡ old.header
+
+-- an entry's answer, or want of memory
+abbrev pub IsRecorded : CoreView → Entry → Result Answer Fault → CoreView → Type 0
+IsRecorded old e r new =
+    IsAnswer old (recorded (start_of old) old.entries e) r new
+    ⊎ ((r ≡ Err OutOfMemory) × LacksMemory old (Ok (Some e)) new)
+
+-- a refusal is one entry more, and no holding has changed; a sleep changes nothing
+abbrev pub KeepsHolds : CoreView → Answer → CoreView → Type 0
+KeepsHolds old (Recorded e named) new =
+    (fault : Fault) → e.word ≡ Refused fault →
+    (new.entries ≡ e ∷ old.entries)
+    × ((i : ℕ) (m : Mode) → held (start_of old) new.entries i m ≡ held (start_of old) old.entries i m)
+KeepsHolds old Sleep new = new ≡ old
+
+-- the entry of a step was owed before it came
+abbrev pub MakesOwed : CoreView → ℕ → Step → Type 0
+MakesOwed v i step =
+    (e : Entry) × (entry_for (start_of v) v.entries i step ≡ Ok (Some e)) × (was_owed v.header.object e ≡ true)
+
+-- a step's answer, or want of memory
+abbrev pub IsAnswered : CoreView → ℕ → Step → Result Answer Fault → CoreView → Type 0
+IsAnswered old i step r new =
+    IsAnswer old (answer (start_of old) old.entries i step) r new
+    ⊎ ((r ≡ Err OutOfMemory) × LacksMemory old (entry_for (start_of old) old.entries i step) new)

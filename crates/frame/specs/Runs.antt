@@ -1,0 +1,27 @@
+-- What a list of steps is answered, and what it leaves.
+use Rattle.std.specs.Prelude.{◌≡◌, ◌≢◌, ℕ, List, [], ◌∷◌, Result, Ok, Err}
+use Rattle.std.specs.List.{AllByRecursion}
+use Rattle.history.specs.declared.fault.Fault.{Fault}
+use Rattle.history.specs.declared.fault.Fault.TheVariants.{OutOfMemory}
+use Rattle.history.specs.declared.step.Answer.{Answer}
+use Rattle.history.specs.declared.step.Step.{Step}
+use Rattle.history.specs.Answers.{results}
+use Rattle.frame.specs.Core.{CoreView, start_of, IsAnswered}
+
+-- each step is answered in turn, from what the one before it left
+abbrev pub AreAnswered : CoreView → List (ℕ × Step) → List (Result Answer Fault) → CoreView → Type 0
+AreAnswered old [] [] new = new ≡ old
+AreAnswered old (s ∷ steps) (r ∷ answers) new =
+    (mid : CoreView) × IsAnswered old s.0 s.1 r mid × AreAnswered mid steps answers new
+AreAnswered old [] (r ∷ answers) new = ⊥
+AreAnswered old (s ∷ steps) [] new = ⊥
+
+-- memory was never refused
+abbrev pub NoneLacksMemory : List (Result Answer Fault) → Type 0
+NoneLacksMemory answers = AllByRecursion (λ r. r ≢ Err OutOfMemory) answers
+
+-- the answers and the history are those of the definitions
+pub record AreResults (old : CoreView) (steps : List (ℕ × Step)) (answers : List (Result Answer Fault)) (new : CoreView) : Type 0 where
+  pub answers_are : answers ≡ (results (start_of old) old.entries steps).0
+  pub entries_are : new.entries ≡ (results (start_of old) old.entries steps).1
+  pub header_is : new.header ≡ old.header

@@ -1,0 +1,63 @@
+-- What an entry makes of those who wait, and what it asks of them.
+use Rattle.std.specs.Prelude.{◌≡◌, ◌≤◌, ◌<◌, ◌+◌, ◌^◌, ℕ, ◌==◌, not, Bool, true, false, List, [], ◌∷◌, ◌++◌, filter, map, take, length, Option, Some, None}
+use Rattle.acquire_queue.specs.Line.{Line}
+use Rattle.condition_queue.specs.declared.sleeper.Sleeper.{Sleeper}
+use Rattle.condition_queue.specs.Sleepers.{Sleepers, asleep_on, sleeper_of}
+use Rattle.history.specs.declared.arrival.Arrival.{Arrival}
+use Rattle.history.specs.declared.entry.Entry.{Entry}
+use Rattle.history.specs.declared.entry.Word.{Word}
+use Rattle.history.specs.declared.entry.Word.TheVariants.{Queued, Granted, Left, Await, Lapse, Signal, SignalAll, Back}
+use Rattle.history.specs.Line.{coming_back, place_of}
+use Rattle.history.specs.Sleepers.{has}
+use Rattle.history.specs.Steps.{at_most_one}
+
+abbrev pub line_without : ℕ → List Arrival → List Arrival
+line_without i arrivals = filter (λ a. not (i == a.seat)) arrivals
+
+-- the line behind an entry, by the line and by the sleepers of its condition
+abbrev pub line_behind : Word → Entry → List Arrival → List ℕ → List Arrival
+line_behind Queued e arrivals seats = arrivals ++ record { seat = e.seat; mode = e.mode; n = e.n; back = false } ∷ []
+line_behind Granted e arrivals seats = line_without e.seat arrivals
+line_behind Left e arrivals seats = line_without e.seat arrivals
+line_behind Back e arrivals seats = line_without e.seat arrivals
+line_behind Lapse e arrivals seats = arrivals ++ coming_back e.seat ∷ []
+line_behind Signal e arrivals seats = arrivals ++ map coming_back (take e.n seats)
+line_behind SignalAll e arrivals seats = arrivals ++ map coming_back seats
+line_behind _ e arrivals seats = arrivals
+
+-- a seat that is to join the line
+pub record MayJoin (e : Entry) (queue : Line) : Type 0 where
+  pub seat : e.seat < queue.seats
+  pub absent : place_of e.seat queue.arrivals ≡ None
+
+-- a seat that is to sleep
+pub record MaySleep (e : Entry) (waiters : Sleepers) : Type 0 where
+  pub condition : e.at < waiters.conditions
+  pub seat : e.seat < waiters.seats
+  pub awake : (c : ℕ) → has e.seat (asleep_on waiters c) ≡ false
+
+-- a sleeper that is to join the line
+pub record MayLapse (e : Entry) (queue : Line) (waiters : Sleepers) : Type 0 where
+  pub join : MayJoin e queue
+  pub asleep : has e.seat (asleep_on waiters e.at) ≡ true
+
+-- sleepers that are to be moved, so many
+pub record MayMove (n : ℕ) (e : Entry) (queue : Line) (waiters : Sleepers) : Type 0 where
+  pub condition : e.at < waiters.conditions
+  pub apart : (i : ℕ) → has i (asleep_on waiters e.at) ≡ true → place_of i queue.arrivals ≡ None
+  pub number : e.n ≡ n
+
+abbrev pub IsMovableBy : Word → Entry → Line → Sleepers → Type 0
+IsMovableBy Queued e queue waiters = MayJoin e queue
+IsMovableBy Await e queue waiters = MaySleep e waiters
+IsMovableBy Lapse e queue waiters = MayLapse e queue waiters
+IsMovableBy Signal e queue waiters = MayMove (at_most_one (length (asleep_on waiters e.at))) e queue waiters
+IsMovableBy SignalAll e queue waiters = MayMove (length (asleep_on waiters e.at)) e queue waiters
+IsMovableBy _ e queue waiters = Unit {0}
+
+-- what an entry asks of those who wait
+pub record IsMovable (e : Entry) (queue : Line) (waiters : Sleepers) : Type 0 where
+  pub by_word : IsMovableBy e.word e queue waiters
+  pub seats : waiters.seats ≤ queue.seats
+  pub few : length (asleep_on waiters e.at) ≤ 65536
+  pub countable : queue.joined + 65536 < 2 ^ 64

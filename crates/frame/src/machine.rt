@@ -1,0 +1,87 @@
+//! The core of one object.
+
+mod deciding;
+mod observing;
+mod recording;
+
+ghost use Rattle.std.specs.Prelude.{◌≡◌, [], ℕ, IfOk, IfErr};
+ghost use Rattle.history.specs.Header.{IsInRange};
+ghost use Rattle.history.specs.declared.fault.Fault.TheVariants.{OutOfMemory};
+
+use crate::hooks::Hooks;
+use crate::seat::Seat;
+use acquire_queue::queue::Queue;
+use condition_queue::waiters::Waiters;
+use history::entries::History;
+use history::fault::Fault;
+use history::header::Header;
+use std::alloc::Global;
+use std::marker::Model;
+
+/// An object of some hooks with its line, its sleepers, the holds of its seats and its history.
+///
+/// Each step of a seat is one change: it records the one entry that the step makes, or nothing. What it
+/// needs to know it keeps, so it never looks back into the history.
+#[derive(Drop)]
+pub struct Core<H: Hooks + Drop> {
+    hooks: H,
+    header: Header,
+    history: History,
+    queue: Queue,
+    waiters: Waiters,
+    seats: Vec<Seat>,
+}
+
+impl<H: Hooks + Drop> Model for Core<H> {
+    ghost use Rattle.frame.specs.Core.{CoreView, Stands};
+
+    ghost Value = { CoreView };
+
+    ghost view = { λ a. record { header = a.header; entries = a.history.entries } };
+
+    ghost invariant = { λ a. Stands (H.agrees a.hooks) a.header a.history a.queue a.waiters a.seats.items };
+}
+
+impl<H: Hooks + Drop> Core<H> {
+    /// A core with an empty history. It reserves all that it keeps but the history's places.
+    pub fn open(
+        alloc: Global,
+        hooks: H,
+        seats: u16,
+        conditions: u8,
+        cap: u32,
+    ) -> Result<Self, Fault>
+        requires opened { H.is_opened hooks seats }
+        requires range { IsInRange (record { object = H.object_of hooks; seats = seats; conditions = conditions; cap = cap }) }
+        ensures header { IfOk result (λ core. core.header ≡ record { object = H.object_of hooks; seats = seats; conditions = conditions; cap = cap }) }
+        ensures empty { IfOk result (λ core. core.entries ≡ []) }
+        ensures err { IfErr result (λ fault. fault ≡ OutOfMemory) }
+    {
+        let queue = match Queue::open(alloc, seats) {
+            Err(_) => return Err(Fault::OutOfMemory),
+            Ok(queue) => queue,
+        };
+        let waiters = match Waiters::open(alloc, conditions, seats) {
+            Err(_) => return Err(Fault::OutOfMemory),
+            Ok(waiters) => waiters,
+        };
+        let table = match vec![in alloc; Seat::free(); seats as usize] {
+            Err(_) => return Err(Fault::OutOfMemory),
+            Ok(table) => table,
+        };
+        let header = Header {
+            object: hooks.object(),
+            seats,
+            conditions,
+            cap,
+        };
+        Ok(Core {
+            hooks,
+            header,
+            history: History::open(alloc, cap),
+            queue,
+            waiters,
+            seats: table,
+        })
+    }
+}

@@ -1,0 +1,83 @@
+//! Recording the entry of a step.
+
+ghost use Rattle.std.specs.Prelude.{◌≡◌, ◌<◌, IsOk, IfOk, OnErr};
+ghost use Rattle.history.specs.declared.entry.Entry.{Entry};
+ghost use Rattle.frame.specs.Core.{start_of, IsAdded, IsAnswered, IsNext, IsRecorded, KeepsHolds, MakesOwed};
+ghost use Rattle.history.specs.Room.{was_owed};
+ghost use Rattle.std.specs.Prelude.{true};
+
+use super::Core;
+use crate::effects::{change, releases, reserves};
+use crate::entries::named;
+use crate::hooks::Hooks;
+use crate::seat::update;
+use crate::waiting::move_waiters;
+use history::entry::Entry;
+use history::fault::Fault;
+use history::step::{Answer, Step};
+
+impl<H: Hooks + Drop> Core<H> {
+    /// Adds an entry where it has room, and has all that is kept follow it.
+    fn write(&mut self, entry: Entry) -> Result<(), Fault>
+        requires { IsNext self.old entry }
+        ensures { IsAdded self.old entry result self.new }
+    {
+        let object = self.header.object;
+        let was_owed = self.history.owed();
+        let owed = was_owed + reserves(object, entry) - releases(object, entry);
+        let needed = (owed + 1).saturating_sub(was_owed);
+        match self.history.make_room(needed) {
+            Err(fault) => return Err(fault),
+            Ok(()) => {}
+        }
+        change(&mut self.hooks, entry);
+        move_waiters(&mut self.queue, &mut self.waiters, entry);
+        update(&mut self.seats, object, entry);
+        self.history.add(entry, owed);
+        Ok(())
+    }
+
+    /// Records the entry of a step, and says whom it names: who is ready behind it and wasn't before.
+    fn record(&mut self, entry: Entry) -> Result<Answer, Fault>
+        requires { IsNext self.old entry }
+        ensures recorded { IsRecorded self.old entry result self.new }
+        ensures header { self.new.header ≡ self.old.header }
+        ensures fault { OnErr result (self.new ≡ self.old) }
+        ensures refused { IfOk result (λ answer. KeepsHolds self.old answer self.new) }
+        ensures owed { was_owed self.old.header.object entry ≡ true → IsOk result }
+    {
+        let before = self.ready();
+        match self.write(entry) {
+            Err(fault) => return Err(fault),
+            Ok(()) => {}
+        }
+        let after = self.ready();
+        Ok(Answer::Recorded(entry, named(before, after, entry.seat)))
+    }
+
+    /// One step of a seat.
+    ///
+    /// - `Recorded`: the one entry that the step makes, and whom it names. The first five faults come so.
+    /// - `Sleep`: nothing is recorded, and the seat waits on.
+    /// - `WrongMode`, `NoSuchCondition`, `BadAmount`, `OutOfPhase`: the step isn't one of the seat's now.
+    /// - `HistoryFull`: the entry and what it would owe don't fit in the history.
+    /// - `OutOfMemory`: the history's memory couldn't grow.
+    ///
+    /// After a fault nothing has changed. What ends a wait, gives a hold back or moves a sleeper always finds
+    /// room and memory.
+    pub fn step(&mut self, seat: u16, step: Step) -> Result<Answer, Fault>
+        requires { seat < self.old.header.seats }
+        ensures answered { IsAnswered self.old seat step result self.new }
+        ensures header { self.new.header ≡ self.old.header }
+        ensures fault { OnErr result (self.new ≡ self.old) }
+        ensures refused { IfOk result (λ answer. KeepsHolds self.old answer self.new) }
+        ensures owed { MakesOwed self.old seat step → IsOk result }
+    {
+        let _header = &self.header;
+        match self.decide(seat, step) {
+            Err(fault) => Err(fault),
+            Ok(None) => Ok(Answer::Sleep),
+            Ok(Some(entry)) => self.record(entry),
+        }
+    }
+}

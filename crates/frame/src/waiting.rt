@@ -1,0 +1,67 @@
+//! What an entry makes of those who wait: in line, or asleep on a condition.
+
+ghost use Rattle.std.specs.Prelude.{◌≡◌, ◌≤◌, ◌+◌, ◌==◌, if◌then◌else◌, ℕ, false};
+ghost use Rattle.history.specs.Line.{coming_back};
+ghost use Rattle.history.specs.Sleepers.{sleepers_after};
+ghost use Rattle.condition_queue.specs.Sleepers.{asleep_on};
+ghost use Rattle.frame.specs.Waiting.{IsMovable, line_behind};
+
+use acquire_queue::queue::Queue;
+use condition_queue::waiters::Waiters;
+use history::arrival::Arrival;
+use history::entry::{Entry, Mode, Word};
+
+/// Has those join, leave and move of whom an entry says so. It takes no memory.
+pub fn move_waiters(queue: &mut Queue, waiters: &mut Waiters, entry: Entry)
+    requires movable { IsMovable entry queue.old waiters.old }
+    ensures line { queue.new.arrivals ≡ line_behind entry.word entry queue.old.arrivals (asleep_on waiters.old entry.at) }
+    ensures sleepers { (c : ℕ) → asleep_on waiters.new c ≡ (if entry.at == c then sleepers_after entry.word entry.seat entry.n (asleep_on waiters.old c) else asleep_on waiters.old c) }
+    ensures joined { queue.new.joined ≤ queue.old.joined + 65536 }
+    ensures places { queue.new.seats ≡ queue.old.seats }
+    ensures beds { waiters.new.seats ≡ waiters.old.seats }
+    ensures conditions { waiters.new.conditions ≡ waiters.old.conditions }
+{
+    let _sleeper = waiters.sleeper_of(entry.seat);
+    match entry.word {
+        Word::Queued => queue.join(queued(entry)),
+        Word::Granted | Word::Left | Word::Back => {
+            let _stood = queue.leave(entry.seat);
+        }
+        Word::Await => waiters.join(entry.at, entry.seat, entry.n),
+        Word::Lapse => {
+            let _slept = waiters.leave(entry.seat);
+            queue.join(coming_back(entry.seat));
+        }
+        Word::Signal => {
+            let _moved = waiters.move_first(entry.at, queue);
+        }
+        Word::SignalAll => {
+            let _moved = waiters.move_all(entry.at, queue);
+        }
+        _ => {}
+    }
+}
+
+/// A new acquire, in line.
+fn queued(entry: Entry) -> Arrival
+    ensures { result ≡ record { seat = entry.seat; mode = entry.mode; n = entry.n; back = false } }
+{
+    Arrival {
+        seat: entry.seat,
+        mode: entry.mode,
+        n: entry.n,
+        back: false,
+    }
+}
+
+/// One that slept asks for X again.
+fn coming_back(seat: u16) -> Arrival
+    ensures { result ≡ coming_back seat }
+{
+    Arrival {
+        seat,
+        mode: Mode::X,
+        n: 1,
+        back: true,
+    }
+}

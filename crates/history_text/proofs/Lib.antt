@@ -1,0 +1,7 @@
+pub mod EntryLemmas
+pub mod HistoryLawful
+pub mod HistoryReading
+pub mod HistoryWriting
+pub mod Lists
+pub mod Made
+pub mod Spelt

@@ -1,0 +1,133 @@
+-- An entry that a step makes is of the step's seat, and refuses for a fault that is recorded.
+use Rattle.std.proofs.Common.{◌≡◌, ℕ, ◌≤◌, Bool, true, false, not, cond, ltb, List, Option, Some, None, refl, ap, sym, subst, arith, ◌==◌, length}
+use Rattle.std.specs.Prelude.{int_lt, pos, ◌+ℤ◌}
+use Rattle.std.proofs.lemmas.Bool.{cond_both}
+use Rattle.history.specs.declared.arrival.Arrival.{Arrival}
+use Rattle.history.specs.declared.entry.End.{End}
+use Rattle.history.specs.declared.entry.End.TheVariants as end
+use Rattle.history.specs.declared.entry.Entry.{Entry}
+use Rattle.history.specs.declared.fault.Fault.{Fault}
+use Rattle.history.specs.declared.fault.Fault.TheVariants as fault
+use Rattle.history.specs.declared.entry.Mode.{Mode}
+use Rattle.history.specs.declared.entry.Mode.TheVariants.{X, S}
+use Rattle.history.specs.declared.entry.Word.{Word}
+use Rattle.history.specs.declared.entry.Word.TheVariants as word
+use Rattle.history.specs.declared.header.Object.{Object}
+use Rattle.history.specs.declared.header.Object.TheVariants.{Lock, ReadWrite, Semaphore, Latch}
+use Rattle.history.specs.declared.step.Step.{Step}
+use Rattle.history.specs.declared.step.Step.TheVariants.{Acquire, Try, TryFair, EntryInterrupt, Give, Look, Expire, Interrupt, Await, Signal, SignalAll, Drain}
+use Rattle.history.specs.Could.{could, limit, held_back, is_seat}
+use Rattle.history.specs.Counts.{Counts, counts, owner}
+use Rattle.history.specs.Fault.{IsRecorded}
+use Rattle.history.specs.Faults.{max_amount}
+use Rattle.history.specs.Line.{first_mode}
+use Rattle.history.specs.Naming.{ready}
+use Rattle.history.specs.Phase.{Phase, Idle, InLine, Sleeping}
+use Rattle.history.specs.Start.{Start}
+use Rattle.history.specs.Steps.{phase_entry, idle_entry, line_entry, queued_entry, sleeping_entry, plain, ended, back, lapse, gave, awaits, signals, acquired, tried, tried_fairly}
+
+abbrev pub RefusesByRecorded : Word → Type 0
+RefusesByRecorded (word.Refused f) = IsRecorded f
+RefusesByRecorded _ = Unit {0}
+
+pub record IsMadeBy (i : ℕ) (e : Entry) : Type 0 where
+  pub seat : e.seat ≡ i
+  pub fault : RefusesByRecorded e.word
+
+made_plain : (i : ℕ) (w : Word) (m : Mode) (n : ℕ) → RefusesByRecorded w → IsMadeBy i (plain i w m n)
+made_plain i w m n r = record { seat = refl; fault = r }
+
+acquired_by : (b c d : Bool) → RefusesByRecorded (cond b word.Queued (cond c (word.Refused fault.TooManyHolds) (cond d word.Got word.Queued)))
+acquired_by true c d = tt
+acquired_by false true d = omega arith
+acquired_by false false true = tt
+acquired_by false false false = tt
+
+tried_by : (c d : Bool) → RefusesByRecorded (cond c (word.Refused fault.TooManyHolds) (cond d word.TryGot word.Missed))
+tried_by true d = omega arith
+tried_by false true = tt
+tried_by false false = tt
+
+tried_fairly_by : (b c d : Bool) → RefusesByRecorded (cond b word.Missed (cond c (word.Refused fault.TooManyHolds) (cond d word.Got word.Missed)))
+tried_fairly_by true c d = tt
+tried_fairly_by false true d = omega arith
+tried_fairly_by false false true = tt
+tried_fairly_by false false false = tt
+
+owned_by : (b : Bool) → RefusesByRecorded (cond b word.Gave (word.Refused fault.NotOwner))
+owned_by true = tt
+owned_by false = omega arith
+
+permits_by : (b : Bool) → RefusesByRecorded (cond b (word.Refused fault.TooManyPermits) word.Gave)
+permits_by true = omega arith
+permits_by false = tt
+
+gave_by : (o : Object) (k : Counts) (i : ℕ) (m : Mode) (n : ℕ) → RefusesByRecorded (gave o k i m n)
+gave_by (Lock p) k i m n = owned_by _
+gave_by (ReadWrite p) k i m n = owned_by _
+gave_by (Semaphore p c) k i m n = permits_by _
+gave_by (Latch c) k i m n = tt
+
+on_condition : (i : ℕ) (w : Word) (n c : ℕ) → RefusesByRecorded w → IsMadeBy i (record { seat = i; word = w; mode = X; n = n; at = c; end = end.None })
+on_condition i w n c r = record { seat = refl; fault = r }
+
+awaits_by : (k : Counts) (i c : ℕ) (b d : Bool) → IsMadeBy i (cond b (plain i (word.Refused fault.NotOwner) X 1) (cond d (plain i (word.Refused fault.HoldsRead) X 1) (record { seat = i; word = word.Await; mode = X; n = k.held i X; at = c; end = end.None })))
+awaits_by k i c true d = made_plain i (word.Refused fault.NotOwner) X 1 (omega arith)
+awaits_by k i c false true = made_plain i (word.Refused fault.HoldsRead) X 1 (omega arith)
+awaits_by k i c false false = on_condition i word.Await (k.held i X) c tt
+
+signals_by : (w : Word) (n i c : ℕ) (b : Bool) → RefusesByRecorded w → IsMadeBy i (cond b (plain i (word.Refused fault.NotOwner) X 1) (record { seat = i; word = w; mode = X; n = n; at = c; end = end.None }))
+signals_by w n i c true r = made_plain i (word.Refused fault.NotOwner) X 1 (omega arith)
+signals_by w n i c false r = on_condition i w n c r
+
+idle_made : (s : Start) (h : List Entry) (i : ℕ) (step : Step) → IsMadeBy i (idle_entry s h i step)
+idle_made s h i (Acquire m n) = made_plain i _ m n (acquired_by _ _ _)
+idle_made s h i (Try m n) = made_plain i _ m n (tried_by _ _)
+idle_made s h i (TryFair m n) = made_plain i _ m n (tried_fairly_by _ _ _)
+idle_made s h i (EntryInterrupt m n) = made_plain i _ m n (omega arith)
+idle_made s h i (Give m n) = made_plain i _ m n (gave_by s.header.object (counts s h) i m n)
+idle_made s h i (Await c) = awaits_by (counts s h) i c _ _
+idle_made s h i (Signal c) = signals_by word.Signal _ i c _ tt
+idle_made s h i (SignalAll c) = signals_by word.SignalAll _ i c _ tt
+idle_made s h i Drain = made_plain i _ S _ tt
+idle_made s h i Look = made_plain i _ X 1 tt
+idle_made s h i Expire = made_plain i _ X 1 tt
+idle_made s h i Interrupt = made_plain i _ X 1 tt
+
+at_entry : (i : ℕ) (x e : Entry) → Some x ≡ Some e → IsMadeBy i x → IsMadeBy i e
+at_entry i x e q p = subst (IsMadeBy i) (same x e q) p
+  where
+    same : (x e : Entry) → Some x ≡ Some e → x ≡ e
+    same x e q = cc
+
+ended_made : (i : ℕ) (w : Word) (a : Arrival) (how : End) → RefusesByRecorded w → IsMadeBy i (ended i w a how)
+ended_made i w a how r = record { seat = refl; fault = r }
+
+back_made : (s : Start) (h : List Entry) (i : ℕ) → IsMadeBy i (back s h i)
+back_made s h i = record { seat = refl; fault = tt }
+
+lapse_made : (s : Start) (h : List Entry) (i : ℕ) (how : End) → IsMadeBy i (lapse s h i how)
+lapse_made s h i how = record { seat = refl; fault = tt }
+
+line_made : (s : Start) (h : List Entry) (i : ℕ) (step : Step) (e : Entry) (a : Arrival) (comes goes : Bool) →
+    cond comes (cond goes (Some (back s h i)) None) (queued_entry goes i a step) ≡ Some e → IsMadeBy i e
+line_made s h i step e a true true q = at_entry i _ e q (back_made s h i)
+line_made s h i step e a true false q = cc
+line_made s h i Look e a false true q = at_entry i _ e q (ended_made i word.Granted a end.None tt)
+line_made s h i Look e a false false q = cc
+line_made s h i Expire e a false true q = at_entry i _ e q (ended_made i word.Granted a end.None tt)
+line_made s h i Expire e a false false q = at_entry i _ e q (ended_made i word.Left a end.Timeout tt)
+line_made s h i Interrupt e a false true q = at_entry i _ e q (ended_made i word.Left a end.Interrupt tt)
+line_made s h i Interrupt e a false false q = at_entry i _ e q (ended_made i word.Left a end.Interrupt tt)
+line_made s h i _ e a false true q = cc
+line_made s h i _ e a false false q = cc
+
+sleeping_made : (s : Start) (h : List Entry) (i : ℕ) (step : Step) (e : Entry) → sleeping_entry s h i step ≡ Some e → IsMadeBy i e
+sleeping_made s h i Expire e q = at_entry i _ e q (lapse_made s h i end.Timeout)
+sleeping_made s h i Interrupt e q = at_entry i _ e q (lapse_made s h i end.Interrupt)
+sleeping_made s h i _ e q = cc
+
+pub made : (s : Start) (h : List Entry) (i : ℕ) (step : Step) (e : Entry) (p : Phase) → phase_entry s h i step p ≡ Some e → IsMadeBy i e
+made s h i step e Idle q = at_entry i _ e q (idle_made s h i step)
+made s h i step e (InLine a) q = line_made s h i step e a a.back (is_seat (ready s h) i) q
+made s h i step e Sleeping q = sleeping_made s h i step e q

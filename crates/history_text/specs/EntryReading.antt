@@ -1,0 +1,19 @@
+-- What the readers of lines answer, from the words that are left to the words after.
+use Rattle.std.specs.Prelude.{ℕ, ◌-◌, List, Option, None, Some, codes}
+use Rattle.history.specs.declared.entry.Entry.{Entry}
+use Rattle.history.specs.EntryReading.{entry_at}
+use Rattle.history.specs.Reading.{Words, ◌>>=◌, number_at, keyword_at}
+
+unfoldable pub counts_at : ℕ → ℕ → Words → Option (Unit {0} × Words)
+counts_at entries calls words = do
+  name ← keyword_at (codes "end") words
+  e ← number_at entries entries name.1
+  c ← number_at calls calls e.1
+  Some (tt, c.1)
+
+-- the number, the seat and the words of an entry, at this number and of so many seats
+unfoldable pub line_at : ℕ → ℕ → Words → Option (Entry × Words)
+line_at number seats words = do
+  k ← number_at number number words
+  seat ← number_at 0 (seats - 1) k.1
+  entry_at seat.0 seat.1

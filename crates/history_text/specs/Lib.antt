@@ -1,0 +1,3 @@
+pub mod EntryLines
+pub mod EntryReading
+pub mod HistoryText

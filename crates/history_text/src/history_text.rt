@@ -1,0 +1,94 @@
+//! The text of a history: its writing and its reading.
+
+ghost use Rattle.std.specs.Prelude.{◌≡◌, ◌++◌, ◌≤◌, ◌↔◌, ◌<◌, ◌^◌, All, IfOk, IfErr, OnOk, IsTrue, reverse, length};
+ghost use Rattle.history.specs.declared.fault.Fault.TheVariants.{OutOfMemory};
+ghost use Rattle.history.specs.EntryWords.{IsSpelt};
+ghost use Rattle.history.specs.Header.{IsInRange};
+ghost use Rattle.history_text.specs.HistoryText.{history_text, Reads};
+
+use crate::end_line::is_end;
+use crate::entry_line::{put_counts, put_entry};
+use crate::entry_reading::entry_of;
+use history::entries::History;
+use history::fault::Fault;
+use history::header::Header;
+use history::text::first_line;
+use line_text::fault::TextFault;
+use line_text::header_line::header_behind;
+use std::alloc::{AllocError, Global};
+
+/// More than the length of most entries' lines: the text is made for lines of this length.
+const LINE_LENGTH: usize = 32;
+
+/// The text of a history under its header.
+///
+/// It is a history text, and is read again, where the history [`fits`](crate::fitting::fits) its header; to be
+/// written, its entries need only be spelt.
+pub fn write_text(alloc: Global, header: &Header, history: &History) -> Result<Vec<u8>, Fault>
+    requires range { IsInRange header.now }
+    requires spelt { All IsSpelt (reverse history.now.entries) }
+    ensures ok { IfOk result (λ text. text.items ≡ history_text header.now history.now.entries) }
+    ensures err { IfErr result (λ fault. fault ≡ OutOfMemory) }
+{
+    match written(alloc, header, history) {
+        Ok(text) => Ok(text),
+        Err(_) => Err(Fault::OutOfMemory),
+    }
+}
+
+fn written(alloc: Global, header: &Header, history: &History) -> Result<Vec<u8>, AllocError>
+    requires range { IsInRange header.now }
+    requires spelt { All IsSpelt (reverse history.now.entries) }
+    ensures { IfOk result (λ text. text.items ≡ history_text header.now history.now.entries) }
+{
+    let mut out = Vec::with_capacity(alloc, (history.len() as usize).saturating_mul(LINE_LENGTH))?;
+    out.extend_from_slice(b"aqs-history 1 ")?;
+    header.write_part(&mut out).map_err(|_| AllocError)?;
+    out.push(b'\n')?;
+    let mut number = 0;
+    while let Some(entry) = history.get(number) {
+        put_entry(&mut out, number, &entry)?;
+        out.push(b'\n')?;
+        number += 1;
+    }
+    put_counts(&mut out, history.len(), history.calls())?;
+    out.push(b'\n')?;
+    Ok(out)
+}
+
+/// The header and the history that a text spells, or its first fault.
+///
+/// No room is owed in what is read, which needn't be legal.
+pub fn read_text(alloc: Global, text: &[u8]) -> Result<(Header, History), TextFault>
+    ensures { Reads text.now result }
+{
+    let Some((first, after)) = first_line(text) else {
+        return Err(TextFault::CutShort);
+    };
+    let Some(header) = header_behind(b"aqs-history 1 ", first) else {
+        return Err(TextFault::BadHeader);
+    };
+    let mut history = History::open(alloc, header.cap);
+    let mut rest = after;
+    while let Some((line, after)) = first_line(rest) {
+        let count = history.len();
+        if is_end(line, count, history.calls()) {
+            if after.is_empty() {
+                return Ok((header, history));
+            }
+            return Err(TextFault::BadLine(count + 3));
+        }
+        if count >= u64::from(header.cap) {
+            return Err(TextFault::BadLine(count + 2));
+        }
+        let Some(entry) = entry_of(line, count, &header) else {
+            return Err(TextFault::BadLine(count + 2));
+        };
+        if history.make_room(1).is_err() {
+            return Err(TextFault::OutOfMemory);
+        }
+        history.add(entry, 0);
+        rest = after;
+    }
+    Err(TextFault::CutShort)
+}

@@ -1,0 +1,4 @@
+pub mod Broken
+pub mod OutOfOrder
+pub mod Told
+pub mod examples

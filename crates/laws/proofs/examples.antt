@@ -1,0 +1,9 @@
+-- Worked examples, each computed from the definitions.
+mod Locks
+mod Conditions
+mod ReadersAndWriters
+mod Semaphores
+mod Latches
+mod Naming
+mod Histories
+mod Pairs

@@ -1,0 +1,42 @@
+-- A history that is legal, and the same without its release, which isn't.
+use Rattle.std.proofs.Common.{◌≡◌, ℕ, List, [], ◌∷◌, Option, Some, None, refl}
+use Rattle.history.specs.declared.entry.Entry.{Entry}
+use Rattle.history.specs.declared.entry.Word.TheVariants as word
+use Rattle.history.specs.declared.header.Header.{Header}
+use Rattle.history.specs.declared.header.Policy.TheVariants.{Fair}
+use Rattle.history.specs.Legal.{IsLegal, calls}
+use Rattle.history.specs.Line.{line}
+use Rattle.history.specs.Start.{opening}
+use Rattle.history.proofs.Entering.{Known, known}
+use Rattle.laws.specs.OutOfTurn.{of}
+use Rattle.laws.proofs.Told.{lock, acquire, give, look}
+
+abbrev two_seats : Header
+two_seats = lock Fair 2 0 64
+
+abbrev handed_over : List Entry
+handed_over = of 1 word.Gave ∷ of 1 word.Granted ∷ of 0 word.Gave ∷ of 1 word.Queued ∷ of 0 word.Got ∷ []
+
+-- Each entry is its step's, from the last back to the first.
+handed_over_is_legal : IsLegal (opening two_seats) handed_over
+handed_over_is_legal = ((give, refl), ((look, refl), ((give, refl), ((acquire, refl), ((acquire, refl), tt)))))
+
+handed_over_calls : calls (opening two_seats) handed_over ≡ 4
+handed_over_calls = refl
+
+handed_over_line : line (opening two_seats) handed_over ≡ []
+handed_over_line = refl
+
+-- Without the release seat 1 is granted what seat 0 holds.
+abbrev without_its_release : List Entry
+without_its_release = of 1 word.Gave ∷ of 1 word.Granted ∷ of 1 word.Queued ∷ of 0 word.Got ∷ []
+
+nobody_ready : ◌≡◌ {A = Option ℕ} None (Some 1) → ⊥
+nobody_ready q = cc
+
+without_its_release_is_not_legal : IsLegal (opening two_seats) without_its_release → ⊥
+without_its_release_is_not_legal l =
+    let h : List Entry = of 1 word.Queued ∷ of 0 word.Got ∷ [] in
+    let k : Known (opening two_seats) h (of 1 word.Granted) =
+    known (opening two_seats) h l.1.0.0 (of 1 word.Granted) l.1.0.1 in
+    nobody_ready k.2

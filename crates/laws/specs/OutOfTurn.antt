@@ -1,0 +1,34 @@
+-- Histories in which somebody is passed, waits twice or gives what it lacks. None of them is legal.
+use Rattle.std.specs.Prelude.{ℕ, List, [], ◌∷◌}
+use Rattle.history.specs.declared.entry.Entry.{Entry}
+use Rattle.history.specs.declared.entry.Mode.TheVariants.{X}
+use Rattle.history.specs.declared.entry.Word.{Word}
+use Rattle.history.specs.declared.entry.Word.TheVariants as word
+use Rattle.history.specs.declared.header.Header.{Header}
+use Rattle.history.specs.declared.header.Object.TheVariants.{Lock}
+use Rattle.history.specs.declared.header.Policy.TheVariants.{Fair}
+use Rattle.history.specs.Steps.{plain}
+
+-- a fair lock of three seats
+abbrev pub fair_lock : Header
+fair_lock = record { object = Lock Fair; seats = 3; conditions = 0; cap = 64 }
+
+abbrev pub of : ℕ → Word → Entry
+of seat w = plain seat w X 1
+
+-- seats 1 and 2 stand in line, and 2 is granted before 1
+abbrev pub granted_out_of_turn : List Entry
+granted_out_of_turn = of 2 word.Granted ∷ of 0 word.Gave ∷ of 2 word.Queued ∷ of 1 word.Queued ∷ of 0
+    word.Got ∷ []
+
+-- seat 1 stands in line, and a new call of 2 takes
+abbrev pub got_past_the_line : List Entry
+got_past_the_line = of 2 word.Got ∷ of 0 word.Gave ∷ of 1 word.Queued ∷ of 0 word.Got ∷ []
+
+-- seat 1 stands in line and joins it again
+abbrev pub queued_twice : List Entry
+queued_twice = of 1 word.Queued ∷ of 1 word.Queued ∷ of 0 word.Got ∷ []
+
+-- a seat gives back what it never took
+abbrev pub gave_first : List Entry
+gave_first = of 0 word.Gave ∷ []

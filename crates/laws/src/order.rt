@@ -1,0 +1,33 @@
+//! Order: the line is served in turn.
+
+ghost use Rattle.std.specs.Prelude.{List};
+ghost use Rattle.history.specs.declared.entry.Entry.{Entry};
+ghost use Rattle.history.specs.declared.header.Header.{Header};
+ghost use Rattle.history.specs.Legal.{IsLegal};
+ghost use Rattle.history.specs.Order.{IsFairOrder, IsInOrder};
+ghost use Rattle.history.specs.Start.{opening};
+ghost use Rattle.laws.specs.OutOfTurn.{fair_lock, got_past_the_line, granted_out_of_turn};
+
+/// Nobody in line is passed: whoever is granted, or comes back from a condition, finds that the waits of
+/// all who arrived in line before it have ended.
+pub fn nobody_in_line_is_passed()
+    ensures { (k : Header) (h : List Entry) → IsLegal (opening k) h → IsInOrder (opening k) h }
+{}
+
+/// In a fair object a new acquire, timed or untimed, that isn't reentrant takes only where nobody waits:
+/// the waits of all who ever arrived have ended. An untimed try is no such call, and barges.
+pub fn fair_mode_lets_nobody_pass()
+    ensures { (k : Header) (h : List Entry) → IsLegal (opening k) h → IsFairOrder (opening k) h }
+{}
+
+/// A history in which the second in line is granted before the first isn't legal.
+pub fn a_grant_out_of_turn_is_not_legal()
+    ensures passed { IsInOrder (opening fair_lock) granted_out_of_turn → ⊥ }
+    ensures illegal { IsLegal (opening fair_lock) granted_out_of_turn → ⊥ }
+{}
+
+/// A history of a fair lock in which a new call takes past one in line isn't legal.
+pub fn a_fair_take_past_the_line_is_not_legal()
+    ensures passed { IsFairOrder (opening fair_lock) got_past_the_line → ⊥ }
+    ensures illegal { IsLegal (opening fair_lock) got_past_the_line → ⊥ }
+{}

@@ -1,0 +1,22 @@
+//! Results: whatever is asked, in whatever order, the history that is left is legal.
+
+ghost use Rattle.std.specs.Prelude.{List, [], ℕ};
+ghost use Rattle.history.specs.declared.entry.Entry.{Entry};
+ghost use Rattle.history.specs.declared.header.Header.{Header};
+ghost use Rattle.history.specs.declared.step.Step.{Step};
+ghost use Rattle.history.specs.Answers.{results};
+ghost use Rattle.history.specs.Legal.{IsLegal};
+ghost use Rattle.history.specs.Start.{Start, opening};
+ghost use Rattle.laws.specs.OutOfTurn.{fair_lock, gave_first};
+
+/// A list of steps of any seats leaves a legal history: of an object as opened, and of one with a legal
+/// history, whatever stood before that.
+pub fn results_are_legal()
+    ensures opened { (k : Header) (steps : List (ℕ × Step)) → IsLegal (opening k) (results (opening k) [] steps).1 }
+    ensures kept { (s : Start) (h : List Entry) (steps : List (ℕ × Step)) → IsLegal s h → IsLegal s (results s h steps).1 }
+{}
+
+/// A history that begins with a give isn't legal.
+pub fn a_give_of_nothing_is_not_legal()
+    ensures { IsLegal (opening fair_lock) gave_first → ⊥ }
+{}

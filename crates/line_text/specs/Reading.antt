@@ -1,0 +1,49 @@
+-- Which texts are of a form, and the first fault of a text that is not, line by line.
+use Rattle.std.specs.Prelude.{◌≡◌, ◌≢◌, ℕ, ◌+◌, ◌<◌, ◌^◌, List, [], ◌∷◌, ◌++◌, length, Result, Ok, Err, ◌⊎◌}
+use Rattle.line_text.specs.declared.fault.TextFault.{TextFault}
+use Rattle.line_text.specs.declared.fault.TextFault.TheVariants.{BadHeader, BadLine, CutShort, OutOfMemory}
+use Rattle.history.specs.Text.{IsLine, ended}
+use Rattle.line_text.specs.Form.{Form, lines_of, AreItems}
+
+-- The text begins with a header and these items, and the rest follows.
+pub record Begins {H I : Type 0} (form : Form H I) (text : List ℕ) (h : H) (items : List I) (rest : List ℕ) : Type 0 where
+  pub header : form.IsHeader h
+  pub each : AreItems form h 0 items
+  pub parts : text ≡ ended (form.header_line h) ++ (lines_of form 0 items ++ rest)
+
+-- The text is the one spelling of a header and items, of which there are at most 4294967295.
+pub record IsText {H I : Type 0} (form : Form H I) (text : List ℕ) (h : H) (items : List I) : Type 0 where
+  pub begins : Begins form text h items (ended (form.end_line items))
+  pub count : length items < 2 ^ 32
+
+-- Its last line is not whole, and no end line came before.
+abbrev pub IsCutShort : {H I : Type 0} → Form H I → List ℕ → Type 0
+IsCutShort {H} {I} form text = IsLine text ⊎ ((h : H) × (items : List I) × (rest : List ℕ) × Begins form text h items rest × IsLine rest)
+
+-- Its first line is no header line.
+abbrev pub HasBadHeader : {H I : Type 0} → Form H I → List ℕ → Type 0
+HasBadHeader {H} form text =
+    (line : List ℕ) × (rest : List ℕ) × (text ≡ line ++ 10 ∷ rest) × IsLine line × ((h : H) → form.IsHeader h → line ≢ form.header_line h)
+
+-- Behind so many items this line is neither an item nor the right end line.
+pub record IsBadLine {H I : Type 0} (form : Form H I) (h : H) (count : ℕ) (end_line line : List ℕ) : Type 0 where
+  pub whole : IsLine line
+  pub no_item : (x : I) → form.IsItem h count x → line ≢ form.item_line count x
+  pub no_end : count < 2 ^ 32 → line ≢ end_line
+
+-- The lines before this number, counted from 1, are good, and this one isn't, or follows the end line.
+abbrev pub HasBadLine : {H I : Type 0} → Form H I → List ℕ → ℕ → Type 0
+HasBadLine {H} {I} form text number =
+    ((h : H) × (items : List I) × (line : List ℕ) × (rest : List ℕ) × Begins form text h items (line ++ 10 ∷ rest) × IsBadLine form h (length items) (form.end_line items) line × (number ≡ length items + 2))
+    ⊎ ((h : H) × (items : List I) × (rest : List ℕ) × Begins form text h items (ended (form.end_line items) ++ rest) × (length items < 2 ^ 32) × (rest ≢ []) × (number ≡ length items + 3))
+
+-- what a text says, or its first fault
+abbrev pub Reading : Type 0 → Type 0 → Type 0
+Reading H I = Result (H × List I) TextFault
+
+abbrev pub IsReading : {H I : Type 0} → Form H I → List ℕ → Reading H I → Type 0
+IsReading form text (Ok said) = IsText form text said.0 said.1
+IsReading form text (Err CutShort) = IsCutShort form text
+IsReading form text (Err BadHeader) = HasBadHeader form text
+IsReading form text (Err (BadLine number)) = HasBadLine form text number
+IsReading form text (Err OutOfMemory) = ⊥

@@ -1,0 +1,30 @@
+-- Steps texts: their form, and what reading one answers.
+use Rattle.std.specs.Prelude.{ℕ, List, length, Result, Ok, Err}
+use Rattle.history.specs.declared.header.Header.{Header}
+use Rattle.history.specs.declared.step.Step.{Step}
+use Rattle.history.specs.Header.{IsInRange}
+use Rattle.line_text.specs.declared.fault.TextFault.{TextFault}
+use Rattle.line_text.specs.declared.fault.TextFault.TheVariants.{BadHeader, BadLine, CutShort, OutOfMemory}
+use Rattle.line_text.specs.Form.{Form}
+use Rattle.line_text.specs.Reading.{IsReading}
+use Rattle.steps.specs.declared.steps_text.StepsText.{StepsText}
+use Rattle.steps.specs.StepLines.{header_line, step_line, end_line, IsStep}
+
+-- a header of any object, the steps of its seats without numbers, and their number
+abbrev pub steps_form : Form Header (ℕ × Step)
+steps_form =
+    record {
+      IsHeader = IsInRange;
+      header_line = header_line;
+      IsItem = λ h number step. IsStep h.seats step;
+      item_line = λ number step. step_line step;
+      end_line = λ steps. end_line (length steps);
+    }
+
+-- what a call answers: the reading of the text, or want of memory
+abbrev pub Reads : List ℕ → Result StepsText TextFault → Type 0
+Reads text (Ok t) = IsReading steps_form text (Ok (t.header, t.steps.items))
+Reads text (Err CutShort) = IsReading steps_form text (Err CutShort)
+Reads text (Err BadHeader) = IsReading steps_form text (Err BadHeader)
+Reads text (Err (BadLine number)) = IsReading steps_form text (Err (BadLine number))
+Reads text (Err OutOfMemory) = Unit {0}

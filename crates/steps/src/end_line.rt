@@ -1,0 +1,26 @@
+//! The last line of a steps text.
+
+ghost use Rattle.std.specs.Prelude.{◌≡◌, ◌↔◌, ◌<◌, ◌^◌, IsTrue};
+ghost use Rattle.steps.specs.StepLines.{end_line};
+
+use history::number::number_of;
+use history::text::behind;
+
+const MOST_STEPS: usize = 4_294_967_295;
+
+/// Whether the line ends a text of so many steps.
+#[inline(always)]
+pub fn is_end(line: &[u8], count: usize) -> bool
+    ensures { IsTrue result ↔ ((count < 2 ^ 32) × (line.now ≡ end_line count)) }
+{
+    if count > MOST_STEPS {
+        return false;
+    }
+    let Some(number) = behind(b"end ", line) else {
+        return false;
+    };
+    match number_of(number) {
+        Some(found) => found == count as u64,
+        None => false,
+    }
+}

@@ -1,0 +1,14 @@
+//! The steps text: a header and the steps of its object's seats.
+//!
+//! Each text is a steps text, with one header and one list of steps, or it has one first fault:
+//! [`one_reading`]. What begins a steps text and isn't all of it is cut short: [`cut_short`].
+#![tactic(auto)]
+
+mod end_line;
+mod law;
+mod step_line;
+pub mod steps_text;
+
+pub use crate::law::{cut_short, one_reading};
+pub use crate::steps_text::{StepsText, read_steps};
+pub use line_text::fault::TextFault;
