@@ -109,6 +109,19 @@ owns_gave holds k i n h one =
     let e : holds_of (Some i) (holds - 1) i ≡ holds_of (Some i) holds i - in_holds k.object n = now ∙ sym (rw own (rw one refl)) in
     record { held = changed (Some i) (Some i) holds (holds - 1) i (λ had. had - in_holds k.object n) k.held h.held (eq-eqb i i refl) (eq-eqb i i refl) e; seat = h.seat }
 
+pub owns_freed : (rest : ℕ) (k : Counts) (i n : ℕ) → Owns (Some i) 1 k → in_holds k.object n ≡ 1 → Owns None rest (gave_back k i X n)
+owns_freed rest k i n h one =
+    let own : holds_of (Some i) 1 i ≡ 1 = at_own 1 i in
+    let e : 0 ≡ holds_of (Some i) 1 i - in_holds k.object n = sym (rw own (rw one refl)) in
+    record {
+      held = changed (Some i) None 1 rest i (λ had. had - in_holds k.object n) k.held h.held (eq-eqb i i refl) refl e;
+      seat = tt;
+    }
+
+pub owns_let_go : (holds : ℕ) (k : Counts) (i : ℕ) → Owns (Some i) holds k → Owns None 0 (let_go k i)
+owns_let_go holds k i h =
+    record { held = changed (Some i) None holds 0 i (λ had. 0) k.held h.held (eq-eqb i i refl) refl refl; seat = tt }
+
 pub owns_restored : (k : Counts) (i n : ℕ) → Owns None 0 k → i < k.seats → Owns (Some i) n (restored k i n)
 owns_restored k i n h seat =
     let now : holds_of (Some i) n i ≡ 0 + n = at_own n i ∙ sym (zero-add n) in

@@ -161,6 +161,32 @@ stands_write_less s k h i n u =
       shared = λ j. shared_kept i (λ had. had - in_holds k.object n) k.held j ∙ h.shared j;
     }
 
+-- no owner any more
+pub sound_freed : (s : State) (writes : ℕ) → IsSound s → writes ≡ 0 → IsSound (owned_by s None writes)
+sound_freed s writes t none = record { owned = eq-eqb writes 0 none; seated = refl; summed = t.summed }
+
+pub stands_gave_last : (s : State) (k : Counts) → IsSound s → StandsFor s k → (i n : ℕ) → is_seat s.owner i ≡ true → s.writes - 1 ≡ 0 → StandsFor (owned_by s None (s.writes - 1)) (gave_back k i X n)
+stands_gave_last s k t h i n u last =
+    let Q : Option ℕ → Type 0 = λ o. is_owned max_shared o s.writes ≡ true in
+    let some : 0 < s.writes = owned_some max_shared i s.writes (subst Q (seat_is s.owner i u) t.owned) in
+    let P : ℕ → Type 0 = λ w. Owns (Some i) w k in
+    let one : s.writes ≡ 1 = omega (arith, some, last) in
+    record {
+      object = h.object;
+      seats = h.seats;
+      owns = owns_freed (s.writes - 1) k i n (subst P one (owner_known s k h i u)) (rw h.object refl);
+      shared = λ j. shared_kept i (λ had. had - in_holds k.object n) k.held j ∙ h.shared j;
+    }
+
+pub stands_let_go : (s : State) (k : Counts) → StandsFor s k → (i : ℕ) → is_seat s.owner i ≡ true → StandsFor (owned_by s None 0) (let_go k i)
+stands_let_go s k h i u =
+    record {
+      object = h.object;
+      seats = h.seats;
+      owns = owns_let_go s.writes k i (owner_known s k h i u);
+      shared = λ j. shared_kept i (λ had. 0) k.held j ∙ h.shared j;
+    }
+
 -- all write holds again
 pub most_restored : (s : State) (k : Counts) → StandsFor s k → (i holds : ℕ) → IsRestorable k i holds → holds ≤ max_shared
 most_restored s k h i holds r = rw h.object at r.most

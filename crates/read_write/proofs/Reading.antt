@@ -66,7 +66,11 @@ let_go_is s k t h i =
     let writes = h.owns.held i in
     rw h.object (rw own (rw reads (rw writes refl)))
 
--- Who could write is beside no other writer, and has fewer write holds than may be.
+pub gave_is : (s : State) (k : Counts) → StandsFor s k → (i : ℕ) (m : Mode) (n : ℕ) → gave k.object k i m n ≡ cond (ltb 0 (holds_by s i m)) word.Gave (word.Refused fault.NotOwner)
+gave_is s k h i X n = let had = h.owns.held i in rw h.object (rw had refl)
+gave_is s k h i S n = let had = h.shared i in rw h.object (rw had refl)
+
+-- Who could write is nobody else's subject and below the limit.
 pub record MayWrite (s : State) (i : ℕ) : Type 0 where
   pub admitted : is_none_or s.owner i ≡ true
   pub below : s.writes < max_shared
@@ -86,7 +90,7 @@ may_write s i t c =
     let both = by_owner s.owner s.writes s.readers i t.owned c in
     record { admitted = both.0; below = both.1 }
 
--- Who could read is beside no other writer, and there is a read hold left for it.
+-- Who could read is beside no other writer, and there is a read hold left.
 pub record MayRead (s : State) (i : ℕ) : Type 0 where
   pub admitted : is_none_or s.owner i ≡ true
   pub below : s.readers < max_shared
