@@ -6,12 +6,11 @@ ghost use Rattle.std.specs.VecDeque.{deque_capacity};
 ghost use Rattle.history.specs.Line.{first_of, place_of};
 ghost use Rattle.acquire_queue.specs.Line.{StandOnce};
 
+use history::arrival::Arrival;
+use history::fault::Fault;
 use std::alloc::Global;
 use std::collections::VecDeque;
 use std::marker::Model;
-
-use history::arrival::Arrival;
-use history::fault::Fault;
 
 /// The line of an object: one place at most for each of its seats, the longest waiter first.
 #[derive(Drop)]

@@ -61,9 +61,21 @@ fn refuses_other_command_lines(rt: HostRuntime) {
 fn tells_each_fault(rt: HostRuntime) -> Result<(), Fail> {
     let told = [
         (Fault::Usage, "usage", 2),
-        (Fault::Stream(StreamFault::Text(TextFault::BadHeader)), "bad header", 3),
-        (Fault::Stream(StreamFault::Text(TextFault::BadLine(12))), "bad line 12", 3),
-        (Fault::Stream(StreamFault::Text(TextFault::CutShort)), "cut short", 3),
+        (
+            Fault::Stream(StreamFault::Text(TextFault::BadHeader)),
+            "bad header",
+            3,
+        ),
+        (
+            Fault::Stream(StreamFault::Text(TextFault::BadLine(12))),
+            "bad line 12",
+            3,
+        ),
+        (
+            Fault::Stream(StreamFault::Text(TextFault::CutShort)),
+            "cut short",
+            3,
+        ),
         (Fault::Stream(StreamFault::ReadFailed), "read failed", 4),
         (Fault::Stream(StreamFault::WriteFailed), "write failed", 4),
         (Fault::Stream(StreamFault::Memory), "out of memory", 5),

@@ -37,9 +37,9 @@ at_most_one_is n p = rw (ne_eqb n 0 (λ e. absurd (omega (arith, e)))) refl
 pub at_most_one_le : (n : ℕ) → (at_most_one n ≤ 1) × (at_most_one n ≤ n)
 at_most_one_le n = by (cases_eq n 0)
   where
-  by : (n ≡ 0) ⊎ (n ≡ 0 → ⊥) → (at_most_one n ≤ 1) × (at_most_one n ≤ n)
-  by (inl e) = rw (eq-eqb n 0 e) (omega arith, omega arith)
-  by (inr m) = rw (ne_eqb n 0 m) (omega arith, omega arith)
+    by : (n ≡ 0) ⊎ (n ≡ 0 → ⊥) → (at_most_one n ≤ 1) × (at_most_one n ≤ n)
+    by (inl e) = rw (eq-eqb n 0 e) (omega arith, omega arith)
+    by (inr m) = rw (ne_eqb n 0 m) (omega arith, omega arith)
 
 pub nobody_first : (xs : List ℕ) → slice_get xs 0 ≡ None → at_most_one (length xs) ≡ 0
 nobody_first [] p = refl
@@ -52,9 +52,9 @@ moved_table table seen s xs same low first i =
     ∙ ap (λ o. cond (eqb s i) None o) (same i)
     ∙ ap (λ b. cond b None (seen i)) (alone (eqb s i) ∙ ap (has i) first)
   where
-  alone : (b : Bool) → b ≡ (b || false)
-  alone true = refl
-  alone false = refl
+    alone : (b : Bool) → b ≡ (b || false)
+    alone true = refl
+    alone false = refl
 
 -- who still sleeps on the condition
 pub left_asleep : (c k : ℕ) (old mid : Sleepers) (before after : Line) → Moves c k old mid before after → asleep_on mid c ≡ drop k (asleep_on old c)
@@ -72,38 +72,43 @@ one_more c k n old mid new before line after first next low e =
       conditions = next.conditions ∙ first.conditions;
     }
   where
-  rest : take n (asleep_on mid c) ≡ take 1 (drop k (asleep_on old c))
-  rest = ap (λ m. take m (asleep_on mid c)) e ∙ ap (take 1) (left_asleep c k old mid before line first)
-  parts : take (k + 1) (asleep_on old c) ≡ take k (asleep_on old c) ++ take 1 (drop k (asleep_on old c))
-  parts = take-add k 1 (asleep_on old c)
-  arrivals : after.arrivals ≡ before.arrivals ++ map coming_back (take (k + 1) (asleep_on old c))
-  arrivals =
-      next.arrivals
-      ∙ ap (λ l. l ++ map coming_back (take n (asleep_on mid c))) first.arrivals
-      ∙ append_assoc before.arrivals (map coming_back (take k (asleep_on old c))) (map coming_back (take n (asleep_on mid c)))
-      ∙ ap (λ l. before.arrivals ++ l) (sym (map-append coming_back (take k (asleep_on old c)) (take n (asleep_on mid c))))
-      ∙ ap (λ l. before.arrivals ++ map coming_back (take k (asleep_on old c) ++ l)) rest
-      ∙ ap (λ l. before.arrivals ++ map coming_back l) (sym parts)
-  lists : (d : ℕ) → (c ≡ d) ⊎ (c ≡ d → ⊥) → asleep_on new d ≡ cond (eqb c d) (drop (k + 1) (asleep_on old d)) (asleep_on old d)
-  lists d (inl f) =
-      next.lists d
-      ∙ ap (λ l. cond (eqb c d) (drop n l) l) (first.lists d)
-      ∙ rw (eq-eqb c d f) (ap (λ m. drop m (drop k (asleep_on old d))) e ∙ drop-drop 1 k (asleep_on old d))
-  lists d (inr m) =
-      next.lists d
-      ∙ ap (λ l. cond (eqb c d) (drop n l) l) (first.lists d)
-      ∙ rw (ne_eqb c d m) refl
-  two : (a b : Bool) (o : Option Sleeper) → cond b None (cond a None o) ≡ cond (a || b) None o
-  two true true o = refl
-  two true false o = refl
-  two false b o = refl
-  sleepers : (i : ℕ) → sleeper_of new i ≡ cond (has i (take (k + 1) (asleep_on old c))) None (sleeper_of old i)
-  sleepers i =
-      next.sleepers i
-      ∙ ap (λ o. cond (has i (take n (asleep_on mid c))) None o) (first.sleepers i)
-      ∙ ap (λ l. cond (has i l) None (cond (has i (take k (asleep_on old c))) None (sleeper_of old i))) rest
-      ∙ two (has i (take k (asleep_on old c))) (has i (take 1 (drop k (asleep_on old c)))) (sleeper_of old i)
-      ∙ ap (λ b. cond b None (sleeper_of old i)) (sym (has-append i (take k (asleep_on old c)) (take 1 (drop k (asleep_on old c)))) ∙ ap (has i) (sym parts))
+    rest : take n (asleep_on mid c) ≡ take 1 (drop k (asleep_on old c))
+    rest = ap (λ m. take m (asleep_on mid c)) e ∙ ap (take 1) (left_asleep c k old mid before line first)
+
+    parts : take (k + 1) (asleep_on old c) ≡ take k (asleep_on old c) ++ take 1 (drop k (asleep_on old c))
+    parts = take-add k 1 (asleep_on old c)
+
+    arrivals : after.arrivals ≡ before.arrivals ++ map coming_back (take (k + 1) (asleep_on old c))
+    arrivals =
+        next.arrivals
+        ∙ ap (λ l. l ++ map coming_back (take n (asleep_on mid c))) first.arrivals
+        ∙ append_assoc before.arrivals (map coming_back (take k (asleep_on old c))) (map coming_back (take n (asleep_on mid c)))
+        ∙ ap (λ l. before.arrivals ++ l) (sym (map-append coming_back (take k (asleep_on old c)) (take n (asleep_on mid c))))
+        ∙ ap (λ l. before.arrivals ++ map coming_back (take k (asleep_on old c) ++ l)) rest
+        ∙ ap (λ l. before.arrivals ++ map coming_back l) (sym parts)
+
+    lists : (d : ℕ) → (c ≡ d) ⊎ (c ≡ d → ⊥) → asleep_on new d ≡ cond (eqb c d) (drop (k + 1) (asleep_on old d)) (asleep_on old d)
+    lists d (inl f) =
+        next.lists d
+        ∙ ap (λ l. cond (eqb c d) (drop n l) l) (first.lists d)
+        ∙ rw (eq-eqb c d f) (ap (λ m. drop m (drop k (asleep_on old d))) e ∙ drop-drop 1 k (asleep_on old d))
+    lists d (inr m) =
+        next.lists d
+        ∙ ap (λ l. cond (eqb c d) (drop n l) l) (first.lists d)
+        ∙ rw (ne_eqb c d m) refl
+
+    two : (a b : Bool) (o : Option Sleeper) → cond b None (cond a None o) ≡ cond (a || b) None o
+    two true true o = refl
+    two true false o = refl
+    two false b o = refl
+
+    sleepers : (i : ℕ) → sleeper_of new i ≡ cond (has i (take (k + 1) (asleep_on old c))) None (sleeper_of old i)
+    sleepers i =
+        next.sleepers i
+        ∙ ap (λ o. cond (has i (take n (asleep_on mid c))) None o) (first.sleepers i)
+        ∙ ap (λ l. cond (has i l) None (cond (has i (take k (asleep_on old c))) None (sleeper_of old i))) rest
+        ∙ two (has i (take k (asleep_on old c))) (has i (take 1 (drop k (asleep_on old c)))) (sleeper_of old i)
+        ∙ ap (λ b. cond b None (sleeper_of old i)) (sym (has-append i (take k (asleep_on old c)) (take 1 (drop k (asleep_on old c)))) ∙ ap (has i) (sym parts))
 
 pub moves_more : (c k n : ℕ) (old mid new : Sleepers) (before line after : Line) → Moves c k old mid before line → Moves c n mid new line after → k < length (asleep_on old c) → n ≡ at_most_one (length (asleep_on mid c)) → Moves c (k + 1) old new before after
 moves_more c k n old mid new before line after first next low e =
@@ -115,35 +120,35 @@ place_of-append : (i : ℕ) (xs ys : List Arrival) → place_of i xs ≡ None �
 place_of-append i [] ys p q = q
 place_of-append i (a ∷ xs) ys p q = by (eqb a.seat i) p (λ e. place_of-append i xs ys e q)
   where
-  by : (b : Bool) → cond b (Some a) (place_of i xs) ≡ None → (place_of i xs ≡ None → place_of i (xs ++ ys) ≡ None) → cond b (Some a) (place_of i (xs ++ ys)) ≡ None
-  by true p ih = cc
-  by false p ih = ih p
+    by : (b : Bool) → cond b (Some a) (place_of i xs) ≡ None → (place_of i xs ≡ None → place_of i (xs ++ ys) ≡ None) → cond b (Some a) (place_of i (xs ++ ys)) ≡ None
+    by true p ih = cc
+    by false p ih = ih p
 
 place_of-moved : (i : ℕ) (xs : List ℕ) → has i xs ≡ false → place_of i (map coming_back xs) ≡ None
 place_of-moved i [] p = refl
 place_of-moved i (x ∷ xs) p = by (eqb x i) p (place_of-moved i xs)
   where
-  by : (b : Bool) → (b || has i xs) ≡ false → (has i xs ≡ false → place_of i (map coming_back xs) ≡ None) → cond b (Some (coming_back x)) (place_of i (map coming_back xs)) ≡ None
-  by true p ih = cc
-  by false p ih = ih p
+    by : (b : Bool) → (b || has i xs) ≡ false → (has i xs ≡ false → place_of i (map coming_back xs) ≡ None) → cond b (Some (coming_back x)) (place_of i (map coming_back xs)) ≡ None
+    by true p ih = cc
+    by false p ih = ih p
 
 drop_has : (i k : ℕ) (xs : List ℕ) → has i (drop k xs) ≡ true → has i xs ≡ true
 drop_has i zero xs p = p
 drop_has i (suc k) [] p = p
 drop_has i (suc k) (x ∷ xs) p = by (eqb x i) (drop_has i k xs p)
   where
-  by : (b : Bool) → has i xs ≡ true → (b || has i xs) ≡ true
-  by true q = refl
-  by false q = q
+    by : (b : Bool) → has i xs ≡ true → (b || has i xs) ≡ true
+    by true q = refl
+    by false q = q
 
 once_apart : (i k : ℕ) (xs : List ℕ) → SleepOnce xs → has i (drop k xs) ≡ true → has i (take k xs) ≡ false
 once_apart i zero xs once p = refl
 once_apart i (suc k) [] once p = refl
 once_apart i (suc k) (x ∷ xs) once p = by (cases_eq x i) (once_apart i k xs once.1 p)
   where
-  by : (x ≡ i) ⊎ (x ≡ i → ⊥) → has i (take k xs) ≡ false → (eqb x i || has i (take k xs)) ≡ false
-  by (inl e) ih = let no : false ≡ true = sym once.0 ∙ ap (λ j. has j xs) e ∙ drop_has i k xs p in cc
-  by (inr n) ih = rw (ne_eqb x i n) ih
+    by : (x ≡ i) ⊎ (x ≡ i → ⊥) → has i (take k xs) ≡ false → (eqb x i || has i (take k xs)) ≡ false
+    by (inl e) ih = let no : false ≡ true = sym once.0 ∙ ap (λ j. has j xs) e ∙ drop_has i k xs p in cc
+    by (inr n) ih = rw (ne_eqb x i n) ih
 
 pub still_apart : (c k : ℕ) (old mid : Sleepers) (before line : Line) → Moves c k old mid before line → SleepOnce (asleep_on old c) → ((i : ℕ) → has i (asleep_on old c) ≡ true → place_of i before.arrivals ≡ None) → (i : ℕ) → has i (asleep_on mid c) ≡ true → place_of i line.arrivals ≡ None
 still_apart c k old mid before line moves once apart i p =

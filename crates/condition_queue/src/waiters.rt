@@ -9,16 +9,14 @@ ghost use Rattle.history.specs.Steps.{at_most_one};
 ghost use Rattle.condition_queue.specs.Moves.{Moves};
 ghost use Rattle.condition_queue.specs.Sleepers.{asleep_on, sleeper_of, sleeps_on, SleepOnce};
 
-use std::alloc::{AllocError, Global};
-use std::collections::VecDeque;
-use std::marker::Model;
-
+use crate::sleeper::Sleeper;
 use acquire_queue::queue::Queue;
 use history::arrival::Arrival;
 use history::entry::Mode;
 use history::fault::Fault;
-
-use crate::sleeper::Sleeper;
+use std::alloc::{AllocError, Global};
+use std::collections::VecDeque;
+use std::marker::Model;
 
 /// The sleepers of each condition of an object, the longest sleeper first. A seat sleeps on one condition
 /// at most.
@@ -38,10 +36,10 @@ impl Model for Waiters {
     ghost Value = { Sleepers };
 
     ghost view = { λ w. record {
-        seats = w.seats;
-        conditions = length w.lists.items;
-        lists = map deque_items w.lists.items;
-        sleepers = w.table.items;
+      seats = w.seats;
+      conditions = length w.lists.items;
+      lists = map deque_items w.lists.items;
+      sleepers = w.table.items;
     } };
 
     ghost invariant = { λ w. IsKept w.seats (map deque_items w.lists.items) (map deque_capacity w.lists.items) w.table.items };
@@ -183,7 +181,11 @@ impl Waiters {
 }
 
 /// A place for each seat on each condition.
-fn reserve_lists(alloc: Global, conditions: u8, seats: u16) -> Result<Vec<VecDeque<u16>>, AllocError>
+fn reserve_lists(
+    alloc: Global,
+    conditions: u8,
+    seats: u16,
+) -> Result<Vec<VecDeque<u16>>, AllocError>
     ensures conditions { IfOk result (λ lists. length lists.items ≡ conditions) }
     ensures reserved { IfOk result (λ lists. All (λ list. (list.items ≡ []) × (seats ≤ deque_capacity list)) lists.items) }
 {

@@ -3,6 +3,8 @@
 ghost use Rattle.std.specs.Prelude.{◌≡◌, ◌<◌};
 ghost use Rattle.driver.specs.Answering.{Answered, IsAnswered};
 
+use frame::hooks::Hooks;
+use frame::machine::Core;
 use history::entries::History;
 use history::fault::Fault;
 use history::step::{Answer, Step};
@@ -20,4 +22,16 @@ pub trait Answering {
 
     fn history(&self) -> &History
         ensures { result.now.entries ≡ (view_of self.now).entries };
+}
+
+impl<H: Hooks + Drop> Answering for Core<H> {
+    ghost view_of = { λ c. record { header = c.header; entries = c.entries } };
+
+    fn answer(&mut self, seat: u16, step: Step) -> Result<Answer, Fault> {
+        self.step(seat, step)
+    }
+
+    fn history(&self) -> &History {
+        Core::history(self)
+    }
 }

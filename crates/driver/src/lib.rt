@@ -6,19 +6,17 @@
 
 mod answering;
 pub mod device;
+#[cfg(test)]
+mod examples;
 pub mod form;
 pub mod memory_sink;
 pub mod memory_source;
-mod refusing;
 mod replay;
 pub mod replay_stream;
 pub mod sink;
 pub mod source;
 pub mod stream_fault;
-mod turns;
-mod whole;
-
-#[cfg(test)]
-mod examples;
 #[cfg(test)]
 mod tests;
+mod turns;
+mod whole;

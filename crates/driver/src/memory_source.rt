@@ -67,10 +67,7 @@ impl Source for MemorySource {
             self.failed = true;
             return Err(DeviceFailed);
         }
-        let n = self
-            .piece
-            .min(buf.len())
-            .min(self.bytes.len() - self.at);
+        let n = self.piece.min(buf.len()).min(self.bytes.len() - self.at);
         buf[..n].copy_from_slice(&self.bytes[self.at..self.at + n]);
         self.at += n;
         Ok(n)

@@ -6,16 +6,21 @@ ghost use Rattle.driver.specs.ReplayStream.{answer_text, Replayed, Replays, IsOf
 
 use crate::answering::Answering;
 use crate::form::Form;
-use crate::refusing::Refusing;
 use crate::replay::{drive, replay};
 use crate::sink::Sink;
 use crate::source::Source;
 use crate::stream_fault::StreamFault;
 use crate::whole::{read_all, write_all};
-use history::header::Header;
+use counting::latch::LatchHooks;
+use counting::semaphore::SemaphoreHooks;
+use frame::hooks::Hooks;
+use frame::machine::Core;
+use history::header::{Header, Object};
 use history::step::Step;
 use history_text::write_text;
 use line_text::fault::TextFault;
+use read_write::hooks::RwHooks;
+use reentrant::lock::LockHooks;
 use std::alloc::{AllocError, Global};
 use steps::read_steps;
 
@@ -85,6 +90,26 @@ fn answered<O: Answering>(
     }
 }
 
+/// What is written of the answers of a core of these hooks.
+fn opened<H: Hooks + Drop>(
+    alloc: Global,
+    header: &Header,
+    hooks: H,
+    steps: &[(u16, Step)],
+    form: Form,
+) -> Result<Vec<u8>, AllocError>
+    requires hooks { H.is_opened hooks header.now.seats }
+    requires object { H.object_of hooks ≡ header.now.object }
+    requires range { IsInRange header.now }
+    requires seats { All (λ s. s.0 < header.now.seats) steps.now }
+    ensures { IfOk result (λ text. text.items ≡ answer_text form header.now steps.now) }
+{
+    match Core::open(alloc, hooks, header.seats, header.conditions, header.cap) {
+        Ok(mut core) => answered(alloc, header, &mut core, steps, form),
+        Err(_) => Err(AllocError),
+    }
+}
+
 /// What is written of the answers of a fresh object of the header.
 fn answer_text(
     alloc: Global,
@@ -96,6 +121,21 @@ fn answer_text(
     requires seats { All (λ s. s.0 < header.now.seats) steps.now }
     ensures { IfOk result (λ text. text.items ≡ answer_text form header.now steps.now) }
 {
-    let mut object = Refusing::open(alloc, header);
-    answered(alloc, header, &mut object, steps, form)
+    match header.object {
+        Object::Lock(policy) => opened(alloc, header, LockHooks::open(policy), steps, form),
+        Object::ReadWrite(policy) => match RwHooks::open(alloc, policy, header.seats) {
+            Ok(hooks) => opened(alloc, header, hooks, steps, form),
+            Err(_) => Err(AllocError),
+        },
+        Object::Semaphore(policy, permits) => {
+            opened(
+                alloc,
+                header,
+                SemaphoreHooks::open(policy, permits),
+                steps,
+                form,
+            )
+        }
+        Object::Latch(count) => opened(alloc, header, LatchHooks::open(count), steps, form),
+    }
 }

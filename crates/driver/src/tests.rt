@@ -10,6 +10,7 @@ use crate::replay_stream::replay_stream;
 use crate::sink::Sink;
 use crate::source::Source;
 use crate::stream_fault::StreamFault;
+use std::process::Abort;
 use std::test::Fail;
 use steps::TextFault;
 
@@ -31,8 +32,8 @@ const ANSWER: &[u8] = b"aqs-replay 1 lock fair seats 2 conditions 1 cap 64\n\
 end 3 2\n";
 
 /// The answer to a text that comes and goes in pieces, and the sink afterwards.
-fn streamed(
-    rt: &HostRuntime,
+fn streamed<R: Abort + AllocGlobal>(
+    rt: &R,
     text: &[u8],
     form: Form,
     piece: usize,
@@ -45,8 +46,14 @@ fn streamed(
     let mut source = MemorySource::new(bytes, piece, fails_at.0);
     let mut sink = MemorySink::with_places(rt.alloc(), places, piece, fails_at.1)?;
     let answer = replay_stream(rt.alloc(), &mut source, &mut sink, form);
-    assert_eq!(rt; source.has_failed(), matches!(answer, Err(StreamFault::ReadFailed)));
-    assert_eq!(rt; sink.has_failed(), matches!(answer, Err(StreamFault::WriteFailed)));
+    assert_eq!(rt;
+        source.has_failed(),
+        matches!(answer, Err(StreamFault::ReadFailed))
+    );
+    assert_eq!(rt;
+        sink.has_failed(),
+        matches!(answer, Err(StreamFault::WriteFailed))
+    );
     Ok((answer, sink))
 }
 
@@ -54,7 +61,10 @@ fn streamed(
 fn answers_each_example(rt: HostRuntime) -> Result<(), Fail> {
     for example in &EXAMPLES {
         for piece in [1, 7, 4096] {
-            for (form, expected) in [(Form::Replay, example.replay), (Form::History, example.history)] {
+            for (form, expected) in [
+                (Form::Replay, example.replay),
+                (Form::History, example.history),
+            ] {
                 let text = example.steps.as_bytes();
                 let (answer, sink) = streamed(&rt, text, form, piece, (None, None), AMPLE)?;
                 assert!(rt; answer.is_ok(), "{}", example.name);
@@ -97,7 +107,9 @@ fn each_changed_byte_is_told_by_its_line(rt: HostRuntime) -> Result<(), Fail> {
                         TextFault::BadHeader => assert_eq!(rt; line, 1),
                         // A header with fewer seats refuses a later line, and a break makes a line more.
                         TextFault::BadLine(number) => {
-                            assert!(rt; number == line || line == 1 || byte == b'\n' && number == line + 1)
+                            assert!(rt;
+                                number == line || line == 1 || byte == b'\n' && number == line + 1
+                            )
                         }
                         TextFault::CutShort => assert_eq!(rt; at, TEXT.len() - 1),
                         TextFault::OutOfMemory => assert!(rt; false),
@@ -164,7 +176,14 @@ fn each_read_fails_in_turn(rt: HostRuntime) -> Result<(), Fail> {
 fn each_write_fails_in_turn(rt: HostRuntime) -> Result<(), Fail> {
     let writes = ANSWER.len().div_ceil(16);
     for call in 0..writes {
-        let (answer, sink) = streamed(&rt, TEXT, Form::Replay, 16, (None, Some(call as u64)), AMPLE)?;
+        let (answer, sink) = streamed(
+            &rt,
+            TEXT,
+            Form::Replay,
+            16,
+            (None, Some(call as u64)),
+            AMPLE,
+        )?;
         assert!(rt; answer == Err(StreamFault::WriteFailed));
         assert!(rt; sink.bytes() == &ANSWER[..(16 * call).min(ANSWER.len())]);
     }
@@ -186,8 +205,14 @@ fn writes_while_places_are_free(rt: HostRuntime) -> Result<(), Fail> {
 /// As many read holds as there may be, and one more.
 #[test]
 fn reads_up_to_the_limit(rt: HostRuntime) -> Result<(), Fail> {
-    let mut text = String::from_str(rt.alloc(), "aqs-steps 1 rw nonfair seats 1 conditions 0 cap 200000\n")?;
-    let mut expected = String::from_str(rt.alloc(), "aqs-replay 1 rw nonfair seats 1 conditions 0 cap 200000\n")?;
+    let mut text = String::from_str(
+        rt.alloc(),
+        "aqs-steps 1 rw nonfair seats 1 conditions 0 cap 200000\n",
+    )?;
+    let mut expected = String::from_str(
+        rt.alloc(),
+        "aqs-replay 1 rw nonfair seats 1 conditions 0 cap 200000\n",
+    )?;
     for number in 0..65535u32 {
         text.push_str("0 acquire s 1\n")?;
         let line = format!(in rt.alloc(); "{number} 0 got s 1\n")?;
@@ -196,7 +221,14 @@ fn reads_up_to_the_limit(rt: HostRuntime) -> Result<(), Fail> {
     text.push_str("0 acquire s 1\nend 65536\n")?;
     expected.push_str("65535 0 refused s 1 TooManyHolds\nend 65536 65536\n")?;
     let places = expected.len();
-    let (answer, sink) = streamed(&rt, text.as_bytes(), Form::Replay, 4096, (None, None), places)?;
+    let (answer, sink) = streamed(
+        &rt,
+        text.as_bytes(),
+        Form::Replay,
+        4096,
+        (None, None),
+        places,
+    )?;
     assert!(rt; answer.is_ok());
     assert!(rt; sink.bytes() == expected.as_bytes());
     Ok(())

@@ -1,6 +1,9 @@
 -- Who owns, and that what is held fits.
-use Rattle.std.proofs.Common.{◌≡◌, ◌≢◌, ◌⊎◌, ⊎_elim, ℕ, zero, suc, ◌+◌, ◌-◌, ◌*◌, ◌<◌, ◌≤◌, Bool, true, false, ◌&&◌, cond, eqb, ltb, List, [], ◌∷◌, length, Option, Some, None, refl, ap, ◌∙◌, sym, subst, arith, ℤ, pos, ◌≤ℤ◌}
-use Rattle.std.proofs.lemmas.Bool.{cases_eq, eq-eqb, ne_eqb, lt-ltb, le-ltb}
+use Rattle.std.proofs.Common.{◌≡◌, ◌≢◌, ⊎_elim, ℕ, zero, suc, ◌+◌, ◌*◌, ◌<◌, ◌≤◌, Bool, true, false, ◌&&◌, cond, eqb, ltb, List, [], ◌∷◌, length, Option, Some, None, refl, ap, ◌∙◌, sym, subst, arith, ℤ, pos, ◌≤ℤ◌}
+use Rattle.std.specs.Prelude.{slice_get, is_some}
+use Rattle.std.specs.List.{list_any}
+use Rattle.std.proofs.lemmas.Bool.{cases_eq, eq-eqb, ne_eqb, lt-ltb, le-ltb, or_left, or_right, or_from}
+use Rattle.std.proofs.lemmas.Option.{slice_get_within}
 use Rattle.history.specs.declared.entry.Entry.{Entry}
 use Rattle.history.specs.declared.entry.Mode.{Mode}
 use Rattle.history.specs.declared.entry.Mode.TheVariants.{X, S}
@@ -17,7 +20,7 @@ use Rattle.frame.specs.Hooks.{level_of, level_by}
 use Rattle.history.specs.declared.header.Object.{Object}
 use Rattle.history.specs.declared.header.Object.TheVariants.{Lock, ReadWrite, Semaphore, Latch}
 use Rattle.history.specs.Could.{could, could_of, is_seat}
-use Rattle.history.specs.Counts.{Counts, counts, free, held, holds_after, owner, total}
+use Rattle.history.specs.Counts.{Counts, counts, free, held, holds_after, owner}
 use Rattle.history.specs.Entry.{same_mode}
 use Rattle.history.specs.Header.{IsInRange}
 use Rattle.history.specs.Legal.{IsLegal, AreSeated}
@@ -31,28 +34,31 @@ use Rattle.history.proofs.Owners.{owner_holds, nobody_holds}
 use Rattle.history.proofs.Permits.{held_at_most, free_fits, free_at_most}
 use Rattle.history.proofs.Times.{total_part}
 use Rattle.history.proofs.WhoWaits.{comes_back}
+use Rattle.frame.specs.declared.seat.Seat.{Seat}
 use Rattle.frame.specs.Effects.{IsAllowed}
+use Rattle.frame.specs.Seat.{seat_of}
 use Rattle.frame.proofs.Counting.{allowed}
+use Rattle.frame.proofs.Seats.{seat_held}
 
 -- the owner is the seat that holds exclusively
 pub owner_is : (k : Counts) (i : ℕ) → i < k.seats →
     ((i j : ℕ) → 0 < k.held i X → 0 < k.held j X → i ≡ j) → is_seat (owner k) i ≡ ltb 0 (k.held i X)
 owner_is k i l one = by (owner k) refl
   where
-  by : (o : Option ℕ) → owner k ≡ o → is_seat o i ≡ ltb 0 (k.held i X)
-  by None p = let z = nobody_holds k i p l in sym (le-ltb 0 (k.held i X) (omega (arith, z)))
-  by (Some o) p =
-    let owns = (owner_holds k o p).1 in
-    ⊎_elim
-    (λ (same : o ≡ i).
+    by : (o : Option ℕ) → owner k ≡ o → is_seat o i ≡ ltb 0 (k.held i X)
+    by None p = let z = nobody_holds k i p l in sym (le-ltb 0 (k.held i X) (omega (arith, z)))
+    by (Some o) p =
+        let owns = (owner_holds k o p).1 in
+        ⊎_elim
+        (λ (same : o ≡ i).
         let d : k.held o X ≡ k.held i X = ap (λ x. k.held x X) same in
         eq-eqb o i same ∙ sym (lt-ltb 0 (k.held i X) (omega (arith, d, owns))))
-    (λ (ne : o ≢ i). ne_eqb o i ne ∙ sym (le-ltb 0 (k.held i X) (none ne owns (k.held i X) refl)))
-    (cases_eq o i)
-    where
-    none : o ≢ i → 0 < k.held o X → (n : ℕ) → k.held i X ≡ n → n ≤ 0
-    none ne owns zero q = omega arith
-    none ne owns (suc n) q = absurd (ne (one o i owns (omega (arith, q))))
+        (λ (ne : o ≢ i). ne_eqb o i ne ∙ sym (le-ltb 0 (k.held i X) (none ne owns (k.held i X) refl)))
+        (cases_eq o i)
+      where
+        none : o ≢ i → 0 < k.held o X → (n : ℕ) → k.held i X ≡ n → n ≤ 0
+        none ne owns zero q = omega arith
+        none ne owns (suc n) q = absurd (ne (one o i owns (omega (arith, q))))
 
 -- what no entry of a legal history begins to hold stays nothing
 abbrev BeginsNothing : Start → Mode → Type 0
@@ -64,20 +70,23 @@ held_nothing : (k : Header) (m : Mode) → BeginsNothing (opening k) m → (h : 
 held_nothing k m none [] legal seated i = refl
 held_nothing k m none (e ∷ h) legal seated i =
     by (eqb e.seat i) (same_mode e.mode m) refl (held_nothing k m none h legal.1 seated.1 i)
-        (λ same. none h e e.word v e_known (allowed s h e v e_known seated.0) same)
+    (λ same. none h e e.word v e_known (allowed s h e v e_known seated.0) same)
   where
-  s : Start
-  s = opening k
-  v : Waits s h
-  v = waits k h legal.1
-  e_known : Known s h e
-  e_known = known s h legal.0.0 e legal.0.1
-  by : (b c : Bool) → same_mode e.mode m ≡ c → held s h i m ≡ 0 →
-      (same_mode e.mode m ≡ true → holds_after s.header.object e.word e.n 0 ≡ 0) →
-      cond (b && c) (holds_after s.header.object e.word e.n (held s h i m)) (held s h i m) ≡ 0
-  by true true p z now = ap (holds_after s.header.object e.word e.n) z ∙ now p
-  by true false p z now = z
-  by false c p z now = z
+    s : Start
+    s = opening k
+
+    v : Waits s h
+    v = waits k h legal.1
+
+    e_known : Known s h e
+    e_known = known s h legal.0.0 e legal.0.1
+
+    by : (b c : Bool) → same_mode e.mode m ≡ c → held s h i m ≡ 0 →
+        (same_mode e.mode m ≡ true → holds_after s.header.object e.word e.n 0 ≡ 0) →
+        cond (b && c) (holds_after s.header.object e.word e.n (held s h i m)) (held s h i m) ≡ 0
+    by true true p z now = ap (holds_after s.header.object e.word e.n) z ∙ now p
+    by true false p z now = z
+    by false c p z now = z
 
 -- nobody takes exclusively but of a lock
 could_exclusively : (o : Object) (k : Counts) (i n : ℕ) → is_lock o ≡ false → could_of o k i X n ≡ true → ⊥
@@ -151,9 +160,9 @@ pub exclusive_fits : (k : Header) (h : List Entry) → IsLegal (opening k) h →
     held (opening k) h i X ≤ 2147483647
 exclusive_fits k h legal seated i = by (is_lock k.object) refl
   where
-  by : (b : Bool) → is_lock k.object ≡ b → held (opening k) h i X ≤ 2147483647
-  by true t = let l = (owned k h t legal seated).exclusive i in let m = most_fits k.object in omega (arith, l, m)
-  by false t = let z = held_nothing k X (no_exclusive (opening k) t) h legal seated i in omega (arith, z)
+    by : (b : Bool) → is_lock k.object ≡ b → held (opening k) h i X ≤ 2147483647
+    by true t = let l = (owned k h t legal seated).exclusive i in let m = most_fits k.object in omega (arith, l, m)
+    by false t = let z = held_nothing k X (no_exclusive (opening k) t) h legal seated i in omega (arith, z)
 
 shared_most : (o : Object) → most_shared o ≤ 65535
 shared_most (Lock p) = omega arith
@@ -165,20 +174,21 @@ pub shared_fits : (k : Header) (h : List Entry) → IsInRange k → IsLegal (ope
     i < k.seats → held (opening k) h i S ≤ 2147483647 * length h + 65535
 shared_fits k h range legal seated i l = by (is_lock k.object) (is_semaphore k.object) refl refl
   where
-  latch : (o : Object) → is_lock o ≡ false → is_semaphore o ≡ false → is_latch o ≡ true
-  latch (Lock p) t u = cc
-  latch (ReadWrite p) t u = cc
-  latch (Semaphore p a) t u = cc
-  latch (Latch a) t u = refl
-  by : (b c : Bool) → is_lock k.object ≡ b → is_semaphore k.object ≡ c → held (opening k) h i S ≤ 2147483647 * length h + 65535
-  by true c t u =
-    let sum = (owned k h t legal seated).shared in
-    let part = total_part k.seats (λ j. held (opening k) h j S) i l in
-    let m = shared_most k.object in
-    omega (arith, sum, part, m)
-  by false true t u = let m = held_at_most k h range u legal i S in omega (arith, m)
-  by false false t u =
-    let z = held_nothing k S (no_shared (opening k) (latch k.object t u)) h legal seated i in omega (arith, z)
+    latch : (o : Object) → is_lock o ≡ false → is_semaphore o ≡ false → is_latch o ≡ true
+    latch (Lock p) t u = cc
+    latch (ReadWrite p) t u = cc
+    latch (Semaphore p a) t u = cc
+    latch (Latch a) t u = refl
+
+    by : (b c : Bool) → is_lock k.object ≡ b → is_semaphore k.object ≡ c → held (opening k) h i S ≤ 2147483647 * length h + 65535
+    by true c t u =
+        let sum = (owned k h t legal seated).shared in
+        let part = total_part k.seats (λ j. held (opening k) h j S) i l in
+        let m = shared_most k.object in
+        omega (arith, sum, part, m)
+    by false true t u = let m = held_at_most k h range u legal i S in omega (arith, m)
+    by false false t u =
+        let z = held_nothing k S (no_shared (opening k) (latch k.object t u)) h legal seated i in omega (arith, z)
 
 -- the free permits that the hooks of a semaphore count
 level_free : (k : Header) (h : List Entry) (p : Policy) (n : ℤ) → k.object ≡ Semaphore p n → level_of (counts (opening k) h) ≡ free (opening k) h
@@ -195,3 +205,41 @@ level_most k h p n z range legal q is =
     let fits : FitsSigned w32 z = subst (FitsSigned w32) (sym same) (free_fits k h range t legal) in
     let most : z ≤ℤ pos max_amount = subst (λ x. x ≤ℤ pos max_amount) (sym same) (free_at_most k h range t legal) in
     subst (λ x. x ≤ℤ pos max_amount) (sym (to_z-of_z w64 z (wide z fits))) most
+
+-- whether a test of a table holds somewhere
+any_at : (test : Seat → Bool) (table : List Seat) (i : ℕ) (x : Seat) → slice_get table i ≡ Some x → test x ≡ true →
+    list_any test table ≡ true
+any_at test [] i x q t = cc
+any_at test (y ∷ table) zero x q t = let same : y ≡ x = cc in or_left (test y) _ (ap test same ∙ t)
+any_at test (y ∷ table) (suc i) x q t = or_right (test y) _ (any_at test table i x q t)
+
+any_none : (test : Seat → Bool) (table : List Seat) → ((i : ℕ) (x : Seat) → slice_get table i ≡ Some x → test x ≡ false) →
+    list_any test table ≡ false
+any_none test [] none = refl
+any_none test (y ∷ table) none = or_from (test y) _ (none 0 y refl) (any_none test table (λ i x q. none (suc i) x q))
+
+abbrev pub holds_exclusively : Seat → Bool
+holds_exclusively seat = ltb 0 seat.exclusive
+
+-- somebody owns where some seat holds exclusively
+pub held_by_any : (k : Header) (h : List Entry) (table : List Seat) → length table ≡ k.seats →
+    ((i : ℕ) → i < k.seats → slice_get table i ≡ Some (seat_of k.object h i)) →
+    list_any holds_exclusively table ≡ is_some (owner (counts (opening k) h))
+held_by_any k h table n all = by (owner (counts (opening k) h)) refl
+  where
+    by : (o : Option ℕ) → owner (counts (opening k) h) ≡ o → list_any holds_exclusively table ≡ is_some o
+    by (Some o) q =
+        let owns = owner_holds (counts (opening k) h) o q in
+        let l : 0 < (seat_of k.object h o).exclusive = let e = seat_held k h o X in let p = owns.1 in omega (arith, e, p) in
+        any_at holds_exclusively table o (seat_of k.object h o) (all o owns.0) (lt-ltb 0 _ l)
+    by None q =
+        any_none holds_exclusively table (λ i x at.
+        let inside : i < k.seats = let l = slice_get_within table i x at in omega (arith, l, n) in
+        let same : seat_of k.object h i ≡ x = some_seat (sym (all i inside) ∙ at) in
+        let z = nobody_holds (counts (opening k) h) i q inside in
+        let e = seat_held k h i X in
+        let d : (seat_of k.object h i).exclusive ≡ x.exclusive = ap (λ (y : Seat). y.exclusive) same in
+        le-ltb 0 x.exclusive (omega (arith, z, e, d)))
+      where
+        some_seat : {x y : Seat} → Some x ≡ Some y → x ≡ y
+        some_seat p = cc

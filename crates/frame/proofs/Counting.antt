@@ -1,5 +1,5 @@
 -- What an entry makes of the counts, and that the counts allow it.
-use Rattle.std.proofs.Common.{◌≡◌, ◌≢◌, ℕ, ◌+◌, ◌-◌, ◌<◌, ◌≤◌, Bool, true, false, not, ◌&&◌, cond, eqb, ltb, List, [], ◌∷◌, Option, Some, None, Result, Ok, Err, refl, ap, ◌∙◌, sym, subst, arith, ℤ}
+use Rattle.std.proofs.Common.{◌≡◌, ℕ, ◌+◌, ◌-◌, ◌<◌, ◌≤◌, Bool, true, false, not, ◌&&◌, cond, eqb, ltb, List, ◌∷◌, Some, Result, Ok, Err, refl, ap, ◌∙◌, sym, subst, arith}
 use mathlib.Core.Path.{fun_ext}
 use Rattle.std.proofs.lemmas.Bool.{eq-eqb}
 use Rattle.history.specs.declared.arrival.Arrival.{Arrival}
@@ -10,19 +10,17 @@ use Rattle.history.specs.declared.entry.Word.{Word}
 use Rattle.history.specs.declared.entry.Word.TheVariants as word
 use Rattle.history.specs.declared.fault.Fault.{Fault}
 use Rattle.history.specs.declared.fault.Fault.TheVariants as fault
-use Rattle.history.specs.declared.header.Header.{Header}
 use Rattle.history.specs.declared.header.Object.{Object}
 use Rattle.history.specs.declared.header.Object.TheVariants.{Lock, ReadWrite, Semaphore, Latch}
-use Rattle.history.specs.Changes.{took, given, given_of, gave_back, counted_down, let_go, restored, drained, holds_with}
+use Rattle.history.specs.Changes.{given_of, gave_back, counted_down}
 use Rattle.history.specs.Could.{could, is_seat}
 use Rattle.history.specs.Counts.{Counts, counts, held, holds_after, free, free_after, counted, counted_after, owner}
 use Rattle.history.specs.Entry.{same_mode}
-use Rattle.history.specs.Legal.{IsLegal}
 use Rattle.history.specs.Line.{line, place_of}
 use Rattle.history.specs.Object.{is_lock, is_latch, is_semaphore, opening_count}
 use Rattle.history.specs.Sleepers.{last_sleep}
-use Rattle.history.specs.Start.{Start, opening}
-use Rattle.history.specs.Steps.{gave, at_least_none, plain, ended, back}
+use Rattle.history.specs.Start.{Start}
+use Rattle.history.specs.Steps.{gave, at_least_none, ended, back}
 use Rattle.history.proofs.Entering.{Known, KnownBy}
 use Rattle.history.proofs.OneWait.{Waits}
 use Rattle.history.proofs.Owners.{ready_could, most_holds}
@@ -52,7 +50,7 @@ same_counts : (s : Start) (h : List Entry) (e : Entry) (w : Word) →
 same_counts s h e w holds permits count =
     let f : (counts_with s h e w).held ≡ held s h = fun_ext (λ i. fun_ext (λ m. either_way _ _ _ (holds (held s h i m)))) in
     let c : opening_count s.header.object - counted_after w (counted s h) ≡ opening_count s.header.object - counted s h =
-        ap (λ x. opening_count s.header.object - x) count in
+    ap (λ x. opening_count s.header.object - x) count in
     λ i. record { object = s.header.object; seats = s.header.seats; held = f i; free = permits i; count = c i }
 
 -- a give of anything but a latch, and of a latch
@@ -113,14 +111,14 @@ let_go_allowed : (k : Counts) (i n : ℕ) → is_lock k.object ≡ true → owne
     let_go_answer k i ≡ Ok n
 let_go_allowed k i n lock owns reads is =
     by (is_lock k.object) (is_seat (owner k) i) (ltb 0 (k.held i S)) lock
-        (ap (λ o. is_seat o i) owns ∙ eq-eqb i i refl) (ap (ltb 0) reads)
+    (ap (λ o. is_seat o i) owns ∙ eq-eqb i i refl) (ap (ltb 0) reads)
   where
-  by : (a b c : Bool) → a ≡ true → b ≡ true → c ≡ false →
-      cond (not a) (Err fault.NotOwner) (cond (not b) (Err fault.NotOwner) (cond c (Err fault.HoldsRead) (Ok (k.held i X)))) ≡ Ok n
-  by true true false p q r = let ok : ℕ → Result ℕ Fault = λ x. Ok x in ap ok (sym is)
-  by true true true p q r = cc
-  by true false c p q r = cc
-  by false b c p q r = cc
+    by : (a b c : Bool) → a ≡ true → b ≡ true → c ≡ false →
+        cond (not a) (Err fault.NotOwner) (cond (not b) (Err fault.NotOwner) (cond c (Err fault.HoldsRead) (Ok (k.held i X)))) ≡ Ok n
+    by true true false p q r = let ok : ℕ → Result ℕ Fault = λ x. Ok x in ap ok (sym is)
+    by true true true p q r = cc
+    by true false c p q r = cc
+    by false b c p q r = cc
 
 drain_allowed : (o : Object) (k : Counts) → is_semaphore o ≡ true → at_least_none k.free ≡ drain_answer_of o k
 drain_allowed (Lock p) k t = cc

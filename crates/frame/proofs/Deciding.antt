@@ -68,16 +68,16 @@ pub record IsAdmitted (s : Start) (step : Step) : Type 0 where
 pub admitted : (s : Start) (step : Step) → refused_as s.header step ≡ None → IsAdmitted s step
 admitted s step q =
     let parts = by (is_wrong_mode s.header.object step) (is_no_condition s.header step)
-        (is_bad_amount s.header.object step) q in
+    (is_bad_amount s.header.object step) q in
     record { mode = parts.0; condition = parts.1; amount = parts.2 }
   where
-  by : (a b c : Bool) →
-      cond a (Some fault.WrongMode) (cond b (Some fault.NoSuchCondition) (cond c (Some fault.BadAmount) None)) ≡ None →
-      (a ≡ false) × (b ≡ false) × (c ≡ false)
-  by true b c q = absurd (cc)
-  by false true c q = absurd (cc)
-  by false false true q = absurd (cc)
-  by false false false q = (refl, refl, refl)
+    by : (a b c : Bool) →
+        cond a (Some fault.WrongMode) (cond b (Some fault.NoSuchCondition) (cond c (Some fault.BadAmount) None)) ≡ None →
+        (a ≡ false) × (b ≡ false) × (c ≡ false)
+    by true b c q = absurd (cc)
+    by false true c q = absurd (cc)
+    by false false true q = absurd (cc)
+    by false false false q = (refl, refl, refl)
 
 -- the first in line, by whether it could go
 pub ready_goes : (k : Counts) (o : Option Arrival) (a : Arrival) → o ≡ Some a →
@@ -95,18 +95,18 @@ pub in_phase_made : (s : Start) (h : List Entry) (i : ℕ) (step : Step) (p : Ph
 in_phase_made s h i step p o is suit made =
     rw is (by (suits p step) suit)
   where
-  by : (b : Bool) → b ≡ true → ◌≡◌ {A = Result (Option Entry) Fault} (Ok o) (cond (not b) (Err fault.OutOfPhase) (Ok (phase_entry s h i step p)))
-  by true t = let ok : Option Entry → Result (Option Entry) Fault = λ x. Ok x in ap ok made
-  by false t = absurd (cc)
+    by : (b : Bool) → b ≡ true → ◌≡◌ {A = Result (Option Entry) Fault} (Ok o) (cond (not b) (Err fault.OutOfPhase) (Ok (phase_entry s h i step p)))
+    by true t = let ok : Option Entry → Result (Option Entry) Fault = λ x. Ok x in ap ok made
+    by false t = absurd (cc)
 
 pub in_phase_refused : (s : Start) (h : List Entry) (i : ℕ) (step : Step) (p : Phase) →
     phase s h i ≡ p → suits p step ≡ false →
     ◌≡◌ {A = Result (Option Entry) Fault} (Err fault.OutOfPhase) (in_phase s h i step (phase s h i))
 in_phase_refused s h i step p is suit = rw is (by (suits p step) suit)
   where
-  by : (b : Bool) → b ≡ false → ◌≡◌ {A = Result (Option Entry) Fault} (Err fault.OutOfPhase) (cond (not b) (Err fault.OutOfPhase) (Ok (phase_entry s h i step p)))
-  by true t = absurd (cc)
-  by false t = refl
+    by : (b : Bool) → b ≡ false → ◌≡◌ {A = Result (Option Entry) Fault} (Err fault.OutOfPhase) (cond (not b) (Err fault.OutOfPhase) (Ok (phase_entry s h i step p)))
+    by true t = absurd (cc)
+    by false t = refl
 
 -- the phase of a seat in line, and of one that isn't
 pub phase_line : (s : Start) (h : List Entry) (i : ℕ) (a : Arrival) → place_of i (line s h) ≡ Some a → phase s h i ≡ InLine a
@@ -122,15 +122,15 @@ pub sleeps_is : (s : Start) (h : List Entry) (i : ℕ) (w : Sleepers) (r : Optio
     is_some r ≡ sleeps_below s.header.conditions s h i
 sleeps_is s h i w None v lists listed = by (sleeps_below s.header.conditions s h i) refl
   where
-  by : (b : Bool) → sleeps_below s.header.conditions s h i ≡ b → false ≡ b
-  by true t =
-    let at = sleeps_at s.header.conditions s h i t in
-    let z : true ≡ false = sym at.2 ∙ ap (has i) (sym (lists at.0)) ∙ listed at.0 in
-    cc
-  by false t = refl
+    by : (b : Bool) → sleeps_below s.header.conditions s h i ≡ b → false ≡ b
+    by true t =
+        let at = sleeps_at s.header.conditions s h i t in
+        let z : true ≡ false = sym at.2 ∙ ap (has i) (sym (lists at.0)) ∙ listed at.0 in
+        cc
+    by false t = refl
 sleeps_is s h i w (Some x) v lists listed =
     let t : has i (sleepers s h x.condition) ≡ true =
-        ap (has i) (sym (lists x.condition)) ∙ listed x.condition ∙ eq-eqb x.condition x.condition refl in
+    ap (has i) (sym (lists x.condition)) ∙ listed x.condition ∙ eq-eqb x.condition x.condition refl in
     let on = v.sleepers x.condition i t in
     let below : x.condition < s.header.conditions = let l = on.saved.condition in let d = on.condition in omega (arith, l, d) in
     sym (sleeps_there s.header.conditions s h i x.condition below t)
@@ -139,22 +139,22 @@ sleeps_is s h i w (Some x) v lists listed =
 awaits_seat : (k : Counts) (i c : ℕ) → (awaits k i c).seat ≡ i
 awaits_seat k i c = by (not (is_seat (owner k) i)) (ltb 0 (k.held i S))
   where
-  by : (a b : Bool) →
-      (cond a (plain i (word.Refused fault.NotOwner) X 1)
-      (cond b (plain i (word.Refused fault.HoldsRead) X 1)
-      (record { seat = i; word = word.Await; mode = X; n = k.held i X; at = c; end = end.None }))).seat ≡ i
-  by true b = refl
-  by false true = refl
-  by false false = refl
+    by : (a b : Bool) →
+        (cond a (plain i (word.Refused fault.NotOwner) X 1)
+        (cond b (plain i (word.Refused fault.HoldsRead) X 1)
+        (record { seat = i; word = word.Await; mode = X; n = k.held i X; at = c; end = end.None }))).seat ≡ i
+    by true b = refl
+    by false true = refl
+    by false false = refl
 
 signals_seat : (k : Counts) (w : Word) (n i c : ℕ) → (signals k w n i c).seat ≡ i
 signals_seat k w n i c = by (not (is_seat (owner k) i))
   where
-  by : (a : Bool) →
-      (cond a (plain i (word.Refused fault.NotOwner) X 1)
-      (record { seat = i; word = w; mode = X; n = n; at = c; end = end.None })).seat ≡ i
-  by true = refl
-  by false = refl
+    by : (a : Bool) →
+        (cond a (plain i (word.Refused fault.NotOwner) X 1)
+        (record { seat = i; word = w; mode = X; n = n; at = c; end = end.None })).seat ≡ i
+    by true = refl
+    by false = refl
 
 idle_seat : (s : Start) (h : List Entry) (i : ℕ) (step : Step) → (idle_entry s h i step).seat ≡ i
 idle_seat s h i (Await c) = awaits_seat (counts s h) i c

@@ -1,5 +1,5 @@
 -- What an entry makes of those who wait, and that they are as it needs them.
-use Rattle.std.proofs.Common.{◌≡◌, ◌⊎◌, ⊎_elim, ℕ, zero, suc, ◌+◌, ◌*◌, ◌^◌, ◌<◌, ◌≤◌, Bool, true, false, not, ◌&&◌, cond, eqb, List, [], ◌∷◌, ◌++◌, length, map, take, Option, Some, None, refl, ap, ◌∙◌, sym, subst, arith}
+use Rattle.std.proofs.Common.{◌≡◌, ◌⊎◌, ⊎_elim, ℕ, zero, suc, ◌+◌, ◌<◌, ◌≤◌, Bool, true, false, cond, eqb, List, ◌∷◌, ◌++◌, length, Option, Some, None, refl, ap, ◌∙◌, sym, arith}
 use Rattle.std.specs.List.{filter}
 use Rattle.std.proofs.lemmas.Bool.{cases_eq, cases_lt, eq-eqb, false≢true}
 use Rattle.std.proofs.lemmas.List.{append-nil, length-append}
@@ -13,19 +13,18 @@ use Rattle.history.specs.declared.header.Header.{Header}
 use Rattle.history.specs.Header.{IsInRange}
 use Rattle.history.specs.Legal.{IsLegal, AreSeated}
 use Rattle.history.specs.Line.{line, arrivals_by, place_of}
-use Rattle.history.specs.Phase.{Idle, phase}
 use Rattle.history.specs.Sleepers.{sleepers, sleepers_after, has, last_sleep, sleeps_below}
 use Rattle.history.specs.Start.{Start, opening}
 use Rattle.history.specs.Steps.{at_most_one}
 use Rattle.history.specs.Waiting.{asleep}
 use Rattle.history.proofs.Changes.{all_stay}
-use Rattle.history.proofs.Entering.{Known, KnownBy, OnCondition, known}
+use Rattle.history.proofs.Entering.{Known, KnownBy, OnCondition}
 use Rattle.history.proofs.LineLemmas.{line_after, stays}
 use Rattle.history.proofs.OneWait.{Waits, waits}
 use Rattle.history.proofs.SleepLemmas.{idle_parts, sleeping_parts, sleeps_there}
 use Rattle.history.proofs.WhoWaits.{asleep_out_of_line, sleeper_condition, no_sleepers_above, few_wait, line_seated}
 use Rattle.frame.specs.Core.{Keeps}
-use Rattle.frame.specs.Waiting.{line_behind, IsMovable, IsMovableBy, MayJoin, MaySleep, MayMove}
+use Rattle.frame.specs.Waiting.{line_behind, IsMovable, IsMovableBy, MayJoin, MayMove}
 
 -- the line
 line_by : (s : Start) (h : List Entry) (e : Entry) (w : Word) →
@@ -55,13 +54,13 @@ awake_everywhere : (s : Start) (h : List Entry) (i : ℕ) → Waits s h → slee
     (c : ℕ) → has i (sleepers s h c) ≡ false
 awake_everywhere s h i v t c = by (has i (sleepers s h c)) refl
   where
-  by : (b : Bool) → has i (sleepers s h c) ≡ b → b ≡ false
-  by false p = refl
-  by true p =
-    let on = v.sleepers c i p in
-    let below : c < s.header.conditions = let l = on.saved.condition in let d = on.condition in omega (arith, l, d) in
-    let sleeps = sleeps_there s.header.conditions s h i c below p in
-    cc
+    by : (b : Bool) → has i (sleepers s h c) ≡ b → b ≡ false
+    by false p = refl
+    by true p =
+        let on = v.sleepers c i p in
+        let below : c < s.header.conditions = let l = on.saved.condition in let d = on.condition in omega (arith, l, d) in
+        let sleeps = sleeps_there s.header.conditions s h i c below p in
+        cc
 
 -- the sleepers of a condition are among all sleepers
 asleep_part : (n : ℕ) (s : Start) (h : List Entry) (c : ℕ) → c < n → length (sleepers s h c) ≤ length (asleep n s h)
@@ -77,16 +76,17 @@ pub few_sleepers : (k : Header) (h : List Entry) → IsLegal (opening k) h → A
     length (sleepers (opening k) h c) ≤ k.seats
 few_sleepers k h legal seated c = by (cases_lt c k.conditions)
   where
-  v : Waits (opening k) h
-  v = waits k h legal
-  by : (c < k.conditions) ⊎ (k.conditions ≤ c) → length (sleepers (opening k) h c) ≤ k.seats
-  by p = ⊎_elim
-    (λ below.
+    v : Waits (opening k) h
+    v = waits k h legal
+
+    by : (c < k.conditions) ⊎ (k.conditions ≤ c) → length (sleepers (opening k) h c) ≤ k.seats
+    by p = ⊎_elim
+        (λ below.
         let part = asleep_part k.conditions (opening k) h c below in
         let few = few_wait (opening k) h v (line_seated k h legal seated) in
         omega (arith, part, few))
-    (λ above. let none = ap length (no_sleepers_above (opening k) h v c above) in omega (arith, none))
-    p
+        (λ above. let none = ap length (no_sleepers_above (opening k) h v c above) in omega (arith, none))
+        p
 
 joins_line : (k : Header) (h : List Entry) (e : Entry) (queue : Line) (waiters : Sleepers) → Keeps k h queue waiters →
     e.seat < k.seats → place_of e.seat (line (opening k) h) ≡ None → MayJoin e queue
@@ -104,7 +104,7 @@ moves k h e queue waiters n kept v on is =
       apart = λ i t.
           ap (place_of i) kept.line
           ∙ asleep_out_of_line (opening k) h i v.once
-              (sleeps_there k.conditions (opening k) h i e.at on.condition (ap (has i) (sym (kept.sleepers e.at)) ∙ t));
+          (sleeps_there k.conditions (opening k) h i e.at on.condition (ap (has i) (sym (kept.sleepers e.at)) ∙ t));
       number = is;
     }
 

@@ -1,6 +1,5 @@
 -- A core that was just opened.
-use Rattle.std.proofs.Common.{◌≡◌, ℕ, zero, suc, ◌+◌, ◌*◌, ◌<◌, ◌≤◌, Bool, true, false, cond, List, [], length, get_or, replicate, Option, Some, refl, ap, ◌∙◌, sym, subst, arith}
-use Rattle.std.specs.Prelude.{slice_get}
+use Rattle.std.proofs.Common.{◌≡◌, ℕ, zero, suc, ◌+◌, Bool, true, false, cond, List, [], length, get_or, replicate, Some, refl, ap, ◌∙◌, sym, subst, arith}
 use Rattle.std.proofs.lemmas.List.{length-replicate, get_or-replicate}
 use Rattle.std.proofs.lemmas.Option.{slice_get-get_or}
 use Rattle.acquire_queue.specs.Line.{Line}
@@ -13,7 +12,7 @@ use Rattle.history.specs.Object.{is_lock}
 use Rattle.history.specs.Room.{owed, sleepers_owe}
 use Rattle.history.specs.Start.{opening}
 use Rattle.frame.specs.declared.seat.Seat.{Seat}
-use Rattle.frame.specs.Core.{Stands, Keeps}
+use Rattle.frame.specs.Core.{Stands}
 use Rattle.frame.specs.Seat.{no_holds}
 
 -- nothing is owed
@@ -31,9 +30,9 @@ nothing_owed k =
     let l : cond (is_lock k.object) (total k.seats (λ i. 0 + 0)) 0 ≡ 0 = either (is_lock k.object) in
     omega (arith, z, l)
   where
-  either : (b : Bool) → cond b (total k.seats (λ i. 0 + 0)) 0 ≡ 0
-  either true = nobody_holds k.seats
-  either false = refl
+    either : (b : Bool) → cond b (total k.seats (λ i. 0 + 0)) 0 ≡ 0
+    either true = nobody_holds k.seats
+    either false = refl
 
 pub opening_stands : (agrees : Counts → Type 0) (k : Header) (kept : HistoryView) (queue : Line) (waiters : Sleepers)
     (table : List Seat) → IsInRange k → agrees (counts (opening k) []) →
@@ -47,25 +46,25 @@ opening_stands agrees k kept queue waiters table range told is line places joine
     let owes : kept.owed ≡ 0 = ap (λ (y : HistoryView). y.owed) is in
     let cap : kept.cap ≡ k.cap = ap (λ (y : HistoryView). y.cap) is in
     let stands : Stands agrees k (record { cap = k.cap; entries = []; owed = 0; places = 0 }) queue waiters table =
-        record {
-          range = range;
-          hooks = told;
-          waiting = record {
-            line = line;
-            places = places;
-            joins = omega (arith, joined);
-            sleepers = asleep;
-            conditions = conditions;
-            beds = beds;
-          };
-          seats = n;
-          tabled = λ i l.
-              slice_get-get_or table i no_holds (omega (arith, n, l))
-              ∙ ap Some (ap (λ t. get_or t i no_holds) free ∙ get_or-replicate k.seats i no_holds no_holds l);
-          cap = refl;
-          owed = sym none;
-          room = omega arith;
-          legal = tt;
-          seated = tt;
-        } in
+    record {
+      range = range;
+      hooks = told;
+      waiting = record {
+        line = line;
+        places = places;
+        joins = omega (arith, joined);
+        sleepers = asleep;
+        conditions = conditions;
+        beds = beds;
+      };
+      seats = n;
+      tabled = λ i l.
+          slice_get-get_or table i no_holds (omega (arith, n, l))
+          ∙ ap Some (ap (λ t. get_or t i no_holds) free ∙ get_or-replicate k.seats i no_holds no_holds l);
+      cap = refl;
+      owed = sym none;
+      room = omega arith;
+      legal = tt;
+      seated = tt;
+    } in
     subst (λ y. Stands agrees k y queue waiters table) (sym is) stands

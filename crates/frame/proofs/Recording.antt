@@ -1,13 +1,12 @@
 -- What is answered where an entry was added, or not.
-use Rattle.std.proofs.Common.{◌≡◌, ◌⊎◌, inl, inr, ⊎_elim, ℕ, Bool, true, false, cond, List, ◌∷◌, Option, Some, None, Result, Ok, Err, refl, ap, ◌∙◌, sym, subst}
+use Rattle.std.proofs.Common.{◌≡◌, inl, inr, ⊎_elim, ℕ, true, false, ◌∷◌, Option, Some, None, Result, Ok, Err, refl, ap, ◌∙◌, sym, subst}
 use Rattle.history.specs.declared.entry.Entry.{Entry}
-use Rattle.history.specs.declared.entry.Mode.{Mode}
 use Rattle.history.specs.declared.fault.Fault.{Fault}
 use Rattle.history.specs.declared.fault.Fault.TheVariants.{HistoryFull, OutOfMemory}
 use Rattle.history.specs.declared.step.Answer.{Answer}
 use Rattle.history.specs.declared.step.Answer.TheVariants.{Recorded, Sleep}
 use Rattle.history.specs.declared.step.Step.{Step}
-use Rattle.history.specs.Answers.{answer, answer_by, recorded}
+use Rattle.history.specs.Answers.{answer_by, recorded}
 use Rattle.history.specs.Counts.{held}
 use Rattle.history.specs.Naming.{ready, named, named_by}
 use Rattle.history.specs.Room.{has_room, was_owed}
@@ -32,9 +31,9 @@ pub recorded_now : (v new : CoreView) (e : Entry) (u : Unit {0}) (before after n
     IsRecorded v e (Ok (Recorded e name)) new
 recorded_now v new e u before after name is b a n =
     let there : ready (start_of new) new.entries ≡ ready (start_of v) (e ∷ v.entries) =
-        ap (λ (w : CoreView). ready (start_of w) w.entries) is.1 in
+    ap (λ (w : CoreView). ready (start_of w) w.entries) is.1 in
     let names : name ≡ named (start_of v) v.entries e =
-        n ∙ ap (λ x. named_by x after e.seat) b ∙ ap (λ x. named_by (ready (start_of v) v.entries) x e.seat) (a ∙ there) in
+    n ∙ ap (λ x. named_by x after e.seat) b ∙ ap (λ x. named_by (ready (start_of v) v.entries) x e.seat) (a ∙ there) in
     let made = room_for v e is.0 in
     inl (record {
       answer = ap (λ x. (let r : Result Answer Fault = Ok (Recorded e x) in r)) names ∙ sym (ap (λ p. p.0) made);
@@ -93,19 +92,22 @@ answered_entry v new i step e r q is =
     let made = ap (answer_by (start_of v) v.entries) q in
     ⊎_elim
     (λ (a : IsAnswer v (recorded (start_of v) v.entries e) r new).
-        inl (record {
-          answer = a.answer ∙ sym (ap (λ p. p.0) made);
-          entries = a.entries ∙ sym (ap (λ p. p.1) made);
-          header = a.header;
-        }))
+    inl (record {
+      answer = a.answer ∙ sym (ap (λ p. p.0) made);
+      entries = a.entries ∙ sym (ap (λ p. p.1) made);
+      header = a.header;
+    }))
     (λ (l : (r ≡ Err OutOfMemory) × LacksMemory v (Ok (Some e)) new).
-        inr (l.0, record {
-          entry = l.1.entry;
-          is = q ∙ l.1.is;
-          has_room = l.1.has_room;
-          not_owed = l.1.not_owed;
-          unchanged = l.1.unchanged;
-        }))
+    inr (
+      l.0,
+      record {
+        entry = l.1.entry;
+        is = q ∙ l.1.is;
+        has_room = l.1.has_room;
+        not_owed = l.1.not_owed;
+        unchanged = l.1.unchanged;
+      },
+    ))
     is
 
 -- the one entry of a step
@@ -115,7 +117,8 @@ owed_entry v i step e q m =
     let same : m.0 ≡ e = some_same (ok_same (sym m.1 ∙ q)) in
     subst (λ x. was_owed v.header.object x ≡ true) same m.2
   where
-  ok_same : {x y : Option Entry} → ◌≡◌ {A = Result (Option Entry) Fault} (Ok x) (Ok y) → x ≡ y
-  ok_same p = cc
-  some_same : {x y : Entry} → Some x ≡ Some y → x ≡ y
-  some_same p = cc
+    ok_same : {x y : Option Entry} → ◌≡◌ {A = Result (Option Entry) Fault} (Ok x) (Ok y) → x ≡ y
+    ok_same p = cc
+
+    some_same : {x y : Entry} → Some x ≡ Some y → x ≡ y
+    some_same p = cc

@@ -1,5 +1,5 @@
 -- Steps answered in turn.
-use Rattle.std.proofs.Common.{◌≡◌, ◌≢◌, ◌⊎◌, inl, inr, ⊎_elim, ℕ, List, [], ◌∷◌, ◌++◌, Result, Ok, Err, refl, ap, ◌∙◌, sym, subst}
+use Rattle.std.proofs.Common.{◌≡◌, ◌≢◌, ⊎_elim, ℕ, List, [], ◌∷◌, ◌++◌, Result, Err, refl, ap, ◌∙◌, subst}
 use Rattle.history.specs.declared.fault.Fault.{Fault}
 use Rattle.history.specs.declared.fault.Fault.TheVariants.{OutOfMemory}
 use Rattle.history.specs.declared.header.Header.{Header}
@@ -37,9 +37,9 @@ all_results old new (s ∷ steps) (r ∷ answers) a none =
     let now = answered_so old a.0 s.0 s.1 r none.0 a.1 in
     let rest = all_results a.0 new steps answers a.2 none.1 in
     let there : results (start_of a.0) a.0.entries steps
-            ≡ results (start_of old) (answer (start_of old) old.entries s.0 s.1).1 steps =
-        ap (λ (k : Header). results (start_of (record { header = k; entries = a.0.entries })) a.0.entries steps) now.header
-        ∙ ap (λ h. results (start_of old) h steps) now.entries in
+    ≡ results (start_of old) (answer (start_of old) old.entries s.0 s.1).1 steps =
+    ap (λ (k : Header). results (start_of (record { header = k; entries = a.0.entries })) a.0.entries steps) now.header
+    ∙ ap (λ h. results (start_of old) h steps) now.entries in
     record {
       answers_are =
           ap (λ x. x ∷ answers) now.answer

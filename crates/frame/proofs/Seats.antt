@@ -1,5 +1,5 @@
 -- What the table of seats tells of a history.
-use Rattle.std.proofs.Common.{◌≡◌, ℕ, ◌<◌, Bool, true, false, ◌&&◌, cond, eqb, List, [], ◌∷◌, refl, ap, ◌∙◌, sym, subst, arith}
+use Rattle.std.proofs.Common.{◌≡◌, ℕ, Bool, true, false, ◌&&◌, cond, eqb, List, [], ◌∷◌, refl, ap, ◌∙◌}
 use Rattle.history.specs.declared.entry.Entry.{Entry}
 use Rattle.history.specs.declared.entry.Mode.{Mode}
 use Rattle.history.specs.declared.entry.Mode.TheVariants.{X, S}
@@ -45,8 +45,8 @@ pub seat_sleep : (k : Header) (h : List Entry) (i : ℕ) → sleep_of (seat_of k
 seat_sleep k [] i = refl
 seat_sleep k (e ∷ h) i = by (eqb e.seat i) (seat_sleep k h i)
   where
-  by : (b : Bool) → sleep_of (seat_of k.object h i).sleep ≡ last_sleep (opening k) h i →
-      sleep_of (cond b (seat_after k.object e (seat_of k.object h i)) (seat_of k.object h i)).sleep
-      ≡ cond b (sleep_after e.word e (last_sleep (opening k) h i)) (last_sleep (opening k) h i)
-  by true ih = sleep_more e.word e (seat_of k.object h i).sleep ∙ ap (sleep_after e.word e) ih
-  by false ih = ih
+    by : (b : Bool) → sleep_of (seat_of k.object h i).sleep ≡ last_sleep (opening k) h i →
+        sleep_of (cond b (seat_after k.object e (seat_of k.object h i)) (seat_of k.object h i)).sleep
+        ≡ cond b (sleep_after e.word e (last_sleep (opening k) h i)) (last_sleep (opening k) h i)
+    by true ih = sleep_more e.word e (seat_of k.object h i).sleep ∙ ap (sleep_after e.word e) ih
+    by false ih = ih

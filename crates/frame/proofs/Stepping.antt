@@ -1,5 +1,5 @@
 -- What stands for a history stands for it with one entry more.
-use Rattle.std.proofs.Common.{◌≡◌, ◌≢◌, ◌⊎◌, ⊎_elim, ◌↔◌, ℕ, zero, suc, ◌+◌, ◌-◌, ◌*◌, ◌^◌, ◌<◌, ◌≤◌, Bool, true, false, cond, eqb, List, [], ◌∷◌, length, get_or, set, Option, Some, None, Result, Ok, Err, refl, ap, ◌∙◌, sym, subst, arith}
+use Rattle.std.proofs.Common.{◌≡◌, ◌≢◌, ◌⊎◌, ⊎_elim, ◌↔◌, ℕ, zero, suc, ◌+◌, ◌-◌, ◌^◌, ◌<◌, ◌≤◌, Bool, true, false, List, ◌∷◌, length, get_or, set, Some, Result, Ok, Err, refl, ap, ◌∙◌, sym, subst, arith}
 use Rattle.std.specs.Prelude.{slice_get}
 use Rattle.std.proofs.lemmas.Bool.{cases_eq, eq-eqb, ne_eqb, le-leb, lt-leb, ltb-true, cond_both, cases_lt, false≢true}
 use Rattle.std.proofs.lemmas.List.{length-set, get_or-set_same, get_or-set_other}
@@ -14,26 +14,22 @@ use Rattle.history.specs.declared.fault.Fault.{Fault}
 use Rattle.history.specs.declared.fault.Fault.TheVariants as fault
 use Rattle.history.specs.declared.header.Header.{Header}
 use Rattle.history.specs.declared.header.Object.{Object}
-use Rattle.history.specs.declared.step.Step.{Step}
 use Rattle.history.specs.Counts.{Counts, counts, held}
 use Rattle.history.specs.Entries.{HistoryView}
 use Rattle.history.specs.Header.{IsInRange}
 use Rattle.history.specs.Legal.{IsLegal, AreSeated}
 use Rattle.history.specs.Object.{is_lock}
-use Rattle.history.specs.Room.{owed, has_room, was_owed, was_owed_by, releases, released_by, reserves, reserved_by}
+use Rattle.history.specs.Room.{owed, was_owed, was_owed_by, releases, released_by, reserves, reserved_by}
 use Rattle.history.specs.Start.{opening}
-use Rattle.history.specs.Steps.{entry_for}
 use Rattle.history.proofs.Entering.{Known, known}
 use Rattle.history.proofs.OneWait.{waits}
 use Rattle.history.proofs.Owing.{owed_step}
 use Rattle.frame.specs.declared.seat.Seat.{Seat}
-use Rattle.frame.specs.Core.{CoreView, start_of, Stands, Keeps, IsNext, IsAdded}
+use Rattle.frame.specs.Core.{CoreView, Stands, Keeps, IsNext, IsAdded}
 use Rattle.frame.specs.Effects.{IsAllowed, counts_after}
 use Rattle.frame.specs.Seat.{seat_of, seat_after, no_holds}
-use Rattle.frame.specs.Waiting.{IsMovable}
 use Rattle.frame.proofs.Bounds.{exclusive_fits, shared_fits}
 use Rattle.frame.proofs.Counting.{allowed, counts_next}
-use Rattle.frame.proofs.Moving.{movable}
 use Rattle.frame.proofs.Seats.{seat_held}
 
 -- What is known of an entry that a core is to add.
@@ -76,16 +72,16 @@ tabled_next k h e table n seat all i l =
     let len : length (set table e.seat x) ≡ k.seats = length-set table e.seat x ∙ n in
     let at = slice_get-get_or (set table e.seat x) i no_holds (omega (arith, len, l)) in
     at ∙ ap Some (⊎_elim
-        (λ (same : e.seat ≡ i).
-            let own : get_or (set table e.seat x) e.seat no_holds ≡ x = get_or-set_same table e.seat x no_holds (omega (arith, n, seat)) in
-            let was : get_or table e.seat no_holds ≡ seat_of k.object h i =
-                tabled k h table n all e.seat seat ∙ ap (seat_of k.object h) same in
-            ap (λ j. get_or (set table e.seat x) j no_holds) (sym same) ∙ own ∙ ap (seat_after k.object e) was
-            ∙ rw (eq-eqb e.seat i same) refl)
-        (λ (ne : e.seat ≢ i).
-            get_or-set_other table e.seat i x no_holds (λ q. ne (sym q)) ∙ tabled k h table n all i l
-            ∙ rw (ne_eqb e.seat i ne) refl)
-        (cases_eq e.seat i))
+    (λ (same : e.seat ≡ i).
+    let own : get_or (set table e.seat x) e.seat no_holds ≡ x = get_or-set_same table e.seat x no_holds (omega (arith, n, seat)) in
+    let was : get_or table e.seat no_holds ≡ seat_of k.object h i =
+    tabled k h table n all e.seat seat ∙ ap (seat_of k.object h) same in
+    ap (λ j. get_or (set table e.seat x) j no_holds) (sym same) ∙ own ∙ ap (seat_after k.object e) was
+    ∙ rw (eq-eqb e.seat i same) refl)
+    (λ (ne : e.seat ≢ i).
+    get_or-set_other table e.seat i x no_holds (λ q. ne (sym q)) ∙ tabled k h table n all i l
+    ∙ rw (ne_eqb e.seat i ne) refl)
+    (cases_eq e.seat i))
 
 -- the seat of the entry has room for what it will hold
 own_seat : (k : Header) (h : List Entry) (e : Entry) → seat_of k.object (e ∷ h) e.seat ≡ seat_after k.object e (seat_of k.object h e.seat)
@@ -96,8 +92,8 @@ pub exclusive_next : (k : Header) (h : List Entry) (e : Entry) (x : Seat) → Is
 exclusive_next k h e x legal seated is =
     let l = exclusive_fits k (e ∷ h) legal seated e.seat in
     let q : (seat_after k.object e x).exclusive ≡ held (opening k) (e ∷ h) e.seat X =
-        ap (λ (y : Seat). (seat_after k.object e y).exclusive) is
-        ∙ ap (λ (y : Seat). y.exclusive) (sym (own_seat k h e)) ∙ seat_held k (e ∷ h) e.seat X in
+    ap (λ (y : Seat). (seat_after k.object e y).exclusive) is
+    ∙ ap (λ (y : Seat). y.exclusive) (sym (own_seat k h e)) ∙ seat_held k (e ∷ h) e.seat X in
     omega (arith, l, q)
 
 pub shared_next : (k : Header) (h : List Entry) (e : Entry) (x : Seat) → IsInRange k → IsLegal (opening k) (e ∷ h) → AreSeated (opening k) (e ∷ h) →
@@ -106,8 +102,8 @@ shared_next k h e x range legal seated short is =
     let l = shared_fits k (e ∷ h) range legal seated e.seat seated.0 in
     let c = range.cap in
     let q : (seat_after k.object e x).shared ≡ held (opening k) (e ∷ h) e.seat S =
-        ap (λ (y : Seat). (seat_after k.object e y).shared) is
-        ∙ ap (λ (y : Seat). y.shared) (sym (own_seat k h e)) ∙ seat_held k (e ∷ h) e.seat S in
+    ap (λ (y : Seat). (seat_after k.object e y).shared) is
+    ∙ ap (λ (y : Seat). y.shared) (sym (own_seat k h e)) ∙ seat_held k (e ∷ h) e.seat S in
     omega (arith, l, q, c, short)
 
 -- an entry that was owed reserves nothing, and releases itself
@@ -150,9 +146,9 @@ not_owed : (k : Header) (h : List Entry) (e : Entry) (was more less : ℕ) → N
     0 < (was + more - less + 1) - was → was_owed k.object e ≡ false
 not_owed k h e was more less n some = by (was_owed k.object e) refl
   where
-  by : (b : Bool) → was_owed k.object e ≡ b → b ≡ false
-  by false t = refl
-  by true t = let z = n.none t in absurd (omega (arith, z, some))
+    by : (b : Bool) → was_owed k.object e ≡ b → b ≡ false
+    by false t = refl
+    by true t = let z = n.none t in absurd (omega (arith, z, some))
 
 pub refused : (k : Header) (e : Entry) (f : Fault) (kept kept' : HistoryView) (was more less needed : ℕ) →
     Needs k kept.entries e was more less → kept.cap ≡ k.cap → was ≡ kept.owed →
@@ -163,38 +159,44 @@ pub refused : (k : Header) (e : Entry) (f : Fault) (kept kept' : HistoryView) (w
     IsAdded (record { header = k; entries = kept.entries }) e (Err f) (record { header = k; entries = kept'.entries })
 refused k e f kept kept' was more less needed n cap is room q full which reserved same = ⊎_elim no_room no_memory which
   where
-  v : CoreView
-  v = record { header = k; entries = kept.entries }
-  w : CoreView
-  w = record { header = k; entries = kept'.entries }
-  unchanged : w ≡ v
-  unchanged = ap (λ (y : HistoryView). (let u : CoreView = record { header = k; entries = y.entries } in u)) same
-  some : 0 < (was + more - less + 1) - was
-  some =
-    asks_more _ (length kept.entries) was kept.places room
-    (λ l. let z = (reserved (omega (arith, l, is, q))).0 in false≢true z)
-  P : Fault → Type 0
-  P g = IsAdded v e (Err g) w
-  no_room : f ≡ fault.HistoryFull → P f
-  no_room p =
-    let o = n.owed in
-    let err : Fault → Result (Unit {0}) Fault = λ x. Err x in
-    let over = full.0 (ap err p) in
-    let here : P fault.HistoryFull =
+    v : CoreView
+    v = record { header = k; entries = kept.entries }
+
+    w : CoreView
+    w = record { header = k; entries = kept'.entries }
+
+    unchanged : w ≡ v
+    unchanged = ap (λ (y : HistoryView). (let u : CoreView = record { header = k; entries = y.entries } in u)) same
+
+    some : 0 < (was + more - less + 1) - was
+    some =
+        asks_more _ (length kept.entries) was kept.places room
+        (λ l. let z = (reserved (omega (arith, l, is, q))).0 in false≢true z)
+
+    P : Fault → Type 0
+    P g = IsAdded v e (Err g) w
+
+    no_room : f ≡ fault.HistoryFull → P f
+    no_room p =
+        let o = n.owed in
+        let err : Fault → Result (Unit {0}) Fault = λ x. Err x in
+        let over = full.0 (ap err p) in
+        let here : P fault.HistoryFull =
         (lt-leb _ _ (omega (arith, is, room, o, over, some, q, cap)), not_owed k kept.entries e was more less n some, unchanged) in
-    subst P (sym p) here
-  no_memory : f ≡ fault.OutOfMemory → P f
-  no_memory p =
-    let o = n.owed in
-    let fits : length kept.entries + kept.owed + needed ≤ kept.cap =
+        subst P (sym p) here
+
+    no_memory : f ≡ fault.OutOfMemory → P f
+    no_memory p =
+        let o = n.owed in
+        let fits : length kept.entries + kept.owed + needed ≤ kept.cap =
         ⊎_elim
         (λ (over : kept.cap < length kept.entries + kept.owed + needed).
-            let z = full.1 over in let d : fault.OutOfMemory ≡ fault.HistoryFull = cc in absurd (cc))
+        let z = full.1 over in let d : fault.OutOfMemory ≡ fault.HistoryFull = cc in absurd (cc))
         (λ l. l)
         (cases_lt kept.cap (length kept.entries + kept.owed + needed)) in
-    let here : P fault.OutOfMemory =
+        let here : P fault.OutOfMemory =
         (le-leb _ _ (omega (arith, is, room, o, fits, some, q, cap)), not_owed k kept.entries e was more less n some, unchanged) in
-    subst P (sym p) here
+        subst P (sym p) here
 
 -- room was asked for, and is there
 pub fitted : (k : Header) (e : Entry) (kept mid : HistoryView) (was more less needed : ℕ) →
@@ -211,9 +213,9 @@ fitted k e kept mid was more less needed n is q fits same cap =
 pub added : (kept mid new : HistoryView) (e : Entry) (o : ℕ) → mid ≡ record kept { places = mid.places } →
     new ≡ record mid { entries = e ∷ mid.entries; owed = o } → (new.entries ≡ e ∷ kept.entries) × (new.cap ≡ kept.cap) × (new.owed ≡ o)
 added kept mid new e o same is = (
-    ap (λ (y : HistoryView). y.entries) is ∙ ap (λ (y : HistoryView). e ∷ y.entries) same,
-    ap (λ (y : HistoryView). y.cap) is ∙ ap (λ (y : HistoryView). y.cap) same,
-    ap (λ (y : HistoryView). y.owed) is,
+  ap (λ (y : HistoryView). y.entries) is ∙ ap (λ (y : HistoryView). e ∷ y.entries) same,
+  ap (λ (y : HistoryView). y.cap) is ∙ ap (λ (y : HistoryView). y.cap) same,
+  ap (λ (y : HistoryView). y.owed) is,
 )
 
 pub is_added : (k : Header) (e : Entry) (u : Unit {0}) (kept new : HistoryView) (was more less : ℕ) → Needs k kept.entries e was more less →

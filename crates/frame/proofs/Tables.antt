@@ -1,10 +1,10 @@
 -- The sum of a table with a number for each seat.
-use Rattle.std.proofs.Common.{◌≡◌, ◌≢◌, ⊎_elim, ℕ, zero, suc, ◌+◌, ◌<◌, ◌≤◌, List, length, length-set, get_or, slice_index, refl, ap, ◌∙◌, sym, arith}
+use Rattle.std.proofs.Common.{◌≡◌, ◌≢◌, ⊎_elim, ℕ, zero, suc, ◌+◌, ◌<◌, ◌≤◌, List, length, length-set, get_or, slice_index, refl, ap, arith}
 use Rattle.std.proofs.Math.ListN.{set, replicate, length-replicate, get_or-eq_default}
 use Rattle.std.proofs.lemmas.Bool.{cases_eq, cases_lt}
 use Rattle.std.proofs.lemmas.List.{get_or-set_same, get_or-set_other, get_or-replicate}
 use Rattle.history.specs.Counts.{total}
-use Rattle.history.proofs.Sums.{total_same, total_change}
+use Rattle.history.proofs.Sums.{total_change}
 
 abbrev pub table_total : List ℕ → ℕ
 table_total xs = total (length xs) (slice_index xs)

@@ -1,5 +1,5 @@
 -- What an entry makes of the counts, and what it asks of them.
-use Rattle.std.specs.Prelude.{◌≡◌, ◌<◌, ℕ, true, Ok}
+use Rattle.std.specs.Prelude.{◌≡◌, ◌<◌, true, Ok}
 use Rattle.history.specs.declared.entry.Entry.{Entry}
 use Rattle.history.specs.declared.entry.Word.{Word}
 use Rattle.history.specs.declared.entry.Word.TheVariants.{Got, TryGot, Granted, Gave, Counted, Await, Back, Drained}

@@ -1,8 +1,7 @@
 -- What an entry makes of those who wait, and what it asks of them.
-use Rattle.std.specs.Prelude.{◌≡◌, ◌≤◌, ◌<◌, ◌+◌, ◌^◌, ℕ, ◌==◌, not, Bool, true, false, List, [], ◌∷◌, ◌++◌, filter, map, take, length, Option, Some, None}
+use Rattle.std.specs.Prelude.{◌≡◌, ◌≤◌, ◌<◌, ◌+◌, ◌^◌, ℕ, ◌==◌, not, true, false, List, [], ◌∷◌, ◌++◌, filter, map, take, length, None}
 use Rattle.acquire_queue.specs.Line.{Line}
-use Rattle.condition_queue.specs.declared.sleeper.Sleeper.{Sleeper}
-use Rattle.condition_queue.specs.Sleepers.{Sleepers, asleep_on, sleeper_of}
+use Rattle.condition_queue.specs.Sleepers.{Sleepers, asleep_on}
 use Rattle.history.specs.declared.arrival.Arrival.{Arrival}
 use Rattle.history.specs.declared.entry.Entry.{Entry}
 use Rattle.history.specs.declared.entry.Word.{Word}

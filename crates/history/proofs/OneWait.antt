@@ -27,7 +27,7 @@ use Rattle.history.proofs.Entering.{Known, KnownBy, known}
 use Rattle.history.proofs.LineLemmas.{line_after, stays}
 use Rattle.history.proofs.Owners.{owner_holds, most_holds, within_limit, ready_could}
 use Rattle.history.proofs.SleepLemmas.{last_sleep_other, held_other, sleepers_here, slept_before, sleeps_at, awake_nowhere, idle_parts, sleeping_parts, times-waiting, times-line_after, total_moved, total_kept, leaves_sleepers}
-use Rattle.history.proofs.Times.{one_if, once_same, times-append, times-take_drop, times-without_same, times-without_other, has_once, once_has, place_once, place_never, seats-coming_back, total_part}
+use Rattle.history.proofs.Times.{each-append, one_if, once_same, times-append, times-take_drop, times-without_same, times-without_other, has_once, once_has, place_once, place_never, seats-coming_back, total_part}
 
 -- What is known of a seat that gave up its holds to sleep, and hasn't come back: it holds nothing, and saved
 -- what it held.
@@ -244,11 +244,6 @@ sleepers_next s h e v k c i t = ⊎_elim old new (slept_before s e h c i t)
         (subst (λ d. Sleeps s (e ∷ h) d e.seat) w.1 (falls_asleep s h e v w.0 (subst (KnownBy s h e) w.0 k)))
 
 -- who stays in line is another than the entry's seat
-all_append : (P : Arrival → Type 0) (p q : List Arrival) → AllByRecursion P p → AllByRecursion P q →
-    AllByRecursion P (p ++ q)
-all_append P [] q x y = y
-all_append P (a ∷ p) q x y = (x.0, all_append P p q x.1 y)
-
 leaving_others : (s : Start) (e : Entry) (h : List Entry) → ends_arrival e.word ≡ true → (q : List Arrival) →
     AllByRecursion (SavedIfBack s h) q →
     AllByRecursion (SavedIfBack s (e ∷ h)) (filter (stays e.word e.seat) q)
@@ -401,7 +396,7 @@ line_next : (s : Start) (h : List Entry) (e : Entry) → Waits s h → Known s h
     AllByRecursion (SavedIfBack s (e ∷ h)) (line s (e ∷ h))
 line_next s h e v k =
     subst (AllByRecursion (SavedIfBack s (e ∷ h))) (sym (line_after s e h))
-    (all_append (SavedIfBack s (e ∷ h)) _ _ (line_stays s h e v (acts s h e k)) (arrivals_come s h e v k))
+    (each-append (SavedIfBack s (e ∷ h)) _ _ (line_stays s h e v (acts s h e k)) (arrivals_come s h e v k))
 
 -- one in line, by its place
 pub placed : (P : Arrival → Type 0) (i : ℕ) (q : List Arrival) (a : Arrival) → AllByRecursion P q →

@@ -190,3 +190,19 @@ pigeonhole_less n xs j below one l z =
     let e = length_total n xs below in
     let m = total_less n (λ i. times i xs) j one l z in
     omega (arith, e, m)
+
+-- what holds of each member of two lists holds of each of both, and of each that a test keeps
+pub each-append : {A : Type 0} (P : A → Type 0) (xs ys : List A) → AllByRecursion P xs → AllByRecursion P ys →
+    AllByRecursion P (xs ++ ys)
+each-append P [] ys p q = q
+each-append P (x ∷ xs) ys p q = (p.0, each-append P xs ys p.1 q)
+
+pub each-filter : {A : Type 0} (P : A → Type 0) (test : A → Bool) (xs : List A) → AllByRecursion P xs →
+    AllByRecursion P (filter test xs)
+each-filter P test [] p = tt
+each-filter P test (x ∷ xs) p = by (test x) (each-filter P test xs p.1)
+  where
+    by : (b : Bool) → AllByRecursion P (filter test xs) →
+        AllByRecursion P (cond b (x ∷ filter test xs) (filter test xs))
+    by true ih = (p.0, ih)
+    by false ih = ih

@@ -1,6 +1,6 @@
 -- What one wait says of the line, of the sleepers, and of their number.
-use Rattle.std.proofs.Common.{◌≡◌, ℕ, zero, suc, ◌+◌, ◌<◌, ◌≤◌, Bool, true, false, ◌||◌, cond, eqb, List, [], ◌∷◌, ◌++◌, map, take, length, Option, Some, None, refl, ap, ◌∙◌, sym, subst, arith}
-use Rattle.std.specs.List.{filter, AllByRecursion}
+use Rattle.std.proofs.Common.{◌≡◌, ℕ, zero, suc, ◌+◌, ◌<◌, ◌≤◌, Bool, true, false, ◌||◌, eqb, List, [], ◌∷◌, map, take, length, Option, Some, None, refl, ap, ◌∙◌, sym, subst, arith}
+use Rattle.std.specs.List.{AllByRecursion}
 use Rattle.std.proofs.lemmas.Bool.{eq-eqb, or_right}
 use Rattle.std.proofs.lemmas.List.{length-append, length-map}
 use Rattle.history.specs.declared.arrival.Arrival.{Arrival}
@@ -18,7 +18,7 @@ use Rattle.history.proofs.Entering.{Known, KnownBy, known}
 use Rattle.history.proofs.LineLemmas.{line_after, stays}
 use Rattle.history.proofs.OneWait.{ComesBack, SavedIfBack, Waits, waits, placed, idle_waits_nowhere}
 use Rattle.history.proofs.SleepLemmas.{sleeps_at, times-waiting}
-use Rattle.history.proofs.Times.{once_same, times-take_drop, has_once, once_has, never_has, place_once, never_placed, total_part, pigeonhole, pigeonhole_less}
+use Rattle.history.proofs.Times.{each-append, each-filter, once_same, times-take_drop, has_once, once_has, never_has, place_once, never_placed, total_part, pigeonhole, pigeonhole_less}
 
 -- each seat stands in line once, and sleeps once on a condition
 once_list : (xs : List ℕ) → ((i : ℕ) → times i xs ≤ 1) → AreOnce xs
@@ -106,11 +106,6 @@ comes_back s h v i a p b =
     (placed (SavedIfBack s h) i (line s h) a v.line p b, (place_once i (line s h) a p).0)
 
 -- who waits has one of the object's seats, where each entry has one
-each-append : (n : ℕ) (xs ys : List ℕ) → AllByRecursion (λ x. x < n) xs → AllByRecursion (λ x. x < n) ys →
-    AllByRecursion (λ x. x < n) (xs ++ ys)
-each-append n [] ys p q = q
-each-append n (x ∷ xs) ys p q = (p.0, each-append n xs ys p.1 q)
-
 each_has : (n : ℕ) (xs : List ℕ) → ((i : ℕ) → has i xs ≡ true → i < n) → AllByRecursion (λ x. x < n) xs
 each_has n [] each = tt
 each_has n (x ∷ xs) each = (
@@ -121,18 +116,6 @@ each_has n (x ∷ xs) each = (
 
 abbrev pub LineSeated : ℕ → List Arrival → Type 0
 LineSeated n q = AllByRecursion (λ a. a.seat < n) q
-
-seated_filter : (n : ℕ) (p : Arrival → Bool) (q : List Arrival) → LineSeated n q → LineSeated n (filter p q)
-seated_filter n p [] all = tt
-seated_filter n p (a ∷ q) all = by (p a) (seated_filter n p q all.1)
-  where
-    by : (b : Bool) → LineSeated n (filter p q) → LineSeated n (cond b (a ∷ filter p q) (filter p q))
-    by true ih = (all.0, ih)
-    by false ih = ih
-
-seated-append : (n : ℕ) (p q : List Arrival) → LineSeated n p → LineSeated n q → LineSeated n (p ++ q)
-seated-append n [] q x y = y
-seated-append n (a ∷ p) q x y = (x.0, seated-append n p q x.1 y)
 
 seated_back : (n : ℕ) (xs : List ℕ) → AllByRecursion (λ x. x < n) xs → LineSeated n (map coming_back xs)
 seated_back n [] all = tt
@@ -147,7 +130,7 @@ pub line_seated_next : (s : Start) (h : List Entry) (e : Entry) → Waits s h �
     LineSeated s.header.seats (line s h) → LineSeated s.header.seats (line s (e ∷ h))
 line_seated_next s h e v k l all =
     subst (LineSeated s.header.seats) (sym (line_after s e h))
-    (seated-append s.header.seats _ _ (seated_filter s.header.seats (stays e.word e.seat) (line s h) all)
+    (each-append (λ a. a.seat < s.header.seats) _ _ (each-filter (λ a. a.seat < s.header.seats) (stays e.word e.seat) (line s h) all)
     (by e.word k))
   where
     sleeper : (i : ℕ) → has i (sleepers s h e.at) ≡ true → i < s.header.seats
@@ -187,13 +170,13 @@ asleep_seated : (c : ℕ) (s : Start) (h : List Entry) → Waits s h →
     AllByRecursion (λ x. x < s.header.seats) (asleep c s h)
 asleep_seated zero s h v = tt
 asleep_seated (suc c) s h v =
-    each-append s.header.seats (asleep c s h) (sleepers s h c) (asleep_seated c s h v)
+    each-append (λ x. x < s.header.seats) (asleep c s h) (sleepers s h c) (asleep_seated c s h v)
     (each_has s.header.seats (sleepers s h c) (λ i t. (v.sleepers c i t).saved.seat))
 
 pub waiting_seated : (s : Start) (h : List Entry) → Waits s h → LineSeated s.header.seats (line s h) →
     AllByRecursion (λ x. x < s.header.seats) (waiting s h)
 waiting_seated s h v l =
-    each-append s.header.seats (seats_of (line s h)) (asleep s.header.conditions s h)
+    each-append (λ x. x < s.header.seats) (seats_of (line s h)) (asleep s.header.conditions s h)
     (seated_seats s.header.seats (line s h) l) (asleep_seated s.header.conditions s h v)
 
 -- no more wait than there are seats, and fewer where a seat is idle

@@ -89,7 +89,6 @@ same_entry h k x y lt range p q e =
 
 -- ---- the end line
 
-
 pub counts_plain : (a b : ℕ) → a < 2 ^ 64 → b < 2 ^ 64 → ArePlain (codes "end" ∷ decimal a ∷ decimal b ∷ [])
 counts_plain a b l k = (refl, (decimal_plain a l, (decimal_plain b k, tt)))
 

@@ -64,24 +64,30 @@ cut_items form h k [] end front more lawful header all whole some e = at_last fo
 cut_items form h k (x ∷ xs) end front more lawful header all whole some e =
     let rest = lines_of form (k + 1) xs ++ ended end in
     cut_further form h k x rest front more all.0
-        (cut_at (form.item_line k x) rest front more (lawful.item_whole h k x header all.0) (e ∙ first_line form k x xs (ended end)))
-        (λ after f. cut_items form h (k + 1) xs end after more lawful header all.1 whole some f)
+    (cut_at (form.item_line k x) rest front more (lawful.item_whole h k x header all.0) (e ∙ first_line form k x xs (ended end)))
+    (λ after f. cut_items form h (k + 1) xs end after more lawful header all.1 whole some f)
 
 cut_header : {H I : Type 0} (form : Form H I) (h : H) (rest front more : List ℕ) → form.IsHeader h → Cut (form.header_line h) rest front more
     → ((after : List ℕ) → after ++ more ≡ rest → Items form h 0 after) → IsCutShort form front
 cut_header form h rest front more header (inl p) further = inl (line_from front p)
 cut_header form h rest front more header (inr p) further =
     let it = further p.0 p.2 in
-    inr (h, it.before, it.rest, record {
-      header = header;
-      each = it.are;
-      parts = p.1 ∙ ap (λ (t : List ℕ). form.header_line h ++ 10 ∷ t) it.parts ∙ sym (broken (form.header_line h) (lines_of form 0 it.before ++ it.rest));
-    }, line_from it.rest it.whole)
+    inr (
+      h,
+      it.before,
+      it.rest,
+      record {
+        header = header;
+        each = it.are;
+        parts = p.1 ∙ ap (λ (t : List ℕ). form.header_line h ++ 10 ∷ t) it.parts ∙ sym (broken (form.header_line h) (lines_of form 0 it.before ++ it.rest));
+      },
+      line_from it.rest it.whole,
+    )
 
 pub cut_short : {H I : Type 0} (form : Form H I) → IsLawful form → (text : List ℕ) (h : H) (items : List I) → IsText form text h items
     → (front more : List ℕ) → front ++ more ≡ text → more ≢ [] → IsCutShort form front
 cut_short form lawful text h items is front more e some =
     let rest = lines_of form 0 items ++ ended (form.end_line items) in
     cut_header form h rest front more is.begins.header
-        (cut_at (form.header_line h) rest front more (lawful.header_whole h is.begins.header) (e ∙ is.begins.parts ∙ broken (form.header_line h) rest))
-        (λ after f. cut_items form h 0 items (form.end_line items) after more lawful is.begins.header is.begins.each (lawful.end_whole items is.count) some f)
+    (cut_at (form.header_line h) rest front more (lawful.header_whole h is.begins.header) (e ∙ is.begins.parts ∙ broken (form.header_line h) rest))
+    (λ after f. cut_items form h 0 items (form.end_line items) after more lawful is.begins.header is.begins.each (lawful.end_whole items is.count) some f)

@@ -4,9 +4,9 @@ use Rattle.history.specs.Text.{ended}
 
 -- Items are numbered from 0, and their lines may tell the number. The end line may tell what the items are.
 pub record Form (H I : Type 0) : Type 1 where
-  pub IsHeader : H → Type 0            -- the headers that have a line
+  pub IsHeader : H → Type 0  -- the headers that have a line
   pub header_line : H → List ℕ
-  pub IsItem : H → ℕ → I → Type 0      -- the items that have a line under a header, at a number
+  pub IsItem : H → ℕ → I → Type 0  -- the items that have a line under a header, at a number
   pub item_line : ℕ → I → List ℕ
   pub end_line : List I → List ℕ
 

@@ -88,11 +88,14 @@ fn change(queue: &mut Queue, list: &mut Vec<Arrival>, number: u64) -> Result<(),
 }
 
 fn is_same(queue: &Queue, list: &[Arrival]) -> bool {
-    let mut same = queue.live_len() as usize == list.len() && queue.first() == list.first().copied();
+    let mut same = queue.live_len() as usize == list.len()
+        && queue.first() == list.first().copied();
     for seat in 0..SEATS {
         let place = list.iter().position(|a| a.seat == seat);
         let found = list.iter().find(|a| a.seat == seat).copied();
-        same = same && queue.position(seat).map(usize::from) == place && queue.arrival_of(seat) == found;
+        same = same
+            && queue.position(seat).map(usize::from) == place
+            && queue.arrival_of(seat) == found;
     }
     same
 }
@@ -103,7 +106,9 @@ fn a_long_run_stays_as_a_plain_list(rt: HostRuntime) -> Result<(), Fail> {
     let mut list = Vec::new(rt.alloc());
     let mut number: u64 = 1;
     for _ in 0..5000 {
-        number = number.wrapping_mul(6364136223846793005).wrapping_add(1442695040888963407);
+        number = number
+            .wrapping_mul(6364136223846793005)
+            .wrapping_add(1442695040888963407);
         change(&mut queue, &mut list, number >> 33)?;
         assert!(rt; is_same(&queue, &list), "after {number}");
     }

@@ -6,6 +6,7 @@ use super::*;
 use std::test::Fail;
 
 const SEATS: u16 = 8;
+
 const CONDITIONS: u8 = 3;
 
 fn sleeper(condition: u8, holds: u32) -> Option<Sleeper> {

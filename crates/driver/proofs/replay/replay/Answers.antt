@@ -13,7 +13,6 @@ use Rattle.driver.specs.ReplayText.{header_line}
 use Rattle.driver.proofs.Told.{Told, told_more, told_all, has_line, answered, split}
 use Rattle.driver.proofs.replay.replay.Goals as goal
 
-
 pub put_answer-requires : goal.put_answer-requires
 put_answer-requires g c =
     let x = get_or c.args.steps.now c.loop-step.step-index (0, Acquire X 0) in
@@ -39,4 +38,4 @@ loop-step-preserved g c =
 pub returns : goal.returns
 returns g c =
     told_all c.args.header.now (ended (header_line c.args.header.now)) c.args.steps.now c.loop-step.out.items (g.O.Answering.view_of c.loop-step.object).entries c.loop-step.entries c.loop-step.calls (drop c.loop-step.step-index c.args.steps.now) c.push-2.new.self.items
-        c.loop-step.invariant.told (drop_all c.loop-step.step-index c.args.steps.now c.loop-step-test.false) (c.in_ok-push-2.ensures.items ∙ ap (λ (t : List ℕ). t ++ 10 ∷ []) c.in_ok-put_counts.ensures)
+    c.loop-step.invariant.told (drop_all c.loop-step.step-index c.args.steps.now c.loop-step-test.false) (c.in_ok-push-2.ensures.items ∙ ap (λ (t : List ℕ). t ++ 10 ∷ []) c.in_ok-put_counts.ensures)

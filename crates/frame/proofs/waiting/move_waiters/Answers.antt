@@ -1,6 +1,5 @@
-use Rattle.std.proofs.Common.{◌≡◌, subst}
+use Rattle.std.proofs.Common.{subst}
 use Rattle.history.specs.declared.entry.Word.{Word}
-use Rattle.history.specs.declared.entry.Word.TheVariants.{Await}
 use Rattle.frame.specs.Waiting.{IsMovableBy, MaySleep}
 use Rattle.frame.proofs.Moving.{awake_none}
 use Rattle.frame.proofs.waiting.move_waiters.Goals as goal

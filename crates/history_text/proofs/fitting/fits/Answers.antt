@@ -21,8 +21,10 @@ loop-number-preserved c = one_more c.args.header.now (reverse c.args.history.now
 
 pub returns : goal.returns
 returns c =
-    let xs = reverse c.args.history.now.entries in
-    ((λ t. record {
-      cap = omega (arith, c.cap.ensures, c.if-cap-header.false);
-      each = λ k d lt. c.loop-number.invariant k (get_or xs k d) (omega (arith, lt, c.loop-number-test.false, c.len-number-end.ensures, length-reverse c.args.history.now.entries)) (slice_get-get_or xs k d lt);
-    }), (λ f. refl))
+    let xs = reverse c.args.history.now.entries in (
+      (λ t. record {
+        cap = omega (arith, c.cap.ensures, c.if-cap-header.false);
+        each = λ k d lt. c.loop-number.invariant k (get_or xs k d) (omega (arith, lt, c.loop-number-test.false, c.len-number-end.ensures, length-reverse c.args.history.now.entries)) (slice_get-get_or xs k d lt);
+      }),
+      (λ f. refl),
+    )

@@ -1,6 +1,5 @@
 use Rattle.std.proofs.Common.{◌≡◌, sym, subst}
 use Rattle.history.specs.Counts.{counts}
-use Rattle.history.specs.Start.{opening}
 use Rattle.frame.specs.Core.{CoreView, start_of}
 use Rattle.frame.specs.Hooks.{level_of}
 use Rattle.frame.proofs.Bounds.{level_most}

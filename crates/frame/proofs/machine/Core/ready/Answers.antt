@@ -1,4 +1,4 @@
-use Rattle.std.proofs.Common.{◌≡◌, ◌∙◌, sym}
+use Rattle.std.proofs.Common.{◌∙◌, sym}
 use Rattle.frame.proofs.Deciding.{ready_goes, ready_waits}
 use Rattle.frame.proofs.machine.Core.ready.Goals as goal
 

@@ -1,6 +1,4 @@
-use Rattle.std.proofs.Common.{◌≡◌, ap}
-use Rattle.frame.specs.Core.{CoreView}
-use Rattle.frame.proofs.Recording.{recorded_now, keeps_holds}
+use Rattle.frame.proofs.Recording.{recorded_now}
 use Rattle.frame.proofs.machine.Core.record.Goals as goal
 
 pub returns-clause-recorded : goal.returns-clause-recorded

@@ -1,4 +1,4 @@
-use Rattle.std.proofs.Common.{◌≡◌, ℕ, ltb, true, ap, ◌∙◌, sym, subst}
+use Rattle.std.proofs.Common.{ltb, ap, ◌∙◌, sym, subst}
 use Rattle.history.specs.declared.entry.Mode.TheVariants.{X, S}
 use Rattle.history.specs.Counts.{counts}
 use Rattle.history.specs.Legal.{IsLegal, AreSeated}

@@ -1,4 +1,4 @@
-use Rattle.std.proofs.Common.{◌≡◌, ℕ, ap, ◌∙◌, sym, subst}
+use Rattle.std.proofs.Common.{◌≡◌, ◌∙◌, subst}
 use Rattle.history.specs.Sleepers.{sleeps_below}
 use Rattle.history.specs.Start.{opening}
 use Rattle.history.proofs.OneWait.{waits}
@@ -14,4 +14,4 @@ returns g c =
     subst P c.self.view_is
     (c.is_some.ensures
     ∙ sleeps_is (opening a.header) a.history.entries c.args.seat a.waiters c.sleeper_of.result
-      (waits a.header a.history.entries s.legal) s.waiting.sleepers c.sleeper_of.ensures.listed)
+    (waits a.header a.history.entries s.legal) s.waiting.sleepers c.sleeper_of.ensures.listed)

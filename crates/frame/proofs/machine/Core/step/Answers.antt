@@ -1,8 +1,6 @@
-use Rattle.std.proofs.Common.{◌≡◌, ◌∙◌, sym, ap, Option, Some, Result, Ok}
+use Rattle.std.proofs.Common.{◌∙◌, sym, ap, Option, Result, Ok}
 use Rattle.history.specs.declared.entry.Entry.{Entry}
 use Rattle.history.specs.declared.fault.Fault.{Fault}
-use Rattle.history.specs.Steps.{entry_for}
-use Rattle.frame.specs.Core.{start_of}
 use Rattle.frame.proofs.Deciding.{step_next}
 use Rattle.frame.proofs.machine.Core.step.Goals as goal
 

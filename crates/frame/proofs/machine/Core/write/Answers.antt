@@ -1,9 +1,7 @@
-use Rattle.std.proofs.Common.{◌≡◌, ℕ, ◌+◌, ◌-◌, ◌≤◌, ◌∷◌, length, Ok, Err, ap, ◌∙◌, sym, subst, arith}
-use Rattle.history.specs.declared.entry.Entry.{Entry}
+use Rattle.std.proofs.Common.{◌+◌, ◌-◌, ◌≤◌, length, Ok, Err, ◌∙◌, sym, subst, arith}
 use Rattle.history.specs.Counts.{counts}
 use Rattle.history.specs.Start.{opening}
 use Rattle.frame.specs.Core.{CoreView, IsNext, IsAdded}
-use Rattle.frame.specs.Seat.{no_holds}
 use Rattle.frame.proofs.Moving.{movable, keeps_next}
 use Rattle.frame.proofs.Stepping.{next, needs, refused, fitted, added, is_added, stands_next, tabled, exclusive_next, shared_next}
 use Rattle.frame.proofs.machine.Core.write.Goals as goal
@@ -16,7 +14,7 @@ overflow_sub-owed g c =
     let e = c.args.entry in
     let s = c.self.invariant in
     let is : IsNext (record { header = k; entries = h }) e =
-        let P : CoreView → Type 0 = λ w. IsNext w e in subst P (sym c.self.view_is) c.requires in
+    let P : CoreView → Type 0 = λ w. IsNext w e in subst P (sym c.self.view_is) c.requires in
     let n = next k h e s.legal s.seated is in
     let was = c.owed-was_owed.result in
     let more = c.reserves.result in
@@ -32,7 +30,7 @@ returns-in-Err g c =
     let e = c.args.entry in
     let s = c.self.invariant in
     let is : IsNext (record { header = k; entries = h }) e =
-        let P : CoreView → Type 0 = λ w. IsNext w e in subst P (sym c.self.view_is) c.requires in
+    let P : CoreView → Type 0 = λ w. IsNext w e in subst P (sym c.self.view_is) c.requires in
     let n = next k h e s.legal s.seated is in
     let was = c.owed-was_owed.result in
     let more = c.reserves.result in
@@ -53,7 +51,7 @@ change-requires g c =
     let e = c.args.entry in
     let s = c.self.invariant in
     let is : IsNext (record { header = k; entries = h }) e =
-        let P : CoreView → Type 0 = λ w. IsNext w e in subst P (sym c.self.view_is) c.requires in
+    let P : CoreView → Type 0 = λ w. IsNext w e in subst P (sym c.self.view_is) c.requires in
     let n = next k h e s.legal s.seated is in
     (counts (opening k) h, s.hooks, n.allowed)
 
@@ -65,7 +63,7 @@ move_waiters-requires g c =
     let e = c.args.entry in
     let s = c.self.invariant in
     let is : IsNext (record { header = k; entries = h }) e =
-        let P : CoreView → Type 0 = λ w. IsNext w e in subst P (sym c.self.view_is) c.requires in
+    let P : CoreView → Type 0 = λ w. IsNext w e in subst P (sym c.self.view_is) c.requires in
     let n = next k h e s.legal s.seated is in
     let short : length h ≤ k.cap = let r = s.room in omega (arith, r) in
     record { movable = movable k h e a.queue a.waiters s.waiting s.range s.legal s.seated short n.seat n.known }
@@ -78,7 +76,7 @@ update-requires-clause-exclusive g c =
     let e = c.args.entry in
     let s = c.self.invariant in
     let is : IsNext (record { header = k; entries = h }) e =
-        let P : CoreView → Type 0 = λ w. IsNext w e in subst P (sym c.self.view_is) c.requires in
+    let P : CoreView → Type 0 = λ w. IsNext w e in subst P (sym c.self.view_is) c.requires in
     let n = next k h e s.legal s.seated is in
     exclusive_next k h e _ n.legal n.seated (tabled k h a.seats.items s.seats s.tabled e.seat n.seat)
 
@@ -90,7 +88,7 @@ update-requires-clause-shared g c =
     let e = c.args.entry in
     let s = c.self.invariant in
     let is : IsNext (record { header = k; entries = h }) e =
-        let P : CoreView → Type 0 = λ w. IsNext w e in subst P (sym c.self.view_is) c.requires in
+    let P : CoreView → Type 0 = λ w. IsNext w e in subst P (sym c.self.view_is) c.requires in
     let n = next k h e s.legal s.seated is in
     let short : length h ≤ k.cap = let r = s.room in omega (arith, r) in
     shared_next k h e _ s.range n.legal n.seated short (tabled k h a.seats.items s.seats s.tabled e.seat n.seat)
@@ -103,7 +101,7 @@ invariant_of-self-2 g c =
     let e = c.args.entry in
     let s = c.self.invariant in
     let is : IsNext (record { header = k; entries = h }) e =
-        let P : CoreView → Type 0 = λ w. IsNext w e in subst P (sym c.self.view_is) c.requires in
+    let P : CoreView → Type 0 = λ w. IsNext w e in subst P (sym c.self.view_is) c.requires in
     let n = next k h e s.legal s.seated is in
     let was = c.owed-was_owed.result in
     let more = c.reserves.result in
@@ -112,11 +110,11 @@ invariant_of-self-2 g c =
     let mid = c.make_room.new.self in
     let new = c.add.new.self in
     let fits = fitted k e a.history mid was more less c.saturating_sub-needed.result m c.owed-was_owed.ensures.value
-        c.saturating_sub-needed.ensures c.in-Ok.ensures.within_cap c.in-Ok.ensures.same s.cap in
+    c.saturating_sub-needed.ensures c.in-Ok.ensures.within_cap c.in-Ok.ensures.same s.cap in
     let grown = added a.history mid new e (was + more - less) c.in-Ok.ensures.same c.add.ensures in
     let moved = c.move_waiters.ensures in
     let waiting = keeps_next k h e a.queue c.move_waiters.new.queue a.waiters c.move_waiters.new.waiters s.waiting
-        moved.line moved.sleepers moved.joined moved.places moved.beds moved.conditions in
+    moved.line moved.sleepers moved.joined moved.places moved.beds moved.conditions in
     stands_next (g.H.Hooks.agrees a.hooks) (g.H.Hooks.agrees c.change.new.hooks) k a.history new a.queue c.move_waiters.new.queue
     a.waiters c.move_waiters.new.waiters a.seats.items c.update.new.seats.items e s n
     (c.change.ensures.changed (counts (opening k) h) s.hooks n.allowed) waiting c.update.ensures
@@ -130,7 +128,7 @@ returns g c =
     let e = c.args.entry in
     let s = c.self.invariant in
     let is : IsNext (record { header = k; entries = h }) e =
-        let P : CoreView → Type 0 = λ w. IsNext w e in subst P (sym c.self.view_is) c.requires in
+    let P : CoreView → Type 0 = λ w. IsNext w e in subst P (sym c.self.view_is) c.requires in
     let n = next k h e s.legal s.seated is in
     let was = c.owed-was_owed.result in
     let more = c.reserves.result in
@@ -139,7 +137,7 @@ returns g c =
     let mid = c.make_room.new.self in
     let new = c.add.new.self in
     let fits = fitted k e a.history mid was more less c.saturating_sub-needed.result m c.owed-was_owed.ensures.value
-        c.saturating_sub-needed.ensures c.in-Ok.ensures.within_cap c.in-Ok.ensures.same s.cap in
+    c.saturating_sub-needed.ensures c.in-Ok.ensures.within_cap c.in-Ok.ensures.same s.cap in
     let grown = added a.history mid new e (was + more - less) c.in-Ok.ensures.same c.add.ensures in
     let P : CoreView → Type 0 = λ w. IsAdded w e (Ok tt) (record { header = k; entries = new.entries }) in
     subst P c.self.view_is (is_added k e tt a.history new was more less m fits grown.0)
