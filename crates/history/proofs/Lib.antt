@@ -4,6 +4,7 @@ pub mod Plain
 pub mod PartLemmas
 pub mod Breaks
 pub mod Writing
+pub mod Lists
 pub mod LineLemmas
 pub mod Sums
 pub mod Changes

@@ -5,6 +5,7 @@ pub mod Spelling
 pub mod Reading
 pub mod EntryWords
 pub mod Entry
+pub mod Entries
 pub mod Object
 pub mod Start
 pub mod Counts

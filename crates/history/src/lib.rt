@@ -5,6 +5,7 @@
 #![tactic(auto)]
 
 pub mod arrival;
+pub mod entries;
 pub mod entry;
 pub mod entry_text;
 pub mod fault;

@@ -1,0 +1,26 @@
+-- Lists of entries, the newest first.
+use Rattle.std.proofs.Common.{◌≡◌, ℕ, ◌+◌, ◌≤◌, Bool, true, false, cond, List, [], ◌∷◌, ◌++◌, length, reverse, refl, ap, ◌∙◌, sym, arith}
+use Rattle.std.proofs.lemmas.List.{reverse-append}
+use Rattle.history.specs.declared.entry.Entry.{Entry}
+use Rattle.history.specs.Entry.{ends_call}
+use Rattle.history.specs.Entries.{ended_calls}
+use Rattle.history.specs.Legal.{calls}
+use Rattle.history.specs.Start.{Start}
+
+-- one entry more at the end of a list is the first from behind
+pub reverse_push : {X : Type 0} (xs : List X) (x : X) → reverse (xs ++ x ∷ []) ≡ x ∷ reverse xs
+reverse_push xs x = reverse-append xs (x ∷ [])
+
+one_at_most : (b : Bool) → cond b 1 0 ≤ 1
+one_at_most true = omega arith
+one_at_most false = omega arith
+
+-- no more calls end than there are entries
+pub ended_calls_le : (h : List Entry) → ended_calls h ≤ length h
+ended_calls_le [] = omega arith
+ended_calls_le (e ∷ h) = omega (arith, ended_calls_le h, one_at_most (ends_call e.word))
+
+-- the calls of a history are those that ended before its start and in its entries
+pub calls-ended : (s : Start) (h : List Entry) → calls s h ≡ s.calls + ended_calls h
+calls-ended s [] = omega arith
+calls-ended s (e ∷ h) = omega (arith, calls-ended s h)
