@@ -7,7 +7,7 @@ ghost use Rattle.history.specs.Start.{Start, opening};
 ghost use Rattle.history.specs.declared.entry.Entry.{Entry};
 ghost use Rattle.history.specs.declared.entry.Mode.TheVariants.{X, S};
 ghost use Rattle.history.specs.declared.header.Header.{Header};
-ghost use Rattle.audit.specs.Holds.{HoldsStand, IsOnlyOwner};
+ghost use Rattle.audit.specs.Holds.{HoldsStand, IsOnlyOwner, owner_after};
 
 use history::entry::{Entry, Mode, Word};
 use history::fault::Fault;
@@ -75,5 +75,41 @@ impl Holds {
             owner: None,
             readers: 0,
         })
+    }
+
+    /// Follows one more entry of one of the seats.
+    pub(crate) fn note(&mut self, object: Object, entry: Entry)
+        requires seat { entry.seat < length self.old.exclusive.items × (entry.seat < length self.old.shared.items) }
+        requires bounds { (s : Start) × (h : List Entry) × HoldsStand s h self.old × (length h + 1 < 2 ^ 32) }
+        ensures { (s : Start) (h : List Entry) → HoldsStand s h self.old → s.header.object ≡ object → (is_lock object ≡ true → IsOnlyOwner s h × IsOnlyOwner s (entry ∷ h)) → HoldsStand s (entry ∷ h) self.new }
+    {
+        let seat = entry.seat as usize;
+        match entry.mode {
+            Mode::X => {
+                let had = self.exclusive[seat];
+                let has = holds_after(object, entry.word, entry.n, had);
+                self.exclusive[seat] = has;
+                self.owner = owner_after(self.owner, entry.seat, has);
+            }
+            Mode::S => {
+                let had = self.shared[seat];
+                let has = holds_after(object, entry.word, entry.n, had);
+                self.shared[seat] = has;
+                self.readers = self.readers - had + has;
+            }
+        }
+    }
+}
+
+/// The owner, once this seat has so many exclusive holds.
+fn owner_after(owner: Option<u16>, seat: u16, has: u64) -> Option<u16>
+    ensures { result ≡ owner_after owner seat has }
+{
+    if has > 0 {
+        return Some(seat);
+    }
+    match owner {
+        None => None,
+        Some(other) => if other == seat { None } else { Some(other) },
     }
 }

@@ -1,0 +1,2 @@
+pub mod HoldsLemmas
+pub mod HoldsFollow
