@@ -1,2 +1,6 @@
 pub mod HoldsLemmas
 pub mod HoldsFollow
+pub mod WaitingLemmas
+pub mod WaitingFollow
+pub mod PermitsFollow
+pub mod Outcomes

@@ -1,1 +1,4 @@
 pub mod Holds
+pub mod Waiting
+pub mod Permits
+pub mod Ledger

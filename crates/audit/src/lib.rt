@@ -5,4 +5,7 @@
 #![tactic(auto)]
 
 pub mod holds;
+mod ledger;
+pub mod permits;
+pub mod waiting;
 
