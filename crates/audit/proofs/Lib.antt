@@ -4,3 +4,4 @@ pub mod WaitingLemmas
 pub mod WaitingFollow
 pub mod PermitsFollow
 pub mod Outcomes
+pub mod Deciding

@@ -5,7 +5,9 @@
 #![tactic(auto)]
 
 pub mod holds;
-mod ledger;
+pub mod checks;
+pub mod entries;
+pub mod ledger;
 pub mod permits;
 pub mod waiting;
 

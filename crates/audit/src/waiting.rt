@@ -16,14 +16,14 @@ use std::alloc::Global;
 
 /// A seat asleep on a condition.
 #[derive(Clone, Copy, Drop, Debug, PartialEq, Eq)]
-pub(crate) struct Sleeper {
+pub struct Sleeper {
     pub(crate) condition: u8,
     pub(crate) seat: u16,
 }
 
 /// What a seat gave up when it last went to sleep, and how it will come back.
 #[derive(Clone, Copy, Drop, Debug, PartialEq, Eq)]
-pub(crate) struct Sleep {
+pub struct Sleep {
     pub(crate) condition: u8,
     pub(crate) holds: u32,
     pub(crate) how: End,

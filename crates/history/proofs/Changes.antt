@@ -81,14 +81,14 @@ counts_same s e h t =
 pub counts_took : (s : Start) (e : Entry) (h : List Entry) → takes e.word ≡ true → counts s (e ∷ h) ≡ took (counts s h) e.seat e.mode e.n
 counts_took s e h t = by e.word t
   where
-    by : (w : Word) → takes w ≡ true → counts s (record { seat = e.seat; word = w; mode = e.mode; n = e.n; at = e.at; end = e.end } ∷ h) ≡ took (counts s h) e.seat e.mode e.n
-    by Got t = refl
-    by TryGot t = refl
-    by Granted t = refl
-    by _ t = cc
+  by : (w : Word) → takes w ≡ true → counts s (record { seat = e.seat; word = w; mode = e.mode; n = e.n; at = e.at; end = e.end } ∷ h) ≡ took (counts s h) e.seat e.mode e.n
+  by Got t = refl
+  by TryGot t = refl
+  by Granted t = refl
+  by _ t = cc
 
 -- the line after an entry
-all_stay : (w : Word) (i : ℕ) (q : List Arrival) → ends_arrival w ≡ false → filter (stays w i) q ≡ q
+pub all_stay : (w : Word) (i : ℕ) (q : List Arrival) → ends_arrival w ≡ false → filter (stays w i) q ≡ q
 all_stay w i [] t = refl
 all_stay w i (a ∷ q) t =
     let s : stays w i a ≡ true = rw t refl in
@@ -121,7 +121,7 @@ leaves _ = false
 pub line_less : (s : Start) (e : Entry) (h : List Entry) → leaves e.word ≡ true → line s (e ∷ h) ≡ filter (λ a. not (eqb e.seat a.seat)) (line s h)
 line_less s e h t = line_after s e h ∙ by e.word t
   where
-    by : (w : Word) → leaves w ≡ true → filter (stays w e.seat) (line s h) ++ arrivals_by s w e h ≡ filter (λ a. not (eqb e.seat a.seat)) (line s h)
-    by Granted t = append-nil _
-    by Left t = append-nil _
-    by _ t = cc
+  by : (w : Word) → leaves w ≡ true → filter (stays w e.seat) (line s h) ++ arrivals_by s w e h ≡ filter (λ a. not (eqb e.seat a.seat)) (line s h)
+  by Granted t = append-nil _
+  by Left t = append-nil _
+  by _ t = cc

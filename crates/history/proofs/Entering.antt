@@ -1,8 +1,7 @@
 -- What is known of an entry of a legal history by its word.
-use Rattle.std.proofs.Common.{◌≡◌, ◌⊎◌, inl, inr, ⊎_elim, ℕ, Bool, true, false, not, ◌&&◌, ◌||◌, cond, eqb, ltb, List, [], ◌∷◌, Option, Some, None, Result, Ok, Err, refl, ap, ◌∙◌, sym, subst, ◌<◌, ◌≤◌, length, arith}
+use Rattle.std.proofs.Common.{◌≡◌, ◌⊎◌, inl, inr, ℕ, Bool, true, false, not, cond, ltb, List, Option, Some, None, Result, Ok, Err, refl, ap, subst, ◌<◌, ◌≤◌, length, arith}
 use Rattle.std.proofs.lemmas.Bool.{cond_both, eqb-true, ltb-false, leb-false, or_parts, not-false}
 use Rattle.history.specs.declared.arrival.Arrival.{Arrival}
-use Rattle.history.specs.declared.entry.End.{End}
 use Rattle.history.specs.declared.entry.End.TheVariants as end
 use Rattle.history.specs.declared.entry.Entry.{Entry}
 use Rattle.history.specs.declared.fault.Fault.{Fault}
@@ -21,10 +20,10 @@ use Rattle.history.specs.Faults.{is_wrong_mode, is_no_condition, is_bad_amount, 
 use Rattle.history.specs.Line.{line, first_mode, place_of}
 use Rattle.history.specs.Naming.{ready}
 use Rattle.history.specs.Object.{is_lock, is_latch, is_semaphore}
-use Rattle.history.specs.Phase.{Phase, Idle, InLine, Sleeping, phase, phase_by, suits, waits}
-use Rattle.history.specs.Sleepers.{sleepers, sleeps_below}
+use Rattle.history.specs.Phase.{Phase, Idle, InLine, Sleeping, phase, phase_by, suits}
+use Rattle.history.specs.Sleepers.{sleepers}
 use Rattle.history.specs.Start.{Start}
-use Rattle.history.specs.Steps.{entry_for, phase_entry, idle_entry, line_entry, queued_entry, sleeping_entry, plain, ended, back, lapse, gave, awaits, signals, at_most_one, at_least_none}
+use Rattle.history.specs.Steps.{entry_for, phase_entry, idle_entry, queued_entry, sleeping_entry, plain, ended, back, lapse, gave, awaits, signals, at_most_one, at_least_none}
 
 -- the tests that come first let the step through
 passed : {A : Type 0} (b : Bool) (f : Fault) (r : Result A Fault) (x : A) → cond b (Err f) r ≡ Ok x →

@@ -2,6 +2,8 @@ pub mod Numbers
 pub mod Splits
 pub mod Plain
 pub mod PartLemmas
+pub mod Readers
+pub mod EntryAgain
 pub mod Breaks
 pub mod Writing
 pub mod Lists
@@ -9,3 +11,14 @@ pub mod LineLemmas
 pub mod Sums
 pub mod Changes
 pub mod Entering
+pub mod Times
+pub mod SleepLemmas
+pub mod Owners
+pub mod OneWait
+pub mod ListSums
+pub mod Owing
+pub mod RoomLemmas
+pub mod Permits
+pub mod OneOwner
+pub mod WhoWaits
+pub mod Passing

@@ -65,9 +65,9 @@ filter_two p q r n (x ∷ xs) all same =
     let ih = filter_two p q r n xs all.1 same in
     two_at (p x) (q x) (r x) x xs p q r (same x all.0) refl ih
   where
-    two_at : (b c d : Bool) (x : Arrived) (xs : List Arrived) (p q r : Arrived → Bool) → b ≡ (c && d) → r x ≡ d → filter p xs ≡ filter r (filter q xs) → cond b (x ∷ filter p xs) (filter p xs) ≡ filter r (cond c (x ∷ filter q xs) (filter q xs))
-    two_at b true d x xs p q r e f ih = rw e (rw f (ap (λ l. cond d (x ∷ l) l) ih))
-    two_at b false d x xs p q r e f ih = rw e ih
+  two_at : (b c d : Bool) (x : Arrived) (xs : List Arrived) (p q r : Arrived → Bool) → b ≡ (c && d) → r x ≡ d → filter p xs ≡ filter r (filter q xs) → cond b (x ∷ filter p xs) (filter p xs) ≡ filter r (cond c (x ∷ filter q xs) (filter q xs))
+  two_at b true d x xs p q r e f ih = rw e (rw f (ap (λ l. cond d (x ∷ l) l) ih))
+  two_at b false d x xs p q r e f ih = rw e ih
 
 filter_all : (p : Arrived → Bool) (n : ℕ) (xs : List Arrival) → ((a : Arrival) → p (arrived_at n a) ≡ true) → filter p (map (arrived_at n) xs) ≡ map (arrived_at n) xs
 filter_all p n [] all = refl
@@ -81,9 +81,9 @@ ending_past (e ∷ h) i from p =
     let f : leb from (length h) ≡ false = lt-leb _ _ (omega (arith, p, length_more e h)) in
     rw ih (rw f (and_nothing (ends_arrival e.word && eqb e.seat i) _))
   where
-    and_nothing : (b : Bool) (y : Ending) → cond (b && false) (Some y) None ≡ None
-    and_nothing true y = refl
-    and_nothing false y = refl
+  and_nothing : (b : Bool) (y : Ending) → cond (b && false) (Some y) None ≡ None
+  and_nothing true y = refl
+  and_nothing false y = refl
 
 -- what stays in line at an entry of a seat
 abbrev pub stays : Word → ℕ → Arrival → Bool
@@ -93,9 +93,9 @@ map_filter : (w : Word) (i : ℕ) (xs : List Arrived) → map (λ a. a.who) (fil
 map_filter w i [] = refl
 map_filter w i (x ∷ xs) = by (keeps w i x) x xs (map_filter w i xs)
   where
-    by : (b : Bool) (x : Arrived) (xs : List Arrived) → map (λ a. a.who) (filter (keeps w i) xs) ≡ filter (stays w i) (map (λ a. a.who) xs) → map (λ a. a.who) (cond b (x ∷ filter (keeps w i) xs) (filter (keeps w i) xs)) ≡ cond b (x.who ∷ filter (stays w i) (map (λ a. a.who) xs)) (filter (stays w i) (map (λ a. a.who) xs))
-    by true x xs ih = ap (λ l. x.who ∷ l) ih
-    by false x xs ih = ih
+  by : (b : Bool) (x : Arrived) (xs : List Arrived) → map (λ a. a.who) (filter (keeps w i) xs) ≡ filter (stays w i) (map (λ a. a.who) xs) → map (λ a. a.who) (cond b (x ∷ filter (keeps w i) xs) (filter (keeps w i) xs)) ≡ cond b (x.who ∷ filter (stays w i) (map (λ a. a.who) xs)) (filter (stays w i) (map (λ a. a.who) xs))
+  by true x xs ih = ap (λ l. x.who ∷ l) ih
+  by false x xs ih = ih
 
 map_who : (n : ℕ) (xs : List Arrival) → map (λ a. a.who) (map (arrived_at n) xs) ≡ xs
 map_who n [] = refl
@@ -105,7 +105,7 @@ new_stand : (s : Start) (e : Entry) (h : List Entry) (b : Bool) → ends_arrival
 new_stand s e h true p none = rw (none refl) refl
 new_stand s e h false p none =
     filter_all (stands (e ∷ h)) (length h) (arrivals_by s e.word e h) (λ a.
-    open_then (ending h a.seat (length h)) _ _ ∙ rw (ending_past h a.seat (length h) (omega arith)) (rw p refl))
+        open_then (ending h a.seat (length h)) _ _ ∙ rw (ending_past h a.seat (length h) (omega arith)) (rw p refl))
 
 pub no_arrival : (s : Start) (w : Word) (e : Entry) (h : List Entry) → ends_arrival w ≡ true → arrivals_by s w e h ≡ []
 no_arrival s Granted e h p = refl
@@ -119,7 +119,7 @@ line_after s e h =
     let new = map (arrived_at (length h)) (arrivals_by s e.word e h) in
     let parts : filter (stands (e ∷ h)) (arrivals s h ++ new) ≡ filter (stands (e ∷ h)) (arrivals s h) ++ filter (stands (e ∷ h)) new = filter-append (stands (e ∷ h)) (arrivals s h) new in
     let old : filter (stands (e ∷ h)) (arrivals s h) ≡ filter (keeps e.word e.seat) (filter (stands h) (arrivals s h)) =
-    filter_two _ _ _ (length h) (arrivals s h) (arrivals_below s h) (stands_more e h) in
+        filter_two _ _ _ (length h) (arrivals s h) (arrivals_below s h) (stands_more e h) in
     let fresh : filter (stands (e ∷ h)) new ≡ new = new_stand s e h (ends_arrival e.word) refl (no_arrival s e.word e h) in
     ap (map (λ a. a.who)) parts
     ∙ map-append (λ a. a.who) _ _

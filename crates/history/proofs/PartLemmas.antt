@@ -85,26 +85,3 @@ pub part_again : (h : Header) → IsInRange h → header_at (words_of (part_of h
 part_again h fits =
     ap header_at (words_of_object h.object h.seats h.conditions h.cap (plain_part h fits))
     ∙ object_again h.object h.seats h.conditions h.cap fits.opening fits.some_seat fits.seats fits.some_room fits.cap
-
-pub is_part : (part : List ℕ) (h : Header) → words_of part ≡ part_words h ++ [] → part ≡ part_of h
-is_part part h e = sym (join_with_byte-slice_split 32 part) ∙ ap line_of (e ∙ append-nil (part_words h))
-
-abbrev Found : Type 0
-Found = Header × Words
-
-rest_is : (x y : Found) → Some x ≡ Some y → x.1 ≡ y.1
-rest_is x y e = ap (λ (p : Found). p.1) (inside x y e)
-  where
-    inside : (x y : Found) → Some x ≡ Some y → x ≡ y
-    inside x y e = cc
-
-none_is : (x : Found) → None ≡ Some x → ⊥
-none_is x e = cc
-
--- an object part is read, all of it
-pub unread : (part : List ℕ) → None ≡ header_at (words_of part) → (h : Header) → IsInRange h → part ≡ part_of h → ⊥
-unread part none h fits is = none_is (h, []) (none ∙ ap (λ (p : List ℕ). header_at (words_of p)) is ∙ part_again h fits)
-
-pub not_all_read : (part : List ℕ) (found : Header) (w : List ℕ) (ws : Words) → Some (found, w ∷ ws) ≡ header_at (words_of part) → (h : Header) → IsInRange h → part ≡ part_of h → ⊥
-not_all_read part found w ws some h fits is =
-    let e : w ∷ ws ≡ [] = rest_is (found, w ∷ ws) (h, []) (some ∙ ap (λ (p : List ℕ). header_at (words_of p)) is ∙ part_again h fits) in cc

@@ -26,16 +26,15 @@ seat_with_one zero f j l p h = absurd (omega arith)
 seat_with_one (suc n) f j l p h =
     ⊎_elim same (λ ne. other ne (λ l'. seat_with_one n f j l' p h)) (cases_eq n j)
   where
-    same : n ≡ j → seat_with (suc n) f ≡ Some j
-    same e =
-        let t : ltb 0 (f n) ≡ true = rw e (lt-ltb _ _ p) in
-        rw t (ap Some e)
-
-    other : (n ≡ j → ⊥) → (j < n → seat_with n f ≡ Some j) → seat_with (suc n) f ≡ Some j
-    other ne ih =
-        let z : f n ≡ 0 = h n ne in
-        let l' : j < n = omega (arith, ne, l) in
-        rw z (ih l')
+  same : n ≡ j → seat_with (suc n) f ≡ Some j
+  same e =
+    let t : ltb 0 (f n) ≡ true = rw e (lt-ltb _ _ p) in
+    rw t (ap Some e)
+  other : (n ≡ j → ⊥) → (j < n → seat_with n f ≡ Some j) → seat_with (suc n) f ≡ Some j
+  other ne ih =
+    let z : f n ≡ 0 = h n ne in
+    let l' : j < n = omega (arith, ne, l) in
+    rw z (ih l')
 
 -- the sum over the seats
 pub total_same : (n : ℕ) (f g : ℕ → ℕ) → ((i : ℕ) → f i ≡ g i) → total n f ≡ total n g
@@ -47,23 +46,21 @@ total_change zero f g j l h = absurd (omega arith)
 total_change (suc n) f g j l h =
     ⊎_elim same (λ ne. other ne (λ l'. total_change n f g j l' h)) (cases_eq n j)
   where
-    below : (m : ℕ) → m ≤ j → total m f ≡ total m g
-    below zero b = refl
-    below (suc m) b =
-        let ne : m ≢ j = omega arith in
-        let e : total m f ≡ total m g = below m (omega arith) in
-        let d : f m ≡ g m = h m ne in
-        omega (arith, e, d)
-
-    same : n ≡ j → total (suc n) f + g j ≡ total (suc n) g + f j
-    same e =
-        let b : total n f ≡ total n g = below n (omega (arith, e)) in
-        let x : f n ≡ f j = ap f e in
-        let y : g n ≡ g j = ap g e in
-        omega (arith, b, x, y)
-
-    other : (n ≡ j → ⊥) → (j < n → total n f + g j ≡ total n g + f j) → total (suc n) f + g j ≡ total (suc n) g + f j
-    other ne ih =
-        let r : total n f + g j ≡ total n g + f j = ih (omega (arith, ne, l)) in
-        let d : f n ≡ g n = h n ne in
-        omega (arith, r, d)
+  below : (m : ℕ) → m ≤ j → total m f ≡ total m g
+  below zero b = refl
+  below (suc m) b =
+    let ne : m ≢ j = omega arith in
+    let e : total m f ≡ total m g = below m (omega arith) in
+    let d : f m ≡ g m = h m ne in
+    omega (arith, e, d)
+  same : n ≡ j → total (suc n) f + g j ≡ total (suc n) g + f j
+  same e =
+    let b : total n f ≡ total n g = below n (omega (arith, e)) in
+    let x : f n ≡ f j = ap f e in
+    let y : g n ≡ g j = ap g e in
+    omega (arith, b, x, y)
+  other : (n ≡ j → ⊥) → (j < n → total n f + g j ≡ total n g + f j) → total (suc n) f + g j ≡ total (suc n) g + f j
+  other ne ih =
+    let r : total n f + g j ≡ total n g + f j = ih (omega (arith, ne, l)) in
+    let d : f n ≡ g n = h n ne in
+    omega (arith, r, d)

@@ -1,5 +1,5 @@
 -- The words that spell an entry behind its seat.
-use Rattle.std.specs.Prelude.{◌≡◌, ℕ, List, [], ◌∷◌, codes, decimal}
+use Rattle.std.specs.Prelude.{◌≡◌, ◌≤◌, ℕ, List, [], ◌∷◌, codes, decimal}
 use Rattle.history.specs.declared.entry.Entry.{Entry}
 use Rattle.history.specs.declared.entry.Mode.{Mode}
 use Rattle.history.specs.declared.entry.Mode.TheVariants.{X, S}
@@ -70,3 +70,9 @@ HasWords w m n at e = (at ≡ 0) × (e ≡ end.None)
 
 abbrev pub IsSpelt : Entry → Type 0
 IsSpelt e = HasWords e.word e.mode e.n e.at e.end
+
+-- an entry as a history text may have it: amounts of 31 bits, and at most 16 conditions
+pub record IsWritten (e : Entry) : Type 0 where
+  pub words : IsSpelt e
+  pub amount : e.n ≤ 2147483647
+  pub condition : e.at ≤ 15

@@ -4,6 +4,7 @@ pub mod Text
 pub mod Spelling
 pub mod Reading
 pub mod EntryWords
+pub mod EntryReading
 pub mod Entry
 pub mod Entries
 pub mod Object
@@ -21,3 +22,6 @@ pub mod Legal
 pub mod Room
 pub mod Answers
 pub mod Order
+pub mod Conservation
+pub mod Ownership
+pub mod Waiting

@@ -34,5 +34,5 @@ abbrev pub IsFairOrder : Start → List Entry → Type 0
 IsFairOrder s [] = Unit {0}
 IsFairOrder s (e ∷ h) =
     (e.word ≡ Got → is_fair s.header.object ≡ true → is_reentrant (counts s h) e.seat e.mode ≡ false →
-    AllByRecursion (EndedBefore h (length h)) (arrivals s h))
+        AllByRecursion (EndedBefore h (length h)) (arrivals s h))
     × IsFairOrder s h

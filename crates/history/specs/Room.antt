@@ -1,8 +1,10 @@
 -- For how many entries room stays reserved, and which entries have room.
-use Rattle.std.specs.Prelude.{ℕ, zero, suc, ◌+◌, nat_le, Bool, if◌then◌else◌, List, [], ◌∷◌, length}
+use Rattle.std.specs.Prelude.{ℕ, zero, suc, ◌+◌, ◌≤◌, nat_le, nat_lt, Bool, true, false, if◌then◌else◌, List, [], ◌∷◌, length}
 use Rattle.history.specs.declared.arrival.Arrival.{Arrival}
 use Rattle.history.specs.declared.entry.Entry.{Entry}
 use Rattle.history.specs.declared.entry.Mode.TheVariants.{X, S}
+use Rattle.history.specs.declared.entry.Word.{Word}
+use Rattle.history.specs.declared.entry.Word.TheVariants as word
 use Rattle.history.specs.declared.header.Object.{Object}
 use Rattle.history.specs.Counts.{held, total}
 use Rattle.history.specs.Line.{line}
@@ -40,3 +42,47 @@ owed s h = holds_owe s h + sum_of (arrival_owes s h) (line s h) + sleepers_owe s
 -- an entry has room where it fits with all that is owed behind it
 abbrev pub has_room : Start → List Entry → Entry → Bool
 has_room s h e = nat_le (length h + 1 + owed s (e ∷ h)) s.header.cap
+
+-- the entries of a history and those that it owes fit in its cap
+abbrev pub Fits : Start → List Entry → Type 0
+Fits s h = length h + owed s h ≤ s.header.cap
+
+-- For how many entries more room is reserved by an entry, and what it releases. A hold of a lock is given
+-- back, an acquire in line takes or leaves and gives back, a sleeper lapses or is moved, and comes back.
+abbrev pub reserved_by : Object → Word → ℕ
+reserved_by o word.Got = if is_lock o then 1 else 0
+reserved_by o word.TryGot = if is_lock o then 1 else 0
+reserved_by o word.Queued = if is_lock o then 2 else 1
+reserved_by o word.Await = 2
+reserved_by o _ = 0
+
+abbrev pub released_by : Object → Word → ℕ → ℕ
+released_by o word.Granted n = 1
+released_by o word.Left n = if is_lock o then 2 else 1
+released_by o word.Gave n = if is_lock o then 1 else 0
+released_by o word.Lapse n = 1
+released_by o word.Signal n = n
+released_by o word.SignalAll n = n
+released_by o word.Back n = 1
+released_by o _ n = 0
+
+abbrev pub reserves : Object → Entry → ℕ
+reserves o e = reserved_by o e.word
+
+abbrev pub releases : Object → Entry → ℕ
+releases o e = released_by o e.word e.n
+
+-- The entries that were owed before they came: a hold of a lock is given back, one who waits goes on or
+-- leaves, and a signal moves somebody.
+abbrev pub was_owed_by : Object → Word → ℕ → Bool
+was_owed_by o word.Granted n = true
+was_owed_by o word.Left n = true
+was_owed_by o word.Lapse n = true
+was_owed_by o word.Back n = true
+was_owed_by o word.Gave n = is_lock o
+was_owed_by o word.Signal n = nat_lt 0 n
+was_owed_by o word.SignalAll n = nat_lt 0 n
+was_owed_by o _ n = false
+
+abbrev pub was_owed : Object → Entry → Bool
+was_owed o e = was_owed_by o e.word e.n

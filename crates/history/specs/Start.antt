@@ -22,14 +22,14 @@ awake = record { condition = 0; holds = 0; how = end.None }
 
 pub record Start : Type 0 where
   pub header : Header
-  pub held : ℕ → Mode → ℕ  -- the holds of each seat
-  pub unheld : ℕ  -- permits released beyond what was held
-  pub free : ℤ  -- free permits
-  pub counted : ℕ  -- how often a latch was counted down
-  pub line : List Arrival  -- who waits in line
-  pub sleepers : ℕ → List ℕ  -- who sleeps on each condition
-  pub last_sleep : ℕ → Sleep  -- the last sleep of each seat
-  pub calls : ℕ  -- the calls that had ended
+  pub held : ℕ → Mode → ℕ           -- the holds of each seat
+  pub unheld : ℕ                    -- permits released beyond what was held
+  pub free : ℤ                      -- free permits
+  pub counted : ℕ                   -- how often a latch was counted down
+  pub line : List Arrival           -- who waits in line
+  pub sleepers : ℕ → List ℕ         -- who sleeps on each condition
+  pub last_sleep : ℕ → Sleep        -- the last sleep of each seat
+  pub calls : ℕ                     -- the calls that had ended
 
 -- an object as it is opened
 abbrev pub opening : Header → Start

@@ -10,8 +10,16 @@ use crate::number::put_number;
 use std::alloc::AllocError;
 
 impl Mode {
-    ghost use Rattle.std.specs.Prelude.{◌≡◌, ◌∷◌, ◌++◌, []};
+    ghost use Rattle.std.specs.Prelude.{◌≡◌, ◌∷◌, ◌++◌, [], ◌↔◌, IsTrue, false};
+    ghost use Rattle.history.specs.declared.entry.Mode.TheVariants.{X, S};
     ghost use Rattle.history.specs.EntryWords.{mode_word};
+
+    fn is_exclusive(self) -> bool
+        ensures x { IsTrue result ↔ (self ≡ X) }
+        ensures s { (result ≡ false) ↔ (self ≡ S) }
+    {
+        matches!(self, Mode::X)
+    }
 
     /// The word for it in a text, with a space on either side.
     fn spaced(self) -> &'static [u8]
@@ -25,8 +33,29 @@ impl Mode {
 }
 
 impl End {
-    ghost use Rattle.std.specs.Prelude.{◌≡◌, ◌∷◌};
-    ghost use Rattle.history.specs.EntryWords.{end_word};
+    ghost use Rattle.std.specs.Prelude.{◌≡◌, ◌∷◌, ◌↔◌, IsTrue};
+    ghost use Rattle.history.specs.declared.entry.End.TheVariants as end;
+    ghost use Rattle.history.specs.EntryWords.{end_word, GaveUp, CameBack};
+
+    fn is_none(self) -> bool
+        ensures { IsTrue result ↔ (self ≡ end.None) }
+    {
+        matches!(self, End::None)
+    }
+
+    /// Whether a call gave up in this way.
+    fn gave_up(self) -> bool
+        ensures { IsTrue result ↔ GaveUp self }
+    {
+        matches!(self, End::Timeout | End::Interrupt)
+    }
+
+    /// Whether an await came back in this way.
+    fn came_back(self) -> bool
+        ensures { IsTrue result ↔ CameBack self }
+    {
+        !matches!(self, End::None)
+    }
 
     /// The word for it in a text, with a space before it.
     fn behind_space(self) -> &'static [u8]
@@ -42,9 +71,42 @@ impl End {
 }
 
 impl Entry {
-    ghost use Rattle.std.specs.Prelude.{◌≡◌, ◌++◌, OnOk, OnErr, IsOkUnless, take, length};
+    ghost use Rattle.std.specs.Prelude.{◌≡◌, ◌++◌, ◌↔◌, IsTrue, OnOk, OnErr, IsOkUnless, take, length};
     ghost use Rattle.history.specs.Text.{line_of};
-    ghost use Rattle.history.specs.EntryWords.{entry_words, IsSpelt};
+    ghost use Rattle.history.specs.EntryWords.{entry_words, IsSpelt, IsWritten};
+
+    /// Whether words spell it: the fields that the words of its kind leave out are as they take them to be.
+    pub fn is_spelt(&self) -> bool
+        ensures { IsTrue result ↔ IsSpelt self.now }
+    {
+        let Entry {
+            seat: _,
+            word,
+            mode,
+            n,
+            at,
+            end,
+        } = *self;
+        match word {
+            Word::Got | Word::TryGot | Word::Queued | Word::Granted | Word::Missed | Word::Gave => {
+                at == 0 && end.is_none()
+            }
+            Word::Left => at == 0 && end.gave_up(),
+            Word::Refused(fault) => at == 0 && end.is_none() && fault.number() <= 5,
+            Word::Await | Word::Signal | Word::SignalAll => mode.is_exclusive() && end.is_none(),
+            Word::Lapse => mode.is_exclusive() && n == 0 && end.gave_up(),
+            Word::Back => mode.is_exclusive() && end.came_back(),
+            Word::Counted => !mode.is_exclusive() && n == 1 && at == 0 && end.is_none(),
+            Word::Drained => !mode.is_exclusive() && at == 0 && end.is_none(),
+        }
+    }
+
+    /// Whether it may stand in a history text: spelt, its amount at most 2147483647, its condition at most 15.
+    pub fn is_written(&self) -> bool
+        ensures { IsTrue result ↔ IsWritten self.now }
+    {
+        self.is_spelt() && self.n <= 2_147_483_647 && self.at <= 15
+    }
 
     /// Appends the words that stand behind the seat.
     pub fn write_words(&self, out: &mut Vec<u8>) -> Result<(), Fault>

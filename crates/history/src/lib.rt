@@ -7,11 +7,15 @@
 pub mod arrival;
 pub mod entries;
 pub mod entry;
+pub mod entry_reading;
 pub mod entry_text;
 pub mod fault;
 pub mod header;
 pub mod header_text;
+pub mod laws;
 pub mod number;
 pub mod step;
+#[cfg(test)]
+mod tests;
 pub mod text;
 pub mod words;

@@ -1,0 +1,7 @@
+//! The line of a synchroniser: those who wait to acquire, the longest waiter first.
+//!
+//! A queue is seen as a list of arrivals with at most one a seat. All its places are reserved when it is
+//! opened, so nothing that happens later needs memory.
+#![tactic(auto)]
+
+pub mod queue;

@@ -1,0 +1,35 @@
+-- What the fields of a latch's hooks stand for: the count alone.
+use Rattle.std.proofs.Common.{◌≡◌, ℕ, pos, refl, sym, ◌∙◌}
+use Rattle.std.proofs.Math.Nat.{sub-zero}
+use Rattle.history.specs.declared.header.Object.{Object}
+use Rattle.history.specs.declared.header.Object.TheVariants.{Latch}
+use Rattle.history.specs.Counts.{Counts}
+use Rattle.frame.specs.Hooks.{opening_counts}
+use Rattle.counting.specs.declared.latch.LatchHooks.{LatchHooks}
+
+-- The counts are those of a latch with this count.
+pub record StandsBy (opening count : ℕ) (k : Counts) : Type 0 where
+  pub object : k.object ≡ Latch opening
+  pub level : k.count ≡ count
+
+abbrev pub Stands : LatchHooks → Counts → Type 0
+Stands s k = StandsBy s.opening s.count k
+
+abbrev pub latch_of : LatchHooks → Object
+latch_of s = Latch s.opening
+
+-- it was never counted down, whatever the number of seats
+abbrev pub IsOpened : LatchHooks → ℕ → Type 0
+IsOpened s seats = s.count ≡ s.opening
+
+pub opens_so : (s : LatchHooks) (seats : ℕ) → IsOpened s seats → Stands s (opening_counts (latch_of s) seats)
+opens_so s seats opened = record { object = refl; level = sub-zero _ ∙ sym opened }
+
+pub same_latch : (s : LatchHooks) (k : Counts) → Stands s k → k.object ≡ latch_of s
+same_latch s k h = h.object
+
+abbrev some_counts_of : LatchHooks → Counts
+some_counts_of s = record { object = latch_of s; seats = 1; held = λ i m. 0; free = pos 0; count = s.count }
+
+pub some_counts : (s : LatchHooks) → (k : Counts) × Stands s k
+some_counts s = (some_counts_of s, record { object = refl; level = refl })

@@ -1,0 +1,2 @@
+pub mod Semaphore
+pub mod Latch

@@ -1,0 +1,122 @@
+//! The free permits of a semaphore.
+
+ghost use Rattle.std.specs.Prelude.{◌≡◌, ℕ};
+ghost use Rattle.history.specs.declared.header.Object.TheVariants.{Semaphore};
+
+use frame::hooks::{Gave, Hooks, Line, Taken};
+use history::entry::Mode;
+use history::fault::Fault;
+use history::header::{Object, Policy};
+
+/// The greatest number of free permits.
+const MAX_PERMITS: i64 = 2_147_483_647;
+
+/// The hooks of a semaphore: as in Java's Semaphore, the state is the number of free permits, which may
+/// begin below 0. Who holds them isn't kept.
+#[derive(Drop)]
+pub struct SemaphoreHooks {
+    policy: Policy,
+    /// As opened.
+    permits: i32,
+    free: i32,
+}
+
+impl SemaphoreHooks {
+    ghost use Rattle.counting.specs.Semaphore.{semaphore_of, IsOpened};
+
+    /// The hooks of a semaphore with all its permits free, for any number of seats.
+    pub fn open(policy: Policy, permits: i32) -> SemaphoreHooks
+        ensures object { semaphore_of result ≡ Semaphore policy permits }
+        ensures opened { (seats : ℕ) → IsOpened result seats }
+    {
+        SemaphoreHooks {
+            policy,
+            permits,
+            free: permits,
+        }
+    }
+}
+
+impl Hooks for SemaphoreHooks {
+    ghost use Rattle.counting.specs.Semaphore.{Stands, semaphore_of, IsOpened, opens_so, same_semaphore, some_counts};
+
+    ghost agrees = { Stands };
+
+    ghost object_of = { semaphore_of };
+
+    ghost is_opened = { IsOpened };
+
+    ghost opens = { opens_so };
+
+    ghost same_object = { same_semaphore };
+
+    ghost stands = { some_counts };
+
+    fn could(&self, _who: u16, mode: Mode, n: u32) -> bool {
+        match mode {
+            Mode::X => false,
+            Mode::S => i64::from(self.free) - i64::from(n) >= 0,
+        }
+    }
+
+    fn at_limit(&self, _who: u16, _mode: Mode) -> bool {
+        false
+    }
+
+    fn holds_back(&self, _who: u16, _mode: Mode, line: Line) -> bool {
+        match line {
+            Line::Empty => false,
+            Line::FirstX | Line::FirstS => match self.policy {
+                Policy::Fair => true,
+                Policy::NonFair => false,
+            },
+        }
+    }
+
+    // Never Last: a request of 0 could be granted where nothing is free.
+    fn take(&mut self, _who: u16, _mode: Mode, n: u32) -> Taken {
+        let free = i64::from(self.free) - i64::from(n);
+        self.free = free as i32;
+        Taken::More
+    }
+
+    fn give(&mut self, _who: u16, _mode: Mode, n: u32) -> Result<Gave, Fault> {
+        let free = i64::from(self.free) + i64::from(n);
+        if free > MAX_PERMITS {
+            return Err(Fault::TooManyPermits);
+        }
+        self.free = free as i32;
+        Ok(Gave::Open)
+    }
+
+    fn let_go_all(&mut self, _who: u16) -> Result<u32, Fault> {
+        Err(Fault::NotOwner)
+    }
+
+    fn restore(&mut self, _who: u16, _holds: u32)
+        ensures same { self.new ≡ self.old }
+    {
+        // No seat of a semaphore sleeps, so none comes back with holds.
+    }
+
+    fn drain(&mut self) -> u32 {
+        if self.free < 0 {
+            return 0;
+        }
+        let free = self.free as u32;
+        self.free = 0;
+        free
+    }
+
+    fn as_opened(&self, _seats: u16) -> bool {
+        self.free == self.permits
+    }
+
+    fn object(&self) -> Object {
+        Object::Semaphore(self.policy, self.permits)
+    }
+
+    fn level(&self) -> i64 {
+        i64::from(self.free)
+    }
+}

@@ -1,0 +1,191 @@
+-- What an entry's words spell is read again.
+use Rattle.std.proofs.Common.{◌≡◌, ◌≢◌, ℕ, ◌^◌, ◌<◌, ◌≤◌, true, List, [], ◌∷◌, Option, Some, None, refl, sym, ap, ◌∙◌, arith, decimal}
+use Rattle.std.specs.Prelude.{codes}
+use Rattle.std.proofs.lemmas.Bool.{le-leb}
+use Rattle.history.specs.declared.entry.Entry.{Entry}
+use Rattle.history.specs.declared.entry.End.{End}
+use Rattle.history.specs.declared.entry.End.TheVariants as end
+use Rattle.history.specs.declared.entry.Mode.{Mode}
+use Rattle.history.specs.declared.entry.Mode.TheVariants.{X, S}
+use Rattle.history.specs.declared.entry.Word.{Word}
+use Rattle.history.specs.declared.entry.Word.TheVariants as word
+use Rattle.history.specs.declared.fault.Fault.{Fault}
+use Rattle.history.specs.declared.fault.Fault.TheVariants as fault
+use Rattle.history.specs.Fault.{fault_name, IsRecorded}
+use Rattle.history.specs.Text.{line_of, words_of}
+use Rattle.history.specs.EntryWords.{mode_word, end_word, spelt, entry_words, GaveUp, CameBack, HasWords, IsWritten}
+use Rattle.history.specs.EntryReading.{given_up_at, come_back_at, recorded_at, asked_at, condition_at, sleepers_at, left_at, refused_at, lapse_at, back_at, shared_at, named_entry_at, entry_at}
+use Rattle.history.specs.Reading.{Words, number_from}
+use Rattle.history.proofs.Numbers.{number_again}
+use Rattle.history.proofs.Plain.{is_plain, ArePlain, words_again, decimal_plain}
+
+asked_again : (m : Mode) (n : ℕ) (ws : Words) → n ≤ 2147483647 → asked_at (mode_word m ∷ decimal n ∷ ws) ≡ Some ((m, n), ws)
+unfolding asked_at
+asked_again X n ws le = rw (number_again n (omega arith), le-leb 0 n (omega arith), le-leb n 2147483647 le) refl
+asked_again S n ws le = rw (number_again n (omega arith), le-leb 0 n (omega arith), le-leb n 2147483647 le) refl
+
+condition_again : (c : ℕ) (ws : Words) → c ≤ 15 → condition_at (decimal c ∷ ws) ≡ Some (c, ws)
+unfolding condition_at
+condition_again c ws le = rw (number_again c (omega arith), le-leb 0 c (omega arith), le-leb c 15 le) refl
+
+sleepers_again : (c n : ℕ) (ws : Words) → c ≤ 15 → n ≤ 2147483647 → sleepers_at (decimal c ∷ decimal n ∷ ws) ≡ Some ((c, n), ws)
+unfolding sleepers_at
+sleepers_again c n ws c15 le =
+    rw (condition_again c (decimal n ∷ ws) c15, number_again n (omega arith), le-leb 0 n (omega arith), le-leb n 2147483647 le) refl
+
+given_up_again : (e : End) → GaveUp e → given_up_at (end_word e ∷ []) ≡ Some (e, [])
+given_up_again end.None gave = absurd gave
+given_up_again end.Timeout gave = refl
+given_up_again end.Interrupt gave = refl
+given_up_again end.Signalled gave = absurd gave
+
+come_back_again : (e : End) → CameBack e → come_back_at (end_word e ∷ []) ≡ Some (e, [])
+come_back_again end.None came = absurd came
+come_back_again end.Timeout came = refl
+come_back_again end.Interrupt came = refl
+come_back_again end.Signalled came = refl
+
+recorded_again : (f : Fault) → IsRecorded f → recorded_at (fault_name f ∷ []) ≡ Some (f, [])
+recorded_again fault.NotOwner low = refl
+recorded_again fault.TooManyHolds low = refl
+recorded_again fault.TooManyPermits low = refl
+recorded_again fault.Interrupted low = refl
+recorded_again fault.HoldsRead low = refl
+recorded_again fault.OutOfPhase low = absurd (omega (arith, low))
+recorded_again fault.NoSuchCondition low = absurd (omega (arith, low))
+recorded_again fault.BadAmount low = absurd (omega (arith, low))
+recorded_again fault.WrongMode low = absurd (omega (arith, low))
+recorded_again fault.HistoryFull low = absurd (omega (arith, low))
+recorded_again fault.OutOfMemory low = absurd (omega (arith, low))
+
+abbrev made : ℕ → Word → Mode → ℕ → ℕ → End → Entry
+made seat w m n at e = record { seat = seat; word = w; mode = m; n = n; at = at; end = e }
+
+left_again : (seat : ℕ) (m : Mode) (n : ℕ) (e : End) → n ≤ 2147483647 → GaveUp e → left_at seat (mode_word m ∷ decimal n ∷ end_word e ∷ []) ≡ Some (made seat word.Left m n 0 e, [])
+unfolding left_at
+left_again seat m n e le gave = rw (asked_again m n (end_word e ∷ []) le, given_up_again e gave) refl
+
+refused_again : (seat : ℕ) (f : Fault) (m : Mode) (n : ℕ) → n ≤ 2147483647 → IsRecorded f → refused_at seat (mode_word m ∷ decimal n ∷ fault_name f ∷ []) ≡ Some (made seat (word.Refused f) m n 0 end.None, [])
+unfolding refused_at
+refused_again seat f m n le low = rw (asked_again m n (fault_name f ∷ []) le, recorded_again f low) refl
+
+lapse_again : (seat c : ℕ) (e : End) → c ≤ 15 → GaveUp e → lapse_at seat (decimal c ∷ end_word e ∷ []) ≡ Some (made seat word.Lapse X 0 c e, [])
+unfolding lapse_at
+lapse_again seat c e le gave = rw (condition_again c (end_word e ∷ []) le, given_up_again e gave) refl
+
+back_again : (seat c n : ℕ) (e : End) → c ≤ 15 → n ≤ 2147483647 → CameBack e → back_at seat (decimal c ∷ decimal n ∷ end_word e ∷ []) ≡ Some (made seat word.Back X n c e, [])
+unfolding back_at
+back_again seat c n e c15 le came = rw (sleepers_again c n (end_word e ∷ []) c15 le, come_back_again e came) refl
+
+counted_again : (seat : ℕ) → shared_at seat word.Counted 1 1 (codes "s" ∷ decimal 1 ∷ []) ≡ Some (made seat word.Counted S 1 0 end.None, [])
+unfolding shared_at
+counted_again seat = rw (number_again 1 (omega arith)) refl
+
+drained_again : (seat n : ℕ) → n ≤ 2147483647 → shared_at seat word.Drained 0 2147483647 (codes "s" ∷ decimal n ∷ []) ≡ Some (made seat word.Drained S n 0 end.None, [])
+unfolding shared_at
+drained_again seat n le = rw (number_again n (omega arith), le-leb 0 n (omega arith), le-leb n 2147483647 le) refl
+
+-- the words of each entry
+words_are_read : (seat : ℕ) (w : Word) (m : Mode) (n at : ℕ) (e : End) → HasWords w m n at e → n ≤ 2147483647 → at ≤ 15 → entry_at seat (spelt w m n at e) ≡ Some (made seat w m n at e, [])
+unfolding entry_at named_entry_at
+words_are_read seat word.Got m n at e has le c15 = rw (has.0, has.1, asked_again m n [] le) refl
+words_are_read seat word.TryGot m n at e has le c15 = rw (has.0, has.1, asked_again m n [] le) refl
+words_are_read seat word.Queued m n at e has le c15 = rw (has.0, has.1, asked_again m n [] le) refl
+words_are_read seat word.Granted m n at e has le c15 = rw (has.0, has.1, asked_again m n [] le) refl
+words_are_read seat word.Missed m n at e has le c15 = rw (has.0, has.1, asked_again m n [] le) refl
+words_are_read seat word.Gave m n at e has le c15 = rw (has.0, has.1, asked_again m n [] le) refl
+words_are_read seat word.Left m n at e has le c15 = rw (has.0, left_again seat m n e le has.1) refl
+words_are_read seat (word.Refused f) m n at e has le c15 = rw (has.0, has.1, refused_again seat f m n le has.2) refl
+words_are_read seat word.Await m n at e has le c15 = rw (has.0, has.1, sleepers_again at n [] c15 le) refl
+words_are_read seat word.Lapse m n at e has le c15 = rw (has.0, has.1, lapse_again seat at e c15 has.2) refl
+words_are_read seat word.Signal m n at e has le c15 = rw (has.0, has.1, sleepers_again at n [] c15 le) refl
+words_are_read seat word.SignalAll m n at e has le c15 = rw (has.0, has.1, sleepers_again at n [] c15 le) refl
+words_are_read seat word.Back m n at e has le c15 = rw (has.0, back_again seat at n e c15 le has.1) refl
+words_are_read seat word.Counted m n at e has le c15 = rw (has.0, has.1, has.2, has.3, counted_again seat) refl
+words_are_read seat word.Drained m n at e has le c15 = rw (has.0, has.1, has.2, drained_again seat n le) refl
+
+mode_plain : (m : Mode) → is_plain (mode_word m) ≡ true
+mode_plain X = refl
+mode_plain S = refl
+
+gave_up_plain : (e : End) → GaveUp e → is_plain (end_word e) ≡ true
+gave_up_plain end.None gave = absurd gave
+gave_up_plain end.Timeout gave = refl
+gave_up_plain end.Interrupt gave = refl
+gave_up_plain end.Signalled gave = absurd gave
+
+came_back_plain : (e : End) → CameBack e → is_plain (end_word e) ≡ true
+came_back_plain end.None came = absurd came
+came_back_plain end.Timeout came = refl
+came_back_plain end.Interrupt came = refl
+came_back_plain end.Signalled came = refl
+
+name_plain : (f : Fault) → is_plain (fault_name f) ≡ true
+name_plain fault.NotOwner = refl
+name_plain fault.TooManyHolds = refl
+name_plain fault.TooManyPermits = refl
+name_plain fault.Interrupted = refl
+name_plain fault.HoldsRead = refl
+name_plain fault.OutOfPhase = refl
+name_plain fault.NoSuchCondition = refl
+name_plain fault.BadAmount = refl
+name_plain fault.WrongMode = refl
+name_plain fault.HistoryFull = refl
+name_plain fault.OutOfMemory = refl
+
+-- a mode and an amount, and a condition and an amount, hold no spaces
+asked_plain : (m : Mode) (n : ℕ) → n < 2 ^ 64 → ArePlain (mode_word m ∷ decimal n ∷ [])
+asked_plain m n lt = (mode_plain m, (decimal_plain n lt, tt))
+
+slept_plain : (c n : ℕ) → c < 2 ^ 64 → n < 2 ^ 64 → ArePlain (decimal c ∷ decimal n ∷ [])
+slept_plain c n c64 lt = (decimal_plain c c64, (decimal_plain n lt, tt))
+
+spelt_plain : (w : Word) (m : Mode) (n at : ℕ) (e : End) → HasWords w m n at e → n < 2 ^ 64 → at < 2 ^ 64 → ArePlain (spelt w m n at e)
+spelt_plain word.Got m n at e has lt c64 = (refl, asked_plain m n lt)
+spelt_plain word.TryGot m n at e has lt c64 = (refl, asked_plain m n lt)
+spelt_plain word.Queued m n at e has lt c64 = (refl, asked_plain m n lt)
+spelt_plain word.Granted m n at e has lt c64 = (refl, asked_plain m n lt)
+spelt_plain word.Missed m n at e has lt c64 = (refl, asked_plain m n lt)
+spelt_plain word.Gave m n at e has lt c64 = (refl, asked_plain m n lt)
+spelt_plain word.Left m n at e has lt c64 = (refl, (mode_plain m, (decimal_plain n lt, (gave_up_plain e has.1, tt))))
+spelt_plain (word.Refused f) m n at e has lt c64 = (refl, (mode_plain m, (decimal_plain n lt, (name_plain f, tt))))
+spelt_plain word.Await m n at e has lt c64 = (refl, slept_plain at n c64 lt)
+spelt_plain word.Lapse m n at e has lt c64 = (refl, (decimal_plain at c64, (gave_up_plain e has.2, tt)))
+spelt_plain word.Signal m n at e has lt c64 = (refl, slept_plain at n c64 lt)
+spelt_plain word.SignalAll m n at e has lt c64 = (refl, slept_plain at n c64 lt)
+spelt_plain word.Back m n at e has lt c64 = (refl, (decimal_plain at c64, (decimal_plain n lt, (came_back_plain e has.1, tt))))
+spelt_plain word.Counted m n at e has lt c64 = (refl, asked_plain m n lt)
+spelt_plain word.Drained m n at e has lt c64 = (refl, asked_plain m n lt)
+
+pub plain_entry : (e : Entry) → IsWritten e → ArePlain (entry_words e)
+plain_entry e written = spelt_plain e.word e.mode e.n e.at e.end written.words (omega (arith, written.amount)) (omega (arith, written.condition))
+
+pub words_again_read : (e : Entry) → IsWritten e → entry_at e.seat (entry_words e) ≡ Some (e, [])
+words_again_read e written = words_are_read e.seat e.word e.mode e.n e.at e.end written.words written.amount written.condition
+
+-- a line that begins with a word is cut at it
+cut_again : (ws : Words) → ArePlain ws → ws ≢ [] → words_of (line_of ws) ≡ ws
+cut_again [] plain some = absurd (some refl)
+cut_again (w ∷ ws) plain some = words_again w ws plain
+
+has_some : (w : Word) (m : Mode) (n at : ℕ) (e : End) → spelt w m n at e ≢ []
+has_some word.Got m n at e = λ e. cc
+has_some word.TryGot m n at e = λ e. cc
+has_some word.Queued m n at e = λ e. cc
+has_some word.Granted m n at e = λ e. cc
+has_some word.Missed m n at e = λ e. cc
+has_some word.Left m n at e = λ e. cc
+has_some word.Gave m n at e = λ e. cc
+has_some (word.Refused f) m n at e = λ e. cc
+has_some word.Await m n at e = λ e. cc
+has_some word.Lapse m n at e = λ e. cc
+has_some word.Signal m n at e = λ e. cc
+has_some word.SignalAll m n at e = λ e. cc
+has_some word.Back m n at e = λ e. cc
+has_some word.Counted m n at e = λ e. cc
+has_some word.Drained m n at e = λ e. cc
+
+pub entry_again : (seat : ℕ) (e : Entry) → IsWritten e → e.seat ≡ seat → entry_at seat (words_of (line_of (entry_words e))) ≡ Some (e, [])
+entry_again seat e written is =
+    let cut = cut_again (entry_words e) (plain_entry e written) (has_some e.word e.mode e.n e.at e.end) in
+    ap (entry_at seat) cut ∙ ap (λ (i : ℕ). entry_at i (entry_words e)) (sym is) ∙ words_again_read e written

@@ -1,0 +1,372 @@
+-- A lock or read-write lock has one owner.
+use Rattle.std.proofs.Common.{◌≡◌, ◌≢◌, ◌⊎◌, inl, inr, ⊎_elim, ℕ, zero, suc, ◌+◌, ◌-◌, ◌<◌, ◌≤◌, Bool, true, false, ◌&&◌, cond, eqb, ltb, List, [], ◌∷◌, Option, Some, None, refl, ap, ◌∙◌, sym, subst, arith}
+use Rattle.std.proofs.lemmas.Bool.{cases_eq, cases_Bool, eq-eqb, ne_eqb, eqb-true, ltb-true, ltb-false, and_parts}
+use Rattle.history.specs.declared.arrival.Arrival.{Arrival}
+use Rattle.history.specs.declared.entry.Entry.{Entry}
+use Rattle.history.specs.declared.entry.Mode.{Mode}
+use Rattle.history.specs.declared.entry.Mode.TheVariants.{X, S}
+use Rattle.history.specs.declared.entry.Word.{Word}
+use Rattle.history.specs.declared.entry.Word.TheVariants as word
+use Rattle.history.specs.declared.header.Header.{Header}
+use Rattle.history.specs.declared.header.Object.{Object}
+use Rattle.history.specs.declared.header.Object.TheVariants.{Lock, ReadWrite, Semaphore, Latch}
+use Rattle.history.specs.Could.{could, could_of, is_none_or, is_seat, max_holds, max_shared}
+use Rattle.history.specs.Counts.{Counts, counts, held, holds_after, owner, readers, total}
+use Rattle.history.specs.Entry.{same_mode}
+use Rattle.history.specs.Legal.{AreSeated, IsLegal}
+use Rattle.history.specs.Line.{line, place_of}
+use Rattle.history.specs.Object.{in_holds, is_lock, is_semaphore}
+use Rattle.history.specs.Ownership.{IsOwned, IsSaved, is_away, most_exclusive, most_shared}
+use Rattle.history.specs.Phase.{Phase, Idle, InLine, Sleeping, phase, phase_by}
+use Rattle.history.specs.Sleepers.{last_sleep, sleeps_below}
+use Rattle.history.specs.Start.{Start, opening}
+use Rattle.history.proofs.Entering.{Known, KnownBy, known, seat_is}
+use Rattle.history.proofs.OneWait.{Saved, SavedIfBack, Waits, placed, waits}
+use Rattle.history.proofs.Owners.{most_holds, nobody_holds, owner_holds, ready_could}
+use Rattle.history.proofs.RoomLemmas.{total_nothing}
+use Rattle.history.proofs.SleepLemmas.{held_other, sleeps_at}
+use Rattle.history.proofs.Sums.{total_change, total_same}
+use Rattle.history.proofs.Times.{place_once, total_part}
+
+-- What is known of all holds: one owner, alone, few readers, and nobody but the seats holds anything.
+record Owned (s : Start) (h : List Entry) : Type 0 where
+  one : (i j : ℕ) → 0 < held s h i X → 0 < held s h j X → i ≡ j
+  alone : (i j : ℕ) → 0 < held s h i X → 0 < held s h j S → i ≡ j
+  shared : total s.header.seats (λ i. held s h i S) ≤ most_shared s.header.object
+  seats : (i : ℕ) (m : Mode) → s.header.seats ≤ i → held s h i m ≡ 0
+
+none_or_some : (n : ℕ) → (n ≡ 0) ⊎ (0 < n)
+none_or_some zero = inl refl
+none_or_some (suc n) = inr (omega arith)
+
+cases_below : (a b : ℕ) → (a < b) ⊎ (b ≤ a)
+cases_below a b = ⊎_elim (λ t. inl (ltb-true a b t)) (λ f. inr (ltb-false a b f)) (cases_Bool (ltb a b))
+
+-- where a seat or nobody owns, nobody else has exclusive holds
+others_own_nothing : (s : Start) (h : List Entry) (i : ℕ) → Owned s h →
+    is_none_or (owner (counts s h)) i ≡ true → (j : ℕ) → j ≢ i → held s h j X ≡ 0
+others_own_nothing s h i v t j ne = by (owner (counts s h)) refl t
+  where
+    within : owner (counts s h) ≡ None → held s h j X ≡ 0
+    within p = ⊎_elim (λ l. nobody_holds (counts s h) j p l) (λ l. v.seats j X l)
+        (cases_below j s.header.seats)
+
+    by : (o : Option ℕ) → owner (counts s h) ≡ o → is_none_or o i ≡ true → held s h j X ≡ 0
+    by None p u = within p
+    by (Some x) p u =
+        let same : x ≡ i = eqb-true x i u in
+        let holds : 0 < held s h i X =
+        subst (λ y. 0 < held s h y X) same (owner_holds (counts s h) x p).1 in
+        ⊎_elim (λ z. z) (λ some. absurd (ne (sym (v.one i j holds some)))) (none_or_some (held s h j X))
+
+-- where nobody reads, nobody has shared holds
+nobody_reads : (s : Start) (h : List Entry) → Owned s h → total s.header.seats (λ i. held s h i S) ≡ 0 →
+    (j : ℕ) → held s h j S ≡ 0
+nobody_reads s h v none j = ⊎_elim within (λ l. v.seats j S l) (cases_below j s.header.seats)
+  where
+    within : j < s.header.seats → held s h j S ≡ 0
+    within l =
+        let p = total_part s.header.seats (λ i. held s h i S) j l in
+        omega (arith, p, none)
+
+-- What an entry of a lock does to holds: its seat takes exclusively where nobody else holds anything, takes
+-- to read where nobody else owns and not all may read, or no holds grow.
+data Changes (s : Start) (e : Entry) (h : List Entry) : Type 0 where
+  Writes : (mode : e.mode ≡ X) → (nobody : (j : ℕ) (m : Mode) → j ≢ e.seat → held s h j m ≡ 0) →
+      Changes s e h
+  Reads : (mode : e.mode ≡ S) → (nobody : (j : ℕ) → j ≢ e.seat → held s h j X ≡ 0) →
+      (few : total s.header.seats (λ i. held s h i S) < most_shared s.header.object) →
+      (one : (x : ℕ) → holds_after s.header.object e.word e.n x ≡ x + 1) → Changes s e h
+  Lessens : (less : (x : ℕ) → holds_after s.header.object e.word e.n x ≤ x) → Changes s e h
+
+both : (s : Start) (h : List Entry) (i : ℕ) → ((j : ℕ) → j ≢ i → held s h j X ≡ 0) →
+    ((j : ℕ) → j ≢ i → held s h j S ≡ 0) → (j : ℕ) (m : Mode) → j ≢ i → held s h j m ≡ 0
+both s h i x y j X ne = x j ne
+both s h i x y j S ne = y j ne
+
+-- who could write finds that nobody else holds anything
+could_write : (s : Start) (h : List Entry) (i n : ℕ) → Owned s h → could (counts s h) i X n ≡ true →
+    is_lock s.header.object ≡ true → (j : ℕ) (m : Mode) → j ≢ i → held s h j m ≡ 0
+could_write s h i n v t lock = by s.header.object t lock v.shared
+  where
+    k : Counts
+    k = counts s h
+
+    writes : (b : Bool) → is_seat (owner k) i ≡ b →
+        cond b (ltb (k.held i X) max_shared) (is_none_or (owner k) i && eqb (readers k) 0) ≡ true →
+        (j : ℕ) (m : Mode) → j ≢ i → held s h j m ≡ 0
+    writes true q u =
+        let holds : 0 < held s h i X = (owner_holds (counts s h) i (seat_is (owner (counts s h)) i q)).1 in
+        both s h i
+        (λ j ne. ⊎_elim (λ z. z) (λ some. absurd (ne (sym (v.one i j holds some))))
+        (none_or_some (held s h j X)))
+        (λ j ne. ⊎_elim (λ z. z) (λ some. absurd (ne (sym (v.alone i j holds some))))
+        (none_or_some (held s h j S)))
+    writes false q u =
+        let parts = and_parts (is_none_or (owner (counts s h)) i) (eqb (readers (counts s h)) 0) u in
+        both s h i (others_own_nothing s h i v parts.0)
+        (λ j ne. nobody_reads s h v (eqb-true _ 0 parts.1) j)
+
+    by : (o : Object) → could_of o k i X n ≡ true → is_lock o ≡ true →
+        total s.header.seats (λ j. held s h j S) ≤ most_shared o → (j : ℕ) (m : Mode) → j ≢ i →
+        held s h j m ≡ 0
+    by (Lock policy) u l few =
+        let parts = and_parts (is_none_or (owner (counts s h)) i) (ltb (held s h i X) max_holds) u in
+        both s h i (others_own_nothing s h i v parts.0) (λ j ne. nobody_reads s h v (omega (arith, few)) j)
+    by (ReadWrite policy) u l few = writes (is_seat (owner (counts s h)) i) refl u
+    by (Semaphore policy permits) u l few = absurd (cc)
+    by (Latch opening) u l few = absurd (cc)
+
+-- who could read finds that nobody else owns, and that fewer read than may
+could_read : (s : Start) (h : List Entry) (i n : ℕ) → Owned s h → could (counts s h) i S n ≡ true →
+    is_lock s.header.object ≡ true → ((j : ℕ) → j ≢ i → held s h j X ≡ 0)
+    × (total s.header.seats (λ j. held s h j S) < most_shared s.header.object)
+could_read s h i n v t lock = by s.header.object t lock
+  where
+    by : (o : Object) → could_of o (counts s h) i S n ≡ true → is_lock o ≡ true →
+        ((j : ℕ) → j ≢ i → held s h j X ≡ 0) × (total s.header.seats (λ j. held s h j S) < most_shared o)
+    by (Lock policy) u l = absurd (cc)
+    by (ReadWrite policy) u l =
+        let parts = and_parts (is_none_or (owner (counts s h)) i)
+        (ltb (readers (counts s h)) max_shared) u in
+        (others_own_nothing s h i v parts.0, ltb-true _ max_shared parts.1)
+    by (Semaphore policy permits) u l = absurd (cc)
+    by (Latch opening) u l = absurd (cc)
+
+-- the words by which no holds grow
+abbrev lessens : Word → Bool
+lessens word.Got = false
+lessens word.TryGot = false
+lessens word.Granted = false
+lessens word.Back = false
+lessens word.Drained = false
+lessens _ = true
+
+lessens_by : (o : Object) (w : Word) (n x : ℕ) → lessens w ≡ true → holds_after o w n x ≤ x
+lessens_by o word.Got n x t = absurd (cc)
+lessens_by o word.TryGot n x t = absurd (cc)
+lessens_by o word.Granted n x t = absurd (cc)
+lessens_by o word.Back n x t = absurd (cc)
+lessens_by o word.Drained n x t = absurd (cc)
+lessens_by o word.Gave n x t = omega arith
+lessens_by o word.Await n x t = omega arith
+lessens_by o _ n x t = omega arith
+
+-- a lock is held once by each take
+lock_holds : (o : Object) (n : ℕ) → is_lock o ≡ true → in_holds o n ≡ 1
+lock_holds (Lock p) n t = refl
+lock_holds (ReadWrite p) n t = refl
+lock_holds (Semaphore p c) n t = cc
+lock_holds (Latch c) n t = cc
+
+semaphore_no_lock : (o : Object) → is_semaphore o ≡ true → is_lock o ≡ true → ⊥
+semaphore_no_lock (Lock p) t u = cc
+semaphore_no_lock (ReadWrite p) t u = cc
+semaphore_no_lock (Semaphore p c) t u = cc
+semaphore_no_lock (Latch c) t u = cc
+
+takes_change : (s : Start) (e : Entry) (h : List Entry) (w : Word) → e.word ≡ w → Owned s h →
+    is_lock s.header.object ≡ true
+    → ((n x : ℕ) → holds_after s.header.object w n x ≡ x + in_holds s.header.object n) →
+    could (counts s h) e.seat e.mode e.n ≡ true → Changes s e h
+takes_change s e h w p v lock holds t = by e.mode refl t
+  where
+    one : (x : ℕ) → holds_after s.header.object e.word e.n x ≡ x + 1
+    one x = ap (λ u. holds_after s.header.object u e.n x) p ∙ holds e.n x
+        ∙ ap (λ n. x + n) (lock_holds s.header.object e.n lock)
+
+    by : (m : Mode) → e.mode ≡ m → could (counts s h) e.seat m e.n ≡ true → Changes s e h
+    by X q u = Writes q (could_write s h e.seat e.n v u lock)
+    by S q u = let r = could_read s h e.seat e.n v u lock in Reads q r.0 r.1 one
+
+changes : (s : Start) (e : Entry) (h : List Entry) → is_lock s.header.object ≡ true → Known s h e →
+    Waits s h → Owned s h → Changes s e h
+changes s e h lock known waits v = by e.word refl known
+  where
+    less : lessens e.word ≡ true → Changes s e h
+    less t = Lessens (λ x. lessens_by s.header.object e.word e.n x t)
+
+    by : (w : Word) → e.word ≡ w → KnownBy s h e w → Changes s e h
+    by word.Got p k = takes_change s e h word.Got p v lock (λ n x. refl) k.1
+    by word.TryGot p k = takes_change s e h word.TryGot p v lock (λ n x. refl) k.1
+    by word.Granted p k =
+        let c = ready_could s h e.seat k.0 k.2 k.1.stands in
+        let m : e.mode ≡ k.0.mode = ap (λ (x : Entry). x.mode) k.1.entry in
+        let n : e.n ≡ k.0.n = ap (λ (x : Entry). x.n) k.1.entry in
+        takes_change s e h word.Granted p v lock (λ n x. refl) (ap (λ x. could (counts s h) e.seat x e.n) m
+        ∙ ap (could (counts s h) e.seat k.0.mode) n ∙ c)
+    by word.Back p k =
+        let b = placed (SavedIfBack s h) e.seat (line s h) k.0 waits.line k.1 k.2 in
+        let c = ready_could s h e.seat k.0 k.3 k.1 in
+        Writes (ap (λ (x : Entry). x.mode) k.4)
+        (could_write s h e.seat k.0.n v (ap (λ m. could (counts s h) e.seat m k.0.n) (sym b.mode)
+        ∙ c) lock)
+    by word.Drained p k = absurd (semaphore_no_lock s.header.object k.1 lock)
+    by word.Queued p k = less (ap lessens p)
+    by word.Missed p k = less (ap lessens p)
+    by word.Left p k = less (ap lessens p)
+    by word.Gave p k = less (ap lessens p)
+    by (word.Refused f) p k = less (ap lessens p)
+    by word.Await p k = less (ap lessens p)
+    by word.Lapse p k = less (ap lessens p)
+    by word.Signal p k = less (ap lessens p)
+    by word.SignalAll p k = less (ap lessens p)
+    by word.Counted p k = less (ap lessens p)
+
+-- the holds after an entry
+held_less : (s : Start) (e : Entry) (h : List Entry) →
+    ((x : ℕ) → holds_after s.header.object e.word e.n x ≤ x) → (i : ℕ) (m : Mode) →
+    held s (e ∷ h) i m ≤ held s h i m
+held_less s e h less i m = by (eqb e.seat i && same_mode e.mode m)
+  where
+    by : (b : Bool) →
+        cond b (holds_after s.header.object e.word e.n (held s h i m)) (held s h i m) ≤ held s h i m
+    by true = less (held s h i m)
+    by false = omega arith
+
+other_mode : (s : Start) (e : Entry) (h : List Entry) (i : ℕ) (m n : Mode) → e.mode ≡ m →
+    same_mode m n ≡ false → held s (e ∷ h) i n ≡ held s h i n
+other_mode s e h i m n p t = by (eqb e.seat i) _ (ap (λ x. same_mode x n) p ∙ t)
+  where
+    by : (b c : Bool) → c ≡ false →
+        cond (b && c) (holds_after s.header.object e.word e.n (held s h i n)) (held s h i n) ≡ held s h i n
+    by true c q = rw q refl
+    by false c q = refl
+
+total_less : (n : ℕ) (f g : ℕ → ℕ) → ((i : ℕ) → f i ≤ g i) → total n f ≤ total n g
+total_less zero f g less = omega arith
+total_less (suc n) f g less = let ih = total_less n f g less in let l = less n in omega (arith, ih, l)
+
+-- nobody but the entry's seat has what nobody else has
+own_alone : (s : Start) (e : Entry) (h : List Entry) (m : Mode) →
+    ((j : ℕ) → j ≢ e.seat → held s h j m ≡ 0) → (i : ℕ) → 0 < held s (e ∷ h) i m → i ≡ e.seat
+own_alone s e h m nobody i some = ⊎_elim (λ same. same) (λ ne. absurd (none ne)) (cases_eq i e.seat)
+  where
+    none : (i ≡ e.seat → ⊥) → ⊥
+    none ne =
+        let a : held s (e ∷ h) i m ≡ held s h i m = held_other s e h i m (λ q. ne (sym q)) in
+        let b : held s h i m ≡ 0 = nobody i ne in
+        omega (arith, a, b, some)
+
+seats_next : (s : Start) (e : Entry) (h : List Entry) → e.seat < s.header.seats → Owned s h →
+    (i : ℕ) (m : Mode) → s.header.seats ≤ i → held s (e ∷ h) i m ≡ 0
+seats_next s e h seat v i m l = held_other s e h i m (λ q. absurd (omega (arith, seat, l, q)))
+    ∙ v.seats i m l
+
+shared_by_one : (s : Start) (e : Entry) (h : List Entry) → e.mode ≡ S → e.seat < s.header.seats →
+    ((x : ℕ) → holds_after s.header.object e.word e.n x ≡ x + 1) →
+    total s.header.seats (λ i. held s (e ∷ h) i S) ≡ total s.header.seats (λ i. held s h i S) + 1
+shared_by_one s e h m seat one =
+    let c : total s.header.seats (λ i. held s (e ∷ h) i S) + held s h e.seat S
+    ≡ total s.header.seats (λ i. held s h i S) + held s (e ∷ h) e.seat S =
+    total_change s.header.seats (λ i. held s (e ∷ h) i S) (λ i. held s h i S) e.seat seat
+    (λ i ne. held_other s e h i S (λ q. ne (sym q))) in
+    let d : held s (e ∷ h) e.seat S ≡ held s h e.seat S + 1 = at in
+    omega (arith, c, d)
+  where
+    at : held s (e ∷ h) e.seat S ≡ held s h e.seat S + 1
+    at = rw (eq-eqb e.seat e.seat refl)
+        (ap (λ x. cond (same_mode x S) (holds_after s.header.object e.word e.n (held s h e.seat S))
+        (held s h e.seat S)) m ∙ one _)
+
+owned_next : (s : Start) (e : Entry) (h : List Entry) → e.seat < s.header.seats → Owned s h →
+    Changes s e h → Owned s (e ∷ h)
+owned_next s e h seat v (Writes mode nobody) =
+    record {
+      one = λ i j a b. own_alone s e h X (λ x ne. nobody x X ne) i a
+          ∙ sym (own_alone s e h X (λ x ne. nobody x X ne) j b);
+      alone = λ i j a b. own_alone s e h X (λ x ne. nobody x X ne) i a
+          ∙ sym (own_alone s e h S (λ x ne. nobody x S ne) j b);
+      shared = subst (λ n. n ≤ most_shared s.header.object)
+          (total_same s.header.seats _ _ (λ i. sym (other_mode s e h i X S mode refl))) v.shared;
+      seats = seats_next s e h seat v;
+    }
+owned_next s e h seat v (Reads mode nobody few one) =
+    record {
+      one = λ i j a b. own_alone s e h X nobody i a ∙ sym (own_alone s e h X nobody j b);
+      alone = λ i j a b. beside i j (own_alone s e h X nobody i a)
+          (subst (λ n. 0 < n) (other_mode s e h i S X mode refl) a) b (cases_eq j e.seat);
+      shared = let t = shared_by_one s e h mode seat one in omega (arith, t, few);
+      seats = seats_next s e h seat v;
+    }
+  where
+    beside : (i j : ℕ) → i ≡ e.seat → 0 < held s h i X → 0 < held s (e ∷ h) j S →
+        (j ≡ e.seat) ⊎ (j ≡ e.seat → ⊥) → i ≡ j
+    beside i j p a b (inl q) = p ∙ sym q
+    beside i j p a b (inr ne) =
+        v.alone i j a (subst (λ n. 0 < n) (held_other s e h j S (λ q. ne (sym q))) b)
+owned_next s e h seat v (Lessens less) =
+    record {
+      one = λ i j a b. v.one i j (was i X a) (was j X b);
+      alone = λ i j a b. v.alone i j (was i X a) (was j S b);
+      shared = let t = total_less s.header.seats _ _ (λ i. held_less s e h less i S) in let f = v.shared in
+          omega (arith, t, f);
+      seats = seats_next s e h seat v;
+    }
+  where
+    was : (i : ℕ) (m : Mode) → 0 < held s (e ∷ h) i m → 0 < held s h i m
+    was i m a = let l = held_less s e h less i m in omega (arith, l, a)
+
+owned_from : (k : Header) (h : List Entry) → is_lock k.object ≡ true → IsLegal (opening k) h →
+    AreSeated (opening k) h → Owned (opening k) h
+owned_from k [] lock legal seats =
+    record {
+      one = λ i j a b. absurd (omega (arith, a));
+      alone = λ i j a b. absurd (omega (arith, a));
+      shared = let z = total_nothing k.seats in omega (arith, z);
+      seats = λ i m l. refl;
+    }
+owned_from k (e ∷ h) lock legal seats =
+    let v = owned_from k h lock legal.1 seats.1 in
+    owned_next (opening k) e h seats.0 v
+    (changes (opening k) e h lock (known (opening k) h legal.0.0 e legal.0.1) (waits k h legal.1) v)
+
+same_limit : (o : Object) → most_holds o ≡ most_exclusive o
+same_limit (Lock p) = refl
+same_limit (ReadWrite p) = refl
+same_limit (Semaphore p c) = refl
+same_limit (Latch c) = refl
+
+-- a lock or read-write lock has one owner at most, nobody else reads beside it, and holds have their limits
+pub owned : (k : Header) (h : List Entry) → is_lock k.object ≡ true → IsLegal (opening k) h →
+    AreSeated (opening k) h → IsOwned (opening k) h
+owned k h lock legal seats =
+    let v = owned_from k h lock legal seats in
+    record {
+      one = v.one;
+      alone = v.alone;
+      exclusive = λ i. ⊎_elim
+          (λ l. subst (λ n. held (opening k) h i X ≤ n) (same_limit k.object)
+          ((waits k h legal).holds i l lock))
+          (λ l. let z = v.seats i X l in omega (arith, z)) (cases_below i k.seats);
+      shared = v.shared;
+    }
+
+-- who is away saved its holds
+pub saved_away : (k : Header) (h : List Entry) → IsLegal (opening k) h → (i : ℕ) →
+    is_away (phase (opening k) h i) ≡ true → IsSaved (opening k) h i
+saved_away k h legal i t =
+    by (place_of i (line s h)) (sleeps_below k.conditions s h i) refl refl t
+  where
+    s : Start
+    s = opening k
+
+    v : Waits s h
+    v = waits k h legal
+
+    as_saved : Saved s h i → IsSaved s h i
+    as_saved r =
+        record {
+          nothing = r.nothing;
+          some = r.some;
+          most = subst (λ n. (last_sleep s h i).holds ≤ n) (same_limit k.object) r.most;
+        }
+
+    by : (o : Option Arrival) (b : Bool) → place_of i (line s h) ≡ o →
+        sleeps_below k.conditions s h i ≡ b → is_away (phase_by o b) ≡ true → IsSaved s h i
+    by (Some a) b p q u =
+        as_saved (subst (Saved s h) (place_once i (line s h) a p).0 (placed (SavedIfBack s h) i (line s h) a v.line p u).saved)
+    by None true p q u =
+        let at = sleeps_at k.conditions s h i q in
+        as_saved (v.sleepers at.0 i at.2).saved
+    by None false p q u = absurd (cc)

@@ -1,0 +1,275 @@
+-- Nobody in line is passed in a legal history.
+use Rattle.std.proofs.Common.{◌≡◌, ◌⊎◌, inl, inr, ⊎_elim, ℕ, ◌<◌, Bool, true, false, ◌&&◌, cond, eqb, leb, List, [], ◌∷◌, ◌++◌, length, map, Option, Some, None, refl, ap, ◌∙◌, sym, subst, arith}
+use Rattle.std.specs.List.{filter, AllByRecursion}
+use Rattle.std.proofs.lemmas.List.Elements.{filter-append}
+use Rattle.std.proofs.lemmas.List.{map-append}
+use Rattle.std.proofs.lemmas.Bool.{and_parts, eqb-true, eq-eqb}
+use Rattle.history.specs.declared.arrival.Arrival.{Arrival}
+use Rattle.history.specs.declared.entry.Entry.{Entry}
+use Rattle.history.specs.declared.entry.Mode.{Mode}
+use Rattle.history.specs.declared.entry.Word.{Word}
+use Rattle.history.specs.declared.entry.Word.TheVariants as word
+use Rattle.history.specs.declared.header.Header.{Header}
+use Rattle.history.specs.declared.header.Object.{Object}
+use Rattle.history.specs.declared.header.Object.TheVariants.{Lock, ReadWrite, Semaphore, Latch}
+use Rattle.history.specs.declared.header.Policy.TheVariants.{Fair, NonFair}
+use Rattle.history.specs.Could.{held_back, is_reentrant, line_blocks}
+use Rattle.history.specs.Counts.{counts}
+use Rattle.history.specs.Entry.{ends_arrival}
+use Rattle.history.specs.Legal.{IsLegal}
+use Rattle.history.specs.Line.{Arrived, arrived_at, arrivals, arrivals_by, Ending, ending, first_ending, is_open, stands, line, first_of, mode_of, first_mode, place_of}
+use Rattle.history.specs.Naming.{ready}
+use Rattle.history.specs.Object.{is_fair}
+use Rattle.history.specs.Order.{is_passage, EndedBefore, IsInOrder, IsFairOrder}
+use Rattle.history.specs.Start.{Start, opening}
+use Rattle.history.specs.Waiting.{StandOnce}
+use Rattle.history.proofs.Entering.{Known, KnownBy, known}
+use Rattle.history.proofs.LineLemmas.{ending_past, no_arrival}
+use Rattle.history.proofs.OneWait.{Waits, waits_from, opening_waits}
+use Rattle.history.proofs.Owners.{ready_first}
+use Rattle.history.proofs.WhoWaits.{stand_once}
+
+some_same : {A : Type 0} {x y : A} → Some x ≡ Some y → x ≡ y
+some_same q = cc
+
+some_none : {A : Type 0} {x : A} → Some x ≡ None → ⊥
+some_none q = cc
+
+-- what an entry makes of an ending
+abbrev ends_it : Entry → ℕ → ℕ → ℕ → Bool
+ends_it e i from n = (ends_arrival e.word && eqb e.seat i) && leb from n
+
+ending_more : (e : Entry) (h : List Entry) (i from : ℕ) →
+    ending (e ∷ h) i from ≡ first_ending (ending h i from) (ends_it e i from (length h))
+    (record { place = length h; word = e.word })
+ending_more e h i from = refl
+
+later_is : (o : Option Ending) (b : Bool) (y x : Ending) → first_ending o b y ≡ Some x → (o ≡ Some x)
+    ⊎ ((o ≡ None) × (b ≡ true) × (y ≡ x))
+later_is (Some z) b y x q = inl q
+later_is None true y x q = inr (refl, refl, some_same q)
+later_is None false y x q = cc
+
+later_kept : (o : Option Ending) (b : Bool) (y x : Ending) → o ≡ Some x → first_ending o b y ≡ Some x
+later_kept (Some z) b y x q = q
+later_kept None b y x q = cc
+
+-- an ending has a number below the length
+ending_below : (h : List Entry) (i from : ℕ) (x : Ending) → ending h i from ≡ Some x → x.place < length h
+ending_below [] i from x q = cc
+ending_below (e ∷ h) i from x q =
+    ⊎_elim (λ o. let l : x.place < length h = ending_below h i from x o in omega (arith, l))
+    (λ w. let d : length h ≡ x.place = ap (λ (y : Ending). y.place) w.2 in omega (arith, d))
+    (later_is (ending h i from) (ends_it e i from (length h)) (record { place = length h; word = e.word }) x
+    q)
+
+-- what has ended stays so
+kept_ended : (e : Entry) (h : List Entry) (p : ℕ) (a : Arrived) → EndedBefore h p a → EndedBefore (e ∷ h) p a
+kept_ended e h p a w = record {
+  end = w.end;
+  is = later_kept (ending h a.who.seat a.place)
+      (ends_it e a.who.seat a.place (length h)) (record { place = length h; word = e.word }) w.end w.is;
+  before = w.before;
+}
+
+all_kept : (e : Entry) (h : List Entry) (p : ℕ) (xs : List Arrived) → AllByRecursion (EndedBefore h p) xs →
+    AllByRecursion (EndedBefore (e ∷ h) p) xs
+all_kept e h p [] all = tt
+all_kept e h p (x ∷ xs) all = (kept_ended e h p x all.0, all_kept e h p xs all.1)
+
+-- whoever doesn't stand has ended
+gone : (h : List Entry) (a : Arrived) → stands h a ≡ false → EndedBefore h (length h) a
+gone h a f = by (ending h a.who.seat a.place) refl f
+  where
+    by : (o : Option Ending) → ending h a.who.seat a.place ≡ o → is_open o ≡ false → EndedBefore h (length h) a
+    by None q t = cc
+    by (Some x) q t = record { end = x; is = q; before = ending_below h a.who.seat a.place x q }
+
+-- where nobody of these stands, all have ended
+all_gone : (h : List Entry) (xs : List Arrived) → filter (stands h) xs ≡ [] →
+    AllByRecursion (EndedBefore h (length h)) xs
+all_gone h [] q = tt
+all_gone h (x ∷ xs) q = by (stands h x) refl q (λ r. all_gone h xs r)
+  where
+    by : (b : Bool) → stands h x ≡ b → cond b (x ∷ filter (stands h) xs) (filter (stands h) xs) ≡ [] →
+        (filter (stands h) xs ≡ [] → AllByRecursion (EndedBefore h (length h)) xs) →
+        AllByRecursion (EndedBefore h (length h)) (x ∷ xs)
+    by true t r ih = cc
+    by false t r ih = (gone h x t, ih r)
+
+map_nil : (xs : List Arrived) → map (λ a. a.who) xs ≡ [] → xs ≡ []
+map_nil [] q = refl
+map_nil (x ∷ xs) q = cc
+
+no_first : (q : List Arrival) → mode_of (first_of q) ≡ None → q ≡ []
+no_first [] e = refl
+no_first (a ∷ q) e = cc
+
+-- a fair object with somebody in line holds back what isn't reentrant
+not_blocked : (o : Object) (m : Mode) (first : Option Mode) → is_fair o ≡ true →
+    line_blocks o m first ≡ false → first ≡ None
+not_blocked o m None f b = refl
+not_blocked (Lock Fair) m (Some x) f b = cc
+not_blocked (Lock NonFair) m (Some x) f b = cc
+not_blocked (ReadWrite Fair) m (Some x) f b = cc
+not_blocked (ReadWrite NonFair) m (Some x) f b = cc
+not_blocked (Semaphore Fair c) m (Some x) f b = cc
+not_blocked (Semaphore NonFair c) m (Some x) f b = cc
+not_blocked (Latch c) m (Some x) f b = cc
+
+-- in a fair object a new call that isn't reentrant takes only where nobody waits
+pub fair_order : (s : Start) (h : List Entry) → IsLegal s h → IsFairOrder s h
+fair_order s [] l = tt
+fair_order s (e ∷ h) l = (now, fair_order s h l.1)
+  where
+    got : (w : Word) → w ≡ word.Got → KnownBy s h e w →
+        held_back (counts s h) (first_mode s h) e.seat e.mode ≡ false
+    got w q x = let P : Word → Type 0 = λ v. KnownBy s h e v in let y : P word.Got = subst P q x in y.2
+
+    now : e.word ≡ word.Got → is_fair s.header.object ≡ true →
+        is_reentrant (counts s h) e.seat e.mode ≡ false →
+        AllByRecursion (EndedBefore h (length h)) (arrivals s h)
+    now g f r =
+        let b : held_back (counts s h) (first_mode s h) e.seat e.mode ≡ false =
+        got e.word g (known s h l.0.0 e l.0.1) in
+        let c : line_blocks s.header.object e.mode (first_mode s h) ≡ false = rw r at b in
+        let n : first_mode s h ≡ None = not_blocked s.header.object e.mode _ f c in
+        all_gone h (arrivals s h) (map_nil _ (no_first (line s h) n))
+
+found : (i : ℕ) (q : List Arrival) (b : Arrival) (r : List Arrival) → b.seat ≡ i →
+    place_of i (q ++ b ∷ r) ≡ None → ⊥
+found i [] b r s n = let t : eqb b.seat i ≡ true =
+    eq-eqb b.seat i s in let x : cond true (Some b) (place_of i r) ≡ None = rw t at n in some_none x
+found i (a ∷ q) b r s n = by (eqb a.seat i) n (λ m. found i q b r s m)
+  where
+    by : (t : Bool) → cond t (Some a) (place_of i (q ++ b ∷ r)) ≡ None →
+        (place_of i (q ++ b ∷ r) ≡ None → ⊥) → ⊥
+    by true m ih = some_none m
+    by false m ih = ih m
+
+-- whoever is first finds nobody before it
+nobody_before : (s : Start) (h : List Entry) (before after : List Arrived) (b : Arrived) →
+    arrivals s h ≡ before ++ b ∷ after → stands h b ≡ true → StandOnce (line s h) → (f : Arrival) →
+    first_of (line s h) ≡ Some f → f.seat ≡ b.who.seat → filter (stands h) before ≡ []
+nobody_before s h before after b split st apart f first same =
+    let parts : line s h ≡ map (λ a. a.who) (filter (stands h) before) ++ b.who ∷ map (λ a. a.who)
+    (filter (stands h) after) =
+    ap (λ xs. map (λ a. a.who) (filter (stands h) xs)) split
+    ∙ ap (map (λ a. a.who)) (filter-append (stands h) before (b ∷ after))
+    ∙ map-append (λ a. a.who) (filter (stands h) before) (filter (stands h) (b ∷ after))
+    ∙ ap (λ t. map (λ a. a.who) (filter (stands h) before) ++ map (λ a. a.who)
+    (cond t (b ∷ filter (stands h) after) (filter (stands h) after))) st in
+    by (filter (stands h) before) (line s h) parts apart first
+  where
+    by : (xs : List Arrived) (q : List Arrival) →
+        q ≡ map (λ a. a.who) xs ++ b.who ∷ map (λ a. a.who) (filter (stands h) after) → StandOnce q →
+        first_of q ≡ Some f → xs ≡ []
+    by [] q p ap_ fi = refl
+    by (x ∷ xs) q p ap_ fi =
+        let P : List Arrival → Type 0 = λ l. StandOnce l in
+        let Q : List Arrival → Type 0 = λ l. first_of l ≡ Some f in
+        let g : x.who ≡ f = some_same (subst Q p fi) in
+        let s : b.who.seat ≡ x.who.seat = sym same ∙ sym (ap (λ (y : Arrival). y.seat) g) in
+        absurd (found x.who.seat (map (λ a. a.who) xs) b.who (map (λ a. a.who) (filter (stands h) after)) s
+        (subst P p ap_).0)
+
+heads : {x y : Arrived} {xs ys : List Arrived} → x ∷ xs ≡ y ∷ ys → x ≡ y
+heads q = cc
+
+tails : {x y : Arrived} {xs ys : List Arrived} → x ∷ xs ≡ y ∷ ys → xs ≡ ys
+tails q = cc
+
+cons_nil : {A : Type 0} {x : A} {xs : List A} → x ∷ xs ≡ [] → ⊥
+cons_nil q = cc
+
+nil_cons : {A : Type 0} {x : A} {xs : List A} → [] ≡ x ∷ xs → ⊥
+nil_cons q = cc
+
+-- where a member of two lists joined stands
+abbrev Parted : List Arrived → List Arrived → List Arrived → Arrived → List Arrived → Type 0
+Parted xs ys before b after =
+    ((rest : List Arrived) × (xs ≡ before ++ b ∷ rest)) ⊎ ((more : List Arrived) × (ys ≡ more ++ b ∷ after))
+
+parted : (xs ys before : List Arrived) (b : Arrived) (after : List Arrived) →
+    xs ++ ys ≡ before ++ b ∷ after → Parted xs ys before b after
+parted [] ys before b after q = inr (before, q)
+parted (x ∷ xs) ys [] b after q =
+    let e : x ≡ b = heads q in
+    inl (xs, ap (λ y. y ∷ xs) e)
+parted (x ∷ xs) ys (y ∷ before) b after q =
+    let e : x ≡ y = heads q in
+    let t : xs ++ ys ≡ before ++ b ∷ after = tails q in
+    ⊎_elim (λ w. inl (w.0, ap (λ z. z ∷ xs) e ∙ ap (λ l. y ∷ l) w.1)) (λ w. inr w)
+    (parted xs ys before b after t)
+
+-- each new arrival has the entry's number
+new_place : (n : ℕ) (xs : List Arrival) (more : List Arrived) (b : Arrived) (after : List Arrived) →
+    map (arrived_at n) xs ≡ more ++ b ∷ after → (b.place ≡ n) × (xs ≡ [] → ⊥)
+new_place n [] [] b after q = cc
+new_place n [] (m ∷ more) b after q = cc
+new_place n (x ∷ xs) [] b after q = (ap (λ (a : Arrived). a.place) (sym (heads q)), λ z. cons_nil z)
+new_place n (x ∷ xs) (m ∷ more) b after q = ((new_place n xs more b after (tails q)).0, λ z. cons_nil z)
+
+-- who is granted or comes back was ready
+passer : (s : Start) (h : List Entry) (e : Entry) (w : Word) → is_passage w ≡ true → KnownBy s h e w →
+    ready s h ≡ Some e.seat
+passer s h e word.Granted t x = x.2
+passer s h e word.Back t x = x.3
+passer s h e _ t x = cc
+
+stands_none : (h : List Entry) (b : Arrived) → ending h b.who.seat b.place ≡ None → stands h b ≡ true
+stands_none h b q = rw q refl
+
+-- one that arrives by an entry isn't ended by it
+new_case : (s : Start) (e : Entry) (h : List Entry) (more after : List Arrived) (b : Arrived) (x : Ending) →
+    map (arrived_at (length h)) (arrivals_by s e.word e h) ≡ more ++ b ∷ after →
+    ending (e ∷ h) b.who.seat b.place ≡ Some x → ⊥
+new_case s e h more after b x split q =
+    let n = new_place (length h) (arrivals_by s e.word e h) more b after split in
+    let past : ending h b.who.seat b.place ≡ None =
+    ending_past h b.who.seat b.place (omega (arith, n.0)) in
+    ⊎_elim (λ o. some_none (sym o ∙ past))
+    (λ w. n.1 (no_arrival s e.word e h (and_parts _ _ (and_parts _ _ w.1).0).0))
+    (later_is (ending h b.who.seat b.place) (ends_it e b.who.seat b.place (length h))
+    (record { place = length h; word = e.word }) x q)
+
+-- one that was there before: it ended before, or by this entry
+old_case : (s : Start) (e : Entry) (h : List Entry) (before rest : List Arrived) (b : Arrived)
+    (x : Ending) → IsInOrder s h → StandOnce (line s h) → Known s h e → arrivals s h ≡ before ++ b ∷ rest →
+    ending (e ∷ h) b.who.seat b.place ≡ Some x → is_passage x.word ≡ true →
+    AllByRecursion (EndedBefore (e ∷ h) x.place) before
+old_case s e h before rest b x ih apart is split q passage =
+    ⊎_elim earlier now (later_is (ending h b.who.seat b.place) (ends_it e b.who.seat b.place (length h))
+    (record { place = length h; word = e.word }) x q)
+  where
+    earlier : ending h b.who.seat b.place ≡ Some x → AllByRecursion (EndedBefore (e ∷ h) x.place) before
+    earlier o = all_kept e h x.place before (ih before rest b x split o passage)
+
+    now : (ending h b.who.seat b.place ≡ None) × (ends_it e b.who.seat b.place (length h) ≡ true)
+        × (record { place = length h; word = e.word } ≡ x) →
+        AllByRecursion (EndedBefore (e ∷ h) x.place) before
+    now w =
+        let place : length h ≡ x.place = ap (λ (y : Ending). y.place) w.2 in
+        let same_word : e.word ≡ x.word = ap (λ (y : Ending). y.word) w.2 in
+        let pass : is_passage e.word ≡ true = ap is_passage same_word ∙ passage in
+        let seat : e.seat ≡ b.who.seat =
+        eqb-true e.seat b.who.seat (and_parts (ends_arrival e.word) (eqb e.seat b.who.seat)
+        (and_parts (ends_arrival e.word && eqb e.seat b.who.seat) (leb b.place (length h)) w.1).0).1 in
+        let first = ready_first (counts s h) (line s h) e.seat (passer s h e e.word pass is) in
+        let none = nobody_before s h before rest b split (stands_none h b w.0) apart first.0 first.1
+        (first.2 ∙ seat) in
+        let P : ℕ → Type 0 = λ n. AllByRecursion (EndedBefore (e ∷ h) n) before in
+        subst P place (all_kept e h (length h) before (all_gone h before none))
+
+-- nobody in line is passed
+pub in_order_from : (s : Start) (h : List Entry) → Waits s [] → IsLegal s h → IsInOrder s h
+in_order_from s [] v l before after b x split end passage = cc
+in_order_from s (e ∷ h) v l before after b x split end passage =
+    ⊎_elim
+    (λ w. old_case s e h before w.0 b x (in_order_from s h v l.1)
+    (stand_once s h (waits_from s h v l.1).once) (known s h l.0.0 e l.0.1) w.1 end passage)
+    (λ w. absurd (new_case s e h w.0 after b x w.1 end))
+    (parted (arrivals s h) (map (arrived_at (length h)) (arrivals_by s e.word e h)) before b after split)
+
+pub in_order : (k : Header) (h : List Entry) → IsLegal (opening k) h → IsInOrder (opening k) h
+in_order k h l = in_order_from (opening k) h (opening_waits k) l

@@ -1,0 +1,352 @@
+-- The permits of a semaphore: held and free, they are conserved, and neither number leaves its range.
+use Rattle.std.proofs.Common.{◌≡◌, ◌≢◌, ◌⊎◌, inl, inr, ⊎_elim, ℕ, zero, suc, ◌+◌, ◌-◌, ◌*◌, ◌<◌, ◌≤◌, Bool, true, false, ◌&&◌, cond, eqb, ltb, List, [], ◌∷◌, length, Option, Some, None, refl, ap, ◌∙◌, sym, subst, arith}
+use Rattle.std.specs.Prelude.{ℤ, pos, negsuc, ◌+ℤ◌, ◌-ℤ◌, ◌≤ℤ◌, int_le, int_lt, FitsSigned}
+use Rattle.std.specs.Int.{w32}
+use Rattle.std.specs.List.{AllByRecursion}
+use Rattle.std.proofs.lemmas.Bool.{cases_Bool, eq-eqb, ne_eqb, false≢true}
+use Rattle.std.proofs.lemmas.Int.{ints}
+use Rattle.history.specs.declared.entry.Entry.{Entry}
+use Rattle.history.specs.declared.entry.Mode.{Mode}
+use Rattle.history.specs.declared.entry.Mode.TheVariants.{X, S}
+use Rattle.history.specs.declared.entry.Word.{Word}
+use Rattle.history.specs.declared.entry.Word.TheVariants as word
+use Rattle.history.specs.declared.fault.Fault.{Fault}
+use Rattle.history.specs.declared.fault.Fault.TheVariants as fault
+use Rattle.history.specs.declared.header.Header.{Header}
+use Rattle.history.specs.declared.header.Object.{Object}
+use Rattle.history.specs.declared.header.Object.TheVariants.{Lock, ReadWrite, Semaphore, Latch}
+use Rattle.history.specs.Conservation.{IsConserved, permits_held}
+use Rattle.history.specs.Could.{could, could_of}
+use Rattle.history.specs.Counts.{Counts, counts, held, holds_after, beyond, free, free_after, unheld, total}
+use Rattle.history.specs.Entry.{same_mode}
+use Rattle.history.specs.Faults.{lacks_mode}
+use Rattle.history.specs.Header.{IsInRange, IsOpening}
+use Rattle.history.specs.Legal.{IsLegal, AreSeated}
+use Rattle.history.specs.Line.{line, place_of}
+use Rattle.history.specs.Object.{created, in_holds, is_lock, is_semaphore}
+use Rattle.history.specs.Start.{Start, opening}
+use Rattle.history.specs.Steps.{at_least_none, gave, plain}
+use Rattle.history.proofs.Entering.{Known, KnownBy, known}
+use Rattle.history.proofs.OneWait.{Waits, SavedIfBack, placed, waits}
+use Rattle.history.proofs.Owners.{ready_could}
+use Rattle.history.proofs.RoomLemmas.{total_nothing}
+use Rattle.history.proofs.Sums.{total_change, total_same}
+
+-- a semaphore is no lock, has the shared mode alone and holds what is asked for
+semaphore_no_lock : (o : Object) → is_semaphore o ≡ true → is_lock o ≡ true → ⊥
+semaphore_no_lock (Lock p) t u = cc
+semaphore_no_lock (ReadWrite p) t u = cc
+semaphore_no_lock (Semaphore p c) t u = cc
+semaphore_no_lock (Latch c) t u = cc
+
+semaphore_holds : (o : Object) (n : ℕ) → is_semaphore o ≡ true → in_holds o n ≡ n
+semaphore_holds (Lock p) n t = cc
+semaphore_holds (ReadWrite p) n t = cc
+semaphore_holds (Semaphore p c) n t = refl
+semaphore_holds (Latch c) n t = cc
+
+-- what could be taken of a semaphore is shared, and free
+semaphore_could : (o : Object) (k : Counts) (i : ℕ) (m : Mode) (n : ℕ) → is_semaphore o ≡ true →
+    could_of o k i m n ≡ true → (m ≡ S) × (int_le (pos 0) (k.free -ℤ pos n) ≡ true)
+semaphore_could (Semaphore p c) k i S n t u = (refl, u)
+semaphore_could (Semaphore p c) k i X n t u = absurd (cc)
+semaphore_could (Lock p) k i m n t u = absurd (cc)
+semaphore_could (ReadWrite p) k i m n t u = absurd (cc)
+semaphore_could (Latch c) k i m n t u = absurd (cc)
+
+semaphore_gave : (o : Object) (k : Counts) (i : ℕ) (m : Mode) (n : ℕ) → is_semaphore o ≡ true →
+    lacks_mode o m ≡ false → gave o k i m n ≡ word.Gave → (m ≡ S)
+    × (int_lt (pos 2147483647) (k.free +ℤ pos n) ≡ false)
+semaphore_gave (Semaphore p c) k i S n t u g = (refl, by (int_lt (pos 2147483647) (k.free +ℤ pos n)) refl g)
+  where
+    by : (b : Bool) → int_lt (pos 2147483647) (k.free +ℤ pos n) ≡ b →
+        cond b (word.Refused fault.TooManyPermits) word.Gave ≡ word.Gave → b ≡ false
+    by true q r = cc
+    by false q r = refl
+semaphore_gave (Semaphore p c) k i X n t u g = absurd (cc)
+semaphore_gave (Lock p) k i m n t u g = absurd (cc)
+semaphore_gave (ReadWrite p) k i m n t u g = absurd (cc)
+semaphore_gave (Latch c) k i m n t u g = absurd (cc)
+
+-- What an entry of a semaphore does to permits: it takes what is free, gives back, takes all, or nothing.
+data Moves (s : Start) (e : Entry) (h : List Entry) : Type 0 where
+  Takes : (shared : e.mode ≡ S) → (there : int_le (pos 0) (free s h -ℤ pos e.n) ≡ true) →
+      (holds : (x : ℕ) → holds_after s.header.object e.word e.n x ≡ x + e.n) →
+      (frees : free s (e ∷ h) ≡ free s h -ℤ pos e.n) → (own : (x : ℕ) → beyond e.word e.n x ≡ 0) →
+      Moves s e h
+  Gives : (shared : e.mode ≡ S) → (below : int_lt (pos 2147483647) (free s h +ℤ pos e.n) ≡ false) →
+      (holds : (x : ℕ) → holds_after s.header.object e.word e.n x ≡ x - e.n) →
+      (frees : free s (e ∷ h) ≡ free s h +ℤ pos e.n) → (own : (x : ℕ) → beyond e.word e.n x ≡ e.n - x) →
+      Moves s e h
+  Drains : (shared : e.mode ≡ S) → (all : e.n ≡ at_least_none (free s h)) →
+      (holds : (x : ℕ) → holds_after s.header.object e.word e.n x ≡ x + e.n) →
+      (frees : free s (e ∷ h) ≡ free s h -ℤ pos e.n) → (own : (x : ℕ) → beyond e.word e.n x ≡ 0) →
+      Moves s e h
+  Keeps : (holds : (x : ℕ) → holds_after s.header.object e.word e.n x ≡ x) →
+      (frees : free s (e ∷ h) ≡ free s h) → (own : (x : ℕ) → beyond e.word e.n x ≡ 0) → Moves s e h
+
+-- a word's number of permits
+module _ (s : Start) (e : Entry) (h : List Entry) (w : Word) (p : e.word ≡ w) where
+  holds_as : (x y : ℕ) → holds_after s.header.object w e.n x ≡ y →
+      holds_after s.header.object e.word e.n x ≡ y
+  holds_as x y q = ap (λ v. holds_after s.header.object v e.n x) p ∙ q
+
+  frees_as : (y : ℤ) → free_after w e.n (free s h) ≡ y → free s (e ∷ h) ≡ y
+  frees_as y q = ap (λ v. free_after v e.n (free s h)) p ∙ q
+
+  own_as : (x y : ℕ) → beyond w e.n x ≡ y → beyond e.word e.n x ≡ y
+  own_as x y q = ap (λ v. beyond v e.n x) p ∙ q
+
+-- the words that leave permits alone
+abbrev idles : Word → Bool
+idles word.Queued = true
+idles word.Missed = true
+idles word.Left = true
+idles (word.Refused f) = true
+idles word.Lapse = true
+idles word.Signal = true
+idles word.SignalAll = true
+idles word.Counted = true
+idles _ = false
+
+keeps_by : (o : Object) (w : Word) (n x : ℕ) (f : ℤ) → idles w ≡ true →
+    (holds_after o w n x ≡ x) × (free_after w n f ≡ f) × (beyond w n x ≡ 0)
+keeps_by o word.Queued n x f t = (refl, refl, refl)
+keeps_by o word.Missed n x f t = (refl, refl, refl)
+keeps_by o word.Left n x f t = (refl, refl, refl)
+keeps_by o (word.Refused g) n x f t = (refl, refl, refl)
+keeps_by o word.Lapse n x f t = (refl, refl, refl)
+keeps_by o word.Signal n x f t = (refl, refl, refl)
+keeps_by o word.SignalAll n x f t = (refl, refl, refl)
+keeps_by o word.Counted n x f t = (refl, refl, refl)
+keeps_by o _ n x f t = absurd (cc)
+
+idle_moves : (s : Start) (e : Entry) (h : List Entry) → idles e.word ≡ true → Moves s e h
+idle_moves s e h t =
+    let k : (x : ℕ) → (holds_after s.header.object e.word e.n x ≡ x)
+    × (free_after e.word e.n (free s h) ≡ free s h) × (beyond e.word e.n x ≡ 0) =
+    λ x. keeps_by s.header.object e.word e.n x (free s h) t in
+    Keeps (λ x. (k x).0) (k 0).1 (λ x. (k x).2)
+
+take_moves : (s : Start) (e : Entry) (h : List Entry) (w : Word) → e.word ≡ w →
+    is_semaphore s.header.object ≡ true
+    → ((n x : ℕ) → holds_after s.header.object w n x ≡ x + in_holds s.header.object n) →
+    free_after w e.n (free s h) ≡ free s h -ℤ pos e.n → ((n x : ℕ) → beyond w n x ≡ 0)
+    → could (counts s h) e.seat e.mode e.n ≡ true → Moves s e h
+take_moves s e h w p t holds frees own c =
+    let k = semaphore_could s.header.object (counts s h) e.seat e.mode e.n t c in
+    Takes k.0 k.1
+    (λ x. holds_as s e h w p x (x + e.n) (holds e.n x
+    ∙ ap (λ n. x + n) (semaphore_holds s.header.object e.n t)))
+    (frees_as s e h w p (free s h -ℤ pos e.n) frees)
+    (λ x. own_as s e h w p x 0 (own e.n x))
+
+moves : (s : Start) (e : Entry) (h : List Entry) → is_semaphore s.header.object ≡ true → Known s h e →
+    Waits s h → Moves s e h
+moves s e h t known back = by e.word refl known
+  where
+    by : (w : Word) → e.word ≡ w → KnownBy s h e w → Moves s e h
+    by word.Got p k = take_moves s e h word.Got p t (λ n x. refl) refl (λ n x. refl) k.1
+    by word.TryGot p k = take_moves s e h word.TryGot p t (λ n x. refl) refl (λ n x. refl) k.1
+    by word.Granted p k =
+        let c = ready_could s h e.seat k.0 k.2 k.1.stands in
+        let m : e.mode ≡ k.0.mode = ap (λ (x : Entry). x.mode) k.1.entry in
+        let n : e.n ≡ k.0.n = ap (λ (x : Entry). x.n) k.1.entry in
+        take_moves s e h word.Granted p t (λ n x. refl) refl (λ n x. refl)
+        (ap (λ x. could (counts s h) e.seat x e.n) m ∙ ap (could (counts s h) e.seat k.0.mode) n ∙ c)
+    by word.Gave p k =
+        let g = semaphore_gave s.header.object (counts s h) e.seat e.mode e.n t k.0.mode k.1 in
+        Gives g.0 g.1
+        (λ x. holds_as s e h word.Gave p x (x - e.n)
+        (ap (λ n. x - n) (semaphore_holds s.header.object e.n t)))
+        (frees_as s e h word.Gave p (free s h +ℤ pos e.n) refl)
+        (λ x. own_as s e h word.Gave p x (e.n - x) refl)
+    by word.Drained p k =
+        Drains (ap (λ (x : Entry). x.mode) k.2) (ap (λ (x : Entry). x.n) k.2)
+        (λ x. holds_as s e h word.Drained p x (x + e.n) refl)
+        (frees_as s e h word.Drained p (free s h -ℤ pos e.n) refl)
+        (λ x. own_as s e h word.Drained p x 0 refl)
+    by word.Back p k =
+        absurd (semaphore_no_lock s.header.object t
+        (placed (SavedIfBack s h) e.seat (line s h) k.0 back.line k.1 k.2).saved.lock)
+    by word.Await p k = absurd (semaphore_no_lock s.header.object t k.0.lock)
+    by word.Queued p k = idle_moves s e h (ap idles p)
+    by word.Missed p k = idle_moves s e h (ap idles p)
+    by word.Left p k = idle_moves s e h (ap idles p)
+    by (word.Refused f) p k = idle_moves s e h (ap idles p)
+    by word.Lapse p k = idle_moves s e h (ap idles p)
+    by word.Signal p k = idle_moves s e h (ap idles p)
+    by word.SignalAll p k = idle_moves s e h (ap idles p)
+    by word.Counted p k = idle_moves s e h (ap idles p)
+
+-- what the seats hold together
+held_shared : (s : Start) (e : Entry) (h : List Entry) → e.mode ≡ S → e.seat < s.header.seats →
+    permits_held s (e ∷ h) + held s h e.seat S ≡ permits_held s h
+    + holds_after s.header.object e.word e.n (held s h e.seat S)
+held_shared s e h m seat =
+    total_change s.header.seats (λ i. held s (e ∷ h) i S) (λ i. held s h i S) e.seat seat
+    (λ i ne. rw (ne_eqb e.seat i (λ q. ne (sym q))) refl)
+    ∙ ap (λ x. permits_held s h + x) at
+  where
+    at : held s (e ∷ h) e.seat S ≡ holds_after s.header.object e.word e.n (held s h e.seat S)
+    at = rw (eq-eqb e.seat e.seat refl)
+        (ap (λ x. cond (same_mode x S) (holds_after s.header.object e.word e.n (held s h e.seat S))
+        (held s h e.seat S)) m)
+
+held_kept : (s : Start) (e : Entry) (h : List Entry) (i : ℕ) (m : Mode) →
+    ((x : ℕ) → holds_after s.header.object e.word e.n x ≡ x) → held s (e ∷ h) i m ≡ held s h i m
+held_kept s e h i m same = by (eqb e.seat i && same_mode e.mode m)
+  where
+    by : (b : Bool) → cond b (holds_after s.header.object e.word e.n (held s h i m)) (held s h i m)
+        ≡ held s h i m
+    by true = same (held s h i m)
+    by false = refl
+
+unheld_more : (s : Start) (e : Entry) (h : List Entry) → is_semaphore s.header.object ≡ true →
+    unheld s (e ∷ h) ≡ unheld s h + beyond e.word e.n (held s h e.seat e.mode)
+unheld_more s e h t = ap (λ b. unheld s h + cond b (beyond e.word e.n (held s h e.seat e.mode)) 0) t
+
+-- permits are conserved by each entry
+taken : (t t' x n u u' : ℕ) (f f' c : ℤ) → t' + x ≡ t + (x + n) → u' ≡ u + 0 → f' ≡ f -ℤ pos n →
+    pos t +ℤ f ≡ c +ℤ pos u → pos t' +ℤ f' ≡ c +ℤ pos u'
+taken t t' x n u u' f f' c p q r v = omega (arith, ints)
+
+returned : (t t' x n u u' : ℕ) (f f' c : ℤ) → t' + x ≡ t + (x - n) → u' ≡ u + (n - x) → f' ≡ f +ℤ pos n →
+    pos t +ℤ f ≡ c +ℤ pos u → pos t' +ℤ f' ≡ c +ℤ pos u'
+returned t t' x n u u' f f' c p q r v = omega (arith, ints)
+
+untouched : (t t' u u' : ℕ) (f f' c : ℤ) → t' ≡ t → u' ≡ u + 0 → f' ≡ f → pos t +ℤ f ≡ c +ℤ pos u →
+    pos t' +ℤ f' ≡ c +ℤ pos u'
+untouched t t' u u' f f' c p q r v = omega (arith, ints)
+
+conserved_more : (s : Start) (e : Entry) (h : List Entry) → is_semaphore s.header.object ≡ true →
+    e.seat < s.header.seats → Moves s e h → IsConserved s h → IsConserved s (e ∷ h)
+conserved_more s e h t seat (Takes shared there holds frees own) c =
+    taken _ _ (held s h e.seat S) e.n _ _ _ _ _ (held_shared s e h shared seat
+    ∙ ap (λ x. permits_held s h + x) (holds _)) (unheld_more s e h t
+    ∙ ap (λ x. unheld s h + x) (own _)) frees c
+conserved_more s e h t seat (Drains shared there holds frees own) c =
+    taken _ _ (held s h e.seat S) e.n _ _ _ _ _ (held_shared s e h shared seat
+    ∙ ap (λ x. permits_held s h + x) (holds _)) (unheld_more s e h t
+    ∙ ap (λ x. unheld s h + x) (own _)) frees c
+conserved_more s e h t seat (Gives shared below holds frees own) c =
+    returned _ _ (held s h e.seat S) e.n _ _ _ _ _ (held_shared s e h shared seat
+    ∙ ap (λ x. permits_held s h + x) (holds _)) (unheld_more s e h t
+    ∙ ap (λ x. unheld s h + x) (own _ ∙ ap (λ m. e.n - held s h e.seat m) shared)) frees c
+conserved_more s e h t seat (Keeps holds frees own) c =
+    untouched _ _ _ _ _ _ _ (total_same s.header.seats _ _ (λ i. held_kept s e h i S holds))
+    (unheld_more s e h t ∙ ap (λ x. unheld s h + x) (own _)) frees c
+
+nothing_held : (n : ℕ) (c : ℤ) → pos (total n (λ i. 0)) +ℤ c ≡ c +ℤ pos 0
+nothing_held n c = by _ (total_nothing n)
+  where
+    by : (t : ℕ) → t ≡ 0 → pos t +ℤ c ≡ c +ℤ pos 0
+    by t p = omega (arith, ints)
+
+pub conserved : (k : Header) (h : List Entry) → is_semaphore k.object ≡ true → IsLegal (opening k) h →
+    AreSeated (opening k) h → IsConserved (opening k) h
+conserved k [] t legal seats = nothing_held k.seats (created k.object)
+conserved k (e ∷ h) t legal seats =
+    conserved_more (opening k) e h t seats.0
+    (moves (opening k) e h t (known (opening k) h legal.0.0 e legal.0.1) (waits k h legal.1))
+    (conserved k h t legal.1 seats.1)
+
+-- a drain takes what there is
+drained_is : (f : ℤ) → (at_least_none f ≡ 0) ⊎ (pos (at_least_none f) ≡ f)
+drained_is (pos a) = by (ltb a 0)
+  where
+    by : (b : Bool) → (cond b 0 a ≡ 0) ⊎ (pos (cond b 0 a) ≡ pos a)
+    by true = inl refl
+    by false = inr refl
+drained_is (negsuc b) = inl refl
+
+fits_taken : (f : ℤ) (n : ℕ) → FitsSigned w32 f → int_le (pos 0) (f -ℤ pos n) ≡ true →
+    FitsSigned w32 (f -ℤ pos n)
+fits_taken f n p q = omega (arith, ints)
+
+fits_returned : (f : ℤ) (n : ℕ) → FitsSigned w32 f → int_lt (pos 2147483647) (f +ℤ pos n) ≡ false →
+    FitsSigned w32 (f +ℤ pos n)
+fits_returned f n p q = omega (arith, ints)
+
+fits_drained : (f : ℤ) (n : ℕ) → FitsSigned w32 f → n ≡ at_least_none f → FitsSigned w32 (f -ℤ pos n)
+fits_drained f n p q = ⊎_elim (λ z. none (q ∙ z)) (λ all. rest (ap pos q ∙ all)) (drained_is f)
+  where
+    none : n ≡ 0 → FitsSigned w32 (f -ℤ pos n)
+    none z = omega (arith, ints, p, z)
+
+    rest : pos n ≡ f → FitsSigned w32 (f -ℤ pos n)
+    rest z = omega (arith, ints, p, z)
+
+few : (f : ℤ) (n : ℕ) → FitsSigned w32 f → int_le (pos 0) (f -ℤ pos n) ≡ true → n ≤ 2147483647
+few f n p q = omega (arith, ints)
+
+few_drained : (f : ℤ) (n : ℕ) → FitsSigned w32 f → n ≡ at_least_none f → n ≤ 2147483647
+few_drained f n p q = ⊎_elim (λ z. none (q ∙ z)) (λ all. rest (ap pos q ∙ all)) (drained_is f)
+  where
+    none : n ≡ 0 → n ≤ 2147483647
+    none z = omega (arith, z)
+
+    rest : pos n ≡ f → n ≤ 2147483647
+    rest z = omega (arith, ints, p, z)
+
+fits_more : (s : Start) (e : Entry) (h : List Entry) → Moves s e h → FitsSigned w32 (free s h) →
+    FitsSigned w32 (free s (e ∷ h))
+fits_more s e h (Takes shared there holds frees own) fits =
+    subst (FitsSigned w32) (sym frees) (fits_taken (free s h) e.n fits there)
+fits_more s e h (Drains shared all holds frees own) fits =
+    subst (FitsSigned w32) (sym frees) (fits_drained (free s h) e.n fits all)
+fits_more s e h (Gives shared below holds frees own) fits =
+    subst (FitsSigned w32) (sym frees) (fits_returned (free s h) e.n fits below)
+fits_more s e h (Keeps holds frees own) fits = subst (FitsSigned w32) (sym frees) fits
+
+-- free permits stay numbers of 32 bits, and no request is for more than there may be
+pub free_fits : (k : Header) (h : List Entry) → IsInRange k → is_semaphore k.object ≡ true →
+    IsLegal (opening k) h → FitsSigned w32 (free (opening k) h)
+free_fits k [] range t legal = by k.object range.opening t
+  where
+    by : (o : Object) → IsOpening o k.conditions → is_semaphore o ≡ true → FitsSigned w32 (created o)
+    by (Semaphore p c) r u = r.1
+    by (Lock p) r u = absurd (cc)
+    by (ReadWrite p) r u = absurd (cc)
+    by (Latch c) r u = absurd (cc)
+free_fits k (e ∷ h) range t legal =
+    fits_more (opening k) e h
+    (moves (opening k) e h t (known (opening k) h legal.0.0 e legal.0.1) (waits k h legal.1))
+    (free_fits k h range t legal.1)
+
+pub free_at_most : (k : Header) (h : List Entry) → IsInRange k → is_semaphore k.object ≡ true →
+    IsLegal (opening k) h → free (opening k) h ≤ℤ pos 2147483647
+free_at_most k h range t legal = bound (free (opening k) h) (free_fits k h range t legal)
+  where
+    bound : (f : ℤ) → FitsSigned w32 f → f ≤ℤ pos 2147483647
+    bound f p = omega (arith, ints)
+
+-- no seat holds more permits than its entries can have taken
+few_taken : (s : Start) (e : Entry) (h : List Entry) → Moves s e h → FitsSigned w32 (free s h) → (x : ℕ) →
+    holds_after s.header.object e.word e.n x ≤ x + 2147483647
+few_taken s e h (Takes shared there holds frees own) fits x =
+    let a : e.n ≤ 2147483647 = few (free s h) e.n fits there in
+    let b = holds x in
+    omega (arith, a, b)
+few_taken s e h (Drains shared all holds frees own) fits x =
+    let a : e.n ≤ 2147483647 = few_drained (free s h) e.n fits all in
+    let b = holds x in
+    omega (arith, a, b)
+few_taken s e h (Gives shared below holds frees own) fits x = let b = holds x in omega (arith, b)
+few_taken s e h (Keeps holds frees own) fits x = let b = holds x in omega (arith, b)
+
+pub held_at_most : (k : Header) (h : List Entry) → IsInRange k → is_semaphore k.object ≡ true →
+    IsLegal (opening k) h → (i : ℕ) (m : Mode) → held (opening k) h i m ≤ 2147483647 * length h
+held_at_most k [] range t legal i m = omega arith
+held_at_most k (e ∷ h) range t legal i m =
+    by (eqb e.seat i && same_mode e.mode m) (held (opening k) h i m) (length h)
+    (held_at_most k h range t legal.1 i m)
+    (few_taken (opening k) e h
+    (moves (opening k) e h t (known (opening k) h legal.0.0 e legal.0.1) (waits k h legal.1))
+    (free_fits k h range t legal.1))
+  where
+    by : (b : Bool) (x n : ℕ) → x ≤ 2147483647 * n →
+        ((y : ℕ) → holds_after k.object e.word e.n y ≤ y + 2147483647) →
+        cond b (holds_after k.object e.word e.n x) x ≤ 2147483647 * suc n
+    by true x n l f = let g = f x in omega (arith, l, g)
+    by false x n l f = omega (arith, l)

@@ -1,0 +1,224 @@
+-- What one wait says of the line, of the sleepers, and of their number.
+use Rattle.std.proofs.Common.{◌≡◌, ℕ, zero, suc, ◌+◌, ◌<◌, ◌≤◌, Bool, true, false, ◌||◌, cond, eqb, List, [], ◌∷◌, ◌++◌, map, take, length, Option, Some, None, refl, ap, ◌∙◌, sym, subst, arith}
+use Rattle.std.specs.List.{filter, AllByRecursion}
+use Rattle.std.proofs.lemmas.Bool.{eq-eqb, or_right}
+use Rattle.std.proofs.lemmas.List.{length-append, length-map}
+use Rattle.history.specs.declared.arrival.Arrival.{Arrival}
+use Rattle.history.specs.declared.entry.Entry.{Entry}
+use Rattle.history.specs.declared.entry.Word.{Word}
+use Rattle.history.specs.declared.entry.Word.TheVariants as word
+use Rattle.history.specs.declared.header.Header.{Header}
+use Rattle.history.specs.Legal.{IsLegal, AreSeated}
+use Rattle.history.specs.Line.{line, arrivals_by, place_of, coming_back}
+use Rattle.history.specs.Phase.{Idle, phase}
+use Rattle.history.specs.Sleepers.{sleepers, sleeps_below, last_sleep, has}
+use Rattle.history.specs.Start.{Start, opening}
+use Rattle.history.specs.Waiting.{times, seats_of, asleep, waiting, IsOneWait, AreOnce, StandOnce}
+use Rattle.history.proofs.Entering.{Known, KnownBy, known}
+use Rattle.history.proofs.LineLemmas.{line_after, stays}
+use Rattle.history.proofs.OneWait.{ComesBack, SavedIfBack, Waits, waits, placed, idle_waits_nowhere}
+use Rattle.history.proofs.SleepLemmas.{sleeps_at, times-waiting}
+use Rattle.history.proofs.Times.{once_same, times-take_drop, has_once, once_has, never_has, place_once, never_placed, total_part, pigeonhole, pigeonhole_less}
+
+-- each seat stands in line once, and sleeps once on a condition
+once_list : (xs : List ℕ) → ((i : ℕ) → times i xs ≤ 1) → AreOnce xs
+once_list [] one = tt
+once_list (x ∷ xs) one = (never_has x xs rest, once_list xs (λ i. let o = one i in omega (arith, o)))
+  where
+    rest : times x xs ≡ 0
+    rest = let o = one x in let s = once_same x x refl in omega (arith, o, s)
+
+once_line : (q : List Arrival) → ((i : ℕ) → times i (seats_of q) ≤ 1) → StandOnce q
+once_line [] one = tt
+once_line (a ∷ q) one = (never_placed a.seat q rest, once_line q (λ i. let o = one i in omega (arith, o)))
+  where
+    rest : times a.seat (seats_of q) ≡ 0
+    rest = let o = one a.seat in let s = once_same a.seat a.seat refl in omega (arith, o, s)
+
+pub stand_once : (s : Start) (h : List Entry) → IsOneWait s h → StandOnce (line s h)
+stand_once s h one =
+    once_line (line s h) (λ i. let o = one i in let w = times-waiting s h i in omega (arith, o, w))
+
+pub sleep_once : (s : Start) (h : List Entry) → IsOneWait s h → (c : ℕ) → c < s.header.conditions →
+    AreOnce (sleepers s h c)
+sleep_once s h one c below =
+    once_list (sleepers s h c) (λ i.
+    let o = one i in
+    let w = times-waiting s h i in
+    let p = total_part s.header.conditions (λ d. times i (sleepers s h d)) c below in
+    omega (arith, o, w, p))
+
+-- a seat in line sleeps nowhere, and a sleeper stands in no line
+pub in_line_awake : (s : Start) (h : List Entry) (i : ℕ) (a : Arrival) → IsOneWait s h →
+    place_of i (line s h) ≡ Some a → sleeps_below s.header.conditions s h i ≡ false
+in_line_awake s h i a one p = by (sleeps_below s.header.conditions s h i) refl
+  where
+    by : (b : Bool) → sleeps_below s.header.conditions s h i ≡ b → b ≡ false
+    by false t = refl
+    by true t =
+        let r = sleeps_at s.header.conditions s h i t in
+        let l = (place_once i (line s h) a p).1 in
+        let k = has_once i (sleepers s h r.0) r.2 in
+        let m = total_part s.header.conditions (λ d. times i (sleepers s h d)) r.0 r.1 in
+        let w = times-waiting s h i in
+        let o = one i in
+        absurd (omega (arith, l, k, m, w, o))
+
+pub asleep_out_of_line : (s : Start) (h : List Entry) (i : ℕ) → IsOneWait s h →
+    sleeps_below s.header.conditions s h i ≡ true → place_of i (line s h) ≡ None
+asleep_out_of_line s h i one t = by (place_of i (line s h)) refl
+  where
+    by : (o : Option Arrival) → place_of i (line s h) ≡ o → o ≡ None
+    by None p = refl
+    by (Some a) p = let f = in_line_awake s h i a one p in cc (t, f)
+
+-- a sleeper sleeps on the condition of its last sleep alone, and on none that the object lacks
+pub sleeper_condition : (s : Start) (h : List Entry) → Waits s h → (i : ℕ) →
+    sleeps_below s.header.conditions s h i ≡ true →
+    ((last_sleep s h i).condition < s.header.conditions)
+    × (has i (sleepers s h (last_sleep s h i).condition) ≡ true)
+sleeper_condition s h v i t =
+    let r = sleeps_at s.header.conditions s h i t in
+    let u = v.sleepers r.0 i r.2 in
+    (u.saved.condition, subst (λ c. has i (sleepers s h c) ≡ true) (sym u.condition) r.2)
+
+pub one_condition : (s : Start) (h : List Entry) → Waits s h → (i c d : ℕ) → has i (sleepers s h c) ≡ true →
+    has i (sleepers s h d) ≡ true → c ≡ d
+one_condition s h v i c d t u = sym (v.sleepers c i t).condition ∙ (v.sleepers d i u).condition
+
+pub no_sleepers_above : (s : Start) (h : List Entry) → Waits s h → (c : ℕ) → s.header.conditions ≤ c →
+    sleepers s h c ≡ []
+no_sleepers_above s h v c above = by (sleepers s h c) refl
+  where
+    by : (xs : List ℕ) → sleepers s h c ≡ xs → xs ≡ []
+    by [] q = refl
+    by (x ∷ xs) q =
+        let t : has x (sleepers s h c) ≡ true = ap (has x) q ∙ ap (λ b. b || has x xs) (eq-eqb x x refl) in
+        let u = v.sleepers c x t in
+        let l = u.saved.condition in
+        let d = u.condition in
+        absurd (omega (arith, l, d, above))
+
+-- one in line that comes back asks for X and 1 of a lock, and saved its holds
+pub comes_back : (s : Start) (h : List Entry) → Waits s h → (i : ℕ) (a : Arrival) →
+    place_of i (line s h) ≡ Some a → a.back ≡ true → ComesBack s h a × (a.seat ≡ i)
+comes_back s h v i a p b =
+    (placed (SavedIfBack s h) i (line s h) a v.line p b, (place_once i (line s h) a p).0)
+
+-- who waits has one of the object's seats, where each entry has one
+each-append : (n : ℕ) (xs ys : List ℕ) → AllByRecursion (λ x. x < n) xs → AllByRecursion (λ x. x < n) ys →
+    AllByRecursion (λ x. x < n) (xs ++ ys)
+each-append n [] ys p q = q
+each-append n (x ∷ xs) ys p q = (p.0, each-append n xs ys p.1 q)
+
+each_has : (n : ℕ) (xs : List ℕ) → ((i : ℕ) → has i xs ≡ true → i < n) → AllByRecursion (λ x. x < n) xs
+each_has n [] each = tt
+each_has n (x ∷ xs) each = (
+  each x (ap (λ b. b || has x xs) (eq-eqb x x refl)),
+  each_has n xs
+      (λ i t. each i (or_right (eqb x i) (has i xs) t)),
+)
+
+abbrev pub LineSeated : ℕ → List Arrival → Type 0
+LineSeated n q = AllByRecursion (λ a. a.seat < n) q
+
+seated_filter : (n : ℕ) (p : Arrival → Bool) (q : List Arrival) → LineSeated n q → LineSeated n (filter p q)
+seated_filter n p [] all = tt
+seated_filter n p (a ∷ q) all = by (p a) (seated_filter n p q all.1)
+  where
+    by : (b : Bool) → LineSeated n (filter p q) → LineSeated n (cond b (a ∷ filter p q) (filter p q))
+    by true ih = (all.0, ih)
+    by false ih = ih
+
+seated-append : (n : ℕ) (p q : List Arrival) → LineSeated n p → LineSeated n q → LineSeated n (p ++ q)
+seated-append n [] q x y = y
+seated-append n (a ∷ p) q x y = (x.0, seated-append n p q x.1 y)
+
+seated_back : (n : ℕ) (xs : List ℕ) → AllByRecursion (λ x. x < n) xs → LineSeated n (map coming_back xs)
+seated_back n [] all = tt
+seated_back n (x ∷ xs) all = (all.0, seated_back n xs all.1)
+
+seated_seats : (n : ℕ) (q : List Arrival) → LineSeated n q → AllByRecursion (λ x. x < n) (seats_of q)
+seated_seats n [] all = tt
+seated_seats n (a ∷ q) all = (all.0, seated_seats n q all.1)
+
+pub line_seated_next : (s : Start) (h : List Entry) (e : Entry) → Waits s h → Known s h e →
+    e.seat < s.header.seats →
+    LineSeated s.header.seats (line s h) → LineSeated s.header.seats (line s (e ∷ h))
+line_seated_next s h e v k l all =
+    subst (LineSeated s.header.seats) (sym (line_after s e h))
+    (seated-append s.header.seats _ _ (seated_filter s.header.seats (stays e.word e.seat) (line s h) all)
+    (by e.word k))
+  where
+    sleeper : (i : ℕ) → has i (sleepers s h e.at) ≡ true → i < s.header.seats
+    sleeper i t = (v.sleepers e.at i t).saved.seat
+
+    moved : (i : ℕ) → has i (take e.n (sleepers s h e.at)) ≡ true → i < s.header.seats
+    moved i t =
+        let o = has_once i (take e.n (sleepers s h e.at)) t in
+        let p = times-take_drop i e.n (sleepers s h e.at) in
+        sleeper i (once_has i (sleepers s h e.at) (omega (arith, o, p)))
+
+    by : (w : Word) → KnownBy s h e w → LineSeated s.header.seats (arrivals_by s w e h)
+    by word.Queued k = (l, tt)
+    by word.Lapse k = (l, tt)
+    by word.Signal k = seated_back s.header.seats _ (each_has s.header.seats _ moved)
+    by word.SignalAll k = seated_back s.header.seats _ (each_has s.header.seats _ sleeper)
+    by word.Got k = tt
+    by word.TryGot k = tt
+    by word.Granted k = tt
+    by word.Missed k = tt
+    by word.Left k = tt
+    by word.Gave k = tt
+    by (word.Refused f) k = tt
+    by word.Await k = tt
+    by word.Back k = tt
+    by word.Counted k = tt
+    by word.Drained k = tt
+
+pub line_seated : (k : Header) (h : List Entry) → IsLegal (opening k) h → AreSeated (opening k) h →
+    LineSeated k.seats (line (opening k) h)
+line_seated k [] l a = tt
+line_seated k (e ∷ h) l a =
+    line_seated_next (opening k) h e (waits k h l.1) (known (opening k) h l.0.0 e l.0.1) a.0
+    (line_seated k h l.1 a.1)
+
+asleep_seated : (c : ℕ) (s : Start) (h : List Entry) → Waits s h →
+    AllByRecursion (λ x. x < s.header.seats) (asleep c s h)
+asleep_seated zero s h v = tt
+asleep_seated (suc c) s h v =
+    each-append s.header.seats (asleep c s h) (sleepers s h c) (asleep_seated c s h v)
+    (each_has s.header.seats (sleepers s h c) (λ i t. (v.sleepers c i t).saved.seat))
+
+pub waiting_seated : (s : Start) (h : List Entry) → Waits s h → LineSeated s.header.seats (line s h) →
+    AllByRecursion (λ x. x < s.header.seats) (waiting s h)
+waiting_seated s h v l =
+    each-append s.header.seats (seats_of (line s h)) (asleep s.header.conditions s h)
+    (seated_seats s.header.seats (line s h) l) (asleep_seated s.header.conditions s h v)
+
+-- no more wait than there are seats, and fewer where a seat is idle
+length_waiting : (s : Start) (h : List Entry) →
+    length (waiting s h) ≡ length (line s h) + length (asleep s.header.conditions s h)
+length_waiting s h =
+    length-append (seats_of (line s h)) (asleep s.header.conditions s h)
+    ∙ ap (λ n. n + length (asleep s.header.conditions s h)) (length-map (line s h) (λ (a : Arrival). a.seat))
+
+pub few_wait : (s : Start) (h : List Entry) → Waits s h → LineSeated s.header.seats (line s h) →
+    length (line s h) + length (asleep s.header.conditions s h) ≤ s.header.seats
+few_wait s h v l =
+    let p = pigeonhole s.header.seats (waiting s h) (waiting_seated s h v l) v.once in
+    let e = length_waiting s h in
+    omega (arith, p, e)
+
+pub idle_leaves_a_place : (s : Start) (h : List Entry) (i : ℕ) → Waits s h →
+    LineSeated s.header.seats (line s h) → i < s.header.seats → phase s h i ≡ Idle →
+    length (line s h) + length (asleep s.header.conditions s h) < s.header.seats
+idle_leaves_a_place s h i v l seat idle =
+    let p = pigeonhole_less s.header.seats (waiting s h) i (waiting_seated s h v l) v.once seat
+    (idle_waits_nowhere s h i idle) in
+    let e = length_waiting s h in
+    omega (arith, p, e)
+
+pub line_fits : (k : Header) (h : List Entry) → IsLegal (opening k) h → AreSeated (opening k) h →
+    length (line (opening k) h) ≤ k.seats
+line_fits k h l a = let f = few_wait (opening k) h (waits k h l) (line_seated k h l a) in omega (arith, f)

@@ -1,0 +1,45 @@
+-- That a lock or read-write lock has one owner, and nobody reads beside it.
+use Rattle.std.specs.Prelude.{◌≡◌, ◌<◌, ◌≤◌, ℕ, Bool, true, false, List}
+use Rattle.history.specs.declared.entry.Entry.{Entry}
+use Rattle.history.specs.declared.entry.Mode.{Mode}
+use Rattle.history.specs.declared.entry.Mode.TheVariants.{X, S}
+use Rattle.history.specs.declared.header.Object.{Object}
+use Rattle.history.specs.declared.header.Object.TheVariants.{Lock, ReadWrite, Semaphore, Latch}
+use Rattle.history.specs.Could.{max_holds, max_shared}
+use Rattle.history.specs.Counts.{held, total}
+use Rattle.history.specs.Phase.{Phase, Idle, InLine, Sleeping}
+use Rattle.history.specs.Sleepers.{last_sleep}
+use Rattle.history.specs.Start.{Start}
+
+-- the greatest number of exclusive holds of one seat, and of shared holds of all seats
+abbrev pub most_exclusive : Object → ℕ
+most_exclusive (Lock policy) = max_holds
+most_exclusive (ReadWrite policy) = max_shared
+most_exclusive (Semaphore policy permits) = 0
+most_exclusive (Latch opening) = 0
+
+abbrev pub most_shared : Object → ℕ
+most_shared (Lock policy) = 0
+most_shared (ReadWrite policy) = max_shared
+most_shared (Semaphore policy permits) = 0
+most_shared (Latch opening) = 0
+
+-- Whoever has exclusive holds is the one seat that has any, and the one that may also have shared ones.
+-- The holds are within the limits.
+pub record IsOwned (s : Start) (h : List Entry) : Type 0 where
+  pub one : (i j : ℕ) → 0 < held s h i X → 0 < held s h j X → i ≡ j
+  pub alone : (i j : ℕ) → 0 < held s h i X → 0 < held s h j S → i ≡ j
+  pub exclusive : (i : ℕ) → held s h i X ≤ most_exclusive s.header.object
+  pub shared : total s.header.seats (λ i. held s h i S) ≤ most_shared s.header.object
+
+-- a seat that sleeps, or is on its way back from a condition
+abbrev pub is_away : Phase → Bool
+is_away Idle = false
+is_away (InLine a) = a.back
+is_away Sleeping = true
+
+-- Whoever gave up its holds to sleep holds nothing, and will have back as many as one seat may hold.
+pub record IsSaved (s : Start) (h : List Entry) (i : ℕ) : Type 0 where
+  pub nothing : (m : Mode) → held s h i m ≡ 0
+  pub some : 1 ≤ (last_sleep s h i).holds
+  pub most : (last_sleep s h i).holds ≤ most_exclusive s.header.object

@@ -1,0 +1,291 @@
+//! Entries read from the words of a line.
+
+ghost use Rattle.std.specs.Prelude.{◌≡◌, ◌≤◌, ◌∷◌, ◌++◌, [], ℕ, List, codes, decimal, IfSome};
+ghost use Rattle.history.specs.declared.entry.End.TheVariants as end;
+ghost use Rattle.history.specs.declared.entry.Entry.{Entry};
+ghost use Rattle.history.specs.declared.entry.Mode.TheVariants.{X, S};
+ghost use Rattle.history.specs.EntryReading.{given_up_at, come_back_at, recorded_at, asked_at, condition_at, sleepers_at, left_at, refused_at, lapse_at, back_at, shared_at, named_entry_at, entry_at, in_mode, on_condition};
+ghost use Rattle.history.specs.EntryWords.{mode_word, end_word, entry_words, GaveUp, CameBack, IsWritten};
+ghost use Rattle.history.specs.Fault.{fault_name, IsRecorded};
+ghost use Rattle.history.specs.Reading.{with_rest};
+
+use crate::entry::{End, Entry, Mode, Word};
+use crate::fault::Fault;
+use crate::words::Words;
+
+const MOST: u64 = 2_147_483_647;
+
+const LAST_CONDITION: u64 = 15;
+
+/// How a call gave up.
+#[inline(always)]
+fn given_up(words: &mut Words<'_>) -> Option<End>
+    ensures is { with_rest result words.new ≡ given_up_at words.old }
+    ensures found { IfSome result (λ e. GaveUp e × (words.old ≡ end_word e ∷ words.new)) }
+{
+    let word = words.next()?;
+    if word == b"timeout".as_slice() {
+        Some(End::Timeout)
+    } else if word == b"interrupt".as_slice() {
+        Some(End::Interrupt)
+    } else {
+        None
+    }
+}
+
+/// How a call came back.
+#[inline(always)]
+fn come_back(words: &mut Words<'_>) -> Option<End>
+    ensures is { with_rest result words.new ≡ come_back_at words.old }
+    ensures found { IfSome result (λ e. CameBack e × (words.old ≡ end_word e ∷ words.new)) }
+{
+    let word = words.next()?;
+    if word == b"signalled".as_slice() {
+        Some(End::Signalled)
+    } else if word == b"timeout".as_slice() {
+        Some(End::Timeout)
+    } else if word == b"interrupt".as_slice() {
+        Some(End::Interrupt)
+    } else {
+        None
+    }
+}
+
+/// A fault that is recorded.
+fn recorded(words: &mut Words<'_>) -> Option<Fault>
+    ensures is { with_rest result words.new ≡ recorded_at words.old }
+    ensures found { IfSome result (λ f. IsRecorded f × (words.old ≡ fault_name f ∷ words.new)) }
+{
+    let word = words.next()?;
+    if word == b"NotOwner".as_slice() {
+        Some(Fault::NotOwner)
+    } else if word == b"TooManyHolds".as_slice() {
+        Some(Fault::TooManyHolds)
+    } else if word == b"TooManyPermits".as_slice() {
+        Some(Fault::TooManyPermits)
+    } else if word == b"Interrupted".as_slice() {
+        Some(Fault::Interrupted)
+    } else if word == b"HoldsRead".as_slice() {
+        Some(Fault::HoldsRead)
+    } else {
+        None
+    }
+}
+
+/// A mode and an amount.
+#[tactic(auto, unfolding(crate::specs::EntryReading::asked_at))]
+#[inline(always)]
+fn asked(words: &mut Words<'_>) -> Option<(Mode, u32)>
+    ensures is { with_rest result words.new ≡ asked_at words.old }
+    ensures found { IfSome result (λ a. (words.old ≡ mode_word a.0 ∷ decimal a.1 ∷ words.new) × (a.1 ≤ 2147483647)) }
+{
+    let mode = words.mode()?;
+    let n = words.number(0, MOST)?;
+    Some((mode, n as u32))
+}
+
+#[tactic(auto, unfolding(crate::specs::EntryReading::condition_at))]
+#[inline(always)]
+fn condition(words: &mut Words<'_>) -> Option<u8>
+    ensures is { with_rest result words.new ≡ condition_at words.old }
+    ensures found { IfSome result (λ c. (words.old ≡ decimal c ∷ words.new) × (c ≤ 15)) }
+{
+    Some(words.number(0, LAST_CONDITION)? as u8)
+}
+
+/// A condition and an amount.
+#[tactic(auto, unfolding(crate::specs::EntryReading::sleepers_at))]
+#[inline(always)]
+fn sleepers(words: &mut Words<'_>) -> Option<(u8, u32)>
+    ensures is { with_rest result words.new ≡ sleepers_at words.old }
+    ensures found { IfSome result (λ s. (words.old ≡ decimal s.0 ∷ decimal s.1 ∷ words.new) × (s.0 ≤ 15) × (s.1 ≤ 2147483647)) }
+{
+    let at = condition(words)?;
+    let n = words.number(0, MOST)?;
+    Some((at, n as u32))
+}
+
+/// An entry that spells a mode and an amount.
+#[inline(always)]
+fn in_mode(seat: u16, word: Word, asked: (Mode, u32)) -> Entry
+    ensures { result ≡ in_mode seat word asked }
+{
+    let (mode, n) = asked;
+    Entry {
+        seat,
+        word,
+        mode,
+        n,
+        at: 0,
+        end: End::None,
+    }
+}
+
+/// An entry that spells a condition and an amount.
+#[inline(always)]
+fn on_condition(seat: u16, word: Word, slept: (u8, u32)) -> Entry
+    ensures { result ≡ on_condition seat word slept }
+{
+    let (at, n) = slept;
+    Entry {
+        seat,
+        word,
+        mode: Mode::X,
+        n,
+        at,
+        end: End::None,
+    }
+}
+
+#[tactic(auto, unfolding(crate::specs::EntryReading::left_at))]
+fn left(words: &mut Words<'_>, seat: u16) -> Option<Entry>
+    ensures is { with_rest result words.new ≡ left_at seat words.old }
+    ensures found { IfSome result (λ e. IsWritten e × (e.seat ≡ seat) × (codes "left" ∷ words.old ≡ entry_words e ++ words.new)) }
+{
+    let (mode, n) = asked(words)?;
+    let end = given_up(words)?;
+    Some(Entry {
+        seat,
+        word: Word::Left,
+        mode,
+        n,
+        at: 0,
+        end,
+    })
+}
+
+#[tactic(auto, unfolding(crate::specs::EntryReading::refused_at))]
+fn refused(words: &mut Words<'_>, seat: u16) -> Option<Entry>
+    ensures is { with_rest result words.new ≡ refused_at seat words.old }
+    ensures found { IfSome result (λ e. IsWritten e × (e.seat ≡ seat) × (codes "refused" ∷ words.old ≡ entry_words e ++ words.new)) }
+{
+    let asked = asked(words)?;
+    let fault = recorded(words)?;
+    Some(in_mode(seat, Word::Refused(fault), asked))
+}
+
+#[tactic(auto, unfolding(crate::specs::EntryReading::lapse_at))]
+fn lapse(words: &mut Words<'_>, seat: u16) -> Option<Entry>
+    ensures is { with_rest result words.new ≡ lapse_at seat words.old }
+    ensures found { IfSome result (λ e. IsWritten e × (e.seat ≡ seat) × (codes "lapse" ∷ words.old ≡ entry_words e ++ words.new)) }
+{
+    let at = condition(words)?;
+    let end = given_up(words)?;
+    Some(Entry {
+        seat,
+        word: Word::Lapse,
+        mode: Mode::X,
+        n: 0,
+        at,
+        end,
+    })
+}
+
+#[tactic(auto, unfolding(crate::specs::EntryReading::back_at))]
+fn back(words: &mut Words<'_>, seat: u16) -> Option<Entry>
+    ensures is { with_rest result words.new ≡ back_at seat words.old }
+    ensures found { IfSome result (λ e. IsWritten e × (e.seat ≡ seat) × (codes "back" ∷ words.old ≡ entry_words e ++ words.new)) }
+{
+    let (at, n) = sleepers(words)?;
+    let end = come_back(words)?;
+    Some(Entry {
+        seat,
+        word: Word::Back,
+        mode: Mode::X,
+        n,
+        at,
+        end,
+    })
+}
+
+/// An entry of an object that is held shared alone, with an amount in this range.
+#[tactic(auto, unfolding(crate::specs::EntryReading::shared_at))]
+fn shared(words: &mut Words<'_>, seat: u16, word: Word, least: u64, most: u64) -> Option<Entry>
+    requires { most ≤ 2147483647 }
+    ensures is { with_rest result words.new ≡ shared_at seat word least most words.old }
+    ensures found { IfSome result (λ e. (e ≡ in_mode seat word (S, e.n)) × (least ≤ e.n) × (e.n ≤ most) × (words.old ≡ mode_word S ∷ decimal e.n ∷ words.new)) }
+{
+    words.expect(b"s")?;
+    let n = words.number(least, most)?;
+    Some(in_mode(seat, word, (Mode::S, n as u32)))
+}
+
+/// An entry of this seat, behind its name: those with words of their own.
+#[tactic(auto, unfolding(crate::specs::EntryReading::named_entry_at))]
+fn named_entry(words: &mut Words<'_>, seat: u16, name: &[u8]) -> Option<Entry>
+    ensures is { with_rest result words.new ≡ named_entry_at seat name.now words.old }
+    ensures found { IfSome result (λ e. IsWritten e × (e.seat ≡ seat) × (name.now ∷ words.old ≡ entry_words e ++ words.new)) }
+{
+    if name == b"left".as_slice() {
+        left(words, seat)
+    } else if name == b"refused".as_slice() {
+        refused(words, seat)
+    } else if name == b"await".as_slice() {
+        Some(on_condition(seat, Word::Await, sleepers(words)?))
+    } else if name == b"lapse".as_slice() {
+        lapse(words, seat)
+    } else if name == b"signal".as_slice() {
+        Some(on_condition(seat, Word::Signal, sleepers(words)?))
+    } else if name == b"signalall".as_slice() {
+        Some(on_condition(seat, Word::SignalAll, sleepers(words)?))
+    } else if name == b"back".as_slice() {
+        back(words, seat)
+    } else if name == b"counted".as_slice() {
+        shared(words, seat, Word::Counted, 1, 1)
+    } else if name == b"drained".as_slice() {
+        shared(words, seat, Word::Drained, 0, MOST)
+    } else {
+        None
+    }
+}
+
+impl<'a> Words<'a> {
+    ghost use Rattle.std.specs.Prelude.{◌≡◌, ◌++◌, IfSome};
+    ghost use Rattle.history.specs.EntryReading.{entry_at};
+    ghost use Rattle.history.specs.EntryWords.{entry_words, IsWritten};
+    ghost use Rattle.history.specs.Reading.{with_rest};
+
+    /// Takes the words of an entry, if they come next; it is then one of this seat.
+    #[tactic(auto, unfolding(crate::specs::EntryReading::entry_at))]
+    pub fn entry(&mut self, seat: u16) -> Option<Entry>
+        ensures is { with_rest result self.new ≡ entry_at seat self.old }
+        ensures found { IfSome result (λ e. IsWritten e × (e.seat ≡ seat) × (self.old ≡ entry_words e ++ self.new)) }
+    {
+        let name = self.next()?;
+        if name == b"got".as_slice() {
+            Some(in_mode(seat, Word::Got, asked(self)?))
+        } else if name == b"trygot".as_slice() {
+            Some(in_mode(seat, Word::TryGot, asked(self)?))
+        } else if name == b"queued".as_slice() {
+            Some(in_mode(seat, Word::Queued, asked(self)?))
+        } else if name == b"granted".as_slice() {
+            Some(in_mode(seat, Word::Granted, asked(self)?))
+        } else if name == b"missed".as_slice() {
+            Some(in_mode(seat, Word::Missed, asked(self)?))
+        } else if name == b"gave".as_slice() {
+            Some(in_mode(seat, Word::Gave, asked(self)?))
+        } else {
+            named_entry(self, seat, name)
+        }
+    }
+}
+
+impl Entry {
+    ghost use Rattle.std.specs.Prelude.{◌≡◌, ◌≢◌, IfSome, IfNone};
+    ghost use Rattle.history.specs.declared.entry.Entry.{Entry};
+    ghost use Rattle.history.specs.EntryWords.{entry_words, IsWritten};
+    ghost use Rattle.history.specs.Text.{line_of};
+
+    /// The entry of this seat whose words the bytes are.
+    pub fn read_words(seat: u16, bytes: &[u8]) -> Option<Entry>
+        ensures found { IfSome result (λ e. IsWritten e × (e.seat ≡ seat) × (bytes.now ≡ line_of (entry_words e))) }
+        ensures none { IfNone result ((e : Entry) → IsWritten e → e.seat ≡ seat → bytes.now ≢ line_of (entry_words e)) }
+    {
+        let mut words = Words::of(bytes);
+        let entry = words.entry(seat)?;
+        match words.next() {
+            None => Some(entry),
+            Some(_) => None,
+        }
+    }
+}

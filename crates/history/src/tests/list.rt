@@ -1,0 +1,123 @@
+//! The list of entries.
+
+use crate::entries::History;
+use crate::entry::{End, Entry, Mode, Word};
+use crate::fault::Fault;
+use std::test::Fail;
+
+fn of(seat: u16, word: Word) -> Entry {
+    Entry {
+        seat,
+        word,
+        mode: Mode::X,
+        n: 1,
+        at: 0,
+        end: End::None,
+    }
+}
+
+#[test]
+fn entries_are_kept_in_their_order(rt: HostRuntime) -> Result<(), Fail> {
+    let mut history = History::open(rt.alloc(), 16);
+    assert!(rt; history.is_empty());
+    assert_eq!(rt;
+        (
+            history.len(),
+            history.owed(),
+            history.places(),
+            history.calls()
+        ),
+        (0, 0, 0, 0)
+    );
+    assert_eq!(rt; history.cap(), 16);
+    history.make_room(3)?;
+    assert!(rt; 3 <= history.places());
+    history.add(of(0, Word::Got), 1);
+    assert_eq!(rt; history.owed(), 1);
+    history.add(of(1, Word::Queued), 0);
+    history.make_room(1)?;
+    history.add(of(0, Word::Gave), 0);
+    assert!(rt; !history.is_empty());
+    assert_eq!(rt; history.len(), 3);
+    assert_eq!(rt; history.calls(), 2);
+    assert_eq!(rt; history.get(0), Some(of(0, Word::Got)));
+    assert_eq!(rt; history.get(1), Some(of(1, Word::Queued)));
+    assert_eq!(rt; history.get(2), Some(of(0, Word::Gave)));
+    assert_eq!(rt; history.get(3), None);
+    assert_eq!(rt; history.get(18_446_744_073_709_551_615), None);
+    Ok(())
+}
+
+#[test]
+fn each_word_ends_a_call_but_three(rt: HostRuntime) -> Result<(), Fail> {
+    let refused = Word::Refused(Fault::NotOwner);
+    for (word, ended) in [
+        (Word::Got, 1),
+        (Word::TryGot, 1),
+        (Word::Queued, 0),
+        (Word::Granted, 1),
+        (Word::Missed, 1),
+        (Word::Left, 1),
+        (Word::Gave, 1),
+        (refused, 1),
+        (Word::Await, 0),
+        (Word::Lapse, 0),
+        (Word::Signal, 1),
+        (Word::SignalAll, 1),
+        (Word::Back, 1),
+        (Word::Counted, 1),
+        (Word::Drained, 1),
+    ] {
+        let mut history = History::open(rt.alloc(), 16);
+        history.make_room(1)?;
+        history.add(of(0, word), 0);
+        assert_eq!(rt; history.calls(), ended, "{word:?}");
+    }
+    Ok(())
+}
+
+#[test]
+fn room_ends_at_the_cap(rt: HostRuntime) -> Result<(), Fail> {
+    let mut history = History::open(rt.alloc(), 16);
+    assert_eq!(rt; history.make_room(17), Err(Fault::HistoryFull));
+    assert_eq!(rt;
+        history.make_room(18_446_744_073_709_551_615),
+        Err(Fault::HistoryFull)
+    );
+    assert_eq!(rt; history.places(), 0);
+    history.make_room(0)?;
+    assert_eq!(rt; history.places(), 0);
+    history.make_room(16)?;
+    assert_eq!(rt; history.places(), 16);
+    history.add(of(0, Word::Got), 14);
+    assert_eq!(rt; history.make_room(2), Err(Fault::HistoryFull));
+    assert_eq!(rt;
+        (history.len(), history.owed(), history.places()),
+        (1, 14, 16)
+    );
+    history.make_room(1)?;
+    assert_eq!(rt; history.places(), 16);
+    history.add(of(0, Word::Got), 14);
+    assert_eq!(rt; history.make_room(1), Err(Fault::HistoryFull));
+    history.make_room(0)?;
+    Ok(())
+}
+
+/// The places double: 100,000 entries that ask for room one by one move a few times, not each time.
+#[test]
+fn many_entries_grow_the_list_seldom(rt: HostRuntime) -> Result<(), Fail> {
+    let mut history = History::open(rt.alloc(), 100_000);
+    let mut grown: u64 = 0;
+    for _ in 0..100_000 {
+        let before = history.places();
+        history.make_room(1)?;
+        if history.places() != before {
+            grown = grown.saturating_add(1);
+        }
+        history.add(of(0, Word::Got), 0);
+    }
+    assert_eq!(rt; history.len(), 100_000);
+    assert_eq!(rt; history.places(), 100_000);
+    assert!(rt; grown <= 18, "grown {grown} times");
+    Ok(())
+}

@@ -1,0 +1,104 @@
+-- The histories that break a law, computed, and why none of them is legal.
+use Rattle.std.proofs.Common.{◌≡◌, ◌≢◌, ℕ, ◌+◌, ◌*◌, ◌<◌, ◌≤◌, Bool, true, false, List, [], ◌∷◌, length, Option, Some, None, refl, ap, arith}
+use Rattle.std.specs.Prelude.{ℤ, pos, ◌≤ℤ◌}
+use Rattle.std.proofs.lemmas.Int.{ints}
+use Rattle.history.specs.declared.arrival.Arrival.{Arrival}
+use Rattle.history.specs.declared.entry.Entry.{Entry}
+use Rattle.history.specs.declared.entry.Mode.TheVariants.{X, S}
+use Rattle.history.specs.declared.entry.Word.{Word}
+use Rattle.history.specs.declared.entry.Word.TheVariants as word
+use Rattle.history.specs.declared.fault.Fault.TheVariants as fault
+use Rattle.history.specs.Conservation.{IsConserved}
+use Rattle.history.specs.Counts.{free, held}
+use Rattle.history.specs.Legal.{IsLegal}
+use Rattle.history.specs.Ownership.{IsOwned, IsSaved}
+use Rattle.history.specs.Room.{Fits, owed, releases, reserves}
+use Rattle.history.specs.Start.{opening}
+use Rattle.history.specs.Steps.{plain}
+use Rattle.history.proofs.Entering.{Known, known}
+use Rattle.laws.specs.Breaks.{drained_too_many, full, leaves_unseen, lock, permit_slept_away, read_write, reader_beside_owner, released_too_many, semaphore, stranger_sleeps, two_owners}
+
+-- what two numbers are not
+not_seen : (a : Arrival) → ◌≡◌ {A = Option Arrival} None (Some a) → ⊥
+not_seen a q = cc
+
+not_one : ◌≡◌ {A = ℕ} 0 1 → ⊥
+not_one q = absurd (omega (arith, q))
+
+not_true : false ≡ true → ⊥
+not_true q = cc
+
+pub full_fits : Fits (opening lock) full
+full_fits = omega arith
+
+pub leaving_unseen_uneven : owed (opening lock) (leaves_unseen ∷ full)
+    + releases lock.object leaves_unseen ≢ owed (opening lock) full + reserves lock.object leaves_unseen
+leaving_unseen_uneven q = absurd (omega (arith, q))
+
+pub leaving_unseen_illegal : IsLegal (opening lock) (leaves_unseen ∷ full) → ⊥
+leaving_unseen_illegal legal =
+    let k : Known (opening lock) full leaves_unseen =
+    known (opening lock) full legal.0.0 leaves_unseen legal.0.1 in
+    not_seen k.0 k.1.stands
+
+pub two_owners_two : IsOwned (opening lock) two_owners → ⊥
+two_owners_two v = not_one (v.one 0 1 (omega arith) (omega arith))
+
+pub two_owners_illegal : IsLegal (opening lock) two_owners → ⊥
+two_owners_illegal legal =
+    let k : Known (opening lock) (plain 0 word.Got X 1 ∷ []) (plain 1 word.Got X 1) =
+    known (opening lock) (plain 0 word.Got X 1 ∷ []) legal.0.0 (plain 1 word.Got X 1) legal.0.1 in
+    not_true k.1
+
+pub beside_two : IsOwned (opening read_write) reader_beside_owner → ⊥
+beside_two v = not_one (v.alone 0 1 (omega arith) (omega arith))
+
+pub beside_illegal : IsLegal (opening read_write) reader_beside_owner → ⊥
+beside_illegal legal =
+    let k : Known (opening read_write) (plain 0 word.Got X 1 ∷ []) (plain 1 word.Got S 1) =
+    known (opening read_write) (plain 0 word.Got X 1 ∷ []) legal.0.0 (plain 1 word.Got S 1) legal.0.1 in
+    not_true k.1
+
+pub stranger_nothing : IsSaved (opening lock) stranger_sleeps 0 → ⊥
+stranger_nothing v = let l = v.some in absurd (omega (arith, l))
+
+pub stranger_illegal : IsLegal (opening lock) stranger_sleeps → ⊥
+stranger_illegal legal =
+    let k : Known (opening lock) [] (plain 0 word.Await X 0) =
+    known (opening lock) [] legal.0.0 (plain 0 word.Await X 0) legal.0.1 in
+    nobody 0 k.0.owner
+  where
+    nobody : (i : ℕ) → ◌≡◌ {A = Option ℕ} None (Some i) → ⊥
+    nobody i q = cc
+
+pub slept_away_lost : IsConserved (opening semaphore) permit_slept_away → ⊥
+slept_away_lost q = absurd (omega (arith, ints, q))
+
+pub slept_away_illegal : IsLegal (opening semaphore) permit_slept_away → ⊥
+slept_away_illegal legal =
+    let k : Known (opening semaphore) (plain 0 word.Got S 1 ∷ []) (plain 0 word.Await S 1) =
+    known (opening semaphore) (plain 0 word.Got S 1 ∷ []) legal.0.0
+    (plain 0 word.Await S 1) legal.0.1 in
+    not_true k.0.lock
+
+pub released_past : free (opening semaphore) released_too_many ≤ℤ pos 2147483647 → ⊥
+released_past l = absurd (omega (arith, ints, l))
+
+pub released_illegal : IsLegal (opening semaphore) released_too_many → ⊥
+released_illegal legal =
+    let k : Known (opening semaphore) [] (plain 0 word.Gave S 2147483647) =
+    known (opening semaphore) [] legal.0.0 (plain 0 word.Gave S 2147483647) legal.0.1 in
+    not_gave k.1
+  where
+    not_gave : word.Refused fault.TooManyPermits ≡ word.Gave → ⊥
+    not_gave q = cc
+
+pub drained_past : held (opening semaphore) drained_too_many 0 S ≤ 2147483647 * length drained_too_many → ⊥
+drained_past l = absurd (omega (arith, l))
+
+pub drained_illegal : IsLegal (opening semaphore) drained_too_many → ⊥
+drained_illegal legal =
+    let k : Known (opening semaphore) [] (plain 0 word.Drained S 3000000000) =
+    known (opening semaphore) [] legal.0.0 (plain 0 word.Drained S 3000000000) legal.0.1 in
+    let n : ◌≡◌ {A = ℕ} 3000000000 1 = ap (λ (x : Entry). x.n) k.2 in
+    absurd (omega (arith, n))

@@ -1,0 +1,16 @@
+use Rattle.std.proofs.Common.{◌∙◌, sym, ap, not, ◌&&◌, true, false, refl, Bool, ◌≡◌, ⊎_elim}
+use Rattle.frame.specs.Hooks.{line_mode}
+use Rattle.reentrant.proofs.Owning.{held_back_is}
+use Rattle.reentrant.proofs.lock.LockHooksHooks.holds_back.Goals as goal
+
+and_true : (b : Bool) → (b && true) ≡ b
+and_true true = refl
+and_true false = refl
+
+pub returns-in-Fair : goal.returns-in-Fair
+returns-in-Fair c k h =
+    let s = c.args.self.now in
+    let e = held_back_is s.policy s.owner s.holds k s.owned h (line_mode c.args.line) c.args.who c.args._mode in
+    let blocked = and_true (not c.owns.result) in
+    let by = rw c.owns.ensures at blocked in
+    ap not c.owns.ensures ∙ sym (e ∙ ⊎_elim (λ x. rw x (rw c.in-Fair.is by)) (λ x. rw x (rw c.in-Fair.is by)) c.in-FirstX.is)

@@ -1,0 +1,30 @@
+-- A lock's hooks as an open makes them, and counts that hooks stand for.
+use Rattle.std.specs.Prelude.{◌≡◌, ℕ, Option, refl, pos}
+use Rattle.history.specs.declared.entry.Mode.{Mode}
+use Rattle.history.specs.declared.entry.Mode.TheVariants.{X, S}
+use Rattle.history.specs.Counts.{Counts}
+use Rattle.frame.specs.Hooks.{opening_counts}
+use Rattle.frame.specs.Owners.{holds_of, Owns}
+use Rattle.frame.proofs.Owners.{owns_opening, seats_for, owner_below}
+use Rattle.reentrant.specs.Lock.{Stands, lock_of, IsOpened}
+use Rattle.reentrant.specs.declared.lock.LockHooks.{LockHooks}
+
+pub opens_so : (s : LockHooks) (seats : ℕ) → IsOpened s seats → Stands s (opening_counts (lock_of s) seats)
+opens_so s seats opened =
+    record { object = refl; owns = owns_opening s.owner s.holds (lock_of s) seats opened; none_shared = λ i. refl }
+
+pub same_policy : (s : LockHooks) (k : Counts) → Stands s k → k.object ≡ lock_of s
+same_policy s k h = h.object
+
+abbrev held_by : Option ℕ → ℕ → ℕ → Mode → ℕ
+held_by o holds i X = holds_of o holds i
+held_by o holds i S = 0
+
+abbrev some_counts_of : LockHooks → Counts
+some_counts_of s =
+    record { object = lock_of s; seats = seats_for s.owner; held = held_by s.owner s.holds; free = pos 0; count = 0 }
+
+pub some_counts : (s : LockHooks) → (k : Counts) × Stands s k
+some_counts s =
+    let owns : Owns s.owner s.holds (some_counts_of s) = record { held = λ i. refl; seat = owner_below s.owner } in
+    (some_counts_of s, record { object = refl; owns = owns; none_shared = λ i. refl })

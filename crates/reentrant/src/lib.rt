@@ -1,0 +1,4 @@
+//! The hooks of a reentrant lock.
+#![tactic(auto)]
+
+pub mod lock;

@@ -1,0 +1,155 @@
+//! Who owns a lock, and how often.
+
+ghost use Rattle.std.specs.Prelude.{◌≡◌, ℕ, true};
+ghost use Rattle.frame.specs.Owners.{holds_of, is_owned};
+ghost use Rattle.history.specs.Could.{is_none_or, is_seat, max_holds};
+ghost use Rattle.history.specs.declared.header.Object.TheVariants.{Lock};
+
+use frame::hooks::{Gave, Hooks, Line, Taken};
+use history::entry::Mode;
+use history::fault::Fault;
+use history::header::{Object, Policy};
+
+/// The greatest number of holds of one seat.
+const MAX_HOLDS: u32 = 2_147_483_647;
+
+/// The hooks of a lock: as in ReentrantLock, the state is the owner and its number of holds.
+#[derive(Drop)]
+pub struct LockHooks {
+    policy: Policy,
+    owner: Option<u16>,
+    holds: u32,
+    // An owner has a hold, and without one there is none.
+    ghost owned: { is_owned max_holds owner holds ≡ true },
+}
+
+impl LockHooks {
+    ghost use Rattle.reentrant.specs.Lock.{lock_of, IsOpened};
+
+    /// The hooks of a lock that nobody owns, for any number of seats.
+    pub fn open(policy: Policy) -> LockHooks
+        ensures object { lock_of result ≡ Lock policy }
+        ensures opened { (seats : ℕ) → IsOpened result seats }
+    {
+        LockHooks {
+            policy,
+            owner: None,
+            holds: 0,
+        }
+    }
+
+    fn owns(&self, who: u16) -> bool
+        ensures { result ≡ is_seat self.now.owner who }
+    {
+        match self.owner {
+            None => false,
+            Some(owner) => owner == who,
+        }
+    }
+
+    fn admits(&self, who: u16) -> bool
+        ensures { result ≡ is_none_or self.now.owner who }
+    {
+        match self.owner {
+            None => true,
+            Some(owner) => owner == who,
+        }
+    }
+
+    fn holds_of(&self, who: u16) -> u32
+        ensures { result ≡ holds_of self.now.owner self.now.holds who }
+    {
+        if self.owns(who) { self.holds } else { 0 }
+    }
+}
+
+impl Hooks for LockHooks {
+    ghost use Rattle.reentrant.specs.Laws.{opens_so, same_policy, some_counts};
+    ghost use Rattle.reentrant.specs.Lock.{Stands, lock_of, IsOpened};
+
+    ghost agrees = { Stands };
+
+    ghost object_of = { lock_of };
+
+    ghost is_opened = { IsOpened };
+
+    ghost opens = { opens_so };
+
+    ghost same_object = { same_policy };
+
+    ghost stands = { some_counts };
+
+    fn could(&self, who: u16, mode: Mode, _n: u32) -> bool {
+        match mode {
+            Mode::X => self.admits(who) && self.holds_of(who) < MAX_HOLDS,
+            Mode::S => false,
+        }
+    }
+
+    fn at_limit(&self, who: u16, mode: Mode) -> bool {
+        match mode {
+            Mode::X => self.holds_of(who) == MAX_HOLDS,
+            Mode::S => false,
+        }
+    }
+
+    fn holds_back(&self, who: u16, _mode: Mode, line: Line) -> bool {
+        match line {
+            Line::Empty => false,
+            Line::FirstX | Line::FirstS => match self.policy {
+                Policy::Fair => !self.owns(who),
+                Policy::NonFair => false,
+            },
+        }
+    }
+
+    fn take(&mut self, who: u16, _mode: Mode, _n: u32) -> Taken {
+        self.owner = Some(who);
+        self.holds += 1;
+        Taken::Last
+    }
+
+    fn give(&mut self, who: u16, mode: Mode, _n: u32) -> Result<Gave, Fault> {
+        match mode {
+            Mode::X if self.owns(who) => {}
+            Mode::X | Mode::S => return Err(Fault::NotOwner),
+        }
+        self.holds -= 1;
+        if self.holds > 0 {
+            return Ok(Gave::Kept);
+        }
+        self.owner = None;
+        Ok(Gave::Open)
+    }
+
+    fn let_go_all(&mut self, who: u16) -> Result<u32, Fault> {
+        if !self.owns(who) {
+            return Err(Fault::NotOwner);
+        }
+        let holds = self.holds;
+        self.owner = None;
+        self.holds = 0;
+        Ok(holds)
+    }
+
+    fn restore(&mut self, who: u16, holds: u32) {
+        self.owner = Some(who);
+        self.holds = holds;
+    }
+
+    fn drain(&mut self) -> u32 {
+        0
+    }
+
+    fn as_opened(&self, _seats: u16) -> bool {
+        self.owner.is_none()
+    }
+
+    fn object(&self) -> Object {
+        Object::Lock(self.policy)
+    }
+
+    fn level(&self) -> i64 {
+        0
+    }
+}

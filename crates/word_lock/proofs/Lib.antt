@@ -1,0 +1,12 @@
+pub mod Lists
+pub mod PointLaws
+pub mod Rules
+pub mod Exchanging
+pub mod Storing
+pub mod Looking
+pub mod Splitting
+pub mod Joining
+pub mod Opening
+pub mod Meeting
+pub mod Tokens
+pub mod Sections

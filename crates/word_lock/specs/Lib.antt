@@ -1,0 +1,5 @@
+pub mod Point
+pub mod Rule
+pub mod Ticket
+pub mod Held
+pub mod Ready

@@ -1,0 +1,86 @@
+-- Locks and tokens as contracts see them.
+use Rattle.std.specs.Prelude.{◌≡◌, ℕ, zero, suc, Bool, true, false, List, [], ◌∷◌, ◌++◌}
+use Rattle.atomic_table.specs.Seated.{TableId}
+use Rattle.history.specs.declared.entry.Entry.{Entry}
+use Rattle.history.specs.declared.header.Header.{Header}
+use Rattle.word_lock.specs.declared.point.Point.{Point}
+use Rattle.word_lock.specs.declared.view.SeatLog.{SeatLog}
+use Rattle.word_lock.specs.declared.view.View.{View}
+use Rattle.word_lock.specs.Point.{header_of, added}
+use Rattle.word_lock.specs.Rule.{spent_view}
+
+-- which lock it is, and the header of the value that it was opened with
+pub record LockId : Type 0 where
+  pub table : TableId
+  pub header : Header
+
+abbrev pub lock_id : TableId → Point → LockId
+lock_id table p = record { table = table; header = header_of p }
+
+-- the lock that a token is of, whether it has nothing out, the entries that each of its seats has added, and what it has seen
+pub record Ticket : Type 0 where
+  pub lock : LockId
+  pub free : Bool
+  pub logs : List SeatLog
+  pub seen : Point
+
+abbrev pub ticket : TableId → Bool → View → Ticket
+ticket table free v = record { lock = lock_id table v.seen; free = free; logs = v.logs; seen = v.seen }
+
+-- the view of a badge, which has one or none
+abbrev pub view_of_badge : List View → View
+view_of_badge [] = spent_view
+view_of_badge (v ∷ vs) = v
+
+abbrev pub badge_when : Bool → View → List View
+badge_when true v = v ∷ []
+badge_when false v = []
+
+-- a token that is free has a view, which holds nothing and has looked since it was joined; one that isn't has none
+pub record IsTokenInside (views : List View) (free : Bool) : Type 0 where
+  pub has_view : views ≡ badge_when free (view_of_badge views)
+  pub holds : (view_of_badge views).holds ≡ false
+  pub live : (view_of_badge views).live ≡ free
+  pub joined : (view_of_badge views).joined ≡ []
+
+-- a view that holds nothing and has looked since it was joined
+abbrev pub IsIdle : View → Type 0
+IsIdle v = (v.holds ≡ false) × (v.live ≡ true) × (v.joined ≡ [])
+
+-- the view, on this table, is that of the token
+pub record IsSeatOf (table : TableId) (v : View) (t : Ticket) : Type 0 where
+  pub table_is : table ≡ t.lock.table
+  pub header_is : header_of v.seen ≡ t.lock.header
+  pub logs_are : v.logs ≡ t.logs
+  pub seen_is : v.seen ≡ t.seen
+
+-- the first log: the only one of a token that no other was joined to
+abbrev pub first_seat : List SeatLog → ℕ
+first_seat [] = 0
+first_seat (l ∷ ls) = l.seat
+
+abbrev pub first_entries : List SeatLog → List Entry
+first_entries [] = []
+first_entries (l ∷ ls) = l.entries
+
+-- the token of the seat k, before any step
+abbrev pub opening_ticket : LockId → ℕ → Point → Ticket
+opening_ticket lock k p = record { lock = lock; free = true; logs = record { seat = k; entries = [] } ∷ []; seen = p }
+
+-- the tokens of the n seats from k on, in order
+abbrev pub opening_tickets : LockId → Point → ℕ → ℕ → List Ticket
+opening_tickets lock p k zero = []
+opening_tickets lock p k (suc n) = opening_ticket lock k p ∷ opening_tickets lock p (suc k) n
+
+-- after a lock that found the point p
+abbrev pub after_lock : Ticket → Point → Ticket
+after_lock t p = record { lock = t.lock; free = false; logs = t.logs; seen = p }
+
+-- after an unlock, of a token with one seat, that gave back the point p
+abbrev pub after_unlock : Ticket → Point → Ticket
+after_unlock t p =
+    record { lock = t.lock; free = true; logs = record { seat = first_seat t.logs; entries = added t.seen p ++ first_entries t.logs } ∷ []; seen = p }
+
+-- after a meeting at which p was seen
+abbrev pub after_meet : Ticket → Point → Ticket
+after_meet t p = record { lock = t.lock; free = t.free; logs = t.logs; seen = p }

@@ -1,0 +1,262 @@
+//! The lock. What its rule says and why each step keeps it stands at the head of the crate.
+ghost use Rattle.std.specs.Prelude.{◌≡◌, ℕ, true, false, List, [], ◌∷◌, ◌++◌, ◌<◌, length, Some, None, IfSome, IfNone, IfOk, IfErr};
+ghost use Rattle.word_lock.specs.Point.{header_of, Before, Follows};
+ghost use Rattle.word_lock.specs.Rule.{view_after_take, view_after_give, AllAgree, AreDistinct, IsFound};
+ghost use Rattle.word_lock.specs.Ticket.{opening_tickets, after_lock, after_unlock, after_meet, first_seat, IsIdle};
+ghost use Rattle.word_lock.specs.Held.{held_ticket};
+
+use crate::chronicle::Chronicle;
+use crate::dealing::{LockTable, make_table, split_token};
+use crate::held::Held;
+use crate::steps::{Give, JoinTokens, Look, Take};
+use crate::token::Token;
+use crate::view::View;
+use atomic_table::Seat;
+use history::fault::Fault;
+use std::alloc::Global;
+use std::hint::spin_loop;
+use std::marker::Model;
+use std::sync::Wait;
+use std::sync::atomic::{AtomicU64, Ordering};
+
+// How often a thread looks at the word before it parks.
+const LOOKS: u32 = 1000;
+
+/// A value that one token at a time may have. A contract sees which lock it is, and the header of the
+/// value that it was opened with.
+#[derive(Drop)]
+pub struct WordLock<T: Chronicle> {
+    table: LockTable<T, Global>,
+    // How many threads park on the word, or are about to.
+    sleepers: AtomicU64,
+}
+
+impl<T: Chronicle> Model for WordLock<T> {
+    ghost use Rattle.std.specs.Prelude.{◌≡◌};
+    ghost use Rattle.word_lock.specs.Ticket.{LockId, lock_id};
+
+    ghost Value = { LockId };
+
+    ghost view = { λ l. lock_id l.table.shared.table_id (T.point l.table.shared.key.value.value) };
+
+    ghost invariant = { λ l. (l.table.shared.table_id.words ≡ 1) × (l.table.shared.table_id.slots ≡ 1) };
+}
+
+impl<T: Chronicle> WordLock<T> {
+    /// The lock, and a token for each seat below `seats`, in order. The list of the value is empty.
+    /// Where memory is refused the value comes back.
+    pub fn open(
+        alloc: Global,
+        value: T,
+        seats: u16,
+    ) -> Result<(WordLock<T>, Vec<Token>), (T, Fault)>
+        requires fact { T.fact value }
+        requires empty { (T.point value).list ≡ [] }
+        requires some_seat { 0 < seats }
+        ensures header { IfOk result (λ r. r.0.header ≡ header_of (T.point value)) }
+        ensures tokens { IfOk result (λ r. r.1.items ≡ opening_tickets r.0 (T.point value) 0 seats) }
+        ensures refused { IfErr result (λ e. (e.0 ≡ value) × (e.1 ≡ Fault.OutOfMemory)) }
+    {
+        match make_table(alloc, value, seats) {
+            Ok((table, tokens)) => {
+                let sleepers = AtomicU64::new(0);
+                Ok((WordLock { table, sleepers }, tokens))
+            }
+            Err(value) => Err((value, Fault::OutOfMemory)),
+        }
+    }
+
+    /// Takes the value, and waits until it is there.
+    #[inline]
+    pub fn lock<R: Wait>(&self, rt: &R, token: &mut Token) -> Held<T>
+        requires own { token.old.lock ≡ self.now }
+        requires free { token.old.free ≡ true }
+        ensures taken { (token.new.free ≡ false) × (held_ticket result ≡ after_lock token.old (T.point result.value)) }
+        ensures fact { T.fact result.value }
+        ensures header { header_of (T.point result.value) ≡ self.now.header }
+        ensures begins { Before token.old.seen (T.point result.value) }
+        ensures entries { AllAgree (T.point result.value) token.old.logs }
+        ensures distinct { AreDistinct token.old.logs }
+    {
+        for _ in rt.forever() {
+            if let Some(held) = self.lock_now(token) {
+                return held;
+            }
+            if self.stays_taken() {
+                self.sleep(rt);
+            }
+        }
+        unreachable!()
+    }
+
+    /// Takes the value if it is there: one exchange, which waits for nobody. None changes nothing.
+    #[inline(always)]
+    pub fn lock_now(&self, token: &mut Token) -> Option<Held<T>>
+        requires own { token.old.lock ≡ self.now }
+        requires free { token.old.free ≡ true }
+        ensures none { IfNone result (token.new ≡ token.old) }
+        ensures taken { IfSome result (λ h. (token.new.free ≡ false) × (held_ticket h ≡ after_lock token.old (T.point h.value))) }
+        ensures fact { IfSome result (λ h. T.fact h.value) }
+        ensures header { IfSome result (λ h. header_of (T.point h.value) ≡ self.now.header) }
+        ensures begins { IfSome result (λ h. Before token.old.seen (T.point h.value)) }
+        ensures entries { IfSome result (λ h. AllAgree (T.point h.value) token.old.logs) }
+        ensures distinct { IfSome result (λ _. AreDistinct token.old.logs) }
+    {
+        let mut seat = token.take();
+        match self.take_value(&mut seat) {
+            Some(value) => Some(Held { value, seat }),
+            None => {
+                *token = Token::of(seat);
+                None
+            }
+        }
+    }
+
+    /// Gives the value back: what was added since it was taken is of the token's own seat. It wakes one
+    /// who sleeps, takes no memory and waits for nobody.
+    #[inline(always)]
+    pub fn unlock(&self, token: &mut Token, held: Held<T>)
+        requires own { (held_ticket held).lock ≡ self.now }
+        requires holds { token.old.free ≡ false }
+        requires one { length (held_ticket held).logs ≡ 1 }
+        requires fact { T.fact held.value }
+        requires follows { Follows (first_seat (held_ticket held).logs) (held_ticket held).seen (T.point held.value) }
+        ensures { token.new ≡ after_unlock (held_ticket held) (T.point held.value) }
+    {
+        let Held { value, mut seat } = held;
+        self.put_value(&mut seat, value);
+        *token = Token::of(seat);
+        self.wake();
+    }
+
+    /// Ties what two tokens have seen: both have then seen one list. It takes no memory and waits for nobody.
+    pub fn meet(&self, one: Token, two: Token) -> (Token, Token)
+        requires own { (one.lock ≡ self.now) × (two.lock ≡ self.now) }
+        requires free { (one.free ≡ true) × (two.free ≡ true) }
+        ensures one { result.0 ≡ after_meet one result.0.seen }
+        ensures two { result.1 ≡ after_meet two result.0.seen }
+        ensures begins { Before one.seen result.0.seen × Before two.seen result.0.seen }
+        ensures sound { T.sound result.0.seen }
+        ensures entries { AllAgree result.0.seen one.logs × AllAgree result.0.seen two.logs }
+    {
+        let mut second = self.tie(one.into_seat(), two.into_seat());
+        let first = split_token(&self.table.shared, &mut second);
+        (Token::of(first), Token::of(second))
+    }
+
+    /// One token with the seats of both, which serves `join` and `close` alone. It takes no memory and
+    /// waits for nobody.
+    pub fn join(&self, one: Token, two: Token) -> Token
+        requires own { (one.lock ≡ self.now) × (two.lock ≡ self.now) }
+        requires free { (one.free ≡ true) × (two.free ≡ true) }
+        ensures token { (result.lock ≡ self.now) × (result.free ≡ true) × (result.logs ≡ one.logs ++ two.logs) }
+        ensures begins { Before one.seen result.seen × Before two.seen result.seen }
+        ensures sound { T.sound result.seen }
+        ensures entries { AllAgree result.seen result.logs }
+    {
+        Token::of(self.tie(one.into_seat(), two.into_seat()))
+    }
+
+    /// Takes the value for good, and waits until it is there.
+    pub fn close<R: Wait>(self, rt: &R, mut token: Token) -> T
+        requires own { token.lock ≡ self }
+        requires free { token.free ≡ true }
+        ensures fact { T.fact result }
+        ensures header { header_of (T.point result) ≡ self.header }
+        ensures begins { Before token.seen (T.point result) }
+        ensures entries { AllAgree (T.point result) token.logs }
+        ensures distinct { AreDistinct token.logs }
+    {
+        let Held { value, seat: _ } = self.lock(rt, &mut token);
+        value
+    }
+
+    // The exchange of 0 to 1, and the value out of the slot where it wins.
+    #[inline(always)]
+    fn take_value(&self, seat: &mut Seat<Option<T>, View>) -> Option<T>
+        requires own { seat.old.table_id ≡ self.now.table }
+        requires idle { (seat.old.me.1 ≡ []) × IsIdle seat.old.me.0 }
+        ensures own { seat.new.table_id ≡ self.now.table }
+        ensures none { IfNone result (seat.new.me ≡ seat.old.me) }
+        ensures some { IfSome result (λ x. seat.new.me ≡ (view_after_take seat.old.me.0 (T.point x), (0, None) ∷ [])) }
+        ensures found { IfSome result (λ x. IsFound T.point T.fact seat.old.me.0 x) }
+    {
+        let found = self.table.shared.compare_exchange::<Take>(seat, 0, 0, 1);
+        let is_taken = found != 0;
+        if is_taken {
+            return None;
+        }
+        match self.table.shared.exchange(seat, 0, None) {
+            Some(value) => Some(value),
+            None => unreachable!(),
+        }
+    }
+
+    // The value into the slot, and the store of 0.
+    #[inline(always)]
+    fn put_value(&self, seat: &mut Seat<Option<T>, View>, value: T)
+        requires own { seat.old.table_id ≡ self.now.table }
+        requires holds { (seat.old.me.1 ≡ (0, None) ∷ []) × (seat.old.me.0.holds ≡ true) × (seat.old.me.0.live ≡ true) }
+        requires one { length seat.old.me.0.logs ≡ 1 }
+        requires fact { T.fact value }
+        requires follows { Follows (first_seat seat.old.me.0.logs) seat.old.me.0.seen (T.point value) }
+        ensures own { seat.new.table_id ≡ self.now.table }
+        ensures given { seat.new.me ≡ (view_after_give seat.old.me.0 (T.point value), []) }
+        ensures header { header_of (T.point value) ≡ header_of seat.old.me.0.seen }
+    {
+        match self.table.shared.exchange(seat, 0, Some(value)) {
+            None => {}
+            Some(_other) => unreachable!(),
+        }
+        self.table.shared.store::<Give>(seat, 0, 0);
+    }
+
+    // One view of two, which then looks what the list is.
+    fn tie(&self, one: Seat<Option<T>, View>, two: Seat<Option<T>, View>) -> Seat<Option<T>, View>
+        requires own { (one.table_id ≡ self.now.table) × (two.table_id ≡ self.now.table) }
+        requires idle { (one.me.1 ≡ []) × (two.me.1 ≡ []) × IsIdle one.me.0 × IsIdle two.me.0 }
+        ensures own { result.table_id ≡ self.now.table }
+        ensures idle { (result.me.1 ≡ []) × IsIdle result.me.0 }
+        ensures both { (result.me.0.logs ≡ one.me.0.logs ++ two.me.0.logs) × (result.me.0.split_at ≡ length one.me.0.logs) }
+        ensures begins { Before one.me.0.seen result.me.0.seen × Before two.me.0.seen result.me.0.seen }
+        ensures header { (header_of result.me.0.seen ≡ header_of one.me.0.seen) × (header_of result.me.0.seen ≡ header_of two.me.0.seen) }
+        ensures sound { T.sound result.me.0.seen }
+        ensures entries { AllAgree result.me.0.seen (one.me.0.logs ++ two.me.0.logs) }
+        ensures each { AllAgree result.me.0.seen one.me.0.logs × AllAgree result.me.0.seen two.me.0.logs }
+    {
+        let mut seat = one;
+        self.table.shared.join_seat::<JoinTokens>(&mut seat, two);
+        self.table.shared.load::<Look>(&mut seat, 0);
+        seat
+    }
+
+    // Whether the word is 1 at each of many looks. Most sections are shorter than a call of the system.
+    fn stays_taken(&self) -> bool {
+        for _ in 0..LOOKS {
+            if self.table.shared.peek(0) == 0 {
+                return false;
+            }
+            spin_loop();
+        }
+        true
+    }
+
+    // Parks while the word is 1. A thread is counted before the system compares the word, and `wake` reads
+    // the count after the store of 0. So either the thread finds the word changed and doesn't sleep, or it
+    // is seen in the count.
+    #[cold]
+    fn sleep<R: Wait>(&self, rt: &R) {
+        self.sleepers.fetch_add(1, Ordering::SeqCst);
+        self.table.shared.park(rt, 0, 1);
+        self.sleepers.fetch_sub(1, Ordering::SeqCst);
+    }
+
+    // Waking is a call of the system even where nobody sleeps, so it is left out then. It is left out too
+    // where the word is 1 again: whoever took it wakes at its own store.
+    #[inline(always)]
+    fn wake(&self) {
+        if self.sleepers.load(Ordering::SeqCst) != 0 && self.table.shared.peek(0) == 0 {
+            self.table.shared.wake_one(0);
+        }
+    }
+}

@@ -1,0 +1,69 @@
+//! A value to lock: a header beside entries, oldest first.
+ghost use Rattle.std.specs.Prelude.{◌≡◌, [], reverse};
+ghost use Rattle.word_lock.specs.Point.{Follows};
+
+use crate::Chronicle;
+use history::entry::{End, Entry, Mode, Word};
+use history::header::{Header, Object, Policy};
+use std::alloc::{AllocError, Global};
+
+pub const HEADER: Header = Header {
+    object: Object::Lock(Policy::Fair),
+    seats: 4,
+    conditions: 0,
+    cap: 4000,
+};
+
+pub fn got(seat: u16) -> Entry
+    ensures { result.seat ≡ seat }
+{
+    Entry {
+        seat,
+        word: Word::Got,
+        mode: Mode::X,
+        n: 1,
+        at: 0,
+        end: End::None,
+    }
+}
+
+#[derive(Drop)]
+pub struct Notes {
+    pub header: Header,
+    pub list: Vec<Entry>,
+}
+
+impl Chronicle for Notes {
+    ghost use Rattle.std.specs.Prelude.{reverse};
+
+    ghost point = { λ n. record { header = n.header; list = reverse n.list.items } };
+
+    ghost fact = { λ _. Unit {0} };
+
+    ghost sound = { λ _. Unit {0} };
+
+    ghost is_sound = { λ _ _. tt };
+}
+
+impl Notes {
+    pub fn new(alloc: Global) -> Notes
+        ensures { result.list.items ≡ [] }
+    {
+        Notes {
+            header: HEADER,
+            list: Vec::new(alloc),
+        }
+    }
+
+    pub fn add(&mut self, entry: Entry) -> Result<(), AllocError>
+        ensures { Follows entry.seat (record { header = self.old.header; list = reverse self.old.list.items }) (record { header = self.new.header; list = reverse self.new.list.items }) }
+    {
+        self.list.push(entry)?;
+        Ok(())
+    }
+
+    /// How many entries the seat has.
+    pub fn count_of(&self, seat: u16) -> usize {
+        self.list.iter().filter(|entry| entry.seat == seat).count()
+    }
+}
