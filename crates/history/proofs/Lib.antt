@@ -22,3 +22,4 @@ pub mod Permits
 pub mod OneOwner
 pub mod WhoWaits
 pub mod Passing
+pub mod Answering

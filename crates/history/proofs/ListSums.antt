@@ -1,7 +1,7 @@
 -- Sums over lists and over the first numbers.
-use Rattle.std.proofs.Common.{◌≡◌, ◌≢◌, ◌⊎◌, ⊎_elim, ℕ, zero, suc, ◌+◌, ◌-◌, ◌<◌, ◌≤◌, Bool, true, false, not, ◌||◌, cond, eqb, List, [], ◌∷◌, ◌++◌, length, map, take, drop, Option, Some, None, refl, ap, ◌∙◌, sym, subst, arith}
+use Rattle.std.proofs.Common.{◌≡◌, ◌≢◌, ⊎_elim, ℕ, zero, suc, ◌+◌, ◌<◌, ◌≤◌, Bool, true, false, not, ◌||◌, cond, eqb, List, [], ◌∷◌, ◌++◌, length, map, take, drop, Option, Some, None, refl, ap, sym, arith}
 use Rattle.std.specs.List.{filter}
-use Rattle.std.proofs.lemmas.Bool.{cases_eq, eq-eqb, ne_eqb, eqb-true}
+use Rattle.std.proofs.lemmas.Bool.{cases_eq, eq-eqb, ne_eqb}
 use Rattle.history.specs.declared.arrival.Arrival.{Arrival}
 use Rattle.history.specs.Counts.{total}
 use Rattle.history.specs.Line.{place_of}
@@ -48,7 +48,8 @@ sum_of_split f (suc n) (x ∷ xs) =
     let ih : sum_of f (take n xs) + sum_of f (drop n xs) ≡ sum_of f xs = sum_of_split f n xs in
     omega (arith, ih)
 
--- a list without a seat that it lacks is that list, and one without a seat that is in it once lacks that seat's term
+-- A list without a seat that it lacks is that list. The sum over one without a seat that stands in it once
+-- lacks that seat's term.
 without_none : (i : ℕ) (seats : List ℕ) → has i seats ≡ false → without i seats ≡ seats
 without_none i [] none = refl
 without_none i (j ∷ seats) none = by (eqb j i) none (λ n. without_none i seats n)

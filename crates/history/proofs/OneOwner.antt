@@ -1,6 +1,6 @@
 -- A lock or read-write lock has one owner.
-use Rattle.std.proofs.Common.{◌≡◌, ◌≢◌, ◌⊎◌, inl, inr, ⊎_elim, ℕ, zero, suc, ◌+◌, ◌-◌, ◌<◌, ◌≤◌, Bool, true, false, ◌&&◌, cond, eqb, ltb, List, [], ◌∷◌, Option, Some, None, refl, ap, ◌∙◌, sym, subst, arith}
-use Rattle.std.proofs.lemmas.Bool.{cases_eq, cases_Bool, eq-eqb, ne_eqb, eqb-true, ltb-true, ltb-false, and_parts}
+use Rattle.std.proofs.Common.{◌≡◌, ◌≢◌, ◌⊎◌, inl, inr, ⊎_elim, ℕ, zero, suc, ◌+◌, ◌<◌, ◌≤◌, Bool, true, false, ◌&&◌, cond, eqb, ltb, List, [], ◌∷◌, Option, Some, None, refl, ap, ◌∙◌, sym, subst, arith}
+use Rattle.std.proofs.lemmas.Bool.{cases_eq, cases_Bool, eq-eqb, eqb-true, ltb-true, ltb-false, and_parts}
 use Rattle.history.specs.declared.arrival.Arrival.{Arrival}
 use Rattle.history.specs.declared.entry.Entry.{Entry}
 use Rattle.history.specs.declared.entry.Mode.{Mode}
@@ -17,7 +17,7 @@ use Rattle.history.specs.Legal.{AreSeated, IsLegal}
 use Rattle.history.specs.Line.{line, place_of}
 use Rattle.history.specs.Object.{in_holds, is_lock, is_semaphore}
 use Rattle.history.specs.Ownership.{IsOwned, IsSaved, is_away, most_exclusive, most_shared}
-use Rattle.history.specs.Phase.{Phase, Idle, InLine, Sleeping, phase, phase_by}
+use Rattle.history.specs.Phase.{phase, phase_by}
 use Rattle.history.specs.Sleepers.{last_sleep, sleeps_below}
 use Rattle.history.specs.Start.{Start, opening}
 use Rattle.history.proofs.Entering.{Known, KnownBy, known, seat_is}
@@ -365,7 +365,8 @@ saved_away k h legal i t =
     by : (o : Option Arrival) (b : Bool) → place_of i (line s h) ≡ o →
         sleeps_below k.conditions s h i ≡ b → is_away (phase_by o b) ≡ true → IsSaved s h i
     by (Some a) b p q u =
-        as_saved (subst (Saved s h) (place_once i (line s h) a p).0 (placed (SavedIfBack s h) i (line s h) a v.line p u).saved)
+        let r = placed (SavedIfBack s h) i (line s h) a v.line p u in
+        as_saved (subst (Saved s h) (place_once i (line s h) a p).0 r.saved)
     by None true p q u =
         let at = sleeps_at k.conditions s h i q in
         as_saved (v.sleepers at.0 i at.2).saved

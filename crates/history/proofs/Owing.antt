@@ -1,11 +1,10 @@
 -- How the room that stays reserved changes at one entry.
-use Rattle.std.proofs.Common.{◌≡◌, ◌≢◌, ◌⊎◌, ⊎_elim, ℕ, zero, suc, ◌+◌, ◌-◌, ◌<◌, ◌≤◌, Bool, true, false, not, ◌&&◌, ◌||◌, cond, eqb, ltb, List, [], ◌∷◌, ◌++◌, length, map, take, drop, Option, Some, None, refl, ap, ◌∙◌, sym, subst, arith}
-use Rattle.std.specs.List.{filter, AllByRecursion}
-use Rattle.std.proofs.lemmas.Bool.{cases_eq, cases_Bool, eq-eqb, ne_eqb, ltb-true}
+use Rattle.std.proofs.Common.{◌≡◌, ◌≢◌, ⊎_elim, ℕ, zero, suc, ◌+◌, ◌-◌, ◌<◌, ◌≤◌, Bool, true, false, not, ◌&&◌, cond, eqb, ltb, List, [], ◌∷◌, ◌++◌, length, map, take, Some, refl, ap, ◌∙◌, sym, subst, arith}
+use Rattle.std.specs.List.{filter}
+use Rattle.std.proofs.lemmas.Bool.{cases_Bool, eq-eqb, ne_eqb, ltb-true}
 use Rattle.std.proofs.lemmas.List.{append-nil}
 use Rattle.history.specs.declared.arrival.Arrival.{Arrival}
 use Rattle.history.specs.declared.entry.Entry.{Entry}
-use Rattle.history.specs.declared.entry.End.{End}
 use Rattle.history.specs.declared.entry.Mode.{Mode}
 use Rattle.history.specs.declared.entry.Mode.TheVariants.{X, S}
 use Rattle.history.specs.declared.entry.Word.{Word}
@@ -18,17 +17,17 @@ use Rattle.history.specs.Counts.{Counts, counts, held, holds_after, total}
 use Rattle.history.specs.Entry.{same_mode, ends_arrival}
 use Rattle.history.specs.Line.{line, arrivals_by, coming_back, place_of}
 use Rattle.history.specs.Object.{is_lock, is_semaphore, in_holds}
-use Rattle.history.specs.Phase.{Phase, Idle, InLine, Sleeping, phase, phase_by}
+use Rattle.history.specs.Phase.{Sleeping, phase}
 use Rattle.history.specs.Room.{released_by, releases, reserved_by, reserves, sum_of, holds_owe, arrival_owes, sleeper_owes, sleepers_owe, owed}
-use Rattle.history.specs.Sleepers.{sleepers, sleepers_after, sleep_after, last_sleep, sleeps_below, has, without}
+use Rattle.history.specs.Sleepers.{sleepers, sleepers_after, sleep_after, last_sleep, sleeps_below, has}
 use Rattle.history.specs.Legal.{IsLegal, AreSeated}
 use Rattle.history.specs.Start.{Start, Sleep, opening}
 use Rattle.history.specs.Waiting.{times, seats_of, IsOneWait}
 use Rattle.history.specs.Steps.{gave, at_most_one, back, lapse}
 use Rattle.history.proofs.Changes.{all_stay}
-use Rattle.history.proofs.Entering.{Known, KnownBy, Asked, OnCondition, LeavesLine, known}
+use Rattle.history.proofs.Entering.{Known, KnownBy, OnCondition, LeavesLine, known}
 use Rattle.history.proofs.LineLemmas.{line_after, stays, no_arrival}
-use Rattle.history.proofs.ListSums.{sum_of_append, sum_of_same, sum_of_more, sum_of_map, sum_of_split, sum_of_without, line_without, sum_of_line_without, sum_of_others, sum_of_line_others, total_agree, total_change_below}
+use Rattle.history.proofs.ListSums.{sum_of_append, sum_of_same, sum_of_more, sum_of_map, sum_of_split, sum_of_without, line_without, sum_of_line_without, sum_of_others, sum_of_line_others, total_change_below}
 use Rattle.history.proofs.OneWait.{Waits, SavedIfBack, placed, waits}
 use Rattle.history.proofs.SleepLemmas.{awake_nowhere, idle_parts, last_sleep_other, sleeping_parts, sleeps_at, times-waiting}
 use Rattle.history.proofs.Times.{never_has, place_once, total_part}

@@ -1,6 +1,6 @@
 -- Room: what was owed has it, and what is answered keeps it.
-use Rattle.std.proofs.Common.{◌≡◌, ℕ, zero, suc, ◌+◌, ◌<◌, ◌≤◌, Bool, true, false, cond, leb, ltb, List, [], ◌∷◌, length, Option, Some, None, Result, Ok, Err, refl, ap, ◌∙◌, sym, subst, arith}
-use Rattle.std.proofs.lemmas.Bool.{cases_Bool, le-leb, leb-true, ltb-true}
+use Rattle.std.proofs.Common.{◌≡◌, ℕ, zero, suc, ◌+◌, ◌<◌, ◌≤◌, Bool, true, false, cond, List, [], ◌∷◌, Option, Some, None, Result, Ok, Err, refl, ◌∙◌, arith}
+use Rattle.std.proofs.lemmas.Bool.{le-leb, leb-true, ltb-true}
 use Rattle.history.specs.declared.entry.Entry.{Entry}
 use Rattle.history.specs.declared.entry.Word.{Word}
 use Rattle.history.specs.declared.entry.Word.TheVariants as word
@@ -12,7 +12,7 @@ use Rattle.history.specs.Answers.{answer, answer_by, recorded, results}
 use Rattle.history.specs.Counts.{total}
 use Rattle.history.specs.Legal.{AreSeated, IsLegal}
 use Rattle.history.specs.Object.{is_lock}
-use Rattle.history.specs.Room.{released_by, reserved_by, Fits, has_room, holds_owe, owed, sleepers_owe, was_owed, was_owed_by}
+use Rattle.history.specs.Room.{released_by, reserved_by, Fits, has_room, sleepers_owe, was_owed, was_owed_by}
 use Rattle.history.specs.Start.{Start, opening}
 use Rattle.history.specs.Steps.{entry_for}
 use Rattle.history.proofs.Entering.{Known, known}

@@ -23,15 +23,18 @@ pub fn permits_are_conserved()
 
 /// Free permits are never more than 2147483647, nor fewer than a number of 32 bits may be.
 pub fn free_permits_stay_in_range()
-    ensures at_most { (k : Header) (h : List Entry) → IsInRange k → is_semaphore k.object ≡ true → IsLegal (opening k) h →
+    ensures at_most { (k : Header) (h : List Entry) →
+        IsInRange k → is_semaphore k.object ≡ true → IsLegal (opening k) h →
         free (opening k) h ≤ℤ pos 2147483647 }
-    ensures fits { (k : Header) (h : List Entry) → IsInRange k → is_semaphore k.object ≡ true → IsLegal (opening k) h →
+    ensures fits { (k : Header) (h : List Entry) →
+        IsInRange k → is_semaphore k.object ≡ true → IsLegal (opening k) h →
         FitsSigned w32 (free (opening k) h) }
 {}
 
 /// A seat holds at most 2147483647 permits for each entry.
 pub fn permits_held_stay_in_range()
-    ensures { (k : Header) (h : List Entry) → IsInRange k → is_semaphore k.object ≡ true → IsLegal (opening k) h →
+    ensures { (k : Header) (h : List Entry) →
+        IsInRange k → is_semaphore k.object ≡ true → IsLegal (opening k) h →
         (seat : ℕ) (mode : Mode) → held (opening k) h seat mode ≤ 2147483647 * length h }
 {}
 

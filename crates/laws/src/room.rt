@@ -27,7 +27,8 @@ pub fn room_is_never_lacking()
 
 /// An answer leaves room for what is owed where there was room before.
 pub fn answers_keep_room()
-    ensures { (s : Start) (h : List Entry) (seat : ℕ) (step : Step) → Fits s h → Fits s (answer s h seat step).1 }
+    ensures { (s : Start) (h : List Entry) (seat : ℕ) (step : Step) →
+        Fits s h → Fits s (answer s h seat step).1 }
 {}
 
 /// Behind any steps since the opening, entries and what is owed fit in the cap.

@@ -1,0 +1,113 @@
+-- The history behind a list of steps is legal.
+use Rattle.std.proofs.Common.{◌≡◌, ℕ, Bool, true, false, not, cond, ltb, List, [], ◌∷◌, Option, Some, None, Result, Ok, Err, refl, sym, subst}
+use Rattle.std.proofs.lemmas.Bool.{cond_both}
+use Rattle.history.specs.declared.arrival.Arrival.{Arrival}
+use Rattle.history.specs.declared.entry.End.TheVariants as end
+use Rattle.history.specs.declared.entry.Entry.{Entry}
+use Rattle.history.specs.declared.entry.Mode.TheVariants.{X, S}
+use Rattle.history.specs.declared.entry.Word.{Word}
+use Rattle.history.specs.declared.entry.Word.TheVariants as word
+use Rattle.history.specs.declared.fault.Fault.{Fault}
+use Rattle.history.specs.declared.fault.Fault.TheVariants as fault
+use Rattle.history.specs.declared.step.Answer.{Answer}
+use Rattle.history.specs.declared.step.Answer.TheVariants.{Recorded}
+use Rattle.history.specs.declared.step.Step.{Step}
+use Rattle.history.specs.declared.step.Step.TheVariants.{Look, Expire, Interrupt, Await, Signal, SignalAll}
+use Rattle.history.specs.Answers.{answer, answer_by, results}
+use Rattle.history.specs.Could.{is_seat}
+use Rattle.history.specs.Counts.{Counts, counts, owner, held}
+use Rattle.history.specs.Legal.{IsLegal}
+use Rattle.history.specs.Naming.{named, ready}
+use Rattle.history.specs.Phase.{Phase, Idle, InLine, Sleeping, phase}
+use Rattle.history.specs.Room.{has_room}
+use Rattle.history.specs.Start.{Start}
+use Rattle.history.specs.Steps.{entry_for, phase_entry, idle_entry, queued_entry, sleeping_entry, plain, awaits, signals, back}
+use Rattle.history.proofs.Entering.{by_phase}
+
+-- the entry that a step makes is of its own seat
+awaits_seat : (k : Counts) (i c : ℕ) → (awaits k i c).seat ≡ i
+awaits_seat k i c =
+    let sleep : Entry = record {
+      seat = i;
+      word = word.Await;
+      mode = X;
+      n = k.held i X;
+      at = c;
+      end =
+          end.None;
+    } in
+    let reads : Entry = plain i (word.Refused fault.HoldsRead) X 1 in
+    let u = ltb 0 (k.held i S) in
+    cond_both (not (is_seat (owner k) i)) (plain i (word.Refused fault.NotOwner) X 1) (cond u reads sleep)
+    (λ e. e.seat ≡ i) (λ t. refl) (λ t. cond_both u reads sleep (λ e. e.seat ≡ i) (λ v. refl) (λ v. refl))
+
+signals_seat : (k : Counts) (w : Word) (n i c : ℕ) → (signals k w n i c).seat ≡ i
+signals_seat k w n i c =
+    cond_both (not (is_seat (owner k) i)) (plain i (word.Refused fault.NotOwner) X 1)
+    (record { seat = i; word = w; mode = X; n = n; at = c; end = end.None }) (λ e. e.seat ≡ i) (λ t. refl)
+    (λ t. refl)
+
+idle_seat : (s : Start) (h : List Entry) (i : ℕ) (step : Step) → (idle_entry s h i step).seat ≡ i
+idle_seat s h i (Await c) = awaits_seat (counts s h) i c
+idle_seat s h i (Signal c) = signals_seat (counts s h) word.Signal _ i c
+idle_seat s h i (SignalAll c) = signals_seat (counts s h) word.SignalAll _ i c
+idle_seat s h i _ = refl
+
+of_entry : (x e : Entry) (i : ℕ) → Some x ≡ Some e → x.seat ≡ i → e.seat ≡ i
+of_entry x e i q p = let same : x ≡ e = cc in subst (λ (y : Entry). y.seat ≡ i) same p
+
+line_seat : (s : Start) (h : List Entry) (i : ℕ) (step : Step) (e : Entry) (a : Arrival) (comes goes : Bool) →
+    cond comes (cond goes (Some (back s h i)) None) (queued_entry goes i a step) ≡ Some e → e.seat ≡ i
+line_seat s h i step e a true true q = of_entry _ e i q refl
+line_seat s h i step e a true false q = cc
+line_seat s h i Look e a false true q = of_entry _ e i q refl
+line_seat s h i Look e a false false q = cc
+line_seat s h i Expire e a false true q = of_entry _ e i q refl
+line_seat s h i Expire e a false false q = of_entry _ e i q refl
+line_seat s h i Interrupt e a false true q = of_entry _ e i q refl
+line_seat s h i Interrupt e a false false q = of_entry _ e i q refl
+line_seat s h i _ e a false true q = cc
+line_seat s h i _ e a false false q = cc
+
+sleeping_seat : (s : Start) (h : List Entry) (i : ℕ) (step : Step) (e : Entry) →
+    sleeping_entry s h i step ≡ Some e → e.seat ≡ i
+sleeping_seat s h i Expire e q = of_entry _ e i q refl
+sleeping_seat s h i Interrupt e q = of_entry _ e i q refl
+sleeping_seat s h i _ e q = cc
+
+pub entry_seat : (s : Start) (h : List Entry) (i : ℕ) (step : Step) (e : Entry) →
+    entry_for s h i step ≡ Ok (Some e) → e.seat ≡ i
+entry_seat s h i step e q = by (phase s h i) (by_phase s h i step e q)
+  where
+    by : (p : Phase) → phase_entry s h i step p ≡ Some e → e.seat ≡ i
+    by Idle r = of_entry _ e i r (idle_seat s h i step)
+    by (InLine a) r = line_seat s h i step e a a.back (is_seat (ready s h) i) r
+    by Sleeping r = sleeping_seat s h i step e r
+
+-- a step's entry extends a legal history
+pub entry_legal : (s : Start) (h : List Entry) (i : ℕ) (step : Step) (e : Entry) →
+    entry_for s h i step ≡ Ok (Some e) → IsLegal s h → IsLegal s (e ∷ h)
+entry_legal s h i step e q l =
+    let seat = entry_seat s h i step e q in
+    ((step, subst (λ j. entry_for s h j step ≡ Ok (Some e)) (sym seat) q), l)
+
+-- the history behind a step, and behind a list of steps
+pub answer_legal : (s : Start) (h : List Entry) (i : ℕ) (step : Step) → IsLegal s h →
+    IsLegal s (answer s h i step).1
+answer_legal s h i step l = by (entry_for s h i step) refl
+  where
+    P : Result Answer Fault × List Entry → Type 0
+    P r = IsLegal s r.1
+
+    by : (r : Result (Option Entry) Fault) → entry_for s h i step ≡ r → P (answer_by s h r)
+    by (Err f) q = l
+    by (Ok None) q = l
+    by (Ok (Some e)) q =
+        cond_both (has_room s h e) (Ok (Recorded e (named s h e)), e ∷ h) (Err fault.HistoryFull, h) P
+        (λ room. entry_legal s h i step e q l) (λ full. l)
+
+pub results_legal : (s : Start) (h : List Entry) (steps : List (ℕ × Step)) → IsLegal s h →
+    IsLegal s (results s h steps).1
+results_legal s h [] l = l
+results_legal s h (first ∷ steps) l =
+    results_legal s (answer s h first.0 first.1).1 steps (answer_legal s h first.0 first.1 l)
