@@ -5,3 +5,4 @@ pub mod WaitingFollow
 pub mod PermitsFollow
 pub mod Outcomes
 pub mod Deciding
+pub mod SleepsLemmas

@@ -3,7 +3,7 @@ use Rattle.std.proofs.Common.{◌≡◌, ◌≢◌, ⊎_elim, ℕ, zero, suc, �
 use Rattle.std.specs.List.{filter}
 use Rattle.std.proofs.Math.ListN.{length-set}
 use Rattle.std.proofs.lemmas.Bool.{cases_eq, eq-eqb, ne_eqb, eqb-true}
-use Rattle.std.proofs.lemmas.List.{append-nil, length-replicate, get_or-set_same, get_or-set_other}
+use Rattle.std.proofs.lemmas.List.{append-nil, length_push, length-replicate, get_or-set_same, get_or-set_other}
 use Rattle.history.specs.declared.arrival.Arrival.{Arrival}
 use Rattle.history.specs.declared.entry.Entry.{Entry}
 use Rattle.history.specs.declared.entry.End.TheVariants as end
@@ -72,6 +72,14 @@ sleep_same s e h i t = either_way (eqb e.seat i) _ _ (sleep_same_by e.word e (la
 slept_same : (s : Start) (e : Entry) (h : List Entry) (old new : List Sleep) → saves_nothing e.word ≡ true → new ≡ old → ((i : ℕ) → sleep_of (get_or old i never_slept) ≡ last_sleep s h i) → (i : ℕ) → sleep_of (get_or new i never_slept) ≡ last_sleep s (e ∷ h) i
 slept_same s e h old new t same is i = ap (λ l. sleep_of (get_or l i never_slept)) same ∙ is i ∙ sym (sleep_same s e h i t)
 
+length_filter : (p : Sleeper → Bool) (xs : List Sleeper) → length (filter p xs) ≤ length xs
+length_filter p [] = omega arith
+length_filter p (x ∷ xs) = by (p x) (length_filter p xs)
+  where
+  by : (b : Bool) → length (filter p xs) ≤ length xs → length (cond b (x ∷ filter p xs) (filter p xs)) ≤ length (x ∷ xs)
+  by true ih = omega (arith, ih)
+  by false ih = omega (arith, ih)
+
 -- an entry by which somebody joins or leaves the line, and no sleeper is moved
 pub follows_queued : (s : Start) (e : Entry) (h : List Entry) (old new : Waiting) → WaitingStand s h old → e.word ≡ word.Queued → new.line.items ≡ old.line.items ++ record { seat = e.seat; mode = e.mode; n = e.n; back = false } ∷ [] → new.asleep.items ≡ old.asleep.items → new.last_sleep.items ≡ old.last_sleep.items → WaitingStand s (e ∷ h) new
 follows_queued s e h old new st w li as_ sl =
@@ -80,6 +88,7 @@ follows_queued s e h old new st w li as_ sl =
       sleeping = λ c. ap (seats_on c) as_ ∙ st.sleeping c ∙ sym (sleepers_same s e h c (ap wakes_nobody w));
       seats = ap length sl ∙ st.seats;
       slept = slept_same s e h old.last_sleep.items new.last_sleep.items (ap saves_nothing w) sl st.slept;
+      few = let n : length new.asleep.items ≡ length old.asleep.items = ap length as_ in omega (arith, n, st.few);
     }
 
 ends_wakes : (w : Word) → ends_arrival w ≡ true → (wakes_nobody w ≡ true) × (saves_nothing w ≡ true)
@@ -95,6 +104,7 @@ follows_gone s e h old new st w li as_ sl =
       sleeping = λ c. ap (seats_on c) as_ ∙ st.sleeping c ∙ sym (sleepers_same s e h c (ends_wakes e.word w).0);
       seats = ap length sl ∙ st.seats;
       slept = slept_same s e h old.last_sleep.items new.last_sleep.items (ends_wakes e.word w).1 sl st.slept;
+      few = let n : length new.asleep.items ≡ length old.asleep.items = ap length as_ in omega (arith, n, st.few);
     }
 
 -- the sleepers of a condition where one more falls asleep, and where one seat wakes there
@@ -153,6 +163,7 @@ follows_await s e h old new st seat w li as_ sl =
       sleeping = λ c. ap (seats_on c) as_ ∙ seats_on-append c old.asleep.items (record { condition = e.at; seat = e.seat } ∷ []) ∙ by c (eqb e.at c) refl;
       seats = ap length sl ∙ length-set _ _ _ ∙ st.seats;
       slept = slept_written s e h old.last_sleep.items new.last_sleep.items (record { condition = e.at; holds = e.n; how = end.Signalled }) seat sl (ap (λ v. sleep_after v e (last_sleep s h e.seat)) (sym w)) st.slept;
+      few = let n : length new.asleep.items ≡ length old.asleep.items + 1 = ap length as_ ∙ length_push old.asleep.items (record { condition = e.at; seat = e.seat }) in omega (arith, n, st.few);
     }
   where
   by : (c : ℕ) (b : Bool) → eqb e.at c ≡ b → seats_on c old.asleep.items ++ cond (eqb e.at c) (e.seat ∷ []) [] ≡ cond (eqb e.at c) (sleepers_after e.word e.seat e.n (sleepers s h c)) (sleepers s h c)
@@ -169,6 +180,7 @@ follows_lapse s e h old new st seat w li as_ sl =
       seats = ap length sl ∙ length-set _ _ _ ∙ st.seats;
       slept = slept_written s e h old.last_sleep.items new.last_sleep.items _ seat sl
           (ap (λ (x : start.Sleep). let y : start.Sleep = record { condition = x.condition; holds = x.holds; how = e.end } in y) (st.slept e.seat) ∙ ap (λ v. sleep_after v e (last_sleep s h e.seat)) (sym w)) st.slept;
+      few = let n : length new.asleep.items ≡ length (filter (λ x. not (eqb x.condition e.at && eqb x.seat e.seat)) old.asleep.items) = ap length as_ in omega (arith, n, st.few, length_filter (λ x. not (eqb x.condition e.at && eqb x.seat e.seat)) old.asleep.items);
     }
   where
   here : (c : ℕ) → e.at ≡ c → seats_on c (filter (λ x. not (eqb x.condition e.at && eqb x.seat e.seat)) old.asleep.items) ≡ sleepers s (e ∷ h) c
@@ -186,13 +198,14 @@ follows_lapse s e h old new st seat w li as_ sl =
 pub follows_signal : (s : Start) (e : Entry) (h : List Entry) (old new : Waiting) (moved : List ℕ) → WaitingStand s h old → ends_arrival e.word ≡ false → saves_nothing e.word ≡ true
     → arrivals_by s e.word e h ≡ map coming_back moved → new.line.items ≡ old.line.items ++ map coming_back moved
     → seats_on e.at new.asleep.items ≡ sleepers_after e.word e.seat e.n (sleepers s h e.at) → ((c : ℕ) → c ≢ e.at → seats_on c new.asleep.items ≡ seats_on c old.asleep.items)
-    → new.last_sleep.items ≡ old.last_sleep.items → WaitingStand s (e ∷ h) new
-follows_signal s e h old new moved st w saves who li here there sl =
+    → new.last_sleep.items ≡ old.last_sleep.items → length new.asleep.items ≤ length old.asleep.items → WaitingStand s (e ∷ h) new
+follows_signal s e h old new moved st w saves who li here there sl few =
     record {
       in_line = li ∙ ap (λ l. l ++ map coming_back moved) st.in_line ∙ ap (λ l. line s h ++ l) (sym who) ∙ sym (line_more s e h w);
       sleeping = λ c. ⊎_elim (at_it c) (elsewhere c) (cases_eq e.at c);
       seats = ap length sl ∙ st.seats;
       slept = slept_same s e h old.last_sleep.items new.last_sleep.items saves sl st.slept;
+      few = omega (arith, few, st.few);
     }
   where
   at_it : (c : ℕ) → e.at ≡ c → seats_on c new.asleep.items ≡ sleepers s (e ∷ h) c
@@ -226,4 +239,5 @@ stands_opened k w li as_ sl =
       sleeping = λ c. ap (seats_on c) as_;
       seats = ap length sl ∙ length-replicate k.seats never_slept;
       slept = λ i. ap (λ l. sleep_of (get_or l i never_slept)) sl ∙ ap sleep_of (never k.seats i);
+      few = let n : length w.asleep.items ≡ 0 = ap length as_ in omega (arith, n);
     }

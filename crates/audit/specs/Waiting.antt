@@ -1,5 +1,5 @@
 -- What the audit's line and sleepers stand for.
-use Rattle.std.specs.Prelude.{◌≡◌, ℕ, ◌<◌, ◌==◌, if◌then◌else◌, List, [], ◌∷◌, length, slice_index_or}
+use Rattle.std.specs.Prelude.{◌≡◌, ℕ, ◌<◌, ◌≤◌, ◌==◌, if◌then◌else◌, List, [], ◌∷◌, length, slice_index_or}
 use Rattle.history.specs.declared.entry.Entry.{Entry}
 use Rattle.history.specs.declared.entry.End.{End}
 use Rattle.history.specs.declared.entry.End.TheVariants as end
@@ -31,3 +31,4 @@ pub record WaitingStand (s : Start) (h : List Entry) (w : Waiting) : Type 0 wher
   pub sleeping : (c : ℕ) → seats_on c w.asleep.items ≡ sleepers s h c
   pub seats : length w.last_sleep.items ≡ s.header.seats
   pub slept : (i : ℕ) → sleep_of (slice_index_or w.last_sleep.items i never_slept) ≡ last_sleep s h i
+  pub few : length w.asleep.items ≤ length h

@@ -1,8 +1,9 @@
 //! All that a front of a history says, kept so that each question about the next entry is one step, but for
 //! searches in the line and among the sleepers.
 
-ghost use Rattle.std.specs.Prelude.{◌≡◌, ◌<◌, ◌∷◌, ◌+◌, ◌^◌, [], List, ℕ, IfOk, OnOk, IsOkUnless, IsTrue, Some, None, length, Ok, list_any, nat_lt, ◌&&◌, ◌==◌};
+ghost use Rattle.std.specs.Prelude.{◌≡◌, ◌<◌, ◌∷◌, ◌+◌, ◌^◌, [], List, ℕ, IfOk, OnOk, IsOkUnless, IsTrue, Some, None, length, Ok, nat_lt, ◌&&◌, ◌==◌};
 ghost use Rattle.history.specs.Object.{is_fair_policy};
+ghost use Rattle.std.specs.List.{list_any};
 ghost use Rattle.history.specs.Could.{could, limit, held_back, is_seat, is_none_or, is_reentrant, line_blocks};
 ghost use Rattle.history.specs.Counts.{counts, owner};
 ghost use Rattle.history.specs.Line.{line, place_of, first_mode};

@@ -166,6 +166,7 @@ impl Waiting {
         ensures line { OnOk result (self.new.line.items ≡ self.old.line.items ++ map coming_back (take entry.n (seats_on entry.at self.old.asleep.items))) }
         ensures here { OnOk result (seats_on entry.at self.new.asleep.items ≡ drop entry.n (seats_on entry.at self.old.asleep.items)) }
         ensures there { OnOk result ((c : ℕ) → c ≢ entry.at → seats_on c self.new.asleep.items ≡ seats_on c self.old.asleep.items) }
+        ensures fewer { OnOk result (length self.new.asleep.items ≤ length self.old.asleep.items) }
         ensures last_sleep { self.new.last_sleep ≡ self.old.last_sleep }
         ensures memory { IsOkUnless result Fault.OutOfMemory }
     {
@@ -182,6 +183,7 @@ impl Waiting {
         ensures line { OnOk result (self.new.line.items ≡ self.old.line.items ++ map coming_back (seats_on condition self.old.asleep.items)) }
         ensures here { OnOk result (seats_on condition self.new.asleep.items ≡ []) }
         ensures there { OnOk result ((c : ℕ) → c ≢ condition → seats_on c self.new.asleep.items ≡ seats_on c self.old.asleep.items) }
+        ensures fewer { OnOk result (length self.new.asleep.items ≤ length self.old.asleep.items) }
         ensures last_sleep { self.new.last_sleep ≡ self.old.last_sleep }
         ensures memory { IsOkUnless result Fault.OutOfMemory }
     {
@@ -199,6 +201,7 @@ impl Waiting {
         ensures here { seats_on condition self.old.asleep.items ≡ option_to_list result ++ seats_on condition self.new.asleep.items }
         ensures there { (c : ℕ) → c ≢ condition → seats_on c self.new.asleep.items ≡ seats_on c self.old.asleep.items }
         ensures none { IfNone result (seats_on condition self.old.asleep.items ≡ []) }
+        ensures fewer { length self.new.asleep.items ≤ length self.old.asleep.items }
         ensures line { self.new.line ≡ self.old.line }
         ensures last_sleep { self.new.last_sleep ≡ self.old.last_sleep }
     {

@@ -10,3 +10,4 @@ invariant-loop l =
     × ((c : ℕ) → c ≢ l.condition → seats_on c l.self.asleep.items ≡ seats_on c l.fn.self.asleep.items)
     × (l.self.last_sleep ≡ l.fn.self.last_sleep)
     × (length (seats_on l.condition l.self.asleep.items) + l.counter ≤ l.end)
+    × (length l.self.asleep.items ≤ length l.fn.self.asleep.items)
