@@ -6,3 +6,7 @@ pub mod PermitsFollow
 pub mod Outcomes
 pub mod Deciding
 pub mod SleepsLemmas
+pub mod Limits
+pub mod Making
+pub mod Fronts
+pub mod SameEntries

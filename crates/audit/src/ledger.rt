@@ -1,7 +1,7 @@
 //! All that a front of a history says, kept so that each question about the next entry is one step, but for
 //! searches in the line and among the sleepers.
 
-ghost use Rattle.std.specs.Prelude.{◌≡◌, ◌<◌, ◌∷◌, ◌+◌, ◌^◌, [], List, ℕ, IfOk, OnOk, IsOkUnless, IsTrue, Some, None, length, Ok, nat_lt, ◌&&◌, ◌==◌};
+ghost use Rattle.std.specs.Prelude.{◌≡◌, ◌<◌, ◌≤◌, ◌∷◌, ◌+◌, ◌^◌, [], List, ℕ, IfOk, OnOk, IsOkUnless, IsTrue, Some, None, length, Ok, nat_lt, ◌&&◌, ◌==◌};
 ghost use Rattle.history.specs.Object.{is_fair_policy};
 ghost use Rattle.std.specs.List.{list_any};
 ghost use Rattle.history.specs.Could.{could, limit, held_back, is_seat, is_none_or, is_reentrant, line_blocks};
@@ -11,8 +11,10 @@ ghost use Rattle.history.specs.Naming.{ready};
 ghost use Rattle.history.specs.Sleepers.{sleepers, sleeps_below};
 ghost use Rattle.history.specs.Start.{Start, opening};
 ghost use Rattle.history.specs.declared.entry.Entry.{Entry};
+ghost use Rattle.history.specs.declared.entry.Word.TheVariants.{Signal};
 ghost use Rattle.history.specs.declared.header.Header.{Header};
-ghost use Rattle.audit.specs.Ledger.{LedgerStand};
+ghost use Rattle.history.specs.Header.{IsInRange};
+ghost use Rattle.audit.specs.Ledger.{HasSeat, IsNext, LedgerStand};
 
 use crate::holds::Holds;
 use crate::permits::Permits;
@@ -38,6 +40,7 @@ pub struct Ledger {
 impl Ledger {
     /// Nothing has happened.
     pub fn open(alloc: Global, header: Header) -> Result<Self, Fault>
+        requires { IsInRange header }
         ensures stand { IfOk result (λ ledger. LedgerStand (opening header) [] ledger) }
         ensures memory { IsOkUnless result Fault.OutOfMemory }
     {
@@ -57,7 +60,26 @@ impl Ledger {
         })
     }
 
-    fn owns(&self, seat: u16) -> bool
+    /// Follows one more entry, one that a step of its seat makes. Where memory is refused the ledger stands
+    /// for nothing any more.
+    pub fn note(&mut self, entry: Entry) -> Result<(), Fault>
+        requires seat { HasSeat self.old entry.seat }
+        requires signal { entry.word ≡ Signal → entry.n ≤ 1 }
+        ensures stand { OnOk result ((s : Start) (h : List Entry) → LedgerStand s h self.old → entry.seat < s.header.seats → IsNext s h entry → LedgerStand s (entry ∷ h) self.new) }
+        ensures memory { IsOkUnless result Fault.OutOfMemory }
+    {
+        let object = self.header.object;
+        let had = self.holds_in(entry.seat, entry.mode);
+        match self.waiting.note(entry) {
+            Err(fault) => return Err(fault),
+            Ok(()) => {}
+        }
+        self.holds.note(object, entry);
+        self.permits.note(object, entry, had);
+        Ok(())
+    }
+
+    pub(crate) fn owns(&self, seat: u16) -> bool
         ensures { result ≡ is_seat self.now.holds.owner seat }
     {
         match self.holds.owner {

@@ -4,10 +4,17 @@
 //! entry whether some step of its seat makes it: so it judges histories of any source.
 #![tactic(auto)]
 
-pub mod holds;
+pub mod admit;
+pub mod candidates;
 pub mod checks;
+pub mod decide;
 pub mod entries;
+pub mod holds;
 pub mod ledger;
 pub mod permits;
+pub mod same;
+pub mod sums;
+pub mod totals;
+pub mod verdict;
 pub mod waiting;
 

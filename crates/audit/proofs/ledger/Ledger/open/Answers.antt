@@ -8,4 +8,8 @@ returns-clause-stand c =
       holding = c.in-Ok.ensures.stand c.args.header refl;
       waits = c.in-Ok-open.ensures.stand c.args.header refl;
       numbers = c.open-3.ensures c.args.header refl;
+      opened = refl;
+      range = c.requires;
+      legal = tt;
+      seated = tt;
     }
