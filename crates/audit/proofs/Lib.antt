@@ -1,0 +1,12 @@
+pub mod HoldsLemmas
+pub mod HoldsFollow
+pub mod WaitingLemmas
+pub mod WaitingFollow
+pub mod PermitsFollow
+pub mod Outcomes
+pub mod Deciding
+pub mod SleepsLemmas
+pub mod Limits
+pub mod Making
+pub mod Fronts
+pub mod SameEntries

@@ -1,0 +1,31 @@
+use Rattle.std.proofs.Common.{◌≡◌, ◌∙◌, ℕ, ap, arith, get_or, length, List}
+use Rattle.history.specs.Counts.{held, total}
+use Rattle.history.specs.declared.entry.Mode.TheVariants.{X}
+use Rattle.history.specs.declared.header.Header.{Header}
+use Rattle.history.proofs.Sums.{total_same}
+use Rattle.audit.proofs.Limits.{exclusive_small}
+use Rattle.audit.proofs.ledger.Ledger.exclusive_total.Goals as goal
+
+pub sum-requires-clause-each : goal.sum-requires-clause-each
+sum-requires-clause-each c i =
+    let r = c.requires.ledger in
+    let is : get_or c.deref.result.now i 0 ≡ held r.start r.front i X =
+        ap (λ (l : List ℕ). get_or l i 0) c.deref.ensures.value ∙ r.stand.holding.exclusive i in
+    let small = exclusive_small r.start r.front c.args.self.now i r.stand c.requires.lock in
+    omega (arith, is, small)
+
+pub sum-requires-clause-few : goal.sum-requires-clause-few
+sum-requires-clause-few c =
+    let r = c.requires.ledger in
+    let long = ap length c.deref.ensures.value in
+    let seats = r.stand.holding.exclusive_seats in
+    let same = ap (λ (k : Header). k.seats) r.stand.header in
+    let most = r.stand.range.seats in
+    omega (arith, long, seats, same, most)
+
+pub returns : goal.returns
+returns c s h st =
+    let items = c.args.self.now.holds.exclusive.items in
+    c.sum.ensures ∙ ap (λ (l : List ℕ). total (length l) (λ i. get_or l i 0)) c.deref.ensures.value
+    ∙ ap (λ n. total n (λ i. get_or items i 0)) st.holding.exclusive_seats
+    ∙ total_same s.header.seats (λ i. get_or items i 0) (λ i. held s h i X) st.holding.exclusive

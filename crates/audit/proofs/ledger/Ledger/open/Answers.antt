@@ -1,0 +1,15 @@
+use Rattle.std.proofs.Common.{refl}
+use Rattle.audit.proofs.ledger.Ledger.open.Goals as goal
+
+pub returns-clause-stand : goal.returns-clause-stand
+returns-clause-stand c =
+    record {
+      header = refl;
+      holding = c.in-Ok.ensures.stand c.args.header refl;
+      waits = c.in-Ok-open.ensures.stand c.args.header refl;
+      numbers = c.open-3.ensures c.args.header refl;
+      opened = refl;
+      range = c.requires;
+      legal = tt;
+      seated = tt;
+    }

@@ -1,0 +1,43 @@
+-- What the audit's ledger stands for: a legal front of a history.
+use Rattle.std.specs.Prelude.{◌≡◌, ◌<◌, ◌+◌, ◌^◌, ℕ, List, length, Ok, Some}
+use Rattle.history.specs.declared.entry.Entry.{Entry}
+use Rattle.history.specs.declared.step.Step.{Step}
+use Rattle.history.specs.Header.{IsInRange}
+use Rattle.history.specs.Legal.{IsLegal, AreSeated}
+use Rattle.history.specs.Start.{Start, opening}
+use Rattle.history.specs.Steps.{entry_for}
+use Rattle.audit.specs.declared.ledger.Ledger.{Ledger}
+use Rattle.audit.specs.Holds.{HoldsStand}
+use Rattle.audit.specs.Waiting.{WaitingStand}
+use Rattle.audit.specs.Permits.{PermitsStand}
+
+pub record LedgerStand (s : Start) (h : List Entry) (l : Ledger) : Type 0 where
+  pub header : l.header ≡ s.header
+  pub holding : HoldsStand s h l.holds
+  pub waits : WaitingStand s h l.waiting
+  pub numbers : PermitsStand s h l.permits
+  pub opened : s ≡ opening l.header
+  pub range : IsInRange l.header
+  pub legal : IsLegal s h
+  pub seated : AreSeated s h
+
+-- a ledger that stands for some front, and one of its seats
+pub record HasSeat (l : Ledger) (i : ℕ) : Type 0 where
+  pub exclusive : i < length l.holds.exclusive.items
+  pub shared : i < length l.holds.shared.items
+  pub slept : i < length l.waiting.last_sleep.items
+  pub start : Start
+  pub front : List Entry
+  pub stand : LedgerStand start front l
+  pub room : length front + 1 < 2 ^ 32
+
+-- a ledger that stands for some front
+pub record IsLedger (l : Ledger) : Type 0 where
+  pub start : Start
+  pub front : List Entry
+  pub stand : LedgerStand start front l
+  pub room : length front < 2 ^ 32
+
+-- whether some step of its seat makes an entry behind a front
+abbrev pub IsNext : Start → List Entry → Entry → Type 0
+IsNext s h e = (step : Step) × (entry_for s h e.seat step ≡ Ok (Some e))

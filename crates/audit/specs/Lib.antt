@@ -1,0 +1,9 @@
+pub mod Holds
+pub mod Waiting
+pub mod Permits
+pub mod Ledger
+pub mod Checks
+pub mod Candidates
+pub mod Verdict
+pub mod Totals
+pub mod Same

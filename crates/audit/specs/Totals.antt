@@ -1,0 +1,51 @@
+-- What a history adds up to.
+use Rattle.std.specs.Prelude.{ℕ, List, length, ℤ, pos}
+use Rattle.history.specs.declared.entry.Entry.{Entry}
+use Rattle.history.specs.declared.entry.Mode.TheVariants.{X, S}
+use Rattle.history.specs.declared.header.Object.{Object}
+use Rattle.history.specs.declared.header.Object.TheVariants.{Lock, ReadWrite, Semaphore, Latch}
+use Rattle.history.specs.Counts.{count, free, held, total, unheld}
+use Rattle.history.specs.Line.{line}
+use Rattle.history.specs.Sleepers.{sleepers}
+use Rattle.history.specs.Start.{Start}
+use Rattle.audit.specs.declared.sums.Totals.{Totals}
+
+abbrev pub no_totals : Totals
+no_totals =
+    record {
+      x = pos 0;
+      s = pos 0;
+      line = pos 0;
+      sleepers = pos 0;
+      held = pos 0;
+      free = pos 0;
+      created = pos 0;
+      unheld = pos 0;
+      count = pos 0;
+    }
+
+abbrev pub lock_totals : Start → List Entry → Totals
+lock_totals s h =
+    record no_totals {
+      x = pos (total s.header.seats (λ i. held s h i X));
+      s = pos (total s.header.seats (λ i. held s h i S));
+      line = pos (length (line s h));
+      sleepers = pos (total s.header.conditions (λ c. length (sleepers s h c)));
+    }
+
+-- the numbers of the object's kind, and 0 for the others
+abbrev pub totals_by : Object → Start → List Entry → Totals
+totals_by (Lock policy) s h = lock_totals s h
+totals_by (ReadWrite policy) s h = lock_totals s h
+totals_by (Semaphore policy permits) s h =
+    record no_totals {
+      line = pos (length (line s h));
+      held = pos (total s.header.seats (λ i. held s h i S));
+      free = free s h;
+      created = permits;
+      unheld = pos (unheld s h);
+    }
+totals_by (Latch opening) s h = record no_totals { line = pos (length (line s h)); count = pos (count s h) }
+
+abbrev pub totals_of : Start → List Entry → Totals
+totals_of s h = totals_by s.header.object s h

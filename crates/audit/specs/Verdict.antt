@@ -1,0 +1,22 @@
+-- The fronts of a history, and the first entry that isn't legal.
+use Rattle.std.specs.Prelude.{◌≡◌, ◌<◌, ◌≤◌, ℕ, ◌+◌, ◌-◌, List, length, drop}
+use Rattle.history.specs.declared.entry.Entry.{Entry}
+use Rattle.history.specs.declared.header.Header.{Header}
+use Rattle.history.specs.Legal.{IsLegal}
+use Rattle.history.specs.Start.{opening}
+
+-- the first n entries, which stand last in the list
+abbrev pub front : ℕ → List Entry → List Entry
+front n h = drop (length h - n) h
+
+-- the entries before an entry's number are legal, and with it they aren't
+pub record IsFirstWrong (k : Header) (h : List Entry) (no : ℕ) : Type 0 where
+  pub stands : no < length h
+  pub legal : IsLegal (opening k) (front no h)
+  pub wrong : IsLegal (opening k) (front (no + 1) h) → ⊥
+
+-- the longest front that is legal
+pub record IsLegalFront (k : Header) (h : List Entry) (n : ℕ) : Type 0 where
+  pub stands : n ≤ length h
+  pub legal : IsLegal (opening k) (front n h)
+  pub wrong : n < length h → IsLegal (opening k) (front (n + 1) h) → ⊥

@@ -1,0 +1,42 @@
+//! Whether an entry may come next.
+
+ghost use Rattle.std.specs.Prelude.{◌≡◌, ◌↔◌, List, IsTrue, Ok, Some};
+ghost use Rattle.history.specs.Start.{Start};
+ghost use Rattle.history.specs.Steps.{entry_for};
+ghost use Rattle.history.specs.declared.entry.Entry.{Entry};
+ghost use Rattle.audit.specs.Ledger.{HasSeat, IsNext, LedgerStand};
+
+use crate::candidates::possible_steps;
+use crate::ledger::Ledger;
+use crate::same::is_same;
+use history::entry::Entry;
+use history::step::Step;
+
+impl Ledger {
+    /// Whether a step of its seat makes the entry.
+    fn makes(&self, step: Step, entry: Entry) -> bool
+        requires { HasSeat self.now entry.seat }
+        ensures { (s : Start) (h : List Entry) → LedgerStand s h self.now → IsTrue result ↔ (entry_for s h entry.seat step ≡ Ok (Some entry)) }
+    {
+        match self.entry_for(entry.seat, step) {
+            Ok(Some(made)) => is_same(made, entry),
+            Ok(None) => false,
+            Err(_fault) => false,
+        }
+    }
+
+    /// Whether any step of its seat makes the entry.
+    pub fn admits(&self, entry: Entry) -> bool
+        requires { HasSeat self.now entry.seat }
+        ensures { (s : Start) (h : List Entry) → LedgerStand s h self.now → IsTrue result ↔ IsNext s h entry }
+    {
+        let steps = possible_steps(entry);
+        if self.makes(steps.first, entry) {
+            return true;
+        }
+        if self.makes(steps.second, entry) {
+            return true;
+        }
+        self.makes(steps.third, entry)
+    }
+}

@@ -1,0 +1,218 @@
+//! All that a front of a history says, kept so that each question about the next entry is one step, but for
+//! searches in the line and among the sleepers.
+
+ghost use Rattle.std.specs.Prelude.{◌≡◌, ◌<◌, ◌≤◌, ◌∷◌, ◌+◌, ◌^◌, [], List, ℕ, IfOk, OnOk, IsOkUnless, IsTrue, Some, None, length, Ok, nat_lt, ◌&&◌, ◌==◌};
+ghost use Rattle.history.specs.Object.{is_fair_policy};
+ghost use Rattle.std.specs.List.{list_any};
+ghost use Rattle.history.specs.Could.{could, limit, held_back, is_seat, is_none_or, is_reentrant, line_blocks};
+ghost use Rattle.history.specs.Counts.{counts, owner};
+ghost use Rattle.history.specs.Line.{line, place_of, first_mode};
+ghost use Rattle.history.specs.Naming.{ready};
+ghost use Rattle.history.specs.Sleepers.{sleepers, sleeps_below};
+ghost use Rattle.history.specs.Start.{Start, opening};
+ghost use Rattle.history.specs.declared.entry.Entry.{Entry};
+ghost use Rattle.history.specs.declared.entry.Word.TheVariants.{Signal};
+ghost use Rattle.history.specs.declared.header.Header.{Header};
+ghost use Rattle.history.specs.Header.{IsInRange};
+ghost use Rattle.audit.specs.Ledger.{HasSeat, IsNext, LedgerStand};
+
+use crate::holds::Holds;
+use crate::permits::Permits;
+use crate::waiting::{Sleeper, Waiting};
+use history::arrival::Arrival;
+use history::entry::{Entry, Mode};
+use history::fault::Fault;
+use history::header::{Header, Object, Policy};
+use std::alloc::Global;
+
+/// The most holds of a lock by one seat, and the most write holds, or read holds of all seats.
+const MAX_HOLDS: u64 = 2_147_483_647;
+const MAX_SHARED: u64 = 65_535;
+
+#[derive(Drop)]
+pub struct Ledger {
+    pub(crate) header: Header,
+    pub(crate) holds: Holds,
+    pub(crate) waiting: Waiting,
+    pub(crate) permits: Permits,
+}
+
+impl Ledger {
+    /// Nothing has happened.
+    pub fn open(alloc: Global, header: Header) -> Result<Self, Fault>
+        requires { IsInRange header }
+        ensures stand { IfOk result (λ ledger. LedgerStand (opening header) [] ledger) }
+        ensures memory { IsOkUnless result Fault.OutOfMemory }
+    {
+        let holds = match Holds::open(alloc, header.seats) {
+            Err(fault) => return Err(fault),
+            Ok(holds) => holds,
+        };
+        let waiting = match Waiting::open(alloc, header.seats) {
+            Err(fault) => return Err(fault),
+            Ok(waiting) => waiting,
+        };
+        Ok(Ledger {
+            header,
+            holds,
+            waiting,
+            permits: Permits::open(header.object),
+        })
+    }
+
+    /// Follows one more entry, one that a step of its seat makes. Where memory is refused the ledger stands
+    /// for nothing any more.
+    pub fn note(&mut self, entry: Entry) -> Result<(), Fault>
+        requires seat { HasSeat self.old entry.seat }
+        requires signal { entry.word ≡ Signal → entry.n ≤ 1 }
+        ensures stand { OnOk result ((s : Start) (h : List Entry) → LedgerStand s h self.old → entry.seat < s.header.seats → IsNext s h entry → LedgerStand s (entry ∷ h) self.new) }
+        ensures memory { IsOkUnless result Fault.OutOfMemory }
+    {
+        let object = self.header.object;
+        let had = self.holds_in(entry.seat, entry.mode);
+        match self.waiting.note(entry) {
+            Err(fault) => return Err(fault),
+            Ok(()) => {}
+        }
+        self.holds.note(object, entry);
+        self.permits.note(object, entry, had);
+        Ok(())
+    }
+
+    pub(crate) fn owns(&self, seat: u16) -> bool
+        ensures { result ≡ is_seat self.now.holds.owner seat }
+    {
+        match self.holds.owner {
+            None => false,
+            Some(owner) => owner == seat,
+        }
+    }
+
+    fn is_free_for(&self, seat: u16) -> bool
+        ensures { result ≡ is_none_or self.now.holds.owner seat }
+    {
+        match self.holds.owner {
+            None => true,
+            Some(owner) => owner == seat,
+        }
+    }
+
+    /// Whether a seat could take.
+    pub fn could(&self, seat: u16, mode: Mode, n: u32) -> bool
+        requires { seat < length self.now.holds.exclusive.items }
+        ensures { (s : Start) (h : List Entry) → LedgerStand s h self.now → result ≡ could (counts s h) seat mode n }
+    {
+        match (self.header.object, mode) {
+            (Object::Lock(_), Mode::X) => {
+                self.is_free_for(seat) && self.holds.exclusive[seat as usize] < MAX_HOLDS
+            }
+            (Object::ReadWrite(_), Mode::X) => {
+                if self.owns(seat) {
+                    self.holds.exclusive[seat as usize] < MAX_SHARED
+                } else {
+                    self.is_free_for(seat) && self.holds.readers == 0
+                }
+            }
+            (Object::ReadWrite(_), Mode::S) => self.is_free_for(seat) && self.holds.readers < MAX_SHARED,
+            (Object::Semaphore(_, _permits), Mode::S) => self.permits.free >= i128::from(n),
+            (Object::Latch(count), Mode::S) => u64::from(count) <= self.permits.counted,
+            _ => false,
+        }
+    }
+
+    /// Whether the seat has as many holds as it may have.
+    pub fn at_limit(&self, seat: u16, mode: Mode) -> bool
+        requires { seat < length self.now.holds.exclusive.items }
+        ensures { (s : Start) (h : List Entry) → LedgerStand s h self.now → result ≡ limit (counts s h) seat mode }
+    {
+        match (self.header.object, mode) {
+            (Object::Lock(_), Mode::X) => self.holds.exclusive[seat as usize] == MAX_HOLDS,
+            (Object::ReadWrite(_), Mode::X) => self.holds.exclusive[seat as usize] == MAX_SHARED,
+            (Object::ReadWrite(_), Mode::S) => self.is_free_for(seat) && self.holds.readers == MAX_SHARED,
+            _ => false,
+        }
+    }
+
+    /// Whether a call never waits behind the line.
+    pub fn is_reentrant(&self, seat: u16, mode: Mode) -> bool
+        requires { seat < length self.now.holds.shared.items }
+        ensures { (s : Start) (h : List Entry) → LedgerStand s h self.now → result ≡ is_reentrant (counts s h) seat mode }
+    {
+        match self.header.object {
+            Object::Lock(_) => self.owns(seat),
+            Object::ReadWrite(_) => {
+                self.owns(seat)
+                    || (matches!(mode, Mode::S) && self.holds.shared[seat as usize] > 0)
+            }
+            Object::Semaphore(_, _permits) => false,
+            Object::Latch(_count) => false,
+        }
+    }
+
+    /// Whether the line holds back a new call that isn't reentrant.
+    pub fn line_blocks(&self, mode: Mode) -> bool
+        ensures { (s : Start) (h : List Entry) → LedgerStand s h self.now → result ≡ line_blocks s.header.object mode (first_mode s h) }
+    {
+        let first = match self.waiting.line.first() {
+            None => return false,
+            Some(first) => first.mode,
+        };
+        match self.header.object {
+            Object::Lock(policy) | Object::Semaphore(policy, _) => is_fair(policy),
+            Object::ReadWrite(policy) => is_fair(policy) || (matches!(mode, Mode::S) && matches!(first, Mode::X)),
+            Object::Latch(_count) => false,
+        }
+    }
+
+    /// Whether the seat is the first in line and could take what it asks for.
+    pub fn is_ready(&self, seat: u16) -> bool
+        requires { seat < length self.now.holds.exclusive.items }
+        ensures { (s : Start) (h : List Entry) → LedgerStand s h self.now → result ≡ is_seat (ready s h) seat }
+    {
+        match self.waiting.line.first() {
+            None => false,
+            Some(first) => first.seat == seat && self.could(seat, first.mode, first.n),
+        }
+    }
+
+    /// What the seat asks for in line.
+    pub fn place_of(&self, seat: u16) -> Option<Arrival>
+        ensures { (s : Start) (h : List Entry) → LedgerStand s h self.now → result ≡ place_of seat (line s h) }
+    {
+        place_in(&self.waiting.line, seat)
+    }
+
+    /// Whether the seat sleeps on one of the object's conditions.
+    pub fn sleeps(&self, seat: u16) -> bool
+        ensures { (s : Start) (h : List Entry) → LedgerStand s h self.now → result ≡ sleeps_below s.header.conditions s h seat }
+    {
+        sleeps_in(&self.waiting.asleep, self.header.conditions, seat)
+    }
+}
+
+fn is_fair(policy: Policy) -> bool
+    ensures { result ≡ is_fair_policy policy }
+{
+    matches!(policy, Policy::Fair)
+}
+
+/// What a seat asks for in line.
+fn place_in(line: &[Arrival], seat: u16) -> Option<Arrival>
+    ensures { result ≡ place_of seat line.now }
+{
+    for a in line {
+        if a.seat == seat {
+            return Some(*a);
+        }
+    }
+    None
+}
+
+/// Whether a seat is among the sleepers of one of so many conditions.
+fn sleeps_in(asleep: &[Sleeper], conditions: u8, seat: u16) -> bool
+    ensures { result ≡ list_any (λ x. nat_lt x.condition conditions && (x.seat == seat)) asleep.now }
+{
+    asleep
+        .iter()
+        .any(|x| x.condition < conditions && x.seat == seat)
+}

@@ -1,0 +1,20 @@
+//! Judges a history: whether each entry is the one that its seat's step makes, and what it adds up to.
+//!
+//! The audit stands on `history` alone. It keeps counts and lists of its own, entry by entry, and asks of each
+//! entry whether some step of its seat makes it: so it judges histories of any source.
+#![tactic(auto)]
+
+pub mod admit;
+pub mod candidates;
+pub mod checks;
+pub mod decide;
+pub mod entries;
+pub mod holds;
+pub mod ledger;
+pub mod permits;
+pub mod same;
+pub mod sums;
+pub mod totals;
+pub mod verdict;
+pub mod waiting;
+

@@ -1,0 +1,136 @@
+//! What a ledger adds up to.
+
+ghost use Rattle.std.specs.Prelude.{◌≡◌, ◌<◌, ◌≤◌, ◌^◌, ℕ, List, length, slice_index, pos, true};
+ghost use Rattle.history.specs.Counts.{held, total};
+ghost use Rattle.history.specs.Line.{line};
+ghost use Rattle.history.specs.Object.{is_lock};
+ghost use Rattle.history.specs.Sleepers.{sleepers};
+ghost use Rattle.history.specs.Start.{Start};
+ghost use Rattle.history.specs.declared.entry.Entry.{Entry};
+ghost use Rattle.history.specs.declared.entry.Mode.TheVariants.{X};
+ghost use Rattle.audit.specs.Ledger.{IsLedger, LedgerStand};
+ghost use Rattle.audit.specs.Totals.{no_totals, totals_of};
+ghost use Rattle.audit.specs.Waiting.{seats_on};
+
+use crate::decide::count_on;
+use crate::ledger::Ledger;
+use crate::waiting::Sleeper;
+use history::header::Object;
+
+/// The numbers behind a history's last entry. Those that the object's line of the audit text lacks are 0.
+#[derive(Clone, Copy, Debug, Drop, PartialEq, Eq)]
+pub struct Totals {
+    /// The exclusive holds of all seats of a lock or read-write lock.
+    pub x: i128,
+    /// The shared holds of all seats of a lock or read-write lock.
+    pub s: i128,
+    /// How many stand in line.
+    pub line: i128,
+    /// How many sleep, on any condition.
+    pub sleepers: i128,
+    /// The permits that all seats of a semaphore hold.
+    pub held: i128,
+    /// The free permits of a semaphore, which may be below 0.
+    pub free: i128,
+    /// The permits that a semaphore was made with, which may be below 0.
+    pub created: i128,
+    /// The permits that were released by seats which didn't hold them.
+    pub unheld: i128,
+    /// The count of a latch.
+    pub count: i128,
+}
+
+impl Ledger {
+    pub(crate) fn add_up(&self) -> Totals
+        requires { IsLedger self.now }
+        ensures { (s : Start) (h : List Entry) → LedgerStand s h self.now → result ≡ totals_of s h }
+    {
+        let line = self.line_length();
+        match self.header.object {
+            Object::Lock(_) | Object::ReadWrite(_) => Totals {
+                x: i128::from(self.exclusive_total()),
+                s: i128::from(self.holds.readers),
+                line: i128::from(line),
+                sleepers: i128::from(self.sleepers_total()),
+                ..nothing()
+            },
+            Object::Semaphore(_, permits) => Totals {
+                line: i128::from(line),
+                held: i128::from(self.holds.readers),
+                free: self.permits.free,
+                created: i128::from(permits),
+                unheld: i128::from(self.permits.unheld),
+                ..nothing()
+            },
+            Object::Latch(opening) => Totals {
+                line: i128::from(line),
+                count: i128::from(u64::from(opening).saturating_sub(self.permits.counted)),
+                ..nothing()
+            },
+        }
+    }
+
+    fn line_length(&self) -> u64
+        ensures { (s : Start) (h : List Entry) → LedgerStand s h self.now → result ≡ length (line s h) }
+    {
+        self.waiting.line.len() as u64
+    }
+
+    /// The exclusive holds of all seats of a lock.
+    fn exclusive_total(&self) -> u64
+        requires ledger { IsLedger self.now }
+        requires lock { is_lock self.now.header.object ≡ true }
+        ensures { (s : Start) (h : List Entry) → LedgerStand s h self.now → result ≡ total s.header.seats (λ i. held s h i X) }
+    {
+        sum(&self.holds.exclusive)
+    }
+
+    /// The sleepers of all conditions.
+    fn sleepers_total(&self) -> u64
+        requires { IsLedger self.now }
+        ensures { (s : Start) (h : List Entry) → LedgerStand s h self.now → result ≡ total s.header.conditions (λ c. length (sleepers s h c)) }
+    {
+        count_below(&self.waiting.asleep, self.header.conditions)
+    }
+}
+
+fn nothing() -> Totals
+    ensures { result ≡ no_totals }
+{
+    Totals {
+        x: 0,
+        s: 0,
+        line: 0,
+        sleepers: 0,
+        held: 0,
+        free: 0,
+        created: 0,
+        unheld: 0,
+        count: 0,
+    }
+}
+
+/// The sum of numbers of 31 bits.
+fn sum(numbers: &[u64]) -> u64
+    requires each { (i : ℕ) → slice_index numbers.now i ≤ 2147483647 }
+    requires few { length numbers.now ≤ 65536 }
+    ensures { result ≡ total (length numbers.now) (slice_index numbers.now) }
+{
+    let mut sum: u64 = 0;
+    for number in numbers {
+        sum += *number;
+    }
+    sum
+}
+
+/// How many sleep on the conditions below a number.
+fn count_below(asleep: &[Sleeper], conditions: u8) -> u64
+    requires { length asleep.now < 2 ^ 32 }
+    ensures { result ≡ total conditions (λ c. length (seats_on c asleep.now)) }
+{
+    let mut count: u64 = 0;
+    for condition in 0..conditions {
+        count += u64::from(count_on(asleep, condition));
+    }
+    count
+}

@@ -1,0 +1,29 @@
+//! What a legal history adds up to.
+
+ghost use Rattle.std.specs.Prelude.{◌≡◌, IfOk, IsOkUnless};
+ghost use Rattle.history.specs.Header.{IsInRange};
+ghost use Rattle.history.specs.Legal.{AreSeated, IsLegal};
+ghost use Rattle.history.specs.Start.{opening};
+ghost use Rattle.audit.specs.Totals.{totals_of};
+
+use crate::sums::Totals;
+use crate::verdict::legal_front;
+use history::entries::History;
+use history::fault::Fault;
+use history::header::Header;
+use std::alloc::Global;
+
+/// Adds up a history that is legal. It takes memory for what it counts, and changes nothing.
+pub fn totals(alloc: Global, header: &Header, history: &History) -> Result<Totals, Fault>
+    requires range { IsInRange header.now }
+    requires cap { history.now.cap ≡ header.now.cap }
+    requires seated { AreSeated (opening header.now) history.now.entries }
+    requires legal { IsLegal (opening header.now) history.now.entries }
+    ensures are { IfOk result (λ t. t ≡ totals_of (opening header.now) history.now.entries) }
+    ensures memory { IsOkUnless result Fault.OutOfMemory }
+{
+    match legal_front(alloc, header, history) {
+        Err(fault) => Err(fault),
+        Ok(front) => Ok(front.ledger.add_up()),
+    }
+}
