@@ -17,4 +17,3 @@ pub mod sums;
 pub mod totals;
 pub mod verdict;
 pub mod waiting;
-

@@ -19,16 +19,16 @@ sleeps_elsewhere c d (Some s) p n = ne_eqb s.condition d (λ e. n (sym e ∙ eqb
 pub seat_below : (table : List (Option Sleeper)) (c s : ℕ) → sleeps_on c (get_or table s None) ≡ true → s < length table
 seat_below table c s p = by (cases_lt s (length table))
   where
-  by : (s < length table) ⊎ (length table ≤ s) → s < length table
-  by (inl l) = l
-  by (inr l) = let no : false ≡ true = ap (sleeps_on c) (sym (get_or_past table s None l)) ∙ p in cc
+    by : (s < length table) ⊎ (length table ≤ s) → s < length table
+    by (inl l) = l
+    by (inr l) = let no : false ≡ true = ap (sleeps_on c) (sym (get_or_past table s None l)) ∙ p in cc
 
 pub condition_below : (lists : List (List ℕ)) (c s : ℕ) → has s (get_or lists c []) ≡ true → c < length lists
 condition_below lists c s p = by (cases_lt c (length lists))
   where
-  by : (c < length lists) ⊎ (length lists ≤ c) → c < length lists
-  by (inl l) = l
-  by (inr l) = let no : false ≡ true = ap (has s) (sym (get_or_past lists c [] l)) ∙ p in cc
+    by : (c < length lists) ⊎ (length lists ≤ c) → c < length lists
+    by (inl l) = l
+    by (inr l) = let no : false ≡ true = ap (has s) (sym (get_or_past lists c [] l)) ∙ p in cc
 
 pub list_below : (seats : ℕ) (lists : List (List ℕ)) (rooms : List ℕ) (table : List (Option Sleeper)) → IsKept seats lists rooms table → (c s : ℕ) → sleeps_on c (get_or table s None) ≡ true → c < length lists
 list_below seats lists rooms table kept c s asleep = condition_below lists c s (kept.listed c s ∙ asleep)
@@ -99,21 +99,25 @@ module _ {Z : Type 0} (seats : ℕ) (lists : List (VecDeque ℕ Z)) (table : Lis
         few = kept.few;
       }
     where
-    at : (d : ℕ) → get_or (map deque_items (set lists c p)) d [] ≡ cond (eqb c d) p.items (get_or (map deque_items lists) d [])
-    at d = field_set deque_items lists c d p [] low
-    told : (i : ℕ) → get_or (set table s o) i None ≡ cond (eqb s i) o (get_or table i None)
-    told i = at_set table s i o None (omega (arith, seat, kept.one_a_seat))
-    listed : (d i : ℕ) → (c ≡ d) ⊎ (c ≡ d → ⊥) → (s ≡ i) ⊎ (s ≡ i → ⊥) → has i (get_or (map deque_items (set lists c p)) d []) ≡ sleeps_on d (get_or (set table s o) i None)
-    listed d i (inl e) (inl f) = rw (at d, told i) (rw (eq-eqb c d e, eq-eqb s i f) (changed i ∙ rw (eq-eqb s i f) (ap (λ k. sleeps_on k o) e)))
-    listed d i (inl e) (inr m) = rw (at d, told i) (rw (eq-eqb c d e, ne_eqb s i m) (changed i ∙ rw (ne_eqb s i m) (told_by_table i ∙ ap (λ k. sleeps_on k (get_or table i None)) e)))
-    listed d i (inr n) (inl f) = rw (at d, told i) (rw (ne_eqb c d n, eq-eqb s i f) (kept.listed d i ∙ ap (λ k. sleeps_on d (get_or table k None)) (sym f) ∙ sym (elsewhere d (λ e. n (sym e)))))
-    listed d i (inr n) (inr m) = rw (at d, told i) (rw (ne_eqb c d n, ne_eqb s i m) (kept.listed d i))
-    each_once : (d : ℕ) → (c ≡ d) ⊎ (c ≡ d → ⊥) → SleepOnce (get_or (map deque_items (set lists c p)) d [])
-    each_once d (inl e) = rw (at d) (rw (eq-eqb c d e) new)
-    each_once d (inr n) = rw (at d) (rw (ne_eqb c d n) (kept.once d))
-    reserved : (d : ℕ) → (c ≡ d) ⊎ (c ≡ d → ⊥) → d < length (map (deque_items {X = ℕ} {Z = Z}) lists) → seats ≤ get_or (map deque_capacity (set lists c p)) d 0
-    reserved d (inl e) l = rw (field_set deque_capacity lists c d p 0 low) (rw (eq-eqb c d e) (omega (arith, room, same)))
-    reserved d (inr n) l = rw (field_set deque_capacity lists c d p 0 low) (rw (ne_eqb c d n) (kept.reserved d l))
+      at : (d : ℕ) → get_or (map deque_items (set lists c p)) d [] ≡ cond (eqb c d) p.items (get_or (map deque_items lists) d [])
+      at d = field_set deque_items lists c d p [] low
+
+      told : (i : ℕ) → get_or (set table s o) i None ≡ cond (eqb s i) o (get_or table i None)
+      told i = at_set table s i o None (omega (arith, seat, kept.one_a_seat))
+
+      listed : (d i : ℕ) → (c ≡ d) ⊎ (c ≡ d → ⊥) → (s ≡ i) ⊎ (s ≡ i → ⊥) → has i (get_or (map deque_items (set lists c p)) d []) ≡ sleeps_on d (get_or (set table s o) i None)
+      listed d i (inl e) (inl f) = rw (at d, told i) (rw (eq-eqb c d e, eq-eqb s i f) (changed i ∙ rw (eq-eqb s i f) (ap (λ k. sleeps_on k o) e)))
+      listed d i (inl e) (inr m) = rw (at d, told i) (rw (eq-eqb c d e, ne_eqb s i m) (changed i ∙ rw (ne_eqb s i m) (told_by_table i ∙ ap (λ k. sleeps_on k (get_or table i None)) e)))
+      listed d i (inr n) (inl f) = rw (at d, told i) (rw (ne_eqb c d n, eq-eqb s i f) (kept.listed d i ∙ ap (λ k. sleeps_on d (get_or table k None)) (sym f) ∙ sym (elsewhere d (λ e. n (sym e)))))
+      listed d i (inr n) (inr m) = rw (at d, told i) (rw (ne_eqb c d n, ne_eqb s i m) (kept.listed d i))
+
+      each_once : (d : ℕ) → (c ≡ d) ⊎ (c ≡ d → ⊥) → SleepOnce (get_or (map deque_items (set lists c p)) d [])
+      each_once d (inl e) = rw (at d) (rw (eq-eqb c d e) new)
+      each_once d (inr n) = rw (at d) (rw (ne_eqb c d n) (kept.once d))
+
+      reserved : (d : ℕ) → (c ≡ d) ⊎ (c ≡ d → ⊥) → d < length (map (deque_items {X = ℕ} {Z = Z}) lists) → seats ≤ get_or (map deque_capacity (set lists c p)) d 0
+      reserved d (inl e) l = rw (field_set deque_capacity lists c d p 0 low) (rw (eq-eqb c d e) (omega (arith, room, same)))
+      reserved d (inr n) l = rw (field_set deque_capacity lists c d p 0 low) (rw (ne_eqb c d n) (kept.reserved d l))
 
   -- one who is awake is in no list
   awake : (s : ℕ) → get_or table s None ≡ None → has s q.items ≡ false
@@ -126,11 +130,11 @@ module _ {Z : Type 0} (seats : ℕ) (lists : List (VecDeque ℕ Z)) (table : Lis
       (λ i. ap (has i) becomes ∙ has-append i q.items (s ∷ []) ∙ asleep (eqb s i) (has i q.items) ∙ ap (λ b. cond (eqb s i) b (has i q.items)) (sym (eq-eqb c c refl)))
       (λ d m. ne_eqb c d (λ e. m (sym e)) ∙ ap (sleeps_on d) (sym none))
     where
-    asleep : (b h : Bool) → (h || (b || false)) ≡ cond b true h
-    asleep true true = refl
-    asleep true false = refl
-    asleep false true = refl
-    asleep false false = refl
+      asleep : (b h : Bool) → (h || (b || false)) ≡ cond b true h
+      asleep true true = refl
+      asleep true false = refl
+      asleep false true = refl
+      asleep false false = refl
 
   pub room_to_join : (s : ℕ) → s < seats → get_or table s None ≡ None → deque_len q < deque_capacity q
   room_to_join s seat none =
@@ -138,16 +142,17 @@ module _ {Z : Type 0} (seats : ℕ) (lists : List (VecDeque ℕ Z)) (table : Lis
       let long = q.ok.0 in
       omega (arith, few, room, long, length_push q.items s)
     where
-    right : (h b : Bool) → b ≡ false → (h || (b || false)) ≡ true → h ≡ true
-    right true b e p = refl
-    right false true e p = cc
-    right false false e p = p
-    below : (i : ℕ) → (s ≡ i) ⊎ (s ≡ i → ⊥) → has i (q.items ++ s ∷ []) ≡ true → i < seats
-    below i (inl e) h = omega arith
-    below i (inr m) h =
-        let old : has i q.items ≡ true = right (has i q.items) (eqb s i) (ne_eqb s i m) (sym (has-append i q.items (s ∷ [])) ∙ h) in
-        let seat = seat_below table c i (sym (told_by_table i) ∙ old) in
-        omega (arith, seat, kept.one_a_seat)
+      right : (h b : Bool) → b ≡ false → (h || (b || false)) ≡ true → h ≡ true
+      right true b e p = refl
+      right false true e p = cc
+      right false false e p = p
+
+      below : (i : ℕ) → (s ≡ i) ⊎ (s ≡ i → ⊥) → has i (q.items ++ s ∷ []) ≡ true → i < seats
+      below i (inl e) h = omega arith
+      below i (inr m) h =
+          let old : has i q.items ≡ true = right (has i q.items) (eqb s i) (ne_eqb s i m) (sym (has-append i q.items (s ∷ [])) ∙ h) in
+          let seat = seat_below table c i (sym (told_by_table i) ∙ old) in
+          omega (arith, seat, kept.one_a_seat)
 
   -- one who sleeps leaves
   pub kept_left : (s : ℕ) (p : VecDeque ℕ Z) → deque_capacity p ≡ deque_capacity q → p.items ≡ without s q.items → sleeps_on c (get_or table s None) ≡ true → IsKept seats (map deque_items (set lists c p)) (map deque_capacity (set lists c p)) (set table s None)
@@ -157,9 +162,9 @@ module _ {Z : Type 0} (seats : ℕ) (lists : List (VecDeque ℕ Z)) (table : Lis
       (λ i. ap (has i) becomes ∙ has-without s i q.items ∙ left (eqb s i) (has i q.items))
       (λ d m. sym (sleeps_elsewhere c d (get_or table s None) asleep m))
     where
-    left : (b h : Bool) → (not b && h) ≡ cond b false h
-    left true h = refl
-    left false h = refl
+      left : (b h : Bool) → (not b && h) ≡ cond b false h
+      left true h = refl
+      left false h = refl
 
   -- the first leaves
   pub kept_moved : (s : ℕ) (p : VecDeque ℕ Z) → deque_capacity p ≡ deque_capacity q → p.items ≡ drop 1 q.items → slice_get (get_or (map deque_items lists) c []) 0 ≡ Some s → IsKept seats (map deque_items (set lists c p)) (map deque_capacity (set lists c p)) (set table s None)

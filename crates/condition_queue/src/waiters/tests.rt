@@ -105,7 +105,11 @@ fn moves_as(
 {
     let mut queue = Queue::open(alloc, SEATS)?;
     let asleep = waiters.len(c);
-    let moved = if all { waiters.move_all(c, &mut queue) } else { waiters.move_first(c, &mut queue) };
+    let moved = if all {
+        waiters.move_all(c, &mut queue)
+    } else {
+        waiters.move_first(c, &mut queue)
+    };
     let mut same = moved == u32::from(if all { asleep } else { asleep.min(1) });
     for _ in 0..moved {
         if let Some(place) = list.iter().position(|a| a.condition == c) {
@@ -123,7 +127,8 @@ fn is_same(waiters: &Waiters, list: &[Asleep]) -> bool {
     }
     for seat in 0..SEATS {
         let found = list.iter().find(|a| a.seat == seat);
-        same = same && waiters.sleeper_of(seat) == found.and_then(|a| sleeper(a.condition, a.holds));
+        same = same
+            && waiters.sleeper_of(seat) == found.and_then(|a| sleeper(a.condition, a.holds));
     }
     same
 }
@@ -134,7 +139,9 @@ fn a_long_run_stays_as_plain_lists(rt: HostRuntime) -> Result<(), Fail> {
     let mut list = Vec::new(rt.alloc());
     let mut number: u64 = 1;
     for turn in 0..2000u64 {
-        number = number.wrapping_mul(6364136223846793005).wrapping_add(1442695040888963407);
+        number = number
+            .wrapping_mul(6364136223846793005)
+            .wrapping_add(1442695040888963407);
         change(&mut waiters, &mut list, number >> 33)?;
         if turn % 5 == 4 {
             let c = ((number >> 50) % 3) as u8;

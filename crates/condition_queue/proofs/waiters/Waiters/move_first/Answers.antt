@@ -13,7 +13,7 @@ use Rattle.condition_queue.proofs.waiters.Waiters.move_first.Goals as goal
 pub index_mut-requires-in-Some : goal.index_mut-requires-in-Some
 index_mut-requires-in-Some c =
     let first : slice_get (get_or (map deque_items c.self.inside.lists.items) c.args.c []) 0 ≡ Some c.in-Some.seat =
-        ap (λ (v : Sleepers). slice_get (asleep_on v c.args.c) 0) c.self.view_is ∙ sym c.in-Some.ensures in
+    ap (λ (v : Sleepers). slice_get (asleep_on v c.args.c) 0) c.self.view_is ∙ sym c.in-Some.ensures in
     let low = first_below _ _ _ _ c.self.invariant c.args.c c.in-Some.seat first in
     let table = c.self.inside.table.ok.0 in
     omega (arith, low, table)
@@ -21,14 +21,14 @@ index_mut-requires-in-Some c =
 pub join-requires-clause-seat : goal.join-requires-clause-seat
 join-requires-clause-seat c =
     let first : slice_get (get_or (map deque_items c.self.inside.lists.items) c.args.c []) 0 ≡ Some c.in-Some.seat =
-        ap (λ (v : Sleepers). slice_get (asleep_on v c.args.c) 0) c.self.view_is ∙ sym c.in-Some.ensures in
+    ap (λ (v : Sleepers). slice_get (asleep_on v c.args.c) 0) c.self.view_is ∙ sym c.in-Some.ensures in
     let low = first_below _ _ _ _ c.self.invariant c.args.c c.in-Some.seat first in
     omega (arith, low, c.self.invariant.one_a_seat, c.requires.seats, ap (λ (v : Sleepers). v.seats) c.self.view_is, ap (λ (a : Arrival). a.seat) c.on_its_way_back.ensures)
 
 pub invariant_of-self : goal.invariant_of-self
 invariant_of-self c =
     let first : slice_get (get_or (map deque_items c.self.inside.lists.items) c.args.c []) 0 ≡ Some c.in-Some.seat =
-        ap (λ (v : Sleepers). slice_get (asleep_on v c.args.c) 0) c.self.view_is ∙ sym c.in-Some.ensures in
+    ap (λ (v : Sleepers). slice_get (asleep_on v c.args.c) 0) c.self.view_is ∙ sym c.in-Some.ensures in
     let low : c.args.c < length c.self.inside.lists.items = omega (arith, c.requires.condition, ap (λ (v : Sleepers). v.conditions) c.self.view_is) in
     kept_moved _ _ _ c.self.invariant c.args.c _ low c.index_mut.ensures.value c.in-Some.seat _ c.pop_front.ensures.capacity c.pop_front.ensures.rest first
 
@@ -38,7 +38,7 @@ returns-in-None-clause-moved c = sym (nobody_first (asleep_on c.args.self.now c.
 pub returns-in-Some-clause-moves : goal.returns-in-Some-clause-moves
 returns-in-Some-clause-moves c =
     let first : slice_get (get_or (map deque_items c.self.inside.lists.items) c.args.c []) 0 ≡ Some c.in-Some.seat =
-        ap (λ (v : Sleepers). slice_get (asleep_on v c.args.c) 0) c.self.view_is ∙ sym c.in-Some.ensures in
+    ap (λ (v : Sleepers). slice_get (asleep_on v c.args.c) 0) c.self.view_is ∙ sym c.in-Some.ensures in
     let low : c.args.c < length c.self.inside.lists.items = omega (arith, c.requires.condition, ap (λ (v : Sleepers). v.conditions) c.self.view_is) in
     let seat = first_below _ _ _ _ c.self.invariant c.args.c c.in-Some.seat first in
     let alone = take_first c.in-Some.seat (asleep_on c.args.self.now c.args.c) (sym c.in-Some.ensures) in
