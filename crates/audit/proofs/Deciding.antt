@@ -52,16 +52,16 @@ pub record IsAdmitted (s : Start) (step : Step) : Type 0 where
 pub admitted : (s : Start) (step : Step) → refused_as s.header step ≡ None → IsAdmitted s step
 admitted s step q =
     let parts = by (is_wrong_mode s.header.object step) (is_no_condition s.header step)
-        (is_bad_amount s.header.object step) q in
+    (is_bad_amount s.header.object step) q in
     record { mode = parts.0; condition = parts.1; amount = parts.2 }
   where
-  by : (a b c : Bool) →
-      cond a (Some fault.WrongMode) (cond b (Some fault.NoSuchCondition) (cond c (Some fault.BadAmount) None)) ≡ None →
-      (a ≡ false) × (b ≡ false) × (c ≡ false)
-  by true b c q = absurd (cc)
-  by false true c q = absurd (cc)
-  by false false true q = absurd (cc)
-  by false false false q = (refl, refl, refl)
+    by : (a b c : Bool) →
+        cond a (Some fault.WrongMode) (cond b (Some fault.NoSuchCondition) (cond c (Some fault.BadAmount) None)) ≡ None →
+        (a ≡ false) × (b ≡ false) × (c ≡ false)
+    by true b c q = absurd (cc)
+    by false true c q = absurd (cc)
+    by false false true q = absurd (cc)
+    by false false false q = (refl, refl, refl)
 
 -- what an admitted step makes, by whether it suits its seat's phase
 pub in_phase_made : (s : Start) (h : List Entry) (i : ℕ) (step : Step) (p : Phase) (o : Option Entry) →
@@ -70,18 +70,18 @@ pub in_phase_made : (s : Start) (h : List Entry) (i : ℕ) (step : Step) (p : Ph
 in_phase_made s h i step p o is suit made =
     rw is (by (suits p step) suit)
   where
-  by : (b : Bool) → b ≡ true → ◌≡◌ {A = Result (Option Entry) Fault} (Ok o) (cond (not b) (Err fault.OutOfPhase) (Ok (phase_entry s h i step p)))
-  by true t = let ok : Option Entry → Result (Option Entry) Fault = λ x. Ok x in ap ok made
-  by false t = absurd (cc)
+    by : (b : Bool) → b ≡ true → ◌≡◌ {A = Result (Option Entry) Fault} (Ok o) (cond (not b) (Err fault.OutOfPhase) (Ok (phase_entry s h i step p)))
+    by true t = let ok : Option Entry → Result (Option Entry) Fault = λ x. Ok x in ap ok made
+    by false t = absurd (cc)
 
 pub in_phase_refused : (s : Start) (h : List Entry) (i : ℕ) (step : Step) (p : Phase) →
     phase s h i ≡ p → suits p step ≡ false →
     ◌≡◌ {A = Result (Option Entry) Fault} (Err fault.OutOfPhase) (in_phase s h i step (phase s h i))
 in_phase_refused s h i step p is suit = rw is (by (suits p step) suit)
   where
-  by : (b : Bool) → b ≡ false → ◌≡◌ {A = Result (Option Entry) Fault} (Err fault.OutOfPhase) (cond (not b) (Err fault.OutOfPhase) (Ok (phase_entry s h i step p)))
-  by true t = absurd (cc)
-  by false t = refl
+    by : (b : Bool) → b ≡ false → ◌≡◌ {A = Result (Option Entry) Fault} (Err fault.OutOfPhase) (cond (not b) (Err fault.OutOfPhase) (Ok (phase_entry s h i step p)))
+    by true t = absurd (cc)
+    by false t = refl
 
 -- the phase of a seat in line, and of one that isn't
 pub phase_line : (s : Start) (h : List Entry) (i : ℕ) (a : Arrival) → place_of i (line s h) ≡ Some a → phase s h i ≡ InLine a

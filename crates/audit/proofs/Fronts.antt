@@ -92,9 +92,9 @@ first_wrong k h n l v = record { stands = l; legal = v.legal; wrong = v.wrong l 
 pub reaches_end : (k : Header) (h : List Entry) (n : ℕ) → IsLegal (opening k) h → IsLegalFront k h n → length h ≤ n
 reaches_end k h n legal v = by (ltb n (length h)) refl
   where
-  by : (b : Bool) → ltb n (length h) ≡ b → length h ≤ n
-  by true t = absurd (not_legal k h n (ltb-true n (length h) t) v legal)
-  by false t = ltb-false n (length h) t
+    by : (b : Bool) → ltb n (length h) ≡ b → length h ≤ n
+    by true t = absurd (not_legal k h n (ltb-true n (length h) t) v legal)
+    by false t = ltb-false n (length h) t
 
 -- so the ledger behind it stands for all of it
 pub stands_for_all : (k : Header) (h : List Entry) (n : ℕ) (l : Ledger) → IsLegal (opening k) h → IsLegalFront k h n →

@@ -20,34 +20,39 @@ use Rattle.audit.proofs.HoldsLemmas.{held_here, held_there, held_other_mode, hol
 owner_follows : (s : Start) (e : Entry) (h : List Entry) (was : Option ℕ) → e.seat < s.header.seats → same_mode e.mode X ≡ true → IsOnlyOwner s h → IsOnlyOwner s (e ∷ h) → was ≡ owner (counts s h) → owner_after was e.seat (held s (e ∷ h) e.seat X) ≡ owner (counts s (e ∷ h))
 owner_follows s e h was seat mode old new is = by (ltb 0 (held s (e ∷ h) e.seat X)) refl
   where
-  has_none : ltb 0 (held s (e ∷ h) e.seat X) ≡ false → held s (e ∷ h) e.seat X ≡ 0
-  has_none t = omega (arith, ltb-false 0 (held s (e ∷ h) e.seat X) t)
-  all_zero : (j : ℕ) → was ≡ Some j → e.seat ≡ j → ltb 0 (held s (e ∷ h) e.seat X) ≡ false → (i : ℕ) → held s (e ∷ h) i X ≡ 0
-  all_zero j o q t i =
-      let had : 0 < held s h j X = (seat_with_some s.header.seats (λ i. held s h i X) j (sym is ∙ o)).0 in
-      ⊎_elim (λ x. ap (λ i. held s (e ∷ h) i X) (sym x) ∙ has_none t)
-      (λ ne. held_there s e h i X ne ∙ old j i had (λ x. ne (q ∙ x))) (cases_eq e.seat i)
-  stays : (j : ℕ) → was ≡ Some j → (e.seat ≡ j → ⊥) → owner (counts s (e ∷ h)) ≡ Some j
-  stays j o ne =
-      let had = seat_with_some s.header.seats (λ i. held s h i X) j (sym is ∙ o) in
-      let now : held s (e ∷ h) j X ≡ held s h j X = held_there s e h j X ne in
-      let some : 0 < held s (e ∷ h) j X = omega (arith, had.0, now) in
-      seat_with_only s.header.seats (λ i. held s (e ∷ h) i X) j had.1 some (λ i d. new j i some d)
-  empty : was ≡ None → ltb 0 (held s (e ∷ h) e.seat X) ≡ false → owner (counts s (e ∷ h)) ≡ None
-  empty o t = seat_with_zero s.header.seats (λ i. held s (e ∷ h) i X) (λ i l.
-      ⊎_elim (λ x. ap (λ i. held s (e ∷ h) i X) (sym x) ∙ has_none t)
-      (λ ne. held_there s e h i X ne ∙ seat_with_nobody s.header.seats (λ i. held s h i X) (sym is ∙ o) i l) (cases_eq e.seat i))
-  gone : (o : Option ℕ) → was ≡ o → ltb 0 (held s (e ∷ h) e.seat X) ≡ false → cond (is_seat o e.seat) None o ≡ owner (counts s (e ∷ h))
-  gone None o t = sym (empty o t)
-  gone (Some j) o t =
-      ⊎_elim
-      (λ (q : j ≡ e.seat). rw (eq-eqb j e.seat q) (sym (seat_with_zero s.header.seats (λ i. held s (e ∷ h) i X) (λ i l. all_zero j o (sym q) t i))))
-      (λ ne. rw (ne_eqb j e.seat ne) (sym (stays j o (λ q. ne (sym q))))) (cases_eq j e.seat)
-  by : (b : Bool) → ltb 0 (held s (e ∷ h) e.seat X) ≡ b → cond b (Some e.seat) (cond (is_seat was e.seat) None was) ≡ owner (counts s (e ∷ h))
-  by true t =
-      let some : 0 < held s (e ∷ h) e.seat X = ltb-true _ _ t in
-      sym (seat_with_only s.header.seats (λ i. held s (e ∷ h) i X) e.seat seat some (λ i d. new e.seat i some d))
-  by false t = gone was refl t
+    has_none : ltb 0 (held s (e ∷ h) e.seat X) ≡ false → held s (e ∷ h) e.seat X ≡ 0
+    has_none t = omega (arith, ltb-false 0 (held s (e ∷ h) e.seat X) t)
+
+    all_zero : (j : ℕ) → was ≡ Some j → e.seat ≡ j → ltb 0 (held s (e ∷ h) e.seat X) ≡ false → (i : ℕ) → held s (e ∷ h) i X ≡ 0
+    all_zero j o q t i =
+        let had : 0 < held s h j X = (seat_with_some s.header.seats (λ i. held s h i X) j (sym is ∙ o)).0 in
+        ⊎_elim (λ x. ap (λ i. held s (e ∷ h) i X) (sym x) ∙ has_none t)
+        (λ ne. held_there s e h i X ne ∙ old j i had (λ x. ne (q ∙ x))) (cases_eq e.seat i)
+
+    stays : (j : ℕ) → was ≡ Some j → (e.seat ≡ j → ⊥) → owner (counts s (e ∷ h)) ≡ Some j
+    stays j o ne =
+        let had = seat_with_some s.header.seats (λ i. held s h i X) j (sym is ∙ o) in
+        let now : held s (e ∷ h) j X ≡ held s h j X = held_there s e h j X ne in
+        let some : 0 < held s (e ∷ h) j X = omega (arith, had.0, now) in
+        seat_with_only s.header.seats (λ i. held s (e ∷ h) i X) j had.1 some (λ i d. new j i some d)
+
+    empty : was ≡ None → ltb 0 (held s (e ∷ h) e.seat X) ≡ false → owner (counts s (e ∷ h)) ≡ None
+    empty o t = seat_with_zero s.header.seats (λ i. held s (e ∷ h) i X) (λ i l.
+        ⊎_elim (λ x. ap (λ i. held s (e ∷ h) i X) (sym x) ∙ has_none t)
+        (λ ne. held_there s e h i X ne ∙ seat_with_nobody s.header.seats (λ i. held s h i X) (sym is ∙ o) i l) (cases_eq e.seat i))
+
+    gone : (o : Option ℕ) → was ≡ o → ltb 0 (held s (e ∷ h) e.seat X) ≡ false → cond (is_seat o e.seat) None o ≡ owner (counts s (e ∷ h))
+    gone None o t = sym (empty o t)
+    gone (Some j) o t =
+        ⊎_elim
+        (λ (q : j ≡ e.seat). rw (eq-eqb j e.seat q) (sym (seat_with_zero s.header.seats (λ i. held s (e ∷ h) i X) (λ i l. all_zero j o (sym q) t i))))
+        (λ ne. rw (ne_eqb j e.seat ne) (sym (stays j o (λ q. ne (sym q))))) (cases_eq j e.seat)
+
+    by : (b : Bool) → ltb 0 (held s (e ∷ h) e.seat X) ≡ b → cond b (Some e.seat) (cond (is_seat was e.seat) None was) ≡ owner (counts s (e ∷ h))
+    by true t =
+        let some : 0 < held s (e ∷ h) e.seat X = ltb-true _ _ t in
+        sym (seat_with_only s.header.seats (λ i. held s (e ∷ h) i X) e.seat seat some (λ i d. new e.seat i some d))
+    by false t = gone was refl t
 
 bound_more : (s : Start) (e : Entry) (h : List Entry) (n : ℕ) → n ≤ most_held h → n ≤ most_held (e ∷ h)
 bound_more s e h n p = omega (arith, p)

@@ -54,17 +54,18 @@ holds_more o _ n had b = omega arith
 pub table_follows : (s : Start) (e : Entry) (h : List Entry) (m : Mode) (table : List ℕ) → e.seat < length table → same_mode e.mode m ≡ true → ((i : ℕ) → get_or table i 0 ≡ held s h i m) → (i : ℕ) → get_or (set table e.seat (holds_after s.header.object e.word e.n (get_or table e.seat 0))) i 0 ≡ held s (e ∷ h) i m
 table_follows s e h m table seat mode is i = ⊎_elim same other (cases_eq e.seat i)
   where
-  same : e.seat ≡ i → get_or (set table e.seat (holds_after s.header.object e.word e.n (get_or table e.seat 0))) i 0 ≡ held s (e ∷ h) i m
-  same q =
-      let v = holds_after s.header.object e.word e.n (get_or table e.seat 0) in
-      let written : get_or (set table e.seat v) e.seat 0 ≡ v = get_or-set_same table e.seat v 0 seat in
-      let moved : get_or (set table e.seat v) i 0 ≡ get_or (set table e.seat v) e.seat 0 = ap (λ j. get_or (set table e.seat v) j 0) (sym q) in
-      let was : v ≡ holds_after s.header.object e.word e.n (held s h i m) = ap (holds_after s.header.object e.word e.n) (is e.seat ∙ ap (λ j. held s h j m) q) in
-      moved ∙ written ∙ was ∙ sym (held_here s e h i m q mode)
-  other : (e.seat ≡ i → ⊥) → get_or (set table e.seat (holds_after s.header.object e.word e.n (get_or table e.seat 0))) i 0 ≡ held s (e ∷ h) i m
-  other ne =
-      let v = holds_after s.header.object e.word e.n (get_or table e.seat 0) in
-      get_or-set_other table e.seat i v 0 (λ q. ne (sym q)) ∙ is i ∙ sym (held_there s e h i m ne)
+    same : e.seat ≡ i → get_or (set table e.seat (holds_after s.header.object e.word e.n (get_or table e.seat 0))) i 0 ≡ held s (e ∷ h) i m
+    same q =
+        let v = holds_after s.header.object e.word e.n (get_or table e.seat 0) in
+        let written : get_or (set table e.seat v) e.seat 0 ≡ v = get_or-set_same table e.seat v 0 seat in
+        let moved : get_or (set table e.seat v) i 0 ≡ get_or (set table e.seat v) e.seat 0 = ap (λ j. get_or (set table e.seat v) j 0) (sym q) in
+        let was : v ≡ holds_after s.header.object e.word e.n (held s h i m) = ap (holds_after s.header.object e.word e.n) (is e.seat ∙ ap (λ j. held s h j m) q) in
+        moved ∙ written ∙ was ∙ sym (held_here s e h i m q mode)
+
+    other : (e.seat ≡ i → ⊥) → get_or (set table e.seat (holds_after s.header.object e.word e.n (get_or table e.seat 0))) i 0 ≡ held s (e ∷ h) i m
+    other ne =
+        let v = holds_after s.header.object e.word e.n (get_or table e.seat 0) in
+        get_or-set_other table e.seat i v 0 (λ q. ne (sym q)) ∙ is i ∙ sym (held_there s e h i m ne)
 
 -- a table of the other mode stays
 pub table_stays : (s : Start) (e : Entry) (h : List Entry) (m : Mode) (table : List ℕ) → same_mode e.mode m ≡ false → ((i : ℕ) → get_or table i 0 ≡ held s h i m) → (i : ℕ) → get_or table i 0 ≡ held s (e ∷ h) i m
@@ -75,28 +76,28 @@ pub part_of_total : (n : ℕ) (f : ℕ → ℕ) (j : ℕ) → j < n → f j ≤ 
 part_of_total zero f j l = absurd (omega arith)
 part_of_total (suc n) f j l = ⊎_elim (λ q. let x : f n ≡ f j = ap f q in omega (arith, x)) (λ ne. below (omega (arith, ne, l)) (λ b. part_of_total n f j b)) (cases_eq n j)
   where
-  below : j < n → (j < n → f j ≤ total n f) → f j ≤ total (suc n) f
-  below b ih = let p : f j ≤ total n f = ih b in omega (arith, p)
+    below : j < n → (j < n → f j ≤ total n f) → f j ≤ total (suc n) f
+    below b ih = let p : f j ≤ total n f = ih b in omega (arith, p)
 
 pub seat_with_some : (n : ℕ) (f : ℕ → ℕ) (j : ℕ) → seat_with n f ≡ Some j → (0 < f j) × (j < n)
 seat_with_some zero f j q = cc
 seat_with_some (suc n) f j q = by (ltb 0 (f n)) refl q (λ r. seat_with_some n f j r)
   where
-  by : (b : Bool) → ltb 0 (f n) ≡ b → cond b (Some n) (seat_with n f) ≡ Some j → (seat_with n f ≡ Some j → (0 < f j) × (j < n)) → (0 < f j) × (j < suc n)
-  by true t r ih =
-      let e : n ≡ j = some_same r in
-      let p : 0 < f n = ltb-true _ _ t in
-      let P : ℕ → Type 0 = λ i. (0 < f i) × (i < suc n) in
-      subst P e (p, omega arith)
-  by false t r ih = let p = ih r in (p.0, omega (arith, p.1))
+    by : (b : Bool) → ltb 0 (f n) ≡ b → cond b (Some n) (seat_with n f) ≡ Some j → (seat_with n f ≡ Some j → (0 < f j) × (j < n)) → (0 < f j) × (j < suc n)
+    by true t r ih =
+        let e : n ≡ j = some_same r in
+        let p : 0 < f n = ltb-true _ _ t in
+        let P : ℕ → Type 0 = λ i. (0 < f i) × (i < suc n) in
+        subst P e (p, omega arith)
+    by false t r ih = let p = ih r in (p.0, omega (arith, p.1))
 
 pub seat_with_nobody : (n : ℕ) (f : ℕ → ℕ) → seat_with n f ≡ None → (i : ℕ) → i < n → f i ≡ 0
 seat_with_nobody zero f q i l = absurd (omega arith)
 seat_with_nobody (suc n) f q i l = by (ltb 0 (f n)) refl q (λ r b. seat_with_nobody n f r i b)
   where
-  by : (b : Bool) → ltb 0 (f n) ≡ b → cond b (Some n) (seat_with n f) ≡ None → (seat_with n f ≡ None → i < n → f i ≡ 0) → f i ≡ 0
-  by true t r ih = cc
-  by false t r ih = ⊎_elim (λ e. let z : f n ≡ 0 = omega (arith, ltb-false 0 (f n) t) in ap f (sym e) ∙ z) (λ ne. ih r (omega (arith, ne, l))) (cases_eq n i)
+    by : (b : Bool) → ltb 0 (f n) ≡ b → cond b (Some n) (seat_with n f) ≡ None → (seat_with n f ≡ None → i < n → f i ≡ 0) → f i ≡ 0
+    by true t r ih = cc
+    by false t r ih = ⊎_elim (λ e. let z : f n ≡ 0 = omega (arith, ltb-false 0 (f n) t) in ap f (sym e) ∙ z) (λ ne. ih r (omega (arith, ne, l))) (cases_eq n i)
 
 pub seat_with_same : (n : ℕ) (f g : ℕ → ℕ) → ((i : ℕ) → i < n → f i ≡ g i) → seat_with n f ≡ seat_with n g
 seat_with_same zero f g h = refl

@@ -41,9 +41,9 @@ pub only_owner : (s : Start) (h : List Entry) (k : Header) → s ≡ opening k �
 only_owner s h k is lock legal seated i j holds other =
     by (held s h j X) ((owned_by s h k is lock legal seated).one i j holds)
   where
-  by : (n : ℕ) → (0 < n → i ≡ j) → n ≡ 0
-  by zero f = refl
-  by (suc n) f = absurd (other (f (omega arith)))
+    by : (n : ℕ) → (0 < n → i ≡ j) → n ≡ 0
+    by zero f = refl
+    by (suc n) f = absurd (other (f (omega arith)))
 
 -- the exclusive holds of one seat of a lock
 pub exclusive_small : (s : Start) (h : List Entry) (l : Ledger) (i : ℕ) → LedgerStand s h l →
@@ -69,9 +69,9 @@ free_small s h l st semaphore =
 most_one : (n : ℕ) → at_most_one n ≤ 1
 most_one n = by (eqb n 0)
   where
-  by : (b : Bool) → cond b 0 1 ≤ 1
-  by true = omega arith
-  by false = omega arith
+    by : (b : Bool) → cond b 0 1 ≤ 1
+    by true = omega arith
+    by false = omega arith
 
 -- a signal moves one sleeper at most
 pub one_signalled : (s : Start) (h : List Entry) (e : Entry) → IsNext s h e → e.word ≡ Signal → e.n ≤ 1

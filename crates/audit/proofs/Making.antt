@@ -182,7 +182,7 @@ look_made : (s : Start) (h : List Entry) (i : ℕ) (a : Arrival) (comes goes : B
     entry_for s h i Look ≡ Ok (cond comes (cond goes (Some (back s h i)) None) (queued_entry goes i a Look))
 look_made s h i a comes goes is b g =
     let seen : Bool → Bool → Result (Option Entry) Fault =
-        λ x y. Ok (cond x (cond y (Some (back s h i)) None) (queued_entry y i a Look)) in
+    λ x y. Ok (cond x (cond y (Some (back s h i)) None) (queued_entry y i a Look)) in
     entry_admitted s h i Look refl
     ∙ sym (in_phase_made s h i Look (InLine a) (line_entry s h (is_seat (ready s h) i) i a Look) is refl refl)
     ∙ ap (λ x. seen x (is_seat (ready s h) i)) b ∙ ap (seen comes) g
@@ -240,6 +240,6 @@ some_candidate s h e k x y z is p q first second third next =
     (⊎_elim (λ a. refuted y z q (second (subst M (sym a) f.makes))) (λ a. third (subst M (sym a) f.makes)))
     (subst Is (sym is) f.candidate)
   where
-  refuted : (x z : Bool) → x ≡ false → x ≡ true → z ≡ true
-  refuted true z p t = absurd (cc)
-  refuted false z p t = absurd (cc)
+    refuted : (x z : Bool) → x ≡ false → x ≡ true → z ≡ true
+    refuted true z p t = absurd (cc)
+    refuted false z p t = absurd (cc)

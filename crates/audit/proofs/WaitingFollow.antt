@@ -76,9 +76,9 @@ length_filter : (p : Sleeper → Bool) (xs : List Sleeper) → length (filter p 
 length_filter p [] = omega arith
 length_filter p (x ∷ xs) = by (p x) (length_filter p xs)
   where
-  by : (b : Bool) → length (filter p xs) ≤ length xs → length (cond b (x ∷ filter p xs) (filter p xs)) ≤ length (x ∷ xs)
-  by true ih = omega (arith, ih)
-  by false ih = omega (arith, ih)
+    by : (b : Bool) → length (filter p xs) ≤ length xs → length (cond b (x ∷ filter p xs) (filter p xs)) ≤ length (x ∷ xs)
+    by true ih = omega (arith, ih)
+    by false ih = omega (arith, ih)
 
 -- an entry by which somebody joins or leaves the line, and no sleeper is moved
 pub follows_queued : (s : Start) (e : Entry) (h : List Entry) (old new : Waiting) → WaitingStand s h old → e.word ≡ word.Queued → new.line.items ≡ old.line.items ++ record { seat = e.seat; mode = e.mode; n = e.n; back = false } ∷ [] → new.asleep.items ≡ old.asleep.items → new.last_sleep.items ≡ old.last_sleep.items → WaitingStand s (e ∷ h) new
@@ -112,45 +112,47 @@ pub seats_on-append : (c : ℕ) (xs ys : List Sleeper) → seats_on c (xs ++ ys)
 seats_on-append c [] ys = refl
 seats_on-append c (x ∷ xs) ys = by (eqb x.condition c) (seats_on-append c xs ys)
   where
-  by : (b : Bool) → seats_on c (xs ++ ys) ≡ seats_on c xs ++ seats_on c ys → cond b (x.seat ∷ seats_on c (xs ++ ys)) (seats_on c (xs ++ ys)) ≡ cond b (x.seat ∷ seats_on c xs) (seats_on c xs) ++ seats_on c ys
-  by true ih = ap (λ l. x.seat ∷ l) ih
-  by false ih = ih
+    by : (b : Bool) → seats_on c (xs ++ ys) ≡ seats_on c xs ++ seats_on c ys → cond b (x.seat ∷ seats_on c (xs ++ ys)) (seats_on c (xs ++ ys)) ≡ cond b (x.seat ∷ seats_on c xs) (seats_on c xs) ++ seats_on c ys
+    by true ih = ap (λ l. x.seat ∷ l) ih
+    by false ih = ih
 
 woken_at : (c i : ℕ) (xs : List Sleeper) → seats_on c (filter (λ x. not (eqb x.condition c && eqb x.seat i)) xs) ≡ without i (seats_on c xs)
 woken_at c i [] = refl
 woken_at c i (x ∷ xs) = by (eqb x.condition c) refl (eqb x.seat i) refl (woken_at c i xs)
   where
-  rest : List Sleeper
-  rest = filter (λ x. not (eqb x.condition c && eqb x.seat i)) xs
-  by : (b : Bool) → eqb x.condition c ≡ b → (d : Bool) → eqb x.seat i ≡ d → seats_on c (filter (λ x. not (eqb x.condition c && eqb x.seat i)) xs) ≡ without i (seats_on c xs)
-      → seats_on c (cond (not (b && d)) (x ∷ filter (λ x. not (eqb x.condition c && eqb x.seat i)) xs) (filter (λ x. not (eqb x.condition c && eqb x.seat i)) xs)) ≡ without i (cond b (x.seat ∷ seats_on c xs) (seats_on c xs))
-  by true t true u ih = rw u ih
-  by true t false u ih = rw t (rw u (ap (λ l. x.seat ∷ l) ih))
-  by false t d u ih = rw t ih
+    rest : List Sleeper
+    rest = filter (λ x. not (eqb x.condition c && eqb x.seat i)) xs
+
+    by : (b : Bool) → eqb x.condition c ≡ b → (d : Bool) → eqb x.seat i ≡ d → seats_on c (filter (λ x. not (eqb x.condition c && eqb x.seat i)) xs) ≡ without i (seats_on c xs)
+        → seats_on c (cond (not (b && d)) (x ∷ filter (λ x. not (eqb x.condition c && eqb x.seat i)) xs) (filter (λ x. not (eqb x.condition c && eqb x.seat i)) xs)) ≡ without i (cond b (x.seat ∷ seats_on c xs) (seats_on c xs))
+    by true t true u ih = rw u ih
+    by true t false u ih = rw t (rw u (ap (λ l. x.seat ∷ l) ih))
+    by false t d u ih = rw t ih
 
 woken_else : (c o i : ℕ) (xs : List Sleeper) → o ≢ c → seats_on o (filter (λ x. not (eqb x.condition c && eqb x.seat i)) xs) ≡ seats_on o xs
 woken_else c o i [] ne = refl
 woken_else c o i (x ∷ xs) ne = by (eqb x.condition c) refl (eqb x.seat i) (woken_else c o i xs ne)
   where
-  by : (b : Bool) → eqb x.condition c ≡ b → (d : Bool) → seats_on o (filter (λ x. not (eqb x.condition c && eqb x.seat i)) xs) ≡ seats_on o xs
-      → seats_on o (cond (not (b && d)) (x ∷ filter (λ x. not (eqb x.condition c && eqb x.seat i)) xs) (filter (λ x. not (eqb x.condition c && eqb x.seat i)) xs)) ≡ seats_on o (x ∷ xs)
-  by true t true ih = let q : eqb x.condition o ≡ false = ne_eqb x.condition o (λ w. ne (sym w ∙ eqb-true x.condition c t)) in rw q ih
-  by true t false ih = ap (λ l. cond (eqb x.condition o) (x.seat ∷ l) l) ih
-  by false t d ih = ap (λ l. cond (eqb x.condition o) (x.seat ∷ l) l) ih
+    by : (b : Bool) → eqb x.condition c ≡ b → (d : Bool) → seats_on o (filter (λ x. not (eqb x.condition c && eqb x.seat i)) xs) ≡ seats_on o xs
+        → seats_on o (cond (not (b && d)) (x ∷ filter (λ x. not (eqb x.condition c && eqb x.seat i)) xs) (filter (λ x. not (eqb x.condition c && eqb x.seat i)) xs)) ≡ seats_on o (x ∷ xs)
+    by true t true ih = let q : eqb x.condition o ≡ false = ne_eqb x.condition o (λ w. ne (sym w ∙ eqb-true x.condition c t)) in rw q ih
+    by true t false ih = ap (λ l. cond (eqb x.condition o) (x.seat ∷ l) l) ih
+    by false t d ih = ap (λ l. cond (eqb x.condition o) (x.seat ∷ l) l) ih
 
 -- a table of last sleeps that is written at the entry's seat
 slept_written : (s : Start) (e : Entry) (h : List Entry) (old new : List Sleep) (v : Sleep) → e.seat < length old → new ≡ set old e.seat v → sleep_of v ≡ sleep_after e.word e (last_sleep s h e.seat) → ((i : ℕ) → sleep_of (get_or old i never_slept) ≡ last_sleep s h i) → (i : ℕ) → sleep_of (get_or new i never_slept) ≡ last_sleep s (e ∷ h) i
 slept_written s e h old new v seat written value is i = ap (λ l. sleep_of (get_or l i never_slept)) written ∙ ⊎_elim same other (cases_eq e.seat i)
   where
-  same : e.seat ≡ i → sleep_of (get_or (set old e.seat v) i never_slept) ≡ last_sleep s (e ∷ h) i
-  same q =
-      let t : eqb e.seat i ≡ true = eq-eqb _ _ q in
-      let read : get_or (set old e.seat v) i never_slept ≡ v = ap (λ j. get_or (set old e.seat v) j never_slept) (sym q) ∙ get_or-set_same old e.seat v never_slept seat in
-      ap sleep_of read ∙ value ∙ rw t (ap (λ j. sleep_after e.word e (last_sleep s h j)) q)
-  other : (e.seat ≡ i → ⊥) → sleep_of (get_or (set old e.seat v) i never_slept) ≡ last_sleep s (e ∷ h) i
-  other ne =
-      let t : eqb e.seat i ≡ false = ne_eqb _ _ ne in
-      ap sleep_of (get_or-set_other old e.seat i v never_slept (λ q. ne (sym q))) ∙ rw t (is i)
+    same : e.seat ≡ i → sleep_of (get_or (set old e.seat v) i never_slept) ≡ last_sleep s (e ∷ h) i
+    same q =
+        let t : eqb e.seat i ≡ true = eq-eqb _ _ q in
+        let read : get_or (set old e.seat v) i never_slept ≡ v = ap (λ j. get_or (set old e.seat v) j never_slept) (sym q) ∙ get_or-set_same old e.seat v never_slept seat in
+        ap sleep_of read ∙ value ∙ rw t (ap (λ j. sleep_after e.word e (last_sleep s h j)) q)
+
+    other : (e.seat ≡ i → ⊥) → sleep_of (get_or (set old e.seat v) i never_slept) ≡ last_sleep s (e ∷ h) i
+    other ne =
+        let t : eqb e.seat i ≡ false = ne_eqb _ _ ne in
+        ap sleep_of (get_or-set_other old e.seat i v never_slept (λ q. ne (sym q))) ∙ rw t (is i)
 
 none_arrive : (s : Start) (e : Entry) (h : List Entry) → e.word ≡ word.Await → line s (e ∷ h) ≡ line s h
 none_arrive s e h w = line_more s e h (ap ends_arrival w) ∙ ap (λ v. line s h ++ arrivals_by s v e h) w ∙ append-nil _
@@ -166,9 +168,9 @@ follows_await s e h old new st seat w li as_ sl =
       few = let n : length new.asleep.items ≡ length old.asleep.items + 1 = ap length as_ ∙ length_push old.asleep.items (record { condition = e.at; seat = e.seat }) in omega (arith, n, st.few);
     }
   where
-  by : (c : ℕ) (b : Bool) → eqb e.at c ≡ b → seats_on c old.asleep.items ++ cond (eqb e.at c) (e.seat ∷ []) [] ≡ cond (eqb e.at c) (sleepers_after e.word e.seat e.n (sleepers s h c)) (sleepers s h c)
-  by c true t = rw t (ap (λ l. l ++ e.seat ∷ []) (st.sleeping c) ∙ ap (λ v. sleepers_after v e.seat e.n (sleepers s h c)) (sym w))
-  by c false t = rw t (append-nil _ ∙ st.sleeping c)
+    by : (c : ℕ) (b : Bool) → eqb e.at c ≡ b → seats_on c old.asleep.items ++ cond (eqb e.at c) (e.seat ∷ []) [] ≡ cond (eqb e.at c) (sleepers_after e.word e.seat e.n (sleepers s h c)) (sleepers s h c)
+    by c true t = rw t (ap (λ l. l ++ e.seat ∷ []) (st.sleeping c) ∙ ap (λ v. sleepers_after v e.seat e.n (sleepers s h c)) (sym w))
+    by c false t = rw t (append-nil _ ∙ st.sleeping c)
 
 -- who lapses wakes and stands in line
 pub follows_lapse : (s : Start) (e : Entry) (h : List Entry) (old new : Waiting) → WaitingStand s h old → e.seat < length old.last_sleep.items → e.word ≡ word.Lapse → new.line.items ≡ old.line.items ++ coming_back e.seat ∷ []
@@ -183,16 +185,17 @@ follows_lapse s e h old new st seat w li as_ sl =
       few = let n : length new.asleep.items ≡ length (filter (λ x. not (eqb x.condition e.at && eqb x.seat e.seat)) old.asleep.items) = ap length as_ in omega (arith, n, st.few, length_filter (λ x. not (eqb x.condition e.at && eqb x.seat e.seat)) old.asleep.items);
     }
   where
-  here : (c : ℕ) → e.at ≡ c → seats_on c (filter (λ x. not (eqb x.condition e.at && eqb x.seat e.seat)) old.asleep.items) ≡ sleepers s (e ∷ h) c
-  here c q =
-      let t : eqb e.at c ≡ true = eq-eqb _ _ q in
-      ap (λ d. seats_on d (filter (λ x. not (eqb x.condition e.at && eqb x.seat e.seat)) old.asleep.items)) (sym q)
-      ∙ woken_at e.at e.seat old.asleep.items ∙ ap (without e.seat) (st.sleeping e.at)
-      ∙ rw t (ap (λ d. without e.seat (sleepers s h d)) q ∙ ap (λ v. sleepers_after v e.seat e.n (sleepers s h c)) (sym w))
-  there : (c : ℕ) → (e.at ≡ c → ⊥) → seats_on c (filter (λ x. not (eqb x.condition e.at && eqb x.seat e.seat)) old.asleep.items) ≡ sleepers s (e ∷ h) c
-  there c ne =
-      let t : eqb e.at c ≡ false = ne_eqb _ _ ne in
-      woken_else e.at c e.seat old.asleep.items (λ q. ne (sym q)) ∙ st.sleeping c ∙ rw t refl
+    here : (c : ℕ) → e.at ≡ c → seats_on c (filter (λ x. not (eqb x.condition e.at && eqb x.seat e.seat)) old.asleep.items) ≡ sleepers s (e ∷ h) c
+    here c q =
+        let t : eqb e.at c ≡ true = eq-eqb _ _ q in
+        ap (λ d. seats_on d (filter (λ x. not (eqb x.condition e.at && eqb x.seat e.seat)) old.asleep.items)) (sym q)
+        ∙ woken_at e.at e.seat old.asleep.items ∙ ap (without e.seat) (st.sleeping e.at)
+        ∙ rw t (ap (λ d. without e.seat (sleepers s h d)) q ∙ ap (λ v. sleepers_after v e.seat e.n (sleepers s h c)) (sym w))
+
+    there : (c : ℕ) → (e.at ≡ c → ⊥) → seats_on c (filter (λ x. not (eqb x.condition e.at && eqb x.seat e.seat)) old.asleep.items) ≡ sleepers s (e ∷ h) c
+    there c ne =
+        let t : eqb e.at c ≡ false = ne_eqb _ _ ne in
+        woken_else e.at c e.seat old.asleep.items (λ q. ne (sym q)) ∙ st.sleeping c ∙ rw t refl
 
 -- who is signalled stands in line
 pub follows_signal : (s : Start) (e : Entry) (h : List Entry) (old new : Waiting) (moved : List ℕ) → WaitingStand s h old → ends_arrival e.word ≡ false → saves_nothing e.word ≡ true
@@ -208,23 +211,24 @@ follows_signal s e h old new moved st w saves who li here there sl few =
       few = omega (arith, few, st.few);
     }
   where
-  at_it : (c : ℕ) → e.at ≡ c → seats_on c new.asleep.items ≡ sleepers s (e ∷ h) c
-  at_it c q =
-      let t : eqb e.at c ≡ true = eq-eqb _ _ q in
-      ap (λ d. seats_on d new.asleep.items) (sym q) ∙ here ∙ rw t (ap (λ d. sleepers_after e.word e.seat e.n (sleepers s h d)) q)
-  elsewhere : (c : ℕ) → (e.at ≡ c → ⊥) → seats_on c new.asleep.items ≡ sleepers s (e ∷ h) c
-  elsewhere c ne =
-      let t : eqb e.at c ≡ false = ne_eqb _ _ ne in
-      there c (λ q. ne (sym q)) ∙ st.sleeping c ∙ rw t refl
+    at_it : (c : ℕ) → e.at ≡ c → seats_on c new.asleep.items ≡ sleepers s (e ∷ h) c
+    at_it c q =
+        let t : eqb e.at c ≡ true = eq-eqb _ _ q in
+        ap (λ d. seats_on d new.asleep.items) (sym q) ∙ here ∙ rw t (ap (λ d. sleepers_after e.word e.seat e.n (sleepers s h d)) q)
+
+    elsewhere : (c : ℕ) → (e.at ≡ c → ⊥) → seats_on c new.asleep.items ≡ sleepers s (e ∷ h) c
+    elsewhere c ne =
+        let t : eqb e.at c ≡ false = ne_eqb _ _ ne in
+        there c (λ q. ne (sym q)) ∙ st.sleeping c ∙ rw t refl
 
 -- no more sleep on a condition than sleep at all
 pub length-seats_on : (c : ℕ) (xs : List Sleeper) → length (seats_on c xs) ≤ length xs
 length-seats_on c [] = omega arith
 length-seats_on c (x ∷ xs) = by (eqb x.condition c) (length-seats_on c xs)
   where
-  by : (b : Bool) → length (seats_on c xs) ≤ length xs → length (cond b (x.seat ∷ seats_on c xs) (seats_on c xs)) ≤ length (x ∷ xs)
-  by true ih = omega (arith, ih)
-  by false ih = omega (arith, ih)
+    by : (b : Bool) → length (seats_on c xs) ≤ length xs → length (cond b (x.seat ∷ seats_on c xs) (seats_on c xs)) ≤ length (x ∷ xs)
+    by true ih = omega (arith, ih)
+    by false ih = omega (arith, ih)
 
 -- nobody waits at the opening
 never : (n i : ℕ) → ◌≡◌ {A = Sleep} (get_or (replicate n never_slept) i never_slept) never_slept

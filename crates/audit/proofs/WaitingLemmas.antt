@@ -30,23 +30,23 @@ pub first_removed : (c : ℕ) (xs : List Sleeper) (d : Sleeper) → position_or_
 first_removed c [] d l = absurd (omega arith)
 first_removed c (x ∷ xs) d l = by (eqb x.condition c) refl l (λ p. first_removed c xs d p)
   where
-  by : (b : Bool) → eqb x.condition c ≡ b → cond (not b) (1 + position_or_len (sleeps_on c) xs) 0 < length (x ∷ xs)
-      → (position_or_len (sleeps_on c) xs < length xs → seats_on c xs ≡ (get_or xs (position_or_len (sleeps_on c) xs) d).seat ∷ seats_on c (remove xs (position_or_len (sleeps_on c) xs)))
-      → cond b (x.seat ∷ seats_on c xs) (seats_on c xs) ≡ (get_or (x ∷ xs) (cond (not b) (1 + position_or_len (sleeps_on c) xs) 0) d).seat ∷ seats_on c (remove (x ∷ xs) (cond (not b) (1 + position_or_len (sleeps_on c) xs) 0))
-  by true t l ih = refl
-  by false t l ih = later c x xs d (1 + position_or_len (sleeps_on c) xs) (position_or_len (sleeps_on c) xs) (omega arith) t (ih (omega (arith, l)))
+    by : (b : Bool) → eqb x.condition c ≡ b → cond (not b) (1 + position_or_len (sleeps_on c) xs) 0 < length (x ∷ xs)
+        → (position_or_len (sleeps_on c) xs < length xs → seats_on c xs ≡ (get_or xs (position_or_len (sleeps_on c) xs) d).seat ∷ seats_on c (remove xs (position_or_len (sleeps_on c) xs)))
+        → cond b (x.seat ∷ seats_on c xs) (seats_on c xs) ≡ (get_or (x ∷ xs) (cond (not b) (1 + position_or_len (sleeps_on c) xs) 0) d).seat ∷ seats_on c (remove (x ∷ xs) (cond (not b) (1 + position_or_len (sleeps_on c) xs) 0))
+    by true t l ih = refl
+    by false t l ih = later c x xs d (1 + position_or_len (sleeps_on c) xs) (position_or_len (sleeps_on c) xs) (omega arith) t (ih (omega (arith, l)))
 
 pub others_stay : (c o : ℕ) (xs : List Sleeper) → o ≢ c → position_or_len (sleeps_on c) xs < length xs → seats_on o (remove xs (position_or_len (sleeps_on c) xs)) ≡ seats_on o xs
 others_stay c o [] ne l = absurd (omega arith)
 others_stay c o (x ∷ xs) ne l = by (eqb x.condition c) refl l (λ p. others_stay c o xs ne p)
   where
-  by : (b : Bool) → eqb x.condition c ≡ b → cond (not b) (1 + position_or_len (sleeps_on c) xs) 0 < length (x ∷ xs)
-      → (position_or_len (sleeps_on c) xs < length xs → seats_on o (remove xs (position_or_len (sleeps_on c) xs)) ≡ seats_on o xs)
-      → seats_on o (remove (x ∷ xs) (cond (not b) (1 + position_or_len (sleeps_on c) xs) 0)) ≡ seats_on o (x ∷ xs)
-  by true t l ih =
-      let q : eqb x.condition o ≡ false = ne_eqb x.condition o (λ w. ne (sym w ∙ eqb-true x.condition c t)) in
-      rw q refl
-  by false t l ih = later_other c o x xs (1 + position_or_len (sleeps_on c) xs) (position_or_len (sleeps_on c) xs) (omega arith) (ih (omega (arith, l)))
+    by : (b : Bool) → eqb x.condition c ≡ b → cond (not b) (1 + position_or_len (sleeps_on c) xs) 0 < length (x ∷ xs)
+        → (position_or_len (sleeps_on c) xs < length xs → seats_on o (remove xs (position_or_len (sleeps_on c) xs)) ≡ seats_on o xs)
+        → seats_on o (remove (x ∷ xs) (cond (not b) (1 + position_or_len (sleeps_on c) xs) 0)) ≡ seats_on o (x ∷ xs)
+    by true t l ih =
+        let q : eqb x.condition o ≡ false = ne_eqb x.condition o (λ w. ne (sym w ∙ eqb-true x.condition c t)) in
+        rw q refl
+    by false t l ih = later_other c o x xs (1 + position_or_len (sleeps_on c) xs) (position_or_len (sleeps_on c) xs) (omega arith) (ih (omega (arith, l)))
 
 -- a place that was found is that of the first
 found_first : (b : Bool) (n k : ℕ) → cond b (Some n) None ≡ Some k → (b ≡ true) × (n ≡ k)
@@ -75,10 +75,10 @@ nobody : (c : ℕ) (xs : List Sleeper) → length xs ≤ position_or_len (sleeps
 nobody c [] l = refl
 nobody c (x ∷ xs) l = by (eqb x.condition c) refl l (λ p. nobody c xs p)
   where
-  by : (b : Bool) → eqb x.condition c ≡ b → length (x ∷ xs) ≤ cond (not b) (1 + position_or_len (sleeps_on c) xs) 0
-      → (length xs ≤ position_or_len (sleeps_on c) xs → seats_on c xs ≡ []) → cond b (x.seat ∷ seats_on c xs) (seats_on c xs) ≡ []
-  by true t l ih = absurd (omega (arith, l))
-  by false t l ih = ih (omega (arith, l))
+    by : (b : Bool) → eqb x.condition c ≡ b → length (x ∷ xs) ≤ cond (not b) (1 + position_or_len (sleeps_on c) xs) 0
+        → (length xs ≤ position_or_len (sleeps_on c) xs → seats_on c xs ≡ []) → cond b (x.seat ∷ seats_on c xs) (seats_on c xs) ≡ []
+    by true t l ih = absurd (omega (arith, l))
+    by false t l ih = ih (omega (arith, l))
 
 not_found : (b : Bool) (n : ℕ) → cond b (Some n) None ≡ None → b ≡ false
 not_found true n q = cc

@@ -188,7 +188,11 @@ impl Ledger {
         ensures { (s : Start) (h : List Entry) → LedgerStand s h self.now → result ≡ at_least_none (counts s h).free }
     {
         let free = self.permits.free;
-        if free < 0 { 0 } else { free.unsigned_abs() as u32 }
+        if free < 0 {
+            0
+        } else {
+            free.unsigned_abs() as u32
+        }
     }
 
     /// The entry of an idle seat's step.
@@ -208,11 +212,20 @@ impl Ledger {
             Step::Give(mode, n) => plain(seat, self.gave(seat, mode, n), mode, n),
             Step::Await(condition) => self.awaits(seat, condition),
             Step::Signal(condition) => {
-                let moved = if self.sleepers_on(condition, seat) == 0 { 0 } else { 1 };
+                let moved = if self.sleepers_on(condition, seat) == 0 {
+                    0
+                } else {
+                    1
+                };
                 self.signals(seat, Word::Signal, moved, condition)
             }
             Step::SignalAll(condition) => {
-                self.signals(seat, Word::SignalAll, self.sleepers_on(condition, seat), condition)
+                self.signals(
+                    seat,
+                    Word::SignalAll,
+                    self.sleepers_on(condition, seat),
+                    condition,
+                )
             }
             Step::Drain => plain(seat, Word::Drained, Mode::S, self.free_permits(seat)),
             Step::Look | Step::Expire | Step::Interrupt => unreachable!(),

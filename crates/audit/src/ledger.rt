@@ -27,6 +27,7 @@ use std::alloc::Global;
 
 /// The most holds of a lock by one seat, and the most write holds, or read holds of all seats.
 const MAX_HOLDS: u64 = 2_147_483_647;
+
 const MAX_SHARED: u64 = 65_535;
 
 #[derive(Drop)]
@@ -113,7 +114,8 @@ impl Ledger {
                     self.is_free_for(seat) && self.holds.readers == 0
                 }
             }
-            (Object::ReadWrite(_), Mode::S) => self.is_free_for(seat) && self.holds.readers < MAX_SHARED,
+            (Object::ReadWrite(_), Mode::S) => self.is_free_for(seat)
+                && self.holds.readers < MAX_SHARED,
             (Object::Semaphore(_, _permits), Mode::S) => self.permits.free >= i128::from(n),
             (Object::Latch(count), Mode::S) => u64::from(count) <= self.permits.counted,
             _ => false,
@@ -128,7 +130,8 @@ impl Ledger {
         match (self.header.object, mode) {
             (Object::Lock(_), Mode::X) => self.holds.exclusive[seat as usize] == MAX_HOLDS,
             (Object::ReadWrite(_), Mode::X) => self.holds.exclusive[seat as usize] == MAX_SHARED,
-            (Object::ReadWrite(_), Mode::S) => self.is_free_for(seat) && self.holds.readers == MAX_SHARED,
+            (Object::ReadWrite(_), Mode::S) => self.is_free_for(seat)
+                && self.holds.readers == MAX_SHARED,
             _ => false,
         }
     }
@@ -141,8 +144,7 @@ impl Ledger {
         match self.header.object {
             Object::Lock(_) => self.owns(seat),
             Object::ReadWrite(_) => {
-                self.owns(seat)
-                    || (matches!(mode, Mode::S) && self.holds.shared[seat as usize] > 0)
+                self.owns(seat) || (matches!(mode, Mode::S) && self.holds.shared[seat as usize] > 0)
             }
             Object::Semaphore(_, _permits) => false,
             Object::Latch(_count) => false,
@@ -159,7 +161,8 @@ impl Ledger {
         };
         match self.header.object {
             Object::Lock(policy) | Object::Semaphore(policy, _) => is_fair(policy),
-            Object::ReadWrite(policy) => is_fair(policy) || (matches!(mode, Mode::S) && matches!(first, Mode::X)),
+            Object::ReadWrite(policy) => is_fair(policy)
+                || (matches!(mode, Mode::S) && matches!(first, Mode::X)),
             Object::Latch(_count) => false,
         }
     }

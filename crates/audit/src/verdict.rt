@@ -72,14 +72,20 @@ pub(crate) fn legal_front(alloc: Global, header: &Header, history: &History) -> 
             Some(entry) => entry,
         };
         if !ledger.admits(entry) {
-            return Ok(Front { ledger, length: number });
+            return Ok(Front {
+                ledger,
+                length: number,
+            });
         }
         match ledger.note(entry) {
             Err(fault) => return Err(fault),
             Ok(()) => {}
         }
     }
-    Ok(Front { ledger, length: end })
+    Ok(Front {
+        ledger,
+        length: end,
+    })
 }
 
 /// The number of entries, for which a history has places up to its cap.

@@ -158,7 +158,8 @@ impl Waiting {
         ensures line { self.new.line ≡ self.old.line }
         ensures last_sleep { self.new.last_sleep ≡ self.old.last_sleep }
     {
-        self.asleep.retain(|x| !(x.condition == condition && x.seat == seat));
+        self.asleep
+            .retain(|x| !(x.condition == condition && x.seat == seat));
     }
 
     fn signal(&mut self, entry: Entry) -> Result<(), Fault>

@@ -22,9 +22,9 @@ returns-in-X c s h st object only =
     let old = c.args.self.now in
     let had : c.index-had.result.now ≡ get_or old.exclusive.items e.seat 0 = get_or_read _ _ _ c.requires.seat.0 c.index-had.ensures 0 in
     let has : c.holds_after-has.result ≡ holds_after s.header.object e.word e.n (get_or old.exclusive.items e.seat 0) =
-        c.holds_after-has.ensures ∙ ap (λ o. holds_after o e.word e.n c.index-had.result.now) (sym object) ∙ ap (holds_after s.header.object e.word e.n) had in
+    c.holds_after-has.ensures ∙ ap (λ o. holds_after o e.word e.n c.index-had.result.now) (sym object) ∙ ap (holds_after s.header.object e.word e.n) had in
     stands_exclusive s e h old _ st (omega (arith, c.requires.seat, st.exclusive_seats)) c.in-X.is (omega arith) (λ l. only (ap is_lock (sym object) ∙ l))
-        (ap (set old.exclusive.items e.seat) has) refl (c.owner_after-self.ensures ∙ ap (owner_after old.owner e.seat) has) refl
+    (ap (set old.exclusive.items e.seat) has) refl (c.owner_after-self.ensures ∙ ap (owner_after old.owner e.seat) has) refl
 
 pub returns-in-S : goal.returns-in-S
 returns-in-S c s h st object only =
@@ -32,6 +32,6 @@ returns-in-S c s h st object only =
     let old = c.args.self.now in
     let had : c.index-had-in-S.result.now ≡ get_or old.shared.items e.seat 0 = get_or_read _ _ _ c.requires.seat.1 c.index-had-in-S.ensures 0 in
     let has : c.holds_after-has-in-S.result ≡ holds_after s.header.object e.word e.n (get_or old.shared.items e.seat 0) =
-        c.holds_after-has-in-S.ensures ∙ ap (λ o. holds_after o e.word e.n c.index-had-in-S.result.now) (sym object) ∙ ap (holds_after s.header.object e.word e.n) had in
+    c.holds_after-has-in-S.ensures ∙ ap (λ o. holds_after o e.word e.n c.index-had-in-S.result.now) (sym object) ∙ ap (holds_after s.header.object e.word e.n) had in
     stands_shared s e h old _ st (omega (arith, c.requires.seat, st.shared_seats)) c.in-S.is (omega arith)
-        (ap (set old.shared.items e.seat) has) refl refl (ap (λ n. old.readers - n + c.holds_after-has-in-S.result) had ∙ ap (λ n. old.readers - get_or old.shared.items e.seat 0 + n) has)
+    (ap (set old.shared.items e.seat) has) refl refl (ap (λ n. old.readers - n + c.holds_after-has-in-S.result) had ∙ ap (λ n. old.readers - get_or old.shared.items e.seat 0 + n) has)

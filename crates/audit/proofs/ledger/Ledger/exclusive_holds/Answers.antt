@@ -9,6 +9,6 @@ pub overflow_cast-result : goal.overflow_cast-result
 overflow_cast-result c =
     let r = c.requires.seat in
     let is : c.index.result.now ≡ held r.start r.front c.args.seat X =
-        get_or_read _ _ _ r.exclusive c.index.ensures 0 ∙ r.stand.holding.exclusive c.args.seat in
+    get_or_read _ _ _ r.exclusive c.index.ensures 0 ∙ r.stand.holding.exclusive c.args.seat in
     let small = exclusive_small r.start r.front c.args.self.now c.args.seat r.stand c.requires.lock in
     omega (arith, is, small)

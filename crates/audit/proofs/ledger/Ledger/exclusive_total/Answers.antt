@@ -10,7 +10,7 @@ pub sum-requires-clause-each : goal.sum-requires-clause-each
 sum-requires-clause-each c i =
     let r = c.requires.ledger in
     let is : get_or c.deref.result.now i 0 ≡ held r.start r.front i X =
-        ap (λ (l : List ℕ). get_or l i 0) c.deref.ensures.value ∙ r.stand.holding.exclusive i in
+    ap (λ (l : List ℕ). get_or l i 0) c.deref.ensures.value ∙ r.stand.holding.exclusive i in
     let small = exclusive_small r.start r.front c.args.self.now i r.stand c.requires.lock in
     omega (arith, is, small)
 

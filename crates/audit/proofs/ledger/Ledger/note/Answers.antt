@@ -12,9 +12,10 @@ returns-clause-stand c s h st seat next =
     record {
       header = st.header;
       holding = c.note-2.ensures s h st.holding object (λ lock.
-          let owned : is_lock s.header.object ≡ true = ap is_lock object ∙ lock in
-          (only_owner s h old.header st.opened owned st.legal st.seated,
-          only_owner s (e ∷ h) old.header st.opened owned (next, st.legal) (seat, st.seated)));
+          let owned : is_lock s.header.object ≡ true = ap is_lock object ∙ lock in (
+            only_owner s h old.header st.opened owned st.legal st.seated,
+            only_owner s (e ∷ h) old.header st.opened owned (next, st.legal) (seat, st.seated),
+          ));
       waits = c.in-Ok.ensures.stand s h st.waits;
       numbers = c.note-3.ensures s h st.numbers object (sym (c.holds_in-had.ensures s h st));
       opened = st.opened;

@@ -30,16 +30,16 @@ pub returns-in-Signal-clause-stand : goal.returns-in-Signal-clause-stand
 returns-in-Signal-clause-stand c = on_ok c.signal.result _ (λ ok s h st.
     let e = c.args.entry in
     follows_signal s e h c.args.self.now c.signal.new.self (take e.n (seats_on e.at c.args.self.now.asleep.items)) st (ap ends_arrival c.in-Signal.is) (ap saves_nothing c.in-Signal.is)
-        (ap (λ v. arrivals_by s v e h) c.in-Signal.is ∙ ap (λ l. map coming_back (take e.n l)) (sym (st.sleeping e.at)))
-        (of_ok _ _ c.signal.ensures.line ok)
-        (of_ok _ _ c.signal.ensures.here ok ∙ ap (drop e.n) (st.sleeping e.at) ∙ ap (λ v. sleepers_after v e.seat e.n (sleepers s h e.at)) (sym c.in-Signal.is))
-        (of_ok _ _ c.signal.ensures.there ok) (ap (λ v. v.items) c.signal.ensures.last_sleep) (of_ok _ _ c.signal.ensures.fewer ok))
+    (ap (λ v. arrivals_by s v e h) c.in-Signal.is ∙ ap (λ l. map coming_back (take e.n l)) (sym (st.sleeping e.at)))
+    (of_ok _ _ c.signal.ensures.line ok)
+    (of_ok _ _ c.signal.ensures.here ok ∙ ap (drop e.n) (st.sleeping e.at) ∙ ap (λ v. sleepers_after v e.seat e.n (sleepers s h e.at)) (sym c.in-Signal.is))
+    (of_ok _ _ c.signal.ensures.there ok) (ap (λ v. v.items) c.signal.ensures.last_sleep) (of_ok _ _ c.signal.ensures.fewer ok))
 
 pub returns-in-SignalAll-clause-stand : goal.returns-in-SignalAll-clause-stand
 returns-in-SignalAll-clause-stand c = on_ok c.signal_all.result _ (λ ok s h st.
     let e = c.args.entry in
     follows_signal s e h c.args.self.now c.signal_all.new.self (seats_on e.at c.args.self.now.asleep.items) st (ap ends_arrival c.in-SignalAll.is) (ap saves_nothing c.in-SignalAll.is)
-        (ap (λ v. arrivals_by s v e h) c.in-SignalAll.is ∙ ap (λ l. map coming_back l) (sym (st.sleeping e.at)))
-        (of_ok _ _ c.signal_all.ensures.line ok)
-        (of_ok _ _ c.signal_all.ensures.here ok ∙ ap (λ v. sleepers_after v e.seat e.n (sleepers s h e.at)) (sym c.in-SignalAll.is))
-        (of_ok _ _ c.signal_all.ensures.there ok) (ap (λ v. v.items) c.signal_all.ensures.last_sleep) (of_ok _ _ c.signal_all.ensures.fewer ok))
+    (ap (λ v. arrivals_by s v e h) c.in-SignalAll.is ∙ ap (λ l. map coming_back l) (sym (st.sleeping e.at)))
+    (of_ok _ _ c.signal_all.ensures.line ok)
+    (of_ok _ _ c.signal_all.ensures.here ok ∙ ap (λ v. sleepers_after v e.seat e.n (sleepers s h e.at)) (sym c.in-SignalAll.is))
+    (of_ok _ _ c.signal_all.ensures.there ok) (ap (λ v. v.items) c.signal_all.ensures.last_sleep) (of_ok _ _ c.signal_all.ensures.fewer ok))
