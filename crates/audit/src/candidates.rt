@@ -37,7 +37,8 @@ pub fn possible_steps(entry: Entry) -> Candidates
     }
 }
 
-/// An await of condition 0 is refused as any other, and its owner's faults are those of a signal.
+/// A call on a condition by a seat that isn't the owner is refused as an await of condition 0 is, which each
+/// object with conditions has.
 fn refusal_candidates(fault: Fault, entry: Entry) -> Candidates
     ensures { result ≡ refusal_candidates fault entry.mode entry.n }
 {

@@ -14,6 +14,8 @@ pub mod ledger;
 pub mod permits;
 pub mod same;
 pub mod sums;
+#[cfg(test)]
+mod tests;
 pub mod totals;
 pub mod verdict;
 pub mod waiting;

@@ -1,0 +1,56 @@
+//! What no clause says: that a call succeeds, and that the definitions are those that were meant.
+
+mod memory;
+mod sums;
+mod verdicts;
+
+ghost use Rattle.std.specs.Prelude.{◌≡◌, IfOk, IsTrue};
+ghost use Rattle.history.specs.Legal.{AreSeated};
+ghost use Rattle.history.specs.Start.{opening};
+
+use history::entries::History;
+use history::entry::{End, Entry, Mode, Word};
+use history::fault::Fault;
+use history::header::Header;
+use std::alloc::Global;
+
+/// An entry of no condition and no wait.
+fn of(seat: u16, word: Word, mode: Mode, n: u32) -> Entry {
+    Entry {
+        seat,
+        word,
+        mode,
+        n,
+        at: 0,
+        end: End::None,
+    }
+}
+
+fn history_of(alloc: Global, header: &Header, entries: &[Entry]) -> Result<History, Fault>
+    ensures { IfOk result (λ history. history.cap ≡ header.now.cap) }
+{
+    let mut history = History::open(alloc, header.cap);
+    for entry in entries {
+        match history.make_room(1) {
+            Err(fault) => return Err(fault),
+            Ok(()) => {}
+        }
+        history.add(*entry, 0);
+    }
+    Ok(history)
+}
+
+fn are_seated(header: &Header, history: &History) -> bool
+    ensures { IsTrue result → AreSeated (opening header.now) history.now.entries }
+{
+    for number in 0..history.len() {
+        let entry = match history.get(number) {
+            None => return false,
+            Some(entry) => entry,
+        };
+        if header.seats <= entry.seat {
+            return false;
+        }
+    }
+    true
+}
