@@ -4,7 +4,7 @@ use Rattle.driver.specs.Answering.{Answered}
 use Rattle.driver.proofs.answering.CoreAnswering.answer.Goals as goal
 
 -- the same view by another name
-shown : CoreView → Answered
+abbrev shown : CoreView → Answered
 shown v = record { header = v.header; entries = v.entries }
 
 pub returns : goal.returns
