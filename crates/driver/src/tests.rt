@@ -97,7 +97,7 @@ fn each_changed_byte_is_told_by_its_line(rt: HostRuntime) -> Result<(), Fail> {
         for byte in [b'0', b'1', b'9', b' ', b'\n', b'x', b'e', b'-', 0, 255] {
             let mut changed = Vec::from_slice(rt.alloc(), TEXT)?;
             changed[at] = byte;
-            let line = breaks(&TEXT[..at]) as u64 + 1;
+            let line = (breaks(&TEXT[..at]) as u64).saturating_add(1);
             let (answer, sink) = streamed(&rt, &changed, Form::Replay, 5, (None, None), AMPLE)?;
             match answer {
                 Ok(()) => assert_eq!(rt; breaks(sink.bytes()), breaks(ANSWER)),
@@ -108,7 +108,7 @@ fn each_changed_byte_is_told_by_its_line(rt: HostRuntime) -> Result<(), Fail> {
                         // A header with fewer seats refuses a later line, and a break makes a line more.
                         TextFault::BadLine(number) => {
                             assert!(rt;
-                                number == line || line == 1 || byte == b'\n' && number == line + 1
+                                number == line || line == 1 || byte == b'\n' && number == line.saturating_add(1)
                             )
                         }
                         TextFault::CutShort => assert_eq!(rt; at, TEXT.len() - 1),
