@@ -108,7 +108,9 @@ fn each_changed_byte_is_told_by_its_line(rt: HostRuntime) -> Result<(), Fail> {
                         // A header with fewer seats refuses a later line, and a break makes a line more.
                         TextFault::BadLine(number) => {
                             assert!(rt;
-                                number == line || line == 1 || byte == b'\n' && number == line.saturating_add(1)
+                                number == line
+                                    || line == 1
+                                    || byte == b'\n' && number == line.saturating_add(1)
                             )
                         }
                         TextFault::CutShort => assert_eq!(rt; at, TEXT.len() - 1),
