@@ -1,5 +1,5 @@
 -- What a core is to its callers, and how its fields stand for it.
-use Rattle.std.specs.Prelude.{◌≡◌, ◌⊎◌, ◌≤◌, ◌<◌, ℕ, ◌+◌, ◌*◌, true, false, List, ◌∷◌, length, slice_get, Result, Ok, Err, Option, Some}
+use Rattle.std.specs.Prelude.{◌≡◌, ◌⊎◌, ◌≤◌, ◌<◌, ℕ, ◌+◌, ◌*◌, Bool, true, false, List, ◌∷◌, length, slice_get, Result, Ok, Err, Option, Some}
 use Rattle.acquire_queue.specs.Line.{Line}
 use Rattle.condition_queue.specs.Sleepers.{Sleepers, asleep_on}
 use Rattle.history.specs.declared.entry.Entry.{Entry}
@@ -8,6 +8,7 @@ use Rattle.history.specs.declared.entry.Word.TheVariants.{Refused}
 use Rattle.history.specs.declared.fault.Fault.{Fault}
 use Rattle.history.specs.declared.fault.Fault.TheVariants.{HistoryFull, OutOfMemory}
 use Rattle.history.specs.declared.header.Header.{Header}
+use Rattle.history.specs.declared.header.Object.{Object}
 use Rattle.history.specs.declared.step.Answer.{Answer}
 use Rattle.history.specs.declared.step.Answer.TheVariants.{Recorded, Sleep}
 use Rattle.history.specs.declared.step.Step.{Step}
@@ -16,13 +17,19 @@ use Rattle.history.specs.Counts.{Counts, counts, held}
 use Rattle.history.specs.Entries.{HistoryView}
 use Rattle.history.specs.Header.{IsInRange}
 use Rattle.history.specs.Legal.{IsLegal, AreSeated}
-use Rattle.history.specs.Line.{line}
+use Rattle.history.specs.Line.{line, first_mode}
+use Rattle.history.specs.Naming.{ready}
+use Rattle.history.specs.Phase.{Phase, phase}
 use Rattle.history.specs.Room.{owed, has_room, was_owed}
-use Rattle.history.specs.Sleepers.{sleepers}
+use Rattle.history.specs.Sleepers.{sleepers, sleeps_below}
 use Rattle.history.specs.Start.{Start, opening}
 use Rattle.history.specs.Steps.{entry_for}
 use Rattle.frame.specs.declared.seat.Seat.{Seat}
 use Rattle.frame.specs.Seat.{seat_of}
+
+-- the header of an object as opened
+abbrev pub header_of : Object → ℕ → ℕ → ℕ → Header
+header_of o seats conditions cap = record { object = o; seats = seats; conditions = conditions; cap = cap }
 
 -- A header that stays, and a history that only grows, the newest entry first.
 pub record CoreView : Type 0 where
@@ -32,6 +39,23 @@ pub record CoreView : Type 0 where
 -- what stood before the first entry: the object as opened
 abbrev pub start_of : CoreView → Start
 start_of v = opening v.header
+
+-- what the history says in numbers, and of its line
+abbrev pub counts_of : CoreView → Counts
+counts_of v = counts (start_of v) v.entries
+
+abbrev pub first_mode_of : CoreView → Option Mode
+first_mode_of v = first_mode (start_of v) v.entries
+
+abbrev pub ready_of : CoreView → Option ℕ
+ready_of v = ready (start_of v) v.entries
+
+-- whether a seat is idle, in line or asleep
+abbrev pub phase_of : CoreView → ℕ → Phase
+phase_of v i = phase (start_of v) v.entries i
+
+abbrev pub is_asleep : CoreView → ℕ → Bool
+is_asleep v i = sleeps_below v.header.conditions (start_of v) v.entries i
 
 -- The line and the sleepers are those of the history.
 pub record Keeps (k : Header) (h : List Entry) (queue : Line) (waiters : Sleepers) : Type 0 where

@@ -1,5 +1,5 @@
 -- What the core keeps of a seat, by the entries of that seat.
-use Rattle.std.specs.Prelude.{ℕ, ◌==◌, if◌then◌else◌, List, [], ◌∷◌}
+use Rattle.std.specs.Prelude.{ℕ, ◌==◌, if◌then◌else◌, List, [], ◌∷◌, slice_index_or}
 use Rattle.history.specs.declared.entry.End.TheVariants as end
 use Rattle.history.specs.declared.entry.Entry.{Entry}
 use Rattle.history.specs.declared.entry.Mode.{Mode}
@@ -37,6 +37,10 @@ seat_after o e was =
       shared = if is_exclusive e.mode then was.shared else holds_after o e.word e.n was.shared;
       sleep = sleep_behind e.word e was.sleep;
     }
+
+-- what an entry makes of its seat in a table
+abbrev pub seat_behind : Object → Entry → List Seat → Seat
+seat_behind o e seats = seat_after o e (slice_index_or seats e.seat no_holds)
 
 -- a seat behind the entries of an object as opened
 abbrev pub seat_of : Object → List Entry → ℕ → Seat

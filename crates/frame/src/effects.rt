@@ -13,7 +13,8 @@ use history::header::Object;
 /// Has the hooks take, give and the like what an entry says.
 pub fn change<H: Hooks>(hooks: &mut H, entry: Entry)
     requires { (k : Counts) × H.agrees hooks.old k × IsAllowed entry.word k entry }
-    ensures changed { (k : Counts) → H.agrees hooks.old k → IsAllowed entry.word k entry → H.agrees hooks.new (counts_after entry.word k entry) }
+    ensures changed { (k : Counts) → H.agrees hooks.old k → IsAllowed entry.word k entry
+        → H.agrees hooks.new (counts_after entry.word k entry) }
     ensures object { H.object_of hooks.new ≡ H.object_of hooks.old }
 {
     match entry.word {

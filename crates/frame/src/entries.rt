@@ -81,7 +81,8 @@ pub fn back(seat: u16, sleep: LastSleep) -> Entry
 
 /// What a sleeper makes of a step; `None` is sleep.
 pub fn sleeping_entry(seat: u16, sleep: LastSleep, step: Step) -> Option<Entry>
-    ensures { (s : Start) (h : List Entry) → sleep_of sleep ≡ last_sleep s h seat → result ≡ sleeping_entry s h seat step }
+    ensures { (s : Start) (h : List Entry) → sleep_of sleep ≡ last_sleep s h seat
+        → result ≡ sleeping_entry s h seat step }
 {
     let end = match step {
         Step::Expire => End::Timeout,

@@ -70,27 +70,34 @@ pub trait Hooks {
     /// Takes. The caller has asked whether the seat could.
     fn take(&mut self, who: u16, mode: Mode, n: u32) -> Taken
         requires { (k : Counts) × agrees self.old k × (who < k.seats) × IsTrue (could k who mode n) }
-        ensures taken { (k : Counts) → agrees self.old k → who < k.seats → agrees self.new (took k who mode n) }
-        ensures answer { (k : Counts) → agrees self.old k → who < k.seats → result ≡ take_answer (took k who mode n) who mode }
+        ensures taken { (k : Counts) → agrees self.old k → who < k.seats
+            → agrees self.new (took k who mode n) }
+        ensures answer { (k : Counts) → agrees self.old k → who < k.seats
+            → result ≡ take_answer (took k who mode n) who mode }
         ensures object { object_of self.new ≡ object_of self.old }
         // A take of X is alone: nobody else could take anything after it.
-        ensures alone { mode ≡ X → (k : Counts) → agrees self.old k → who < k.seats → NobodyElse (took k who mode n) who }
+        ensures alone { mode ≡ X → (k : Counts) → agrees self.old k → who < k.seats
+            → NobodyElse (took k who mode n) who }
         // No take makes anybody able who wasn't.
         ensures nobody { (k : Counts) → agrees self.old k → who < k.seats → NobodyNew k (took k who mode n) }
         // After a take of S nobody else could take X.
-        ensures shared { mode ≡ S → (k : Counts) → agrees self.old k → who < k.seats → NobodyElseIn X (took k who mode n) who }
+        ensures shared { mode ≡ S → (k : Counts) → agrees self.old k → who < k.seats
+            → NobodyElseIn X (took k who mode n) who }
         // After Last nobody else could take S.
-        ensures last { result ≡ Taken.Last → (k : Counts) → agrees self.old k → who < k.seats → NobodyElseIn S (took k who mode n) who };
+        ensures last { result ≡ Taken.Last → (k : Counts) → agrees self.old k → who < k.seats
+            → NobodyElseIn S (took k who mode n) who };
 
     /// Gives a hold or permits back, or counts down. A refusal changes nothing.
     fn give(&mut self, who: u16, mode: Mode, n: u32) -> Result<Gave, Fault>
         ensures word { (k : Counts) → agrees self.old k → gives k who mode n result }
         ensures ok { OnOk result ((k : Counts) → agrees self.old k → agrees self.new (given k who mode n)) }
-        ensures answer { IfOk result (λ gave. (k : Counts) → agrees self.old k → gave ≡ give_answer k who mode n) }
+        ensures answer { IfOk result (λ gave.
+            (k : Counts) → agrees self.old k → gave ≡ give_answer k who mode n) }
         ensures object { object_of self.new ≡ object_of self.old }
         ensures err { OnErr result (self.new ≡ self.old) }
         // After Kept nobody else could who couldn't before.
-        ensures kept { result ≡ Ok Gave.Kept → (k : Counts) → agrees self.old k → NobodyElseNew k (given k who mode n) who };
+        ensures kept { result ≡ Ok Gave.Kept → (k : Counts) → agrees self.old k
+            → NobodyElseNew k (given k who mode n) who };
 
     /// Gives up all exclusive holds of the owner, and answers their number. A refusal changes nothing.
     fn let_go_all(&mut self, who: u16) -> Result<u32, Fault>
@@ -102,14 +109,17 @@ pub trait Hooks {
     /// Gives a seat as many exclusive holds as it had let go.
     fn restore(&mut self, who: u16, holds: u32)
         requires { (k : Counts) × agrees self.old k × IsRestorable k who holds }
-        ensures restored { (k : Counts) → agrees self.old k → IsRestorable k who holds → agrees self.new (restored k who holds) }
+        ensures restored { (k : Counts) → agrees self.old k → IsRestorable k who holds
+            → agrees self.new (restored k who holds) }
         ensures object { object_of self.new ≡ object_of self.old }
-        ensures alone { (k : Counts) → agrees self.old k → IsRestorable k who holds → NobodyElse (restored k who holds) who };
+        ensures alone { (k : Counts) → agrees self.old k → IsRestorable k who holds
+            → NobodyElse (restored k who holds) who };
 
     /// Takes all free permits of a semaphore, and answers their number; 0 elsewhere, and nothing changes.
     fn drain(&mut self) -> u32
         ensures answer { (k : Counts) → agrees self.old k → result ≡ drain_answer k }
-        ensures drained { (k : Counts) (who : ℕ) → agrees self.old k → agrees self.new (drained k who result) }
+        ensures drained { (k : Counts) (who : ℕ) → agrees self.old k
+            → agrees self.new (drained k who result) }
         ensures object { object_of self.new ≡ object_of self.old };
 
     /// Whether the hooks are as an open makes them, for so many seats.
@@ -125,7 +135,8 @@ pub trait Hooks {
         ensures { (k : Counts) → agrees self.now k → result ≡ level_of k };
 
     /// What an open makes stands for the counts of an object as opened.
-    ghost opens: { (s : Self) (seats : ℕ) → is_opened s seats → agrees s (opening_counts (object_of s) seats) };
+    ghost opens: { (s : Self) (seats : ℕ) → is_opened s seats
+        → agrees s (opening_counts (object_of s) seats) };
 
     /// The counts that the hooks stand for are of their object.
     ghost same_object: { (s : Self) (k : Counts) → agrees s k → k.object ≡ object_of s };

@@ -7,6 +7,7 @@ mod recording;
 ghost use Rattle.std.specs.Prelude.{◌≡◌, [], ℕ, IfOk, IfErr};
 ghost use Rattle.history.specs.Header.{IsInRange};
 ghost use Rattle.history.specs.declared.fault.Fault.TheVariants.{OutOfMemory};
+ghost use Rattle.frame.specs.Core.{header_of};
 
 use crate::hooks::Hooks;
 use crate::seat::Seat;
@@ -52,8 +53,9 @@ impl<H: Hooks + Drop> Core<H> {
         cap: u32,
     ) -> Result<Self, Fault>
         requires opened { H.is_opened hooks seats }
-        requires range { IsInRange (record { object = H.object_of hooks; seats = seats; conditions = conditions; cap = cap }) }
-        ensures header { IfOk result (λ core. core.header ≡ record { object = H.object_of hooks; seats = seats; conditions = conditions; cap = cap }) }
+        requires range { IsInRange (header_of (H.object_of hooks) seats conditions cap) }
+        ensures header { IfOk result (λ core.
+            core.header ≡ header_of (H.object_of hooks) seats conditions cap) }
         ensures empty { IfOk result (λ core. core.entries ≡ []) }
         ensures err { IfErr result (λ fault. fault ≡ OutOfMemory) }
     {

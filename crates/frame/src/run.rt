@@ -23,7 +23,8 @@ pub fn run<H: Hooks + Drop>(
     requires { All (λ step. step.0 < core.old.header.seats) steps.now }
     ensures answered { IfOk result (λ answers. AreAnswered core.old steps.now answers.items core.new) }
     // Where memory is never refused, answers and history are those of the definitions.
-    ensures results { IfOk result (λ answers. NoneLacksMemory answers.items → AreResults core.old steps.now answers.items core.new) }
+    ensures results { IfOk result (λ answers.
+        NoneLacksMemory answers.items → AreResults core.old steps.now answers.items core.new) }
     ensures header { core.new.header ≡ core.old.header }
     ensures err { IfErr result (λ fault. (fault ≡ OutOfMemory) × (core.new ≡ core.old)) }
 {

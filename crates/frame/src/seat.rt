@@ -1,9 +1,9 @@
 //! What the core keeps of each seat.
 
-ghost use Rattle.std.specs.Prelude.{◌≡◌, ◌+◌, ◌<◌, ◌^◌, length, slice_index_or, slice_set};
+ghost use Rattle.std.specs.Prelude.{◌≡◌, ◌+◌, ◌<◌, ◌^◌, length, slice_set};
 ghost use Rattle.history.specs.Counts.{holds_after};
 ghost use Rattle.history.specs.Object.{in_holds};
-ghost use Rattle.frame.specs.Seat.{sleep_behind, seat_after, no_holds, holds_in};
+ghost use Rattle.frame.specs.Seat.{sleep_behind, seat_after, seat_behind, no_holds, holds_in};
 
 use history::entry::{End, Entry, Mode, Word};
 use history::header::Object;
@@ -119,9 +119,10 @@ fn in_holds(object: Object, n: u32) -> u64
 /// Has a table of seats tell what an entry makes of its seat.
 pub fn update(seats: &mut Vec<Seat>, object: Object, entry: Entry)
     requires seat { entry.seat < length seats.old.items }
-    requires exclusive { (seat_after object entry (slice_index_or seats.old.items entry.seat no_holds)).exclusive < 2 ^ 32 }
-    requires shared { (seat_after object entry (slice_index_or seats.old.items entry.seat no_holds)).shared < 2 ^ 64 }
-    ensures { seats.new.items ≡ slice_set seats.old.items entry.seat (seat_after object entry (slice_index_or seats.old.items entry.seat no_holds)) }
+    requires exclusive { (seat_behind object entry seats.old.items).exclusive < 2 ^ 32 }
+    requires shared { (seat_behind object entry seats.old.items).shared < 2 ^ 64 }
+    ensures { seats.new.items
+        ≡ slice_set seats.old.items entry.seat (seat_behind object entry seats.old.items) }
 {
     let seat = &mut seats[entry.seat as usize];
     *seat = seat.after(object, entry);

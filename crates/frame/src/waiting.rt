@@ -14,8 +14,11 @@ use history::entry::{Entry, Mode, Word};
 /// Has those join, leave and move of whom an entry says so. It takes no memory.
 pub fn move_waiters(queue: &mut Queue, waiters: &mut Waiters, entry: Entry)
     requires movable { IsMovable entry queue.old waiters.old }
-    ensures line { queue.new.arrivals ≡ line_behind entry.word entry queue.old.arrivals (asleep_on waiters.old entry.at) }
-    ensures sleepers { (c : ℕ) → asleep_on waiters.new c ≡ (if entry.at == c then sleepers_after entry.word entry.seat entry.n (asleep_on waiters.old c) else asleep_on waiters.old c) }
+    ensures line { queue.new.arrivals
+        ≡ line_behind entry.word entry queue.old.arrivals (asleep_on waiters.old entry.at) }
+    ensures sleepers { (c : ℕ) → asleep_on waiters.new c
+        ≡ (if entry.at == c then sleepers_after entry.word entry.seat entry.n (asleep_on waiters.old c)
+        else asleep_on waiters.old c) }
     ensures joined { queue.new.joined ≤ queue.old.joined + 65536 }
     ensures places { queue.new.seats ≡ queue.old.seats }
     ensures beds { waiters.new.seats ≡ waiters.old.seats }

@@ -1,15 +1,13 @@
 //! Which entry a step makes.
 
 ghost use Rattle.std.specs.Prelude.{◌≡◌, ◌<◌, ◌≤◌, ◌+◌, length, Some, None, false, true};
-ghost use Rattle.history.specs.Counts.{counts};
 ghost use Rattle.history.specs.Could.{is_seat, limit, held_back};
-ghost use Rattle.history.specs.Line.{first_mode};
-ghost use Rattle.history.specs.Naming.{ready};
-ghost use Rattle.history.specs.Phase.{phase, waits};
+ghost use Rattle.history.specs.Phase.{waits};
 ghost use Rattle.history.specs.Object.{is_lock};
-ghost use Rattle.history.specs.Steps.{entry_for, acquired, tried, tried_fairly, gave, awaits, signals, idle_entry, line_entry};
+ghost use Rattle.history.specs.Steps.{acquired, awaits, entry_for, gave, idle_entry, line_entry, signals};
+ghost use Rattle.history.specs.Steps.{tried, tried_fairly};
 ghost use Rattle.frame.specs.Checks.{refused_as, in_phase};
-ghost use Rattle.frame.specs.Core.{start_of};
+ghost use Rattle.frame.specs.Core.{start_of, counts_of, first_mode_of, phase_of, ready_of};
 ghost use Rattle.frame.specs.Hooks.{line_mode};
 
 use super::Core;
@@ -25,7 +23,7 @@ use history::step::Step;
 impl<H: Hooks + Drop> Core<H> {
     /// Whether somebody stands in line, and what the first asks for.
     fn line(&self) -> Line
-        ensures { line_mode result ≡ first_mode (start_of self.now) self.now.entries }
+        ensures { line_mode result ≡ first_mode_of self.now }
     {
         match self.first() {
             None => Line::Empty,
@@ -38,27 +36,27 @@ impl<H: Hooks + Drop> Core<H> {
 
     /// Whether the seat has as many holds as it may have.
     fn at_limit(&self, seat: u16, mode: Mode) -> bool
-        ensures { result ≡ limit (counts (start_of self.now) self.now.entries) seat mode }
+        ensures { result ≡ limit (counts_of self.now) seat mode }
     {
         self.hooks.at_limit(seat, mode)
     }
 
     /// Whether a new call stands behind a line rather than pass it.
     fn stands_behind(&self, seat: u16, mode: Mode, line: Line) -> bool
-        ensures { result ≡ held_back (counts (start_of self.now) self.now.entries) (line_mode line) seat mode }
+        ensures { result ≡ held_back (counts_of self.now) (line_mode line) seat mode }
     {
         self.hooks.holds_back(seat, mode, line)
     }
 
     /// Whether the line holds a new call back.
     fn is_held_back(&self, seat: u16, mode: Mode) -> bool
-        ensures { result ≡ held_back (counts (start_of self.now) self.now.entries) (first_mode (start_of self.now) self.now.entries) seat mode }
+        ensures { result ≡ held_back (counts_of self.now) (first_mode_of self.now) seat mode }
     {
         self.stands_behind(seat, mode, self.line())
     }
 
     fn acquired(&self, seat: u16, mode: Mode, n: u32) -> Word
-        ensures { result ≡ acquired (counts (start_of self.now) self.now.entries) (first_mode (start_of self.now) self.now.entries) seat mode n }
+        ensures { result ≡ acquired (counts_of self.now) (first_mode_of self.now) seat mode n }
     {
         if self.is_held_back(seat, mode) {
             Word::Queued
@@ -72,7 +70,7 @@ impl<H: Hooks + Drop> Core<H> {
     }
 
     fn tried(&self, seat: u16, mode: Mode, n: u32) -> Word
-        ensures { result ≡ tried (counts (start_of self.now) self.now.entries) seat mode n }
+        ensures { result ≡ tried (counts_of self.now) seat mode n }
     {
         if self.at_limit(seat, mode) {
             Word::Refused(Fault::TooManyHolds)
@@ -84,7 +82,7 @@ impl<H: Hooks + Drop> Core<H> {
     }
 
     fn tried_fairly(&self, seat: u16, mode: Mode, n: u32) -> Word
-        ensures { result ≡ tried_fairly (counts (start_of self.now) self.now.entries) (first_mode (start_of self.now) self.now.entries) seat mode n }
+        ensures { result ≡ tried_fairly (counts_of self.now) (first_mode_of self.now) seat mode n }
     {
         if self.is_held_back(seat, mode) {
             Word::Missed
@@ -100,7 +98,7 @@ impl<H: Hooks + Drop> Core<H> {
     /// What a give makes: a hold must be the giver's own, permits mustn't pass the greatest number.
     fn gave(&self, seat: u16, mode: Mode, n: u32) -> Word
         requires { seat < self.now.header.seats }
-        ensures { result ≡ gave self.now.header.object (counts (start_of self.now) self.now.entries) seat mode n }
+        ensures { result ≡ gave self.now.header.object (counts_of self.now) seat mode n }
     {
         match self.header.object {
             Object::Lock(_) | Object::ReadWrite(_) => {
@@ -125,7 +123,7 @@ impl<H: Hooks + Drop> Core<H> {
     fn awaits(&self, seat: u16, condition: u8) -> Entry
         requires seat { seat < self.now.header.seats }
         requires lock { is_lock self.now.header.object ≡ true }
-        ensures { result ≡ awaits (counts (start_of self.now) self.now.entries) seat condition }
+        ensures { result ≡ awaits (counts_of self.now) seat condition }
     {
         let holds = self.seat(seat);
         if holds.exclusive == 0 {
@@ -148,7 +146,7 @@ impl<H: Hooks + Drop> Core<H> {
     fn signals(&self, seat: u16, word: Word, moved: u16, condition: u8) -> Entry
         requires seat { seat < self.now.header.seats }
         requires lock { is_lock self.now.header.object ≡ true }
-        ensures { result ≡ signals (counts (start_of self.now) self.now.entries) word moved seat condition }
+        ensures { result ≡ signals (counts_of self.now) word moved seat condition }
     {
         if self.seat(seat).exclusive == 0 {
             return plain(seat, Word::Refused(Fault::NotOwner), Mode::X, 1);
@@ -198,7 +196,8 @@ impl<H: Hooks + Drop> Core<H> {
     /// The entry of one in line, or sleep.
     fn line_entry(&self, seat: u16, arrival: Arrival, step: Step) -> Option<Entry>
         requires { seat < self.now.header.seats }
-        ensures { result ≡ line_entry (start_of self.now) self.now.entries (is_seat (ready (start_of self.now) self.now.entries) seat) seat arrival step }
+        ensures { let goes = is_seat (ready_of self.now) seat in
+            result ≡ line_entry (start_of self.now) self.now.entries goes seat arrival step }
     {
         let goes = self.is_ready(seat);
         if !arrival.back {
@@ -214,7 +213,8 @@ impl<H: Hooks + Drop> Core<H> {
     fn decide_in_phase(&self, seat: u16, step: Step) -> Result<Option<Entry>, Fault>
         requires seat { seat < self.now.header.seats }
         requires admitted { refused_as self.now.header step ≡ None }
-        ensures { result ≡ in_phase (start_of self.now) self.now.entries seat step (phase (start_of self.now) self.now.entries seat) }
+        ensures { let phase = phase_of self.now seat in
+            result ≡ in_phase (start_of self.now) self.now.entries seat step phase }
     {
         match self.place_of(seat) {
             Some(arrival) => {

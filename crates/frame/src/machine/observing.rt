@@ -2,18 +2,17 @@
 
 ghost use Rattle.std.specs.Prelude.{◌≡◌, ◌<◌, ◌≤◌, ◌+◌, ◌≤ℤ◌, pos, length, nat_lt, true, is_some};
 ghost use Rattle.history.specs.declared.entry.Mode.TheVariants.{X, S};
-ghost use Rattle.history.specs.Counts.{counts, count, held, owner};
+ghost use Rattle.history.specs.Counts.{count, held, owner};
 ghost use Rattle.history.specs.Faults.{max_amount};
-ghost use Rattle.history.specs.Sleepers.{sleepers, last_sleep, sleeps_below};
+ghost use Rattle.history.specs.Sleepers.{sleepers, last_sleep};
 ghost use Rattle.frame.specs.Observed.{available};
 ghost use Rattle.history.specs.Legal.{IsLegal, AreSeated};
 ghost use Rattle.history.specs.Line.{line, first_of, place_of};
-ghost use Rattle.history.specs.Naming.{ready};
 ghost use Rattle.history.specs.Could.{could, is_seat};
 ghost use Rattle.history.specs.Object.{is_lock};
 ghost use Rattle.history.specs.Order.{IsInOrder, IsFairOrder};
 ghost use Rattle.history.specs.Room.{owed};
-ghost use Rattle.frame.specs.Core.{start_of};
+ghost use Rattle.frame.specs.Core.{start_of, counts_of, is_asleep, ready_of};
 ghost use Rattle.frame.specs.Hooks.{level_of};
 ghost use Rattle.frame.specs.Seat.{seat_of, sleep_of};
 
@@ -51,7 +50,7 @@ impl<H: Hooks + Drop> Core<H> {
 
     /// Whether some seat has exclusive holds.
     pub fn is_held(&self) -> bool
-        ensures { result ≡ is_some (owner (counts (start_of self.now) self.now.entries)) }
+        ensures { result ≡ is_some (owner (counts_of self.now)) }
     {
         self.seats.iter().any(|seat| seat.exclusive > 0)
     }
@@ -62,7 +61,8 @@ impl<H: Hooks + Drop> Core<H> {
         ensures seated { AreSeated (start_of self.now) self.now.entries }
         ensures order { IsInOrder (start_of self.now) self.now.entries }
         ensures fair { IsFairOrder (start_of self.now) self.now.entries }
-        ensures room { length self.now.entries + owed (start_of self.now) self.now.entries ≤ self.now.header.cap }
+        ensures room { length self.now.entries + owed (start_of self.now) self.now.entries
+            ≤ self.now.header.cap }
     {
         let _header = &self.header;
     }
@@ -116,7 +116,8 @@ impl<H: Hooks + Drop> Core<H> {
         ensures kept { result ≡ seat_of self.now.header.object self.now.entries seat }
         ensures exclusive { result.exclusive ≡ held (start_of self.now) self.now.entries seat X }
         ensures shared { result.shared ≡ held (start_of self.now) self.now.entries seat S }
-        ensures owns { is_lock self.now.header.object ≡ true → is_seat (owner (counts (start_of self.now) self.now.entries)) seat ≡ nat_lt 0 result.exclusive }
+        ensures owns { is_lock self.now.header.object ≡ true
+            → is_seat (owner (counts_of self.now)) seat ≡ nat_lt 0 result.exclusive }
         ensures sleep { sleep_of result.sleep ≡ last_sleep (start_of self.now) self.now.entries seat }
     {
         let _header = &self.header;
@@ -125,14 +126,14 @@ impl<H: Hooks + Drop> Core<H> {
 
     /// What the hooks count: free permits, the count of a latch, else 0.
     fn level(&self) -> i64
-        ensures { result ≡ level_of (counts (start_of self.now) self.now.entries) }
+        ensures { result ≡ level_of (counts_of self.now) }
     {
         self.hooks.level()
     }
 
     /// Whether a seat could take.
     pub(super) fn could(&self, seat: u16, mode: Mode, n: u32) -> bool
-        ensures { result ≡ could (counts (start_of self.now) self.now.entries) seat mode n }
+        ensures { result ≡ could (counts_of self.now) seat mode n }
     {
         self.hooks.could(seat, mode, n)
     }
@@ -153,14 +154,14 @@ impl<H: Hooks + Drop> Core<H> {
 
     /// Whether a seat sleeps on a condition.
     pub(super) fn sleeps(&self, seat: u16) -> bool
-        ensures { result ≡ sleeps_below self.now.header.conditions (start_of self.now) self.now.entries seat }
+        ensures { result ≡ is_asleep self.now seat }
     {
         self.waiters.sleeper_of(seat).is_some()
     }
 
     /// The seat of the first in line, where that could take what it asks for.
     pub(super) fn ready(&self) -> Option<u16>
-        ensures { result ≡ ready (start_of self.now) self.now.entries }
+        ensures { result ≡ ready_of self.now }
     {
         match self.first() {
             None => None,
@@ -176,7 +177,7 @@ impl<H: Hooks + Drop> Core<H> {
 
     /// Whether a seat is the first in line and could go.
     pub(super) fn is_ready(&self, seat: u16) -> bool
-        ensures { result ≡ is_seat (ready (start_of self.now) self.now.entries) seat }
+        ensures { result ≡ is_seat (ready_of self.now) seat }
     {
         match self.ready() {
             None => false,
