@@ -1,5 +1,9 @@
 //! Why the program stopped.
 
+ghost use Rattle.std.specs.Prelude.{◌≡◌};
+ghost use Rattle.aqs.specs.Fault.{status_of};
+ghost use Rattle.aqs.specs.declared.fault.Fault.TheVariants.{Memory};
+
 use clap::Error;
 use clap::error::ErrorKind;
 use driver::stream_fault::StreamFault;
@@ -19,7 +23,9 @@ pub enum Fault {
 
 impl Fault {
     /// The exit status: 2 for the command line, 3 for a text, 4 for a device, 5 for memory.
-    pub fn status(&self) -> u8 {
+    pub fn status(&self) -> u8
+        ensures { result ≡ status_of self.now }
+    {
         match self {
             Fault::Usage => 2,
             Fault::Stream(StreamFault::Text(_)) => 3,
@@ -30,6 +36,8 @@ impl Fault {
 }
 
 impl From<AllocError> for Fault {
+    ghost from_gives = { λ _ e. e ≡ Memory };
+
     fn from(_e: AllocError) -> Fault {
         Fault::Memory
     }

@@ -2,8 +2,12 @@
 
 use crate::arguments::arguments;
 use crate::fault::Fault;
+use crate::{run, told};
 use driver::form::Form;
 use driver::stream_fault::StreamFault;
+use std::cell::RefCell;
+use std::fmt::{Display, Write};
+use std::io;
 use std::test::Fail;
 use steps::TextFault;
 
@@ -86,5 +90,87 @@ fn tells_each_fault(rt: HostRuntime) -> Result<(), Fail> {
         assert!(rt; text.as_str() == line);
         assert_eq!(rt; fault.status(), status);
     }
+    Ok(())
+}
+
+/// A writer behind which nobody reads any more.
+#[derive(Drop)]
+struct Closed;
+
+impl io::Write for Closed {
+    fn write(&mut self, _buf: &[u8]) -> io::Result<usize> {
+        Err(io::Error::from(io::ErrorKind::BrokenPipe))
+    }
+
+    fn flush(&mut self) -> io::Result<()> {
+        Ok(())
+    }
+}
+
+/// Standard error, as a text.
+struct Noted(RefCell<String>);
+
+impl Eprint for Noted {
+    fn eprint<D: Display + Drop>(&self, value: D) -> io::Result<()> {
+        let Ok(mut text) = self.0.try_borrow_mut() else {
+            return Err(io::Error::from(io::ErrorKind::Other));
+        };
+        match write!(*text, "{value}") {
+            Ok(()) => Ok(()),
+            Err(_) => Err(io::Error::from(io::ErrorKind::OutOfMemory)),
+        }
+    }
+
+    fn eprintln<D: Display + Drop>(&self, value: D) -> io::Result<()> {
+        self.eprint(value)?;
+        self.eprint("\n")
+    }
+}
+
+const STEPS: &[u8] = b"aqs-steps 1 lock fair seats 1 conditions 0 cap 16\n0 acquire x 1\nend 1\n";
+
+/// From the command line and the input to the exit status, the output and what standard error was told.
+#[test]
+fn ends_with_a_status(rt: HostRuntime) -> Result<(), Fail> {
+    let header = b"aqs-steps 2 lock fair seats 1 conditions 0 cap 16\nend 0\n";
+    let line = b"aqs-steps 1 lock fair seats 1 conditions 0 cap 16\n0 acquire x 01\nend 1\n";
+    let replayed = "aqs-replay 1 lock fair seats 1 conditions 0 cap 16\n0 0 got x 1\nend 1 1\n";
+    let recorded = "aqs-history 1 lock fair seats 1 conditions 0 cap 16\n0 0 got x 1\nend 1 1\n";
+    let ends: [(&[&str], &[u8], u8, &str, &str); 11] = [
+        (&["aqs"], STEPS, 0, replayed, ""),
+        (&["aqs", "replay"], STEPS, 0, replayed, ""),
+        (&["aqs", "replay", "--history"], STEPS, 0, recorded, ""),
+        (&["aqs", "audit"], STEPS, 2, "", "aqs: usage\n"),
+        (&["aqs", "replay", "-"], STEPS, 2, "", "aqs: usage\n"),
+        (&["aqs"], header, 3, "", "aqs: bad header\n"),
+        (&["aqs"], line, 3, "", "aqs: bad line 2\n"),
+        (&["aqs"], b"", 3, "", "aqs: cut short\n"),
+        (
+            &["aqs", "replay", "/no/such/file"],
+            STEPS,
+            4,
+            "",
+            "aqs: read failed\n",
+        ),
+        (&["aqs", "replay", "/"], STEPS, 4, "", "aqs: read failed\n"),
+        (&["aqs", "replay", ""], STEPS, 4, "", "aqs: read failed\n"),
+    ];
+    for (words, input, status, expected, error) in ends {
+        let mut output = Vec::new(rt.alloc());
+        let noted = Noted(RefCell::new(String::new(rt.alloc())));
+        let done = run(&rt, words, input, &mut output);
+        assert_eq!(rt; told(&noted, done), status, "{error}");
+        assert!(rt; output.as_slice() == expected.as_bytes(), "{error}");
+        assert!(rt; noted.0.into_inner().as_str() == error, "{error}");
+    }
+    Ok(())
+}
+
+#[test]
+fn a_closed_output_is_told(rt: HostRuntime) -> Result<(), Fail> {
+    let noted = Noted(RefCell::new(String::new(rt.alloc())));
+    let done = run(&rt, &["aqs"], STEPS, Closed);
+    assert_eq!(rt; told(&noted, done), 4);
+    assert!(rt; noted.0.into_inner().as_str() == "aqs: write failed\n");
     Ok(())
 }

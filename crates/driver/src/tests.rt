@@ -1,5 +1,10 @@
 //! Texts from end to end, over devices in memory.
 
+mod changes;
+mod devices;
+mod memory;
+mod plain;
+
 ghost use Rattle.std.specs.Prelude.{◌<◌};
 
 use crate::examples::EXAMPLES;
@@ -30,6 +35,15 @@ const ANSWER: &[u8] = b"aqs-replay 1 lock fair seats 2 conditions 1 cap 64\n\
 2 0 await 0 1\n\
 - 0 sleep\n\
 end 3 2\n";
+
+const HISTORY: &[u8] = b"aqs-history 1 lock fair seats 2 conditions 1 cap 64\n\
+0 0 got x 1\n\
+1 1 missed x 1\n\
+2 0 await 0 1\n\
+end 3 2\n";
+
+/// What is written for `TEXT`.
+const FORMS: [(Form, &[u8]); 2] = [(Form::Replay, ANSWER), (Form::History, HISTORY)];
 
 /// The answer to a text that comes and goes in pieces, and the sink afterwards.
 fn streamed<R: Abort + AllocGlobal>(
@@ -76,55 +90,6 @@ fn answers_each_example(rt: HostRuntime) -> Result<(), Fail> {
 }
 
 #[test]
-fn each_beginning_is_cut_short(rt: HostRuntime) -> Result<(), Fail> {
-    for n in 0..TEXT.len() {
-        let (answer, sink) = streamed(&rt, &TEXT[..n], Form::Replay, 3, (None, None), AMPLE)?;
-        assert!(rt; matches!(answer, Err(StreamFault::Text(TextFault::CutShort))));
-        assert!(rt; sink.bytes().is_empty());
-    }
-    Ok(())
-}
-
-/// How many line breaks stand in the bytes.
-fn breaks(bytes: &[u8]) -> usize {
-    bytes.iter().filter(|byte| **byte == b'\n').count()
-}
-
-/// A byte of a good text is changed: what is told is of that line, or the text is another good one.
-#[test]
-fn each_changed_byte_is_told_by_its_line(rt: HostRuntime) -> Result<(), Fail> {
-    for at in 0..TEXT.len() {
-        for byte in [b'0', b'1', b'9', b' ', b'\n', b'x', b'e', b'-', 0, 255] {
-            let mut changed = Vec::from_slice(rt.alloc(), TEXT)?;
-            changed[at] = byte;
-            let line = (breaks(&TEXT[..at]) as u64).saturating_add(1);
-            let (answer, sink) = streamed(&rt, &changed, Form::Replay, 5, (None, None), AMPLE)?;
-            match answer {
-                Ok(()) => assert_eq!(rt; breaks(sink.bytes()), breaks(ANSWER)),
-                Err(StreamFault::Text(fault)) => {
-                    assert!(rt; sink.bytes().is_empty());
-                    match fault {
-                        TextFault::BadHeader => assert_eq!(rt; line, 1),
-                        // A header with fewer seats refuses a later line, and a break makes a line more.
-                        TextFault::BadLine(number) => {
-                            assert!(rt;
-                                number == line
-                                    || line == 1
-                                    || byte == b'\n' && number == line.saturating_add(1)
-                            )
-                        }
-                        TextFault::CutShort => assert_eq!(rt; at, TEXT.len() - 1),
-                        TextFault::OutOfMemory => assert!(rt; false),
-                    }
-                }
-                Err(_) => assert!(rt; false),
-            }
-        }
-    }
-    Ok(())
-}
-
-#[test]
 fn bytes_behind_the_end_are_told(rt: HostRuntime) -> Result<(), Fail> {
     for more in [b"\n".as_slice(), b" ", b"0 look\n", b"end 4\n"] {
         let mut text = Vec::from_slice(rt.alloc(), TEXT)?;
@@ -161,46 +126,119 @@ fn tells_the_first_fault(rt: HostRuntime) -> Result<(), Fail> {
     Ok(())
 }
 
+/// A first line that is no header is told before it is known whether the text has an end.
 #[test]
-fn each_read_fails_in_turn(rt: HostRuntime) -> Result<(), Fail> {
-    let reads = TEXT.len().div_ceil(16) as u64 + 1;
-    for call in 0..reads {
-        let (answer, sink) = streamed(&rt, TEXT, Form::Replay, 16, (Some(call), None), AMPLE)?;
-        assert!(rt; answer == Err(StreamFault::ReadFailed));
+fn tells_a_bad_header(rt: HostRuntime) -> Result<(), Fail> {
+    let headers: [&[u8]; 17] = [
+        b"\n",
+        b"aqs-steps 2 lock fair seats 1 conditions 0 cap 16\n",
+        b"aqs-history 1 lock fair seats 1 conditions 0 cap 16\n",
+        b" aqs-steps 1 lock fair seats 1 conditions 0 cap 16\n",
+        b"aqs-steps 1 lock fair seats 1 conditions 0 cap 16 \n",
+        b"aqs-steps 1 lock fair seats 0 conditions 0 cap 16\n",
+        b"aqs-steps 1 lock fair seats 257 conditions 0 cap 16\n",
+        b"aqs-steps 1 rw fair seats 1 conditions 17 cap 16\n",
+        b"aqs-steps 1 lock fair seats 1 conditions 0 cap 15\n",
+        b"aqs-steps 1 lock fair seats 1 conditions 0 cap 4294967296\n",
+        b"aqs-steps 1 lock seats 1 conditions 0 cap 16\n",
+        b"aqs-steps 1 semaphore fair seats 1 permits 2147483648 cap 16\n",
+        b"aqs-steps 1 semaphore fair seats 1 permits -2147483649 cap 16\n",
+        b"aqs-steps 1 semaphore fair seats 1 permits -0 cap 16\n",
+        b"aqs-steps 1 latch seats 1 count 2147483648 cap 16\n",
+        b"aqs-steps 1 latch seats 1 count -1 cap 16\n",
+        b"aqs-steps 1 latch fair seats 1 count 1 cap 16\n",
+    ];
+    for header in headers {
+        let (answer, sink) = streamed(&rt, header, Form::Replay, 8, (None, None), AMPLE)?;
+        assert!(rt; answer == Err(StreamFault::Text(TextFault::BadHeader)));
         assert!(rt; sink.bytes().is_empty());
     }
-    let (answer, sink) = streamed(&rt, TEXT, Form::Replay, 16, (Some(reads), None), AMPLE)?;
-    assert!(rt; answer.is_ok() && sink.bytes() == ANSWER);
+    Ok(())
+}
+
+#[test]
+fn reads_numbers_up_to_their_limits(rt: HostRuntime) -> Result<(), Fail> {
+    let mode = "WrongMode";
+    for (part, to_try, to_await) in [
+        (
+            "lock nonfair seats 256 conditions 16 cap 4294967295",
+            "BadAmount",
+            "NoSuchCondition",
+        ),
+        (
+            "semaphore fair seats 1 permits -2147483648 cap 16",
+            mode,
+            mode,
+        ),
+        (
+            "semaphore fair seats 1 permits 2147483647 cap 16",
+            mode,
+            mode,
+        ),
+        ("latch seats 1 count 2147483647 cap 16", mode, mode),
+    ] {
+        let text = format!(in rt.alloc();
+            "aqs-steps 1 {part}\n0 try x 4294967295\n0 await 255\nend 2\n"
+        )?;
+        let expected = format!(in rt.alloc();
+            "aqs-replay 1 {part}\n- 0 {to_try}\n- 0 {to_await}\nend 0 0\n"
+        )?;
+        let (answer, sink) = streamed(&rt, text.as_bytes(), Form::Replay, 64, (None, None), AMPLE)?;
+        assert!(rt;
+            answer.is_ok() && sink.bytes() == expected.as_bytes(),
+            "{part}"
+        );
+    }
+    Ok(())
+}
+
+#[test]
+fn each_read_fails_in_turn(rt: HostRuntime) -> Result<(), Fail> {
+    for (form, expected) in FORMS {
+        for piece in [1, 16] {
+            let reads = TEXT.len().div_ceil(piece) as u64 + 1;
+            for call in 0..reads {
+                let (answer, sink) = streamed(&rt, TEXT, form, piece, (Some(call), None), AMPLE)?;
+                assert!(rt; answer == Err(StreamFault::ReadFailed));
+                assert!(rt; sink.bytes().is_empty());
+            }
+            let (answer, sink) = streamed(&rt, TEXT, form, piece, (Some(reads), None), AMPLE)?;
+            assert!(rt; answer.is_ok() && sink.bytes() == expected);
+        }
+    }
     Ok(())
 }
 
 #[test]
 fn each_write_fails_in_turn(rt: HostRuntime) -> Result<(), Fail> {
-    let writes = ANSWER.len().div_ceil(16);
-    for call in 0..writes {
-        let (answer, sink) = streamed(
-            &rt,
-            TEXT,
-            Form::Replay,
-            16,
-            (None, Some(call as u64)),
-            AMPLE,
-        )?;
-        assert!(rt; answer == Err(StreamFault::WriteFailed));
-        assert!(rt; sink.bytes() == &ANSWER[..(16 * call).min(ANSWER.len())]);
+    for (form, expected) in FORMS {
+        for piece in [1, 16] {
+            let writes = expected.len().div_ceil(piece) as u64;
+            let mut written = 0;
+            for call in 0..writes {
+                let (answer, sink) = streamed(&rt, TEXT, form, piece, (None, Some(call)), AMPLE)?;
+                assert!(rt; answer == Err(StreamFault::WriteFailed));
+                assert!(rt; sink.bytes().len() == written && expected.starts_with(sink.bytes()));
+                written = expected.len().min(written.saturating_add(piece));
+            }
+            let (answer, sink) = streamed(&rt, TEXT, form, piece, (None, Some(writes)), AMPLE)?;
+            assert!(rt; answer.is_ok() && sink.bytes() == expected);
+        }
     }
     Ok(())
 }
 
 #[test]
 fn writes_while_places_are_free(rt: HostRuntime) -> Result<(), Fail> {
-    for places in 0..ANSWER.len() {
-        let (answer, sink) = streamed(&rt, TEXT, Form::Replay, 10, (None, None), places)?;
-        assert!(rt; answer == Err(StreamFault::WriteFailed));
-        assert!(rt; sink.bytes() == &ANSWER[..places]);
+    for (form, expected) in FORMS {
+        for places in 0..expected.len() {
+            let (answer, sink) = streamed(&rt, TEXT, form, 10, (None, None), places)?;
+            assert!(rt; answer == Err(StreamFault::WriteFailed));
+            assert!(rt; sink.bytes() == &expected[..places]);
+        }
+        let (answer, sink) = streamed(&rt, TEXT, form, 10, (None, None), expected.len())?;
+        assert!(rt; answer.is_ok() && sink.bytes() == expected);
     }
-    let (answer, sink) = streamed(&rt, TEXT, Form::Replay, 10, (None, None), ANSWER.len())?;
-    assert!(rt; answer.is_ok() && sink.bytes() == ANSWER);
     Ok(())
 }
 
@@ -223,15 +261,12 @@ fn reads_up_to_the_limit(rt: HostRuntime) -> Result<(), Fail> {
     text.push_str("0 acquire s 1\nend 65536\n")?;
     expected.push_str("65535 0 refused s 1 TooManyHolds\nend 65536 65536\n")?;
     let places = expected.len();
-    let (answer, sink) = streamed(
-        &rt,
-        text.as_bytes(),
-        Form::Replay,
-        4096,
-        (None, None),
-        places,
-    )?;
-    assert!(rt; answer.is_ok());
-    assert!(rt; sink.bytes() == expected.as_bytes());
+    // A pipe gives at most so much at once, and a file more than a read asks for.
+    for piece in [4096, 65536, 1_000_000] {
+        let text = text.as_bytes();
+        let (answer, sink) = streamed(&rt, text, Form::Replay, piece, (None, None), places)?;
+        assert!(rt; answer.is_ok());
+        assert!(rt; sink.bytes() == expected.as_bytes());
+    }
     Ok(())
 }

@@ -1,0 +1,160 @@
+//! Each cut and each changed byte of the worked examples' texts, one byte at a time.
+
+use super::plain::plainly_read;
+use super::{AMPLE, streamed};
+use crate::examples::EXAMPLES;
+use crate::form::Form;
+use crate::stream_fault::StreamFault;
+use std::alloc::{AllocError, Global};
+use std::process::Abort;
+use std::test::Fail;
+use steps::{StepsText, TextFault, read_steps};
+
+/// The history text of a replay text: its lines for entries, without those whom they name.
+fn history_within(alloc: Global, replay: &[u8]) -> Result<Vec<u8>, AllocError> {
+    let mut history = Vec::new(alloc);
+    for line in replay.split_inclusive(|byte| *byte == b'\n') {
+        if let Some(part) = line.strip_prefix(b"aqs-replay 1 ") {
+            history.extend_from_slice(b"aqs-history 1 ")?;
+            history.extend_from_slice(part)?;
+        } else if !line.starts_with(b"- ") {
+            let named = line
+                .windows(7)
+                .position(|bytes| bytes == b" wakes ".as_slice());
+            match named {
+                Some(at) => {
+                    history.extend_from_slice(&line[..at])?;
+                    history.push(b'\n')?;
+                }
+                None => history.extend_from_slice(line)?,
+            }
+        }
+    }
+    Ok(history)
+}
+
+/// Whether a replay text has this header line, a line for each step with its seat, entries numbered from 0,
+/// and the counts at its end.
+fn answers_each_step(
+    alloc: Global,
+    replay: &[u8],
+    header: &[u8],
+    read: &StepsText,
+) -> Result<bool, AllocError> {
+    let mut lines = replay.split(|byte| *byte == b'\n');
+    if lines.next() != Some(header) {
+        return Ok(false);
+    }
+    let mut entries: u64 = 0;
+    let mut calls: u64 = 0;
+    for (seat, _) in &read.steps {
+        let line = lines.next().unwrap_or_default();
+        let recorded = format!(in alloc; "{entries} {seat} ")?;
+        let unrecorded = format!(in alloc; "- {seat} ")?;
+        if let Some(words) = line.strip_prefix(recorded.as_bytes()) {
+            let waits = words.starts_with(b"queued ")
+                || words.starts_with(b"await ")
+                || words.starts_with(b"lapse ");
+            entries = entries.saturating_add(1);
+            calls = calls.saturating_add(u64::from(!waits));
+        } else if !line.starts_with(unrecorded.as_bytes()) {
+            return Ok(false);
+        }
+    }
+    let end = format!(in alloc; "end {entries} {calls}")?;
+    Ok(
+        lines.next() == Some(end.as_bytes())
+            && lines.next() == Some(b"".as_slice())
+            && lines.next().is_none(),
+    )
+}
+
+/// A text is answered as the plain reader says.
+fn is_answered_as_read<R: Abort + AllocGlobal>(
+    rt: &R,
+    text: &[u8],
+    name: &str,
+) -> Result<(), Fail> {
+    let alloc = rt.alloc();
+    let (answer, sink) = streamed(rt, text, Form::Replay, 1, (None, None), AMPLE)?;
+    match plainly_read(alloc, text) {
+        Err(fault) => {
+            assert!(rt; answer == Err(StreamFault::Text(fault)), "{name}");
+            assert!(rt; sink.bytes().is_empty(), "{name}");
+        }
+        Ok(plain) => {
+            assert!(rt; answer.is_ok(), "{name}");
+            let read = read_steps(alloc, text)?;
+            assert!(rt;
+                read.header == plain.header && read.steps.as_slice() == plain.steps.as_slice(),
+                "{name}"
+            );
+            let mut header = Vec::from_slice(alloc, b"aqs-replay 1 ")?;
+            let first = text.split(|byte| *byte == b'\n').next().unwrap_or_default();
+            header.extend_from_slice(first.strip_prefix(b"aqs-steps 1 ").unwrap_or_default())?;
+            assert!(rt;
+                answers_each_step(alloc, sink.bytes(), &header, &plain)?,
+                "{name}"
+            );
+            let (answer, history) = streamed(rt, text, Form::History, 1, (None, None), AMPLE)?;
+            assert!(rt; answer.is_ok(), "{name}");
+            assert!(rt;
+                history.bytes() == history_within(alloc, sink.bytes())?.as_slice(),
+                "{name}"
+            );
+        }
+    }
+    Ok(())
+}
+
+/// Each byte of the texts of so many examples is changed to each other.
+fn changes_are_answered_as_read<R: Abort + AllocGlobal>(
+    rt: &R,
+    first: usize,
+    count: usize,
+) -> Result<(), Fail> {
+    let examples = &EXAMPLES;
+    for example in examples.iter().skip(first).take(count) {
+        let text = example.steps.as_bytes();
+        for at in 0..text.len() {
+            for other in 0..=u8::MAX {
+                if other != text[at] {
+                    let mut changed = Vec::from_slice(rt.alloc(), text)?;
+                    changed[at] = other;
+                    is_answered_as_read(rt, &changed, example.name)?;
+                }
+            }
+        }
+    }
+    Ok(())
+}
+
+#[test]
+fn each_change_of_the_first_examples(rt: HostRuntime) -> Result<(), Fail> {
+    changes_are_answered_as_read(&rt, 0, 13)
+}
+
+#[test]
+fn each_change_of_the_other_examples(rt: HostRuntime) -> Result<(), Fail> {
+    changes_are_answered_as_read(&rt, 13, usize::MAX)
+}
+
+#[test]
+fn each_beginning_is_cut_short(rt: HostRuntime) -> Result<(), Fail> {
+    for example in &EXAMPLES {
+        let text = example.steps.as_bytes();
+        is_answered_as_read(&rt, text, example.name)?;
+        for n in 0..text.len() {
+            for form in [Form::Replay, Form::History] {
+                let (answer, sink) = streamed(&rt, &text[..n], form, 1, (None, None), AMPLE)?;
+                assert!(rt;
+                    answer == Err(StreamFault::Text(TextFault::CutShort)),
+                    "{}",
+                    example.name
+                );
+                assert!(rt; sink.bytes().is_empty(), "{}", example.name);
+            }
+        }
+    }
+    Ok(())
+}
