@@ -118,8 +118,16 @@ impl Queue {
         if self.arrival_of(seat).is_none() {
             return false;
         }
-        self.table[seat as usize] = None;
-        remove_seat(&mut self.line, seat);
+        match self.first() {
+            // Most who leave are the longest waiter, and then nobody has to be looked for.
+            Some(first) if first.seat == seat => {
+                let _first = self.take_first();
+            }
+            _ => {
+                self.table[seat as usize] = None;
+                remove_seat(&mut self.line, seat);
+            }
+        }
         true
     }
 

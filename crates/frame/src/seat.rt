@@ -3,7 +3,7 @@
 ghost use Rattle.std.specs.Prelude.{◌≡◌, ◌+◌, ◌<◌, ◌^◌, length, slice_set};
 ghost use Rattle.history.specs.Counts.{holds_after};
 ghost use Rattle.history.specs.Object.{in_holds};
-ghost use Rattle.frame.specs.Seat.{sleep_behind, seat_after, seat_behind, no_holds, holds_in};
+ghost use Rattle.frame.specs.Seat.{seat_after, seat_behind, no_holds, holds_in};
 
 use history::entry::{End, Entry, Mode, Word};
 use history::header::Object;
@@ -51,43 +51,29 @@ impl Seat {
         }
     }
 
-    /// What an entry of its own makes of it.
-    pub fn after(self, object: Object, entry: Entry) -> Seat
-        requires exclusive { (seat_after object entry self).exclusive < 2 ^ 32 }
-        requires shared { (seat_after object entry self).shared < 2 ^ 64 }
-        ensures { result ≡ seat_after object entry self }
+    /// Follows an entry of its own.
+    pub fn follow(&mut self, object: Object, entry: Entry)
+        requires exclusive { (seat_after object entry self.old).exclusive < 2 ^ 32 }
+        requires shared { (seat_after object entry self.old).shared < 2 ^ 64 }
+        ensures { self.new ≡ seat_after object entry self.old }
     {
-        let sleep = sleep_after(entry, self.sleep);
         match entry.mode {
-            Mode::X => Seat {
-                exclusive: holds_after(object, entry, u64::from(self.exclusive)) as u32,
-                shared: self.shared,
-                sleep,
-            },
-            Mode::S => Seat {
-                exclusive: self.exclusive,
-                shared: holds_after(object, entry, self.shared),
-                sleep,
-            },
+            Mode::X => {
+                self.exclusive = holds_after(object, entry, u64::from(self.exclusive)) as u32;
+            }
+            Mode::S => self.shared = holds_after(object, entry, self.shared),
         }
-    }
-}
-
-fn sleep_after(entry: Entry, was: LastSleep) -> LastSleep
-    ensures { result ≡ sleep_behind entry.word entry was }
-{
-    match entry.word {
-        Word::Await => LastSleep {
-            condition: entry.at,
-            holds: entry.n,
-            how: End::Signalled,
-        },
-        Word::Lapse => LastSleep {
-            condition: was.condition,
-            holds: was.holds,
-            how: entry.end,
-        },
-        _ => was,
+        match entry.word {
+            Word::Await => {
+                self.sleep = LastSleep {
+                    condition: entry.at,
+                    holds: entry.n,
+                    how: End::Signalled,
+                };
+            }
+            Word::Lapse => self.sleep.how = entry.end,
+            _ => {}
+        }
     }
 }
 
@@ -124,6 +110,5 @@ pub fn update(seats: &mut Vec<Seat>, object: Object, entry: Entry)
     ensures { seats.new.items
         ≡ slice_set seats.old.items entry.seat (seat_behind object entry seats.old.items) }
 {
-    let seat = &mut seats[entry.seat as usize];
-    *seat = seat.after(object, entry);
+    seats[entry.seat as usize].follow(object, entry);
 }

@@ -1,2 +1,3 @@
 pub mod Breaks
 pub mod OutOfTurn
+pub mod Woken

@@ -10,3 +10,4 @@ pub mod ownership;
 pub mod results;
 pub mod room;
 pub mod waiting;
+pub mod waking;
