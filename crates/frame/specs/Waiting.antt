@@ -1,6 +1,7 @@
 -- What an entry makes of those who wait, and what it asks of them.
-use Rattle.std.specs.Prelude.{◌≡◌, ◌≤◌, ◌<◌, ◌+◌, ◌^◌, ℕ, ◌==◌, not, true, false, List, [], ◌∷◌, ◌++◌, filter, map, take, length, None}
+use Rattle.std.specs.Prelude.{◌≡◌, ◌≤◌, ◌<◌, ◌+◌, ◌^◌, ℕ, ◌==◌, not, true, false, List, [], ◌∷◌, ◌++◌, if◌then◌else◌, filter, map, take, length, Option, Some, None}
 use Rattle.acquire_queue.specs.Line.{Line}
+use Rattle.condition_queue.specs.declared.sleeper.Sleeper.{Sleeper}
 use Rattle.condition_queue.specs.Sleepers.{Sleepers, asleep_on}
 use Rattle.history.specs.declared.arrival.Arrival.{Arrival}
 use Rattle.history.specs.declared.entry.Entry.{Entry}
@@ -23,6 +24,14 @@ line_behind Lapse e arrivals seats = arrivals ++ coming_back e.seat ∷ []
 line_behind Signal e arrivals seats = arrivals ++ map coming_back (take e.n seats)
 line_behind SignalAll e arrivals seats = arrivals ++ map coming_back seats
 line_behind _ e arrivals seats = arrivals
+
+-- what a seat sleeps on behind an entry, by the sleepers of its condition and by what the seat slept on
+abbrev pub sleeper_behind : Word → Entry → List ℕ → ℕ → Option Sleeper → Option Sleeper
+sleeper_behind Await e seats i was = if e.seat == i then Some (record { condition = e.at; holds = e.n }) else was
+sleeper_behind Lapse e seats i was = if e.seat == i then None else was
+sleeper_behind Signal e seats i was = if has i (take e.n seats) then None else was
+sleeper_behind SignalAll e seats i was = if has i seats then None else was
+sleeper_behind _ e seats i was = was
 
 -- a seat that is to join the line
 pub record MayJoin (e : Entry) (queue : Line) : Type 0 where

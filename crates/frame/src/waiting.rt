@@ -3,8 +3,8 @@
 ghost use Rattle.std.specs.Prelude.{◌≡◌, ◌≤◌, ◌+◌, ◌==◌, if◌then◌else◌, ℕ, false};
 ghost use Rattle.history.specs.Line.{coming_back};
 ghost use Rattle.history.specs.Sleepers.{sleepers_after};
-ghost use Rattle.condition_queue.specs.Sleepers.{asleep_on};
-ghost use Rattle.frame.specs.Waiting.{IsMovable, line_behind};
+ghost use Rattle.condition_queue.specs.Sleepers.{asleep_on, sleeper_of};
+ghost use Rattle.frame.specs.Waiting.{IsMovable, line_behind, sleeper_behind};
 
 use acquire_queue::queue::Queue;
 use condition_queue::waiters::Waiters;
@@ -19,6 +19,8 @@ pub fn move_waiters(queue: &mut Queue, waiters: &mut Waiters, entry: Entry)
     ensures sleepers { (c : ℕ) → asleep_on waiters.new c
         ≡ (if entry.at == c then sleepers_after entry.word entry.seat entry.n (asleep_on waiters.old c)
         else asleep_on waiters.old c) }
+    ensures saved { (i : ℕ) → sleeper_of waiters.new i
+        ≡ sleeper_behind entry.word entry (asleep_on waiters.old entry.at) i (sleeper_of waiters.old i) }
     ensures joined { queue.new.joined ≤ queue.old.joined + 65536 }
     ensures places { queue.new.seats ≡ queue.old.seats }
     ensures beds { waiters.new.seats ≡ waiters.old.seats }
