@@ -1,5 +1,5 @@
 -- What moving sleepers from a condition to the line changes, and what it leaves.
-use Rattle.std.specs.Prelude.{◌≡◌, ℕ, ◌+◌, ◌==◌, if◌then◌else◌, List, ◌++◌, map, take, drop, None}
+use Rattle.std.specs.Prelude.{◌≡◌, ℕ, ◌+◌, ◌==◌, if◌then◌else◌, ◌++◌, map, take, drop, None}
 use Rattle.history.specs.Line.{coming_back}
 use Rattle.history.specs.Sleepers.{has}
 use Rattle.acquire_queue.specs.Line.{Line}

@@ -94,7 +94,8 @@ impl Waiters {
     pub fn leave(&mut self, seat: u16) -> bool
         ensures slept { result ≡ is_some (sleeper_of self.old seat) }
         ensures lists { (d : ℕ) → asleep_on self.new d
-            ≡ (if sleeps_on d (sleeper_of self.old seat) then without seat (asleep_on self.old d) else asleep_on self.old d) }
+            ≡ (if sleeps_on d (sleeper_of self.old seat) then without seat (asleep_on self.old d)
+            else asleep_on self.old d) }
 
         // The same, whatever it slept on.
         ensures left { (d : ℕ) → asleep_on self.new d ≡ without seat (asleep_on self.old d) }

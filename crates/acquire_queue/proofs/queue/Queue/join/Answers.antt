@@ -1,7 +1,7 @@
 use Rattle.std.proofs.Common.{◌≡◌, ◌<◌, None, ap, ◌∙◌, arith}
 use Rattle.std.proofs.lemmas.List.{length_push}
 use Rattle.history.specs.Line.{place_of}
-use Rattle.acquire_queue.specs.Line.{Line, IsKept}
+use Rattle.acquire_queue.specs.Line.{Line}
 use Rattle.acquire_queue.proofs.Kept.{kept_joined, length-kept}
 use Rattle.acquire_queue.proofs.queue.Queue.join.Goals as goal
 

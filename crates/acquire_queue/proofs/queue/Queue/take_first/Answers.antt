@@ -1,5 +1,4 @@
-use Rattle.std.proofs.Common.{sym, ap, ◌∙◌, arith}
-use Rattle.acquire_queue.specs.Line.{Line}
+use Rattle.std.proofs.Common.{sym, arith}
 use Rattle.acquire_queue.proofs.Kept.{first_below, left_first}
 use Rattle.acquire_queue.proofs.queue.Queue.take_first.Goals as goal
 

@@ -1,4 +1,4 @@
-use Rattle.std.proofs.Common.{◌≡◌, ◌<◌, List, [], ◌∷◌, ◌++◌, length, None, ap, ◌∙◌, arith}
+use Rattle.std.proofs.Common.{◌<◌, [], ◌∷◌, ◌++◌, length, ap, ◌∙◌, arith}
 use Rattle.condition_queue.specs.Sleepers.{Sleepers, asleep_on, sleeper_of}
 use Rattle.condition_queue.proofs.Kept.{kept_joined, room_to_join}
 use Rattle.condition_queue.proofs.Lists.{lists_changed}
