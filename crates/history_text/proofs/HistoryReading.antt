@@ -1,15 +1,12 @@
 -- One more entry is read, or the reading ends.
-use Rattle.std.proofs.Common.{◌≡◌, ◌≢◌, ℕ, ◌+◌, ◌<◌, ◌≤◌, ◌^◌, Bool, false, List, [], ◌∷◌, ◌++◌, length, reverse, Ok, refl, sym, ap, subst, ◌∙◌, arith, append-nil, inl, eqb}
+use Rattle.std.proofs.Common.{◌≡◌, ℕ, ◌+◌, ◌<◌, ◌≤◌, ◌^◌, false, List, [], ◌∷◌, ◌++◌, length, reverse, refl, sym, ap, subst, ◌∙◌, arith, append-nil, inl, eqb}
 use Rattle.std.proofs.lemmas.List.{length-reverse, reverse-append}
-use Rattle.std.proofs.lemmas.Bool.{eqb-true}
 use Rattle.history.specs.declared.entry.Entry.{Entry}
 use Rattle.history.specs.declared.header.Header.{Header}
 use Rattle.history.specs.Entries.{HistoryView, ended_calls}
-use Rattle.history.specs.Entry.{ends_call}
-use Rattle.history.specs.Header.{IsInRange}
 use Rattle.history.specs.Text.{IsLine}
 use Rattle.line_text.specs.Form.{AreItems}
-use Rattle.line_text.specs.Reading.{Begins, IsBadLine, HasBadLine, IsText}
+use Rattle.line_text.specs.Reading.{Begins, IsBadLine, HasBadLine}
 use Rattle.line_text.proofs.Growing.{one_more, at_end, goes_on}
 use Rattle.history_text.specs.EntryLines.{HasLine, entry_line, counts_line}
 use Rattle.history_text.specs.HistoryText.{history_form, IsRead}

@@ -1,12 +1,9 @@
 -- An entry that a step makes is of the step's seat, and refuses for a fault that is recorded.
-use Rattle.std.proofs.Common.{◌≡◌, ℕ, ◌≤◌, Bool, true, false, not, cond, ltb, List, Option, Some, None, refl, ap, sym, subst, arith, ◌==◌, length}
-use Rattle.std.specs.Prelude.{int_lt, pos, ◌+ℤ◌}
-use Rattle.std.proofs.lemmas.Bool.{cond_both}
+use Rattle.std.proofs.Common.{◌≡◌, ℕ, Bool, true, false, cond, List, Some, None, refl, subst, arith}
 use Rattle.history.specs.declared.arrival.Arrival.{Arrival}
 use Rattle.history.specs.declared.entry.End.{End}
 use Rattle.history.specs.declared.entry.End.TheVariants as end
 use Rattle.history.specs.declared.entry.Entry.{Entry}
-use Rattle.history.specs.declared.fault.Fault.{Fault}
 use Rattle.history.specs.declared.fault.Fault.TheVariants as fault
 use Rattle.history.specs.declared.entry.Mode.{Mode}
 use Rattle.history.specs.declared.entry.Mode.TheVariants.{X, S}
@@ -16,15 +13,13 @@ use Rattle.history.specs.declared.header.Object.{Object}
 use Rattle.history.specs.declared.header.Object.TheVariants.{Lock, ReadWrite, Semaphore, Latch}
 use Rattle.history.specs.declared.step.Step.{Step}
 use Rattle.history.specs.declared.step.Step.TheVariants.{Acquire, Try, TryFair, EntryInterrupt, Give, Look, Expire, Interrupt, Await, Signal, SignalAll, Drain}
-use Rattle.history.specs.Could.{could, limit, held_back, is_seat}
-use Rattle.history.specs.Counts.{Counts, counts, owner}
+use Rattle.history.specs.Could.{is_seat}
+use Rattle.history.specs.Counts.{Counts, counts}
 use Rattle.history.specs.Fault.{IsRecorded}
-use Rattle.history.specs.Faults.{max_amount}
-use Rattle.history.specs.Line.{first_mode}
 use Rattle.history.specs.Naming.{ready}
 use Rattle.history.specs.Phase.{Phase, Idle, InLine, Sleeping}
 use Rattle.history.specs.Start.{Start}
-use Rattle.history.specs.Steps.{phase_entry, idle_entry, line_entry, queued_entry, sleeping_entry, plain, ended, back, lapse, gave, awaits, signals, acquired, tried, tried_fairly}
+use Rattle.history.specs.Steps.{phase_entry, idle_entry, queued_entry, sleeping_entry, plain, ended, back, lapse, gave}
 
 abbrev pub RefusesByRecorded : Word → Type 0
 RefusesByRecorded (word.Refused f) = IsRecorded f

@@ -1,5 +1,5 @@
 -- Each entry of a legal history of an object as opened has a spelling.
-use Rattle.std.proofs.Common.{◌≡◌, ◌≢◌, ◌⊎◌, inl, inr, ℕ, ◌<◌, Bool, true, false, not, ◌||◌, cond, eqb, ltb, List, [], ◌∷◌, Option, Some, None, Result, Ok, Err, refl, ap, ◌∙◌, sym, subst, arith}
+use Rattle.std.proofs.Common.{◌≡◌, ◌≢◌, ◌⊎◌, inl, inr, ℕ, ◌<◌, true, false, not, eqb, ltb, List, [], ◌∷◌, Some, Ok, refl, ap, sym, subst, arith}
 use Rattle.std.specs.List.{AllByRecursion}
 use Rattle.std.proofs.lemmas.Bool.{or_parts, not-false, eqb-true}
 use Rattle.history.specs.declared.arrival.Arrival.{Arrival}
@@ -23,7 +23,7 @@ use Rattle.history.specs.Phase.{phase}
 use Rattle.history.specs.Sleepers.{last_sleep}
 use Rattle.history.specs.Start.{Start, opening}
 use Rattle.history.specs.Steps.{entry_for}
-use Rattle.history.proofs.Entering.{Known, KnownBy, known, by_phase}
+use Rattle.history.proofs.Entering.{KnownBy, known, by_phase}
 use Rattle.history_text.proofs.Made.{IsMadeBy, RefusesByRecorded, made}
 use Rattle.history.proofs.OneWait.{Waits, waits}
 use Rattle.history.proofs.WhoWaits.{comes_back}

@@ -1,5 +1,5 @@
 -- What the readers of lines answer, from the words that are left to the words after.
-use Rattle.std.specs.Prelude.{ℕ, ◌-◌, List, Option, None, Some, codes}
+use Rattle.std.specs.Prelude.{ℕ, ◌-◌, Option, Some, codes}
 use Rattle.history.specs.declared.entry.Entry.{Entry}
 use Rattle.history.specs.EntryReading.{entry_at}
 use Rattle.history.specs.Reading.{Words, ◌>>=◌, number_at, keyword_at}

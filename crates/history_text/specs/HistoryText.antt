@@ -1,5 +1,5 @@
 -- History texts: their form, what is written, and what reading one answers.
-use Rattle.std.specs.Prelude.{◌≡◌, ℕ, ◌<◌, List, [], reverse, length, All, Result, Ok, Err}
+use Rattle.std.specs.Prelude.{◌≡◌, ℕ, ◌<◌, List, reverse, length, All, Result, Ok, Err}
 use Rattle.history.specs.declared.entry.Entry.{Entry}
 use Rattle.history.specs.declared.header.Header.{Header}
 use Rattle.history.specs.Entries.{HistoryView, ended_calls}

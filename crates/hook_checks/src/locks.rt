@@ -80,12 +80,31 @@ fn rw(alloc: Global, policy: Policy) -> Result<RwHooks, &'static str> {
     RwHooks::open(alloc, policy, 3).ok().ok_or("memory")
 }
 
-#[test]
-fn opening_is_refused_for_want_of_memory_alone(rt: HostRuntime) {
-    match RwHooks::open(rt.alloc(), Policy::Fair, 256) {
-        Ok(hooks) => play(&rt, hooks, 256, &[(Take(255, S, 1), MORE)]),
-        Err(fault) => assert_eq!(rt; fault, Fault::OutOfMemory),
+/// Takes what the heap gives, down to blocks of 64 bytes.
+fn all_memory(alloc: Global) -> Result<Vec<Vec<u8>>, Fail> {
+    let mut taken = Vec::with_capacity(alloc, 65_536)?;
+    let mut size: usize = 1 << 46;
+    for _ in 0..65_536 {
+        match Vec::with_capacity(alloc, size) {
+            Ok(block) => taken.push(block)?,
+            Err(_) => size /= 2,
+        }
+        if size < 64 {
+            break;
+        }
     }
+    Ok(taken)
+}
+
+#[test]
+fn an_opening_without_memory_says_so(rt: HostRuntime) -> Result<(), Fail> {
+    let taken = all_memory(rt.alloc())?;
+    let refused = RwHooks::open(rt.alloc(), Policy::Fair, 256);
+    assert_eq!(rt; refused.err(), Some(Fault::OutOfMemory));
+    drop(taken);
+    let hooks = RwHooks::open(rt.alloc(), Policy::Fair, 256)?;
+    play(&rt, hooks, 256, &[(Take(255, S, 1), MORE)]);
+    Ok(())
 }
 
 #[test]

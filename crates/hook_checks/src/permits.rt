@@ -6,7 +6,7 @@ use crate::calls::{Call, Reply};
 use crate::plays::play;
 use counting::latch::LatchHooks;
 use counting::semaphore::SemaphoreHooks;
-use frame::hooks::{Gave, Line, Taken};
+use frame::hooks::{Gave, Hooks, Line, Taken};
 use history::entry::Mode::{S, X};
 use history::fault::Fault;
 use history::header::{Object, Policy};
@@ -107,4 +107,14 @@ fn a_latch_opens_at_its_last_count(rt: HostRuntime) {
         2,
         &[(Level, Number(2_147_483_647))],
     );
+}
+
+#[test]
+fn nobody_comes_back_to_permits_or_a_count(rt: HostRuntime) {
+    let mut semaphore = SemaphoreHooks::open(Policy::Fair, 2);
+    semaphore.restore(0, 1);
+    assert_eq!(rt; semaphore.level(), 2);
+    let mut latch = LatchHooks::open(2);
+    latch.restore(0, 1);
+    assert_eq!(rt; latch.level(), 2);
 }

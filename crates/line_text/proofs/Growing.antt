@@ -1,5 +1,5 @@
 -- One more line is read.
-use Rattle.std.proofs.Common.{Bool, false, ◌≡◌, ◌≢◌, ℕ, ◌+◌, ◌<◌, ◌^◌, List, [], ◌∷◌, ◌++◌, length, refl, sym, ap, subst, ◌∙◌, arith, append_assoc, append-nil, inl, inr, eqb}
+use Rattle.std.proofs.Common.{false, ◌≡◌, ℕ, ◌+◌, ◌<◌, ◌^◌, List, [], ◌∷◌, ◌++◌, length, sym, ap, subst, ◌∙◌, arith, append_assoc, append-nil, inr, eqb}
 use Rattle.std.proofs.lemmas.Bool.{eqb-false}
 use Rattle.history.specs.Text.{ended}
 use Rattle.line_text.specs.Form.{Form, lines_of, AreItems}

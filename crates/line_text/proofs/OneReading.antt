@@ -1,11 +1,11 @@
 -- A text of a lawful form has one reading.
-use Rattle.std.proofs.Common.{◌≡◌, ◌≢◌, ℕ, ◌+◌, ◌<◌, ◌^◌, List, [], ◌∷◌, ◌++◌, length, Option, Some, None, Result, Ok, Err, refl, sym, ap, subst, ◌∙◌, arith, append_assoc, inl, inr, ◌⊎◌}
+use Rattle.std.proofs.Common.{◌≡◌, ◌≢◌, ℕ, ◌+◌, ◌<◌, ◌^◌, List, [], ◌∷◌, ◌++◌, length, Option, Some, None, Ok, Err, refl, sym, ap, subst, ◌∙◌, arith, append_assoc, inl, inr, ◌⊎◌}
 use Rattle.std.proofs.lemmas.List.Elements.{recursion_from_All}
 use Rattle.line_text.specs.declared.fault.TextFault.{TextFault}
 use Rattle.line_text.specs.declared.fault.TextFault.TheVariants.{BadHeader, BadLine, CutShort, OutOfMemory}
 use Rattle.history.specs.Text.{IsLine, ended}
 use Rattle.line_text.specs.Form.{Form, lines_of, AreItems}
-use Rattle.line_text.specs.Reading.{Begins, IsText, IsCutShort, HasBadHeader, IsBadLine, HasBadLine, Reading, IsReading}
+use Rattle.line_text.specs.Reading.{Begins, HasBadHeader, IsBadLine, Reading, IsReading}
 use Rattle.line_text.proofs.Lawful.{Lacks, IsLawful}
 use Rattle.line_text.proofs.Growing.{broken}
 

@@ -1,4 +1,4 @@
-use Rattle.std.proofs.Common.{sym, ◌∙◌, ap, arith, ℕ, ◌<◌, ◌^◌, refl}
+use Rattle.std.proofs.Common.{arith, refl}
 use Rattle.history_text.proofs.EntryLemmas.{no_end, more_than_end, is_counts_line}
 use Rattle.history_text.proofs.end_line.is_end.Goals as goal
 

@@ -1,4 +1,4 @@
-use Rattle.std.proofs.Common.{sym, ◌∙◌, ap, arith, ℕ, ◌<◌, ◌^◌}
+use Rattle.std.proofs.Common.{arith}
 use Rattle.history_text.proofs.EntryLemmas.{unread, not_all_read, is_entry_line}
 use Rattle.history_text.proofs.entry_reading.entry_of.Goals as goal
 

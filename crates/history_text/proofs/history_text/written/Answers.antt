@@ -1,5 +1,4 @@
-use Rattle.std.proofs.Common.{◌≡◌, ℕ, ◌+◌, ◌<◌, ◌≤◌, List, None, Some, length, reverse, take, sym, ap, ◌∙◌, arith, ◌++◌}
-use Rattle.std.specs.List.{slice_get}
+use Rattle.std.proofs.Common.{◌≡◌, ◌<◌, List, length, reverse, sym, ap, ◌∙◌, arith, ◌++◌}
 use Rattle.std.proofs.lemmas.Option.{slice_get_within}
 use Rattle.history.specs.declared.entry.Entry.{Entry}
 use Rattle.history.specs.Text.{ended}
