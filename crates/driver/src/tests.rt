@@ -1,5 +1,8 @@
 //! Texts from end to end, over devices in memory.
 
+mod audits;
+mod spoiled;
+
 ghost use Rattle.std.specs.Prelude.{◌<◌};
 
 use crate::examples::EXAMPLES;
