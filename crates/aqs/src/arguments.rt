@@ -6,42 +6,56 @@ use driver::form::Form;
 use std::alloc::Global;
 use std::convert::AsStr;
 
-/// What `aqs replay` is asked for.
+/// What a command line asks for.
 #[derive(Debug, Drop)]
-pub struct Replay {
+pub struct Asked {
+    pub task: Task,
     /// The file to read, or none for standard input.
     pub file: Option<String>,
-    pub form: Form,
+}
+
+/// What is done with what is read.
+#[derive(Clone, Copy, Debug, PartialEq, Eq)]
+pub enum Task {
+    /// A steps text is replayed.
+    Replay(Form),
+    /// A history text is audited.
+    Audit,
 }
 
 /// What the words of a command line ask for, the program's name first.
-pub fn arguments<S: AsStr>(alloc: Global, words: &[S]) -> Result<Replay, Fault> {
+pub fn arguments<S: AsStr>(alloc: Global, words: &[S]) -> Result<Asked, Fault> {
     let history = Arg::new(alloc, "history")
         .long("history")
         .action(ArgAction::SetTrue);
     let replay = Command::new(alloc, "replay")
         .arg(Arg::new(alloc, "file"))?
         .arg(history)?;
-    let command = Command::new(alloc, "aqs").subcommand(replay)?;
+    let audit = Command::new(alloc, "audit").arg(Arg::new(alloc, "file"))?;
+    let command = Command::new(alloc, "aqs")
+        .subcommand(replay)?
+        .subcommand(audit)?;
     let matches = command.try_get_matches_from(words)?;
-    let Some((_, replay)) = matches.subcommand() else {
-        return Ok(Replay {
+    let Some((name, asked)) = matches.subcommand() else {
+        return Ok(Asked {
+            task: Task::Replay(Form::Replay),
             file: None,
-            form: Form::Replay,
         });
     };
-    let form = if replay.get_flag("history") {
-        Form::History
+    let task = if name == "audit" {
+        Task::Audit
+    } else if asked.get_flag("history") {
+        Task::Replay(Form::History)
     } else {
-        Form::Replay
+        Task::Replay(Form::Replay)
     };
-    match replay.get_str("file") {
-        None => Ok(Replay { file: None, form }),
+    match asked.get_str("file") {
+        None => Ok(Asked { task, file: None }),
         // Behind `--` the parser lets it through.
         Some(file) if file.starts_with('-') => Err(Fault::Usage),
-        Some(file) => Ok(Replay {
+        Some(file) => Ok(Asked {
+            task,
             file: Some(String::from_str(alloc, file)?),
-            form,
         }),
     }
 }

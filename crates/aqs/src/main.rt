@@ -1,9 +1,10 @@
-//! The program `aqs`: replays the steps of a synchroniser's seats.
+//! The program `aqs`: replays the steps of a synchroniser's seats, and audits histories.
 //!
 //! `aqs replay [FILE]` reads a steps text, from standard input where no file is named, and writes its
-//! replay text to standard output, or with `--history` its history text. With no words at all it replays.
-//! A fault is one line on standard error, and nothing has been written then, but for a fault of writing
-//! itself.
+//! replay text to standard output, or with `--history` its history text. `aqs audit [FILE]` reads a history
+//! text and writes its audit text; the status is 1 where the history isn't legal. With no words at all it
+//! replays. A fault is one line on standard error, and nothing has been written then, but for a fault of
+//! writing itself.
 #![tactic(auto)]
 
 ghost use Rattle.std.specs.Prelude.{◌≡◌, MatchResult};
@@ -12,10 +13,11 @@ ghost use Rattle.aqs.specs.Fault.{status_of};
 mod arguments;
 mod fault;
 
-use crate::arguments::{Replay, arguments};
+use crate::arguments::{Asked, Task, arguments};
 use crate::fault::Fault;
+use audit::verdict::Verdict;
+use driver::audit_stream::audit_stream;
 use driver::device::Device;
-use driver::form::Form;
 use driver::replay_stream::replay_stream;
 use driver::stream_fault::StreamFault;
 use std::alloc::Global;
@@ -26,16 +28,27 @@ use std::io::{self, Read, Write};
 use std::process::ExitCode;
 use std::rt::{Env, Files};
 
-/// Replays what a reader gives to a writer.
-fn replay<R: Read, W: Write>(alloc: Global, reader: R, writer: W, form: Form) -> Result<(), Fault> {
-    match replay_stream(
-        alloc,
-        &mut Device::new(reader),
-        &mut Device::new(writer),
-        form,
-    ) {
-        Ok(()) => Ok(()),
-        Err(fault) => Err(Fault::Stream(fault)),
+/// The status of an audit that finds a history not legal.
+const NOT_LEGAL: u8 = 1;
+
+/// Answers what a reader gives to a writer, and tells the exit status.
+fn perform<R: Read, W: Write>(
+    alloc: Global,
+    reader: R,
+    writer: W,
+    task: Task,
+) -> Result<u8, Fault> {
+    let mut reader = Device::new(reader);
+    let mut writer = Device::new(writer);
+    match task {
+        Task::Replay(form) => {
+            replay_stream(alloc, &mut reader, &mut writer, form)?;
+            Ok(0)
+        }
+        Task::Audit => match audit_stream(alloc, &mut reader, &mut writer)? {
+            Verdict::Legal => Ok(0),
+            Verdict::NotLegal(_) => Ok(NOT_LEGAL),
+        },
     }
 }
 
@@ -45,12 +58,12 @@ fn run<R: Files + AllocGlobal, S: AsStr, I: Read + Drop, O: Write + Drop>(
     words: &[S],
     input: I,
     output: O,
-) -> Result<(), Fault> {
-    let Replay { file, form } = arguments(rt.alloc(), words)?;
+) -> Result<u8, Fault> {
+    let Asked { task, file } = arguments(rt.alloc(), words)?;
     match file {
-        None => replay(rt.alloc(), input, output, form),
+        None => perform(rt.alloc(), input, output, task),
         Some(file) => match File::open(rt, file.as_str()) {
-            Ok(file) => replay(rt.alloc(), file, output, form),
+            Ok(file) => perform(rt.alloc(), file, output, task),
             Err(_) => Err(Fault::Stream(StreamFault::ReadFailed)),
         },
     }
@@ -68,11 +81,11 @@ fn words<R: Env + AllocGlobal>(rt: &R) -> Result<Vec<String>, Fault> {
 }
 
 /// The exit status, after a fault was told.
-fn told<R: Eprint>(rt: &R, done: Result<(), Fault>) -> u8
-    ensures { MatchResult done (λ _. result ≡ 0) (λ fault. result ≡ status_of fault) }
+fn told<R: Eprint>(rt: &R, done: Result<u8, Fault>) -> u8
+    ensures { MatchResult done (λ status. result ≡ status) (λ fault. result ≡ status_of fault) }
 {
     match done {
-        Ok(()) => 0,
+        Ok(status) => status,
         Err(fault) => {
             let _ = eprintln!(rt; "aqs: {fault}");
             fault.status()

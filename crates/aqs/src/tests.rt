@@ -1,6 +1,6 @@
 //! Command lines, fault lines and statuses.
 
-use crate::arguments::arguments;
+use crate::arguments::{Task, arguments};
 use crate::fault::Fault;
 use crate::{run, told};
 use driver::form::Form;
@@ -13,34 +13,41 @@ use steps::TextFault;
 
 #[test]
 fn asks_for_a_file_or_standard_input(rt: HostRuntime) -> Result<(), Fail> {
-    let plain: [&[&str]; 2] = [&["aqs"], &["aqs", "replay"]];
+    let plain: [&[&str]; 3] = [&["aqs"], &["aqs", "replay"], &["aqs", "audit"]];
     for words in plain {
         assert!(rt; arguments(rt.alloc(), words)?.file.is_none());
     }
-    let file = arguments(rt.alloc(), &["aqs", "replay", "steps.txt"])?.file;
-    assert!(rt; file.ok_or("no file")?.as_str() == "steps.txt");
+    for name in ["replay", "audit"] {
+        let file = arguments(rt.alloc(), &["aqs", name, "file.txt"])?.file;
+        assert!(rt; file.ok_or("no file")?.as_str() == "file.txt");
+    }
     let empty = arguments(rt.alloc(), &["aqs", "replay", ""])?.file;
     assert!(rt; empty.ok_or("no file")?.is_empty());
     Ok(())
 }
 
 #[test]
-fn asks_for_a_history(rt: HostRuntime) -> Result<(), Fail> {
-    let asked: [(&[&str], Form); 4] = [
-        (&["aqs"], Form::Replay),
-        (&["aqs", "replay", "steps.txt"], Form::Replay),
-        (&["aqs", "replay", "--history"], Form::History),
-        (&["aqs", "replay", "steps.txt", "--history"], Form::History),
+fn asks_for_a_task(rt: HostRuntime) -> Result<(), Fail> {
+    let asked: [(&[&str], Task); 6] = [
+        (&["aqs"], Task::Replay(Form::Replay)),
+        (&["aqs", "replay", "steps.txt"], Task::Replay(Form::Replay)),
+        (&["aqs", "replay", "--history"], Task::Replay(Form::History)),
+        (
+            &["aqs", "replay", "steps.txt", "--history"],
+            Task::Replay(Form::History),
+        ),
+        (&["aqs", "audit"], Task::Audit),
+        (&["aqs", "audit", "history.txt"], Task::Audit),
     ];
-    for (words, form) in asked {
-        assert!(rt; arguments(rt.alloc(), words)?.form == form);
+    for (words, task) in asked {
+        assert!(rt; arguments(rt.alloc(), words)?.task == task);
     }
     Ok(())
 }
 
 #[test]
 fn refuses_other_command_lines(rt: HostRuntime) {
-    let others: [&[&str]; 14] = [
+    let others: [&[&str]; 19] = [
         &["aqs", "--history"],
         &["aqs", "replay", "--history", "--history"],
         &["aqs", "--help"],
@@ -48,7 +55,12 @@ fn refuses_other_command_lines(rt: HostRuntime) {
         &["aqs", "--version"],
         &["aqs", "help"],
         &["aqs", "replay", "--help"],
-        &["aqs", "audit"],
+        &["aqs", "audit", "--help"],
+        &["aqs", "audit", "--history"],
+        &["aqs", "audit", "a", "b"],
+        &["aqs", "audit", "-"],
+        &["aqs", "audit", "--", "-x"],
+        &["aqs", "run"],
         &["aqs", "steps.txt"],
         &["aqs", "replay", "a", "b"],
         &["aqs", "replay", "-"],
@@ -136,11 +148,15 @@ fn ends_with_a_status(rt: HostRuntime) -> Result<(), Fail> {
     let line = b"aqs-steps 1 lock fair seats 1 conditions 0 cap 16\n0 acquire x 01\nend 1\n";
     let replayed = "aqs-replay 1 lock fair seats 1 conditions 0 cap 16\n0 0 got x 1\nend 1 1\n";
     let recorded = "aqs-history 1 lock fair seats 1 conditions 0 cap 16\n0 0 got x 1\nend 1 1\n";
-    let ends: [(&[&str], &[u8], u8, &str, &str); 11] = [
+    let given = b"aqs-history 1 lock fair seats 1 conditions 0 cap 16\n0 0 gave x 1\nend 1 1\n";
+    let legal = "legal\nentries 1\ncalls 1\nholds x 1 s 0 line 0 sleepers 0\n";
+    let ends: [(&[&str], &[u8], u8, &str, &str); 13] = [
         (&["aqs"], STEPS, 0, replayed, ""),
         (&["aqs", "replay"], STEPS, 0, replayed, ""),
         (&["aqs", "replay", "--history"], STEPS, 0, recorded, ""),
-        (&["aqs", "audit"], STEPS, 2, "", "aqs: usage\n"),
+        (&["aqs", "audit"], recorded.as_bytes(), 0, legal, ""),
+        (&["aqs", "audit"], given, 1, "not legal at 0\n", ""),
+        (&["aqs", "audit"], STEPS, 3, "", "aqs: bad header\n"),
         (&["aqs", "replay", "-"], STEPS, 2, "", "aqs: usage\n"),
         (&["aqs"], header, 3, "", "aqs: bad header\n"),
         (&["aqs"], line, 3, "", "aqs: bad line 2\n"),

@@ -1,8 +1,11 @@
 pub mod Answering
+pub mod AuditStream
+pub mod AuditText
 pub mod MemorySink
 pub mod MemorySource
 pub mod Replay
 pub mod ReplayStream
 pub mod ReplayText
+pub mod Streams
 pub mod Turns
 pub mod Whole

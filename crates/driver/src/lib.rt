@@ -5,6 +5,8 @@
 #![tactic(auto)]
 
 mod answering;
+pub mod audit_stream;
+mod audit_text;
 pub mod device;
 #[cfg(test)]
 mod examples;

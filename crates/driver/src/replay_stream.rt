@@ -2,7 +2,9 @@
 
 ghost use Rattle.std.specs.Prelude.{◌≡◌, ◌<◌, ◌↔◌, [], All, false, IsTrue, IfErr, IfOk, IsErrOf};
 ghost use Rattle.history.specs.Header.{IsInRange};
-ghost use Rattle.driver.specs.ReplayStream.{answer_text, Replayed, Replays, IsOfText};
+ghost use Rattle.steps.specs.StepsText.{steps_form};
+ghost use Rattle.driver.specs.ReplayStream.{answer_text, Replayed, Replays};
+ghost use Rattle.driver.specs.Streams.{IsOfText};
 
 use crate::answering::Answering;
 use crate::form::Form;
@@ -51,7 +53,7 @@ pub fn replay_stream<R: Source, W: Sink>(
 /// What is written for a text.
 fn answer_of(alloc: Global, bytes: &[u8], form: Form) -> Result<Vec<u8>, StreamFault>
     ensures ok { IfOk result (λ text. Replayed form bytes.now (λ written. text.items ≡ written)) }
-    ensures err { IfErr result (IsOfText bytes.now) }
+    ensures err { IfErr result (IsOfText steps_form bytes.now) }
 {
     let text = match read_steps(alloc, bytes) {
         Ok(text) => text,

@@ -1,9 +1,11 @@
 //! Texts from end to end, over devices in memory.
 
+mod audits;
 mod changes;
 mod devices;
 mod memory;
 mod plain;
+mod spoiled;
 
 ghost use Rattle.std.specs.Prelude.{◌<◌};
 

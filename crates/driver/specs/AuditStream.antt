@@ -1,0 +1,32 @@
+-- What is written for a history text.
+use Rattle.std.specs.Prelude.{ℕ, List, Option, Result, reverse}
+use Rattle.audit.specs.declared.verdict.Verdict.{Verdict}
+use Rattle.audit.specs.declared.verdict.Verdict.TheVariants.{Legal, NotLegal}
+use Rattle.audit.specs.Verdict.{IsFirstWrong}
+use Rattle.history.specs.declared.entry.Entry.{Entry}
+use Rattle.history.specs.declared.header.Header.{Header}
+use Rattle.history.specs.Legal.{IsLegal}
+use Rattle.history.specs.Start.{opening}
+use Rattle.history_text.specs.HistoryText.{history_form}
+use Rattle.line_text.specs.Reading.{IsText}
+use Rattle.driver.specs.declared.stream_fault.StreamFault.{StreamFault}
+use Rattle.driver.specs.AuditText.{audit_text}
+use Rattle.driver.specs.Streams.{Streams}
+
+-- the history is legal, or this is its first entry that isn't
+abbrev pub IsVerdict : Header → List Entry → Verdict → Type 0
+IsVerdict h entries Legal = IsLegal (opening h) entries
+IsVerdict h entries (NotLegal number) = IsFirstWrong h entries number
+
+-- The text is the history text of these entries, the newest first; this is the verdict on them, and this is
+-- written of it.
+pub record Audited (text : List ℕ) (verdict : Verdict) (Written : List ℕ → Type 0) : Type 0 where
+  pub header : Header
+  pub entries : List Entry
+  pub is : IsText history_form text header (reverse entries)
+  pub judged : IsVerdict header entries verdict
+  pub written : Written (audit_text header entries verdict)
+
+-- what an audit leaves
+abbrev pub Audits : Option (List ℕ) → Option (List ℕ) → Option (List ℕ) → Result Verdict StreamFault → Type 0
+Audits = Streams history_form Audited

@@ -1,0 +1,24 @@
+-- What a stream reads, writes and answers.
+use Rattle.std.specs.Prelude.{ℕ, List, Option, Result, Ok, Err, IfSome}
+use Rattle.std.specs.Io.KnownBytes.{Keeps, Appends}
+use Rattle.line_text.specs.declared.fault.TextFault.{TextFault}
+use Rattle.line_text.specs.Form.{Form}
+use Rattle.line_text.specs.Reading.{IsReading}
+use Rattle.driver.specs.declared.stream_fault.StreamFault.{StreamFault}
+use Rattle.driver.specs.declared.stream_fault.StreamFault.TheVariants.{Text, ReadFailed, WriteFailed, Memory}
+use Rattle.driver.specs.Whole.{AppendsFront}
+
+-- From the bytes that a source has, and what a sink held before and holds after. A text of the form is
+-- answered by a value, and by what is written.
+abbrev pub Streams : {H I T : Type 0} → Form H I → (List ℕ → T → (List ℕ → Type 0) → Type 0) → Option (List ℕ) → Option (List ℕ) → Option (List ℕ) → Result T StreamFault → Type 0
+Streams {H} {I} {T} form Answers left old new (Ok answer) = IfSome left (λ text. Answers text answer (Appends old new))
+Streams {H} {I} {T} form Answers left old new (Err (Text fault)) = IfSome left (λ text. IsReading form text (Err fault)) × Keeps old new
+Streams {H} {I} {T} form Answers left old new (Err ReadFailed) = Keeps old new
+Streams {H} {I} {T} form Answers left old new (Err WriteFailed) = IfSome left (λ text. (answer : T) × Answers text answer (AppendsFront old new))
+Streams {H} {I} {T} form Answers left old new (Err Memory) = Keeps old new
+
+-- the faults of a text of the form
+abbrev pub IsOfText : {H I : Type 0} → Form H I → List ℕ → StreamFault → Type 0
+IsOfText form text (Text fault) = IsReading form text (Err fault)
+IsOfText form text Memory = Unit {0}
+IsOfText form text fault = ⊥

@@ -1,0 +1,124 @@
+//! The audit text.
+
+ghost use Rattle.std.specs.Prelude.{◌≡◌, ◌++◌, IfOk, OnOk, length};
+ghost use Rattle.std.specs.Fmt.{signed_decimal};
+ghost use Rattle.audit.specs.declared.verdict.Verdict.TheVariants.{Legal};
+ghost use Rattle.history.specs.Entries.{ended_calls};
+ghost use Rattle.history.specs.Header.{IsInRange};
+ghost use Rattle.history.specs.Legal.{AreSeated, IsLegal};
+ghost use Rattle.history.specs.Start.{opening};
+ghost use Rattle.history.specs.Text.{ended};
+ghost use Rattle.driver.specs.AuditText.{audit_text, legal_text, number_line, totals_line};
+ghost use Rattle.driver.specs.AuditText.{holds_line, permits_line, count_line};
+
+use audit::sums::Totals;
+use audit::totals::totals;
+use audit::verdict::Verdict;
+use history::entries::History;
+use history::header::{Header, Object};
+use history::number::put_number;
+use itoa::Buffer;
+use std::alloc::{AllocError, Global};
+
+/// What is said of a history with this verdict.
+pub fn audit_text(
+    alloc: Global,
+    header: &Header,
+    history: &History,
+    verdict: Verdict,
+) -> Result<Vec<u8>, AllocError>
+    requires range { IsInRange header.now }
+    requires cap { history.now.cap ≡ header.now.cap }
+    requires seated { AreSeated (opening header.now) history.now.entries }
+    requires judged { verdict ≡ Legal → IsLegal (opening header.now) history.now.entries }
+    ensures { IfOk result (λ text. text.items ≡ audit_text header.now history.now.entries verdict) }
+{
+    match verdict {
+        Verdict::Legal => match totals(alloc, header, history) {
+            Ok(totals) => legal_text(alloc, header.object, history, &totals),
+            Err(_) => Err(AllocError),
+        },
+        Verdict::NotLegal(number) => {
+            let mut out = Vec::new(alloc);
+            put_line(&mut out, b"not legal at ", number)?;
+            Ok(out)
+        }
+    }
+}
+
+/// What is said of a legal history with these totals.
+fn legal_text(
+    alloc: Global,
+    object: Object,
+    history: &History,
+    totals: &Totals,
+) -> Result<Vec<u8>, AllocError>
+    ensures { IfOk result (λ text. text.items ≡ legal_text object (length history.now.entries) (ended_calls history.now.entries) totals.now) }
+{
+    let mut out = Vec::from_slice(alloc, b"legal\n")?;
+    put_line(&mut out, b"entries ", history.len())?;
+    put_line(&mut out, b"calls ", history.calls())?;
+    put_totals(&mut out, object, totals)?;
+    out.push(b'\n')?;
+    Ok(out)
+}
+
+/// Appends a line of a name and a number, or a front of it.
+fn put_line(out: &mut Vec<u8>, name: &[u8], number: u64) -> Result<(), AllocError>
+    ensures { OnOk result (out.new.items ≡ out.old.items ++ ended (number_line name.now number)) }
+{
+    out.extend_from_slice(name)?;
+    put_number(out, number)?;
+    out.push(b'\n')?;
+    Ok(())
+}
+
+/// Appends the totals of the object's kind, or a front of them.
+fn put_totals(out: &mut Vec<u8>, object: Object, totals: &Totals) -> Result<(), AllocError>
+    ensures { OnOk result (out.new.items ≡ out.old.items ++ totals_line object totals.now) }
+{
+    match object {
+        Object::Lock(_) => put_holds(out, totals),
+        Object::ReadWrite(_) => put_holds(out, totals),
+        Object::Semaphore(_, _) => put_permits(out, totals),
+        Object::Latch(_) => put_count(out, totals),
+    }
+}
+
+fn put_holds(out: &mut Vec<u8>, totals: &Totals) -> Result<(), AllocError>
+    ensures { OnOk result (out.new.items ≡ out.old.items ++ holds_line totals.now) }
+{
+    put_total(out, b"holds x ", &totals.x)?;
+    put_total(out, b" s ", &totals.s)?;
+    put_total(out, b" line ", &totals.line)?;
+    put_total(out, b" sleepers ", &totals.sleepers)?;
+    Ok(())
+}
+
+fn put_permits(out: &mut Vec<u8>, totals: &Totals) -> Result<(), AllocError>
+    ensures { OnOk result (out.new.items ≡ out.old.items ++ permits_line totals.now) }
+{
+    put_total(out, b"held ", &totals.held)?;
+    put_total(out, b" free ", &totals.free)?;
+    put_total(out, b" created ", &totals.created)?;
+    put_total(out, b" unheld ", &totals.unheld)?;
+    put_total(out, b" line ", &totals.line)?;
+    Ok(())
+}
+
+fn put_count(out: &mut Vec<u8>, totals: &Totals) -> Result<(), AllocError>
+    ensures { OnOk result (out.new.items ≡ out.old.items ++ count_line totals.now) }
+{
+    put_total(out, b"count ", &totals.count)?;
+    put_total(out, b" line ", &totals.line)?;
+    Ok(())
+}
+
+/// Appends a name and a number, with a sign where it is below 0, or a front of them.
+fn put_total(out: &mut Vec<u8>, name: &[u8], total: &i128) -> Result<(), AllocError>
+    ensures { OnOk result (out.new.items ≡ out.old.items ++ name.now ++ signed_decimal total.now) }
+{
+    let mut buffer = Buffer::new();
+    out.extend_from_slice(name)?;
+    out.extend_from_slice(buffer.format(*total).as_bytes())
+}
