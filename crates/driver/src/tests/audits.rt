@@ -2,6 +2,7 @@
 
 ghost use Rattle.std.specs.Prelude.{◌<◌};
 
+use super::memory::all_memory;
 use super::spoiled::SPOILED;
 use crate::audit_stream::audit_stream;
 use crate::examples::EXAMPLES;
@@ -375,22 +376,6 @@ entries 1\n\
 calls 1\n\
 holds x 1 s 0 line 0 sleepers 0\n";
 
-/// Takes what the heap gives, down to blocks of 64 bytes.
-fn all_memory(alloc: Global) -> Result<Vec<Vec<u8>>, Fail> {
-    let mut taken = Vec::with_capacity(alloc, 65_536)?;
-    let mut size: usize = 1 << 46;
-    for _ in 0..65_536 {
-        match Vec::with_capacity(alloc, size) {
-            Ok(block) => taken.push(block)?,
-            Err(_) => size /= 2,
-        }
-        if size < 64 {
-            break;
-        }
-    }
-    Ok(taken)
-}
-
 /// All memory is taken and comes back block by block: nothing is written before it is enough.
 #[test]
 fn an_audit_that_lacks_memory_writes_nothing(rt: HostRuntime) -> Result<(), Fail> {
@@ -400,7 +385,7 @@ fn an_audit_that_lacks_memory_writes_nothing(rt: HostRuntime) -> Result<(), Fail
         sources.push(MemorySource::new(bytes, 64, None))?;
     }
     let mut sink = MemorySink::with_places(rt.alloc(), AMPLE, 64, None)?;
-    let mut taken = all_memory(rt.alloc())?;
+    let mut taken = all_memory(rt.alloc(), 64)?;
     let mut refused: u64 = 0;
     for mut source in sources {
         assert!(rt; !source.has_failed() && !sink.has_failed());

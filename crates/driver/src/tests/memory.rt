@@ -25,8 +25,8 @@ use std::alloc::Global;
 use std::process::Abort;
 use std::test::Fail;
 
-/// Takes what the heap gives, down to blocks of 16 bytes.
-fn all_memory(alloc: Global) -> Result<Vec<Vec<u8>>, Fail> {
+/// Takes what the heap gives, down to blocks of so many bytes, the largest first.
+pub fn all_memory(alloc: Global, least: usize) -> Result<Vec<Vec<u8>>, Fail> {
     let mut taken = Vec::with_capacity(alloc, 65_536)?;
     let mut size: usize = 1 << 46;
     for _ in 0..65_536 {
@@ -34,7 +34,7 @@ fn all_memory(alloc: Global) -> Result<Vec<Vec<u8>>, Fail> {
             Ok(block) => taken.push(block)?,
             Err(_) => size /= 2,
         }
-        if size < 16 {
+        if size < least {
             break;
         }
     }
@@ -54,7 +54,7 @@ fn refusals<R: Abort + AllocGlobal>(rt: &R, text: &[u8], form: Form) -> Result<u
         form,
     )?;
     let mut written = Vec::with_capacity(alloc, expected.len())?;
-    let mut taken = all_memory(alloc)?;
+    let mut taken = all_memory(alloc, 16)?;
     for refused in 0..65_536 {
         let answer = replay_stream(
             alloc,
