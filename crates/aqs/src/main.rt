@@ -27,7 +27,12 @@ use std::process::ExitCode;
 use std::rt::{Env, Files};
 
 /// Replays what a reader gives to a writer.
-fn replay<R: Read, W: Write>(alloc: Global, reader: R, writer: W, form: Form) -> Result<(), Fault> {
+fn replay<R: Read + Drop, W: Write + Drop>(
+    alloc: Global,
+    reader: R,
+    writer: W,
+    form: Form,
+) -> Result<(), Fault> {
     match replay_stream(
         alloc,
         &mut Device::new(reader),
