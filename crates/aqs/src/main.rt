@@ -32,7 +32,7 @@ use std::rt::{Env, Files};
 const NOT_LEGAL: u8 = 1;
 
 /// Answers what a reader gives to a writer, and tells the exit status.
-fn perform<R: Read, W: Write>(
+fn perform<R: Read + Drop, W: Write + Drop>(
     alloc: Global,
     reader: R,
     writer: W,

@@ -120,6 +120,7 @@ impl io::Write for Closed {
 }
 
 /// Standard error, as a text.
+#[derive(Drop)]
 struct Noted(RefCell<String>);
 
 impl Eprint for Noted {
@@ -175,9 +176,9 @@ fn ends_with_a_status(rt: HostRuntime) -> Result<(), Fail> {
         let mut output = Vec::new(rt.alloc());
         let noted = Noted(RefCell::new(String::new(rt.alloc())));
         let done = run(&rt, words, input, &mut output);
-        assert_eq!(rt; told(&noted, done), status, "{error}");
-        assert!(rt; output.as_slice() == expected.as_bytes(), "{error}");
-        assert!(rt; noted.0.into_inner().as_str() == error, "{error}");
+        assert_eq!(rt; told(&noted, done), status);
+        assert!(rt; output.as_slice() == expected.as_bytes());
+        assert!(rt; noted.0.into_inner().as_str() == error);
     }
     Ok(())
 }
