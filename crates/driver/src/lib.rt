@@ -6,8 +6,6 @@
 
 mod answering;
 pub mod device;
-#[cfg(test)]
-mod examples;
 pub mod form;
 pub mod memory_sink;
 pub mod memory_source;
