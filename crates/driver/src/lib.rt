@@ -8,8 +8,6 @@ mod answering;
 pub mod audit_stream;
 mod audit_text;
 pub mod device;
-#[cfg(test)]
-mod examples;
 pub mod form;
 pub mod memory_sink;
 pub mod memory_source;

@@ -9,7 +9,6 @@ mod spoiled;
 
 ghost use Rattle.std.specs.Prelude.{◌<◌};
 
-use crate::examples::EXAMPLES;
 use crate::form::Form;
 use crate::memory_sink::MemorySink;
 use crate::memory_source::MemorySource;
@@ -17,6 +16,7 @@ use crate::replay_stream::replay_stream;
 use crate::sink::Sink;
 use crate::source::Source;
 use crate::stream_fault::StreamFault;
+use examples::EXAMPLES;
 use std::process::Abort;
 use std::test::Fail;
 use steps::TextFault;

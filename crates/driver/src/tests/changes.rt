@@ -2,9 +2,9 @@
 
 use super::plain::plainly_read;
 use super::{AMPLE, streamed};
-use crate::examples::EXAMPLES;
 use crate::form::Form;
 use crate::stream_fault::StreamFault;
+use examples::EXAMPLES;
 use std::alloc::{AllocError, Global};
 use std::process::Abort;
 use std::test::Fail;

@@ -1,4 +1,5 @@
-//! Worked examples: steps texts, and the replay texts and history texts that answer them.
+//! Known situations of all objects: steps texts, and the replay texts and history texts that answer them.
+#![tactic(auto)]
 
 /// A worked example.
 pub struct Example {

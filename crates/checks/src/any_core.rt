@@ -1,0 +1,246 @@
+//! A core of any object, whose calls test what the core's own calls ask of their caller.
+
+ghost use Rattle.std.specs.Prelude.{◌<◌, All, IsTrue};
+
+use crate::again::{Found, find};
+use audit::sums::Totals;
+use audit::totals::totals;
+use audit::verdict::{Verdict, check};
+use counting::latch::LatchHooks;
+use counting::semaphore::SemaphoreHooks;
+use frame::hooks::Hooks;
+use frame::machine::Core;
+use frame::run::run;
+use history::entries::History;
+use history::entry::Mode;
+use history::fault::Fault;
+use history::header::{Header, Object};
+use history::step::{Answer, Step};
+use read_write::hooks::RwHooks;
+use reentrant::lock::LockHooks;
+use std::alloc::Global;
+
+/// What a core tells of itself: of its history, of those who wait, and of the holds of its first seats.
+#[derive(Clone, Copy, Debug, PartialEq, Eq)]
+pub struct Told {
+    pub entries: u64,
+    pub calls: u64,
+    pub owed: u64,
+    pub places: u64,
+    pub line: u16,
+    /// On the first two conditions.
+    pub asleep: [u16; 2],
+    pub exclusive: [u64; 4],
+    pub shared: [u64; 4],
+    pub is_held: bool,
+    pub available: i64,
+    pub count: u32,
+}
+
+/// A core of the header over hooks as an open makes them; `BadAmount` where the header isn't theirs.
+fn open<H: Hooks + Drop>(alloc: Global, hooks: H, header: &Header) -> Result<Core<H>, Fault> {
+    let header = Header {
+        object: hooks.object(),
+        seats: header.seats,
+        conditions: header.conditions,
+        cap: header.cap,
+    };
+    if !header.in_range() {
+        return Err(Fault::BadAmount);
+    }
+    if !hooks.as_opened(header.seats) {
+        return Err(Fault::BadAmount);
+    }
+    Core::open(alloc, hooks, header.seats, header.conditions, header.cap)
+}
+
+/// A step; `OutOfPhase` of a seat that the core doesn't have.
+fn step<H: Hooks + Drop>(core: &mut Core<H>, seat: u16, asked: Step) -> Result<Answer, Fault> {
+    if core.header().seats <= seat {
+        return Err(Fault::OutOfPhase);
+    }
+    core.step(seat, asked)
+}
+
+fn are_seated(seats: u16, steps: &[(u16, Step)]) -> bool
+    ensures { IsTrue result → All (λ s. s.0 < seats) steps.now }
+{
+    steps.iter().all(|step| step.0 < seats)
+}
+
+/// The answers to the steps; `OutOfPhase` where one is of a seat that the core doesn't have.
+fn run_all<H: Hooks + Drop>(
+    alloc: Global,
+    core: &mut Core<H>,
+    steps: &[(u16, Step)],
+) -> Result<Vec<Result<Answer, Fault>>, Fault> {
+    if !are_seated(core.header().seats, steps) {
+        return Err(Fault::OutOfPhase);
+    }
+    run(alloc, core, steps)
+}
+
+/// The holds of a seat; none where the core doesn't have it.
+fn holds<H: Hooks + Drop>(core: &Core<H>, seat: u16, mode: Mode) -> u64 {
+    if core.header().seats <= seat {
+        return 0;
+    }
+    core.holds(seat, mode)
+}
+
+fn first_holds<H: Hooks + Drop>(core: &Core<H>, mode: Mode) -> [u64; 4] {
+    [
+        holds(core, 0, mode),
+        holds(core, 1, mode),
+        holds(core, 2, mode),
+        holds(core, 3, mode),
+    ]
+}
+
+fn tell<H: Hooks + Drop>(core: &Core<H>) -> Told {
+    core.is_lawful();
+    let history = core.history();
+    Told {
+        entries: history.len(),
+        calls: history.calls(),
+        owed: history.owed(),
+        places: history.places(),
+        line: core.queue_length(),
+        asleep: [core.waiters(0), core.waiters(1)],
+        exclusive: first_holds(core, Mode::X),
+        shared: first_holds(core, Mode::S),
+        is_held: core.is_held(),
+        available: core.available(),
+        count: core.count(),
+    }
+}
+
+/// What an audit says of a core's history, and what it adds up to.
+fn audited<H: Hooks + Drop>(alloc: Global, core: &Core<H>) -> Result<(Verdict, Totals), Fault> {
+    core.is_lawful();
+    let header = core.header();
+    if !header.in_range() {
+        return Err(Fault::BadAmount);
+    }
+    let verdict = check(alloc, header, core.history())?;
+    let totals = totals(alloc, header, core.history())?;
+    Ok((verdict, totals))
+}
+
+/// What a step is to make, found from the core's history alone; `OutOfPhase` of a seat that the core doesn't have.
+fn found_again<H: Hooks + Drop>(
+    alloc: Global,
+    core: &Core<H>,
+    seat: u16,
+    asked: Step,
+) -> Result<Found, Fault> {
+    core.is_lawful();
+    let header = core.header();
+    if !header.in_range() {
+        return Err(Fault::BadAmount);
+    }
+    if header.seats <= seat {
+        return Err(Fault::OutOfPhase);
+    }
+    find(alloc, header, core.history(), seat, asked)
+}
+
+/// A core of the object that a header names.
+#[derive(Drop)]
+pub enum AnyCore {
+    Lock(Core<LockHooks>),
+    ReadWrite(Core<RwHooks>),
+    Semaphore(Core<SemaphoreHooks>),
+    Latch(Core<LatchHooks>),
+}
+
+impl AnyCore {
+    pub fn open(alloc: Global, header: &Header) -> Result<AnyCore, Fault> {
+        match header.object {
+            Object::Lock(policy) => {
+                let core = open(alloc, LockHooks::open(policy), header)?;
+                Ok(AnyCore::Lock(core))
+            }
+            Object::ReadWrite(policy) => {
+                let hooks = RwHooks::open(alloc, policy, header.seats)?;
+                let core = open(alloc, hooks, header)?;
+                Ok(AnyCore::ReadWrite(core))
+            }
+            Object::Semaphore(policy, permits) => {
+                let core = open(alloc, SemaphoreHooks::open(policy, permits), header)?;
+                Ok(AnyCore::Semaphore(core))
+            }
+            Object::Latch(count) => {
+                let core = open(alloc, LatchHooks::open(count), header)?;
+                Ok(AnyCore::Latch(core))
+            }
+        }
+    }
+
+    pub fn step(&mut self, seat: u16, asked: Step) -> Result<Answer, Fault> {
+        match self {
+            AnyCore::Lock(core) => step(core, seat, asked),
+            AnyCore::ReadWrite(core) => step(core, seat, asked),
+            AnyCore::Semaphore(core) => step(core, seat, asked),
+            AnyCore::Latch(core) => step(core, seat, asked),
+        }
+    }
+
+    pub fn run(
+        &mut self,
+        alloc: Global,
+        steps: &[(u16, Step)],
+    ) -> Result<Vec<Result<Answer, Fault>>, Fault> {
+        match self {
+            AnyCore::Lock(core) => run_all(alloc, core, steps),
+            AnyCore::ReadWrite(core) => run_all(alloc, core, steps),
+            AnyCore::Semaphore(core) => run_all(alloc, core, steps),
+            AnyCore::Latch(core) => run_all(alloc, core, steps),
+        }
+    }
+
+    pub fn header(&self) -> &Header {
+        match self {
+            AnyCore::Lock(core) => core.header(),
+            AnyCore::ReadWrite(core) => core.header(),
+            AnyCore::Semaphore(core) => core.header(),
+            AnyCore::Latch(core) => core.header(),
+        }
+    }
+
+    pub fn history(&self) -> &History {
+        match self {
+            AnyCore::Lock(core) => core.history(),
+            AnyCore::ReadWrite(core) => core.history(),
+            AnyCore::Semaphore(core) => core.history(),
+            AnyCore::Latch(core) => core.history(),
+        }
+    }
+
+    pub fn audited(&self, alloc: Global) -> Result<(Verdict, Totals), Fault> {
+        match self {
+            AnyCore::Lock(core) => audited(alloc, core),
+            AnyCore::ReadWrite(core) => audited(alloc, core),
+            AnyCore::Semaphore(core) => audited(alloc, core),
+            AnyCore::Latch(core) => audited(alloc, core),
+        }
+    }
+
+    pub fn found(&self, alloc: Global, seat: u16, asked: Step) -> Result<Found, Fault> {
+        match self {
+            AnyCore::Lock(core) => found_again(alloc, core, seat, asked),
+            AnyCore::ReadWrite(core) => found_again(alloc, core, seat, asked),
+            AnyCore::Semaphore(core) => found_again(alloc, core, seat, asked),
+            AnyCore::Latch(core) => found_again(alloc, core, seat, asked),
+        }
+    }
+
+    pub fn told(&self) -> Told {
+        match self {
+            AnyCore::Lock(core) => tell(core),
+            AnyCore::ReadWrite(core) => tell(core),
+            AnyCore::Semaphore(core) => tell(core),
+            AnyCore::Latch(core) => tell(core),
+        }
+    }
+}

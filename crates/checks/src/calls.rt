@@ -1,0 +1,70 @@
+//! Public calls that no other test makes by themselves.
+
+ghost use Rattle.std.specs.Prelude.{◌≡◌};
+ghost use Rattle.history.specs.Steps.{plain};
+
+use counting::latch::LatchHooks;
+use counting::semaphore::SemaphoreHooks;
+use frame::hooks::Hooks;
+use frame::seat::{LastSleep, Seat, update};
+use history::entry::{End, Entry, Mode, Word};
+use history::header::{Object, Policy};
+use std::test::Fail;
+
+const LOCK: Object = Object::Lock(Policy::Fair);
+
+fn of(word: Word, mode: Mode, n: u32) -> Entry
+    ensures { result ≡ plain 1 word mode n }
+{
+    Entry {
+        seat: 1,
+        word,
+        mode,
+        n,
+        at: 0,
+        end: End::None,
+    }
+}
+
+/// An await saves the holds that it gives up.
+#[test]
+fn a_seat_follows_its_entries(rt: HostRuntime) {
+    let free = Seat::free();
+    assert_eq!(rt; (free.holds(Mode::X), free.holds(Mode::S)), (0, 0));
+    let owner = free.after(LOCK, of(Word::Got, Mode::X, 1));
+    assert_eq!(rt; (owner.holds(Mode::X), owner.holds(Mode::S)), (1, 0));
+    let asleep = owner.after(LOCK, of(Word::Await, Mode::X, 1));
+    assert_eq!(rt; asleep.holds(Mode::X), 0);
+    assert_eq!(rt;
+        asleep.sleep,
+        LastSleep {
+            condition: 0,
+            holds: 1,
+            how: End::Signalled,
+        }
+    );
+}
+
+#[test]
+fn an_entry_is_of_its_own_seat(rt: HostRuntime) -> Result<(), Fail> {
+    let mut seats = vec![in rt.alloc(); Seat::free(); 2]?;
+    update(
+        &mut seats,
+        Object::Semaphore(Policy::Fair, 7),
+        of(Word::Got, Mode::S, 5),
+    );
+    let holds = seats.iter().map(|seat| seat.holds(Mode::S));
+    assert!(rt; holds.eq([0, 5]));
+    Ok(())
+}
+
+/// No seat of a semaphore or latch sleeps, so there is nothing to restore.
+#[test]
+fn restoring_changes_no_permits_and_no_count(rt: HostRuntime) {
+    let mut semaphore = SemaphoreHooks::open(Policy::Fair, 3);
+    semaphore.restore(0, 2);
+    assert_eq!(rt; semaphore.level(), 3);
+    let mut latch = LatchHooks::open(3);
+    latch.restore(0, 2);
+    assert_eq!(rt; latch.level(), 3);
+}

@@ -1,0 +1,20 @@
+//! Tests across crates: cores of all four objects, by the known situations, at the limits of holds, and opened where
+//! memory is refused.
+#![tactic(auto)]
+
+#[cfg(test)]
+mod again;
+#[cfg(test)]
+mod any_core;
+#[cfg(test)]
+mod calls;
+#[cfg(test)]
+mod limits;
+#[cfg(test)]
+mod memory;
+#[cfg(test)]
+mod runs;
+#[cfg(test)]
+mod scarce;
+#[cfg(test)]
+mod texts;
