@@ -2,10 +2,6 @@
 
 ghost use Rattle.std.specs.Prelude.{◌<◌, All, IsTrue};
 
-use crate::again::{Found, find};
-use audit::sums::Totals;
-use audit::totals::totals;
-use audit::verdict::{Verdict, check};
 use counting::latch::LatchHooks;
 use counting::semaphore::SemaphoreHooks;
 use frame::hooks::Hooks;
@@ -115,36 +111,6 @@ fn tell<H: Hooks + Drop>(core: &Core<H>) -> Told {
     }
 }
 
-/// What an audit says of a core's history, and what it adds up to.
-fn audited<H: Hooks + Drop>(alloc: Global, core: &Core<H>) -> Result<(Verdict, Totals), Fault> {
-    core.is_lawful();
-    let header = core.header();
-    if !header.in_range() {
-        return Err(Fault::BadAmount);
-    }
-    let verdict = check(alloc, header, core.history())?;
-    let totals = totals(alloc, header, core.history())?;
-    Ok((verdict, totals))
-}
-
-/// What a step is to make, found from the core's history alone; `OutOfPhase` of a seat that the core doesn't have.
-fn found_again<H: Hooks + Drop>(
-    alloc: Global,
-    core: &Core<H>,
-    seat: u16,
-    asked: Step,
-) -> Result<Found, Fault> {
-    core.is_lawful();
-    let header = core.header();
-    if !header.in_range() {
-        return Err(Fault::BadAmount);
-    }
-    if header.seats <= seat {
-        return Err(Fault::OutOfPhase);
-    }
-    find(alloc, header, core.history(), seat, asked)
-}
-
 /// A core of the object that a header names.
 #[derive(Drop)]
 pub enum AnyCore {
@@ -214,24 +180,6 @@ impl AnyCore {
             AnyCore::ReadWrite(core) => core.history(),
             AnyCore::Semaphore(core) => core.history(),
             AnyCore::Latch(core) => core.history(),
-        }
-    }
-
-    pub fn audited(&self, alloc: Global) -> Result<(Verdict, Totals), Fault> {
-        match self {
-            AnyCore::Lock(core) => audited(alloc, core),
-            AnyCore::ReadWrite(core) => audited(alloc, core),
-            AnyCore::Semaphore(core) => audited(alloc, core),
-            AnyCore::Latch(core) => audited(alloc, core),
-        }
-    }
-
-    pub fn found(&self, alloc: Global, seat: u16, asked: Step) -> Result<Found, Fault> {
-        match self {
-            AnyCore::Lock(core) => found_again(alloc, core, seat, asked),
-            AnyCore::ReadWrite(core) => found_again(alloc, core, seat, asked),
-            AnyCore::Semaphore(core) => found_again(alloc, core, seat, asked),
-            AnyCore::Latch(core) => found_again(alloc, core, seat, asked),
         }
     }
 

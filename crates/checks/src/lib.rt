@@ -3,8 +3,6 @@
 #![tactic(auto)]
 
 #[cfg(test)]
-mod again;
-#[cfg(test)]
 mod any_core;
 #[cfg(test)]
 mod calls;
