@@ -29,14 +29,14 @@ fn of(word: Word, mode: Mode, n: u32) -> Entry
 /// An await saves the holds that it gives up.
 #[test]
 fn a_seat_follows_its_entries(rt: HostRuntime) {
-    let free = Seat::free();
-    assert_eq!(rt; (free.holds(Mode::X), free.holds(Mode::S)), (0, 0));
-    let owner = free.after(LOCK, of(Word::Got, Mode::X, 1));
-    assert_eq!(rt; (owner.holds(Mode::X), owner.holds(Mode::S)), (1, 0));
-    let asleep = owner.after(LOCK, of(Word::Await, Mode::X, 1));
-    assert_eq!(rt; asleep.holds(Mode::X), 0);
+    let mut seat = Seat::free();
+    assert_eq!(rt; (seat.holds(Mode::X), seat.holds(Mode::S)), (0, 0));
+    seat.follow(LOCK, of(Word::Got, Mode::X, 1));
+    assert_eq!(rt; (seat.holds(Mode::X), seat.holds(Mode::S)), (1, 0));
+    seat.follow(LOCK, of(Word::Await, Mode::X, 1));
+    assert_eq!(rt; seat.holds(Mode::X), 0);
     assert_eq!(rt;
-        asleep.sleep,
+        seat.sleep,
         LastSleep {
             condition: 0,
             holds: 1,
