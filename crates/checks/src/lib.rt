@@ -1,4 +1,4 @@
-//! Tests across crates: cores of all four objects, by the known situations, at the limits of holds, and where memory
+//! Tests across crates: cores of all four objects, by the known situations, at the limits of holds, and opened where memory
 //! is refused.
 #![tactic(auto)]
 
@@ -10,8 +10,6 @@ mod calls;
 mod limits;
 #[cfg(test)]
 mod memory;
-#[cfg(test)]
-mod refused;
 #[cfg(test)]
 mod runs;
 #[cfg(test)]
