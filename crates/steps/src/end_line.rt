@@ -6,11 +6,11 @@ ghost use Rattle.steps.specs.StepLines.{end_line};
 use history::number::number_of;
 use history::text::behind;
 
-const MOST_STEPS: usize = 4_294_967_295;
+const MOST_STEPS: u64 = 4_294_967_295;
 
 /// Whether the line ends a text of so many steps.
 #[inline(always)]
-pub fn is_end(line: &[u8], count: usize) -> bool
+pub fn is_end(line: &[u8], count: u64) -> bool
     ensures { IsTrue result ↔ ((count < 2 ^ 32) × (line.now ≡ end_line count)) }
 {
     if count > MOST_STEPS {
@@ -20,7 +20,7 @@ pub fn is_end(line: &[u8], count: usize) -> bool
         return false;
     };
     match number_of(number) {
-        Some(found) => found == count as u64,
+        Some(found) => found == count,
         None => false,
     }
 }

@@ -7,8 +7,10 @@
 mod end_line;
 mod law;
 mod step_line;
+pub mod step_lines;
 pub mod steps_text;
 
 pub use crate::law::{cut_short, one_reading};
+pub use crate::step_lines::StepLines;
 pub use crate::steps_text::{StepsText, read_steps};
 pub use line_text::fault::TextFault;
