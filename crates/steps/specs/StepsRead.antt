@@ -4,6 +4,9 @@ use Rattle.history.specs.declared.header.Header.{Header}
 use Rattle.history.specs.declared.step.Step.{Step}
 use Rattle.line_text.specs.declared.fault.TextFault.{TextFault}
 use Rattle.line_text.specs.Reading.{Begins, IsText, IsReading}
+use Rattle.std.specs.Borrow.{Bor}
+use Rattle.history.specs.Text.{ended}
+use Rattle.steps.specs.StepLines.{IsStep, step_line}
 use Rattle.steps.specs.StepsText.{steps_form}
 
 -- A text, its header, how many steps were read, and what follows them.
@@ -18,8 +21,27 @@ pub record AreRead (r : StepsRead) (steps : List (ℕ × Step)) : Type 0 where
   pub begins : Begins steps_form r.text r.header steps r.rest
   pub count : r.count ≡ length steps
 
+-- what follows the steps that were read begins with a step's line, and goes on with this
+pub record IsAhead (r : StepsRead) (step : ℕ × Step) (after : List ℕ) : Type 0 where
+  pub fits : IsStep r.header.seats step
+  pub parts : r.rest ≡ ended (step_line step) ++ after
+
+-- whatever steps were read, they are all
+abbrev pub AllRead : StepsRead → Type 0
+AllRead r = (steps : List (ℕ × Step)) → AreRead r steps → IsText steps_form r.text r.header steps
+
+-- whatever steps were read, the text has this fault
+abbrev pub HasFault : StepsRead → TextFault → Type 0
+HasFault r fault = (steps : List (ℕ × Step)) → AreRead r steps → IsReading steps_form r.text (Err fault)
+
+-- what the next line says
+abbrev pub IsLineOf : StepsRead → Result (Option ((ℕ × Step) × Bor (List ℕ))) TextFault → Type 0
+IsLineOf r (Ok (Some line)) = IsAhead r line.0 line.1.now
+IsLineOf r (Ok None) = AllRead r
+IsLineOf r (Err fault) = HasFault r fault
+
 -- Whatever steps were read: one more was, or they are all, or the text has this fault.
 abbrev pub IsNext : StepsRead → Result (Option (ℕ × Step)) TextFault → StepsRead → Type 0
 IsNext old (Ok (Some step)) new = (steps : List (ℕ × Step)) → AreRead old steps → AreRead new (steps ++ step ∷ [])
-IsNext old (Ok None) new = (steps : List (ℕ × Step)) → AreRead old steps → IsText steps_form old.text old.header steps
-IsNext old (Err fault) new = (steps : List (ℕ × Step)) → AreRead old steps → IsReading steps_form old.text (Err fault)
+IsNext old (Ok None) new = AllRead old
+IsNext old (Err fault) new = HasFault old fault

@@ -3,8 +3,9 @@
 ghost use Rattle.std.specs.Prelude.{◌≡◌, ◌<◌, [], length, Err, IfOk, IfErr, IfSome};
 ghost use Rattle.line_text.specs.Reading.{IsReading};
 ghost use Rattle.steps.specs.StepsText.{steps_form};
-ghost use Rattle.steps.specs.StepsRead.{AreRead, IsNext};
+ghost use Rattle.steps.specs.StepsRead.{AreRead, IsLineOf, IsNext};
 
+use crate::common_step::common_step;
 use crate::end_line::is_end;
 use crate::step_line::step_of;
 use history::header::Header;
@@ -61,13 +62,10 @@ impl<'a> StepLines<'a> {
         &self.header
     }
 
-    /// The next seat and its step, or None behind the last: nothing follows the end line.
-    #[inline(always)]
-    pub fn next(&mut self) -> Result<Option<(u16, Step)>, TextFault>
-        ensures text { self.new.text ≡ self.old.text }
-        ensures header { self.new.header ≡ self.old.header }
-        ensures next { IsNext self.old result self.new }
-        ensures shorter { IfOk result (λ next. IfSome next (λ _. length self.new.rest < length self.old.rest)) }
+    /// The seat and the step of the next line, and what follows it, or None where that is the end line.
+    #[inline(never)]
+    fn line(&self) -> Result<Option<((u16, Step), &'a [u8])>, TextFault>
+        ensures { IsLineOf self.now result }
     {
         let Some((line, after)) = first_line(self.rest) else {
             return Err(TextFault::CutShort);
@@ -78,8 +76,33 @@ impl<'a> StepLines<'a> {
             }
             return Err(TextFault::BadLine(self.count + 3));
         }
-        let Some(step) = step_of(line, self.header.seats) else {
-            return Err(TextFault::BadLine(self.count + 2));
+        match step_of(line, self.header.seats) {
+            Some(step) => Ok(Some((step, after))),
+            None => Err(TextFault::BadLine(self.count + 2)),
+        }
+    }
+
+    /// The same, in fewer moves where the line is one of the commonest.
+    #[inline(always)]
+    fn ahead(&self) -> Result<Option<((u16, Step), &'a [u8])>, TextFault>
+        ensures { IsLineOf self.now result }
+    {
+        if let Some(read) = common_step(self.rest, self.header.seats) {
+            return Ok(Some(read));
+        }
+        self.line()
+    }
+
+    /// The next seat and its step, or None behind the last: nothing follows the end line.
+    #[inline(always)]
+    pub fn next(&mut self) -> Result<Option<(u16, Step)>, TextFault>
+        ensures text { self.new.text ≡ self.old.text }
+        ensures header { self.new.header ≡ self.old.header }
+        ensures next { IsNext self.old result self.new }
+        ensures shorter { IfOk result (λ next. IfSome next (λ _. length self.new.rest < length self.old.rest)) }
+    {
+        let Some((step, after)) = self.ahead()? else {
+            return Ok(None);
         };
         self.count += 1;
         self.rest = after;

@@ -1,19 +1,6 @@
-use Rattle.std.proofs.Common.{◌≡◌, ℕ, ◌+◌, List, [], ◌∷◌, length, length-append, sym, ap, ◌∙◌}
-use Rattle.line_text.specs.Reading.{HasBadLine}
-use Rattle.line_text.proofs.Growing.{one_more, goes_on}
-use Rattle.steps.specs.StepLines.{end_line}
-use Rattle.steps.specs.StepsText.{steps_form}
+use Rattle.std.proofs.Common.{◌≡◌, ℕ, ◌+◌, List}
+use Rattle.steps.proofs.Lines.{read_on}
 use Rattle.steps.proofs.step_lines.StepLines.next.Goals as goal
 
-pub returns-then-is_end-clause-next : goal.returns-then-is_end-clause-next
-returns-then-is_end-clause-next c =
-    rw (← c.self.view_is) (λ steps read.
-    let end = c.is_end.ensures.0 c.if-is_end.true in
-    goes_on steps_form c.self.inside.text.now c.self.inside.header steps c.self.inside.rest.now c.in-Some.line.now c.in-Some.after.now c.self.inside.count read.begins c.in-Some.ensures.0 read.count (end.0, end.1 ∙ ap end_line read.count) (sym c.is_empty.ensures ∙ c.if-is_empty.false))
-
 pub returns-clause-next : goal.returns-clause-next
-returns-clause-next c =
-    rw (← c.self.view_is) (λ steps read. record {
-      begins = one_more steps_form c.self.inside.text.now c.self.inside.header steps c.self.inside.rest.now c.in-Some.line.now c.in-Some.after.now c.in-Some-step_of.step read.begins c.in-Some.ensures.0 c.in-Some-step_of.ensures.found.0 c.in-Some-step_of.ensures.found.1;
-      count = ap (λ (n : ℕ). n + 1) read.count ∙ sym (length-append steps (c.in-Some-step_of.step ∷ []));
-    })
+returns-clause-next c = rw (← c.self.view_is) (λ steps. read_on _ steps c.in-Some.step c.in-Some.after.now (rw c.self.view_is (rw c.in-Some.is at c.in_ok-step.ensures)))

@@ -1,0 +1,48 @@
+-- A line begins the text.
+use Rattle.std.proofs.Common.{◌≡◌, ℕ, suc, ◌+◌, ◌-◌, List, [], ◌∷◌, ◌++◌, length, length-append, append_assoc, take, drop, get_or, Some, refl, sym, ap, ◌∙◌, add-one, decimal, position, ◌==◌}
+use Rattle.std.proofs.lemmas.Bool.{eqb-true}
+use Rattle.std.proofs.lemmas.List.{take_rest, take-append-drop}
+use Rattle.std.proofs.lemmas.List.Quantifiers.{position-Some}
+use Rattle.std.proofs.Math.Seq.{drop-cons}
+use Rattle.history.specs.declared.step.Step.{Step}
+use Rattle.history.specs.declared.step.Step.TheVariants.{Acquire, Try, TryFair, EntryInterrupt, Give, Look, Expire, Interrupt, Await, Signal, SignalAll, Drain}
+use Rattle.history.specs.Text.{ended, line_of}
+use Rattle.line_text.proofs.Growing.{one_more, broken}
+use Rattle.steps.specs.StepLines.{step_line, step_words}
+use Rattle.steps.specs.StepsText.{steps_form}
+use Rattle.steps.specs.StepsRead.{StepsRead, AreRead, IsAhead}
+
+-- a step's line is its seat, a space and the words of the step
+seat_first : (seat : ℕ) (s : Step) → step_line (seat, s) ≡ decimal seat ++ 32 ∷ line_of (step_words s)
+seat_first seat (Acquire m n) = refl
+seat_first seat (Try m n) = refl
+seat_first seat (TryFair m n) = refl
+seat_first seat (EntryInterrupt m n) = refl
+seat_first seat (Give m n) = refl
+seat_first seat Look = refl
+seat_first seat Expire = refl
+seat_first seat Interrupt = refl
+seat_first seat (Await c) = refl
+seat_first seat (Signal c) = refl
+seat_first seat (SignalAll c) = refl
+seat_first seat Drain = refl
+
+-- a text that is cut at its first space
+pub first_space : (xs : List ℕ) (i : ℕ) → position (λ b. b == 32) xs ≡ Some i → xs ≡ take i xs ++ 32 ∷ take (length xs - (i + 1)) (drop (i + 1) xs)
+first_space xs i found =
+    let at = position-Some (λ b. b == 32) xs i 0 found in
+    let tail : drop i xs ≡ 32 ∷ drop (i + 1) xs = rw add-one (drop-cons xs i 0 at.0 ∙ ap (λ (b : ℕ). b ∷ drop (suc i) xs) (eqb-true _ _ at.1)) in
+    rw (take_rest xs (i + 1)) (sym (take-append-drop i xs) ∙ ap (λ (x : List ℕ). take i xs ++ x) tail)
+
+pub behind_seat : (text seat more rest : List ℕ) (s : ℕ × Step) → text ≡ seat ++ 32 ∷ more → seat ≡ decimal s.0 → more ≡ ended (line_of (step_words s.1)) ++ rest → text ≡ ended (step_line s) ++ rest
+behind_seat text seat more rest s parts is words =
+    let step = line_of (step_words s.1) in
+    let line : ended (step_line s) ≡ seat ++ 32 ∷ ended step = ap ended (seat_first s.0 s.1) ∙ append_assoc (decimal s.0) (32 ∷ step) (10 ∷ []) ∙ ap (λ (t : List ℕ). t ++ 32 ∷ ended step) (sym is) in
+    parts ∙ ap (λ (t : List ℕ). seat ++ 32 ∷ t) words ∙ sym (append_assoc seat (32 ∷ ended step) rest) ∙ ap (λ (t : List ℕ). t ++ rest) (sym line)
+
+-- one more step was read
+pub read_on : (old : StepsRead) (steps : List (ℕ × Step)) (step : ℕ × Step) (after : List ℕ) → IsAhead old step after → AreRead old steps → AreRead (record { text = old.text; header = old.header; count = old.count + 1; rest = after }) (steps ++ step ∷ [])
+read_on old steps step after ahead read = record {
+  begins = one_more steps_form old.text old.header steps old.rest (step_line step) after step read.begins (ahead.parts ∙ broken (step_line step) after) ahead.fits refl;
+  count = ap (λ (n : ℕ). n + 1) read.count ∙ sym (length-append steps (step ∷ []));
+}
