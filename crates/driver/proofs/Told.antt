@@ -1,8 +1,5 @@
 -- What a replay has told, and what is left to tell.
-use Rattle.std.proofs.Common.{◌≡◌, ◌⊎◌, inl, inr, ℕ, ◌+◌, ◌<◌, Bool, true, false, cond, List, [], ◌∷◌, ◌++◌, length, Option, Some, None, Result, Ok, Err, refl, ap, sym, subst, ◌∙◌, arith, append_assoc, append-nil, drop, get_or, add-one}
-use Rattle.std.proofs.Math.Seq.{drop-cons}
-use Rattle.history.specs.declared.entry.Mode.TheVariants.{X}
-use Rattle.history.specs.declared.step.Step.TheVariants.{Acquire}
+use Rattle.std.proofs.Common.{◌≡◌, ◌⊎◌, inl, inr, ℕ, ◌+◌, ◌<◌, Bool, true, false, cond, List, [], ◌∷◌, ◌++◌, length, Option, Some, None, Result, Ok, Err, refl, ap, sym, subst, ◌∙◌, arith, append_assoc, append-nil}
 use Rattle.history.specs.declared.entry.Entry.{Entry}
 use Rattle.history.specs.declared.fault.Fault.{Fault}
 use Rattle.history.specs.declared.fault.Fault.TheVariants.{HistoryFull, OutOfMemory}
@@ -86,60 +83,75 @@ entries_left-cons : (s : Start) (h : List Entry) (x : ℕ × Step) (steps : List
 unfolding entries_left
 entries_left-cons s h x steps new q = rw q refl
 
--- one step later the same history is behind all
-pub driven : (s : Start) (all : List (ℕ × Step)) (h new : List Entry) (x : ℕ × Step) (left : List (ℕ × Step)) → entries_left s h (x ∷ left) ≡ entries_left s [] all → new ≡ (answer s h x.0 x.1).1 → entries_left s new left ≡ entries_left s [] all
-driven s all h new x left was q = sym (entries_left-cons s h x left new q) ∙ was
+-- ---- the history under way
 
-pub driven_all : (h : Header) (all : List (ℕ × Step)) (entries : List Entry) (left : List (ℕ × Step)) → entries_left (opening h) entries left ≡ entries_left (opening h) [] all → left ≡ [] → entries ≡ history_behind h all
-driven_all h all entries left was none = sym (entries_left-nil (opening h) entries) ∙ rw none at was ∙ entries_left-is (opening h) [] all
+-- The history behind these steps of a text, whatever follows: with what is left it becomes the history behind all.
+pub record IsBehind (header : Header) (steps : List (ℕ × Step)) (h : List Entry) : Type 0 where
+  pub entries : (left : List (ℕ × Step)) → entries_left (opening header) h left ≡ entries_left (opening header) [] (steps ++ left)
+  pub legal : IsLegal (opening header) h
 
--- the first of what is left
-pub split : (steps : List (ℕ × Step)) (i : ℕ) → i < length steps → drop i steps ≡ get_or steps i (0, Acquire X 0) ∷ drop (i + 1) steps
-split steps i lt = rw add-one (drop-cons steps i (0, Acquire X 0) lt)
+pub behind_none : (header : Header) → IsBehind header [] []
+behind_none header = record { entries = λ left. refl; legal = tt }
+
+pub behind_more : (header : Header) (steps : List (ℕ × Step)) (h : List Entry) (x : ℕ × Step) (h' : List Entry) → IsBehind header steps h → x.0 < header.seats → h' ≡ (answer (opening header) h x.0 x.1).1 → IsBehind header (steps ++ x ∷ []) h'
+behind_more header steps h x h' behind below q =
+    let s = opening header in
+    record {
+      entries = λ left. sym (entries_left-cons s h x left h' q) ∙ behind.entries (x ∷ left) ∙ ap (entries_left s []) (sym (append_assoc steps (x ∷ []) left));
+      legal = rw q (follows header h x.0 x.1 behind.legal below).legal;
+    }
+
+pub behind_all : (header : Header) (steps : List (ℕ × Step)) (h : List Entry) → IsBehind header steps h → h ≡ history_behind header steps
+behind_all header steps h behind =
+    let s = opening header in
+    sym (entries_left-nil s h) ∙ behind.entries [] ∙ ap (entries_left s []) (append-nil steps) ∙ entries_left-is s [] steps
 
 -- ---- a replay under way
 
--- What was written, with the lines that are left, is all; and so is the history.
-pub record Told (header : Header) (front : List ℕ) (all : List (ℕ × Step)) (out : List ℕ) (h : List Entry) (number ended_calls : ℕ) (left : List (ℕ × Step)) : Type 0 where
-  pub lines : out ++ lines_left (opening header) h number left ≡ front ++ lines_left (opening header) [] 0 all
-  pub entries : entries_left (opening header) h left ≡ entries_left (opening header) [] all
+-- Behind these steps of a text, whatever follows: what was written, with the lines that are left, is all; and
+-- so is the history.
+pub record Told (header : Header) (front : List ℕ) (steps : List (ℕ × Step)) (out : List ℕ) (h : List Entry) (number ended_calls : ℕ) : Type 0 where
+  pub lines : (left : List (ℕ × Step)) → out ++ lines_left (opening header) h number left ≡ front ++ lines_left (opening header) [] 0 (steps ++ left)
+  pub behind : IsBehind header steps h
   pub count : number ≡ length h
   pub calls : ended_calls ≡ calls (opening header) h
-  pub legal : IsLegal (opening header) h
 
-pub told_more : (header : Header) (front : List ℕ) (all : List (ℕ × Step)) (out : List ℕ) (h : List Entry) (number ended_calls : ℕ) (x : ℕ × Step) (left : List (ℕ × Step)) (r : Result Answer Fault) (out' : List ℕ) (h' : List Entry)
-    → Told header front all out h number ended_calls (x ∷ left) → x.0 < header.seats → r ≡ (answer (opening header) h x.0 x.1).0 → h' ≡ (answer (opening header) h x.0 x.1).1 → out' ≡ out ++ ended (answer_line number x.0 r)
-    → Told header front all out' h' (number + entries_of r) (ended_calls + calls_of r) left
-told_more header front all out h number ended_calls x left r out' h' told below p q o =
+-- nothing was told yet
+pub told_none : (header : Header) (front : List ℕ) → Told header front [] front [] 0 0
+told_none header front = record { lines = λ left. refl; behind = behind_none header; count = refl; calls = refl }
+
+pub told_more : (header : Header) (front : List ℕ) (steps : List (ℕ × Step)) (out : List ℕ) (h : List Entry) (number ended_calls : ℕ) (x : ℕ × Step) (r : Result Answer Fault) (out' : List ℕ) (h' : List Entry)
+    → Told header front steps out h number ended_calls → x.0 < header.seats → r ≡ (answer (opening header) h x.0 x.1).0 → h' ≡ (answer (opening header) h x.0 x.1).1 → out' ≡ out ++ ended (answer_line number x.0 r)
+    → Told header front (steps ++ x ∷ []) out' h' (number + entries_of r) (ended_calls + calls_of r)
+told_more header front steps out h number ended_calls x r out' h' told below p q o =
     let s = opening header in
-    let f : Follows header h r h' = rw (p, q) (follows header h x.0 x.1 told.legal below) in
+    let f : Follows header h r h' = rw (p, q) (follows header h x.0 x.1 told.behind.legal below) in
     let line = ended (answer_line number x.0 r) in
-    let rest = lines_left s h' (number + entries_of r) left in
-    let next : out ++ lines_left s h number (x ∷ left) ≡ out' ++ rest =
-    ap (λ (t : List ℕ). out ++ t) (lines_left-cons s h number x left r h' p q) ∙ sym (append_assoc out line rest) ∙ ap (λ (t : List ℕ). t ++ rest) (sym o) in
+    let next : (left : List (ℕ × Step)) → out ++ lines_left s h number (x ∷ left) ≡ out' ++ lines_left s h' (number + entries_of r) left =
+    λ left. ap (λ (t : List ℕ). out ++ t) (lines_left-cons s h number x left r h' p q) ∙ sym (append_assoc out line (lines_left s h' (number + entries_of r) left)) ∙ ap (λ (t : List ℕ). t ++ lines_left s h' (number + entries_of r) left) (sym o) in
     record {
-      lines = sym next ∙ told.lines;
-      entries = sym (entries_left-cons s h x left h' q) ∙ told.entries;
+      lines = λ left. sym (next left) ∙ told.lines (x ∷ left) ∙ ap (λ (t : List (ℕ × Step)). front ++ lines_left s [] 0 t) (sym (append_assoc steps (x ∷ []) left));
+      behind = behind_more header steps h x h' told.behind below q;
       count = omega (arith, told.count, f.entries);
       calls = omega (arith, told.calls, f.calls);
-      legal = f.legal;
     }
 
 -- nothing is left
-pub told_all : (h : Header) (front : List ℕ) (all : List (ℕ × Step)) (out : List ℕ) (entries : List Entry) (number ended_calls : ℕ) (left : List (ℕ × Step)) (out' : List ℕ)
-    → Told h front all out entries number ended_calls left → left ≡ [] → out' ≡ (out ++ counts_line number ended_calls) ++ 10 ∷ []
-    → out' ≡ front ++ answer_lines 0 all (results (opening h) [] all).0 ++ ended (counts_line (length (history_behind h all)) (calls (opening h) (history_behind h all)))
-told_all h front all out entries number ended_calls left out' told none o =
+pub told_all : (h : Header) (front : List ℕ) (steps : List (ℕ × Step)) (out : List ℕ) (entries : List Entry) (number ended_calls : ℕ) (out' : List ℕ)
+    → Told h front steps out entries number ended_calls → out' ≡ (out ++ counts_line number ended_calls) ++ 10 ∷ []
+    → out' ≡ front ++ answer_lines 0 steps (results (opening h) [] steps).0 ++ ended (counts_line (length (history_behind h steps)) (calls (opening h) (history_behind h steps)))
+told_all h front steps out entries number ended_calls out' told o =
     let s = opening h in
-    let written : out ≡ front ++ answer_lines 0 all (results s [] all).0 =
-    sym (ap (λ (t : List ℕ). out ++ t) (lines_left-nil s entries number) ∙ append-nil out) ∙ rw none at told.lines ∙ ap (λ (t : List ℕ). front ++ t) (lines_left-is s [] 0 all) in
-    let behind : entries ≡ history_behind h all = sym (entries_left-nil s entries) ∙ rw none at told.entries ∙ entries_left-is s [] all in
-    let count : number ≡ length (history_behind h all) = told.count ∙ ap (λ (t : List Entry). length t) behind in
-    let ends : ended_calls ≡ calls s (history_behind h all) = told.calls ∙ ap (calls s) behind in
-    let last : counts_line number ended_calls ≡ counts_line (length (history_behind h all)) (calls s (history_behind h all)) =
-    ap (λ (n : ℕ). counts_line n ended_calls) count ∙ ap (λ (n : ℕ). counts_line (length (history_behind h all)) n) ends in
+    let whole : lines_left s [] 0 (steps ++ []) ≡ answer_lines 0 steps (results s [] steps).0 = ap (lines_left s [] 0) (append-nil steps) ∙ lines_left-is s [] 0 steps in
+    let written : out ≡ front ++ answer_lines 0 steps (results s [] steps).0 =
+    sym (ap (λ (t : List ℕ). out ++ t) (lines_left-nil s entries number) ∙ append-nil out) ∙ told.lines [] ∙ ap (λ (t : List ℕ). front ++ t) whole in
+    let behind : entries ≡ history_behind h steps = behind_all h steps entries told.behind in
+    let count : number ≡ length (history_behind h steps) = told.count ∙ ap (λ (t : List Entry). length t) behind in
+    let ends : ended_calls ≡ calls s (history_behind h steps) = told.calls ∙ ap (calls s) behind in
+    let last : counts_line number ended_calls ≡ counts_line (length (history_behind h steps)) (calls s (history_behind h steps)) =
+    ap (λ (n : ℕ). counts_line n ended_calls) count ∙ ap (λ (n : ℕ). counts_line (length (history_behind h steps)) n) ends in
     o ∙ append_assoc out (counts_line number ended_calls) (10 ∷ []) ∙ ap (λ (t : List ℕ). out ++ ended t) last
-    ∙ ap (λ (t : List ℕ). t ++ ended (counts_line (length (history_behind h all)) (calls s (history_behind h all)))) written
+    ∙ ap (λ (t : List ℕ). t ++ ended (counts_line (length (history_behind h steps)) (calls s (history_behind h steps)))) written
 
 -- ---- what a core answers
 

@@ -1,22 +1,24 @@
 //! The replay text.
 
-ghost use Rattle.std.specs.Prelude.{◌≡◌, ◌++◌, ◌≤◌, ◌<◌, ◌↔◌, [], All, OnOk, IfOk, IsTrue, Err, if◌then◌else◌};
-ghost use Rattle.history.specs.Header.{IsInRange};
+ghost use Rattle.std.specs.Prelude.{◌≡◌, ◌++◌, ◌≤◌, ◌<◌, ◌↔◌, [], OnOk, IfOk, IfErr, IsTrue, Err};
 ghost use Rattle.history.specs.Text.{ended};
+ghost use Rattle.steps.specs.StepsText.{steps_form};
+ghost use Rattle.steps.specs.StepsRead.{AreRead};
 ghost use Rattle.driver.specs.Replay.{HasLine, calls_of};
-ghost use Rattle.driver.specs.ReplayText.{answer_line, entries_of, header_line, history_behind, replay_text};
+ghost use Rattle.driver.specs.ReplayStream.{IsDriven, Replayed};
+ghost use Rattle.driver.specs.ReplayText.{answer_line, entries_of};
+ghost use Rattle.driver.specs.Streams.{IsOfText};
 
 use crate::answering::Answering;
+use crate::form::Form;
+use crate::stream_fault::StreamFault;
 use history::entry::Word;
 use history::fault::Fault;
-use history::header::Header;
 use history::number::put_number;
-use history::step::{Answer, Step};
+use history::step::Answer;
 use history_text::entry_line::{put_counts, put_entry};
 use std::alloc::{AllocError, Global};
-
-/// More than the length of most answers' lines: the text is made for lines of this length.
-const LINE_LENGTH: usize = 32;
+use steps::StepLines;
 
 /// Appends the line of an answer, or a front of it.
 #[inline(always)]
@@ -88,33 +90,35 @@ fn calls_in(answer: &Result<Answer, Fault>) -> u64
     }
 }
 
-/// The answers of a fresh object to the steps: each step is answered, and its line written, in turn.
+/// The answers of a fresh object to the steps of a text: each line is read, its step answered, and the
+/// answer's line added to the text of the answers, in turn.
 ///
-/// A step that is refused for want of memory ends the replay.
+/// A fault of the text ends the replay, and so does a step that is refused for want of memory.
 pub fn replay<O: Answering>(
     alloc: Global,
-    header: &Header,
     object: &mut O,
-    steps: &[(u16, Step)],
-) -> Result<Vec<u8>, AllocError>
-    requires header { (O.view_of object.old).header ≡ header.now }
+    lines: &mut StepLines<'_>,
+) -> Result<Vec<u8>, StreamFault>
+    requires header { (O.view_of object.old).header ≡ lines.old.header }
     requires fresh { (O.view_of object.old).entries ≡ [] }
-    requires range { IsInRange header.now }
-    requires seats { All (λ s. s.0 < header.now.seats) steps.now }
-    ensures { IfOk result (λ text. text.items ≡ replay_text header.now steps.now) }
+    requires start { AreRead lines.old [] }
+    ensures ok { IfOk result (λ text. Replayed Form.Replay lines.old.text (λ written. text.items ≡ written)) }
+    ensures err { IfErr result (IsOfText steps_form lines.old.text) }
 {
-    let mut out = Vec::with_capacity(alloc, steps.len().saturating_mul(LINE_LENGTH))?;
+    let mut out = Vec::with_capacity(alloc, lines.left().saturating_mul(2))?;
     out.extend_from_slice(b"aqs-replay 1 ")?;
-    header.write_part(&mut out).map_err(|_| AllocError)?;
+    if lines.header().write_part(&mut out).is_err() {
+        return Err(StreamFault::Memory);
+    }
     out.push(b'\n')?;
     let mut entries: u64 = 0;
     let mut calls: u64 = 0;
-    for step in steps {
-        let answer = object.answer(step.0, step.1);
+    while let Some((seat, step)) = lines.next()? {
+        let answer = object.answer(seat, step);
         if lacks_memory(&answer) {
-            return Err(AllocError);
+            return Err(StreamFault::Memory);
         }
-        put_answer(&mut out, entries, step.0, &answer)?;
+        put_answer(&mut out, entries, seat, &answer)?;
         entries += entries_in(&answer);
         calls += calls_in(&answer);
     }
@@ -123,21 +127,18 @@ pub fn replay<O: Answering>(
     Ok(out)
 }
 
-/// Has a fresh object answer the steps, for the history that it keeps of them.
-pub fn drive<O: Answering>(
-    object: &mut O,
-    header: &Header,
-    steps: &[(u16, Step)],
-) -> Result<(), AllocError>
-    requires header { (O.view_of object.old).header ≡ header.now }
+/// Has a fresh object answer the steps of a text, for the history that it keeps of them.
+pub fn drive<O: Answering>(object: &mut O, lines: &mut StepLines<'_>) -> Result<(), StreamFault>
+    requires header { (O.view_of object.old).header ≡ lines.old.header }
     requires fresh { (O.view_of object.old).entries ≡ [] }
-    requires seats { All (λ s. s.0 < header.now.seats) steps.now }
-    ensures { OnOk result ((O.view_of object.new).entries ≡ history_behind header.now steps.now) }
+    requires start { AreRead lines.old [] }
+    ensures ok { OnOk result (IsDriven lines.old (O.view_of object.new).entries) }
+    ensures err { IfErr result (IsOfText steps_form lines.old.text) }
 {
-    for step in steps {
-        let answer = object.answer(step.0, step.1);
+    while let Some((seat, step)) = lines.next()? {
+        let answer = object.answer(seat, step);
         if lacks_memory(&answer) {
-            return Err(AllocError);
+            return Err(StreamFault::Memory);
         }
     }
     Ok(())

@@ -1,9 +1,9 @@
 //! A steps text is answered by a replay text, or by a history text.
 
-ghost use Rattle.std.specs.Prelude.{◌≡◌, ◌<◌, ◌↔◌, [], All, false, IsTrue, IfErr, IfOk, IsErrOf};
-ghost use Rattle.history.specs.Header.{IsInRange};
+ghost use Rattle.std.specs.Prelude.{◌≡◌, ◌↔◌, [], false, IsTrue, IfErr, IfOk, IsErrOf};
 ghost use Rattle.steps.specs.StepsText.{steps_form};
-ghost use Rattle.driver.specs.ReplayStream.{answer_text, Replayed, Replays};
+ghost use Rattle.steps.specs.StepsRead.{AreRead};
+ghost use Rattle.driver.specs.ReplayStream.{Replayed, Replays};
 ghost use Rattle.driver.specs.Streams.{IsOfText};
 
 use crate::answering::Answering;
@@ -17,14 +17,12 @@ use counting::latch::LatchHooks;
 use counting::semaphore::SemaphoreHooks;
 use frame::hooks::Hooks;
 use frame::machine::Core;
-use history::header::{Header, Object};
-use history::step::Step;
+use history::header::Object;
 use history_text::write_text;
-use line_text::fault::TextFault;
 use read_write::hooks::RwHooks;
 use reentrant::lock::LockHooks;
-use std::alloc::{AllocError, Global};
-use steps::read_steps;
+use std::alloc::Global;
+use steps::StepLines;
 
 /// Reads a steps text, and writes what a fresh object of its header answers to the steps.
 ///
@@ -55,38 +53,31 @@ fn answer_of(alloc: Global, bytes: &[u8], form: Form) -> Result<Vec<u8>, StreamF
     ensures ok { IfOk result (λ text. Replayed form bytes.now (λ written. text.items ≡ written)) }
     ensures err { IfErr result (IsOfText steps_form bytes.now) }
 {
-    let text = match read_steps(alloc, bytes) {
-        Ok(text) => text,
-        Err(TextFault::OutOfMemory) => return Err(StreamFault::Memory),
-        Err(fault) => return Err(StreamFault::Text(fault)),
-    };
-    match answer_text(alloc, &text.header, &text.steps, form) {
-        Ok(written) => Ok(written),
-        Err(_) => Err(StreamFault::Memory),
-    }
+    let mut lines = StepLines::open(bytes)?;
+    answer_text(alloc, &mut lines, form)
 }
 
-/// What is written of an object's answers to the steps.
+/// What is written of an object's answers to the steps of a text.
 fn answered<O: Answering>(
     alloc: Global,
-    header: &Header,
     object: &mut O,
-    steps: &[(u16, Step)],
+    lines: &mut StepLines<'_>,
     form: Form,
-) -> Result<Vec<u8>, AllocError>
-    requires header { (O.view_of object.old).header ≡ header.now }
+) -> Result<Vec<u8>, StreamFault>
+    requires header { (O.view_of object.old).header ≡ lines.old.header }
     requires fresh { (O.view_of object.old).entries ≡ [] }
-    requires range { IsInRange header.now }
-    requires seats { All (λ s. s.0 < header.now.seats) steps.now }
-    ensures { IfOk result (λ text. text.items ≡ answer_text form header.now steps.now) }
+    requires start { AreRead lines.old [] }
+    ensures ok { IfOk result (λ text. Replayed form lines.old.text (λ written. text.items ≡ written)) }
+    ensures err { IfErr result (IsOfText steps_form lines.old.text) }
 {
     match form {
-        Form::Replay => replay(alloc, header, object, steps),
+        Form::Replay => replay(alloc, object, lines),
         Form::History => {
-            drive(object, header, steps)?;
-            match write_text(alloc, header, object.history()) {
+            let header = *lines.header();
+            drive(object, lines)?;
+            match write_text(alloc, &header, object.history()) {
                 Ok(text) => Ok(text),
-                Err(_) => Err(AllocError),
+                Err(_) => Err(StreamFault::Memory),
             }
         }
     }
@@ -95,49 +86,43 @@ fn answered<O: Answering>(
 /// What is written of the answers of a core of these hooks.
 fn opened<H: Hooks + Drop>(
     alloc: Global,
-    header: &Header,
     hooks: H,
-    steps: &[(u16, Step)],
+    lines: &mut StepLines<'_>,
     form: Form,
-) -> Result<Vec<u8>, AllocError>
-    requires hooks { H.is_opened hooks header.now.seats }
-    requires object { H.object_of hooks ≡ header.now.object }
-    requires range { IsInRange header.now }
-    requires seats { All (λ s. s.0 < header.now.seats) steps.now }
-    ensures { IfOk result (λ text. text.items ≡ answer_text form header.now steps.now) }
+) -> Result<Vec<u8>, StreamFault>
+    requires hooks { H.is_opened hooks lines.old.header.seats }
+    requires object { H.object_of hooks ≡ lines.old.header.object }
+    requires start { AreRead lines.old [] }
+    ensures ok { IfOk result (λ text. Replayed form lines.old.text (λ written. text.items ≡ written)) }
+    ensures err { IfErr result (IsOfText steps_form lines.old.text) }
 {
+    let header = *lines.header();
     match Core::open(alloc, hooks, header.seats, header.conditions, header.cap) {
-        Ok(mut core) => answered(alloc, header, &mut core, steps, form),
-        Err(_) => Err(AllocError),
+        Ok(mut core) => answered(alloc, &mut core, lines, form),
+        Err(_) => Err(StreamFault::Memory),
     }
 }
 
-/// What is written of the answers of a fresh object of the header.
+/// What is written of the answers of a fresh object of the text's header.
 fn answer_text(
     alloc: Global,
-    header: &Header,
-    steps: &[(u16, Step)],
+    lines: &mut StepLines<'_>,
     form: Form,
-) -> Result<Vec<u8>, AllocError>
-    requires range { IsInRange header.now }
-    requires seats { All (λ s. s.0 < header.now.seats) steps.now }
-    ensures { IfOk result (λ text. text.items ≡ answer_text form header.now steps.now) }
+) -> Result<Vec<u8>, StreamFault>
+    requires start { AreRead lines.old [] }
+    ensures ok { IfOk result (λ text. Replayed form lines.old.text (λ written. text.items ≡ written)) }
+    ensures err { IfErr result (IsOfText steps_form lines.old.text) }
 {
-    match header.object {
-        Object::Lock(policy) => opened(alloc, header, LockHooks::open(policy), steps, form),
-        Object::ReadWrite(policy) => match RwHooks::open(alloc, policy, header.seats) {
-            Ok(hooks) => opened(alloc, header, hooks, steps, form),
-            Err(_) => Err(AllocError),
+    let seats = lines.header().seats;
+    match lines.header().object {
+        Object::Lock(policy) => opened(alloc, LockHooks::open(policy), lines, form),
+        Object::ReadWrite(policy) => match RwHooks::open(alloc, policy, seats) {
+            Ok(hooks) => opened(alloc, hooks, lines, form),
+            Err(_) => Err(StreamFault::Memory),
         },
         Object::Semaphore(policy, permits) => {
-            opened(
-                alloc,
-                header,
-                SemaphoreHooks::open(policy, permits),
-                steps,
-                form,
-            )
+            opened(alloc, SemaphoreHooks::open(policy, permits), lines, form)
         }
-        Object::Latch(count) => opened(alloc, header, LatchHooks::open(count), steps, form),
+        Object::Latch(count) => opened(alloc, LatchHooks::open(count), lines, form),
     }
 }

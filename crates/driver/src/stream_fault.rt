@@ -1,6 +1,10 @@
 //! Why a stream was not answered.
 
+ghost use Rattle.std.specs.Prelude.{◌≡◌};
+ghost use Rattle.driver.specs.declared.stream_fault.StreamFault.TheVariants.{Text, Memory};
+
 use line_text::fault::TextFault;
+use std::alloc::{AllocError, AllocFailed};
 use thiserror::Error;
 
 /// Why a stream was not answered.
@@ -18,4 +22,28 @@ pub enum StreamFault {
     /// Memory was refused; nothing was written.
     #[error("out of memory")]
     Memory,
+}
+
+impl From<TextFault> for StreamFault {
+    ghost from_gives = { λ fault e. e ≡ Text fault };
+
+    fn from(fault: TextFault) -> StreamFault {
+        StreamFault::Text(fault)
+    }
+}
+
+impl From<AllocError> for StreamFault {
+    ghost from_gives = { λ _ e. e ≡ Memory };
+
+    fn from(_e: AllocError) -> StreamFault {
+        StreamFault::Memory
+    }
+}
+
+impl<T: Drop> From<AllocFailed<T>> for StreamFault {
+    ghost from_gives = { λ _ e. e ≡ Memory };
+
+    fn from(_e: AllocFailed<T>) -> StreamFault {
+        StreamFault::Memory
+    }
 }

@@ -1,6 +1,6 @@
 //! The steps of a text, one line after another.
 
-ghost use Rattle.std.specs.Prelude.{◌≡◌, ◌<◌, [], length, Err, IfOk, IfErr, IfSome};
+ghost use Rattle.std.specs.Prelude.{◌≡◌, ◌<◌, ◌^◌, [], length, Err, IfOk, IfErr, IfSome};
 ghost use Rattle.line_text.specs.Reading.{IsReading};
 ghost use Rattle.steps.specs.StepsText.{steps_form};
 ghost use Rattle.steps.specs.StepsRead.{AreRead, IsLineOf, IsNext};
@@ -62,6 +62,13 @@ impl<'a> StepLines<'a> {
         &self.header
     }
 
+    /// How many bytes are still to be read.
+    pub fn left(&self) -> usize
+        ensures { result ≡ length self.now.rest }
+    {
+        self.rest.len()
+    }
+
     /// The seat and the step of the next line, and what follows it, or None where that is the end line.
     #[inline(never)]
     fn line(&self) -> Result<Option<((u16, Step), &'a [u8])>, TextFault>
@@ -98,7 +105,9 @@ impl<'a> StepLines<'a> {
     pub fn next(&mut self) -> Result<Option<(u16, Step)>, TextFault>
         ensures text { self.new.text ≡ self.old.text }
         ensures header { self.new.header ≡ self.old.header }
+        ensures few { self.new.count < 2 ^ 64 }
         ensures next { IsNext self.old result self.new }
+        ensures seated { IfOk result (λ next. IfSome next (λ step. step.0 < self.old.header.seats)) }
         ensures shorter { IfOk result (λ next. IfSome next (λ _. length self.new.rest < length self.old.rest)) }
     {
         let Some((step, after)) = self.ahead()? else {

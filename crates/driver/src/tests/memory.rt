@@ -16,7 +16,6 @@ use crate::replay_stream::replay_stream;
 use crate::stream_fault::StreamFault;
 use frame::machine::Core;
 use history::entries::History;
-use history::entry::Mode;
 use history::fault::Fault;
 use history::header::{Header, Object, Policy};
 use history::step::{Answer, Step};
@@ -24,6 +23,7 @@ use reentrant::lock::LockHooks;
 use std::alloc::Global;
 use std::process::Abort;
 use std::test::Fail;
+use steps::StepLines;
 
 /// Takes what the heap gives, down to blocks of so many bytes, the largest first.
 pub fn all_memory(alloc: Global, least: usize) -> Result<Vec<Vec<u8>>, Fail> {
@@ -144,32 +144,28 @@ fn lock_of(alloc: Global, header: &Header) -> Result<Core<LockHooks>, Fault>
     Core::open(alloc, hooks, header.seats, header.conditions, header.cap)
 }
 
+const ONE_LOCK: &[u8] = b"aqs-steps 1 lock fair seats 2 conditions 0 cap 64\n0 acquire x 1\n1 try x 1\n1 look\n0 give x 1\nend 4\n";
+
+/// Whether the replay goes on to the end, and the history's too, where so many steps find memory.
+fn goes_on<R: Abort + AllocGlobal>(rt: &R, fed: usize) -> Result<(bool, bool), Fail> {
+    let mut lines = StepLines::open(ONE_LOCK)?;
+    let header = *lines.header();
+    assert!(rt; header.object == Object::Lock(Policy::Fair));
+    assert!(rt; header.in_range());
+    let core = lock_of(rt.alloc(), &header)?;
+    let text = replay(rt.alloc(), &mut Starving { core, fed }, &mut lines);
+    let core = lock_of(rt.alloc(), &header)?;
+    let mut lines = StepLines::open(ONE_LOCK)?;
+    let driven = drive(&mut Starving { core, fed }, &mut lines);
+    Ok((text.is_ok(), driven.is_ok()))
+}
+
 #[test]
 fn a_step_without_memory_ends_the_replay(rt: HostRuntime) -> Result<(), Fail> {
-    let header = Header {
-        object: Object::Lock(Policy::Fair),
-        seats: 2,
-        conditions: 0,
-        cap: 64,
-    };
-    assert!(rt; header.in_range());
-    let steps = [
-        (0, Step::Acquire(Mode::X, 1)),
-        (1, Step::Try(Mode::X, 1)),
-        (1, Step::Look),
-        (0, Step::Give(Mode::X, 1)),
-    ];
-    for fed in 0..=steps.len() {
-        let core = lock_of(rt.alloc(), &header)?;
-        let mut lock = Starving { core, fed };
-        let text = replay(rt.alloc(), &header, &mut lock, &steps);
-        assert_eq!(rt; text.is_ok(), fed == steps.len());
-        let core = lock_of(rt.alloc(), &header)?;
-        let mut lock = Starving { core, fed };
-        assert_eq!(rt;
-            drive(&mut lock, &header, &steps).is_ok(),
-            fed == steps.len()
-        );
+    for fed in 0..=4 {
+        let (text, driven) = goes_on(&rt, fed)?;
+        assert_eq!(rt; text, fed == 4);
+        assert_eq!(rt; driven, fed == 4);
     }
     Ok(())
 }

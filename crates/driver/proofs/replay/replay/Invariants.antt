@@ -1,13 +1,17 @@
-use Rattle.std.proofs.Common.{◌≡◌, ◌≤◌, ◌++◌, drop}
+use Rattle.std.proofs.Common.{◌≡◌, ◌≤◌, length}
 use Rattle.history.specs.Text.{ended}
 use Rattle.driver.specs.ReplayText.{header_line}
-use Rattle.driver.proofs.Told.{Told}
+use Rattle.driver.proofs.Driven.{Telling}
 use Rattle.driver.proofs.replay.replay.Given as goal
 
-abbrev pub invariant-loop-step : goal.invariant-loop-step
-invariant-loop-step g l = record {
-  header : (g.O.Answering.view_of l.object).header ≡ l.header;
-  told : Told l.header (ended (header_line l.header)) l.steps l.out.items (g.O.Answering.view_of l.object).entries l.entries l.calls (drop l.step-index l.steps);
-  few_entries : l.entries ≤ l.step-index;
-  few_calls : l.calls ≤ l.step-index;
+abbrev pub invariant-loop-out : goal.invariant-loop-out
+invariant-loop-out g l = record {
+  text : l.lines.text ≡ l.initial.lines.text;
+  header : (g.O.Answering.view_of l.object).header ≡ l.lines.header;
+  telling : Telling (ended (header_line l.lines.header)) l.lines l.out.items (g.O.Answering.view_of l.object).entries l.entries l.calls;
+  few_entries : l.entries ≤ l.lines.count;
+  few_calls : l.calls ≤ l.lines.count;
 }
+
+abbrev pub decreases-loop-out : goal.decreases-loop-out
+decreases-loop-out g l = length l.lines.rest

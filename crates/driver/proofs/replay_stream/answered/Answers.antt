@@ -1,6 +1,11 @@
 use Rattle.std.proofs.Common.{◌≡◌, All, reverse, sym, ap, ◌∙◌}
-use Rattle.driver.proofs.Behind.{spelt_behind}
+use Rattle.history_text.specs.HistoryText.{history_text}
+use Rattle.driver.proofs.Driven.{spelt_driven, replayed_driven}
 use Rattle.driver.proofs.replay_stream.answered.Goals as goal
 
 pub write_text-requires-clause-spelt : goal.write_text-requires-clause-spelt
-write_text-requires-clause-spelt g c = rw (c.history.ensures, c.in_ok-drive-in-History.ensures) (spelt_behind c.args.header.now c.args.steps.now c.requires.seats)
+write_text-requires-clause-spelt g c = rw c.history.ensures (spelt_driven c.args.lines.now _ c.in_ok-drive-in-History.ensures.ok)
+
+pub returns-in-Ok-clause-ok : goal.returns-in-Ok-clause-ok
+returns-in-Ok-clause-ok g c =
+    rw c.in-History.is (replayed_driven c.args.lines.now _ c.in-Ok.text.items c.in_ok-drive-in-History.ensures.ok (rw (c.history.ensures, c.header.ensures) at c.in-Ok.ensures.ok))
