@@ -27,6 +27,7 @@ pub trait Answering {
 impl<H: Hooks + Drop> Answering for Core<H> {
     ghost view_of = { λ c. record { header = c.header; entries = c.entries } };
 
+    #[inline(always)]
     fn answer(&mut self, seat: u16, step: Step) -> Result<Answer, Fault> {
         self.step(seat, step)
     }
