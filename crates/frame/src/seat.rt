@@ -103,6 +103,7 @@ fn in_holds(object: Object, n: u32) -> u64
 }
 
 /// Has a table of seats tell what an entry makes of its seat.
+#[inline(always)]
 pub fn update(seats: &mut Vec<Seat>, object: Object, entry: Entry)
     requires seat { entry.seat < length seats.old.items }
     requires exclusive { (seat_behind object entry seats.old.items).exclusive < 2 ^ 32 }

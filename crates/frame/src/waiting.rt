@@ -12,6 +12,7 @@ use history::arrival::Arrival;
 use history::entry::{Entry, Mode, Word};
 
 /// Has those join, leave and move of whom an entry says so. It takes no memory.
+#[inline(always)]
 pub fn move_waiters(queue: &mut Queue, waiters: &mut Waiters, entry: Entry)
     requires movable { IsMovable entry queue.old waiters.old }
     ensures line { queue.new.arrivals

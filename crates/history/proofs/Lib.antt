@@ -6,6 +6,7 @@ pub mod Readers
 pub mod EntryAgain
 pub mod Breaks
 pub mod Writing
+pub mod AskedOnce
 pub mod Lists
 pub mod LineLemmas
 pub mod Sums

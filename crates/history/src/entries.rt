@@ -11,7 +11,7 @@ use std::alloc::Global;
 use std::marker::Model;
 use std::mem::size_of;
 
-const _: () = prove!(size_of::<Entry>() <= 16);
+const _: () = prove!(size_of::<Entry>() <= 12);
 
 /// The entries of a history in their order, at most `cap` of them.
 ///

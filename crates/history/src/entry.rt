@@ -57,12 +57,12 @@ pub enum Word {
 /// What one seat did, and what came of it.
 #[derive(Clone, Copy, Debug, PartialEq, Eq)]
 pub struct Entry {
+    /// Permits, holds or sleepers, as the word says; 1 for the acquires and gives of a lock.
+    pub n: u32,
     /// The thread, as a number from 0.
     pub seat: u16,
     pub word: Word,
     pub mode: Mode,
-    /// Permits, holds or sleepers, as the word says; 1 for the acquires and gives of a lock.
-    pub n: u32,
     /// The condition of the five words of conditions, 0 elsewhere.
     pub at: u8,
     pub end: End,

@@ -1,6 +1,6 @@
 //! The words of an entry.
 
-ghost use Rattle.std.specs.Prelude.{◌≡◌, ◌∷◌, ◌++◌, [], OnOk, OnErr, take, length, decimal};
+ghost use Rattle.std.specs.Prelude.{◌≡◌, ◌∷◌, ◌++◌, [], OnOk, OnErr, take, length, codes, decimal};
 ghost use Rattle.history.specs.Text.{line_of};
 ghost use Rattle.history.specs.EntryWords.{mode_word};
 
@@ -141,18 +141,18 @@ impl Entry {
             end,
         } = *self;
         match word {
-            Word::Got => put_asked(out, b"got", mode, n),
-            Word::TryGot => put_asked(out, b"trygot", mode, n),
-            Word::Queued => put_asked(out, b"queued", mode, n),
-            Word::Granted => put_asked(out, b"granted", mode, n),
-            Word::Missed => put_asked(out, b"missed", mode, n),
+            Word::Got => put_asked(out, b"got", b"got x 1", mode, n),
+            Word::TryGot => put_asked(out, b"trygot", b"trygot x 1", mode, n),
+            Word::Queued => put_asked(out, b"queued", b"queued x 1", mode, n),
+            Word::Granted => put_asked(out, b"granted", b"granted x 1", mode, n),
+            Word::Missed => put_asked(out, b"missed", b"missed x 1", mode, n),
             Word::Left => {
-                put_asked(out, b"left", mode, n)?;
+                put_asked(out, b"left", b"left x 1", mode, n)?;
                 out.extend_from_slice(end.behind_space())
             }
-            Word::Gave => put_asked(out, b"gave", mode, n),
+            Word::Gave => put_asked(out, b"gave", b"gave x 1", mode, n),
             Word::Refused(fault) => {
-                put_asked(out, b"refused", mode, n)?;
+                put_asked(out, b"refused", b"refused x 1", mode, n)?;
                 out.push(b' ')?;
                 out.extend_from_slice(fault.name().as_bytes())
             }
@@ -168,18 +168,28 @@ impl Entry {
                 put_at(out, b"back ", at, n)?;
                 out.extend_from_slice(end.behind_space())
             }
-            Word::Counted => put_asked(out, b"counted", mode, n),
-            Word::Drained => put_asked(out, b"drained", mode, n),
+            Word::Counted => put_asked(out, b"counted", b"counted x 1", mode, n),
+            Word::Drained => put_asked(out, b"drained", b"drained x 1", mode, n),
         }
     }
 }
 
-/// Appends a name, a mode and an amount, or a front of them.
+/// Appends a name, a mode and an amount, or a front of them: what is asked for most, X of 1, in one piece.
 #[inline(always)]
-fn put_asked(out: &mut Vec<u8>, name: &[u8], mode: Mode, n: u32) -> Result<(), AllocError>
+fn put_asked(
+    out: &mut Vec<u8>,
+    name: &[u8],
+    once: &[u8],
+    mode: Mode,
+    n: u32,
+) -> Result<(), AllocError>
+    requires { once.now ≡ name.now ++ codes " x 1" }
     ensures ok { OnOk result (out.new.items ≡ out.old.items ++ line_of (name.now ∷ mode_word mode ∷ decimal n ∷ [])) }
     ensures err { OnErr result (take (length out.old.items) out.new.items ≡ out.old.items) }
 {
+    if n == 1 && mode.is_exclusive() {
+        return out.extend_from_slice(once);
+    }
     out.extend_from_slice(name)?;
     out.extend_from_slice(mode.spaced())?;
     put_number(out, u64::from(n))

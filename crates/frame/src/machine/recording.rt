@@ -65,6 +65,7 @@ impl<H: Hooks + Drop> Core<H> {
     ///
     /// After a fault nothing has changed. What ends a wait, gives a hold back or moves a sleeper always finds
     /// room and memory.
+    #[inline(always)]
     pub fn step(&mut self, seat: u16, step: Step) -> Result<Answer, Fault>
         requires { seat < self.old.header.seats }
         ensures answered { IsAnswered self.old seat step result self.new }
