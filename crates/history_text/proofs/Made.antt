@@ -1,5 +1,5 @@
 -- An entry that a step makes is of the step's seat, and refuses for a fault that is recorded.
-use Rattle.std.proofs.Common.{◌≡◌, ℕ, Bool, true, false, cond, List, Some, None, refl, subst, arith}
+use Rattle.std.proofs.Common.{◌≡◌, ℕ, Bool, true, false, cond, List, length, Some, None, refl, subst, arith}
 use Rattle.history.specs.declared.arrival.Arrival.{Arrival}
 use Rattle.history.specs.declared.entry.End.{End}
 use Rattle.history.specs.declared.entry.End.TheVariants as end
@@ -14,12 +14,14 @@ use Rattle.history.specs.declared.header.Object.TheVariants.{Lock, ReadWrite, Se
 use Rattle.history.specs.declared.step.Step.{Step}
 use Rattle.history.specs.declared.step.Step.TheVariants.{Acquire, Try, TryFair, EntryInterrupt, Give, Look, Expire, Interrupt, Await, Signal, SignalAll, Drain}
 use Rattle.history.specs.Could.{is_seat}
-use Rattle.history.specs.Counts.{Counts, counts}
+use Rattle.std.specs.Prelude.{not}
+use Rattle.history.specs.Counts.{Counts, counts, owner}
+use Rattle.history.specs.Sleepers.{sleepers}
 use Rattle.history.specs.Fault.{IsRecorded}
 use Rattle.history.specs.Naming.{ready}
 use Rattle.history.specs.Phase.{Phase, Idle, InLine, Sleeping}
 use Rattle.history.specs.Start.{Start}
-use Rattle.history.specs.Steps.{phase_entry, idle_entry, queued_entry, sleeping_entry, plain, ended, back, lapse, gave}
+use Rattle.history.specs.Steps.{phase_entry, idle_entry, queued_entry, sleeping_entry, plain, ended, back, lapse, gave, signals, at_most_one}
 
 abbrev pub RefusesByRecorded : Word → Type 0
 RefusesByRecorded (word.Refused f) = IsRecorded f
@@ -75,6 +77,9 @@ signals_by : (w : Word) (n i c : ℕ) (b : Bool) → RefusesByRecorded w → IsM
 signals_by w n i c true r = made_plain i (word.Refused fault.NotOwner) X 1 (omega arith)
 signals_by w n i c false r = on_condition i w n c r
 
+signals_made : (k : Counts) (w : Word) (n i c : ℕ) → RefusesByRecorded w → IsMadeBy i (signals k w n i c)
+signals_made k w n i c r = signals_by w n i c (not (is_seat (owner k) i)) r
+
 idle_made : (s : Start) (h : List Entry) (i : ℕ) (step : Step) → IsMadeBy i (idle_entry s h i step)
 idle_made s h i (Acquire m n) = made_plain i _ m n (acquired_by _ _ _)
 idle_made s h i (Try m n) = made_plain i _ m n (tried_by _ _)
@@ -82,8 +87,8 @@ idle_made s h i (TryFair m n) = made_plain i _ m n (tried_fairly_by _ _ _)
 idle_made s h i (EntryInterrupt m n) = made_plain i _ m n (omega arith)
 idle_made s h i (Give m n) = made_plain i _ m n (gave_by s.header.object (counts s h) i m n)
 idle_made s h i (Await c) = awaits_by (counts s h) i c _ _
-idle_made s h i (Signal c) = signals_by word.Signal _ i c _ tt
-idle_made s h i (SignalAll c) = signals_by word.SignalAll _ i c _ tt
+idle_made s h i (Signal c) = signals_made (counts s h) word.Signal (at_most_one (length (sleepers s h c))) i c tt
+idle_made s h i (SignalAll c) = signals_made (counts s h) word.SignalAll (length (sleepers s h c)) i c tt
 idle_made s h i Drain = made_plain i _ S _ tt
 idle_made s h i Look = made_plain i _ X 1 tt
 idle_made s h i Expire = made_plain i _ X 1 tt
