@@ -11,6 +11,7 @@ use history::entry::{Entry, Word};
 use history::header::Object;
 
 /// Has the hooks take, give and the like what an entry says.
+#[inline(always)]
 pub fn change<H: Hooks>(hooks: &mut H, entry: Entry)
     requires { (k : Counts) × H.agrees hooks.old k × IsAllowed entry.word k entry }
     ensures changed { (k : Counts) → H.agrees hooks.old k → IsAllowed entry.word k entry
@@ -36,6 +37,7 @@ pub fn change<H: Hooks>(hooks: &mut H, entry: Entry)
 }
 
 /// For how many entries more an entry reserves room.
+#[inline(always)]
 pub fn reserves(object: Object, entry: Entry) -> u64
     ensures { result ≡ reserves object entry }
 {
@@ -48,6 +50,7 @@ pub fn reserves(object: Object, entry: Entry) -> u64
 }
 
 /// For how many entries an entry releases room.
+#[inline(always)]
 pub fn releases(object: Object, entry: Entry) -> u64
     ensures { result ≡ releases object entry }
 {

@@ -52,6 +52,7 @@ impl Seat {
     }
 
     /// Follows an entry of its own.
+    #[inline(always)]
     pub fn follow(&mut self, object: Object, entry: Entry)
         requires exclusive { (seat_after object entry self.old).exclusive < 2 ^ 32 }
         requires shared { (seat_after object entry self.old).shared < 2 ^ 64 }
@@ -78,6 +79,7 @@ impl Seat {
 }
 
 /// The holds behind an entry, of those before it in its mode.
+#[inline(always)]
 fn holds_after(object: Object, entry: Entry, had: u64) -> u64
     requires { holds_after object entry.word entry.n had < 2 ^ 64 }
     ensures { result ≡ holds_after object entry.word entry.n had }
@@ -92,6 +94,7 @@ fn holds_after(object: Object, entry: Entry, had: u64) -> u64
 }
 
 /// What a request for n is in holds.
+#[inline(always)]
 fn in_holds(object: Object, n: u32) -> u64
     ensures { result ≡ in_holds object n }
 {

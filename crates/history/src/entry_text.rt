@@ -111,6 +111,7 @@ impl Entry {
     }
 
     /// Appends the words that stand behind the seat.
+    #[inline(always)]
     pub fn write_words(&self, out: &mut Vec<u8>) -> Result<(), Fault>
         requires { IsSpelt self.now }
         ensures ok { OnOk result (out.new.items ≡ out.old.items ++ line_of (entry_words self.now)) }
@@ -128,6 +129,7 @@ impl Entry {
     }
 
     /// Appends the words, or a front of them.
+    #[inline(always)]
     fn put_words(&self, out: &mut Vec<u8>) -> Result<(), AllocError>
         ensures ok { OnOk result (out.new.items ≡ out.old.items ++ line_of (entry_words self.now)) }
         ensures err { OnErr result (take (length out.old.items) out.new.items ≡ out.old.items) }

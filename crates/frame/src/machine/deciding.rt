@@ -55,6 +55,7 @@ impl<H: Hooks + Drop> Core<H> {
         self.stands_behind(seat, mode, self.line())
     }
 
+    #[inline(always)]
     fn acquired(&self, seat: u16, mode: Mode, n: u32) -> Word
         ensures { result ≡ acquired (counts_of self.now) (first_mode_of self.now) seat mode n }
     {
@@ -96,6 +97,7 @@ impl<H: Hooks + Drop> Core<H> {
     }
 
     /// What a give makes: a hold must be the giver's own, permits mustn't pass the greatest number.
+    #[inline(always)]
     fn gave(&self, seat: u16, mode: Mode, n: u32) -> Word
         requires { seat < self.now.header.seats }
         ensures { result ≡ gave self.now.header.object (counts_of self.now) seat mode n }
@@ -162,6 +164,7 @@ impl<H: Hooks + Drop> Core<H> {
     }
 
     /// The entry of an idle seat's step.
+    #[inline(always)]
     fn idle_entry(&self, seat: u16, step: Step) -> Entry
         requires seat { seat < self.now.header.seats }
         requires admitted { refused_as self.now.header step ≡ None }
@@ -210,6 +213,7 @@ impl<H: Hooks + Drop> Core<H> {
     }
 
     /// The entry of an admitted step by the phase of its seat: in line, asleep or idle.
+    #[inline(always)]
     fn decide_in_phase(&self, seat: u16, step: Step) -> Result<Option<Entry>, Fault>
         requires seat { seat < self.now.header.seats }
         requires admitted { refused_as self.now.header step ≡ None }
@@ -238,6 +242,7 @@ impl<H: Hooks + Drop> Core<H> {
     }
 
     /// The one entry of a step, or sleep, or a fault that isn't recorded.
+    #[inline(always)]
     pub(super) fn decide(&self, seat: u16, step: Step) -> Result<Option<Entry>, Fault>
         requires { seat < self.now.header.seats }
         ensures { result ≡ entry_for (start_of self.now) self.now.entries seat step }

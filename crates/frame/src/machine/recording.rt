@@ -18,6 +18,7 @@ use history::step::{Answer, Step};
 
 impl<H: Hooks + Drop> Core<H> {
     /// Adds an entry where it has room, and has all that is kept follow it.
+    #[inline(always)]
     fn write(&mut self, entry: Entry) -> Result<(), Fault>
         requires { IsNext self.old entry }
         ensures { IsAdded self.old entry result self.new }
@@ -38,6 +39,7 @@ impl<H: Hooks + Drop> Core<H> {
     }
 
     /// Records the entry of a step, and says whom it names: who is ready behind it and wasn't before.
+    #[inline(always)]
     fn record(&mut self, entry: Entry) -> Result<Answer, Fault>
         requires { IsNext self.old entry }
         ensures recorded { IsRecorded self.old entry result self.new }
