@@ -48,30 +48,32 @@ fn entries_are_kept_in_their_order(rt: HostRuntime) -> Result<(), Fail> {
     Ok(())
 }
 
+/// Each word, and how many calls an entry of it ends.
+const ENDS: [(Word, u64); 15] = [
+    (Word::Got, 1),
+    (Word::TryGot, 1),
+    (Word::Queued, 0),
+    (Word::Granted, 1),
+    (Word::Missed, 1),
+    (Word::Left, 1),
+    (Word::Gave, 1),
+    (Word::Refused(Fault::NotOwner), 1),
+    (Word::Await, 0),
+    (Word::Lapse, 0),
+    (Word::Signal, 1),
+    (Word::SignalAll, 1),
+    (Word::Back, 1),
+    (Word::Counted, 1),
+    (Word::Drained, 1),
+];
+
 #[test]
 fn each_word_ends_a_call_but_three(rt: HostRuntime) -> Result<(), Fail> {
-    let refused = Word::Refused(Fault::NotOwner);
-    for (word, ended) in [
-        (Word::Got, 1),
-        (Word::TryGot, 1),
-        (Word::Queued, 0),
-        (Word::Granted, 1),
-        (Word::Missed, 1),
-        (Word::Left, 1),
-        (Word::Gave, 1),
-        (refused, 1),
-        (Word::Await, 0),
-        (Word::Lapse, 0),
-        (Word::Signal, 1),
-        (Word::SignalAll, 1),
-        (Word::Back, 1),
-        (Word::Counted, 1),
-        (Word::Drained, 1),
-    ] {
+    for (word, ended) in &ENDS {
         let mut history = History::open(rt.alloc(), 16);
         history.make_room(1)?;
-        history.add(of(0, word), 0);
-        assert_eq!(rt; history.calls(), ended, "{word:?}");
+        history.add(of(0, *word), 0);
+        assert_eq!(rt; history.calls(), *ended, "{word:?}");
     }
     Ok(())
 }

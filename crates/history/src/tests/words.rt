@@ -7,7 +7,10 @@ use crate::words::Words;
 use std::alloc::AllocError;
 use std::test::Fail;
 
-fn of(word: Word, mode: Mode, n: u32, at: u8, end: End) -> Entry {
+/// The fields of an entry behind its seat.
+type Fields = (Word, Mode, u32, u8, End);
+
+fn of((word, mode, n, at, end): Fields) -> Entry {
     Entry {
         seat: 3,
         word,
@@ -18,66 +21,84 @@ fn of(word: Word, mode: Mode, n: u32, at: u8, end: End) -> Entry {
     }
 }
 
+const ENTRIES: [(&str, Fields); 23] = [
+    ("got x 1", (Word::Got, Mode::X, 1, 0, End::None)),
+    ("trygot s 7", (Word::TryGot, Mode::S, 7, 0, End::None)),
+    ("queued s 0", (Word::Queued, Mode::S, 0, 0, End::None)),
+    (
+        "granted s 2147483647",
+        (Word::Granted, Mode::S, 2_147_483_647, 0, End::None),
+    ),
+    ("missed x 1", (Word::Missed, Mode::X, 1, 0, End::None)),
+    (
+        "left x 1 timeout",
+        (Word::Left, Mode::X, 1, 0, End::Timeout),
+    ),
+    (
+        "left s 20 interrupt",
+        (Word::Left, Mode::S, 20, 0, End::Interrupt),
+    ),
+    ("gave s 10", (Word::Gave, Mode::S, 10, 0, End::None)),
+    (
+        "refused x 1 NotOwner",
+        (Word::Refused(Fault::NotOwner), Mode::X, 1, 0, End::None),
+    ),
+    (
+        "refused x 1 TooManyHolds",
+        (Word::Refused(Fault::TooManyHolds), Mode::X, 1, 0, End::None),
+    ),
+    (
+        "refused s 9 TooManyPermits",
+        (
+            Word::Refused(Fault::TooManyPermits),
+            Mode::S,
+            9,
+            0,
+            End::None,
+        ),
+    ),
+    (
+        "refused s 1 Interrupted",
+        (Word::Refused(Fault::Interrupted), Mode::S, 1, 0, End::None),
+    ),
+    (
+        "refused x 1 HoldsRead",
+        (Word::Refused(Fault::HoldsRead), Mode::X, 1, 0, End::None),
+    ),
+    ("await 0 3", (Word::Await, Mode::X, 3, 0, End::None)),
+    (
+        "lapse 15 timeout",
+        (Word::Lapse, Mode::X, 0, 15, End::Timeout),
+    ),
+    (
+        "lapse 1 interrupt",
+        (Word::Lapse, Mode::X, 0, 1, End::Interrupt),
+    ),
+    ("signal 2 0", (Word::Signal, Mode::X, 0, 2, End::None)),
+    (
+        "signalall 2 12",
+        (Word::SignalAll, Mode::X, 12, 2, End::None),
+    ),
+    (
+        "back 4 3 signalled",
+        (Word::Back, Mode::X, 3, 4, End::Signalled),
+    ),
+    (
+        "back 4 3 timeout",
+        (Word::Back, Mode::X, 3, 4, End::Timeout),
+    ),
+    (
+        "back 4 3 interrupt",
+        (Word::Back, Mode::X, 3, 4, End::Interrupt),
+    ),
+    ("counted s 1", (Word::Counted, Mode::S, 1, 0, End::None)),
+    ("drained s 5", (Word::Drained, Mode::S, 5, 0, End::None)),
+];
+
 #[test]
 fn each_entry_is_read_and_written(rt: HostRuntime) -> Result<(), Fail> {
-    let x = Mode::X;
-    let s = Mode::S;
-    let none = End::None;
-    for (text, entry) in [
-        ("got x 1", of(Word::Got, x, 1, 0, none)),
-        ("trygot s 7", of(Word::TryGot, s, 7, 0, none)),
-        ("queued s 0", of(Word::Queued, s, 0, 0, none)),
-        (
-            "granted s 2147483647",
-            of(Word::Granted, s, 2_147_483_647, 0, none),
-        ),
-        ("missed x 1", of(Word::Missed, x, 1, 0, none)),
-        ("left x 1 timeout", of(Word::Left, x, 1, 0, End::Timeout)),
-        (
-            "left s 20 interrupt",
-            of(Word::Left, s, 20, 0, End::Interrupt),
-        ),
-        ("gave s 10", of(Word::Gave, s, 10, 0, none)),
-        (
-            "refused x 1 NotOwner",
-            of(Word::Refused(Fault::NotOwner), x, 1, 0, none),
-        ),
-        (
-            "refused x 1 TooManyHolds",
-            of(Word::Refused(Fault::TooManyHolds), x, 1, 0, none),
-        ),
-        (
-            "refused s 9 TooManyPermits",
-            of(Word::Refused(Fault::TooManyPermits), s, 9, 0, none),
-        ),
-        (
-            "refused s 1 Interrupted",
-            of(Word::Refused(Fault::Interrupted), s, 1, 0, none),
-        ),
-        (
-            "refused x 1 HoldsRead",
-            of(Word::Refused(Fault::HoldsRead), x, 1, 0, none),
-        ),
-        ("await 0 3", of(Word::Await, x, 3, 0, none)),
-        ("lapse 15 timeout", of(Word::Lapse, x, 0, 15, End::Timeout)),
-        (
-            "lapse 1 interrupt",
-            of(Word::Lapse, x, 0, 1, End::Interrupt),
-        ),
-        ("signal 2 0", of(Word::Signal, x, 0, 2, none)),
-        ("signalall 2 12", of(Word::SignalAll, x, 12, 2, none)),
-        (
-            "back 4 3 signalled",
-            of(Word::Back, x, 3, 4, End::Signalled),
-        ),
-        ("back 4 3 timeout", of(Word::Back, x, 3, 4, End::Timeout)),
-        (
-            "back 4 3 interrupt",
-            of(Word::Back, x, 3, 4, End::Interrupt),
-        ),
-        ("counted s 1", of(Word::Counted, s, 1, 0, none)),
-        ("drained s 5", of(Word::Drained, s, 5, 0, none)),
-    ] {
+    for (text, fields) in &ENTRIES {
+        let entry = of(*fields);
         assert_eq!(rt;
             Entry::read_words(3, text.as_bytes()),
             Some(entry),
@@ -93,93 +114,102 @@ fn each_entry_is_read_and_written(rt: HostRuntime) -> Result<(), Fail> {
     Ok(())
 }
 
+const NOT_SPELT: [Fields; 16] = [
+    (Word::Got, Mode::X, 1, 1, End::None),
+    (Word::Gave, Mode::X, 1, 0, End::Timeout),
+    (Word::Left, Mode::X, 1, 0, End::None),
+    (Word::Left, Mode::X, 1, 0, End::Signalled),
+    (Word::Left, Mode::X, 1, 2, End::Timeout),
+    (Word::Refused(Fault::OutOfPhase), Mode::X, 1, 0, End::None),
+    (Word::Refused(Fault::OutOfMemory), Mode::X, 1, 0, End::None),
+    (
+        Word::Refused(Fault::NotOwner),
+        Mode::X,
+        1,
+        0,
+        End::Interrupt,
+    ),
+    (Word::Await, Mode::S, 1, 0, End::None),
+    (Word::Lapse, Mode::X, 1, 0, End::Timeout),
+    (Word::Lapse, Mode::X, 0, 0, End::Signalled),
+    (Word::Signal, Mode::S, 1, 0, End::None),
+    (Word::Back, Mode::X, 1, 0, End::None),
+    (Word::Counted, Mode::X, 1, 0, End::None),
+    (Word::Counted, Mode::S, 2, 0, End::None),
+    (Word::Drained, Mode::X, 1, 0, End::None),
+];
+
 #[test]
 fn fields_that_no_word_spells_are_fixed(rt: HostRuntime) {
-    let x = Mode::X;
-    let s = Mode::S;
-    let none = End::None;
-    for entry in [
-        of(Word::Got, x, 1, 1, none),
-        of(Word::Gave, x, 1, 0, End::Timeout),
-        of(Word::Left, x, 1, 0, none),
-        of(Word::Left, x, 1, 0, End::Signalled),
-        of(Word::Left, x, 1, 2, End::Timeout),
-        of(Word::Refused(Fault::OutOfPhase), x, 1, 0, none),
-        of(Word::Refused(Fault::OutOfMemory), x, 1, 0, none),
-        of(Word::Refused(Fault::NotOwner), x, 1, 0, End::Interrupt),
-        of(Word::Await, s, 1, 0, none),
-        of(Word::Lapse, x, 1, 0, End::Timeout),
-        of(Word::Lapse, x, 0, 0, End::Signalled),
-        of(Word::Signal, s, 1, 0, none),
-        of(Word::Back, x, 1, 0, none),
-        of(Word::Counted, x, 1, 0, none),
-        of(Word::Counted, s, 2, 0, none),
-        of(Word::Drained, x, 1, 0, none),
-    ] {
+    for fields in &NOT_SPELT {
+        let entry = of(*fields);
         assert!(rt; !entry.is_spelt(), "{entry:?}");
     }
-    assert!(rt; !of(Word::Got, s, 2_147_483_648, 0, none).is_written());
-    assert!(rt; !of(Word::Await, x, 1, 16, none).is_written());
+    assert!(rt; !of((Word::Got, Mode::S, 2_147_483_648, 0, End::None)).is_written());
+    assert!(rt; !of((Word::Await, Mode::X, 1, 16, End::None)).is_written());
 }
+
+/// What looks like an entry's words, and isn't.
+const OTHERS: [&str; 54] = [
+    "",
+    " ",
+    "got",
+    "got x",
+    "got x 1 ",
+    " got x 1",
+    "got  x 1",
+    "got x  1",
+    "got x 1 timeout",
+    "got\tx 1",
+    "got x 1\n",
+    "got x 1\u{7f}",
+    "gott x 1",
+    "Got x 1",
+    "got X 1",
+    "got z 1",
+    "got 1 x",
+    "got x 01",
+    "got x -1",
+    "got x +1",
+    "got x 2147483648",
+    "got x 4294967297",
+    "got x 18446744073709551617",
+    "left x 1",
+    "left x 1 signalled",
+    "left x 1 interrupted",
+    "refused x 1",
+    "refused x 1 OutOfPhase",
+    "refused x 1 BadAmount",
+    "refused x 1 notowner",
+    "refused x 1 1",
+    "await 0",
+    "await x 1",
+    "await 16 1",
+    "await 256 1",
+    "await 00 1",
+    "await 0 2147483648",
+    "lapse 0",
+    "lapse 0 signalled",
+    "lapse 0 1 timeout",
+    "signal 16 1",
+    "signalall 0",
+    "signal all 0 1",
+    "back 0 1",
+    "back 0 1 none",
+    "back 16 1 timeout",
+    "counted x 1",
+    "counted s 0",
+    "counted s 2",
+    "counted s 01",
+    "counted s",
+    "drained x 1",
+    "drained s 2147483648",
+    "drained 1",
+];
 
 #[test]
 fn other_words_are_refused(rt: HostRuntime) {
-    for text in [
-        "",
-        " ",
-        "got",
-        "got x",
-        "got x 1 ",
-        " got x 1",
-        "got  x 1",
-        "got x  1",
-        "got x 1 timeout",
-        "got\tx 1",
-        "got x 1\n",
-        "got x 1\u{7f}",
-        "gott x 1",
-        "Got x 1",
-        "got X 1",
-        "got z 1",
-        "got 1 x",
-        "got x 01",
-        "got x -1",
-        "got x +1",
-        "got x 2147483648",
-        "got x 4294967297",
-        "got x 18446744073709551617",
-        "left x 1",
-        "left x 1 signalled",
-        "left x 1 interrupted",
-        "refused x 1",
-        "refused x 1 OutOfPhase",
-        "refused x 1 BadAmount",
-        "refused x 1 notowner",
-        "refused x 1 1",
-        "await 0",
-        "await x 1",
-        "await 16 1",
-        "await 256 1",
-        "await 00 1",
-        "await 0 2147483648",
-        "lapse 0",
-        "lapse 0 signalled",
-        "lapse 0 1 timeout",
-        "signal 16 1",
-        "signalall 0",
-        "signal all 0 1",
-        "back 0 1",
-        "back 0 1 none",
-        "back 16 1 timeout",
-        "counted x 1",
-        "counted s 0",
-        "counted s 2",
-        "counted s 01",
-        "counted s",
-        "drained x 1",
-        "drained s 2147483648",
-        "drained 1",
-    ] {
+    for text in &OTHERS {
         assert_eq!(rt; Entry::read_words(0, text.as_bytes()), None, "{text}");
     }
 }
@@ -215,24 +245,26 @@ fn texts_are_cut_at_their_line_breaks(rt: HostRuntime) -> Result<(), Fail> {
     Ok(())
 }
 
+const FAULTS: [(u8, Fault, &str); 11] = [
+    (1, Fault::NotOwner, "NotOwner"),
+    (2, Fault::TooManyHolds, "TooManyHolds"),
+    (3, Fault::TooManyPermits, "TooManyPermits"),
+    (4, Fault::Interrupted, "Interrupted"),
+    (5, Fault::HoldsRead, "HoldsRead"),
+    (6, Fault::OutOfPhase, "OutOfPhase"),
+    (7, Fault::NoSuchCondition, "NoSuchCondition"),
+    (8, Fault::BadAmount, "BadAmount"),
+    (9, Fault::WrongMode, "WrongMode"),
+    (10, Fault::HistoryFull, "HistoryFull"),
+    (11, Fault::OutOfMemory, "OutOfMemory"),
+];
+
 #[test]
 fn faults_have_a_number_and_a_name(rt: HostRuntime) -> Result<(), Fail> {
-    for (number, fault, name) in [
-        (1, Fault::NotOwner, "NotOwner"),
-        (2, Fault::TooManyHolds, "TooManyHolds"),
-        (3, Fault::TooManyPermits, "TooManyPermits"),
-        (4, Fault::Interrupted, "Interrupted"),
-        (5, Fault::HoldsRead, "HoldsRead"),
-        (6, Fault::OutOfPhase, "OutOfPhase"),
-        (7, Fault::NoSuchCondition, "NoSuchCondition"),
-        (8, Fault::BadAmount, "BadAmount"),
-        (9, Fault::WrongMode, "WrongMode"),
-        (10, Fault::HistoryFull, "HistoryFull"),
-        (11, Fault::OutOfMemory, "OutOfMemory"),
-    ] {
-        assert_eq!(rt; fault.number(), number);
-        assert_eq!(rt; fault.name(), name);
-        assert_eq!(rt; format!(in rt.alloc(); "{fault}")?.as_str(), name);
+    for (number, fault, name) in &FAULTS {
+        assert_eq!(rt; fault.number(), *number);
+        assert_eq!(rt; fault.name(), *name);
+        assert_eq!(rt; format!(in rt.alloc(); "{fault}")?.as_str(), *name);
     }
     assert_eq!(rt; Fault::from(AllocError), Fault::OutOfMemory);
     Ok(())

@@ -13,7 +13,7 @@ use std::thread::{Threads, join, sleep};
 use std::time::Duration;
 
 /// The last of the tokens that `open` gave.
-pub fn last(lock: &WordLock<Notes>, tokens: &mut Vec<Token>, left: u16) -> Token
+pub(super) fn last(lock: &WordLock<Notes>, tokens: &mut Vec<Token>, left: u16) -> Token
     requires few { left < 100 }
     requires tokens { (p : Point) × (tokens.old.items ≡ opening_tickets lock.now p 0 (left + 1)) }
     ensures rest { (p : Point) × (tokens.new.items ≡ opening_tickets lock.now p 0 left) }
@@ -26,7 +26,7 @@ pub fn last(lock: &WordLock<Notes>, tokens: &mut Vec<Token>, left: u16) -> Token
 }
 
 /// Adds one entry, waiting for the lock.
-pub fn add<R: Wait>(
+pub(super) fn add<R: Wait>(
     rt: &R,
     lock: &WordLock<Notes>,
     token: &mut Token,
@@ -42,7 +42,7 @@ pub fn add<R: Wait>(
 }
 
 /// Adds one entry `before` milliseconds from now, and has the lock for `within` milliseconds.
-pub fn add_slowly<R: Wait + Clock>(
+pub(super) fn add_slowly<R: Wait + Clock>(
     rt: &R,
     lock: &WordLock<Notes>,
     token: Token,
@@ -64,7 +64,12 @@ pub fn add_slowly<R: Wait + Clock>(
 }
 
 /// How many entries the seat `of` has, if nobody has the value.
-pub fn count_now(lock: &WordLock<Notes>, token: &mut Token, seat: u16, of: u16) -> Option<usize>
+pub(super) fn count_now(
+    lock: &WordLock<Notes>,
+    token: &mut Token,
+    seat: u16,
+    of: u16,
+) -> Option<usize>
     requires { IsReady lock.now seat token.old }
     ensures { IsReady lock.now seat token.new }
 {
@@ -92,7 +97,7 @@ fn add_all<R: Wait>(
 }
 
 /// Two threads add `count` entries each, and their tokens are joined.
-pub fn two_add<R: Threads + Wait + Sync>(
+pub(super) fn two_add<R: Threads + Wait + Sync>(
     rt: &R,
     lock: &WordLock<Notes>,
     a: Token,

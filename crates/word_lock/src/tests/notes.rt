@@ -14,7 +14,7 @@ pub const HEADER: Header = Header {
     cap: 4000,
 };
 
-pub fn got(seat: u16) -> Entry
+pub(super) fn got(seat: u16) -> Entry
     ensures { result.seat ≡ seat }
 {
     Entry {
@@ -46,7 +46,7 @@ impl Chronicle for Notes {
 }
 
 impl Notes {
-    pub fn new(alloc: Global) -> Notes
+    pub(super) fn new(alloc: Global) -> Notes
         ensures { result.list.items ≡ [] }
     {
         Notes {
@@ -55,7 +55,7 @@ impl Notes {
         }
     }
 
-    pub fn add(&mut self, entry: Entry) -> Result<(), AllocError>
+    pub(super) fn add(&mut self, entry: Entry) -> Result<(), AllocError>
         ensures { Follows entry.seat (record { header = self.old.header; list = reverse self.old.list.items }) (record { header = self.new.header; list = reverse self.new.list.items }) }
     {
         self.list.push(entry)?;
@@ -63,7 +63,7 @@ impl Notes {
     }
 
     /// How many entries the seat has.
-    pub fn count_of(&self, seat: u16) -> usize {
+    pub(super) fn count_of(&self, seat: u16) -> usize {
         self.list.iter().filter(|entry| entry.seat == seat).count()
     }
 }
