@@ -26,7 +26,7 @@ impl Ledger {
     }
 
     /// Whether any step of its seat makes the entry.
-    pub fn admits(&self, entry: Entry) -> bool
+    pub(crate) fn admits(&self, entry: Entry) -> bool
         requires { HasSeat self.now entry.seat }
         ensures { (s : Start) (h : List Entry) → LedgerStand s h self.now → IsTrue result ↔ IsNext s h entry }
     {

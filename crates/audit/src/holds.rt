@@ -48,7 +48,7 @@ fn holds_after(object: Object, word: Word, n: u32, had: u64) -> u64
 
 /// The holds of each seat by mode. Of a lock also the owner, so that asking for it needs no walk.
 #[derive(Drop)]
-pub struct Holds {
+pub(crate) struct Holds {
     pub(crate) exclusive: Vec<u64>,
     pub(crate) shared: Vec<u64>,
     pub(crate) owner: Option<u16>,
@@ -57,7 +57,7 @@ pub struct Holds {
 
 impl Holds {
     /// Nobody holds anything.
-    pub fn open(alloc: Global, seats: u16) -> Result<Self, Fault>
+    pub(crate) fn open(alloc: Global, seats: u16) -> Result<Self, Fault>
         ensures stand { IfOk result (λ holds. (k : Header) → k.seats ≡ seats → HoldsStand (opening k) [] holds) }
         ensures memory { IsOkUnless result Fault.OutOfMemory }
     {

@@ -99,7 +99,7 @@ impl Ledger {
     }
 
     /// Whether a seat could take.
-    pub fn could(&self, seat: u16, mode: Mode, n: u32) -> bool
+    pub(crate) fn could(&self, seat: u16, mode: Mode, n: u32) -> bool
         requires { seat < length self.now.holds.exclusive.items }
         ensures { (s : Start) (h : List Entry) → LedgerStand s h self.now → result ≡ could (counts s h) seat mode n }
     {
@@ -123,7 +123,7 @@ impl Ledger {
     }
 
     /// Whether the seat has as many holds as it may have.
-    pub fn at_limit(&self, seat: u16, mode: Mode) -> bool
+    pub(crate) fn at_limit(&self, seat: u16, mode: Mode) -> bool
         requires { seat < length self.now.holds.exclusive.items }
         ensures { (s : Start) (h : List Entry) → LedgerStand s h self.now → result ≡ limit (counts s h) seat mode }
     {
@@ -137,7 +137,7 @@ impl Ledger {
     }
 
     /// Whether a call never waits behind the line.
-    pub fn is_reentrant(&self, seat: u16, mode: Mode) -> bool
+    pub(crate) fn is_reentrant(&self, seat: u16, mode: Mode) -> bool
         requires { seat < length self.now.holds.shared.items }
         ensures { (s : Start) (h : List Entry) → LedgerStand s h self.now → result ≡ is_reentrant (counts s h) seat mode }
     {
@@ -152,7 +152,7 @@ impl Ledger {
     }
 
     /// Whether the line holds back a new call that isn't reentrant.
-    pub fn line_blocks(&self, mode: Mode) -> bool
+    pub(crate) fn line_blocks(&self, mode: Mode) -> bool
         ensures { (s : Start) (h : List Entry) → LedgerStand s h self.now → result ≡ line_blocks s.header.object mode (first_mode s h) }
     {
         let first = match self.waiting.line.first() {
@@ -179,14 +179,14 @@ impl Ledger {
     }
 
     /// What the seat asks for in line.
-    pub fn place_of(&self, seat: u16) -> Option<Arrival>
+    pub(crate) fn place_of(&self, seat: u16) -> Option<Arrival>
         ensures { (s : Start) (h : List Entry) → LedgerStand s h self.now → result ≡ place_of seat (line s h) }
     {
         place_in(&self.waiting.line, seat)
     }
 
     /// Whether the seat sleeps on one of the object's conditions.
-    pub fn sleeps(&self, seat: u16) -> bool
+    pub(crate) fn sleeps(&self, seat: u16) -> bool
         ensures { (s : Start) (h : List Entry) → LedgerStand s h self.now → result ≡ sleeps_below s.header.conditions s h seat }
     {
         sleeps_in(&self.waiting.asleep, self.header.conditions, seat)

@@ -4,18 +4,18 @@
 //! entry whether some step of its seat makes it: so it judges histories of any source.
 #![tactic(auto)]
 
-pub mod admit;
-pub mod candidates;
+mod admit;
+mod candidates;
 pub mod checks;
-pub mod decide;
-pub mod entries;
-pub mod holds;
+mod decide;
+mod entries;
+mod holds;
 pub mod ledger;
-pub mod permits;
-pub mod same;
+mod permits;
+mod same;
 pub mod sums;
 #[cfg(test)]
 mod tests;
 pub mod totals;
 pub mod verdict;
-pub mod waiting;
+mod waiting;

@@ -16,7 +16,7 @@ use history::header::Object;
 /// What a semaphore has free and was given unheld, how often a latch was counted down, and how many calls
 /// ended.
 #[derive(Drop)]
-pub struct Permits {
+pub(crate) struct Permits {
     pub(crate) free: i128,
     pub(crate) unheld: u64,
     pub(crate) counted: u64,
@@ -25,7 +25,7 @@ pub struct Permits {
 
 impl Permits {
     /// The opening numbers.
-    pub fn open(object: Object) -> Self
+    pub(crate) fn open(object: Object) -> Self
         ensures { (k : Header) → k.object ≡ object → PermitsStand (opening k) [] result }
     {
         let free = match object {

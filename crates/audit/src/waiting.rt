@@ -16,14 +16,14 @@ use std::alloc::Global;
 
 /// A seat asleep on a condition.
 #[derive(Clone, Copy, Drop, Debug, PartialEq, Eq)]
-pub struct Sleeper {
+pub(crate) struct Sleeper {
     pub(crate) condition: u8,
     pub(crate) seat: u16,
 }
 
 /// What a seat gave up when it last went to sleep, and how it will come back.
 #[derive(Clone, Copy, Drop, Debug, PartialEq, Eq)]
-pub struct Sleep {
+pub(crate) struct Sleep {
     pub(crate) condition: u8,
     pub(crate) holds: u32,
     pub(crate) how: End,
@@ -31,7 +31,7 @@ pub struct Sleep {
 
 /// The line, and all sleepers in order of their awaits.
 #[derive(Drop)]
-pub struct Waiting {
+pub(crate) struct Waiting {
     pub(crate) line: Vec<Arrival>,
     pub(crate) asleep: Vec<Sleeper>,
     pub(crate) last_sleep: Vec<Sleep>,
@@ -39,7 +39,7 @@ pub struct Waiting {
 
 impl Waiting {
     /// Nobody waits.
-    pub fn open(alloc: Global, seats: u16) -> Result<Self, Fault>
+    pub(crate) fn open(alloc: Global, seats: u16) -> Result<Self, Fault>
         ensures stand { IfOk result (λ waiting. (k : Header) → k.seats ≡ seats → WaitingStand (opening k) [] waiting) }
         ensures memory { IsOkUnless result Fault.OutOfMemory }
     {
