@@ -5,6 +5,8 @@ ghost use Rattle.history.specs.declared.entry.Entry.{Entry};
 ghost use Rattle.history.specs.declared.header.Header.{Header};
 ghost use Rattle.history.specs.Entries.{HistoryView};
 ghost use Rattle.history.specs.Header.{IsInRange};
+ghost use Rattle.history.specs.Legal.{AreSeated, IsLegal};
+ghost use Rattle.history.specs.Start.{opening};
 ghost use Rattle.line_text.specs.Reading.{IsReading, IsText, IsCutShort, Reading};
 ghost use Rattle.history_text.specs.HistoryText.{history_form, history_text, Fits};
 
@@ -21,4 +23,11 @@ pub fn cut_short()
 /// What is written of a history that fits its header is a history text of these entries.
 pub fn written_is_read()
     ensures { (h : Header) (kept : HistoryView) → IsInRange h → length kept.entries ≤ kept.cap → Fits h kept → IsText history_form (history_text h kept.entries) h (reverse kept.entries) }
+{}
+
+/// Each legal history of an object in range fits its header, where its cap is the header's: so it has a
+/// text, and is read as it was written.
+pub fn legal_histories_fit()
+    ensures { (h : Header) (kept : HistoryView) → IsInRange h → kept.cap ≡ h.cap →
+        IsLegal (opening h) kept.entries → AreSeated (opening h) kept.entries → Fits h kept }
 {}
