@@ -33,7 +33,7 @@ pub(crate) fn waits(step: Step) -> bool
     matches!(step, Step::Look | Step::Expire | Step::Interrupt)
 }
 
-/// Whether it is owned, has conditions, and keeps room for each hold.
+/// Whether the object is owned, has conditions, and keeps room for each hold: a lock or a read-write lock.
 pub fn is_lock(object: Object) -> bool
     ensures { result ≡ is_lock object }
 {

@@ -80,7 +80,8 @@ pub(crate) fn back(seat: u16, sleep: Sleep) -> Entry
 
 /// What a sleeper makes of a step; `None` is sleep.
 pub(crate) fn sleeping_entry(seat: u16, sleep: Sleep, step: Step) -> Option<Entry>
-    ensures { (s : Start) (h : List Entry) → sleep_of sleep ≡ last_sleep s h seat → result ≡ sleeping_entry s h seat step }
+    ensures { (s : Start) (h : List Entry) → sleep_of sleep ≡ last_sleep s h seat →
+        result ≡ sleeping_entry s h seat step }
 {
     let end = match step {
         Step::Expire => End::Timeout,

@@ -58,7 +58,8 @@ pub(crate) struct Holds {
 impl Holds {
     /// Nobody holds anything.
     pub(crate) fn open(alloc: Global, seats: u16) -> Result<Self, Fault>
-        ensures stand { IfOk result (λ holds. (k : Header) → k.seats ≡ seats → HoldsStand (opening k) [] holds) }
+        ensures stand { IfOk result (λ holds. (k : Header) → k.seats ≡ seats →
+            HoldsStand (opening k) [] holds) }
         ensures memory { IsOkUnless result Fault.OutOfMemory }
     {
         let exclusive = match vec![in alloc; 0; seats as usize] {
@@ -79,9 +80,12 @@ impl Holds {
 
     /// Follows one more entry of one of the seats.
     pub(crate) fn note(&mut self, object: Object, entry: Entry)
-        requires seat { entry.seat < length self.old.exclusive.items × (entry.seat < length self.old.shared.items) }
+        requires seat { entry.seat < length self.old.exclusive.items
+            × (entry.seat < length self.old.shared.items) }
         requires bounds { (s : Start) × (h : List Entry) × HoldsStand s h self.old × (length h + 1 < 2 ^ 32) }
-        ensures { (s : Start) (h : List Entry) → HoldsStand s h self.old → s.header.object ≡ object → (is_lock object ≡ true → IsOnlyOwner s h × IsOnlyOwner s (entry ∷ h)) → HoldsStand s (entry ∷ h) self.new }
+        ensures { (s : Start) (h : List Entry) → HoldsStand s h self.old → s.header.object ≡ object →
+            (is_lock object ≡ true → IsOnlyOwner s h × IsOnlyOwner s (entry ∷ h)) →
+            HoldsStand s (entry ∷ h) self.new }
     {
         let seat = entry.seat as usize;
         match entry.mode {

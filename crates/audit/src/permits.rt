@@ -43,7 +43,8 @@ impl Permits {
     /// Follows one more entry, whose seat had so many holds in its mode.
     pub(crate) fn note(&mut self, object: Object, entry: Entry, had: u64)
         requires { (s : Start) × (h : List Entry) × PermitsStand s h self.old × (length h + 1 < 2 ^ 32) }
-        ensures { (s : Start) (h : List Entry) → PermitsStand s h self.old → s.header.object ≡ object → held s h entry.seat entry.mode ≡ had → PermitsStand s (entry ∷ h) self.new }
+        ensures { (s : Start) (h : List Entry) → PermitsStand s h self.old → s.header.object ≡ object →
+            held s h entry.seat entry.mode ≡ had → PermitsStand s (entry ∷ h) self.new }
     {
         self.free = free_after(entry.word, entry.n, self.free);
         self.unheld += beyond(object, entry.word, entry.n, had);

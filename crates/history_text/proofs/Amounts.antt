@@ -1,4 +1,5 @@
--- Each entry of a legal history of an object in range has a line of a history text: its amount and its condition are small.
+-- Each entry of a legal history of an object in range has a line of a history text: its amount and its
+-- condition are small.
 use Rattle.std.proofs.Common.{◌≡◌, ◌⊎◌, inl, inr, ⊎_elim, ℕ, zero, suc, ℤ, pos, negsuc, ◌+◌, ◌<◌, ◌≤◌, Bool, true, false, not, ◌&&◌, cond, eqb, ltb, ltb-false, List, [], ◌∷◌, map, take, length, Some, refl, ap, sym, subst, arith}
 use Rattle.std.specs.Prelude.{FitsSigned}
 use Rattle.std.specs.Int.{w32}
@@ -37,7 +38,8 @@ use Rattle.history_text.proofs.Spelt.{spelt}
 
 -- what is asked for
 asked_few : (o : Object) (n : ℕ) → is_bad_number o n ≡ false → n ≤ 2147483647
-asked_few o n q = ltb-false 2147483647 n (or_parts (ltb 2147483647 n) (not (is_semaphore o) && not (eqb n 1)) q).0
+asked_few o n q =
+    ltb-false 2147483647 n (or_parts (ltb 2147483647 n) (not (is_semaphore o) && not (eqb n 1)) q).0
 
 -- what those in line ask for
 abbrev AsksFew : Arrival → Type 0
@@ -115,7 +117,8 @@ module _ (k : Header) (h : List Entry) (e : Entry) (range : IsInRange k) (legal 
   s = opening k
 
   left_few : (a : Arrival) → place_of e.seat (line s h) ≡ Some a → e.n ≡ a.n → e.n ≤ 2147483647
-  left_few a p q = subst (λ n. n ≤ 2147483647) (sym q) (placed AsksFew e.seat (line s h) a (line_few k h legal) p)
+  left_few a p q =
+      subst (λ n. n ≤ 2147483647) (sym q) (placed AsksFew e.seat (line s h) a (line_few k h legal) p)
 
   amount : AreSeated s h → e.seat < k.seats → (w : Word) → KnownBy s h e w → e.n ≤ 2147483647
   amount seated seat word.Got r = asked_few k.object e.n r.0.amount
@@ -138,7 +141,8 @@ module _ (k : Header) (h : List Entry) (e : Entry) (range : IsInRange k) (legal 
       let n = r.2 in
       let few = most_few k.object in
       omega (arith, n, held, few)
-  amount seated seat word.Signal r = let n = r.1 in let few = one_few (length (sleepers s h e.at)) in omega (arith, n, few)
+  amount seated seat word.Signal r = let n = r.1 in let few = one_few (length (sleepers s h e.at)) in
+      omega (arith, n, few)
   amount seated seat word.SignalAll r =
       let n = r.1 in
       let part = asleep_part s h e.at k.conditions r.0.condition in
@@ -188,7 +192,8 @@ entry_written k h e range legal seated =
       condition = condition k h e range legal.1 e.word r;
     }
 
-pub all_have_lines : (k : Header) (h : List Entry) → IsInRange k → IsLegal (opening k) h → AreSeated (opening k) h →
+pub all_have_lines : (k : Header) (h : List Entry) → IsInRange k → IsLegal (opening k) h →
+    AreSeated (opening k) h →
     AllByRecursion (HasLine k) h
 all_have_lines k [] range legal seated = tt
 all_have_lines k (e ∷ h) range legal seated = (

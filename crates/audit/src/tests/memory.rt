@@ -1,7 +1,8 @@
 //! Memory that is refused.
 //!
-//! A test takes all memory first, a part of it as small blocks side by side, and lets these go one by one. Each
-//! request of an audit of two seats takes a small block or more: so each is refused for true, one after the other.
+//! A test takes all memory first, a part of it as small blocks side by side, and lets these go one by one.
+//! Each request of an audit of two seats takes a small block or more: so each is refused for true, one after
+//! the other.
 
 ghost use Rattle.std.specs.Prelude.{◌≡◌, IfOk};
 ghost use Rattle.history.specs.Header.{IsInRange};
@@ -26,7 +27,7 @@ const BLOCKS: usize = 4096;
 /// sleepers and a line.
 const REQUESTS: usize = 5;
 
-/// All memory: blocks of 16 bytes, and then what else the heap gives, in blocks of each size down to that one.
+/// All memory: blocks of 16 bytes, and then what else the heap gives, in blocks of each size down to that.
 fn all_memory(alloc: Global) -> Result<(Vec<Vec<u8>>, Vec<Vec<u8>>), Fail> {
     let mut small = Vec::with_capacity(alloc, BLOCKS)?;
     for _ in 0..BLOCKS {
@@ -127,7 +128,9 @@ fn each_request_of_a_check_is_refused(rt: HostRuntime) -> Result<(), Fail> {
 
 /// One in line takes the lock without a look.
 #[test]
-fn each_request_of_a_check_that_finds_a_wrong_entry_is_refused(rt: HostRuntime) -> Result<(), Fail> {
+fn each_request_of_a_check_that_finds_a_wrong_entry_is_refused(
+    rt: HostRuntime,
+) -> Result<(), Fail> {
     let mut history = signalled(rt.alloc())?;
     history.make_room(1)?;
     history.add(of(0, Word::TryGot, Mode::X, 1), 0);
