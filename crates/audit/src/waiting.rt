@@ -15,14 +15,14 @@ use history::fault::Fault;
 use std::alloc::Global;
 
 /// A seat asleep on a condition.
-#[derive(Clone, Copy, Drop, Debug, PartialEq, Eq)]
+#[derive(Clone, Copy, Drop)]
 pub(crate) struct Sleeper {
     pub(crate) condition: u8,
     pub(crate) seat: u16,
 }
 
 /// What a seat gave up when it last went to sleep, and how it will come back.
-#[derive(Clone, Copy, Drop, Debug, PartialEq, Eq)]
+#[derive(Clone, Copy, Drop)]
 pub(crate) struct Sleep {
     pub(crate) condition: u8,
     pub(crate) holds: u32,
