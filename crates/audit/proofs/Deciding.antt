@@ -1,5 +1,5 @@
 -- What a step makes, by its fault and by its seat's phase.
-use Rattle.std.proofs.Common.{◌≡◌, ℕ, ◌<◌, arith, Bool, true, false, not, cond, List, Option, Some, None, Result, Ok, Err, refl, ap, ◌∙◌, sym, subst}
+use Rattle.std.proofs.Common.{◌≡◌, ℕ, Bool, true, false, not, cond, List, Option, Some, None, Result, Ok, Err, refl, ap, sym}
 use Rattle.history.specs.declared.arrival.Arrival.{Arrival}
 use Rattle.history.specs.declared.entry.Entry.{Entry}
 use Rattle.history.specs.declared.fault.Fault.{Fault}
@@ -7,8 +7,8 @@ use Rattle.history.specs.declared.fault.Fault.TheVariants as fault
 use Rattle.history.specs.declared.step.Step.{Step}
 use Rattle.history.specs.Faults.{is_wrong_mode, is_no_condition, is_bad_amount}
 use Rattle.history.specs.Line.{line, place_of}
-use Rattle.history.specs.Phase.{Phase, Idle, InLine, Sleeping, phase, phase_by, suits}
-use Rattle.history.specs.Sleepers.{sleepers, has, sleeps_below}
+use Rattle.history.specs.Phase.{Phase, InLine, phase, phase_by, suits}
+use Rattle.history.specs.Sleepers.{sleeps_below}
 use Rattle.history.specs.Start.{Start}
 use Rattle.history.specs.Steps.{entry_for, phase_entry}
 use Rattle.audit.specs.Checks.{refused_as, in_phase}

@@ -1,5 +1,5 @@
 -- The fronts of a history, entry by entry.
-use Rattle.std.proofs.Common.{◌≡◌, ℕ, zero, suc, ◌<◌, ◌≤◌, ◌+◌, ◌-◌, arith, Bool, true, false, ltb, ltb-true, ltb-false, List, [], ◌∷◌, length, drop, reverse, get_or, refl, ap, ◌∙◌, sym, subst, add-one, length-drop, drop-cons, Some}
+use Rattle.std.proofs.Common.{◌≡◌, ℕ, zero, suc, ◌<◌, ◌≤◌, ◌+◌, ◌-◌, arith, Bool, true, false, ltb, ltb-true, ltb-false, List, [], ◌∷◌, length, drop, reverse, get_or, refl, ap, ◌∙◌, sym, subst, length-drop, drop-cons, Some}
 use Rattle.std.proofs.lemmas.Option.{get_or_from_slice_get}
 use Rattle.std.proofs.lemmas.List.{get_or-reverse}
 use Rattle.std.specs.Prelude.{slice_get}
@@ -8,7 +8,7 @@ use Rattle.history.specs.declared.header.Header.{Header}
 use Rattle.history.specs.Legal.{IsLegal, AreSeated}
 use Rattle.history.specs.Start.{Start, opening}
 use Rattle.audit.specs.declared.ledger.Ledger.{Ledger}
-use Rattle.audit.specs.Ledger.{HasSeat, IsNext, LedgerStand}
+use Rattle.audit.specs.Ledger.{HasSeat, LedgerStand}
 use Rattle.audit.specs.Verdict.{front, IsFirstWrong, IsLegalFront}
 
 pub front_all : (h : List Entry) (n : ℕ) → length h ≤ n → front n h ≡ h

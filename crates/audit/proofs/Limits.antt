@@ -1,8 +1,8 @@
 -- What a ledger's numbers are at most, and who owns, since its front is legal.
-use Rattle.std.proofs.Common.{◌≡◌, ℕ, zero, suc, ℤ, ◌≤◌, ◌<◌, arith, Bool, true, false, cond, eqb, List, ◌∷◌, refl, ap, ◌∙◌, sym, subst, pos, nat_abs, ⊎_elim}
+use Rattle.std.proofs.Common.{◌≡◌, ℕ, zero, suc, ℤ, ◌≤◌, ◌<◌, arith, Bool, true, false, cond, eqb, List, refl, ap, ◌∙◌, sym, subst, nat_abs}
 use Rattle.std.proofs.lemmas.Int.{ints}
 use Rattle.std.specs.Int.{w32}
-use Rattle.std.specs.Prelude.{FitsSigned, ◌≢◌, length}
+use Rattle.std.specs.Prelude.{FitsSigned}
 use Rattle.history.specs.declared.entry.Entry.{Entry}
 use Rattle.history.specs.declared.entry.Mode.TheVariants.{X}
 use Rattle.history.specs.declared.entry.Word.TheVariants.{Signal}
@@ -15,7 +15,7 @@ use Rattle.history.specs.Object.{is_lock, is_semaphore}
 use Rattle.history.specs.Ownership.{IsOwned, most_exclusive}
 use Rattle.history.specs.Start.{Start, opening}
 use Rattle.history.specs.Steps.{at_most_one}
-use Rattle.history.proofs.Entering.{Known, KnownBy, known}
+use Rattle.history.proofs.Entering.{KnownBy, known}
 use Rattle.history.proofs.OneOwner.{owned}
 use Rattle.history.proofs.Permits.{free_fits}
 use Rattle.audit.specs.declared.ledger.Ledger.{Ledger}

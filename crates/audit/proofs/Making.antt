@@ -1,5 +1,5 @@
 -- If any step of its seat makes an entry, one of its candidates does.
-use Rattle.std.proofs.Common.{◌≡◌, ◌⊎◌, inl, inr, ⊎_elim, ℕ, zero, suc, Bool, true, false, not, cond, leb, leb-false, ltb, arith, List, length, Option, Some, None, Result, Ok, Err, refl, ap, ◌∙◌, sym, subst, pos, ◌+ℤ◌}
+use Rattle.std.proofs.Common.{◌≡◌, ◌⊎◌, inl, inr, ⊎_elim, ℕ, Bool, true, false, not, cond, leb, leb-false, ltb, arith, List, length, Option, Some, None, Result, Ok, refl, ap, ◌∙◌, sym, subst, pos, ◌+ℤ◌}
 use Rattle.std.specs.Prelude.{int_lt}
 use Rattle.std.proofs.lemmas.Bool.{lt-leb}
 use Rattle.audit.specs.declared.candidates.Candidates.{Candidates}
@@ -26,11 +26,10 @@ use Rattle.history.specs.Object.{is_lock}
 use Rattle.history.specs.Phase.{Phase, Idle, InLine, Sleeping, phase, suits}
 use Rattle.history.specs.Sleepers.{sleepers}
 use Rattle.history.specs.Start.{Start}
-use Rattle.history.specs.Steps.{plain, acquired, tried, tried_fairly, gave, awaits, signals, at_most_one, idle_entry, back, lapse, ended, queued_entry, line_entry, sleeping_entry, phase_entry, entry_for}
+use Rattle.history.specs.Steps.{plain, gave, awaits, at_most_one, idle_entry, back, lapse, ended, queued_entry, line_entry, sleeping_entry, phase_entry, entry_for}
 use Rattle.history.proofs.Entering.{Admitted}
 use Rattle.history.proofs.Entering as entering
 use Rattle.audit.specs.Candidates.{candidates, IsCandidate}
-use Rattle.audit.specs.Checks.{refused_as}
 use Rattle.audit.proofs.Deciding.{entry_admitted, in_phase_made}
 
 -- A candidate that makes an entry.

@@ -1,5 +1,5 @@
 -- That the numbers of permits and calls stand for one more entry.
-use Rattle.std.proofs.Common.{◌≡◌, ℕ, ◌+◌, ◌*◌, ◌≤◌, Bool, true, false, cond, List, ◌∷◌, length, ℤ, refl, ap, ◌∙◌, sym, arith, rules}
+use Rattle.std.proofs.Common.{◌≡◌, ℕ, ◌+◌, ◌≤◌, cond, List, ◌∷◌, ℤ, ap, ◌∙◌, sym, arith}
 use Rattle.std.specs.Prelude.{FitsSigned, nat_abs, pos, ◌-ℤ◌, ◌+ℤ◌}
 use Rattle.std.specs.Int.{w128}
 use Rattle.std.proofs.lemmas.Int.{ints}

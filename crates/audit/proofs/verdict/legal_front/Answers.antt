@@ -1,4 +1,4 @@
-use Rattle.std.proofs.Common.{◌≡◌, ◌<◌, ℕ, arith, true, length, List, ◌∙◌, sym, subst}
+use Rattle.std.proofs.Common.{◌≡◌, ◌<◌, ℕ, arith, length, List, ◌∙◌, sym, subst}
 use Rattle.std.proofs.lemmas.Bool.{false≢true}
 use Rattle.history.specs.declared.entry.Entry.{Entry}
 use Rattle.history.specs.Legal.{IsLegal}

@@ -1,4 +1,4 @@
-use Rattle.std.proofs.Common.{◌≡◌, ℕ, List, length, get_or, replicate, refl, ap, ◌∙◌, sym, rules}
+use Rattle.std.proofs.Common.{◌≡◌, length, get_or, replicate, refl, ap, ◌∙◌, sym, rules}
 use Rattle.std.proofs.lemmas.List.{length-replicate}
 use Rattle.audit.proofs.HoldsFollow.{stands_opened, zeros}
 use Rattle.audit.proofs.holds.Holds.open.Goals as goal

@@ -1,4 +1,4 @@
-use Rattle.std.proofs.Common.{◌≡◌, ap, ◌∙◌, sym, ltb, eqb, ◌&&◌, ℕ}
+use Rattle.std.proofs.Common.{ap, ◌∙◌, ltb, eqb, ◌&&◌}
 use Rattle.std.specs.List.{list_any}
 use Rattle.history.specs.declared.header.Header.{Header}
 use Rattle.history.specs.Sleepers.{sleeps_below}

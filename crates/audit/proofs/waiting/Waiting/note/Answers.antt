@@ -1,13 +1,12 @@
-use Rattle.std.proofs.Common.{◌≡◌, refl, ap, sym, ◌∙◌, ⊎_elim}
+use Rattle.std.proofs.Common.{ap, sym, ◌∙◌, ⊎_elim}
 use Rattle.history.specs.Entry.{ends_arrival}
 use Rattle.history.specs.Line.{coming_back}
 use Rattle.history.specs.Sleepers.{sleepers, sleepers_after}
 use Rattle.history.specs.Line.{arrivals_by}
 use Rattle.std.proofs.Common.{map, drop, take}
 use Rattle.audit.specs.Waiting.{seats_on}
-use Rattle.audit.specs.declared.waiting.Waiting.{Waiting}
 use Rattle.audit.proofs.Outcomes.{on_ok, of_ok}
-use Rattle.audit.proofs.WaitingFollow.{follows_queued, follows_gone, follows_await, follows_lapse, follows_signal, wakes_nobody, saves_nothing}
+use Rattle.audit.proofs.WaitingFollow.{follows_queued, follows_gone, follows_await, follows_lapse, follows_signal, saves_nothing}
 use Rattle.audit.proofs.waiting.Waiting.note.Goals as goal
 
 pub returns-in-Queued-clause-stand : goal.returns-in-Queued-clause-stand

@@ -1,7 +1,5 @@
-use Rattle.std.proofs.Common.{◌≡◌, refl, ap, sym, ◌∙◌, replicate, length, rules}
-use Rattle.std.proofs.lemmas.List.{length-replicate}
-use Rattle.audit.specs.Waiting.{never_slept, sleep_of, seats_on}
-use Rattle.audit.specs.declared.waiting.Sleep.{Sleep}
+use Rattle.std.proofs.Common.{◌≡◌, ap, sym, ◌∙◌, replicate, rules}
+use Rattle.audit.specs.Waiting.{never_slept}
 use Rattle.audit.proofs.WaitingFollow.{stands_opened}
 use Rattle.audit.proofs.waiting.Waiting.open.Goals as goal
 

@@ -1,4 +1,4 @@
-use Rattle.std.proofs.Common.{◌≡◌, ◌∙◌, sym, ap}
+use Rattle.std.proofs.Common.{◌∙◌, sym, ap}
 use Rattle.std.specs.List.{position}
 use Rattle.audit.proofs.WaitingLemmas.{woken_here, woken_there, none_found, sleeps_on}
 use Rattle.audit.proofs.waiting.Waiting.wake_first.Goals as goal
