@@ -1,5 +1,5 @@
 -- What a step makes, by its fault and by its seat's phase.
-use Rattle.std.proofs.Common.{◌≡◌, ℕ, ◌<◌, arith, Bool, true, false, not, cond, List, Option, Some, None, Result, Ok, Err, refl, ap, ◌∙◌, sym, subst}
+use Rattle.std.proofs.Common.{◌≡◌, ℕ, Bool, true, false, not, cond, List, Option, Some, None, Result, Ok, Err, refl, ap, sym}
 use Rattle.history.specs.declared.arrival.Arrival.{Arrival}
 use Rattle.history.specs.declared.entry.Entry.{Entry}
 use Rattle.history.specs.declared.fault.Fault.{Fault}
@@ -7,14 +7,15 @@ use Rattle.history.specs.declared.fault.Fault.TheVariants as fault
 use Rattle.history.specs.declared.step.Step.{Step}
 use Rattle.history.specs.Faults.{is_wrong_mode, is_no_condition, is_bad_amount}
 use Rattle.history.specs.Line.{line, place_of}
-use Rattle.history.specs.Phase.{Phase, Idle, InLine, Sleeping, phase, phase_by, suits}
-use Rattle.history.specs.Sleepers.{sleepers, has, sleeps_below}
+use Rattle.history.specs.Phase.{Phase, InLine, phase, phase_by, suits}
+use Rattle.history.specs.Sleepers.{sleeps_below}
 use Rattle.history.specs.Start.{Start}
 use Rattle.history.specs.Steps.{entry_for, phase_entry}
 use Rattle.audit.specs.Checks.{refused_as, in_phase}
 
 refused_by : {A : Type 0} (a b c : Bool) (r : Result A Fault) (f : Fault) →
-    cond a (Some fault.WrongMode) (cond b (Some fault.NoSuchCondition) (cond c (Some fault.BadAmount) None)) ≡ Some f →
+    cond a (Some fault.WrongMode) (cond b (Some fault.NoSuchCondition) (cond c (Some fault.BadAmount) None))
+    ≡ Some f →
     cond a (Err fault.WrongMode) (cond b (Err fault.NoSuchCondition) (cond c (Err fault.BadAmount) r)) ≡ Err f
 refused_by true b c r f q = cc
 refused_by false true c r f q = cc
@@ -22,7 +23,8 @@ refused_by false false true r f q = cc
 refused_by false false false r f q = cc
 
 admitted_by : {A : Type 0} (a b c : Bool) (r : Result A Fault) →
-    cond a (Some fault.WrongMode) (cond b (Some fault.NoSuchCondition) (cond c (Some fault.BadAmount) None)) ≡ None →
+    cond a (Some fault.WrongMode) (cond b (Some fault.NoSuchCondition) (cond c (Some fault.BadAmount) None))
+    ≡ None →
     cond a (Err fault.WrongMode) (cond b (Err fault.NoSuchCondition) (cond c (Err fault.BadAmount) r)) ≡ r
 admitted_by true b c r q = cc
 admitted_by false true c r q = cc
@@ -56,7 +58,8 @@ admitted s step q =
     record { mode = parts.0; condition = parts.1; amount = parts.2 }
   where
     by : (a b c : Bool) →
-        cond a (Some fault.WrongMode) (cond b (Some fault.NoSuchCondition) (cond c (Some fault.BadAmount) None)) ≡ None →
+        cond a (Some fault.WrongMode) (cond b (Some fault.NoSuchCondition)
+        (cond c (Some fault.BadAmount) None)) ≡ None →
         (a ≡ false) × (b ≡ false) × (c ≡ false)
     by true b c q = absurd (cc)
     by false true c q = absurd (cc)
@@ -70,7 +73,8 @@ pub in_phase_made : (s : Start) (h : List Entry) (i : ℕ) (step : Step) (p : Ph
 in_phase_made s h i step p o is suit made =
     rw is (by (suits p step) suit)
   where
-    by : (b : Bool) → b ≡ true → ◌≡◌ {A = Result (Option Entry) Fault} (Ok o) (cond (not b) (Err fault.OutOfPhase) (Ok (phase_entry s h i step p)))
+    by : (b : Bool) → b ≡ true → ◌≡◌ {A = Result (Option Entry) Fault} (Ok o)
+        (cond (not b) (Err fault.OutOfPhase) (Ok (phase_entry s h i step p)))
     by true t = let ok : Option Entry → Result (Option Entry) Fault = λ x. Ok x in ap ok made
     by false t = absurd (cc)
 
@@ -79,12 +83,14 @@ pub in_phase_refused : (s : Start) (h : List Entry) (i : ℕ) (step : Step) (p :
     ◌≡◌ {A = Result (Option Entry) Fault} (Err fault.OutOfPhase) (in_phase s h i step (phase s h i))
 in_phase_refused s h i step p is suit = rw is (by (suits p step) suit)
   where
-    by : (b : Bool) → b ≡ false → ◌≡◌ {A = Result (Option Entry) Fault} (Err fault.OutOfPhase) (cond (not b) (Err fault.OutOfPhase) (Ok (phase_entry s h i step p)))
+    by : (b : Bool) → b ≡ false → ◌≡◌ {A = Result (Option Entry) Fault} (Err fault.OutOfPhase)
+        (cond (not b) (Err fault.OutOfPhase) (Ok (phase_entry s h i step p)))
     by true t = absurd (cc)
     by false t = refl
 
 -- the phase of a seat in line, and of one that isn't
-pub phase_line : (s : Start) (h : List Entry) (i : ℕ) (a : Arrival) → place_of i (line s h) ≡ Some a → phase s h i ≡ InLine a
+pub phase_line : (s : Start) (h : List Entry) (i : ℕ) (a : Arrival) → place_of i (line s h) ≡ Some a →
+    phase s h i ≡ InLine a
 phase_line s h i a p = rw p refl
 
 pub phase_away : (s : Start) (h : List Entry) (i : ℕ) (b : Bool) → place_of i (line s h) ≡ None →

@@ -1,8 +1,8 @@
 -- What a ledger's numbers are at most, and who owns, since its front is legal.
-use Rattle.std.proofs.Common.{◌≡◌, ℕ, zero, suc, ℤ, ◌≤◌, ◌<◌, arith, Bool, true, false, cond, eqb, List, ◌∷◌, refl, ap, ◌∙◌, sym, subst, pos, nat_abs, ⊎_elim}
+use Rattle.std.proofs.Common.{◌≡◌, ℕ, zero, suc, ℤ, ◌≤◌, ◌<◌, arith, Bool, true, false, cond, eqb, List, refl, ap, ◌∙◌, sym, subst, nat_abs}
 use Rattle.std.proofs.lemmas.Int.{ints}
 use Rattle.std.specs.Int.{w32}
-use Rattle.std.specs.Prelude.{FitsSigned, ◌≢◌, length}
+use Rattle.std.specs.Prelude.{FitsSigned}
 use Rattle.history.specs.declared.entry.Entry.{Entry}
 use Rattle.history.specs.declared.entry.Mode.TheVariants.{X}
 use Rattle.history.specs.declared.entry.Word.TheVariants.{Signal}
@@ -15,7 +15,7 @@ use Rattle.history.specs.Object.{is_lock, is_semaphore}
 use Rattle.history.specs.Ownership.{IsOwned, most_exclusive}
 use Rattle.history.specs.Start.{Start, opening}
 use Rattle.history.specs.Steps.{at_most_one}
-use Rattle.history.proofs.Entering.{Known, KnownBy, known}
+use Rattle.history.proofs.Entering.{KnownBy, known}
 use Rattle.history.proofs.OneOwner.{owned}
 use Rattle.history.proofs.Permits.{free_fits}
 use Rattle.audit.specs.declared.ledger.Ledger.{Ledger}
@@ -34,7 +34,8 @@ owned_by s h k is lock legal seated =
     let L : Start → Type 0 = λ x. IsLegal x h in
     let S : Start → Type 0 = λ x. AreSeated x h in
     let O : Start → Type 0 = λ x. IsOwned x h in
-    subst O (sym is) (owned k h (ap (λ (x : Start). is_lock x.header.object) (sym is) ∙ lock) (subst L is legal) (subst S is seated))
+    subst O (sym is) (owned k h (ap (λ (x : Start). is_lock x.header.object) (sym is) ∙ lock)
+    (subst L is legal) (subst S is seated))
 
 pub only_owner : (s : Start) (h : List Entry) (k : Header) → s ≡ opening k → is_lock s.header.object ≡ true →
     IsLegal s h → AreSeated s h → IsOnlyOwner s h
@@ -49,7 +50,8 @@ only_owner s h k is lock legal seated i j holds other =
 pub exclusive_small : (s : Start) (h : List Entry) (l : Ledger) (i : ℕ) → LedgerStand s h l →
     is_lock l.header.object ≡ true → held s h i X ≤ 2147483647
 exclusive_small s h l i st lock =
-    let v = owned_by s h l.header st.opened (ap (λ (k : Header). is_lock k.object) (sym st.header) ∙ lock) st.legal st.seated in
+    let v = owned_by s h l.header st.opened (ap (λ (k : Header). is_lock k.object) (sym st.header) ∙ lock)
+    st.legal st.seated in
     let most = v.exclusive i in
     let small = small_limit s.header.object in
     omega (arith, most, small)
@@ -62,9 +64,11 @@ pub free_small : (s : Start) (h : List Entry) (l : Ledger) → LedgerStand s h l
     is_semaphore l.header.object ≡ true → nat_abs l.permits.free ≤ 2147483648
 free_small s h l st semaphore =
     let L : Start → Type 0 = λ x. IsLegal x h in
-    let same : free (opening l.header) h ≡ l.permits.free = ap (λ x. free x h) (sym st.opened) ∙ sym st.numbers.is_free in
+    let same : free (opening l.header) h ≡ l.permits.free =
+    ap (λ x. free x h) (sym st.opened) ∙ sym st.numbers.is_free in
     let F : ℤ → Type 0 = λ z. FitsSigned w32 z in
-    fits_small l.permits.free (subst F same (free_fits l.header h st.range semaphore (subst L st.opened st.legal)))
+    fits_small l.permits.free (subst F same
+    (free_fits l.header h st.range semaphore (subst L st.opened st.legal)))
 
 most_one : (n : ℕ) → at_most_one n ≤ 1
 most_one n = by (eqb n 0)

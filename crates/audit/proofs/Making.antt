@@ -1,5 +1,5 @@
 -- If any step of its seat makes an entry, one of its candidates does.
-use Rattle.std.proofs.Common.{◌≡◌, ◌⊎◌, inl, inr, ⊎_elim, ℕ, zero, suc, Bool, true, false, not, cond, leb, leb-false, ltb, arith, List, length, Option, Some, None, Result, Ok, Err, refl, ap, ◌∙◌, sym, subst, pos, ◌+ℤ◌}
+use Rattle.std.proofs.Common.{◌≡◌, ◌⊎◌, inl, inr, ⊎_elim, ℕ, Bool, true, false, not, cond, leb, leb-false, ltb, arith, List, length, Option, Some, None, Result, Ok, refl, ap, ◌∙◌, sym, subst, pos, ◌+ℤ◌}
 use Rattle.std.specs.Prelude.{int_lt}
 use Rattle.std.proofs.lemmas.Bool.{lt-leb}
 use Rattle.audit.specs.declared.candidates.Candidates.{Candidates}
@@ -26,11 +26,10 @@ use Rattle.history.specs.Object.{is_lock}
 use Rattle.history.specs.Phase.{Phase, Idle, InLine, Sleeping, phase, suits}
 use Rattle.history.specs.Sleepers.{sleepers}
 use Rattle.history.specs.Start.{Start}
-use Rattle.history.specs.Steps.{plain, acquired, tried, tried_fairly, gave, awaits, signals, at_most_one, idle_entry, back, lapse, ended, queued_entry, line_entry, sleeping_entry, phase_entry, entry_for}
+use Rattle.history.specs.Steps.{plain, gave, awaits, at_most_one, idle_entry, back, lapse, ended, queued_entry, line_entry, sleeping_entry, phase_entry, entry_for}
 use Rattle.history.proofs.Entering.{Admitted}
 use Rattle.history.proofs.Entering as entering
 use Rattle.audit.specs.Candidates.{candidates, IsCandidate}
-use Rattle.audit.specs.Checks.{refused_as}
 use Rattle.audit.proofs.Deciding.{entry_admitted, in_phase_made}
 
 -- A candidate that makes an entry.
@@ -54,20 +53,25 @@ found_itself s h i step x e candidate same q =
 
 -- What an idle seat's steps make, by their tests.
 acquired_by : (b l c : Bool) (i : ℕ) (m : Mode) (n : ℕ) →
-    IsCandidate (plain i (cond b word.Queued (cond l (word.Refused fault.TooManyHolds) (cond c word.Got word.Queued))) m n) (Acquire m n)
+    IsCandidate (plain i
+    (cond b word.Queued (cond l (word.Refused fault.TooManyHolds) (cond c word.Got word.Queued))) m n)
+    (Acquire m n)
 acquired_by true l c i m n = inl refl
 acquired_by false true c i m n = inl refl
 acquired_by false false true i m n = inl refl
 acquired_by false false false i m n = inl refl
 
 tried_by : (l c : Bool) (i : ℕ) (m : Mode) (n : ℕ) →
-    IsCandidate (plain i (cond l (word.Refused fault.TooManyHolds) (cond c word.TryGot word.Missed)) m n) (Try m n)
+    IsCandidate (plain i (cond l (word.Refused fault.TooManyHolds) (cond c word.TryGot word.Missed)) m n)
+    (Try m n)
 tried_by true c i m n = inr (inl refl)
 tried_by false true i m n = inl refl
 tried_by false false i m n = inl refl
 
 tried_fairly_by : (b l c : Bool) (i : ℕ) (m : Mode) (n : ℕ) →
-    IsCandidate (plain i (cond b word.Missed (cond l (word.Refused fault.TooManyHolds) (cond c word.Got word.Missed))) m n) (TryFair m n)
+    IsCandidate (plain i
+    (cond b word.Missed (cond l (word.Refused fault.TooManyHolds) (cond c word.Got word.Missed))) m n)
+    (TryFair m n)
 tried_fairly_by true l c i m n = inr (inl refl)
 tried_fairly_by false true c i m n = inr (inr refl)
 tried_fairly_by false false true i m n = inr (inl refl)
@@ -83,7 +87,8 @@ gave_permits : (b : Bool) (i : ℕ) (m : Mode) (n : ℕ) →
 gave_permits true i m n = inl refl
 gave_permits false i m n = inl refl
 
-gave_by : (o : Object) (k : Counts) (i : ℕ) (m : Mode) (n : ℕ) → IsCandidate (plain i (gave o k i m n) m n) (Give m n)
+gave_by : (o : Object) (k : Counts) (i : ℕ) (m : Mode) (n : ℕ) →
+    IsCandidate (plain i (gave o k i m n) m n) (Give m n)
 gave_by (Lock p) k i m n = gave_hold (ltb 0 (k.held i m)) i m n
 gave_by (ReadWrite p) k i m n = gave_hold (ltb 0 (k.held i m)) i m n
 gave_by (Semaphore p c) k i m n = gave_permits (int_lt (pos max_amount) (k.free +ℤ pos n)) i m n
@@ -106,13 +111,15 @@ awaited_by true d i n c = inr (inr (inl refl), refl)
 awaited_by false true i n c = inr (inl refl, refl)
 awaited_by false false i n c = inl (inl refl)
 
-signalled_by : (b d : Bool) (i n held c : ℕ) → IsCandidate (cond b (not_owner i) (on_condition word.Signal i n c)) (Signal c)
+signalled_by : (b d : Bool) (i n held c : ℕ) →
+    IsCandidate (cond b (not_owner i) (on_condition word.Signal i n c)) (Signal c)
     ⊎ (IsCandidate (cond b (not_owner i) (on_condition word.Signal i n c)) (Await 0)
     × (await_by b d i held 0 ≡ cond b (not_owner i) (on_condition word.Signal i n c)))
 signalled_by true d i n held c = inr (inr (inl refl), refl)
 signalled_by false d i n held c = inl (inl refl)
 
-all_signalled_by : (b d : Bool) (i n held c : ℕ) → IsCandidate (cond b (not_owner i) (on_condition word.SignalAll i n c)) (SignalAll c)
+all_signalled_by : (b d : Bool) (i n held c : ℕ) →
+    IsCandidate (cond b (not_owner i) (on_condition word.SignalAll i n c)) (SignalAll c)
     ⊎ (IsCandidate (cond b (not_owner i) (on_condition word.SignalAll i n c)) (Await 0)
     × (await_by b d i held 0 ≡ cond b (not_owner i) (on_condition word.SignalAll i n c)))
 all_signalled_by true d i n held c = inr (inr (inl refl), refl)
@@ -129,10 +136,13 @@ await_admitted true true p q = absurd (cc)
 await_admitted false b p q = absurd (cc)
 
 -- what an await of condition 0 makes
-first_await : (s : Start) (h : List Entry) (i c : ℕ) → phase s h i ≡ Idle → not (is_lock s.header.object) ≡ false →
+first_await : (s : Start) (h : List Entry) (i c : ℕ) → phase s h i ≡ Idle →
+    not (is_lock s.header.object) ≡ false →
     leb s.header.conditions c ≡ false → entry_for s h i (Await 0) ≡ Ok (Some (awaits (counts s h) i 0))
 first_await s h i c idle lock condition =
-    entry_admitted s h i (Await 0) (await_admitted (is_lock s.header.object) (leb s.header.conditions 0) lock (has_first s.header.conditions c condition))
+    entry_admitted s h i (Await 0)
+    (await_admitted (is_lock s.header.object) (leb s.header.conditions 0) lock
+    (has_first s.header.conditions c condition))
     ∙ sym (in_phase_made s h i (Await 0) Idle (Some (awaits (counts s h) i 0)) idle refl refl)
 
 -- a call on a condition, or the await of condition 0 that is refused as it is
@@ -140,21 +150,27 @@ found_await : (s : Start) (h : List Entry) (i c : ℕ) (step : Step) (x e : Entr
     not (is_lock s.header.object) ≡ false → leb s.header.conditions c ≡ false → x ≡ e →
     entry_for s h i step ≡ Ok (Some e) →
     IsCandidate x step ⊎ (IsCandidate x (Await 0) × (awaits (counts s h) i 0 ≡ x)) → Found s h i e
-found_await s h i c step x e idle lock condition same q (inl candidate) = found_itself s h i step x e candidate same q
+found_await s h i c step x e idle lock condition same q (inl candidate) =
+    found_itself s h i step x e candidate same q
 found_await s h i c step x e idle lock condition same q (inr r) =
-    found_itself s h i (Await 0) x e r.0 same (first_await s h i c idle lock condition ∙ made_same _ e (r.1 ∙ same))
+    found_itself s h i (Await 0) x e r.0 same
+    (first_await s h i c idle lock condition ∙ made_same _ e (r.1 ∙ same))
 
 idle_found : (s : Start) (h : List Entry) (i : ℕ) (step : Step) (e : Entry) → phase s h i ≡ Idle →
-    is_wrong_mode s.header.object step ≡ false → is_no_condition s.header step ≡ false → suits Idle step ≡ true →
+    is_wrong_mode s.header.object step ≡ false → is_no_condition s.header step ≡ false →
+    suits Idle step ≡ true →
     idle_entry s h i step ≡ e → entry_for s h i step ≡ Ok (Some e) → Found s h i e
 idle_found s h i (Acquire m n) e idle mode condition suit same q =
     let k = counts s h in
-    found_itself s h i (Acquire m n) _ e (acquired_by (held_back k (first_mode s h) i m) (limit k i m) (could k i m n) i m n) same q
+    found_itself s h i (Acquire m n) _ e
+    (acquired_by (held_back k (first_mode s h) i m) (limit k i m) (could k i m n) i m n) same q
 idle_found s h i (Try m n) e idle mode condition suit same q =
-    let k = counts s h in found_itself s h i (Try m n) _ e (tried_by (limit k i m) (could k i m n) i m n) same q
+    let k = counts s h in found_itself s h i (Try m n) _ e (tried_by (limit k i m) (could k i m n) i m n)
+    same q
 idle_found s h i (TryFair m n) e idle mode condition suit same q =
     let k = counts s h in
-    found_itself s h i (TryFair m n) _ e (tried_fairly_by (held_back k (first_mode s h) i m) (limit k i m) (could k i m n) i m n) same q
+    found_itself s h i (TryFair m n) _ e
+    (tried_fairly_by (held_back k (first_mode s h) i m) (limit k i m) (could k i m n) i m n) same q
 idle_found s h i (EntryInterrupt m n) e idle mode condition suit same q =
     found_itself s h i (EntryInterrupt m n) _ e (inl refl) same q
 idle_found s h i (Give m n) e idle mode condition suit same q =
@@ -166,11 +182,13 @@ idle_found s h i (Await c) e idle mode condition suit same q =
 idle_found s h i (Signal c) e idle mode condition suit same q =
     let k = counts s h in
     found_await s h i c (Signal c) _ e idle mode condition same q
-    (signalled_by (not (is_seat (owner k) i)) (ltb 0 (k.held i S)) i (at_most_one (length (sleepers s h c))) (k.held i X) c)
+    (signalled_by (not (is_seat (owner k) i)) (ltb 0 (k.held i S)) i (at_most_one (length (sleepers s h c)))
+    (k.held i X) c)
 idle_found s h i (SignalAll c) e idle mode condition suit same q =
     let k = counts s h in
     found_await s h i c (SignalAll c) _ e idle mode condition same q
-    (all_signalled_by (not (is_seat (owner k) i)) (ltb 0 (k.held i S)) i (length (sleepers s h c)) (k.held i X) c)
+    (all_signalled_by (not (is_seat (owner k) i)) (ltb 0 (k.held i S)) i (length (sleepers s h c))
+    (k.held i X) c)
 idle_found s h i Drain e idle mode condition suit same q = found_itself s h i Drain _ e (inl refl) same q
 idle_found s h i Look e idle mode condition suit same q = absurd (cc)
 idle_found s h i Expire e idle mode condition suit same q = absurd (cc)
@@ -187,7 +205,8 @@ look_made s h i a comes goes is b g =
     ∙ sym (in_phase_made s h i Look (InLine a) (line_entry s h (is_seat (ready s h) i) i a Look) is refl refl)
     ∙ ap (λ x. seen x (is_seat (ready s h) i)) b ∙ ap (seen comes) g
 
-line_found : (s : Start) (h : List Entry) (i : ℕ) (step : Step) (e : Entry) (a : Arrival) (comes goes : Bool) →
+line_found : (s : Start) (h : List Entry) (i : ℕ) (step : Step) (e : Entry) (a : Arrival)
+    (comes goes : Bool) →
     phase s h i ≡ InLine a → a.back ≡ comes → is_seat (ready s h) i ≡ goes →
     cond comes (cond goes (Some (back s h i)) None) (queued_entry goes i a step) ≡ Some e →
     entry_for s h i step ≡ Ok (Some e) → Found s h i e
@@ -195,21 +214,27 @@ line_found s h i step e a true true is b g made q =
     let same = some_same (back s h i) e made in
     found_itself s h i Look _ e (inl refl) same (look_made s h i a true true is b g ∙ made_same _ e same)
 line_found s h i step e a true false is b g made q = absurd (cc)
-line_found s h i Look e a false true is b g made q = found_itself s h i Look _ e (inl refl) (some_same _ e made) q
+line_found s h i Look e a false true is b g made q =
+    found_itself s h i Look _ e (inl refl) (some_same _ e made) q
 line_found s h i Look e a false false is b g made q = absurd (cc)
 line_found s h i Expire e a false true is b g made q =
     let same = some_same (ended i word.Granted a end.None) e made in
     found_itself s h i Look _ e (inl refl) same (look_made s h i a false true is b g ∙ made_same _ e same)
-line_found s h i Expire e a false false is b g made q = found_itself s h i Expire _ e (inl refl) (some_same (ended i word.Left a end.Timeout) e made) q
-line_found s h i Interrupt e a false true is b g made q = found_itself s h i Interrupt _ e (inr (inl refl)) (some_same (ended i word.Left a end.Interrupt) e made) q
-line_found s h i Interrupt e a false false is b g made q = found_itself s h i Interrupt _ e (inr (inl refl)) (some_same (ended i word.Left a end.Interrupt) e made) q
+line_found s h i Expire e a false false is b g made q =
+    found_itself s h i Expire _ e (inl refl) (some_same (ended i word.Left a end.Timeout) e made) q
+line_found s h i Interrupt e a false true is b g made q =
+    found_itself s h i Interrupt _ e (inr (inl refl)) (some_same (ended i word.Left a end.Interrupt) e made) q
+line_found s h i Interrupt e a false false is b g made q =
+    found_itself s h i Interrupt _ e (inr (inl refl)) (some_same (ended i word.Left a end.Interrupt) e made) q
 line_found s h i _ e a false true is b g made q = absurd (cc)
 line_found s h i _ e a false false is b g made q = absurd (cc)
 
 sleeping_found : (s : Start) (h : List Entry) (i : ℕ) (step : Step) (e : Entry) →
     sleeping_entry s h i step ≡ Some e → entry_for s h i step ≡ Ok (Some e) → Found s h i e
-sleeping_found s h i Expire e made q = found_itself s h i Expire _ e (inl refl) (some_same (lapse s h i end.Timeout) e made) q
-sleeping_found s h i Interrupt e made q = found_itself s h i Interrupt _ e (inr (inl refl)) (some_same (lapse s h i end.Interrupt) e made) q
+sleeping_found s h i Expire e made q =
+    found_itself s h i Expire _ e (inl refl) (some_same (lapse s h i end.Timeout) e made) q
+sleeping_found s h i Interrupt e made q =
+    found_itself s h i Interrupt _ e (inr (inl refl)) (some_same (lapse s h i end.Interrupt) e made) q
 sleeping_found s h i _ e made q = absurd (cc)
 
 phase_found : (s : Start) (h : List Entry) (i : ℕ) (step : Step) (e : Entry) (p : Phase) → phase s h i ≡ p →
@@ -228,7 +253,8 @@ found s h i step e q =
     phase_found s h i step e (phase s h i) refl a a.in_phase a.made q
 
 -- an entry that some step makes is made by the third candidate, where it isn't by the others
-pub some_candidate : (s : Start) (h : List Entry) (e : Entry) (k : Candidates) (x y z : Bool) → k ≡ candidates e →
+pub some_candidate : (s : Start) (h : List Entry) (e : Entry) (k : Candidates) (x y z : Bool) →
+    k ≡ candidates e →
     x ≡ false → y ≡ false → (entry_for s h e.seat k.first ≡ Ok (Some e) → x ≡ true) →
     (entry_for s h e.seat k.second ≡ Ok (Some e) → y ≡ true) →
     (entry_for s h e.seat k.third ≡ Ok (Some e) → z ≡ true) → IsNext s h e → z ≡ true

@@ -14,8 +14,9 @@ use Rattle.audit.specs.Same.{word_kind, fault_in, mode_number, end_number, agree
 
 abbrev faults : List Fault
 faults =
-    fault.NotOwner ∷ fault.NotOwner ∷ fault.TooManyHolds ∷ fault.TooManyPermits ∷ fault.Interrupted ∷ fault.HoldsRead
-    ∷ fault.OutOfPhase ∷ fault.NoSuchCondition ∷ fault.BadAmount ∷ fault.WrongMode ∷ fault.HistoryFull ∷ fault.OutOfMemory ∷ []
+    fault.NotOwner ∷ fault.NotOwner ∷ fault.TooManyHolds ∷ fault.TooManyPermits ∷ fault.Interrupted
+    ∷ fault.HoldsRead ∷ fault.OutOfPhase ∷ fault.NoSuchCondition ∷ fault.BadAmount ∷ fault.WrongMode
+    ∷ fault.HistoryFull ∷ fault.OutOfMemory ∷ []
 
 fault_again : (f : Fault) → get_or faults (fault_number f) fault.NotOwner ≡ f
 fault_again fault.NotOwner = refl
@@ -32,8 +33,8 @@ fault_again fault.OutOfMemory = refl
 
 abbrev words : Fault → List Word
 words f =
-    Got ∷ TryGot ∷ Queued ∷ Granted ∷ Missed ∷ Left ∷ Gave ∷ Await ∷ Lapse ∷ Signal ∷ SignalAll ∷ Back ∷ Counted
-    ∷ Drained ∷ Refused f ∷ []
+    Got ∷ TryGot ∷ Queued ∷ Granted ∷ Missed ∷ Left ∷ Gave ∷ Await ∷ Lapse ∷ Signal ∷ SignalAll ∷ Back
+    ∷ Counted ∷ Drained ∷ Refused f ∷ []
 
 abbrev word_at : ℕ → ℕ → Word
 word_at kind f = get_or (words (get_or faults f fault.NotOwner)) kind Got
@@ -93,12 +94,19 @@ same_entries a b t =
     let seat : a.seat ≡ b.seat = eqb-true a.seat b.seat p1.0 in
     let n : a.n ≡ b.n = eqb-true a.n b.n p2.0 in
     let at : a.at ≡ b.at = eqb-true a.at b.at p3.0 in
-    let word : a.word ≡ b.word = same_word a.word b.word (eqb-true (word_kind a.word) (word_kind b.word) p4.0) (eqb-true (fault_in a.word) (fault_in b.word) p5.0) in
-    let mode : a.mode ≡ b.mode = sym (mode_again a.mode) ∙ ap mode_at (eqb-true (mode_number a.mode) (mode_number b.mode) p6.0) ∙ mode_again b.mode in
-    let how : a.end ≡ b.end = sym (end_again a.end) ∙ ap end_at (eqb-true (end_number a.end) (end_number b.end) p6.1) ∙ end_again b.end in
-    ap (λ x. entry_by x a.word a.mode a.n a.at a.end) seat ∙ ap (λ x. entry_by b.seat x a.mode a.n a.at a.end) word
-    ∙ ap (λ x. entry_by b.seat b.word x a.n a.at a.end) mode ∙ ap (λ x. entry_by b.seat b.word b.mode x a.at a.end) n
-    ∙ ap (λ x. entry_by b.seat b.word b.mode b.n x a.end) at ∙ ap (λ x. entry_by b.seat b.word b.mode b.n b.at x) how
+    let word : a.word ≡ b.word =
+    same_word a.word b.word (eqb-true (word_kind a.word) (word_kind b.word) p4.0)
+    (eqb-true (fault_in a.word) (fault_in b.word) p5.0) in
+    let mode : a.mode ≡ b.mode = sym (mode_again a.mode) ∙ ap mode_at
+    (eqb-true (mode_number a.mode) (mode_number b.mode) p6.0) ∙ mode_again b.mode in
+    let how : a.end ≡ b.end = sym (end_again a.end) ∙ ap end_at
+    (eqb-true (end_number a.end) (end_number b.end) p6.1) ∙ end_again b.end in
+    ap (λ x. entry_by x a.word a.mode a.n a.at a.end) seat
+    ∙ ap (λ x. entry_by b.seat x a.mode a.n a.at a.end) word
+    ∙ ap (λ x. entry_by b.seat b.word x a.n a.at a.end) mode
+    ∙ ap (λ x. entry_by b.seat b.word b.mode x a.at a.end) n
+    ∙ ap (λ x. entry_by b.seat b.word b.mode b.n x a.end) at ∙ ap
+    (λ x. entry_by b.seat b.word b.mode b.n b.at x) how
 
 and_true : (x y : Bool) → x ≡ true → y ≡ true → (x && y) ≡ true
 and_true true y p q = q

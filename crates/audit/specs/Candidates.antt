@@ -18,7 +18,8 @@ either a b = record { first = a; second = b; third = b }
 
 -- no step makes a fault that isn't recorded
 abbrev pub refusal_candidates : Fault → Mode → ℕ → Candidates
-refusal_candidates fault.TooManyHolds m n = record { first = Acquire m n; second = Try m n; third = TryFair m n }
+refusal_candidates fault.TooManyHolds m n =
+    record { first = Acquire m n; second = Try m n; third = TryFair m n }
 refusal_candidates fault.Interrupted m n = only (EntryInterrupt m n)
 refusal_candidates fault.NotOwner m n = either (Give m n) (Await 0)
 refusal_candidates fault.TooManyPermits m n = only (Give m n)

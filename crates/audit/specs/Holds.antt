@@ -1,9 +1,9 @@
 -- What the audit's tables of holds stand for.
-use Rattle.std.specs.Prelude.{◌≡◌, ◌≢◌, ℕ, ◌+◌, ◌*◌, ◌<◌, ◌≤◌, List, ◌∷◌, length, slice_index, true, Option, Some, None, nat_lt, if◌then◌else◌}
+use Rattle.std.specs.Prelude.{◌≡◌, ◌≢◌, ℕ, ◌*◌, ◌<◌, ◌≤◌, List, length, slice_index, true, Option, Some, None, nat_lt, if◌then◌else◌}
 use Rattle.history.specs.declared.entry.Entry.{Entry}
 use Rattle.history.specs.declared.entry.Mode.TheVariants.{X, S}
 use Rattle.history.specs.Could.{is_seat}
-use Rattle.history.specs.Counts.{counts, held, owner, readers, total}
+use Rattle.history.specs.Counts.{counts, held, owner, readers}
 use Rattle.history.specs.Object.{is_lock}
 use Rattle.history.specs.Start.{Start}
 use Rattle.audit.specs.declared.holds.Holds.{Holds}

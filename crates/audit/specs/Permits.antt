@@ -1,5 +1,5 @@
 -- What the audit's numbers of permits and calls stand for.
-use Rattle.std.specs.Prelude.{◌≡◌, ℕ, ◌+◌, ◌*◌, ◌≤◌, List, length, nat_abs, FitsSigned}
+use Rattle.std.specs.Prelude.{◌≡◌, ◌+◌, ◌*◌, ◌≤◌, List, length, nat_abs, FitsSigned}
 use Rattle.std.specs.Int.{w128}
 use Rattle.history.specs.declared.entry.Entry.{Entry}
 use Rattle.history.specs.Counts.{free, unheld, counted}

@@ -1,5 +1,5 @@
 -- What a history adds up to.
-use Rattle.std.specs.Prelude.{ℕ, List, length, ℤ, pos}
+use Rattle.std.specs.Prelude.{List, length, pos}
 use Rattle.history.specs.declared.entry.Entry.{Entry}
 use Rattle.history.specs.declared.entry.Mode.TheVariants.{X, S}
 use Rattle.history.specs.declared.header.Object.{Object}

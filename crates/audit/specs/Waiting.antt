@@ -1,5 +1,5 @@
 -- What the audit's line and sleepers stand for.
-use Rattle.std.specs.Prelude.{◌≡◌, ℕ, ◌<◌, ◌≤◌, ◌==◌, if◌then◌else◌, List, [], ◌∷◌, length, slice_index_or}
+use Rattle.std.specs.Prelude.{◌≡◌, ℕ, ◌≤◌, ◌==◌, if◌then◌else◌, List, [], ◌∷◌, length, slice_index_or}
 use Rattle.history.specs.declared.entry.Entry.{Entry}
 use Rattle.history.specs.declared.entry.End.{End}
 use Rattle.history.specs.declared.entry.End.TheVariants as end
@@ -18,6 +18,13 @@ seats_on c (x ∷ xs) = if x.condition == c then x.seat ∷ seats_on c xs else s
 
 abbrev pub sleep_of : Sleep → start.Sleep
 sleep_of x = record { condition = x.condition; holds = x.holds; how = x.how }
+
+-- who falls asleep by an await, and what it saves
+abbrev pub sleeper_by : Entry → Sleeper
+sleeper_by e = record { condition = e.at; seat = e.seat }
+
+abbrev pub sleep_by : Entry → Sleep
+sleep_by e = record { condition = e.at; holds = e.n; how = end.Signalled }
 
 -- a sleep that is ended in some way
 abbrev pub ended_by : End → Sleep → Sleep

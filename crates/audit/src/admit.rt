@@ -16,7 +16,8 @@ impl Ledger {
     /// Whether a step of its seat makes the entry.
     fn makes(&self, step: Step, entry: Entry) -> bool
         requires { HasSeat self.now entry.seat }
-        ensures { (s : Start) (h : List Entry) → LedgerStand s h self.now → IsTrue result ↔ (entry_for s h entry.seat step ≡ Ok (Some entry)) }
+        ensures { (s : Start) (h : List Entry) → LedgerStand s h self.now →
+            IsTrue result ↔ (entry_for s h entry.seat step ≡ Ok (Some entry)) }
     {
         match self.entry_for(entry.seat, step) {
             Ok(Some(made)) => is_same(made, entry),
@@ -26,7 +27,7 @@ impl Ledger {
     }
 
     /// Whether any step of its seat makes the entry.
-    pub fn admits(&self, entry: Entry) -> bool
+    pub(crate) fn admits(&self, entry: Entry) -> bool
         requires { HasSeat self.now entry.seat }
         ensures { (s : Start) (h : List Entry) → LedgerStand s h self.now → IsTrue result ↔ IsNext s h entry }
     {

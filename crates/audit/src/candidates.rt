@@ -10,14 +10,14 @@ use history::step::Step;
 
 /// Three steps, some of them the same. If any step of its seat makes an entry, one of its candidates does.
 #[derive(Clone, Copy, Drop)]
-pub struct Candidates {
+pub(crate) struct Candidates {
     pub(crate) first: Step,
     pub(crate) second: Step,
     pub(crate) third: Step,
 }
 
 /// The candidates of an entry.
-pub fn possible_steps(entry: Entry) -> Candidates
+pub(crate) fn possible_steps(entry: Entry) -> Candidates
     ensures { result ≡ candidates entry }
 {
     let Entry { mode, n, at, .. } = entry;

@@ -12,7 +12,7 @@ use history::header::{Header, Object};
 use history::step::Step;
 
 /// The fault of a step that the object doesn't have: its mode, its condition, its amount, in this order.
-pub fn refused_as(header: &Header, step: Step) -> Option<Fault>
+pub(crate) fn refused_as(header: &Header, step: Step) -> Option<Fault>
     ensures { result ≡ refused_as header.now step }
 {
     if is_wrong_mode(header.object, step) {
@@ -27,20 +27,20 @@ pub fn refused_as(header: &Header, step: Step) -> Option<Fault>
 }
 
 /// Whether a step is for one who stands in line or sleeps.
-pub fn waits(step: Step) -> bool
+pub(crate) fn waits(step: Step) -> bool
     ensures { result ≡ waits step }
 {
     matches!(step, Step::Look | Step::Expire | Step::Interrupt)
 }
 
-/// Whether it is owned, has conditions, and keeps room for each hold.
+/// Whether the object is owned, has conditions, and keeps room for each hold: a lock or a read-write lock.
 pub fn is_lock(object: Object) -> bool
     ensures { result ≡ is_lock object }
 {
     matches!(object, Object::Lock(_) | Object::ReadWrite(_))
 }
 
-pub fn is_semaphore(object: Object) -> bool
+fn is_semaphore(object: Object) -> bool
     ensures { result ≡ is_semaphore object }
 {
     matches!(object, Object::Semaphore(_, _))

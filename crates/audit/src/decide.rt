@@ -34,14 +34,16 @@ impl Ledger {
     /// Whether the line holds a new call back.
     fn is_held_back(&self, seat: u16, mode: Mode) -> bool
         requires { HasSeat self.now seat }
-        ensures { (s : Start) (h : List Entry) → LedgerStand s h self.now → result ≡ held_back (counts s h) (first_mode s h) seat mode }
+        ensures { (s : Start) (h : List Entry) → LedgerStand s h self.now →
+            result ≡ held_back (counts s h) (first_mode s h) seat mode }
     {
         !self.is_reentrant(seat, mode) && self.line_blocks(mode)
     }
 
     fn acquired(&self, seat: u16, mode: Mode, n: u32) -> Word
         requires { HasSeat self.now seat }
-        ensures { (s : Start) (h : List Entry) → LedgerStand s h self.now → result ≡ acquired (counts s h) (first_mode s h) seat mode n }
+        ensures { (s : Start) (h : List Entry) → LedgerStand s h self.now →
+            result ≡ acquired (counts s h) (first_mode s h) seat mode n }
     {
         if self.is_held_back(seat, mode) {
             Word::Queued
@@ -56,7 +58,8 @@ impl Ledger {
 
     fn tried(&self, seat: u16, mode: Mode, n: u32) -> Word
         requires { HasSeat self.now seat }
-        ensures { (s : Start) (h : List Entry) → LedgerStand s h self.now → result ≡ tried (counts s h) seat mode n }
+        ensures { (s : Start) (h : List Entry) → LedgerStand s h self.now →
+            result ≡ tried (counts s h) seat mode n }
     {
         if self.at_limit(seat, mode) {
             Word::Refused(Fault::TooManyHolds)
@@ -69,7 +72,8 @@ impl Ledger {
 
     fn tried_fairly(&self, seat: u16, mode: Mode, n: u32) -> Word
         requires { HasSeat self.now seat }
-        ensures { (s : Start) (h : List Entry) → LedgerStand s h self.now → result ≡ tried_fairly (counts s h) (first_mode s h) seat mode n }
+        ensures { (s : Start) (h : List Entry) → LedgerStand s h self.now →
+            result ≡ tried_fairly (counts s h) (first_mode s h) seat mode n }
     {
         if self.is_held_back(seat, mode) {
             Word::Missed
@@ -85,7 +89,8 @@ impl Ledger {
     /// What a give makes: a hold must be the giver's own, permits mustn't pass the greatest number.
     fn gave(&self, seat: u16, mode: Mode, n: u32) -> Word
         requires { HasSeat self.now seat }
-        ensures { (s : Start) (h : List Entry) → LedgerStand s h self.now → result ≡ gave s.header.object (counts s h) seat mode n }
+        ensures { (s : Start) (h : List Entry) → LedgerStand s h self.now →
+            result ≡ gave s.header.object (counts s h) seat mode n }
     {
         match self.header.object {
             Object::Lock(_) | Object::ReadWrite(_) => {
@@ -108,7 +113,8 @@ impl Ledger {
 
     /// Whether so many permits more would be too many free ones.
     fn is_too_many(&self, n: u32) -> bool
-        ensures { (s : Start) (h : List Entry) → LedgerStand s h self.now → result ≡ int_lt (pos 2147483647) ((counts s h).free +ℤ pos n) }
+        ensures { (s : Start) (h : List Entry) → LedgerStand s h self.now →
+            result ≡ int_lt (pos 2147483647) ((counts s h).free +ℤ pos n) }
     {
         MAX_PERMITS - i128::from(n) < self.permits.free
     }
@@ -137,7 +143,8 @@ impl Ledger {
     fn awaits(&self, seat: u16, condition: u8) -> Entry
         requires seat { HasSeat self.now seat }
         requires lock { is_lock self.now.header.object ≡ true }
-        ensures { (s : Start) (h : List Entry) → LedgerStand s h self.now → result ≡ awaits (counts s h) seat condition }
+        ensures { (s : Start) (h : List Entry) → LedgerStand s h self.now →
+            result ≡ awaits (counts s h) seat condition }
     {
         if !self.owns(seat) {
             plain(seat, Word::Refused(Fault::NotOwner), Mode::X, 1)
@@ -158,7 +165,8 @@ impl Ledger {
     /// A signal is the owner's, and has the number of sleepers that it moves.
     fn signals(&self, seat: u16, word: Word, moved: u32, condition: u8) -> Entry
         requires lock { is_lock self.now.header.object ≡ true }
-        ensures { (s : Start) (h : List Entry) → LedgerStand s h self.now → result ≡ signals (counts s h) word moved seat condition }
+        ensures { (s : Start) (h : List Entry) → LedgerStand s h self.now →
+            result ≡ signals (counts s h) word moved seat condition }
     {
         if !self.owns(seat) {
             return plain(seat, Word::Refused(Fault::NotOwner), Mode::X, 1);
@@ -176,7 +184,8 @@ impl Ledger {
     /// How many sleep on a condition.
     fn sleepers_on(&self, condition: u8, seat: u16) -> u32
         requires { HasSeat self.now seat }
-        ensures { (s : Start) (h : List Entry) → LedgerStand s h self.now → result ≡ length (sleepers s h condition) }
+        ensures { (s : Start) (h : List Entry) → LedgerStand s h self.now →
+            result ≡ length (sleepers s h condition) }
     {
         count_on(&self.waiting.asleep, condition)
     }
@@ -185,7 +194,8 @@ impl Ledger {
     fn free_permits(&self, seat: u16) -> u32
         requires seat { HasSeat self.now seat }
         requires semaphore { is_semaphore self.now.header.object ≡ true }
-        ensures { (s : Start) (h : List Entry) → LedgerStand s h self.now → result ≡ at_least_none (counts s h).free }
+        ensures { (s : Start) (h : List Entry) → LedgerStand s h self.now →
+            result ≡ at_least_none (counts s h).free }
     {
         let free = self.permits.free;
         if free < 0 {
@@ -200,7 +210,8 @@ impl Ledger {
         requires seat { HasSeat self.now seat }
         requires admitted { refused_as self.now.header step ≡ None }
         requires idle { waits step ≡ false }
-        ensures { (s : Start) (h : List Entry) → LedgerStand s h self.now → result ≡ idle_entry s h seat step }
+        ensures { (s : Start) (h : List Entry) → LedgerStand s h self.now →
+            result ≡ idle_entry s h seat step }
     {
         match step {
             Step::Acquire(mode, n) => plain(seat, self.acquired(seat, mode, n), mode, n),
@@ -235,7 +246,8 @@ impl Ledger {
     /// The last sleep of a seat.
     fn last_sleep(&self, seat: u16) -> Sleep
         requires { HasSeat self.now seat }
-        ensures { (s : Start) (h : List Entry) → LedgerStand s h self.now → sleep_of result ≡ last_sleep s h seat }
+        ensures { (s : Start) (h : List Entry) → LedgerStand s h self.now →
+            sleep_of result ≡ last_sleep s h seat }
     {
         self.waiting.last_sleep[seat as usize]
     }
@@ -243,7 +255,8 @@ impl Ledger {
     /// The entry of one in line, or sleep.
     fn line_entry(&self, seat: u16, arrival: Arrival, step: Step) -> Option<Entry>
         requires { HasSeat self.now seat }
-        ensures { (s : Start) (h : List Entry) → LedgerStand s h self.now → result ≡ line_entry s h (is_seat (ready s h) seat) seat arrival step }
+        ensures { (s : Start) (h : List Entry) → LedgerStand s h self.now →
+            result ≡ line_entry s h (is_seat (ready s h) seat) seat arrival step }
     {
         let goes = self.is_ready(seat);
         if !arrival.back {
@@ -259,7 +272,8 @@ impl Ledger {
     fn entry_in_phase(&self, seat: u16, step: Step) -> Result<Option<Entry>, Fault>
         requires seat { HasSeat self.now seat }
         requires admitted { refused_as self.now.header step ≡ None }
-        ensures { (s : Start) (h : List Entry) → LedgerStand s h self.now → result ≡ in_phase s h seat step (phase s h seat) }
+        ensures { (s : Start) (h : List Entry) → LedgerStand s h self.now →
+            result ≡ in_phase s h seat step (phase s h seat) }
     {
         match self.place_of(seat) {
             Some(arrival) => {
@@ -282,7 +296,8 @@ impl Ledger {
         }
     }
 
-    /// The one entry of a step, or sleep, or a fault that isn't recorded.
+    /// The one entry that a step of the seat makes as the next one; `None` is sleep, and a fault is one that
+    /// isn't recorded.
     pub fn entry_for(&self, seat: u16, step: Step) -> Result<Option<Entry>, Fault>
         requires { HasSeat self.now seat }
         ensures { (s : Start) (h : List Entry) → LedgerStand s h self.now → result ≡ entry_for s h seat step }

@@ -13,7 +13,7 @@ use history::entry::{End, Entry, Mode, Word};
 use history::step::Step;
 
 /// An entry of no condition and no wait.
-pub fn plain(seat: u16, word: Word, mode: Mode, n: u32) -> Entry
+pub(crate) fn plain(seat: u16, word: Word, mode: Mode, n: u32) -> Entry
     ensures { result ≡ plain seat word mode n }
 {
     Entry {
@@ -41,7 +41,7 @@ fn ended(seat: u16, word: Word, arrival: Arrival, end: End) -> Entry
 }
 
 /// What a queued acquire makes of a step, whether it may go or not; `None` is sleep.
-pub fn queued_entry(goes: bool, seat: u16, arrival: Arrival, step: Step) -> Option<Entry>
+pub(crate) fn queued_entry(goes: bool, seat: u16, arrival: Arrival, step: Step) -> Option<Entry>
     ensures { result ≡ queued_entry goes seat arrival step }
 {
     match step {
@@ -65,7 +65,7 @@ pub fn queued_entry(goes: bool, seat: u16, arrival: Arrival, step: Step) -> Opti
 }
 
 /// The end of an await: all that was given up is held again.
-pub fn back(seat: u16, sleep: Sleep) -> Entry
+pub(crate) fn back(seat: u16, sleep: Sleep) -> Entry
     ensures { (s : Start) (h : List Entry) → sleep_of sleep ≡ last_sleep s h seat → result ≡ back s h seat }
 {
     Entry {
@@ -79,8 +79,9 @@ pub fn back(seat: u16, sleep: Sleep) -> Entry
 }
 
 /// What a sleeper makes of a step; `None` is sleep.
-pub fn sleeping_entry(seat: u16, sleep: Sleep, step: Step) -> Option<Entry>
-    ensures { (s : Start) (h : List Entry) → sleep_of sleep ≡ last_sleep s h seat → result ≡ sleeping_entry s h seat step }
+pub(crate) fn sleeping_entry(seat: u16, sleep: Sleep, step: Step) -> Option<Entry>
+    ensures { (s : Start) (h : List Entry) → sleep_of sleep ≡ last_sleep s h seat →
+        result ≡ sleeping_entry s h seat step }
 {
     let end = match step {
         Step::Expire => End::Timeout,

@@ -48,7 +48,7 @@ fn holds_after(object: Object, word: Word, n: u32, had: u64) -> u64
 
 /// The holds of each seat by mode. Of a lock also the owner, so that asking for it needs no walk.
 #[derive(Drop)]
-pub struct Holds {
+pub(crate) struct Holds {
     pub(crate) exclusive: Vec<u64>,
     pub(crate) shared: Vec<u64>,
     pub(crate) owner: Option<u16>,
@@ -57,8 +57,9 @@ pub struct Holds {
 
 impl Holds {
     /// Nobody holds anything.
-    pub fn open(alloc: Global, seats: u16) -> Result<Self, Fault>
-        ensures stand { IfOk result (λ holds. (k : Header) → k.seats ≡ seats → HoldsStand (opening k) [] holds) }
+    pub(crate) fn open(alloc: Global, seats: u16) -> Result<Self, Fault>
+        ensures stand { IfOk result (λ holds. (k : Header) → k.seats ≡ seats →
+            HoldsStand (opening k) [] holds) }
         ensures memory { IsOkUnless result Fault.OutOfMemory }
     {
         let exclusive = match vec![in alloc; 0; seats as usize] {
@@ -79,9 +80,12 @@ impl Holds {
 
     /// Follows one more entry of one of the seats.
     pub(crate) fn note(&mut self, object: Object, entry: Entry)
-        requires seat { entry.seat < length self.old.exclusive.items × (entry.seat < length self.old.shared.items) }
+        requires seat { entry.seat < length self.old.exclusive.items
+            × (entry.seat < length self.old.shared.items) }
         requires bounds { (s : Start) × (h : List Entry) × HoldsStand s h self.old × (length h + 1 < 2 ^ 32) }
-        ensures { (s : Start) (h : List Entry) → HoldsStand s h self.old → s.header.object ≡ object → (is_lock object ≡ true → IsOnlyOwner s h × IsOnlyOwner s (entry ∷ h)) → HoldsStand s (entry ∷ h) self.new }
+        ensures { (s : Start) (h : List Entry) → HoldsStand s h self.old → s.header.object ≡ object →
+            (is_lock object ≡ true → IsOnlyOwner s h × IsOnlyOwner s (entry ∷ h)) →
+            HoldsStand s (entry ∷ h) self.new }
     {
         let seat = entry.seat as usize;
         match entry.mode {

@@ -30,6 +30,11 @@ const MAX_HOLDS: u64 = 2_147_483_647;
 
 const MAX_SHARED: u64 = 65_535;
 
+/// What a front of a legal history says: who holds what, who waits and who sleeps, the numbers of permits,
+/// and how many calls ended.
+///
+/// It is opened for no entries, and follows one more with each [`note`](Ledger::note). It keeps no history:
+/// each question about the next entry is answered from its counts and lists.
 #[derive(Drop)]
 pub struct Ledger {
     pub(crate) header: Header,
@@ -39,7 +44,8 @@ pub struct Ledger {
 }
 
 impl Ledger {
-    /// Nothing has happened.
+    /// The ledger of an object as opened, to which nothing has happened. Where memory is refused the answer
+    /// is `OutOfMemory`.
     pub fn open(alloc: Global, header: Header) -> Result<Self, Fault>
         requires { IsInRange header }
         ensures stand { IfOk result (λ ledger. LedgerStand (opening header) [] ledger) }
@@ -61,12 +67,13 @@ impl Ledger {
         })
     }
 
-    /// Follows one more entry, one that a step of its seat makes. Where memory is refused the ledger stands
-    /// for nothing any more.
+    /// Follows one more entry, one that a step of its seat makes. Where memory is refused the answer is
+    /// `OutOfMemory`, and the ledger stands for nothing any more.
     pub fn note(&mut self, entry: Entry) -> Result<(), Fault>
         requires seat { HasSeat self.old entry.seat }
         requires signal { entry.word ≡ Signal → entry.n ≤ 1 }
-        ensures stand { OnOk result ((s : Start) (h : List Entry) → LedgerStand s h self.old → entry.seat < s.header.seats → IsNext s h entry → LedgerStand s (entry ∷ h) self.new) }
+        ensures stand { OnOk result ((s : Start) (h : List Entry) → LedgerStand s h self.old →
+            entry.seat < s.header.seats → IsNext s h entry → LedgerStand s (entry ∷ h) self.new) }
         ensures memory { IsOkUnless result Fault.OutOfMemory }
     {
         let object = self.header.object;
@@ -99,9 +106,10 @@ impl Ledger {
     }
 
     /// Whether a seat could take.
-    pub fn could(&self, seat: u16, mode: Mode, n: u32) -> bool
+    pub(crate) fn could(&self, seat: u16, mode: Mode, n: u32) -> bool
         requires { seat < length self.now.holds.exclusive.items }
-        ensures { (s : Start) (h : List Entry) → LedgerStand s h self.now → result ≡ could (counts s h) seat mode n }
+        ensures { (s : Start) (h : List Entry) → LedgerStand s h self.now →
+            result ≡ could (counts s h) seat mode n }
     {
         match (self.header.object, mode) {
             (Object::Lock(_), Mode::X) => {
@@ -123,9 +131,10 @@ impl Ledger {
     }
 
     /// Whether the seat has as many holds as it may have.
-    pub fn at_limit(&self, seat: u16, mode: Mode) -> bool
+    pub(crate) fn at_limit(&self, seat: u16, mode: Mode) -> bool
         requires { seat < length self.now.holds.exclusive.items }
-        ensures { (s : Start) (h : List Entry) → LedgerStand s h self.now → result ≡ limit (counts s h) seat mode }
+        ensures { (s : Start) (h : List Entry) → LedgerStand s h self.now →
+            result ≡ limit (counts s h) seat mode }
     {
         match (self.header.object, mode) {
             (Object::Lock(_), Mode::X) => self.holds.exclusive[seat as usize] == MAX_HOLDS,
@@ -137,9 +146,10 @@ impl Ledger {
     }
 
     /// Whether a call never waits behind the line.
-    pub fn is_reentrant(&self, seat: u16, mode: Mode) -> bool
+    pub(crate) fn is_reentrant(&self, seat: u16, mode: Mode) -> bool
         requires { seat < length self.now.holds.shared.items }
-        ensures { (s : Start) (h : List Entry) → LedgerStand s h self.now → result ≡ is_reentrant (counts s h) seat mode }
+        ensures { (s : Start) (h : List Entry) → LedgerStand s h self.now →
+            result ≡ is_reentrant (counts s h) seat mode }
     {
         match self.header.object {
             Object::Lock(_) => self.owns(seat),
@@ -152,8 +162,9 @@ impl Ledger {
     }
 
     /// Whether the line holds back a new call that isn't reentrant.
-    pub fn line_blocks(&self, mode: Mode) -> bool
-        ensures { (s : Start) (h : List Entry) → LedgerStand s h self.now → result ≡ line_blocks s.header.object mode (first_mode s h) }
+    pub(crate) fn line_blocks(&self, mode: Mode) -> bool
+        ensures { (s : Start) (h : List Entry) → LedgerStand s h self.now →
+            result ≡ line_blocks s.header.object mode (first_mode s h) }
     {
         let first = match self.waiting.line.first() {
             None => return false,
@@ -167,10 +178,11 @@ impl Ledger {
         }
     }
 
-    /// Whether the seat is the first in line and could take what it asks for.
+    /// Whether the seat is the first in line and could take what it asks for, so that a look would let it go.
     pub fn is_ready(&self, seat: u16) -> bool
         requires { seat < length self.now.holds.exclusive.items }
-        ensures { (s : Start) (h : List Entry) → LedgerStand s h self.now → result ≡ is_seat (ready s h) seat }
+        ensures { (s : Start) (h : List Entry) → LedgerStand s h self.now →
+            result ≡ is_seat (ready s h) seat }
     {
         match self.waiting.line.first() {
             None => false,
@@ -179,15 +191,17 @@ impl Ledger {
     }
 
     /// What the seat asks for in line.
-    pub fn place_of(&self, seat: u16) -> Option<Arrival>
-        ensures { (s : Start) (h : List Entry) → LedgerStand s h self.now → result ≡ place_of seat (line s h) }
+    pub(crate) fn place_of(&self, seat: u16) -> Option<Arrival>
+        ensures { (s : Start) (h : List Entry) → LedgerStand s h self.now →
+            result ≡ place_of seat (line s h) }
     {
         place_in(&self.waiting.line, seat)
     }
 
     /// Whether the seat sleeps on one of the object's conditions.
-    pub fn sleeps(&self, seat: u16) -> bool
-        ensures { (s : Start) (h : List Entry) → LedgerStand s h self.now → result ≡ sleeps_below s.header.conditions s h seat }
+    pub(crate) fn sleeps(&self, seat: u16) -> bool
+        ensures { (s : Start) (h : List Entry) → LedgerStand s h self.now →
+            result ≡ sleeps_below s.header.conditions s h seat }
     {
         sleeps_in(&self.waiting.asleep, self.header.conditions, seat)
     }

@@ -1,21 +1,31 @@
-//! Judges a history: whether each entry is the one that its seat's step makes, and what it adds up to.
+//! Judges a history: whether each entry is the one that a step of its seat makes, and what it adds up to.
 //!
-//! The audit stands on `history` alone. It keeps counts and lists of its own, entry by entry, and asks of each
-//! entry whether some step of its seat makes it: so it judges histories of any source.
+//! - [`check`](verdict::check) says that a history is legal, or names its first entry that isn't.
+//! - [`totals`](totals::totals) adds a legal history up.
+//! - [`Ledger`](ledger::Ledger) is what both keep of the entries so far.
+//!
+//! The audit stands on `history` alone. It keeps counts and lists of its own, entry by entry, and asks of
+//! each entry whether some step of its seat makes it: so it judges histories of any source. A history is
+//! only read, in one pass; each entry is compared with those in line and asleep, of whom there are no more
+//! than seats.
+//!
+//! Memory is asked for three tables with a place for each seat, for a line and for a list of sleepers. Where
+//! it is refused the answer is [`OutOfMemory`](history::fault::Fault::OutOfMemory), and there is no other
+//! fault.
 #![tactic(auto)]
 
-pub mod admit;
-pub mod candidates;
+mod admit;
+mod candidates;
 pub mod checks;
-pub mod decide;
-pub mod entries;
-pub mod holds;
+mod decide;
+mod entries;
+mod holds;
 pub mod ledger;
-pub mod permits;
-pub mod same;
+mod permits;
+mod same;
 pub mod sums;
 #[cfg(test)]
 mod tests;
 pub mod totals;
 pub mod verdict;
-pub mod waiting;
+mod waiting;

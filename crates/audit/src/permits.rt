@@ -16,7 +16,7 @@ use history::header::Object;
 /// What a semaphore has free and was given unheld, how often a latch was counted down, and how many calls
 /// ended.
 #[derive(Drop)]
-pub struct Permits {
+pub(crate) struct Permits {
     pub(crate) free: i128,
     pub(crate) unheld: u64,
     pub(crate) counted: u64,
@@ -25,7 +25,7 @@ pub struct Permits {
 
 impl Permits {
     /// The opening numbers.
-    pub fn open(object: Object) -> Self
+    pub(crate) fn open(object: Object) -> Self
         ensures { (k : Header) → k.object ≡ object → PermitsStand (opening k) [] result }
     {
         let free = match object {
@@ -43,7 +43,8 @@ impl Permits {
     /// Follows one more entry, whose seat had so many holds in its mode.
     pub(crate) fn note(&mut self, object: Object, entry: Entry, had: u64)
         requires { (s : Start) × (h : List Entry) × PermitsStand s h self.old × (length h + 1 < 2 ^ 32) }
-        ensures { (s : Start) (h : List Entry) → PermitsStand s h self.old → s.header.object ≡ object → held s h entry.seat entry.mode ≡ had → PermitsStand s (entry ∷ h) self.new }
+        ensures { (s : Start) (h : List Entry) → PermitsStand s h self.old → s.header.object ≡ object →
+            held s h entry.seat entry.mode ≡ had → PermitsStand s (entry ∷ h) self.new }
     {
         self.free = free_after(entry.word, entry.n, self.free);
         self.unheld += beyond(object, entry.word, entry.n, had);

@@ -7,7 +7,7 @@ ghost use Rattle.audit.specs.Same.{word_kind, fault_in, mode_number, end_number,
 use history::entry::{End, Entry, Mode, Word};
 
 /// Whether two entries are the same.
-pub fn is_same(one: Entry, other: Entry) -> bool
+pub(crate) fn is_same(one: Entry, other: Entry) -> bool
     ensures { IsTrue result ↔ (one ≡ other) }
 {
     agree(one, other)

@@ -17,7 +17,7 @@ use crate::ledger::Ledger;
 use crate::waiting::Sleeper;
 use history::header::Object;
 
-/// The numbers behind a history's last entry. Those that the object's line of the audit text lacks are 0.
+/// The numbers behind a history's last entry. Those that an object of the header's kind doesn't have are 0.
 #[derive(Clone, Copy, Debug, Drop, PartialEq, Eq)]
 pub struct Totals {
     /// The exclusive holds of all seats of a lock or read-write lock.
@@ -80,7 +80,8 @@ impl Ledger {
     fn exclusive_total(&self) -> u64
         requires ledger { IsLedger self.now }
         requires lock { is_lock self.now.header.object ≡ true }
-        ensures { (s : Start) (h : List Entry) → LedgerStand s h self.now → result ≡ total s.header.seats (λ i. held s h i X) }
+        ensures { (s : Start) (h : List Entry) → LedgerStand s h self.now →
+            result ≡ total s.header.seats (λ i. held s h i X) }
     {
         sum(&self.holds.exclusive)
     }
@@ -88,7 +89,8 @@ impl Ledger {
     /// The sleepers of all conditions.
     fn sleepers_total(&self) -> u64
         requires { IsLedger self.now }
-        ensures { (s : Start) (h : List Entry) → LedgerStand s h self.now → result ≡ total s.header.conditions (λ c. length (sleepers s h c)) }
+        ensures { (s : Start) (h : List Entry) → LedgerStand s h self.now →
+            result ≡ total s.header.conditions (λ c. length (sleepers s h c)) }
     {
         count_below(&self.waiting.asleep, self.header.conditions)
     }

@@ -13,7 +13,9 @@ use history::fault::Fault;
 use history::header::Header;
 use std::alloc::Global;
 
-/// Adds up a history that is legal. It takes memory for what it counts, and changes nothing.
+/// Adds up a history that [`check`](crate::verdict::check) found legal.
+///
+/// Where memory for what it counts is refused the answer is `OutOfMemory`.
 pub fn totals(alloc: Global, header: &Header, history: &History) -> Result<Totals, Fault>
     requires range { IsInRange header.now }
     requires cap { history.now.cap ≡ header.now.cap }

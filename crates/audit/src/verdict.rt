@@ -30,14 +30,20 @@ pub(crate) struct Front {
     pub(crate) length: u64,
 }
 
-/// Judges a history of the header's object, whatever its source. It takes memory for what it counts, and
-/// changes nothing.
+/// Judges a history of the header's object, whatever its source.
+///
+/// It is legal exactly where each entry is the one that some step of its seat makes behind the entries before
+/// it. Room and whom an entry names are no part of that. What follows the first wrong entry isn't looked at.
+///
+/// The header is in range, the history's cap is the header's, and each entry is of one of its seats. Where
+/// memory for what it counts is refused the answer is `OutOfMemory`.
 pub fn check(alloc: Global, header: &Header, history: &History) -> Result<Verdict, Fault>
     requires range { IsInRange header.now }
     requires cap { history.now.cap ≡ header.now.cap }
     requires seated { AreSeated (opening header.now) history.now.entries }
     ensures legal { IfOk result (λ v. (v ≡ Legal) ↔ IsLegal (opening header.now) history.now.entries) }
-    ensures first { IfOk result (λ v. (no : ℕ) → v ≡ NotLegal no → IsFirstWrong header.now history.now.entries no) }
+    ensures first { IfOk result (λ v. (no : ℕ) → v ≡ NotLegal no →
+        IsFirstWrong header.now history.now.entries no) }
     ensures memory { IsOkUnless result Fault.OutOfMemory }
 {
     let front = match legal_front(alloc, header, history) {
@@ -56,7 +62,8 @@ pub(crate) fn legal_front(alloc: Global, header: &Header, history: &History) -> 
     requires range { IsInRange header.now }
     requires cap { history.now.cap ≡ header.now.cap }
     requires seated { AreSeated (opening header.now) history.now.entries }
-    ensures stand { IfOk result (λ f. LedgerStand (opening header.now) (front f.length history.now.entries) f.ledger) }
+    ensures stand { IfOk result (λ f. LedgerStand (opening header.now) (front f.length history.now.entries)
+        f.ledger) }
     ensures longest { IfOk result (λ f. IsLegalFront header.now history.now.entries f.length) }
     ensures few { IfOk result (λ f. f.length < 2 ^ 32) }
     ensures memory { IsOkUnless result Fault.OutOfMemory }

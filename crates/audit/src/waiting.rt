@@ -7,7 +7,7 @@ ghost use Rattle.history.specs.Start.{Start, opening};
 ghost use Rattle.history.specs.declared.entry.Entry.{Entry};
 ghost use Rattle.history.specs.declared.entry.Word.TheVariants.{Signal};
 ghost use Rattle.history.specs.declared.header.Header.{Header};
-ghost use Rattle.audit.specs.Waiting.{seats_on, ended_by, never_slept, WaitingStand};
+ghost use Rattle.audit.specs.Waiting.{seats_on, sleeper_by, sleep_by, ended_by, never_slept, WaitingStand};
 
 use history::arrival::Arrival;
 use history::entry::{End, Entry, Mode, Word};
@@ -15,15 +15,15 @@ use history::fault::Fault;
 use std::alloc::Global;
 
 /// A seat asleep on a condition.
-#[derive(Clone, Copy, Drop, Debug, PartialEq, Eq)]
-pub struct Sleeper {
+#[derive(Clone, Copy, Drop)]
+pub(crate) struct Sleeper {
     pub(crate) condition: u8,
     pub(crate) seat: u16,
 }
 
 /// What a seat gave up when it last went to sleep, and how it will come back.
-#[derive(Clone, Copy, Drop, Debug, PartialEq, Eq)]
-pub struct Sleep {
+#[derive(Clone, Copy, Drop)]
+pub(crate) struct Sleep {
     pub(crate) condition: u8,
     pub(crate) holds: u32,
     pub(crate) how: End,
@@ -31,7 +31,7 @@ pub struct Sleep {
 
 /// The line, and all sleepers in order of their awaits.
 #[derive(Drop)]
-pub struct Waiting {
+pub(crate) struct Waiting {
     pub(crate) line: Vec<Arrival>,
     pub(crate) asleep: Vec<Sleeper>,
     pub(crate) last_sleep: Vec<Sleep>,
@@ -39,8 +39,9 @@ pub struct Waiting {
 
 impl Waiting {
     /// Nobody waits.
-    pub fn open(alloc: Global, seats: u16) -> Result<Self, Fault>
-        ensures stand { IfOk result (λ waiting. (k : Header) → k.seats ≡ seats → WaitingStand (opening k) [] waiting) }
+    pub(crate) fn open(alloc: Global, seats: u16) -> Result<Self, Fault>
+        ensures stand { IfOk result (λ waiting. (k : Header) → k.seats ≡ seats →
+            WaitingStand (opening k) [] waiting) }
         ensures memory { IsOkUnless result Fault.OutOfMemory }
     {
         let awake = Sleep {
@@ -64,7 +65,8 @@ impl Waiting {
     pub(crate) fn note(&mut self, entry: Entry) -> Result<(), Fault>
         requires seat { entry.seat < length self.old.last_sleep.items }
         requires signal { entry.word ≡ Signal → entry.n ≤ 1 }
-        ensures stand { OnOk result ((s : Start) (h : List Entry) → WaitingStand s h self.old → WaitingStand s (entry ∷ h) self.new) }
+        ensures stand { OnOk result ((s : Start) (h : List Entry) → WaitingStand s h self.old →
+            WaitingStand s (entry ∷ h) self.new) }
         ensures memory { IsOkUnless result Fault.OutOfMemory }
     {
         match entry.word {
@@ -114,8 +116,10 @@ impl Waiting {
 
     fn fall_asleep(&mut self, entry: Entry) -> Result<(), Fault>
         requires { entry.seat < length self.old.last_sleep.items }
-        ensures asleep { OnOk result (self.new.asleep.items ≡ self.old.asleep.items ++ record { condition = entry.at; seat = entry.seat } ∷ []) }
-        ensures last_sleep { OnOk result (self.new.last_sleep.items ≡ slice_set self.old.last_sleep.items entry.seat (record { condition = entry.at; holds = entry.n; how = Signalled })) }
+        ensures asleep { OnOk result (self.new.asleep.items
+            ≡ self.old.asleep.items ++ sleeper_by entry ∷ []) }
+        ensures last_sleep { OnOk result (self.new.last_sleep.items
+            ≡ slice_set self.old.last_sleep.items entry.seat (sleep_by entry)) }
         ensures line { self.new.line ≡ self.old.line }
         ensures memory { IsOkUnless result Fault.OutOfMemory }
     {
@@ -137,9 +141,13 @@ impl Waiting {
 
     fn lapse(&mut self, entry: Entry) -> Result<(), Fault>
         requires { entry.seat < length self.old.last_sleep.items }
-        ensures line { OnOk result (self.new.line.items ≡ self.old.line.items ++ coming_back entry.seat ∷ []) }
-        ensures asleep { OnOk result (self.new.asleep.items ≡ filter (λ x. not ((x.condition == entry.at) && (x.seat == entry.seat))) self.old.asleep.items) }
-        ensures last_sleep { OnOk result (self.new.last_sleep.items ≡ slice_set self.old.last_sleep.items entry.seat (ended_by entry.end (slice_index_or self.old.last_sleep.items entry.seat never_slept))) }
+        ensures line { OnOk result (self.new.line.items
+            ≡ self.old.line.items ++ coming_back entry.seat ∷ []) }
+        ensures asleep { OnOk result (self.new.asleep.items
+            ≡ filter (λ x. not ((x.condition == entry.at) && (x.seat == entry.seat))) self.old.asleep.items) }
+        ensures last_sleep { OnOk result (self.new.last_sleep.items
+            ≡ slice_set self.old.last_sleep.items entry.seat
+            (ended_by entry.end (slice_index_or self.old.last_sleep.items entry.seat never_slept))) }
         ensures memory { IsOkUnless result Fault.OutOfMemory }
     {
         self.join(coming_back(entry.seat))?;
@@ -154,7 +162,8 @@ impl Waiting {
     }
 
     fn wake(&mut self, condition: u8, seat: u16)
-        ensures asleep { self.new.asleep.items ≡ filter (λ x. not ((x.condition == condition) && (x.seat == seat))) self.old.asleep.items }
+        ensures asleep { self.new.asleep.items
+            ≡ filter (λ x. not ((x.condition == condition) && (x.seat == seat))) self.old.asleep.items }
         ensures line { self.new.line ≡ self.old.line }
         ensures last_sleep { self.new.last_sleep ≡ self.old.last_sleep }
     {
@@ -164,9 +173,13 @@ impl Waiting {
 
     fn signal(&mut self, entry: Entry) -> Result<(), Fault>
         requires { entry.n ≤ 1 }
-        ensures line { OnOk result (self.new.line.items ≡ self.old.line.items ++ map coming_back (take entry.n (seats_on entry.at self.old.asleep.items))) }
-        ensures here { OnOk result (seats_on entry.at self.new.asleep.items ≡ drop entry.n (seats_on entry.at self.old.asleep.items)) }
-        ensures there { OnOk result ((c : ℕ) → c ≢ entry.at → seats_on c self.new.asleep.items ≡ seats_on c self.old.asleep.items) }
+        ensures line { OnOk result (self.new.line.items
+            ≡ self.old.line.items ++ map coming_back
+            (take entry.n (seats_on entry.at self.old.asleep.items))) }
+        ensures here { OnOk result (seats_on entry.at self.new.asleep.items
+            ≡ drop entry.n (seats_on entry.at self.old.asleep.items)) }
+        ensures there { OnOk result ((c : ℕ) → c ≢ entry.at →
+            seats_on c self.new.asleep.items ≡ seats_on c self.old.asleep.items) }
         ensures fewer { OnOk result (length self.new.asleep.items ≤ length self.old.asleep.items) }
         ensures last_sleep { self.new.last_sleep ≡ self.old.last_sleep }
         ensures memory { IsOkUnless result Fault.OutOfMemory }
@@ -181,9 +194,11 @@ impl Waiting {
     }
 
     fn signal_all(&mut self, condition: u8) -> Result<(), Fault>
-        ensures line { OnOk result (self.new.line.items ≡ self.old.line.items ++ map coming_back (seats_on condition self.old.asleep.items)) }
+        ensures line { OnOk result (self.new.line.items
+            ≡ self.old.line.items ++ map coming_back (seats_on condition self.old.asleep.items)) }
         ensures here { OnOk result (seats_on condition self.new.asleep.items ≡ []) }
-        ensures there { OnOk result ((c : ℕ) → c ≢ condition → seats_on c self.new.asleep.items ≡ seats_on c self.old.asleep.items) }
+        ensures there { OnOk result ((c : ℕ) → c ≢ condition →
+            seats_on c self.new.asleep.items ≡ seats_on c self.old.asleep.items) }
         ensures fewer { OnOk result (length self.new.asleep.items ≤ length self.old.asleep.items) }
         ensures last_sleep { self.new.last_sleep ≡ self.old.last_sleep }
         ensures memory { IsOkUnless result Fault.OutOfMemory }
@@ -199,8 +214,10 @@ impl Waiting {
 
     /// The longest sleeper of a condition leaves the sleepers.
     fn wake_first(&mut self, condition: u8) -> Option<u16>
-        ensures here { seats_on condition self.old.asleep.items ≡ option_to_list result ++ seats_on condition self.new.asleep.items }
-        ensures there { (c : ℕ) → c ≢ condition → seats_on c self.new.asleep.items ≡ seats_on c self.old.asleep.items }
+        ensures here { seats_on condition self.old.asleep.items
+            ≡ option_to_list result ++ seats_on condition self.new.asleep.items }
+        ensures there { (c : ℕ) → c ≢ condition →
+            seats_on c self.new.asleep.items ≡ seats_on c self.old.asleep.items }
         ensures none { IfNone result (seats_on condition self.old.asleep.items ≡ []) }
         ensures fewer { length self.new.asleep.items ≤ length self.old.asleep.items }
         ensures line { self.new.line ≡ self.old.line }

@@ -22,18 +22,32 @@ use Rattle.history_text.specs.EntryReading.{counts_at, line_at}
 
 -- ---- the words of a line
 
-line_again : (h : Header) (k : ℕ) (e : Entry) → k < 2 ^ 64 → IsInRange h → HasLine h e → line_at k h.seats (decimal k ∷ decimal e.seat ∷ entry_words e) ≡ Some (e, [])
+line_again : (h : Header) (k : ℕ) (e : Entry) → k < 2 ^ 64 → IsInRange h → HasLine h e →
+    line_at k h.seats (decimal k ∷ decimal e.seat ∷ entry_words e) ≡ Some (e, [])
 unfolding line_at
 line_again h k e lt range fits =
-    rw (number_again k lt, le-leb k k (omega arith), number_again e.seat (omega (arith, fits.seat, range.seats)), le-leb 0 e.seat (omega arith), le-leb e.seat (h.seats - 1) (omega (arith, fits.seat))) (words_again_read e fits.written)
+    rw (
+      number_again k lt,
+      le-leb k k (omega arith),
+      number_again e.seat (omega (arith, fits.seat, range.seats)),
+      le-leb 0 e.seat (omega arith),
+      le-leb e.seat (h.seats - 1) (omega (arith, fits.seat)),
+    ) (words_again_read e fits.written)
 
-pub line_plain : (h : Header) (k : ℕ) (e : Entry) → k < 2 ^ 64 → IsInRange h → HasLine h e → ArePlain (decimal k ∷ decimal e.seat ∷ entry_words e)
-line_plain h k e lt range fits =
-    (decimal_plain k lt, (decimal_plain e.seat (omega (arith, fits.seat, range.seats)), plain_entry e fits.written))
+pub line_plain : (h : Header) (k : ℕ) (e : Entry) → k < 2 ^ 64 → IsInRange h → HasLine h e →
+    ArePlain (decimal k ∷ decimal e.seat ∷ entry_words e)
+line_plain h k e lt range fits = (
+  decimal_plain k lt,
+  (
+    decimal_plain e.seat (omega (arith, fits.seat, range.seats)),
+    plain_entry e fits.written,
+  ),
+)
 
 -- ---- the line, as a line of words
 
-joined : (v : List ℕ) (w : Word) (m : Mode) (n at : ℕ) (e : End) → line_of (v ∷ spelt w m n at e) ≡ v ++ 32 ∷ line_of (spelt w m n at e)
+joined : (v : List ℕ) (w : Word) (m : Mode) (n at : ℕ) (e : End) →
+    line_of (v ∷ spelt w m n at e) ≡ v ++ 32 ∷ line_of (spelt w m n at e)
 joined v word.Got m n at e = refl
 joined v word.TryGot m n at e = refl
 joined v word.Queued m n at e = refl
@@ -50,18 +64,23 @@ joined v word.Back m n at e = refl
 joined v word.Counted m n at e = refl
 joined v word.Drained m n at e = refl
 
-pub entry_line-words : (k : ℕ) (e : Entry) → entry_line k e ≡ line_of (decimal k ∷ decimal e.seat ∷ entry_words e)
+pub entry_line-words : (k : ℕ) (e : Entry) →
+    entry_line k e ≡ line_of (decimal k ∷ decimal e.seat ∷ entry_words e)
 entry_line-words k e =
     let words = line_of (entry_words e) in
-    grouped (decimal k) (decimal e.seat) words ∙ ap (λ (t : List ℕ). decimal k ++ 32 ∷ t) (sym (joined (decimal e.seat) e.word e.mode e.n e.at e.end))
+    grouped (decimal k) (decimal e.seat) words
+    ∙ ap (λ (t : List ℕ). decimal k ++ 32 ∷ t)
+    (sym (joined (decimal e.seat) e.word e.mode e.n e.at e.end))
   where
     grouped : (a b c : List ℕ) → a ++ codes " " ++ b ++ codes " " ++ c ≡ a ++ 32 ∷ (b ++ 32 ∷ c)
     grouped a b c = simp append_assoc
 
-pub whole_line : (h : Header) (k : ℕ) (e : Entry) → k < 2 ^ 64 → IsInRange h → HasLine h e → line_at k h.seats (words_of (entry_line k e)) ≡ Some (e, [])
+pub whole_line : (h : Header) (k : ℕ) (e : Entry) → k < 2 ^ 64 → IsInRange h → HasLine h e →
+    line_at k h.seats (words_of (entry_line k e)) ≡ Some (e, [])
 whole_line h k e lt range fits =
     ap (λ (t : List ℕ). line_at k h.seats (words_of t)) (entry_line-words k e)
-    ∙ ap (line_at k h.seats) (words_again (decimal k) (decimal e.seat ∷ entry_words e) (line_plain h k e lt range fits)) ∙ line_again h k e lt range fits
+    ∙ ap (line_at k h.seats) (words_again (decimal k) (decimal e.seat ∷ entry_words e)
+    (line_plain h k e lt range fits)) ∙ line_again h k e lt range fits
 
 abbrev Found : Type 0
 Found = Entry × Words
@@ -72,20 +91,34 @@ inside x y e = cc
 none_is : (x : Found) → None ≡ Some x → ⊥
 none_is x e = cc
 
-pub unread : (h : Header) (k : ℕ) (line : List ℕ) → k < 2 ^ 64 → IsInRange h → None ≡ line_at k h.seats (words_of line) → (e : Entry) → HasLine h e → line ≡ entry_line k e → ⊥
-unread h k line lt range none e fits is = none_is (e, []) (none ∙ ap (λ (t : List ℕ). line_at k h.seats (words_of t)) is ∙ whole_line h k e lt range fits)
+pub unread : (h : Header) (k : ℕ) (line : List ℕ) → k < 2 ^ 64 → IsInRange h →
+    None ≡ line_at k h.seats (words_of line) → (e : Entry) → HasLine h e → line ≡ entry_line k e → ⊥
+unread h k line lt range none e fits is =
+    none_is (e, []) (none ∙ ap (λ (t : List ℕ). line_at k h.seats (words_of t)) is
+    ∙ whole_line h k e lt range fits)
 
-pub not_all_read : (h : Header) (k : ℕ) (line : List ℕ) (found : Entry) (w : List ℕ) (ws : Words) → k < 2 ^ 64 → IsInRange h → Some (found, w ∷ ws) ≡ line_at k h.seats (words_of line) → (e : Entry) → HasLine h e → line ≡ entry_line k e → ⊥
+pub not_all_read : (h : Header) (k : ℕ) (line : List ℕ) (found : Entry) (w : List ℕ) (ws : Words) →
+    k < 2 ^ 64 → IsInRange h → Some (found, w ∷ ws) ≡ line_at k h.seats (words_of line) → (e : Entry) →
+    HasLine h e → line ≡ entry_line k e → ⊥
 not_all_read h k line found w ws lt range some e fits is =
-    let same : w ∷ ws ≡ [] = ap (λ (x : Found). x.1) (inside (found, w ∷ ws) (e, []) (some ∙ ap (λ (t : List ℕ). line_at k h.seats (words_of t)) is ∙ whole_line h k e lt range fits)) in cc
+    let same : w ∷ ws ≡ [] =
+    ap (λ (x : Found). x.1) (inside (found, w ∷ ws) (e, [])
+    (some ∙ ap (λ (t : List ℕ). line_at k h.seats (words_of t)) is ∙ whole_line h k e lt range fits)) in
+    cc
 
-pub is_entry_line : (line : List ℕ) (k : ℕ) (e : Entry) → words_of line ≡ (decimal k ∷ decimal e.seat ∷ entry_words e) ++ [] → line ≡ entry_line k e
+pub is_entry_line : (line : List ℕ) (k : ℕ) (e : Entry) →
+    words_of line ≡ (decimal k ∷ decimal e.seat ∷ entry_words e) ++ [] → line ≡ entry_line k e
 is_entry_line line k e words =
-    sym (join_with_byte-slice_split 32 line) ∙ ap line_of (words ∙ append-nil (decimal k ∷ decimal e.seat ∷ entry_words e)) ∙ sym (entry_line-words k e)
+    sym (join_with_byte-slice_split 32 line)
+    ∙ ap line_of (words ∙ append-nil (decimal k ∷ decimal e.seat ∷ entry_words e))
+    ∙ sym (entry_line-words k e)
 
-pub same_entry : (h : Header) (k : ℕ) (x y : Entry) → k < 2 ^ 64 → IsInRange h → HasLine h x → HasLine h y → entry_line k x ≡ entry_line k y → x ≡ y
+pub same_entry : (h : Header) (k : ℕ) (x y : Entry) → k < 2 ^ 64 → IsInRange h → HasLine h x → HasLine h y →
+    entry_line k x ≡ entry_line k y → x ≡ y
 same_entry h k x y lt range p q e =
-    ap (λ (f : Found). f.0) (inside (x, []) (y, []) (sym (whole_line h k x lt range p) ∙ ap (λ (t : List ℕ). line_at k h.seats (words_of t)) e ∙ whole_line h k y lt range q))
+    ap (λ (f : Found). f.0) (inside (x, []) (y, [])
+    (sym (whole_line h k x lt range p) ∙ ap (λ (t : List ℕ). line_at k h.seats (words_of t)) e
+    ∙ whole_line h k y lt range q))
 
 -- ---- the end line
 
@@ -95,14 +128,18 @@ counts_plain a b l k = (refl, (decimal_plain a l, (decimal_plain b k, tt)))
 pub counts_line-words : (a b : ℕ) → counts_line a b ≡ line_of (codes "end" ∷ decimal a ∷ decimal b ∷ [])
 counts_line-words a b = simp append_assoc
 
-counts_again : (a b : ℕ) → a < 2 ^ 64 → b < 2 ^ 64 → counts_at a b (codes "end" ∷ decimal a ∷ decimal b ∷ []) ≡ Some (tt, [])
+counts_again : (a b : ℕ) → a < 2 ^ 64 → b < 2 ^ 64 →
+    counts_at a b (codes "end" ∷ decimal a ∷ decimal b ∷ []) ≡ Some (tt, [])
 unfolding counts_at
-counts_again a b l k = rw (number_again a l, le-leb a a (omega arith), number_again b k, le-leb b b (omega arith)) refl
+counts_again a b l k =
+    rw (number_again a l, le-leb a a (omega arith), number_again b k, le-leb b b (omega arith)) refl
 
-pub whole_end : (a b : ℕ) → a < 2 ^ 64 → b < 2 ^ 64 → counts_at a b (words_of (counts_line a b)) ≡ Some (tt, [])
+pub whole_end : (a b : ℕ) → a < 2 ^ 64 → b < 2 ^ 64 →
+    counts_at a b (words_of (counts_line a b)) ≡ Some (tt, [])
 whole_end a b l k =
     ap (λ (t : List ℕ). counts_at a b (words_of t)) (counts_line-words a b)
-    ∙ ap (counts_at a b) (words_again (codes "end") (decimal a ∷ decimal b ∷ []) (counts_plain a b l k)) ∙ counts_again a b l k
+    ∙ ap (counts_at a b) (words_again (codes "end") (decimal a ∷ decimal b ∷ []) (counts_plain a b l k))
+    ∙ counts_again a b l k
 
 abbrev FoundEnd : Type 0
 FoundEnd = Unit {0} × Words
@@ -113,12 +150,19 @@ inside_end x y e = cc
 none_end : (x : FoundEnd) → None ≡ Some x → ⊥
 none_end x e = cc
 
-pub no_end : (line : List ℕ) (a b : ℕ) → a < 2 ^ 64 → b < 2 ^ 64 → None ≡ counts_at a b (words_of line) → line ≡ counts_line a b → ⊥
-no_end line a b l k none is = none_end (tt, []) (none ∙ ap (λ (t : List ℕ). counts_at a b (words_of t)) is ∙ whole_end a b l k)
+pub no_end : (line : List ℕ) (a b : ℕ) → a < 2 ^ 64 → b < 2 ^ 64 → None ≡ counts_at a b (words_of line) →
+    line ≡ counts_line a b → ⊥
+no_end line a b l k none is =
+    none_end (tt, []) (none ∙ ap (λ (t : List ℕ). counts_at a b (words_of t)) is ∙ whole_end a b l k)
 
-pub more_than_end : (line : List ℕ) (a b : ℕ) (u : Unit {0}) (w : List ℕ) (ws : Words) → a < 2 ^ 64 → b < 2 ^ 64 → Some (u, w ∷ ws) ≡ counts_at a b (words_of line) → line ≡ counts_line a b → ⊥
+pub more_than_end : (line : List ℕ) (a b : ℕ) (u : Unit {0}) (w : List ℕ) (ws : Words) → a < 2 ^ 64 →
+    b < 2 ^ 64 → Some (u, w ∷ ws) ≡ counts_at a b (words_of line) → line ≡ counts_line a b → ⊥
 more_than_end line a b u w ws l k some is =
-    let same : w ∷ ws ≡ [] = ap (λ (x : FoundEnd). x.1) (inside_end (u, w ∷ ws) (tt, []) (some ∙ ap (λ (t : List ℕ). counts_at a b (words_of t)) is ∙ whole_end a b l k)) in cc
+    let same : w ∷ ws ≡ [] =
+    ap (λ (x : FoundEnd). x.1) (inside_end (u, w ∷ ws) (tt, [])
+    (some ∙ ap (λ (t : List ℕ). counts_at a b (words_of t)) is ∙ whole_end a b l k)) in cc
 
-pub is_counts_line : (line : List ℕ) (a b : ℕ) → words_of line ≡ codes "end" ∷ decimal a ∷ decimal b ∷ [] → line ≡ counts_line a b
-is_counts_line line a b words = sym (join_with_byte-slice_split 32 line) ∙ ap line_of words ∙ sym (counts_line-words a b)
+pub is_counts_line : (line : List ℕ) (a b : ℕ) → words_of line ≡ codes "end" ∷ decimal a ∷ decimal b ∷ [] →
+    line ≡ counts_line a b
+is_counts_line line a b words =
+    sym (join_with_byte-slice_split 32 line) ∙ ap line_of words ∙ sym (counts_line-words a b)

@@ -18,57 +18,97 @@ ended_calls-append (e ∷ xs) ys = omega (arith, ended_calls-append xs ys)
 pub ended_calls-reverse : (xs : List Entry) → ended_calls (reverse xs) ≡ ended_calls xs
 ended_calls-reverse [] = refl
 ended_calls-reverse (e ∷ xs) =
-    ap (λ (l : List Entry). ended_calls l) (reverse-append (e ∷ []) xs) ∙ ended_calls-append (reverse xs) (e ∷ []) ∙ omega (arith, ended_calls-reverse xs)
+    ap (λ (l : List Entry). ended_calls l) (reverse-append (e ∷ []) xs)
+    ∙ ended_calls-append (reverse xs) (e ∷ []) ∙ omega (arith, ended_calls-reverse xs)
 
 -- so many entries have their numbers below the cap
-below_cap : (h : Header) (k : ℕ) (xs : List Entry) → k ≤ h.cap → AreItems history_form h k xs → k + length xs ≤ h.cap
+below_cap : (h : Header) (k : ℕ) (xs : List Entry) → k ≤ h.cap → AreItems history_form h k xs →
+    k + length xs ≤ h.cap
 below_cap h k [] le p = omega arith
 below_cap h k (x ∷ xs) le p = omega (arith, below_cap h (k + 1) xs (omega (arith, p.0.0)) p.1)
 
-few : (text : List ℕ) (h : Header) (xs : List Entry) (rest : List ℕ) (count : ℕ) → Begins history_form text h (reverse xs) rest → count ≡ length xs → count < 2 ^ 32
-few text h xs rest count begun is = omega (arith, below_cap h 0 (reverse xs) (omega arith) begun.each, begun.header.cap, is, length-reverse xs)
+few : (text : List ℕ) (h : Header) (xs : List Entry) (rest : List ℕ) (count : ℕ) →
+    Begins history_form text h (reverse xs) rest → count ≡ length xs → count < 2 ^ 32
+few text h xs rest count begun is =
+    omega (
+      arith,
+      below_cap h 0 (reverse xs) (omega arith) begun.each,
+      begun.header.cap,
+      is,
+      length-reverse xs,
+    )
 
 -- the end line of a list that stands newest first
-pub end_of : (xs : List Entry) (count calls : ℕ) → count ≡ length xs → calls ≡ ended_calls xs → counts_line count calls ≡ counts_line (length (reverse xs)) (ended_calls (reverse xs))
+pub end_of : (xs : List Entry) (count calls : ℕ) → count ≡ length xs → calls ≡ ended_calls xs →
+    counts_line count calls ≡ counts_line (length (reverse xs)) (ended_calls (reverse xs))
 end_of xs count calls p q =
-    ap (λ (n : ℕ). counts_line n calls) (p ∙ sym (length-reverse xs)) ∙ ap (counts_line (length (reverse xs))) (q ∙ sym (ended_calls-reverse xs))
+    ap (λ (n : ℕ). counts_line n calls) (p ∙ sym (length-reverse xs))
+    ∙ ap (counts_line (length (reverse xs))) (q ∙ sym (ended_calls-reverse xs))
 
-pub entry_more : (text : List ℕ) (h : Header) (xs : List Entry) (rest line after : List ℕ) (e : Entry) (count : ℕ) → Begins history_form text h (reverse xs) rest → rest ≡ line ++ 10 ∷ after
-    → count ≡ length xs → count < h.cap → HasLine h e → line ≡ entry_line count e → Begins history_form text h (reverse (e ∷ xs)) after
+pub entry_more : (text : List ℕ) (h : Header) (xs : List Entry) (rest line after : List ℕ) (e : Entry)
+    (count : ℕ) → Begins history_form text h (reverse xs) rest → rest ≡ line ++ 10 ∷ after
+    → count ≡ length xs → count < h.cap → HasLine h e → line ≡ entry_line count e →
+    Begins history_form text h (reverse (e ∷ xs)) after
 entry_more text h xs rest line after e count begun whole is below fits spelt =
     let number : count ≡ length (reverse xs) = is ∙ sym (length-reverse xs) in
-    let grown = one_more history_form text h (reverse xs) rest line after e begun whole (rw (← number) below, fits) (spelt ∙ ap (λ (n : ℕ). entry_line n e) number) in
+    let grown = one_more history_form text h (reverse xs) rest line after e begun whole
+    (rw (← number) below, fits) (spelt ∙ ap (λ (n : ℕ). entry_line n e) number) in
     subst (λ (l : List Entry). Begins history_form text h l after) (sym (reverse-append (e ∷ []) xs)) grown
 
 empty : (xs : List ℕ) → length xs ≡ 0 → xs ≡ []
 empty [] p = refl
 empty (x ∷ xs) p = absurd (omega arith)
 
-pub whole_text : (text : List ℕ) (h : Header) (kept : HistoryView) (rest line after : List ℕ) (count calls : ℕ) → Begins history_form text h (reverse kept.entries) rest → rest ≡ line ++ 10 ∷ after
-    → count ≡ length kept.entries → calls ≡ ended_calls kept.entries → line ≡ counts_line count calls → length after ≡ 0 → kept.cap ≡ h.cap → kept.owed ≡ 0 → IsRead text h kept
+pub whole_text : (text : List ℕ) (h : Header) (kept : HistoryView) (rest line after : List ℕ)
+    (count calls : ℕ) → Begins history_form text h (reverse kept.entries) rest → rest ≡ line ++ 10 ∷ after
+    → count ≡ length kept.entries → calls ≡ ended_calls kept.entries → line ≡ counts_line count calls →
+    length after ≡ 0 → kept.cap ≡ h.cap → kept.owed ≡ 0 → IsRead text h kept
 whole_text text h kept rest line after count calls begun whole p q is none cap owed =
     let xs = reverse kept.entries in
     let end = history_form.end_line xs in
-    let begins = at_end history_form text h xs rest line after begun whole (is ∙ end_of kept.entries count calls p q) in
-    let last : (end ++ 10 ∷ []) ++ after ≡ end ++ 10 ∷ [] = ap (λ (t : List ℕ). (end ++ 10 ∷ []) ++ t) (empty after none) ∙ append-nil (end ++ 10 ∷ []) in
+    let begins = at_end history_form text h xs rest line after begun whole
+    (is ∙ end_of kept.entries count calls p q) in
+    let last : (end ++ 10 ∷ []) ++ after ≡ end ++ 10 ∷ [] =
+    ap (λ (t : List ℕ). (end ++ 10 ∷ []) ++ t) (empty after none) ∙ append-nil (end ++ 10 ∷ []) in
     record {
-      reading = record { begins = subst (Begins history_form text h xs) last begins; count = omega (arith, p, few text h kept.entries rest count begun p, length-reverse kept.entries) };
+      reading =
+          record {
+            begins = subst (Begins history_form text h xs) last begins;
+            count =
+                omega (arith, p, few text h kept.entries rest count begun p, length-reverse kept.entries);
+          };
       cap = cap;
       owed = owed;
     }
 
-pub more_text : (text : List ℕ) (h : Header) (xs : List Entry) (rest line after : List ℕ) (count calls : ℕ) → Begins history_form text h (reverse xs) rest → rest ≡ line ++ 10 ∷ after
-    → count ≡ length xs → calls ≡ ended_calls xs → line ≡ counts_line count calls → eqb (length after) 0 ≡ false → HasBadLine history_form text (count + 3)
+pub more_text : (text : List ℕ) (h : Header) (xs : List Entry) (rest line after : List ℕ)
+    (count calls : ℕ) → Begins history_form text h (reverse xs) rest → rest ≡ line ++ 10 ∷ after
+    → count ≡ length xs → calls ≡ ended_calls xs → line ≡ counts_line count calls →
+    eqb (length after) 0 ≡ false → HasBadLine history_form text (count + 3)
 more_text text h xs rest line after count calls begun whole p q is some =
-    goes_on history_form text h (reverse xs) rest line after count begun whole (p ∙ sym (length-reverse xs)) (few text h xs rest count begun p, is ∙ end_of xs count calls p q) some
+    goes_on history_form text h (reverse xs) rest line after count begun whole (p ∙ sym (length-reverse xs))
+    (few text h xs rest count begun p, is ∙ end_of xs count calls p q) some
 
-pub bad_line : (text : List ℕ) (h : Header) (xs : List Entry) (rest line after : List ℕ) (count calls : ℕ) → Begins history_form text h (reverse xs) rest → rest ≡ line ++ 10 ∷ after → IsLine line
-    → count ≡ length xs → calls ≡ ended_calls xs → (line ≡ counts_line count calls → ⊥) → ((e : Entry) → count < h.cap → HasLine h e → line ≡ entry_line count e → ⊥) → HasBadLine history_form text (count + 2)
+pub bad_line : (text : List ℕ) (h : Header) (xs : List Entry) (rest line after : List ℕ) (count calls : ℕ) →
+    Begins history_form text h (reverse xs) rest → rest ≡ line ++ 10 ∷ after → IsLine line
+    → count ≡ length xs → calls ≡ ended_calls xs → (line ≡ counts_line count calls → ⊥) →
+    ((e : Entry) → count < h.cap → HasLine h e → line ≡ entry_line count e → ⊥) →
+    HasBadLine history_form text (count + 2)
 bad_line text h xs rest line after count calls begun whole is_line p q no_end no_entry =
     let number : count ≡ length (reverse xs) = p ∙ sym (length-reverse xs) in
-    let bad : IsBadLine history_form h (length (reverse xs)) (history_form.end_line (reverse xs)) line = record {
+    let bad : IsBadLine history_form h (length (reverse xs)) (history_form.end_line (reverse xs)) line =
+    record {
       whole = is_line;
-      no_item = λ e fits is. no_entry e (rw number fits.0) fits.1 (is ∙ ap (λ (n : ℕ). entry_line n e) (sym number));
+      no_item = λ e fits is. no_entry e (rw number fits.0) fits.1
+          (is ∙ ap (λ (n : ℕ). entry_line n e) (sym number));
       no_end = λ lt is. no_end (is ∙ sym (end_of xs count calls p q));
     } in
-    inl (h, reverse xs, line, after, subst (Begins history_form text h (reverse xs)) whole begun, bad, omega (arith, number))
+    inl (
+      h,
+      reverse xs,
+      line,
+      after,
+      subst (Begins history_form text h (reverse xs)) whole begun,
+      bad,
+      omega (arith, number),
+    )

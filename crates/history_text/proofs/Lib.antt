@@ -1,3 +1,4 @@
+pub mod Amounts
 pub mod EntryLemmas
 pub mod HistoryLawful
 pub mod HistoryReading

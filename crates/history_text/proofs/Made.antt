@@ -34,18 +34,23 @@ pub record IsMadeBy (i : ℕ) (e : Entry) : Type 0 where
 made_plain : (i : ℕ) (w : Word) (m : Mode) (n : ℕ) → RefusesByRecorded w → IsMadeBy i (plain i w m n)
 made_plain i w m n r = record { seat = refl; fault = r }
 
-acquired_by : (b c d : Bool) → RefusesByRecorded (cond b word.Queued (cond c (word.Refused fault.TooManyHolds) (cond d word.Got word.Queued)))
+acquired_by : (b c d : Bool) →
+    RefusesByRecorded (cond b word.Queued
+    (cond c (word.Refused fault.TooManyHolds) (cond d word.Got word.Queued)))
 acquired_by true c d = tt
 acquired_by false true d = omega arith
 acquired_by false false true = tt
 acquired_by false false false = tt
 
-tried_by : (c d : Bool) → RefusesByRecorded (cond c (word.Refused fault.TooManyHolds) (cond d word.TryGot word.Missed))
+tried_by : (c d : Bool) → RefusesByRecorded (cond c (word.Refused fault.TooManyHolds)
+    (cond d word.TryGot word.Missed))
 tried_by true d = omega arith
 tried_by false true = tt
 tried_by false false = tt
 
-tried_fairly_by : (b c d : Bool) → RefusesByRecorded (cond b word.Missed (cond c (word.Refused fault.TooManyHolds) (cond d word.Got word.Missed)))
+tried_fairly_by : (b c d : Bool) →
+    RefusesByRecorded (cond b word.Missed
+    (cond c (word.Refused fault.TooManyHolds) (cond d word.Got word.Missed)))
 tried_fairly_by true c d = tt
 tried_fairly_by false true d = omega arith
 tried_fairly_by false false true = tt
@@ -65,15 +70,21 @@ gave_by (ReadWrite p) k i m n = owned_by _
 gave_by (Semaphore p c) k i m n = permits_by _
 gave_by (Latch c) k i m n = tt
 
-on_condition : (i : ℕ) (w : Word) (n c : ℕ) → RefusesByRecorded w → IsMadeBy i (record { seat = i; word = w; mode = X; n = n; at = c; end = end.None })
+on_condition : (i : ℕ) (w : Word) (n c : ℕ) → RefusesByRecorded w →
+    IsMadeBy i (record { seat = i; word = w; mode = X; n = n; at = c; end = end.None })
 on_condition i w n c r = record { seat = refl; fault = r }
 
-awaits_by : (k : Counts) (i c : ℕ) (b d : Bool) → IsMadeBy i (cond b (plain i (word.Refused fault.NotOwner) X 1) (cond d (plain i (word.Refused fault.HoldsRead) X 1) (record { seat = i; word = word.Await; mode = X; n = k.held i X; at = c; end = end.None })))
+awaits_by : (k : Counts) (i c : ℕ) (b d : Bool) →
+    IsMadeBy i (cond b (plain i (word.Refused fault.NotOwner) X 1)
+    (cond d (plain i (word.Refused fault.HoldsRead) X 1)
+    (record { seat = i; word = word.Await; mode = X; n = k.held i X; at = c; end = end.None })))
 awaits_by k i c true d = made_plain i (word.Refused fault.NotOwner) X 1 (omega arith)
 awaits_by k i c false true = made_plain i (word.Refused fault.HoldsRead) X 1 (omega arith)
 awaits_by k i c false false = on_condition i word.Await (k.held i X) c tt
 
-signals_by : (w : Word) (n i c : ℕ) (b : Bool) → RefusesByRecorded w → IsMadeBy i (cond b (plain i (word.Refused fault.NotOwner) X 1) (record { seat = i; word = w; mode = X; n = n; at = c; end = end.None }))
+signals_by : (w : Word) (n i c : ℕ) (b : Bool) → RefusesByRecorded w →
+    IsMadeBy i (cond b (plain i (word.Refused fault.NotOwner) X 1)
+    (record { seat = i; word = w; mode = X; n = n; at = c; end = end.None }))
 signals_by w n i c true r = made_plain i (word.Refused fault.NotOwner) X 1 (omega arith)
 signals_by w n i c false r = on_condition i w n c r
 
@@ -122,12 +133,14 @@ line_made s h i Interrupt e a false false q = at_entry i _ e q (ended_made i wor
 line_made s h i _ e a false true q = cc
 line_made s h i _ e a false false q = cc
 
-sleeping_made : (s : Start) (h : List Entry) (i : ℕ) (step : Step) (e : Entry) → sleeping_entry s h i step ≡ Some e → IsMadeBy i e
+sleeping_made : (s : Start) (h : List Entry) (i : ℕ) (step : Step) (e : Entry) →
+    sleeping_entry s h i step ≡ Some e → IsMadeBy i e
 sleeping_made s h i Expire e q = at_entry i _ e q (lapse_made s h i end.Timeout)
 sleeping_made s h i Interrupt e q = at_entry i _ e q (lapse_made s h i end.Interrupt)
 sleeping_made s h i _ e q = cc
 
-pub made : (s : Start) (h : List Entry) (i : ℕ) (step : Step) (e : Entry) (p : Phase) → phase_entry s h i step p ≡ Some e → IsMadeBy i e
+pub made : (s : Start) (h : List Entry) (i : ℕ) (step : Step) (e : Entry) (p : Phase) →
+    phase_entry s h i step p ≡ Some e → IsMadeBy i e
 made s h i step e Idle q = at_entry i _ e q (idle_made s h i step)
 made s h i step e (InLine a) q = line_made s h i step e a a.back (is_seat (ready s h) i) q
 made s h i step e Sleeping q = sleeping_made s h i step e q

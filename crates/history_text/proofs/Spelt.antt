@@ -32,7 +32,8 @@ shared : (m : Mode) → lacks_mode (Latch 0) m ≡ false → m ≡ S
 shared X q = cc
 shared S q = refl
 
-latch_asks : (o : Object) (m : Mode) (n : ℕ) → is_latch o ≡ true → lacks_mode o m ≡ false → is_bad_number o n ≡ false → (m ≡ S) × (n ≡ 1)
+latch_asks : (o : Object) (m : Mode) (n : ℕ) → is_latch o ≡ true → lacks_mode o m ≡ false →
+    is_bad_number o n ≡ false → (m ≡ S) × (n ≡ 1)
 latch_asks (Lock p) m n l q r = cc
 latch_asks (ReadWrite p) m n l q r = cc
 latch_asks (Semaphore p c) m n l q r = cc
@@ -51,12 +52,15 @@ came_back end.Interrupt p = tt
 came_back end.Signalled p = tt
 
 -- who comes back has an end to come back with
-way_back : (s : Start) (h : List Entry) (i : ℕ) (a : Arrival) → Waits s h → place_of i (line s h) ≡ Some a → a.back ≡ true → CameBack (last_sleep s h i).how
+way_back : (s : Start) (h : List Entry) (i : ℕ) (a : Arrival) → Waits s h → place_of i (line s h) ≡ Some a →
+    a.back ≡ true → CameBack (last_sleep s h i).how
 way_back s h i a w p b =
     let known = comes_back s h w i a p b in
-    subst (λ (j : ℕ). CameBack (last_sleep s h j).how) known.1 (came_back (last_sleep s h a.seat).how known.0.how)
+    subst (λ (j : ℕ). CameBack (last_sleep s h j).how) known.1
+    (came_back (last_sleep s h a.seat).how known.0.how)
 
-spelt_by : (s : Start) (h : List Entry) (e : Entry) (w : Word) → Waits s h → KnownBy s h e w → RefusesByRecorded w → HasWords w e.mode e.n e.at e.end
+spelt_by : (s : Start) (h : List Entry) (e : Entry) (w : Word) → Waits s h → KnownBy s h e w →
+    RefusesByRecorded w → HasWords w e.mode e.n e.at e.end
 spelt_by s h e word.Got r k f = (k.0.at, k.0.end)
 spelt_by s h e word.TryGot r k f = (k.0.at, k.0.end)
 spelt_by s h e word.Queued r k f = (k.at, k.end)
@@ -69,37 +73,50 @@ spelt_by s h e word.Counted r k f =
 spelt_by s h e word.Granted r k f = (ap (λ (x : Entry). x.at) k.1.entry, k.3)
 spelt_by s h e word.Left r k f = (ap (λ (x : Entry). x.at) k.1.entry, gave_up e.end (how k.2))
   where
-    how : {P : Type 0} → ((e.end ≡ end.Timeout) × P) ⊎ (e.end ≡ end.Interrupt) → (e.end ≡ end.Timeout) ⊎ (e.end ≡ end.Interrupt)
+    how : {P : Type 0} → ((e.end ≡ end.Timeout) × P) ⊎ (e.end ≡ end.Interrupt) →
+        (e.end ≡ end.Timeout) ⊎ (e.end ≡ end.Interrupt)
     how (inl p) = inl p.0
     how (inr p) = inr p
-spelt_by s h e word.Back r k f =
-    (ap (λ (x : Entry). x.mode) k.4, subst CameBack (sym (ap (λ (x : Entry). x.end) k.4)) (way_back s h e.seat k.0 r k.1 k.2))
+spelt_by s h e word.Back r k f = (
+  ap (λ (x : Entry). x.mode) k.4,
+  subst CameBack (sym (ap (λ (x : Entry). x.end) k.4)) (way_back s h e.seat k.0 r k.1 k.2),
+)
 spelt_by s h e word.Await r k f = (k.0.mode, k.0.end)
 spelt_by s h e word.Signal r k f = (k.0.mode, k.0.end)
 spelt_by s h e word.SignalAll r k f = (k.0.mode, k.0.end)
-spelt_by s h e word.Lapse r k f = (ap (λ (x : Entry). x.mode) k.2, ap (λ (x : Entry). x.n) k.2, gave_up e.end k.1)
-spelt_by s h e word.Drained r k f = (ap (λ (x : Entry). x.mode) k.2, ap (λ (x : Entry). x.at) k.2, ap (λ (x : Entry). x.end) k.2)
+spelt_by s h e word.Lapse r k f =
+    (ap (λ (x : Entry). x.mode) k.2, ap (λ (x : Entry). x.n) k.2, gave_up e.end k.1)
+spelt_by s h e word.Drained r k f =
+    (ap (λ (x : Entry). x.mode) k.2, ap (λ (x : Entry). x.at) k.2, ap (λ (x : Entry). x.end) k.2)
 
 -- ---- a legal history from an opening
 
-pub seat_made : (s : Start) (h : List Entry) (i : ℕ) (step : Step) (e : Entry) → entry_for s h i step ≡ Ok (Some e) → IsMadeBy i e
+pub seat_made : (s : Start) (h : List Entry) (i : ℕ) (step : Step) (e : Entry) →
+    entry_for s h i step ≡ Ok (Some e) → IsMadeBy i e
 seat_made s h i step e q = made s h i step e (phase s h i) (by_phase s h i step e q)
 
-of_seat : (s : Start) (h : List Entry) (i : ℕ) (step : Step) (e : Entry) → entry_for s h i step ≡ Ok (Some e) → entry_for s h e.seat step ≡ Ok (Some e)
-of_seat s h i step e q = subst (λ (j : ℕ). entry_for s h j step ≡ Ok (Some e)) (sym (seat_made s h i step e q).seat) q
+of_seat : (s : Start) (h : List Entry) (i : ℕ) (step : Step) (e : Entry) →
+    entry_for s h i step ≡ Ok (Some e) → entry_for s h e.seat step ≡ Ok (Some e)
+of_seat s h i step e q = subst (λ (j : ℕ). entry_for s h j step ≡ Ok (Some e))
+    (sym (seat_made s h i step e q).seat) q
 
 -- one more entry of a seat that a step of it makes
-pub legal_more : (s : Start) (h : List Entry) (i : ℕ) (step : Step) (e : Entry) → IsLegal s h → entry_for s h i step ≡ Ok (Some e) → IsLegal s (e ∷ h)
+pub legal_more : (s : Start) (h : List Entry) (i : ℕ) (step : Step) (e : Entry) → IsLegal s h →
+    entry_for s h i step ≡ Ok (Some e) → IsLegal s (e ∷ h)
 legal_more s h i step e legal q = ((step, of_seat s h i step e q), legal)
 
-pub seated_more : (s : Start) (h : List Entry) (i : ℕ) (step : Step) (e : Entry) → AreSeated s h → i < s.header.seats → entry_for s h i step ≡ Ok (Some e) → AreSeated s (e ∷ h)
+pub seated_more : (s : Start) (h : List Entry) (i : ℕ) (step : Step) (e : Entry) → AreSeated s h →
+    i < s.header.seats → entry_for s h i step ≡ Ok (Some e) → AreSeated s (e ∷ h)
 seated_more s h i step e seated below q = (omega (arith, (seat_made s h i step e q).seat, below), seated)
 
-pub spelt : (header : Header) (h : List Entry) (i : ℕ) (step : Step) (e : Entry) → IsLegal (opening header) h → entry_for (opening header) h i step ≡ Ok (Some e) → IsSpelt e
+pub spelt : (header : Header) (h : List Entry) (i : ℕ) (step : Step) (e : Entry) →
+    IsLegal (opening header) h → entry_for (opening header) h i step ≡ Ok (Some e) → IsSpelt e
 spelt header h i step e legal q =
     let s = opening header in
-    spelt_by s h e e.word (waits header h legal) (known s h step e (of_seat s h i step e q)) (seat_made s h i step e q).fault
+    spelt_by s h e e.word (waits header h legal) (known s h step e (of_seat s h i step e q))
+    (seat_made s h i step e q).fault
 
 pub all_spelt : (header : Header) (h : List Entry) → IsLegal (opening header) h → AllByRecursion IsSpelt h
 all_spelt header [] legal = tt
-all_spelt header (e ∷ h) legal = (spelt header h e.seat legal.0.0 e legal.1 legal.0.1, all_spelt header h legal.1)
+all_spelt header (e ∷ h) legal =
+    (spelt header h e.seat legal.0.0 e legal.1 legal.0.1, all_spelt header h legal.1)

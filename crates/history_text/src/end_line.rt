@@ -11,7 +11,8 @@ use history::words::Words;
 #[tactic(auto, unfolding(crate::specs::EntryReading::counts_at))]
 fn counts(words: &mut Words<'_>, entries: u64, calls: u64) -> Option<()>
     ensures is { with_rest result words.new ≡ counts_at entries calls words.old }
-    ensures found { IfSome result (λ _. words.old ≡ codes "end" ∷ decimal entries ∷ decimal calls ∷ words.new) }
+    ensures found { IfSome result (λ _. words.old
+        ≡ codes "end" ∷ decimal entries ∷ decimal calls ∷ words.new) }
 {
     words.expect(b"end")?;
     words.number(entries, entries)?;

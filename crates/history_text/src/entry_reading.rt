@@ -17,7 +17,8 @@ use history::words::Words;
 fn numbered_entry(words: &mut Words<'_>, number: u64, header: &Header) -> Option<Entry>
     requires { IsInRange header.now }
     ensures is { with_rest result words.new ≡ line_at number header.now.seats words.old }
-    ensures found { IfSome result (λ e. HasLine header.now e × (words.old ≡ (decimal number ∷ decimal e.seat ∷ entry_words e) ++ words.new)) }
+    ensures found { IfSome result (λ e. HasLine header.now e
+        × (words.old ≡ (decimal number ∷ decimal e.seat ∷ entry_words e) ++ words.new)) }
 {
     words.number(number, number)?;
     let seat = words.number(0, u64::from(header.seats - 1))?;

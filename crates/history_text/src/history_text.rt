@@ -22,8 +22,8 @@ const LINE_LENGTH: usize = 32;
 
 /// The text of a history under its header.
 ///
-/// It is a history text, and is read again, where the history [`fits`](crate::fitting::fits) its header; to be
-/// written, its entries need only be spelt.
+/// It is a history text, and is read again, where the history [`fits`](crate::fitting::fits) its header;
+/// to be written, its entries need only be spelt.
 pub fn write_text(alloc: Global, header: &Header, history: &History) -> Result<Vec<u8>, Fault>
     requires range { IsInRange header.now }
     requires spelt { All IsSpelt (reverse history.now.entries) }

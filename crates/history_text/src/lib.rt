@@ -2,8 +2,8 @@
 //!
 //! Each text is a history text, with one header and one list of entries, or it has one first fault:
 //! [`one_reading`]. What begins a history text and isn't all of it is cut short: [`cut_short`]. A history
-//! that fits its header is read as it was written: [`written_is_read`]. A text needn't be of a legal
-//! history to be read.
+//! that fits its header is read as it was written: [`written_is_read`]. Each legal history fits:
+//! [`legal_histories_fit`]. A text needn't be of a legal history to be read.
 #![tactic(auto)]
 
 mod end_line;
@@ -17,5 +17,5 @@ mod tests;
 
 pub use crate::fitting::fits;
 pub use crate::history_text::{read_text, write_text};
-pub use crate::law::{cut_short, one_reading, written_is_read};
+pub use crate::law::{cut_short, legal_histories_fit, one_reading, written_is_read};
 pub use line_text::fault::TextFault;

@@ -1,10 +1,12 @@
 //! Memory that is refused.
 //!
-//! A test takes all addresses first: what an audit asks for then is refused for true.
+//! A test takes all memory first, a part of it as small blocks side by side, and lets these go one by one.
+//! Each request of an audit of two seats takes a small block or more: so each is refused for true, one after
+//! the other.
 
-ghost use Rattle.std.specs.Prelude.{◌≡◌};
+ghost use Rattle.std.specs.Prelude.{◌≡◌, IfOk};
 ghost use Rattle.history.specs.Header.{IsInRange};
-ghost use Rattle.history.specs.Legal.{AreSeated};
+ghost use Rattle.history.specs.Legal.{AreSeated, IsLegal};
 ghost use Rattle.history.specs.Start.{opening};
 
 use super::{are_seated, history_of, of};
@@ -12,76 +14,141 @@ use crate::sums::Totals;
 use crate::totals::totals;
 use crate::verdict::{Verdict, check};
 use history::entries::History;
-use history::entry::{Mode, Word};
+use history::entry::{End, Entry, Mode, Word};
 use history::fault::Fault;
 use history::header::{Header, Object, Policy};
 use std::alloc::Global;
 use std::test::Fail;
 
-/// Takes what the heap gives, down to blocks of 64 bytes.
-fn all_memory(alloc: Global) -> Result<Vec<Vec<u8>>, Fail> {
-    let mut taken = Vec::with_capacity(alloc, 65_536)?;
+/// More small blocks than an audit needs.
+const BLOCKS: usize = 4096;
+
+/// What an audit of the history below asks memory for: two tables of holds, one of last sleeps, a list of
+/// sleepers and a line.
+const REQUESTS: usize = 5;
+
+/// All memory: blocks of 16 bytes, and then what else the heap gives, in blocks of each size down to that.
+fn all_memory(alloc: Global) -> Result<(Vec<Vec<u8>>, Vec<Vec<u8>>), Fail> {
+    let mut small = Vec::with_capacity(alloc, BLOCKS)?;
+    for _ in 0..BLOCKS {
+        small.push(Vec::with_capacity(alloc, 16)?)?;
+    }
+    let mut rest = Vec::with_capacity(alloc, 65_536)?;
     let mut size: usize = 1 << 46;
     for _ in 0..65_536 {
         match Vec::with_capacity(alloc, size) {
-            Ok(block) => taken.push(block)?,
+            Ok(block) => rest.push(block)?,
+            Err(_) if size <= 1024 => size = size.saturating_sub(16),
             Err(_) => size /= 2,
         }
-        if size < 64 {
+        if size < 16 {
             break;
         }
     }
-    Ok(taken)
+    Ok((small, rest))
 }
 
-/// The totals of a legal history, asked for when no memory is left.
-fn totals_without_memory(
-    alloc: Global,
-    header: &Header,
-    history: &History,
-) -> Result<Result<Totals, Fault>, Fail>
+/// The verdict, once there is memory for it, and how often memory was refused before.
+fn fed_check(alloc: Global, header: &Header, history: &History) -> Result<(Verdict, usize), Fail>
     requires range { IsInRange header.now }
     requires cap { history.now.cap ≡ header.now.cap }
     requires seated { AreSeated (opening header.now) history.now.entries }
 {
-    match check(alloc, header, history) {
-        Err(fault) => Ok(Err(fault)),
-        Ok(Verdict::NotLegal(_)) => Ok(Err(Fault::OutOfPhase)),
-        Ok(Verdict::Legal) => {
-            let _taken = all_memory(alloc)?;
-            Ok(totals(alloc, header, history))
+    let (mut small, _rest) = all_memory(alloc)?;
+    for refused in 0..BLOCKS {
+        match check(alloc, header, history) {
+            Ok(verdict) => return Ok((verdict, refused)),
+            Err(_) => drop(small.pop()),
         }
     }
+    Err(Fail::new("memory was refused to the end"))
+}
+
+/// The totals of a legal history, once there is memory for them, and how often memory was refused before.
+fn fed_totals(alloc: Global, header: &Header, history: &History) -> Result<(Totals, usize), Fail>
+    requires range { IsInRange header.now }
+    requires cap { history.now.cap ≡ header.now.cap }
+    requires seated { AreSeated (opening header.now) history.now.entries }
+{
+    match check(alloc, header, history)? {
+        Verdict::NotLegal(_) => return Err(Fail::new("the history is not legal")),
+        Verdict::Legal => {}
+    }
+    let (mut small, _rest) = all_memory(alloc)?;
+    for refused in 0..BLOCKS {
+        match totals(alloc, header, history) {
+            Ok(totals) => return Ok((totals, refused)),
+            Err(_) => drop(small.pop()),
+        }
+    }
+    Err(Fail::new("memory was refused to the end"))
 }
 
 const HEADER: Header = Header {
     object: Object::Lock(Policy::Fair),
-    seats: 256,
-    conditions: 0,
+    seats: 2,
+    conditions: 1,
     cap: 64,
 };
 
+fn on_condition(seat: u16, word: Word) -> Entry {
+    Entry {
+        seat,
+        word,
+        mode: Mode::X,
+        n: 1,
+        at: 0,
+        end: End::None,
+    }
+}
+
+/// Seat 0 sleeps, and seat 1, who owns, signals it.
+fn signalled(alloc: Global) -> Result<History, Fault>
+    ensures { IfOk result (λ history. history.cap ≡ 64) }
+{
+    let entries = [
+        of(0, Word::Got, Mode::X, 1),
+        on_condition(0, Word::Await),
+        of(1, Word::Got, Mode::X, 1),
+        on_condition(1, Word::Signal),
+    ];
+    history_of(alloc, &HEADER, &entries)
+}
+
 #[test]
-fn a_check_without_memory_says_so(rt: HostRuntime) -> Result<(), Fail> {
-    let history = history_of(rt.alloc(), &HEADER, &[of(0, Word::Got, Mode::X, 1)])?;
+fn each_request_of_a_check_is_refused(rt: HostRuntime) -> Result<(), Fail> {
+    let history = signalled(rt.alloc())?;
     assert!(rt; HEADER.in_range());
     assert!(rt; are_seated(&HEADER, &history));
-    let _taken = all_memory(rt.alloc())?;
-    assert_eq!(rt;
-        check(rt.alloc(), &HEADER, &history),
-        Err(Fault::OutOfMemory)
-    );
+    let (verdict, refused) = fed_check(rt.alloc(), &HEADER, &history)?;
+    assert_eq!(rt; verdict, Verdict::Legal);
+    assert!(rt; REQUESTS <= refused);
+    Ok(())
+}
+
+/// One in line takes the lock without a look.
+#[test]
+fn each_request_of_a_check_that_finds_a_wrong_entry_is_refused(
+    rt: HostRuntime,
+) -> Result<(), Fail> {
+    let mut history = signalled(rt.alloc())?;
+    history.make_room(1)?;
+    history.add(of(0, Word::TryGot, Mode::X, 1), 0);
+    assert!(rt; HEADER.in_range());
+    assert!(rt; are_seated(&HEADER, &history));
+    let (verdict, refused) = fed_check(rt.alloc(), &HEADER, &history)?;
+    assert_eq!(rt; verdict, Verdict::NotLegal(4));
+    assert!(rt; REQUESTS <= refused);
     Ok(())
 }
 
 #[test]
-fn totals_without_memory_say_so(rt: HostRuntime) -> Result<(), Fail> {
-    let history = history_of(rt.alloc(), &HEADER, &[of(0, Word::Got, Mode::X, 1)])?;
+fn each_request_of_totals_is_refused(rt: HostRuntime) -> Result<(), Fail> {
+    let history = signalled(rt.alloc())?;
     assert!(rt; HEADER.in_range());
     assert!(rt; are_seated(&HEADER, &history));
-    assert_eq!(rt;
-        totals_without_memory(rt.alloc(), &HEADER, &history)?,
-        Err(Fault::OutOfMemory)
-    );
+    let (totals, refused) = fed_totals(rt.alloc(), &HEADER, &history)?;
+    assert_eq!(rt; (totals.x, totals.line, totals.sleepers), (1, 1, 0));
+    assert!(rt; REQUESTS <= refused);
     Ok(())
 }

@@ -1,4 +1,4 @@
-use Rattle.std.proofs.Common.{◌≡◌, ◌∙◌, ap, sym}
+use Rattle.std.proofs.Common.{◌∙◌, ap, sym}
 use Rattle.audit.specs.Same.{agree}
 use Rattle.audit.proofs.SameEntries.{same_entries, agree_same}
 use Rattle.audit.proofs.same.is_same.Goals as goal

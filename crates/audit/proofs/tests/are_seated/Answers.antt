@@ -1,4 +1,4 @@
-use Rattle.std.proofs.Common.{◌<◌, ◌≡◌, ◌∙◌, arith, length, List, sym, subst}
+use Rattle.std.proofs.Common.{◌<◌, ◌∙◌, arith, length, List, sym, subst}
 use Rattle.history.specs.declared.entry.Entry.{Entry}
 use Rattle.history.specs.Legal.{AreSeated}
 use Rattle.history.specs.Start.{opening}

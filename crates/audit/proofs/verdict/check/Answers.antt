@@ -1,4 +1,4 @@
-use Rattle.std.proofs.Common.{◌≡◌, ◌<◌, arith, length}
+use Rattle.std.proofs.Common.{◌<◌, arith, length}
 use Rattle.audit.proofs.Fronts.{not_legal}
 use Rattle.audit.proofs.verdict.check.Goals as goal
 

@@ -1,4 +1,4 @@
-use Rattle.std.proofs.Common.{◌≡◌, ◌<◌, ℕ, arith, true, length, List, ◌∙◌, sym, subst}
+use Rattle.std.proofs.Common.{◌≡◌, ◌<◌, ℕ, arith, length, List, ◌∙◌, sym, subst}
 use Rattle.std.proofs.lemmas.Bool.{false≢true}
 use Rattle.history.specs.declared.entry.Entry.{Entry}
 use Rattle.history.specs.Legal.{IsLegal}
@@ -11,14 +11,18 @@ use Rattle.audit.proofs.verdict.legal_front.Goals as goal
 
 pub admits-requires : goal.admits-requires
 admits-requires c =
-    has_seat_next c.args.header.now c.args.history.now.entries c.loop-number.number c.length_of-end.result c.in-Some.entry
-    c.loop-number.ledger c.loop-number.invariant c.requires.seated c.loop-number-test.true c.length_of-end.ensures.is
+    has_seat_next c.args.header.now c.args.history.now.entries c.loop-number.number c.length_of-end.result
+    c.in-Some.entry
+    c.loop-number.ledger c.loop-number.invariant c.requires.seated c.loop-number-test.true
+    c.length_of-end.ensures.is
     c.length_of-end.ensures.few (sym c.get.ensures ∙ c.in-Some.is)
 
 pub note-requires-clause-seat : goal.note-requires-clause-seat
 note-requires-clause-seat c =
-    has_seat_next c.args.header.now c.args.history.now.entries c.loop-number.number c.length_of-end.result c.in-Some.entry
-    c.loop-number.ledger c.loop-number.invariant c.requires.seated c.loop-number-test.true c.length_of-end.ensures.is
+    has_seat_next c.args.header.now c.args.history.now.entries c.loop-number.number c.length_of-end.result
+    c.in-Some.entry
+    c.loop-number.ledger c.loop-number.invariant c.requires.seated c.loop-number-test.true
+    c.length_of-end.ensures.is
     c.length_of-end.ensures.few (sym c.get.ensures ∙ c.in-Some.is)
 
 pub note-requires-clause-signal : goal.note-requires-clause-signal
@@ -42,7 +46,8 @@ returns-then-not-admits-clause-longest c =
       legal = c.loop-number.invariant.legal;
       wrong = λ l legal.
           let f = c.if-not-admits.true in
-          let t = admitted.1 (subst L (front_next h n c.in-Some.entry less (sym c.get.ensures ∙ c.in-Some.is)) legal).0 in
+          let t = admitted.1 (subst L
+          (front_next h n c.in-Some.entry less (sym c.get.ensures ∙ c.in-Some.is)) legal).0 in
           false≢true (sym f ∙ t);
     }
 
@@ -58,12 +63,14 @@ loop-number-preserved c =
     let q = sym c.get.ensures ∙ c.in-Some.is in
     let L : List Entry → Type 0 = λ x. LedgerStand s x c.note.new.self in
     subst L (sym (front_next h n e less q))
-    (c.in-Ok-note.ensures.stand s (front n h) c.loop-number.invariant (next_seat s h n e c.requires.seated less q)
+    (c.in-Ok-note.ensures.stand s (front n h) c.loop-number.invariant
+    (next_seat s h n e c.requires.seated less q)
     (admitted.0 c.if-not-admits.false))
 
 pub returns-clause-stand : goal.returns-clause-stand
 returns-clause-stand c =
     let h = c.args.history.now.entries in
     let L : ℕ → Type 0 = λ n. LedgerStand (opening c.args.header.now) (front n h) c.loop-number.ledger in
-    let same : c.loop-number.number ≡ c.length_of-end.result = omega (arith, c.loop-number-test.false, c.loop-number.auto.number-end) in
+    let same : c.loop-number.number ≡ c.length_of-end.result =
+    omega (arith, c.loop-number-test.false, c.loop-number.auto.number-end) in
     subst L same c.loop-number.invariant

@@ -10,21 +10,33 @@ use Rattle.history_text.proofs.fitting.fits.Goals as goal
 some_is : (x y : Entry) → Some x ≡ Some y → x ≡ y
 some_is x y e = cc
 
-one_more : (h : Header) (xs : List Entry) (n : ℕ) (x : Entry) → ((k : ℕ) (e : Entry) → k < n → slice_get xs k ≡ Some e → HasLine h e) → Some x ≡ slice_get xs n → HasLine h x
+one_more : (h : Header) (xs : List Entry) (n : ℕ) (x : Entry) →
+    ((k : ℕ) (e : Entry) → k < n → slice_get xs k ≡ Some e → HasLine h e) → Some x ≡ slice_get xs n →
+    HasLine h x
     → (k : ℕ) (e : Entry) → k < n + 1 → slice_get xs k ≡ Some e → HasLine h e
 one_more h xs n x before at fits k e lt q =
     let P : ℕ → Type 0 = λ k. (e : Entry) → slice_get xs k ≡ Some e → HasLine h e in
-    below_more P n (λ k lt e q. before k e lt q) (λ e q. subst (HasLine h) (some_is x e (at ∙ q)) fits) k lt e q
+    below_more P n (λ k lt e q. before k e lt q) (λ e q. subst (HasLine h) (some_is x e (at ∙ q)) fits) k lt
+    e q
 
 pub loop-number-preserved : goal.loop-number-preserved
-loop-number-preserved c = one_more c.args.header.now (reverse c.args.history.now.entries) c.loop-number.number c.in-Some.entry c.loop-number.invariant c.in-Some.ensures (c.if-not-has_line.ensures.0 refl)
+loop-number-preserved c = one_more c.args.header.now (reverse c.args.history.now.entries)
+    c.loop-number.number c.in-Some.entry c.loop-number.invariant c.in-Some.ensures
+    (c.if-not-has_line.ensures.0 refl)
 
 pub returns : goal.returns
 returns c =
     let xs = reverse c.args.history.now.entries in (
       (λ t. record {
         cap = omega (arith, c.cap.ensures, c.if-cap-header.false);
-        each = λ k d lt. c.loop-number.invariant k (get_or xs k d) (omega (arith, lt, c.loop-number-test.false, c.len-number-end.ensures, length-reverse c.args.history.now.entries)) (slice_get-get_or xs k d lt);
+        each = λ k d lt. c.loop-number.invariant k (get_or xs k d)
+            (omega (
+              arith,
+              lt,
+              c.loop-number-test.false,
+              c.len-number-end.ensures,
+              length-reverse c.args.history.now.entries,
+            )) (slice_get-get_or xs k d lt);
       }),
       (λ f. refl),
     )

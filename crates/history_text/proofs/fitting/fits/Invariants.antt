@@ -5,4 +5,5 @@ use Rattle.history_text.specs.EntryLines.{HasLine}
 use Rattle.history_text.proofs.fitting.fits.Given as goal
 
 abbrev pub invariant-loop-number : goal.invariant-loop-number
-invariant-loop-number l = (k : ℕ) (e : Entry) → k < l.number → slice_get (reverse l.history.entries) k ≡ Some e → HasLine l.header e
+invariant-loop-number l = (k : ℕ) (e : Entry) → k < l.number →
+    slice_get (reverse l.history.entries) k ≡ Some e → HasLine l.header e

@@ -7,7 +7,8 @@ use Rattle.history_text.proofs.history_text.written.Given as goal
 
 abbrev pub invariant-loop-entry : goal.invariant-loop-entry
 invariant-loop-entry l = record {
-  lines : l.out.items ≡ ended (header_line l.header) ++ lines_of history_form 0 (take l.number (reverse l.history.entries));
+  lines : l.out.items ≡ ended (header_line l.header) ++ lines_of history_form 0
+      (take l.number (reverse l.history.entries));
   inside : l.number ≤ length (reverse l.history.entries);
 }
 

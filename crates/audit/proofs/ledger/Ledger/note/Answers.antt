@@ -1,4 +1,4 @@
-use Rattle.std.proofs.Common.{◌≡◌, ◌∷◌, refl, ap, sym, ◌∙◌, subst, true}
+use Rattle.std.proofs.Common.{◌≡◌, ◌∷◌, ap, sym, ◌∙◌, true}
 use Rattle.history.specs.declared.header.Header.{Header}
 use Rattle.history.specs.Object.{is_lock}
 use Rattle.audit.proofs.Limits.{only_owner}

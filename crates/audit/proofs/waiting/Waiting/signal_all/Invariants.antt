@@ -6,7 +6,8 @@ use Rattle.audit.proofs.waiting.Waiting.signal_all.Given as goal
 -- who was moved stands in line, and who is left sleeps yet
 abbrev pub invariant-loop : goal.invariant-loop
 invariant-loop l =
-    (l.self.line.items ++ map coming_back (seats_on l.condition l.self.asleep.items) ≡ l.fn.self.line.items ++ map coming_back (seats_on l.condition l.fn.self.asleep.items))
+    (l.self.line.items ++ map coming_back (seats_on l.condition l.self.asleep.items)
+    ≡ l.fn.self.line.items ++ map coming_back (seats_on l.condition l.fn.self.asleep.items))
     × ((c : ℕ) → c ≢ l.condition → seats_on c l.self.asleep.items ≡ seats_on c l.fn.self.asleep.items)
     × (l.self.last_sleep ≡ l.fn.self.last_sleep)
     × (length (seats_on l.condition l.self.asleep.items) + l.counter ≤ l.end)

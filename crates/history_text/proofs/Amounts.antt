@@ -1,0 +1,201 @@
+-- Each entry of a legal history of an object in range has a line of a history text: its amount and its
+-- condition are small.
+use Rattle.std.proofs.Common.{◌≡◌, ⊎_elim, ℕ, zero, suc, ℤ, pos, negsuc, ◌+◌, ◌<◌, ◌≤◌, Bool, true, false, not, ◌&&◌, cond, eqb, ltb, ltb-false, List, [], ◌∷◌, map, take, length, Some, ap, sym, subst, arith}
+use Rattle.std.specs.Prelude.{FitsSigned}
+use Rattle.std.specs.Int.{w32}
+use Rattle.std.specs.List.{AllByRecursion}
+use Rattle.std.proofs.lemmas.Bool.{or_parts, cases_eq}
+use Rattle.std.proofs.lemmas.Int.{ints}
+use Rattle.std.proofs.lemmas.List.{length-append}
+use Rattle.history.specs.declared.arrival.Arrival.{Arrival}
+use Rattle.history.specs.declared.entry.Entry.{Entry}
+use Rattle.history.specs.declared.entry.Word.{Word}
+use Rattle.history.specs.declared.entry.Word.TheVariants as word
+use Rattle.history.specs.declared.header.Header.{Header}
+use Rattle.history.specs.declared.header.Object.{Object}
+use Rattle.history.specs.declared.header.Object.TheVariants.{Lock, ReadWrite, Semaphore, Latch}
+use Rattle.history.specs.Counts.{free}
+use Rattle.history.specs.EntryWords.{IsWritten}
+use Rattle.history.specs.Faults.{is_bad_number}
+use Rattle.history.specs.Header.{IsInRange, IsOpening}
+use Rattle.history.specs.Legal.{IsLegal, AreSeated}
+use Rattle.history.specs.Line.{line, arrivals_by, coming_back, place_of}
+use Rattle.history.specs.Object.{is_semaphore}
+use Rattle.history.specs.Sleepers.{sleepers, last_sleep}
+use Rattle.history.specs.Start.{Start, opening}
+use Rattle.history.specs.Steps.{at_least_none, at_most_one}
+use Rattle.history.specs.Waiting.{asleep}
+use Rattle.history.proofs.Entering.{KnownBy, known}
+use Rattle.history.proofs.LineLemmas.{line_after, stays}
+use Rattle.history.proofs.OneWait.{Saved, Waits, waits, placed, lapsing}
+use Rattle.history.proofs.Owners.{most_holds}
+use Rattle.history.proofs.Permits.{free_fits}
+use Rattle.history.proofs.Times.{each-append, each-filter}
+use Rattle.history.proofs.WhoWaits.{comes_back, few_wait, line_seated}
+use Rattle.history_text.specs.EntryLines.{HasLine}
+use Rattle.history_text.proofs.Spelt.{spelt}
+
+-- what is asked for
+asked_few : (o : Object) (n : ℕ) → is_bad_number o n ≡ false → n ≤ 2147483647
+asked_few o n q =
+    ltb-false 2147483647 n (or_parts (ltb 2147483647 n) (not (is_semaphore o) && not (eqb n 1)) q).0
+
+-- what those in line ask for
+abbrev AsksFew : Arrival → Type 0
+AsksFew a = a.n ≤ 2147483647
+
+back_few : (xs : List ℕ) → AllByRecursion AsksFew (map coming_back xs)
+back_few [] = tt
+back_few (x ∷ xs) = (omega arith, back_few xs)
+
+arriving_few : (s : Start) (h : List Entry) (e : Entry) (w : Word) → KnownBy s h e w →
+    AllByRecursion AsksFew (arrivals_by s w e h)
+arriving_few s h e word.Queued k = (asked_few s.header.object e.n k.amount, tt)
+arriving_few s h e word.Lapse k = (omega arith, tt)
+arriving_few s h e word.Signal k = back_few (take e.n (sleepers s h e.at))
+arriving_few s h e word.SignalAll k = back_few (sleepers s h e.at)
+arriving_few s h e _ k = tt
+
+line_few : (k : Header) (h : List Entry) → IsLegal (opening k) h → AllByRecursion AsksFew (line (opening k) h)
+line_few k [] legal = tt
+line_few k (e ∷ h) legal =
+    let s = opening k in
+    subst (AllByRecursion AsksFew) (sym (line_after s e h))
+    (each-append AsksFew _ _ (each-filter AsksFew (stays e.word e.seat) (line s h) (line_few k h legal.1))
+    (arriving_few s h e e.word (known s h legal.0.0 e legal.0.1)))
+
+-- no more sleep on one condition than on all
+asleep_part : (s : Start) (h : List Entry) (c n : ℕ) → c < n → length (sleepers s h c) ≤ length (asleep n s h)
+asleep_part s h c zero l = absurd (omega (arith, l))
+asleep_part s h c (suc n) l = ⊎_elim same (other (λ below. asleep_part s h c n below)) (cases_eq c n)
+  where
+    all : length (asleep (suc n) s h) ≡ length (asleep n s h) + length (sleepers s h n)
+    all = length-append (asleep n s h) (sleepers s h n)
+
+    same : c ≡ n → length (sleepers s h c) ≤ length (asleep (suc n) s h)
+    same q = let z = ap (λ d. length (sleepers s h d)) q in let a = all in omega (arith, z, a)
+
+    other : (c < n → length (sleepers s h c) ≤ length (asleep n s h)) → (c ≡ n → ⊥) →
+        length (sleepers s h c) ≤ length (asleep (suc n) s h)
+    other before ne = let p = before (omega (arith, l, ne)) in let a = all in omega (arith, p, a)
+
+most_few : (o : Object) → most_holds o ≤ 2147483647
+most_few (Lock p) = omega arith
+most_few (ReadWrite p) = omega arith
+most_few (Semaphore p c) = omega arith
+most_few (Latch c) = omega arith
+
+free_few : (z : ℤ) → FitsSigned w32 z → at_least_none z ≤ 2147483647
+free_few (pos n) p = by (ltb n 0)
+  where
+    by : (b : Bool) → cond b 0 n ≤ 2147483647
+    by true = omega arith
+    by false = omega (arith, ints, p)
+free_few (negsuc n) p = omega arith
+
+one_few : (n : ℕ) → at_most_one n ≤ 1
+one_few n = by (eqb n 0)
+  where
+    by : (b : Bool) → cond b 0 1 ≤ 1
+    by true = omega arith
+    by false = omega arith
+
+-- an object has few conditions
+few_conditions : (o : Object) (c : ℕ) → IsOpening o c → c ≤ 16
+few_conditions (Lock p) c r = r
+few_conditions (ReadWrite p) c r = r
+few_conditions (Semaphore p n) c r = omega (arith, r.0)
+few_conditions (Latch n) c r = omega (arith, r.0)
+
+-- who comes back gets what it saved, on the condition where it slept
+back_saved : (s : Start) (h : List Entry) (e : Entry) → Waits s h → KnownBy s h e word.Back → Saved s h e.seat
+back_saved s h e v k = let b = comes_back s h v e.seat k.0 k.1 k.2 in subst (Saved s h) b.1 b.0.saved
+
+module _ (k : Header) (h : List Entry) (e : Entry) (range : IsInRange k) (legal : IsLegal (opening k) h) where
+  abbrev s : Start
+  s = opening k
+
+  left_few : (a : Arrival) → place_of e.seat (line s h) ≡ Some a → e.n ≡ a.n → e.n ≤ 2147483647
+  left_few a p q =
+      subst (λ n. n ≤ 2147483647) (sym q) (placed AsksFew e.seat (line s h) a (line_few k h legal) p)
+
+  amount : AreSeated s h → e.seat < k.seats → (w : Word) → KnownBy s h e w → e.n ≤ 2147483647
+  amount seated seat word.Got r = asked_few k.object e.n r.0.amount
+  amount seated seat word.TryGot r = asked_few k.object e.n r.0.amount
+  amount seated seat word.Queued r = asked_few k.object e.n r.amount
+  amount seated seat word.Missed r = asked_few k.object e.n r.amount
+  amount seated seat (word.Refused f) r = asked_few k.object e.n r.amount
+  amount seated seat word.Gave r = asked_few k.object e.n r.0.amount
+  amount seated seat word.Counted r = asked_few k.object e.n r.0.amount
+  amount seated seat word.Granted r = left_few r.0 r.1.stands (ap (λ (x : Entry). x.n) r.1.entry)
+  amount seated seat word.Left r = left_few r.0 r.1.stands (ap (λ (x : Entry). x.n) r.1.entry)
+  amount seated seat word.Back r =
+      let saved = back_saved s h e (waits k h legal) r in
+      let n : e.n ≡ (last_sleep s h e.seat).holds = ap (λ (x : Entry). x.n) r.4 in
+      let most = saved.most in
+      let few = most_few k.object in
+      omega (arith, n, most, few)
+  amount seated seat word.Await r =
+      let held = (waits k h legal).holds e.seat seat r.0.lock in
+      let n = r.2 in
+      let few = most_few k.object in
+      omega (arith, n, held, few)
+  amount seated seat word.Signal r = let n = r.1 in let few = one_few (length (sleepers s h e.at)) in
+      omega (arith, n, few)
+  amount seated seat word.SignalAll r =
+      let n = r.1 in
+      let part = asleep_part s h e.at k.conditions r.0.condition in
+      let all = few_wait s h (waits k h legal) (line_seated k h legal seated) in
+      let seats = range.seats in
+      omega (arith, n, part, all, seats)
+  amount seated seat word.Lapse r = let n : e.n ≡ 0 = ap (λ (x : Entry). x.n) r.2 in omega (arith, n)
+  amount seated seat word.Drained r =
+      let n : e.n ≡ at_least_none (free s h) = ap (λ (x : Entry). x.n) r.2 in
+      let few = free_few (free s h) (free_fits k h range r.1 legal) in
+      omega (arith, n, few)
+
+  few_at : e.at < k.conditions → e.at ≤ 15
+  few_at l = let c = few_conditions k.object k.conditions range.opening in omega (arith, l, c)
+
+  none_at : e.at ≡ 0 → e.at ≤ 15
+  none_at q = omega (arith, q)
+
+  condition : (w : Word) → KnownBy s h e w → e.at ≤ 15
+  condition word.Got r = none_at r.0.at
+  condition word.TryGot r = none_at r.0.at
+  condition word.Queued r = none_at r.at
+  condition word.Missed r = none_at r.at
+  condition (word.Refused f) r = none_at r.at
+  condition word.Gave r = none_at r.0.at
+  condition word.Counted r = none_at r.0.at
+  condition word.Granted r = none_at (ap (λ (x : Entry). x.at) r.1.entry)
+  condition word.Left r = none_at (ap (λ (x : Entry). x.at) r.1.entry)
+  condition word.Back r =
+      let saved = back_saved s h e (waits k h legal) r in
+      few_at (subst (λ c. c < k.conditions) (sym (ap (λ (x : Entry). x.at) r.4)) saved.condition)
+  condition word.Await r = few_at r.0.condition
+  condition word.Signal r = few_at r.0.condition
+  condition word.SignalAll r = few_at r.0.condition
+  condition word.Lapse r =
+      let u = (lapsing s h e (waits k h legal) r.0 r.2).1 in
+      few_at (subst (λ c. c < k.conditions) u.condition u.saved.condition)
+  condition word.Drained r = none_at (ap (λ (x : Entry). x.at) r.2)
+
+entry_written : (k : Header) (h : List Entry) (e : Entry) → IsInRange k → IsLegal (opening k) (e ∷ h) →
+    AreSeated (opening k) (e ∷ h) → IsWritten e
+entry_written k h e range legal seated =
+    let r = known (opening k) h legal.0.0 e legal.0.1 in
+    record {
+      words = spelt k h e.seat legal.0.0 e legal.1 legal.0.1;
+      amount = amount k h e range legal.1 seated.1 seated.0 e.word r;
+      condition = condition k h e range legal.1 e.word r;
+    }
+
+pub all_have_lines : (k : Header) (h : List Entry) → IsInRange k → IsLegal (opening k) h →
+    AreSeated (opening k) h →
+    AllByRecursion (HasLine k) h
+all_have_lines k [] range legal seated = tt
+all_have_lines k (e ∷ h) range legal seated = (
+  record { seat = seated.0; written = entry_written k h e range legal seated },
+  all_have_lines k h range legal.1 seated.1,
+)
