@@ -5,6 +5,8 @@
 #[cfg(test)]
 mod any_core;
 #[cfg(test)]
+mod beside;
+#[cfg(test)]
 mod calls;
 #[cfg(test)]
 mod limits;

@@ -9,30 +9,12 @@ use Rattle.history.specs.Counts.{Counts, counts, total}
 use Rattle.history.specs.Entries.{HistoryView}
 use Rattle.history.specs.Header.{IsInRange}
 use Rattle.history.specs.Object.{is_lock}
-use Rattle.history.specs.Room.{owed, sleepers_owe}
+use Rattle.history.specs.Room.{owed}
 use Rattle.history.specs.Start.{opening}
+use Rattle.history.proofs.RoomLemmas.{nothing_owed}
 use Rattle.frame.specs.declared.seat.Seat.{Seat}
 use Rattle.frame.specs.Core.{Stands}
 use Rattle.frame.specs.Seat.{no_holds}
-
--- nothing is owed
-nobody_holds : (n : ℕ) → total n (λ i. 0 + 0) ≡ 0
-nobody_holds zero = refl
-nobody_holds (suc n) = let z = nobody_holds n in omega (arith, z)
-
-nobody_sleeps : (n : ℕ) (k : Header) → sleepers_owe n (opening k) [] ≡ 0
-nobody_sleeps zero k = refl
-nobody_sleeps (suc n) k = let z = nobody_sleeps n k in omega (arith, z)
-
-nothing_owed : (k : Header) → owed (opening k) [] ≡ 0
-nothing_owed k =
-    let z = nobody_sleeps k.conditions k in
-    let l : cond (is_lock k.object) (total k.seats (λ i. 0 + 0)) 0 ≡ 0 = either (is_lock k.object) in
-    omega (arith, z, l)
-  where
-    either : (b : Bool) → cond b (total k.seats (λ i. 0 + 0)) 0 ≡ 0
-    either true = nobody_holds k.seats
-    either false = refl
 
 pub opening_stands : (agrees : Counts → Type 0) (k : Header) (kept : HistoryView) (queue : Line) (waiters : Sleepers)
     (table : List Seat) → IsInRange k → agrees (counts (opening k) []) →

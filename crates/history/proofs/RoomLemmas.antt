@@ -12,7 +12,7 @@ use Rattle.history.specs.Answers.{answer, answer_by, recorded, results}
 use Rattle.history.specs.Counts.{total}
 use Rattle.history.specs.Legal.{AreSeated, IsLegal}
 use Rattle.history.specs.Object.{is_lock}
-use Rattle.history.specs.Room.{released_by, reserved_by, Fits, has_room, sleepers_owe, was_owed, was_owed_by}
+use Rattle.history.specs.Room.{released_by, reserved_by, Fits, has_room, owed, sleepers_owe, was_owed, was_owed_by}
 use Rattle.history.specs.Start.{Start, opening}
 use Rattle.history.specs.Steps.{entry_for}
 use Rattle.history.proofs.Entering.{Known, known}
@@ -90,15 +90,18 @@ nobody_owes : (n : ℕ) (k : Header) → sleepers_owe n (opening k) [] ≡ 0
 nobody_owes zero k = refl
 nobody_owes (suc n) k = let ih = nobody_owes n k in omega (arith, ih)
 
-pub opening_fits : (k : Header) → Fits (opening k) []
-opening_fits k = none _ _ _ _ (by (is_lock k.object)) refl (nobody_owes k.conditions k)
+pub nothing_owed : (k : Header) → owed (opening k) [] ≡ 0
+nothing_owed k = none _ _ _ (by (is_lock k.object)) refl (nobody_owes k.conditions k)
   where
     by : (b : Bool) → cond b (total k.seats (λ i. 0 + 0)) 0 ≡ 0
     by true = total_same k.seats (λ i. 0 + 0) (λ i. 0) (λ i. refl) ∙ total_nothing k.seats
     by false = refl
 
-    none : (a b c cap : ℕ) → a ≡ 0 → b ≡ 0 → c ≡ 0 → 0 + (a + b + c) ≤ cap
-    none a b c cap p q r = omega (arith, p, q, r)
+    none : (a b c : ℕ) → a ≡ 0 → b ≡ 0 → c ≡ 0 → a + b + c ≡ 0
+    none a b c p q r = omega (arith, p, q, r)
+
+pub opening_fits : (k : Header) → Fits (opening k) []
+opening_fits k = let none = nothing_owed k in omega (arith, none)
 
 pub owed_fits : (k : Header) (steps : List (ℕ × Step)) → Fits (opening k) (results (opening k) [] steps).1
 owed_fits k steps = results_fit (opening k) [] steps (opening_fits k)

@@ -1,0 +1,4 @@
+mod NextEntries
+mod Owes
+mod FirstReady
+mod Recording

@@ -1,0 +1,77 @@
+//! The answer to a step.
+
+ghost use Rattle.std.specs.Prelude.{◌≡◌, ◌+◌, ◌<◌, ◌^◌, length};
+ghost use Rattle.audit.specs.Ledger.{LedgerStand};
+ghost use Rattle.history.specs.Answers.{answer, recorded};
+ghost use Rattle.history.specs.Header.{IsInRange};
+ghost use Rattle.history.specs.Legal.{AreSeated, IsLegal};
+ghost use Rattle.history.specs.Start.{opening};
+ghost use Rattle.plain.specs.Answered.{IsAnswer};
+ghost use Rattle.plain.specs.Owing.{IsNextEntry};
+
+use crate::ledgers::ledger_of;
+use crate::owing::{owed_behind, owed_of};
+use crate::ready::{named_by, ready};
+use audit::ledger::Ledger;
+use history::entries::History;
+use history::entry::Entry;
+use history::fault::Fault;
+use history::header::Header;
+use history::step::{Answer, Step};
+use std::alloc::Global;
+
+/// An entry's answer: whom it names, or that it has no room.
+fn recorded(
+    mut ledger: Ledger,
+    header: &Header,
+    history: &History,
+    entry: Entry,
+) -> Result<Answer, Fault>
+    requires few { length history.now.entries + 1 < 2 ^ 32 }
+    requires stand { LedgerStand (opening header.now) history.now.entries ledger }
+    requires next { IsNextEntry header.now history.now.entries entry }
+    ensures { IsAnswer (recorded (opening header.now) history.now.entries entry) result }
+{
+    let owed = owed_of(header, history);
+    let behind = owed_behind(header, owed, entry);
+    if u64::from(header.cap) < history.len() + 1 + behind {
+        return Err(Fault::HistoryFull);
+    }
+    let before = ready(&ledger, header.seats);
+    match ledger.note(entry) {
+        Err(fault) => return Err(fault),
+        Ok(()) => {}
+    }
+    let after = ready(&ledger, header.seats);
+    let named = named_by(before, after, entry.seat);
+    Ok(Answer::Recorded(entry, named))
+}
+
+/// What a seat's step is answered behind a legal history of the header's object.
+///
+/// It reads the history from its start and changes nothing. It takes memory for what it counts: `OutOfMemory` is of this
+/// call alone, and no answer to the step.
+pub fn answer(
+    alloc: Global,
+    header: &Header,
+    history: &History,
+    seat: u16,
+    step: Step,
+) -> Result<Answer, Fault>
+    requires range { IsInRange header.now }
+    requires few { length history.now.entries + 1 < 2 ^ 32 }
+    requires seat { seat < header.now.seats }
+    requires seated { AreSeated (opening header.now) history.now.entries }
+    requires legal { IsLegal (opening header.now) history.now.entries }
+    ensures { IsAnswer (answer (opening header.now) history.now.entries seat step) result }
+{
+    let ledger = match ledger_of(alloc, header, history) {
+        Err(fault) => return Err(fault),
+        Ok(ledger) => ledger,
+    };
+    match ledger.entry_for(seat, step) {
+        Err(fault) => Err(fault),
+        Ok(None) => Ok(Answer::Sleep),
+        Ok(Some(entry)) => recorded(ledger, header, history, entry),
+    }
+}
