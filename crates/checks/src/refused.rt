@@ -247,11 +247,19 @@ fn refuse_run<R: Abort + AllocGlobal>(
     Ok(())
 }
 
-/// On fresh cores, and again behind the steps.
-fn refuse_two_runs<R: Abort + AllocGlobal>(rt: &R, said: &StepsText) -> Result<(), Fail> {
+/// Behind what was recorded before, and again behind the steps.
+fn refuse_two_runs<R: Abort + AllocGlobal>(
+    rt: &R,
+    pair: &mut Pair,
+    steps: &[(u16, Step)],
+) -> Result<(), Fail> {
+    refuse_run(rt, pair, steps)?;
+    refuse_run(rt, pair, steps)
+}
+
+fn refuse_from_open<R: Abort + AllocGlobal>(rt: &R, said: &StepsText) -> Result<(), Fail> {
     let mut pair = Pair::open(rt.alloc(), &said.header)?;
-    refuse_run(rt, &mut pair, &said.steps)?;
-    refuse_run(rt, &mut pair, &said.steps)
+    refuse_two_runs(rt, &mut pair, &said.steps)
 }
 
 /// A run of no steps asks for no memory, so it is left out.
@@ -260,7 +268,7 @@ fn refuse_runs<R: Abort + AllocGlobal>(rt: &R, example: &Example) -> Result<(), 
     if said.steps.is_empty() {
         return Ok(());
     }
-    refuse_two_runs(rt, &said)
+    refuse_from_open(rt, &said)
 }
 
 #[test]
@@ -393,17 +401,20 @@ fn run_past_refusals<R: Abort + AllocGlobal>(
     Ok(made)
 }
 
-/// Cores with a history of many places.
-fn open_grown(alloc: Global, said: &StepsText) -> Result<Pair, Fail> {
-    let mut pair = Pair::open(alloc, &said.header)?;
-    grow(alloc, &mut pair.scarce, &said.steps)?;
-    grow(alloc, &mut pair.rich, &said.steps)?;
-    Ok(pair)
+/// The same behind a history of many places.
+fn refuse_behind_growth<R: Abort + AllocGlobal>(
+    rt: &R,
+    pair: &mut Pair,
+    steps: &[(u16, Step)],
+) -> Result<u32, Fail> {
+    grow(rt.alloc(), &mut pair.scarce, steps)?;
+    grow(rt.alloc(), &mut pair.rich, steps)?;
+    run_past_refusals(rt, pair, steps)
 }
 
-fn refuse_behind_growth<R: Abort + AllocGlobal>(rt: &R, said: &StepsText) -> Result<u32, Fail> {
-    let mut pair = open_grown(rt.alloc(), said)?;
-    run_past_refusals(rt, &mut pair, &said.steps)
+fn grow_from_open<R: Abort + AllocGlobal>(rt: &R, said: &StepsText) -> Result<u32, Fail> {
+    let mut pair = Pair::open(rt.alloc(), &said.header)?;
+    refuse_behind_growth(rt, &mut pair, &said.steps)
 }
 
 fn refuse_within_run<R: Abort + AllocGlobal>(rt: &R, example: &Example) -> Result<u32, Fail> {
@@ -411,7 +422,7 @@ fn refuse_within_run<R: Abort + AllocGlobal>(rt: &R, example: &Example) -> Resul
     if said.steps.is_empty() {
         return Ok(0);
     }
-    refuse_behind_growth(rt, &said)
+    grow_from_open(rt, &said)
 }
 
 /// More steps were made past refusals than there are situations.

@@ -52,7 +52,8 @@ fn run_whole<R: Abort + AllocGlobal>(
     steps: &[(u16, Step)],
 ) -> Result<(), Fail> {
     let answers = core.run(rt.alloc(), steps)?;
-    compare_replay(rt, example, core, steps, &answers)
+    compare_replay(rt, example, core, steps, &answers)?;
+    compare_history(rt, example, core)
 }
 
 /// Steps, each in a run of its own: a run goes on from where the one before it ended.
@@ -76,8 +77,7 @@ fn play_whole<R: Abort + AllocGlobal>(
     said: &StepsText,
 ) -> Result<(), Fail> {
     let mut core = AnyCore::open(rt.alloc(), &said.header)?;
-    run_whole(rt, example, &mut core, &said.steps)?;
-    compare_history(rt, example, &core)
+    run_whole(rt, example, &mut core, &said.steps)
 }
 
 fn play_stepwise<R: Abort + AllocGlobal>(
@@ -86,8 +86,7 @@ fn play_stepwise<R: Abort + AllocGlobal>(
     said: &StepsText,
 ) -> Result<(), Fail> {
     let mut core = AnyCore::open(rt.alloc(), &said.header)?;
-    run_stepwise(rt, example, &mut core, &said.steps)?;
-    compare_history(rt, example, &core)
+    run_stepwise(rt, example, &mut core, &said.steps)
 }
 
 fn play_both_ways<R: Abort + AllocGlobal>(rt: &R, example: &Example) -> Result<(), Fail> {
@@ -110,22 +109,13 @@ fn run_and_tell(alloc: Global, core: &mut AnyCore, steps: &[(u16, Step)]) -> Res
     Ok(core.told())
 }
 
-/// Permits that began below none: one is held of three that were released by who held none.
-#[test]
-fn a_semaphore_tells_its_permits(rt: HostRuntime) -> Result<(), Fail> {
-    let header = Header {
-        object: Object::Semaphore(Policy::Fair, -2),
-        seats: 2,
-        conditions: 0,
-        cap: 64,
-    };
-    let mut core = AnyCore::open(rt.alloc(), &header)?;
-    assert_eq!(rt; core.told().available, -2);
+/// Of three permits that were released by who held none.
+fn release_and_take<R: Abort + AllocGlobal>(rt: &R, core: &mut AnyCore) -> Result<(), Fail> {
     let release = (1, Step::Give(Mode::S, 1));
     let steps = [(0, Step::Acquire(Mode::S, 1)), release, release, release];
-    let told = run_and_tell(rt.alloc(), &mut core, &steps)?;
+    let told = run_and_tell(rt.alloc(), core, &steps)?;
     assert_eq!(rt; (told.line, told.available), (1, 1));
-    let told = run_and_tell(rt.alloc(), &mut core, &[(0, Step::Look)])?;
+    let told = run_and_tell(rt.alloc(), core, &[(0, Step::Look)])?;
     assert_eq!(rt;
         told,
         Told {
@@ -145,7 +135,31 @@ fn a_semaphore_tells_its_permits(rt: HostRuntime) -> Result<(), Fail> {
     Ok(())
 }
 
-/// Who waits at a latch is in line until its count is none.
+/// Permits that began below none.
+#[test]
+fn a_semaphore_tells_its_permits(rt: HostRuntime) -> Result<(), Fail> {
+    let header = Header {
+        object: Object::Semaphore(Policy::Fair, -2),
+        seats: 2,
+        conditions: 0,
+        cap: 64,
+    };
+    let mut core = AnyCore::open(rt.alloc(), &header)?;
+    assert_eq!(rt; core.told().available, -2);
+    release_and_take(&rt, &mut core)
+}
+
+/// Who waits is in line until the count is none.
+fn count_down<R: Abort + AllocGlobal>(rt: &R, core: &mut AnyCore) -> Result<(), Fail> {
+    let steps = [(0, Step::Acquire(Mode::S, 1)), (1, Step::Give(Mode::S, 1))];
+    let told = run_and_tell(rt.alloc(), core, &steps)?;
+    assert_eq!(rt; (told.count, told.line, told.available), (1, 1, 0));
+    let steps = [(1, Step::Give(Mode::S, 1)), (0, Step::Look)];
+    let told = run_and_tell(rt.alloc(), core, &steps)?;
+    assert_eq!(rt; (told.count, told.line, told.owed), (0, 0, 0));
+    Ok(())
+}
+
 #[test]
 fn a_latch_tells_its_count(rt: HostRuntime) -> Result<(), Fail> {
     let header = Header {
@@ -155,11 +169,5 @@ fn a_latch_tells_its_count(rt: HostRuntime) -> Result<(), Fail> {
         cap: 16,
     };
     let mut core = AnyCore::open(rt.alloc(), &header)?;
-    let steps = [(0, Step::Acquire(Mode::S, 1)), (1, Step::Give(Mode::S, 1))];
-    let told = run_and_tell(rt.alloc(), &mut core, &steps)?;
-    assert_eq!(rt; (told.count, told.line, told.available), (1, 1, 0));
-    let steps = [(1, Step::Give(Mode::S, 1)), (0, Step::Look)];
-    let told = run_and_tell(rt.alloc(), &mut core, &steps)?;
-    assert_eq!(rt; (told.count, told.line, told.owed), (0, 0, 0));
-    Ok(())
+    count_down(&rt, &mut core)
 }
