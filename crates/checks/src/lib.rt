@@ -1,5 +1,5 @@
-//! Tests across crates: cores of all four objects, by the known situations, at the limits of holds, and opened where memory
-//! is refused.
+//! Tests across crates: cores of all four objects, by the known situations, at the limits of holds, and where
+//! memory is refused to an open, to a step and to a run.
 #![tactic(auto)]
 
 #[cfg(test)]
@@ -12,6 +12,8 @@ mod calls;
 mod limits;
 #[cfg(test)]
 mod memory;
+#[cfg(test)]
+mod refused;
 #[cfg(test)]
 mod runs;
 #[cfg(test)]

@@ -1,27 +1,41 @@
 //! The known situations through `run`.
 
 use crate::any_core::{AnyCore, Told};
-use crate::texts::{history_text, replay_text, steps_of};
-use examples::{EXAMPLES, Example};
+use crate::texts::{history_text, replay_text, situations, steps_of};
+use examples::Example;
 use history::entry::Mode;
+use history::fault::Fault;
 use history::header::{Header, Object, Policy};
-use history::step::Step;
+use history::step::{Answer, Step};
+use std::alloc::Global;
 use std::process::Abort;
 use std::test::Fail;
+use steps::StepsText;
 
-/// The steps of a known situation in one run.
-fn run_whole<R: Abort + AllocGlobal>(rt: &R, example: &Example) -> Result<(), Fail> {
-    let said = steps_of(rt.alloc(), example.steps)?;
-    let mut core = AnyCore::open(rt.alloc(), &said.header)?;
-    let answers = core.run(rt.alloc(), &said.steps)?;
-    assert_eq!(rt; answers.len(), said.steps.len());
-    let replay = replay_text(rt.alloc(), &core, &said.steps, &answers)?;
+/// A core answered the steps of a situation, and recorded them, as its texts say.
+fn compare_replay<R: Abort + AllocGlobal>(
+    rt: &R,
+    example: &Example,
+    core: &AnyCore,
+    steps: &[(u16, Step)],
+    answers: &[Result<Answer, Fault>],
+) -> Result<(), Fail> {
+    assert_eq!(rt; answers.len(), steps.len());
+    let replay = replay_text(rt.alloc(), core, steps, answers)?;
     assert!(rt;
         replay.as_slice() == example.replay.as_bytes(),
         "{}",
         example.name
     );
-    let history = history_text(rt.alloc(), &core)?;
+    Ok(())
+}
+
+fn compare_history<R: Abort + AllocGlobal>(
+    rt: &R,
+    example: &Example,
+    core: &AnyCore,
+) -> Result<(), Fail> {
+    let history = history_text(rt.alloc(), core)?;
     assert!(rt;
         history.as_slice() == example.history.as_bytes(),
         "{}",
@@ -30,52 +44,80 @@ fn run_whole<R: Abort + AllocGlobal>(rt: &R, example: &Example) -> Result<(), Fa
     Ok(())
 }
 
-/// The steps of a known situation, each in a run of its own: a run goes on from where the one before it ended.
-fn run_stepwise<R: Abort + AllocGlobal>(rt: &R, example: &Example) -> Result<(), Fail> {
-    let said = steps_of(rt.alloc(), example.steps)?;
-    let mut core = AnyCore::open(rt.alloc(), &said.header)?;
+/// Steps in one run.
+fn run_whole<R: Abort + AllocGlobal>(
+    rt: &R,
+    example: &Example,
+    core: &mut AnyCore,
+    steps: &[(u16, Step)],
+) -> Result<(), Fail> {
+    let answers = core.run(rt.alloc(), steps)?;
+    compare_replay(rt, example, core, steps, &answers)?;
+    compare_history(rt, example, core)
+}
+
+/// Steps, each in a run of its own: a run goes on from where the one before it ended.
+fn run_stepwise<R: Abort + AllocGlobal>(
+    rt: &R,
+    example: &Example,
+    core: &mut AnyCore,
+    steps: &[(u16, Step)],
+) -> Result<(), Fail> {
     let mut answers = Vec::new(rt.alloc());
-    for step in &said.steps {
+    for step in steps {
         let answer = core.run(rt.alloc(), &[*step])?;
         answers.extend_from_slice(&answer)?;
     }
-    let replay = replay_text(rt.alloc(), &core, &said.steps, &answers)?;
-    assert!(rt;
-        replay.as_slice() == example.replay.as_bytes(),
-        "{}",
-        example.name
-    );
-    Ok(())
+    compare_replay(rt, example, core, steps, &answers)
+}
+
+fn play_whole<R: Abort + AllocGlobal>(
+    rt: &R,
+    example: &Example,
+    said: &StepsText,
+) -> Result<(), Fail> {
+    let mut core = AnyCore::open(rt.alloc(), &said.header)?;
+    run_whole(rt, example, &mut core, &said.steps)
+}
+
+fn play_stepwise<R: Abort + AllocGlobal>(
+    rt: &R,
+    example: &Example,
+    said: &StepsText,
+) -> Result<(), Fail> {
+    let mut core = AnyCore::open(rt.alloc(), &said.header)?;
+    run_stepwise(rt, example, &mut core, &said.steps)
+}
+
+fn play_both_ways<R: Abort + AllocGlobal>(rt: &R, example: &Example) -> Result<(), Fail> {
+    let said = steps_of(rt.alloc(), example.steps)?;
+    play_whole(rt, example, &said)?;
+    play_stepwise(rt, example, &said)
 }
 
 #[test]
 fn run_answers_each_known_situation(rt: HostRuntime) -> Result<(), Fail> {
-    for example in &EXAMPLES {
-        run_whole(&rt, example)?;
-        run_stepwise(&rt, example)?;
+    for example in situations() {
+        play_both_ways(&rt, example)?;
     }
     Ok(())
 }
 
-/// Permits that began below none: one is held of three that were released by who held none.
-#[test]
-fn a_semaphore_tells_its_permits(rt: HostRuntime) -> Result<(), Fail> {
-    let header = Header {
-        object: Object::Semaphore(Policy::Fair, -2),
-        seats: 2,
-        conditions: 0,
-        cap: 64,
-    };
-    let mut core = AnyCore::open(rt.alloc(), &header)?;
-    assert_eq!(rt; core.told().available, -2);
+/// Runs the steps, and says what the core tells then.
+fn run_and_tell(alloc: Global, core: &mut AnyCore, steps: &[(u16, Step)]) -> Result<Told, Fail> {
+    core.run(alloc, steps)?;
+    Ok(core.told())
+}
+
+/// Of three permits that were released by who held none.
+fn release_and_take<R: Abort + AllocGlobal>(rt: &R, core: &mut AnyCore) -> Result<(), Fail> {
     let release = (1, Step::Give(Mode::S, 1));
     let steps = [(0, Step::Acquire(Mode::S, 1)), release, release, release];
-    core.run(rt.alloc(), &steps)?;
-    let told = core.told();
+    let told = run_and_tell(rt.alloc(), core, &steps)?;
     assert_eq!(rt; (told.line, told.available), (1, 1));
-    core.run(rt.alloc(), &[(0, Step::Look)])?;
+    let told = run_and_tell(rt.alloc(), core, &[(0, Step::Look)])?;
     assert_eq!(rt;
-        core.told(),
+        told,
         Told {
             entries: 5,
             calls: 4,
@@ -93,7 +135,31 @@ fn a_semaphore_tells_its_permits(rt: HostRuntime) -> Result<(), Fail> {
     Ok(())
 }
 
-/// Who waits at a latch is in line until its count is none.
+/// Permits that began below none.
+#[test]
+fn a_semaphore_tells_its_permits(rt: HostRuntime) -> Result<(), Fail> {
+    let header = Header {
+        object: Object::Semaphore(Policy::Fair, -2),
+        seats: 2,
+        conditions: 0,
+        cap: 64,
+    };
+    let mut core = AnyCore::open(rt.alloc(), &header)?;
+    assert_eq!(rt; core.told().available, -2);
+    release_and_take(&rt, &mut core)
+}
+
+/// Who waits is in line until the count is none.
+fn count_down<R: Abort + AllocGlobal>(rt: &R, core: &mut AnyCore) -> Result<(), Fail> {
+    let steps = [(0, Step::Acquire(Mode::S, 1)), (1, Step::Give(Mode::S, 1))];
+    let told = run_and_tell(rt.alloc(), core, &steps)?;
+    assert_eq!(rt; (told.count, told.line, told.available), (1, 1, 0));
+    let steps = [(1, Step::Give(Mode::S, 1)), (0, Step::Look)];
+    let told = run_and_tell(rt.alloc(), core, &steps)?;
+    assert_eq!(rt; (told.count, told.line, told.owed), (0, 0, 0));
+    Ok(())
+}
+
 #[test]
 fn a_latch_tells_its_count(rt: HostRuntime) -> Result<(), Fail> {
     let header = Header {
@@ -103,13 +169,5 @@ fn a_latch_tells_its_count(rt: HostRuntime) -> Result<(), Fail> {
         cap: 16,
     };
     let mut core = AnyCore::open(rt.alloc(), &header)?;
-    let steps = [(0, Step::Acquire(Mode::S, 1)), (1, Step::Give(Mode::S, 1))];
-    core.run(rt.alloc(), &steps)?;
-    let told = core.told();
-    assert_eq!(rt; (told.count, told.line, told.available), (1, 1, 0));
-    let steps = [(1, Step::Give(Mode::S, 1)), (0, Step::Look)];
-    core.run(rt.alloc(), &steps)?;
-    let told = core.told();
-    assert_eq!(rt; (told.count, told.line, told.owed), (0, 0, 0));
-    Ok(())
+    count_down(&rt, &mut core)
 }
