@@ -16,7 +16,7 @@ use crate::replay_stream::replay_stream;
 use crate::sink::Sink;
 use crate::source::Source;
 use crate::stream_fault::StreamFault;
-use examples::EXAMPLES;
+use examples::{EXAMPLES, Example};
 use std::process::Abort;
 use std::test::Fail;
 use steps::TextFault;
@@ -73,20 +73,37 @@ fn streamed<R: Abort + AllocGlobal>(
     Ok((answer, sink))
 }
 
+/// The known situations. Proofs of other functions don't look into them.
+fn situations() -> &'static [Example] {
+    &EXAMPLES
+}
+
+/// A text that comes and goes in pieces of any size is answered so.
+fn is_answered<R: Abort + AllocGlobal>(
+    rt: &R,
+    text: &str,
+    form: Form,
+    expected: &str,
+    name: &str,
+) -> Result<(), Fail> {
+    for piece in [1, 7, 4096] {
+        let (answer, sink) = streamed(rt, text.as_bytes(), form, piece, (None, None), AMPLE)?;
+        assert!(rt; answer.is_ok(), "{name}");
+        assert!(rt; sink.bytes() == expected.as_bytes(), "{name}");
+    }
+    Ok(())
+}
+
 #[test]
 fn answers_each_example(rt: HostRuntime) -> Result<(), Fail> {
-    for example in &EXAMPLES {
-        for piece in [1, 7, 4096] {
-            for (form, expected) in [
-                (Form::Replay, example.replay),
-                (Form::History, example.history),
-            ] {
-                let text = example.steps.as_bytes();
-                let (answer, sink) = streamed(&rt, text, form, piece, (None, None), AMPLE)?;
-                assert!(rt; answer.is_ok(), "{}", example.name);
-                assert!(rt; sink.bytes() == expected.as_bytes(), "{}", example.name);
-            }
-        }
+    for Example {
+        name,
+        steps,
+        replay,
+        history,
+    } in situations() {
+        is_answered(&rt, steps, Form::Replay, replay, name)?;
+        is_answered(&rt, steps, Form::History, history, name)?;
     }
     Ok(())
 }
@@ -103,54 +120,57 @@ fn bytes_behind_the_end_are_told(rt: HostRuntime) -> Result<(), Fail> {
     Ok(())
 }
 
+/// Lines behind a header of one seat, and the first fault of the text.
+const FAULTS: [(&str, TextFault); 10] = [
+    ("0 acquire x 01\nend 1\n", TextFault::BadLine(2)),
+    ("1 look\nend 1\n", TextFault::BadLine(2)),
+    ("0  look\nend 1\n", TextFault::BadLine(2)),
+    ("0 look \nend 1\n", TextFault::BadLine(2)),
+    ("0 look\n\nend 1\n", TextFault::BadLine(3)),
+    ("0 look\nend 2\nend 1\n", TextFault::BadLine(3)),
+    ("0 acquire x 4294967296\nend 1\n", TextFault::BadLine(2)),
+    ("0 await 256\nend 1\n", TextFault::BadLine(2)),
+    ("0 look", TextFault::CutShort),
+    ("", TextFault::CutShort),
+];
+
 /// What isn't spelt as it must be is told by its line, and nothing is written.
 #[test]
 fn tells_the_first_fault(rt: HostRuntime) -> Result<(), Fail> {
     let lock = "aqs-steps 1 lock fair seats 1 conditions 0 cap 16\n";
-    let faults = [
-        ("0 acquire x 01\nend 1\n", TextFault::BadLine(2)),
-        ("1 look\nend 1\n", TextFault::BadLine(2)),
-        ("0  look\nend 1\n", TextFault::BadLine(2)),
-        ("0 look \nend 1\n", TextFault::BadLine(2)),
-        ("0 look\n\nend 1\n", TextFault::BadLine(3)),
-        ("0 look\nend 2\nend 1\n", TextFault::BadLine(3)),
-        ("0 acquire x 4294967296\nend 1\n", TextFault::BadLine(2)),
-        ("0 await 256\nend 1\n", TextFault::BadLine(2)),
-        ("0 look", TextFault::CutShort),
-        ("", TextFault::CutShort),
-    ];
-    for (lines, fault) in faults {
+    for (lines, fault) in &FAULTS {
         let text = format!(in rt.alloc(); "{lock}{lines}")?;
         let (answer, sink) = streamed(&rt, text.as_bytes(), Form::History, 9, (None, None), AMPLE)?;
-        assert!(rt; answer == Err(StreamFault::Text(fault)), "{lines}");
+        assert!(rt; answer == Err(StreamFault::Text(*fault)), "{lines}");
         assert!(rt; sink.bytes().is_empty());
     }
     Ok(())
 }
 
+const NO_HEADERS: [&[u8]; 17] = [
+    b"\n",
+    b"aqs-steps 2 lock fair seats 1 conditions 0 cap 16\n",
+    b"aqs-history 1 lock fair seats 1 conditions 0 cap 16\n",
+    b" aqs-steps 1 lock fair seats 1 conditions 0 cap 16\n",
+    b"aqs-steps 1 lock fair seats 1 conditions 0 cap 16 \n",
+    b"aqs-steps 1 lock fair seats 0 conditions 0 cap 16\n",
+    b"aqs-steps 1 lock fair seats 257 conditions 0 cap 16\n",
+    b"aqs-steps 1 rw fair seats 1 conditions 17 cap 16\n",
+    b"aqs-steps 1 lock fair seats 1 conditions 0 cap 15\n",
+    b"aqs-steps 1 lock fair seats 1 conditions 0 cap 4294967296\n",
+    b"aqs-steps 1 lock seats 1 conditions 0 cap 16\n",
+    b"aqs-steps 1 semaphore fair seats 1 permits 2147483648 cap 16\n",
+    b"aqs-steps 1 semaphore fair seats 1 permits -2147483649 cap 16\n",
+    b"aqs-steps 1 semaphore fair seats 1 permits -0 cap 16\n",
+    b"aqs-steps 1 latch seats 1 count 2147483648 cap 16\n",
+    b"aqs-steps 1 latch seats 1 count -1 cap 16\n",
+    b"aqs-steps 1 latch fair seats 1 count 1 cap 16\n",
+];
+
 /// A first line that is no header is told before it is known whether the text has an end.
 #[test]
 fn tells_a_bad_header(rt: HostRuntime) -> Result<(), Fail> {
-    let headers: [&[u8]; 17] = [
-        b"\n",
-        b"aqs-steps 2 lock fair seats 1 conditions 0 cap 16\n",
-        b"aqs-history 1 lock fair seats 1 conditions 0 cap 16\n",
-        b" aqs-steps 1 lock fair seats 1 conditions 0 cap 16\n",
-        b"aqs-steps 1 lock fair seats 1 conditions 0 cap 16 \n",
-        b"aqs-steps 1 lock fair seats 0 conditions 0 cap 16\n",
-        b"aqs-steps 1 lock fair seats 257 conditions 0 cap 16\n",
-        b"aqs-steps 1 rw fair seats 1 conditions 17 cap 16\n",
-        b"aqs-steps 1 lock fair seats 1 conditions 0 cap 15\n",
-        b"aqs-steps 1 lock fair seats 1 conditions 0 cap 4294967296\n",
-        b"aqs-steps 1 lock seats 1 conditions 0 cap 16\n",
-        b"aqs-steps 1 semaphore fair seats 1 permits 2147483648 cap 16\n",
-        b"aqs-steps 1 semaphore fair seats 1 permits -2147483649 cap 16\n",
-        b"aqs-steps 1 semaphore fair seats 1 permits -0 cap 16\n",
-        b"aqs-steps 1 latch seats 1 count 2147483648 cap 16\n",
-        b"aqs-steps 1 latch seats 1 count -1 cap 16\n",
-        b"aqs-steps 1 latch fair seats 1 count 1 cap 16\n",
-    ];
-    for header in headers {
+    for header in &NO_HEADERS {
         let (answer, sink) = streamed(&rt, header, Form::Replay, 8, (None, None), AMPLE)?;
         assert!(rt; answer == Err(StreamFault::Text(TextFault::BadHeader)));
         assert!(rt; sink.bytes().is_empty());
@@ -158,27 +178,33 @@ fn tells_a_bad_header(rt: HostRuntime) -> Result<(), Fail> {
     Ok(())
 }
 
+/// An object part with numbers at their limits, and the faults of a try of too many and of an await.
+const LIMITS: [(&str, &str, &str); 4] = [
+    (
+        "lock nonfair seats 256 conditions 16 cap 4294967295",
+        "BadAmount",
+        "NoSuchCondition",
+    ),
+    (
+        "semaphore fair seats 1 permits -2147483648 cap 16",
+        "WrongMode",
+        "WrongMode",
+    ),
+    (
+        "semaphore fair seats 1 permits 2147483647 cap 16",
+        "WrongMode",
+        "WrongMode",
+    ),
+    (
+        "latch seats 1 count 2147483647 cap 16",
+        "WrongMode",
+        "WrongMode",
+    ),
+];
+
 #[test]
 fn reads_numbers_up_to_their_limits(rt: HostRuntime) -> Result<(), Fail> {
-    let mode = "WrongMode";
-    for (part, to_try, to_await) in [
-        (
-            "lock nonfair seats 256 conditions 16 cap 4294967295",
-            "BadAmount",
-            "NoSuchCondition",
-        ),
-        (
-            "semaphore fair seats 1 permits -2147483648 cap 16",
-            mode,
-            mode,
-        ),
-        (
-            "semaphore fair seats 1 permits 2147483647 cap 16",
-            mode,
-            mode,
-        ),
-        ("latch seats 1 count 2147483647 cap 16", mode, mode),
-    ] {
+    for (part, to_try, to_await) in &LIMITS {
         let text = format!(in rt.alloc();
             "aqs-steps 1 {part}\n0 try x 4294967295\n0 await 255\nend 2\n"
         )?;

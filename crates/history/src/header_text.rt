@@ -216,7 +216,7 @@ impl Policy {
 
     /// The word for it in a text.
     #[inline(always)]
-    pub fn word(self) -> &'static [u8]
+    pub(crate) fn word(self) -> &'static [u8]
         ensures { result.now ≡ policy_word self }
     {
         match self {

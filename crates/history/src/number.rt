@@ -45,7 +45,7 @@ pub fn number_of(bytes: &[u8]) -> Option<u64>
 
 /// The number of 32 bits that the bytes spell, with a sign where it is below 0.
 #[tactic(auto, unfolding(crate::specs::Reading::permits_from))]
-pub fn permits_of(bytes: &[u8]) -> Option<i32>
+pub(crate) fn permits_of(bytes: &[u8]) -> Option<i32>
     ensures is { result ≡ permits_from bytes.now }
     ensures found { IfSome result (λ z. (bytes.now ≡ signed_decimal z) × FitsSigned w32 z) }
 {

@@ -82,7 +82,7 @@ impl<'a> Words<'a> {
     }
 
     /// Takes a policy, if one comes next.
-    pub fn policy(&mut self) -> Option<Policy>
+    pub(crate) fn policy(&mut self) -> Option<Policy>
         ensures is { with_rest result self.new ≡ policy_at self.old }
         ensures found { IfSome result (λ p. self.old ≡ policy_word p ∷ self.new) }
     {
@@ -113,7 +113,7 @@ impl<'a> Words<'a> {
     }
 
     /// Takes this name and a number, if they come next.
-    pub fn named(&mut self, name: &[u8], least: u64, most: u64) -> Option<u64>
+    pub(crate) fn named(&mut self, name: &[u8], least: u64, most: u64) -> Option<u64>
         ensures is { with_rest result self.new ≡ named_at name.now least most self.old }
         ensures found { IfSome result (λ n. (self.old ≡ name.now ∷ decimal n ∷ self.new) × (least ≤ n) × (n ≤ most)) }
     {
@@ -122,7 +122,7 @@ impl<'a> Words<'a> {
     }
 
     /// Takes a number of permits, if one comes next.
-    pub fn permits(&mut self) -> Option<i32>
+    pub(crate) fn permits(&mut self) -> Option<i32>
         ensures is { with_rest result self.new ≡ permits_at self.old }
         ensures found { IfSome result (λ z. (self.old ≡ signed_decimal z ∷ self.new) × FitsSigned w32 z) }
     {

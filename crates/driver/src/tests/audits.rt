@@ -3,6 +3,7 @@
 ghost use Rattle.std.specs.Prelude.{◌<◌};
 
 use super::memory::all_memory;
+use super::situations;
 use super::spoiled::SPOILED;
 use crate::audit_stream::audit_stream;
 use crate::memory_sink::MemorySink;
@@ -11,7 +12,6 @@ use crate::sink::Sink;
 use crate::source::Source;
 use crate::stream_fault::StreamFault;
 use audit::verdict::Verdict;
-use examples::EXAMPLES;
 use history::fault::Fault;
 use history_text::{read_text, write_text};
 use std::alloc::Global;
@@ -190,19 +190,29 @@ fn audited<R: Abort + AllocGlobal>(
     Ok((verdict, sink))
 }
 
+/// A history that comes in pieces of any size is legal, and adds up so.
+fn is_legal<R: Abort + AllocGlobal>(
+    rt: &R,
+    history: &str,
+    expected: &str,
+    name: &str,
+) -> Result<(), Fail> {
+    for piece in [1, 7, 4096] {
+        let (verdict, sink) = audited(rt, history.as_bytes(), piece, (None, None), AMPLE)?;
+        assert!(rt; verdict == Ok(Verdict::Legal), "{name}");
+        assert!(rt; sink.bytes() == expected.as_bytes(), "{name}");
+    }
+    Ok(())
+}
+
 #[test]
 fn adds_up_the_history_of_each_example(rt: HostRuntime) -> Result<(), Fail> {
-    for (example, (name, entries, calls, totals)) in EXAMPLES.iter().zip(&TOTALS) {
+    for (example, (name, entries, calls, totals)) in situations().iter().zip(&TOTALS) {
         assert!(rt; example.name == *name);
         let expected = format!(in rt.alloc();
             "legal\nentries {entries}\ncalls {calls}\n{totals}\n"
         )?;
-        for piece in [1, 7, 4096] {
-            let text = example.history.as_bytes();
-            let (verdict, sink) = audited(&rt, text, piece, (None, None), AMPLE)?;
-            assert!(rt; verdict == Ok(Verdict::Legal), "{name}");
-            assert!(rt; sink.bytes() == expected.as_bytes(), "{name}");
-        }
+        is_legal(&rt, example.history, expected.as_str(), name)?;
     }
     Ok(())
 }
@@ -224,43 +234,46 @@ fn names_the_first_entry_that_is_not_legal(rt: HostRuntime) -> Result<(), Fail> 
     Ok(())
 }
 
+const LOCK: &str = "aqs-history 1 lock fair seats 2 conditions 0 cap 16\n";
+
+/// The first line of a text, those behind it, and the first fault.
+const FAULTS: [(&str, &str, TextFault); 11] = [
+    (LOCK, "0 2 got x 1\nend 1 1\n", TextFault::BadLine(2)),
+    (LOCK, "0 0 got x 01\nend 1 1\n", TextFault::BadLine(2)),
+    (LOCK, "0 0  got x 1\nend 1 1\n", TextFault::BadLine(2)),
+    (
+        LOCK,
+        "0 0 got x 2147483648\nend 1 1\n",
+        TextFault::BadLine(2),
+    ),
+    (LOCK, "0 0 await 16 1\nend 1 0\n", TextFault::BadLine(2)),
+    (
+        LOCK,
+        "0 0 got x 1\n2 0 gave x 1\nend 2 2\n",
+        TextFault::BadLine(3),
+    ),
+    (LOCK, "0 0 got x 1\nend 1 2\n", TextFault::BadLine(3)),
+    (LOCK, "0 0 got x 1\nend 1 1\n\n", TextFault::BadLine(4)),
+    (LOCK, "0 0 got x 1", TextFault::CutShort),
+    (
+        "aqs-history 1  lock fair seats 2 conditions 0 cap 16\n",
+        "end 0 0\n",
+        TextFault::BadHeader,
+    ),
+    (
+        "aqs-steps 1 lock fair seats 2 conditions 0 cap 16\n",
+        "end 0 0\n",
+        TextFault::BadHeader,
+    ),
+];
+
 /// What isn't a history text is told by its first fault, and nothing is written.
 #[test]
 fn tells_the_first_fault_of_a_history(rt: HostRuntime) -> Result<(), Fail> {
-    let lock = "aqs-history 1 lock fair seats 2 conditions 0 cap 16\n";
-    let faults = [
-        (lock, "0 2 got x 1\nend 1 1\n", TextFault::BadLine(2)),
-        (lock, "0 0 got x 01\nend 1 1\n", TextFault::BadLine(2)),
-        (lock, "0 0  got x 1\nend 1 1\n", TextFault::BadLine(2)),
-        (
-            lock,
-            "0 0 got x 2147483648\nend 1 1\n",
-            TextFault::BadLine(2),
-        ),
-        (lock, "0 0 await 16 1\nend 1 0\n", TextFault::BadLine(2)),
-        (
-            lock,
-            "0 0 got x 1\n2 0 gave x 1\nend 2 2\n",
-            TextFault::BadLine(3),
-        ),
-        (lock, "0 0 got x 1\nend 1 2\n", TextFault::BadLine(3)),
-        (lock, "0 0 got x 1\nend 1 1\n\n", TextFault::BadLine(4)),
-        (lock, "0 0 got x 1", TextFault::CutShort),
-        (
-            "aqs-history 1  lock fair seats 2 conditions 0 cap 16\n",
-            "end 0 0\n",
-            TextFault::BadHeader,
-        ),
-        (
-            "aqs-steps 1 lock fair seats 2 conditions 0 cap 16\n",
-            "end 0 0\n",
-            TextFault::BadHeader,
-        ),
-    ];
-    for (header, lines, fault) in faults {
+    for (header, lines, fault) in &FAULTS {
         let text = format!(in rt.alloc(); "{header}{lines}")?;
         let (verdict, sink) = audited(&rt, text.as_bytes(), 9, (None, None), AMPLE)?;
-        assert!(rt; verdict == Err(StreamFault::Text(fault)), "{lines}");
+        assert!(rt; verdict == Err(StreamFault::Text(*fault)), "{lines}");
         assert!(rt; sink.bytes().is_empty());
     }
     Ok(())
@@ -282,19 +295,23 @@ fn an_entry_at_the_cap_is_a_bad_line(rt: HostRuntime) -> Result<(), Fail> {
     Ok(())
 }
 
+/// Each text that a history begins with, but the whole of it, is cut short.
+fn is_cut_short<R: Abort + AllocGlobal>(rt: &R, text: &[u8], name: &str) -> Result<(), Fail> {
+    for n in 0..text.len() {
+        let (verdict, sink) = audited(rt, &text[..n], 64, (None, None), AMPLE)?;
+        assert!(rt;
+            verdict == Err(StreamFault::Text(TextFault::CutShort)),
+            "{name}"
+        );
+        assert!(rt; sink.bytes().is_empty(), "{name}");
+    }
+    Ok(())
+}
+
 #[test]
 fn each_beginning_of_a_history_is_cut_short(rt: HostRuntime) -> Result<(), Fail> {
-    for example in &EXAMPLES {
-        let text = example.history.as_bytes();
-        for n in 0..text.len() {
-            let (verdict, sink) = audited(&rt, &text[..n], 64, (None, None), AMPLE)?;
-            assert!(rt;
-                verdict == Err(StreamFault::Text(TextFault::CutShort)),
-                "{}",
-                example.name
-            );
-            assert!(rt; sink.bytes().is_empty());
-        }
+    for example in situations() {
+        is_cut_short(&rt, example.history.as_bytes(), example.name)?;
     }
     Ok(())
 }
@@ -312,24 +329,34 @@ fn written_again(alloc: Global, text: &[u8]) -> Result<Option<Vec<u8>>, Fault> {
     }
 }
 
+/// Whether a text is refused, or read and written as it is.
+fn is_kept(alloc: Global, text: &[u8]) -> Result<bool, Fault> {
+    match written_again(alloc, text)? {
+        Some(written) => Ok(written.as_slice() == text),
+        None => Ok(true),
+    }
+}
+
 /// Whatever one of its bytes becomes, a history text is refused, or read and written as it is.
+fn is_kept_when_changed<R: Abort + AllocGlobal>(
+    rt: &R,
+    text: &[u8],
+    name: &str,
+) -> Result<(), Fail> {
+    for at in 0..text.len() {
+        for byte in 0..=255u8 {
+            let mut changed = Vec::from_slice(rt.alloc(), text)?;
+            changed[at] = byte;
+            assert!(rt; is_kept(rt.alloc(), &changed)?, "{name}");
+        }
+    }
+    Ok(())
+}
+
 #[test]
 fn a_changed_history_is_refused_or_read_as_it_is(rt: HostRuntime) -> Result<(), Fail> {
-    for example in &EXAMPLES {
-        let text = example.history.as_bytes();
-        for at in 0..text.len() {
-            for byte in 0..=255u8 {
-                let mut changed = Vec::from_slice(rt.alloc(), text)?;
-                changed[at] = byte;
-                if let Some(written) = written_again(rt.alloc(), &changed)? {
-                    assert!(rt;
-                        written.as_slice() == changed.as_slice(),
-                        "{}",
-                        example.name
-                    );
-                }
-            }
-        }
+    for example in situations() {
+        is_kept_when_changed(&rt, example.history.as_bytes(), example.name)?;
     }
     Ok(())
 }

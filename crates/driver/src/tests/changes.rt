@@ -1,10 +1,9 @@
 //! Each cut and each changed byte of the worked examples' texts, one byte at a time.
 
 use super::plain::plainly_read;
-use super::{AMPLE, streamed};
+use super::{AMPLE, situations, streamed};
 use crate::form::Form;
 use crate::stream_fault::StreamFault;
-use examples::EXAMPLES;
 use std::alloc::{AllocError, Global};
 use std::process::Abort;
 use std::test::Fail;
@@ -69,62 +68,85 @@ fn answers_each_step(
     )
 }
 
+/// Whether a text is read as what it says.
+fn is_read_as(alloc: Global, text: &[u8], said: &StepsText) -> Result<bool, TextFault> {
+    let read = read_steps(alloc, text)?;
+    Ok(read.header == said.header && read.steps.as_slice() == said.steps.as_slice())
+}
+
+/// The first line of the replay text that answers a steps text.
+fn replay_header(alloc: Global, text: &[u8]) -> Result<Vec<u8>, AllocError> {
+    let mut header = Vec::from_slice(alloc, b"aqs-replay 1 ")?;
+    let first = text.split(|byte| *byte == b'\n').next().unwrap_or_default();
+    header.extend_from_slice(first.strip_prefix(b"aqs-steps 1 ").unwrap_or_default())?;
+    Ok(header)
+}
+
+/// What a text says is answered, in both forms alike.
+fn is_answered_so<R: Abort + AllocGlobal>(
+    rt: &R,
+    text: &[u8],
+    said: &StepsText,
+    replay: &[u8],
+    name: &str,
+) -> Result<(), Fail> {
+    let alloc = rt.alloc();
+    assert!(rt; is_read_as(alloc, text, said)?, "{name}");
+    let header = replay_header(alloc, text)?;
+    assert!(rt; answers_each_step(alloc, replay, &header, said)?, "{name}");
+    let (answer, history) = streamed(rt, text, Form::History, 1, (None, None), AMPLE)?;
+    assert!(rt; answer.is_ok(), "{name}");
+    let within = history_within(alloc, replay)?;
+    assert!(rt; history.bytes() == within.as_slice(), "{name}");
+    Ok(())
+}
+
 /// A text is answered as the plain reader says.
 fn is_answered_as_read<R: Abort + AllocGlobal>(
     rt: &R,
     text: &[u8],
     name: &str,
 ) -> Result<(), Fail> {
-    let alloc = rt.alloc();
     let (answer, sink) = streamed(rt, text, Form::Replay, 1, (None, None), AMPLE)?;
-    match plainly_read(alloc, text) {
+    match plainly_read(rt.alloc(), text) {
         Err(fault) => {
             assert!(rt; answer == Err(StreamFault::Text(fault)), "{name}");
             assert!(rt; sink.bytes().is_empty(), "{name}");
+            Ok(())
         }
         Ok(plain) => {
             assert!(rt; answer.is_ok(), "{name}");
-            let read = read_steps(alloc, text)?;
-            assert!(rt;
-                read.header == plain.header && read.steps.as_slice() == plain.steps.as_slice(),
-                "{name}"
-            );
-            let mut header = Vec::from_slice(alloc, b"aqs-replay 1 ")?;
-            let first = text.split(|byte| *byte == b'\n').next().unwrap_or_default();
-            header.extend_from_slice(first.strip_prefix(b"aqs-steps 1 ").unwrap_or_default())?;
-            assert!(rt;
-                answers_each_step(alloc, sink.bytes(), &header, &plain)?,
-                "{name}"
-            );
-            let (answer, history) = streamed(rt, text, Form::History, 1, (None, None), AMPLE)?;
-            assert!(rt; answer.is_ok(), "{name}");
-            assert!(rt;
-                history.bytes() == history_within(alloc, sink.bytes())?.as_slice(),
-                "{name}"
-            );
+            is_answered_so(rt, text, &plain, sink.bytes(), name)
+        }
+    }
+}
+
+/// Each byte of a text is changed to each other.
+fn each_change_is_answered_as_read<R: Abort + AllocGlobal>(
+    rt: &R,
+    text: &[u8],
+    name: &str,
+) -> Result<(), Fail> {
+    for at in 0..text.len() {
+        for other in 0..=u8::MAX {
+            if other != text[at] {
+                let mut changed = Vec::from_slice(rt.alloc(), text)?;
+                changed[at] = other;
+                is_answered_as_read(rt, &changed, name)?;
+            }
         }
     }
     Ok(())
 }
 
-/// Each byte of the texts of so many examples is changed to each other.
+/// The texts of so many examples, with each change.
 fn changes_are_answered_as_read<R: Abort + AllocGlobal>(
     rt: &R,
     first: usize,
     count: usize,
 ) -> Result<(), Fail> {
-    let examples = &EXAMPLES;
-    for example in examples.iter().skip(first).take(count) {
-        let text = example.steps.as_bytes();
-        for at in 0..text.len() {
-            for other in 0..=u8::MAX {
-                if other != text[at] {
-                    let mut changed = Vec::from_slice(rt.alloc(), text)?;
-                    changed[at] = other;
-                    is_answered_as_read(rt, &changed, example.name)?;
-                }
-            }
-        }
+    for example in situations().iter().skip(first).take(count) {
+        each_change_is_answered_as_read(rt, example.steps.as_bytes(), example.name)?;
     }
     Ok(())
 }
@@ -139,22 +161,31 @@ fn each_change_of_the_other_examples(rt: HostRuntime) -> Result<(), Fail> {
     changes_are_answered_as_read(&rt, 13, usize::MAX)
 }
 
+/// Each text that a text begins with, but the whole of it, is cut short.
+fn is_cut_short<R: Abort + AllocGlobal>(
+    rt: &R,
+    text: &[u8],
+    form: Form,
+    name: &str,
+) -> Result<(), Fail> {
+    for n in 0..text.len() {
+        let (answer, sink) = streamed(rt, &text[..n], form, 1, (None, None), AMPLE)?;
+        assert!(rt;
+            answer == Err(StreamFault::Text(TextFault::CutShort)),
+            "{name}"
+        );
+        assert!(rt; sink.bytes().is_empty(), "{name}");
+    }
+    Ok(())
+}
+
 #[test]
 fn each_beginning_is_cut_short(rt: HostRuntime) -> Result<(), Fail> {
-    for example in &EXAMPLES {
+    for example in situations() {
         let text = example.steps.as_bytes();
         is_answered_as_read(&rt, text, example.name)?;
-        for n in 0..text.len() {
-            for form in [Form::Replay, Form::History] {
-                let (answer, sink) = streamed(&rt, &text[..n], form, 1, (None, None), AMPLE)?;
-                assert!(rt;
-                    answer == Err(StreamFault::Text(TextFault::CutShort)),
-                    "{}",
-                    example.name
-                );
-                assert!(rt; sink.bytes().is_empty(), "{}", example.name);
-            }
-        }
+        is_cut_short(&rt, text, Form::Replay, example.name)?;
+        is_cut_short(&rt, text, Form::History, example.name)?;
     }
     Ok(())
 }

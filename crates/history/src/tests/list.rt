@@ -16,20 +16,21 @@ fn of(seat: u16, word: Word) -> Entry {
     }
 }
 
+/// Length, what is owed, places and ended calls.
+fn told(history: &History) -> (u64, u64, u64, u64) {
+    (
+        history.len(),
+        history.owed(),
+        history.places(),
+        history.calls(),
+    )
+}
+
 #[test]
 fn entries_are_kept_in_their_order(rt: HostRuntime) -> Result<(), Fail> {
     let mut history = History::open(rt.alloc(), 16);
     assert!(rt; history.is_empty());
-    assert_eq!(rt;
-        (
-            history.len(),
-            history.owed(),
-            history.places(),
-            history.calls()
-        ),
-        (0, 0, 0, 0)
-    );
-    assert_eq!(rt; history.cap(), 16);
+    assert_eq!(rt; (history.cap(), told(&history)), (16, (0, 0, 0, 0)));
     history.make_room(3)?;
     assert!(rt; 3 <= history.places());
     history.add(of(0, Word::Got), 1);
@@ -37,14 +38,15 @@ fn entries_are_kept_in_their_order(rt: HostRuntime) -> Result<(), Fail> {
     history.add(of(1, Word::Queued), 0);
     history.make_room(1)?;
     history.add(of(0, Word::Gave), 0);
-    assert!(rt; !history.is_empty());
-    assert_eq!(rt; history.len(), 3);
-    assert_eq!(rt; history.calls(), 2);
-    assert_eq!(rt; history.get(0), Some(of(0, Word::Got)));
-    assert_eq!(rt; history.get(1), Some(of(1, Word::Queued)));
-    assert_eq!(rt; history.get(2), Some(of(0, Word::Gave)));
-    assert_eq!(rt; history.get(3), None);
-    assert_eq!(rt; history.get(18_446_744_073_709_551_615), None);
+    assert_eq!(rt;
+        (history.is_empty(), history.len(), history.calls()),
+        (false, 3, 2)
+    );
+    let entries = [of(0, Word::Got), of(1, Word::Queued), of(0, Word::Gave)];
+    for (number, entry) in entries.iter().enumerate() {
+        assert_eq!(rt; history.get(number as u64), Some(*entry));
+    }
+    assert!(rt; history.get(3).is_none() && history.get(18_446_744_073_709_551_615).is_none());
     Ok(())
 }
 

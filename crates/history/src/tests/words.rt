@@ -214,20 +214,24 @@ fn other_words_are_refused(rt: HostRuntime) {
     }
 }
 
+/// What the words of a line are taken as, from left to right.
+fn taken(words: &mut Words<'_>) -> Option<(u64, Mode, u64, i32, u16)> {
+    let number = words.number(0, 12)?;
+    words.policy()?;
+    let mode = words.mode()?;
+    let seats = words.named(b"seats", 1, 256)?;
+    let permits = words.permits()?;
+    let entry = words.entry(2)?;
+    Some((number, mode, seats, permits, entry.seat))
+}
+
 #[test]
-fn words_are_taken_from_left_to_right(rt: HostRuntime) -> Result<(), Fail> {
+fn words_are_taken_from_left_to_right(rt: HostRuntime) {
     let mut words = Words::of(b"12 fair s seats 5 -6 got x 1  end");
-    assert_eq!(rt; words.number(0, 12), Some(12));
-    assert!(rt; words.policy().is_some());
-    assert_eq!(rt; words.mode(), Some(Mode::S));
-    assert_eq!(rt; words.named(b"seats", 1, 256), Some(5));
-    assert_eq!(rt; words.permits(), Some(-6));
-    assert_eq!(rt; words.entry(2).ok_or("no entry")?.seat, 2);
+    assert_eq!(rt; taken(&mut words), Some((12, Mode::S, 5, -6, 2)));
     assert_eq!(rt; words.next(), Some(b"".as_slice()));
     assert_eq!(rt; words.expect(b"end"), Some(()));
-    assert_eq!(rt; words.next(), None);
-    assert_eq!(rt; words.next(), None);
-    Ok(())
+    assert_eq!(rt; (words.next(), words.next()), (None, None));
 }
 
 #[test]
