@@ -132,8 +132,7 @@ fn compare_step<R: Abort>(rt: &R, starved: &mut Starved, played: &Played) -> Res
     if !lacks_memory(&first) {
         assert!(rt; is_same(&first, &played.answer));
         assert_eq!(rt; starved.core.told(), played.told);
-        // The smallest block has a second place.
-        assert!(rt; before.places == played.told.places || before.places == 1);
+        assert_eq!(rt; before.places, played.told.places);
         return Ok(false);
     }
     assert_eq!(rt; starved.core.told(), before);
