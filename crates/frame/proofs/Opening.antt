@@ -1,15 +1,13 @@
 -- A core that was just opened.
-use Rattle.std.proofs.Common.{◌≡◌, ℕ, zero, suc, ◌+◌, Bool, true, false, cond, List, [], length, get_or, replicate, Some, refl, ap, ◌∙◌, sym, subst, arith}
+use Rattle.std.proofs.Common.{◌≡◌, ℕ, List, [], length, get_or, replicate, Some, refl, ap, ◌∙◌, sym, subst, arith}
 use Rattle.std.proofs.lemmas.List.{length-replicate, get_or-replicate}
 use Rattle.std.proofs.lemmas.Option.{slice_get-get_or}
 use Rattle.acquire_queue.specs.Line.{Line}
 use Rattle.condition_queue.specs.Sleepers.{Sleepers, asleep_on}
 use Rattle.history.specs.declared.header.Header.{Header}
-use Rattle.history.specs.Counts.{Counts, counts, total}
+use Rattle.history.specs.Counts.{Counts, counts}
 use Rattle.history.specs.Entries.{HistoryView}
 use Rattle.history.specs.Header.{IsInRange}
-use Rattle.history.specs.Object.{is_lock}
-use Rattle.history.specs.Room.{owed}
 use Rattle.history.specs.Start.{opening}
 use Rattle.history.proofs.RoomLemmas.{nothing_owed}
 use Rattle.frame.specs.declared.seat.Seat.{Seat}
