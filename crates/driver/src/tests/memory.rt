@@ -146,26 +146,36 @@ fn lock_of(alloc: Global, header: &Header) -> Result<Core<LockHooks>, Fault>
 
 const ONE_LOCK: &[u8] = b"aqs-steps 1 lock fair seats 2 conditions 0 cap 64\n0 acquire x 1\n1 try x 1\n1 look\n0 give x 1\nend 4\n";
 
-/// Whether the replay goes on to the end, and the history's too, where so many steps find memory.
-fn goes_on<R: Abort + AllocGlobal>(rt: &R, fed: usize) -> Result<(bool, bool), Fail> {
-    let mut lines = StepLines::open(ONE_LOCK)?;
-    let header = *lines.header();
+/// A fresh fair lock of which so many steps find memory.
+fn lock_fed<R: Abort + AllocGlobal>(rt: &R, header: &Header, fed: usize) -> Result<Starving, Fail>
+    ensures header { IfOk result (λ lock. lock.core.header ≡ header.now) }
+    ensures fresh { IfOk result (λ lock. lock.core.entries ≡ []) }
+{
     assert!(rt; header.object == Object::Lock(Policy::Fair));
     assert!(rt; header.in_range());
-    let core = lock_of(rt.alloc(), &header)?;
-    let text = replay(rt.alloc(), &mut Starving { core, fed }, &mut lines);
-    let core = lock_of(rt.alloc(), &header)?;
+    let core = lock_of(rt.alloc(), header)?;
+    Ok(Starving { core, fed })
+}
+
+/// Whether a replay goes on to the end where so many steps find memory.
+fn replays<R: Abort + AllocGlobal>(rt: &R, fed: usize) -> Result<bool, Fail> {
     let mut lines = StepLines::open(ONE_LOCK)?;
-    let driven = drive(&mut Starving { core, fed }, &mut lines);
-    Ok((text.is_ok(), driven.is_ok()))
+    let mut lock = lock_fed(rt, lines.header(), fed)?;
+    Ok(replay(rt.alloc(), &mut lock, &mut lines).is_ok())
+}
+
+/// The same of a history's steps.
+fn drives<R: Abort + AllocGlobal>(rt: &R, fed: usize) -> Result<bool, Fail> {
+    let mut lines = StepLines::open(ONE_LOCK)?;
+    let mut lock = lock_fed(rt, lines.header(), fed)?;
+    Ok(drive(&mut lock, &mut lines).is_ok())
 }
 
 #[test]
 fn a_step_without_memory_ends_the_replay(rt: HostRuntime) -> Result<(), Fail> {
     for fed in 0..=4 {
-        let (text, driven) = goes_on(&rt, fed)?;
-        assert_eq!(rt; text, fed == 4);
-        assert_eq!(rt; driven, fed == 4);
+        assert_eq!(rt; replays(&rt, fed)?, fed == 4);
+        assert_eq!(rt; drives(&rt, fed)?, fed == 4);
     }
     Ok(())
 }
