@@ -25,9 +25,10 @@ use history::fault::Fault;
 use history::header::{Header, Object, Policy};
 use std::alloc::Global;
 
-/// The most holds of a lock by one seat, and the most write holds, or read holds of all seats.
+/// The most holds of a lock by one seat.
 const MAX_HOLDS: u64 = 2_147_483_647;
 
+/// The most write holds of a read-write lock, and the most read holds of all seats together.
 const MAX_SHARED: u64 = 65_535;
 
 /// What a front of a legal history says: who holds what, who waits and who sleeps, the numbers of permits,
