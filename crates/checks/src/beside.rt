@@ -1,5 +1,5 @@
-//! Cores beside the plain program: by chance and in the known situations each step is answered by both alike, and in the end
-//! a core tells what its history adds up to.
+//! Cores beside the plain program: by chance and in the known situations each step is answered by both alike,
+//! and in the end a core tells what its history adds up to.
 
 mod chance;
 mod found;
@@ -27,12 +27,7 @@ fn step_beside<R: Abort + AllocGlobal>(
 ) -> Result<Answer, Fault> {
     let wanted = answer_found(rt.alloc(), core, seat, asked);
     let answer = core.step(seat, asked);
-    assert_eq!(rt;
-        answer,
-        wanted,
-        "{:?} {seat} {asked:?}",
-        *core.header()
-    );
+    assert_eq!(rt; answer, wanted, "{:?} {seat} {asked:?}", *core.header());
     assert!(rt; !matches!(answer, Err(Fault::OutOfMemory)));
     answer
 }
@@ -91,7 +86,7 @@ fn play<R: Abort + AllocGlobal>(
     compare_totals(rt, &core)
 }
 
-/// Lists of an object: each of four numbers of seats, three of conditions and three caps comes up eight times.
+/// Lists of an object: each number of seats with each of conditions and each cap, eight times.
 const LISTS: u16 = 288;
 
 const CAPS: [u32; 3] = [16, 24, 96];

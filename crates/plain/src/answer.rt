@@ -49,8 +49,8 @@ fn recorded(
 
 /// What a seat's step is answered behind a legal history of the header's object.
 ///
-/// It reads the history from its start and changes nothing. It takes memory for what it counts: `OutOfMemory` is of this
-/// call alone, and no answer to the step.
+/// It reads the history from its start and changes nothing. It takes memory for what it counts: `OutOfMemory`
+/// is of this call alone, and no answer to the step.
 pub fn answer(
     alloc: Global,
     header: &Header,

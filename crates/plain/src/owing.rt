@@ -42,8 +42,11 @@ fn released(object: Object, entry: Entry) -> u64
 /// What is owed behind an entry, of what was owed before it.
 pub fn owed_behind(header: &Header, owed: u64, entry: Entry) -> u64
     requires few { owed + 2 < 2 ^ 64 }
-    requires next { (h : List Entry) × IsOwed header.now h owed × IsLegal (opening header.now) (entry ∷ h) × AreSeated (opening header.now) (entry ∷ h) }
-    ensures is { (h : List Entry) → IsOwed header.now h owed → IsLegal (opening header.now) (entry ∷ h) → AreSeated (opening header.now) (entry ∷ h) → IsOwed header.now (entry ∷ h) result }
+    requires next { (h : List Entry) × IsOwed header.now h owed
+        × IsLegal (opening header.now) (entry ∷ h) × AreSeated (opening header.now) (entry ∷ h) }
+    ensures is { (h : List Entry) → IsOwed header.now h owed
+        → IsLegal (opening header.now) (entry ∷ h) → AreSeated (opening header.now) (entry ∷ h)
+        → IsOwed header.now (entry ∷ h) result }
     ensures few { result ≤ owed + 2 }
 {
     owed + reserved(header.object, entry) - released(header.object, entry)

@@ -12,7 +12,8 @@ use audit::ledger::Ledger;
 /// The seat, of so many, that is first in line and could take what it asks for.
 pub fn ready(ledger: &Ledger, seats: u16) -> Option<u16>
     requires { (s : Start) × (h : List Entry) × LedgerStand s h ledger.now × (seats ≡ s.header.seats) }
-    ensures { (s : Start) (h : List Entry) → LedgerStand s h ledger.now → seats ≡ s.header.seats → result ≡ ready s h }
+    ensures { (s : Start) (h : List Entry) → LedgerStand s h ledger.now → seats ≡ s.header.seats
+        → result ≡ ready s h }
 {
     for seat in 0..seats {
         if ledger.is_ready(seat) {

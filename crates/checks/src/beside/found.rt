@@ -1,4 +1,5 @@
-//! What is found of a core's history alone: the plain program's answer to a step, and what the entries add up to.
+//! What is found of a core's history alone: the plain program's answer to a step, and what the entries add up
+//! to.
 
 use crate::any_core::AnyCore;
 use audit::sums::Totals;
@@ -13,7 +14,8 @@ use std::alloc::Global;
 /// Beyond so many entries the plain program isn't asked.
 const MOST_ENTRIES: u64 = 1_000_000;
 
-/// The plain program's answer; `BadAmount` of a header that no object has, `OutOfPhase` of a seat that the core doesn't have.
+/// The plain program's answer; `BadAmount` of a header that no object has, `OutOfPhase` of a seat that the core
+/// doesn't have.
 fn found<H: Hooks + Drop>(
     alloc: Global,
     core: &Core<H>,

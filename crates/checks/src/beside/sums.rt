@@ -5,9 +5,7 @@ use audit::sums::Totals;
 use history::header::Object;
 
 fn sum(numbers: &[u64]) -> i128 {
-    numbers
-        .iter()
-        .fold(0, |sum: i128, number| sum.wrapping_add(i128::from(*number)))
+    numbers.iter().fold(0, |sum: i128, number| sum.wrapping_add(i128::from(*number)))
 }
 
 const NOTHING: Totals = Totals {
