@@ -7,7 +7,7 @@ use memchr::memchr;
 
 /// The first place at which the byte stands. For short texts, as a word: a long one wants `memchr`.
 #[inline(always)]
-pub(crate) fn place_of(byte: u8, bytes: &[u8]) -> Option<usize>
+pub fn place_of(byte: u8, bytes: &[u8]) -> Option<usize>
     ensures { result ≡ position (λ b. b == byte) bytes.now }
 {
     bytes.iter().position(|b| *b == byte)
