@@ -14,7 +14,7 @@ use steps::TextFault;
 #[test]
 fn asks_for_a_file_or_standard_input(rt: HostRuntime) -> Result<(), Fail> {
     let plain: [&[&str]; 3] = [&["aqs"], &["aqs", "replay"], &["aqs", "audit"]];
-    for words in plain {
+    for words in &plain {
         assert!(rt; arguments(rt.alloc(), words)?.file.is_none());
     }
     for name in ["replay", "audit"] {
@@ -39,8 +39,8 @@ fn asks_for_a_task(rt: HostRuntime) -> Result<(), Fail> {
         (&["aqs", "audit"], Task::Audit),
         (&["aqs", "audit", "history.txt"], Task::Audit),
     ];
-    for (words, task) in asked {
-        assert!(rt; arguments(rt.alloc(), words)?.task == task);
+    for (words, task) in &asked {
+        assert!(rt; arguments(rt.alloc(), words)?.task == *task);
     }
     Ok(())
 }
@@ -68,7 +68,7 @@ fn refuses_other_command_lines(rt: HostRuntime) {
         &["aqs", "replay", "--unknown"],
         &["aqs", ""],
     ];
-    for words in others {
+    for words in &others {
         assert!(rt; matches!(arguments(rt.alloc(), words), Err(Fault::Usage)));
     }
 }
@@ -97,10 +97,10 @@ fn tells_each_fault(rt: HostRuntime) -> Result<(), Fail> {
         (Fault::Stream(StreamFault::Memory), "out of memory", 5),
         (Fault::Memory, "out of memory", 5),
     ];
-    for (fault, line, status) in told {
+    for (fault, line, status) in &told {
         let text = format!(in rt.alloc(); "{fault}")?;
-        assert!(rt; text.as_str() == line);
-        assert_eq!(rt; fault.status(), status);
+        assert!(rt; text.as_str() == *line);
+        assert_eq!(rt; fault.status(), *status);
     }
     Ok(())
 }
@@ -172,13 +172,13 @@ fn ends_with_a_status(rt: HostRuntime) -> Result<(), Fail> {
         (&["aqs", "replay", "/"], STEPS, 4, "", "aqs: read failed\n"),
         (&["aqs", "replay", ""], STEPS, 4, "", "aqs: read failed\n"),
     ];
-    for (words, input, status, expected, error) in ends {
+    for (words, input, status, expected, error) in &ends {
         let mut output = Vec::new(rt.alloc());
         let noted = Noted(RefCell::new(String::new(rt.alloc())));
-        let done = run(&rt, words, input, &mut output);
-        assert_eq!(rt; told(&noted, done), status);
+        let done = run(&rt, words, *input, &mut output);
+        assert_eq!(rt; told(&noted, done), *status);
         assert!(rt; output.as_slice() == expected.as_bytes());
-        assert!(rt; noted.0.into_inner().as_str() == error);
+        assert!(rt; noted.0.into_inner().as_str() == *error);
     }
     Ok(())
 }
