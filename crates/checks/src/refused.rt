@@ -36,6 +36,10 @@ fn lacks_memory(answer: &Result<Answer, Fault>) -> bool {
     matches!(answer, Err(Fault::OutOfMemory))
 }
 
+fn is_recorded(answer: &Result<Answer, Fault>) -> bool {
+    matches!(answer, Ok(Answer::Recorded(_, _)))
+}
+
 /// How often the steps of a situation are made in one history, so that it grows some times.
 const ROUNDS: u32 = 24;
 
@@ -366,25 +370,27 @@ fn play_starved<R: Abort + AllocGlobal>(
     run_starved(rt, core, &mut memory, &log.again)
 }
 
-/// Has a core that lacks no memory make the steps that weren't refused, which it answers alike; how many.
+/// Has a core that lacks no memory make the steps that weren't refused, which it answers alike.
+///
+/// How many it records.
 fn follow<R: Abort>(
     rt: &R,
     rich: &mut AnyCore,
     steps: &[(u16, Step)],
     answers: &[Result<Answer, Fault>],
 ) -> u32 {
-    let mut made: u32 = 0;
+    let mut recorded: u32 = 0;
     for (step, answer) in steps.iter().zip(answers.iter()) {
         if !lacks_memory(answer) {
             let other = rich.step(step.0, step.1);
             assert!(rt; is_same(&other, answer));
-            made = made.saturating_add(1);
+            recorded = recorded.saturating_add(u32::from(is_recorded(answer)));
         }
     }
-    made
+    recorded
 }
 
-/// A run whose first step is refused goes on with the others; how many were not refused.
+/// A run whose first step is refused goes on with the others; how many it records.
 fn run_past_refusals<R: Abort + AllocGlobal>(
     rt: &R,
     pair: &mut Pair,
@@ -394,10 +400,10 @@ fn run_past_refusals<R: Abort + AllocGlobal>(
     let answers = play_starved(rt, &mut pair.scarce, steps, &mut log)?;
     assert!(rt; answers.first().is_some_and(lacks_memory));
     follow(rt, &mut pair.rich, &log.steps, &log.answers);
-    let made = follow(rt, &mut pair.rich, &log.again, &answers);
+    let recorded = follow(rt, &mut pair.rich, &log.again, &answers);
     assert_eq!(rt; pair.scarce.told(), pair.rich.told());
     assert!(rt; pair.run(rt.alloc(), &log.again)?);
-    Ok(made)
+    Ok(recorded)
 }
 
 /// The same behind a history of many places.
@@ -424,13 +430,13 @@ fn refuse_within_run<R: Abort + AllocGlobal>(rt: &R, example: &Example) -> Resul
     grow_from_open(rt, &said)
 }
 
-/// More steps were made past refusals than there are situations.
+/// Some of the runs record what is owed to those who hold or wait.
 #[test]
 fn a_run_goes_on_past_a_refused_step(rt: HostRuntime) -> Result<(), Fail> {
-    let mut made: u32 = 0;
+    let mut recorded: u32 = 0;
     for example in situations() {
-        made = made.saturating_add(refuse_within_run(&rt, example)?);
+        recorded = recorded.saturating_add(refuse_within_run(&rt, example)?);
     }
-    assert!(rt; 26 < made, "{made}");
+    assert!(rt; 10 < recorded, "{recorded}");
     Ok(())
 }
