@@ -6,9 +6,9 @@ mod found;
 mod sums;
 
 use crate::any_core::AnyCore;
-use crate::texts::steps_of;
+use crate::texts::{situations, steps_of};
 use chance::Chance;
-use examples::{EXAMPLES, Example};
+use examples::Example;
 use found::{answer_found, totals_found};
 use history::entry::Word;
 use history::fault::Fault;
@@ -212,7 +212,7 @@ fn play_example<R: Abort + AllocGlobal>(rt: &R, example: &Example) -> Result<(),
 
 #[test]
 fn known_situations_are_answered_like_the_plain_program(rt: HostRuntime) -> Result<(), Fail> {
-    for example in &EXAMPLES {
+    for example in situations() {
         play_example(&rt, example)?;
     }
     Ok(())
