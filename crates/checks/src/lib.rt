@@ -3,6 +3,8 @@
 #![tactic(auto)]
 
 #[cfg(test)]
+mod answers;
+#[cfg(test)]
 mod any_core;
 #[cfg(test)]
 mod beside;
@@ -13,7 +15,9 @@ mod limits;
 #[cfg(test)]
 mod memory;
 #[cfg(test)]
-mod refused;
+mod refused_runs;
+#[cfg(test)]
+mod refused_steps;
 #[cfg(test)]
 mod runs;
 #[cfg(test)]

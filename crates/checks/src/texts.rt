@@ -21,6 +21,16 @@ pub fn steps_of(alloc: Global, text: &str) -> Result<StepsText, Fail> {
     Ok(said)
 }
 
+/// A cap that no history here comes near.
+const LONG: u32 = 1_000_000;
+
+/// A situation with a cap that its history doesn't come near.
+pub fn long_situation(alloc: Global, example: &Example) -> Result<StepsText, Fail> {
+    let mut said = steps_of(alloc, example.steps)?;
+    said.header.cap = LONG;
+    Ok(said)
+}
+
 fn put_header(out: &mut Vec<u8>, format: &[u8], header: &Header) -> Result<(), Fail> {
     if !header.in_range() {
         return Err(Fail::from("a header that no object has"));
