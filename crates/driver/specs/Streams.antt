@@ -1,7 +1,6 @@
 -- What a stream reads, writes and answers.
 use Rattle.std.specs.Prelude.{ℕ, List, Option, Result, Ok, Err, IfSome}
 use Rattle.std.specs.Io.KnownBytes.{Keeps, Appends}
-use Rattle.line_text.specs.declared.fault.TextFault.{TextFault}
 use Rattle.line_text.specs.Form.{Form}
 use Rattle.line_text.specs.Reading.{IsReading}
 use Rattle.driver.specs.declared.stream_fault.StreamFault.{StreamFault}

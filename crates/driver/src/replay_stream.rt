@@ -104,11 +104,7 @@ fn opened<H: Hooks + Drop>(
 }
 
 /// What is written of the answers of a fresh object of the text's header.
-fn answer_text(
-    alloc: Global,
-    lines: &mut StepLines<'_>,
-    form: Form,
-) -> Result<Vec<u8>, StreamFault>
+fn answer_text(alloc: Global, lines: &mut StepLines<'_>, form: Form) -> Result<Vec<u8>, StreamFault>
     requires start { AreRead lines.old [] }
     ensures ok { IfOk result (λ text. Replayed form lines.old.text (λ written. text.items ≡ written)) }
     ensures err { IfErr result (IsOfText steps_form lines.old.text) }

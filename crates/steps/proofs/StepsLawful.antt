@@ -5,7 +5,7 @@ use Rattle.history.specs.declared.step.Step.{Step}
 use Rattle.history.specs.Text.{words_of}
 use Rattle.history.proofs.Numbers.{digits_alone}
 use Rattle.history.proofs.Plain.{ArePlain, words_again, decimal_plain}
-use Rattle.line_text.proofs.Lawful.{Lacks, IsLawful}
+use Rattle.line_text.proofs.Lawful.{IsLawful}
 use Rattle.line_text.proofs.WholeLines.{line_lacks, header_whole, header_one}
 use Rattle.steps.specs.StepLines.{step_words, step_line, end_line, IsStep}
 use Rattle.steps.specs.StepReading.{line_at}

@@ -1,4 +1,4 @@
-use Rattle.std.proofs.Common.{◌≡◌, ℕ, ◌<◌, false, sym, ◌∙◌, subst}
+use Rattle.std.proofs.Common.{ℕ, ◌<◌, sym, ◌∙◌, subst}
 use Rattle.std.proofs.lemmas.Bool.{false≢true}
 use Rattle.history.specs.declared.header.Header.{Header}
 use Rattle.history.specs.declared.step.Step.{Step}
@@ -27,5 +27,5 @@ loop-seat-preserved g c =
     }
 
 pub returns-clause-ok : goal.returns-clause-ok
-returns-clause-ok g c = 
+returns-clause-ok g c =
     driving_all c.args.lines.now c.loop-seat.lines (g.O.Answering.view_of c.loop-seat.object).entries c.loop-seat.invariant.text c.loop-seat.invariant.same (rw c.in_default.is at c.in_ok-seat.ensures.next) c.loop-seat.invariant.driving

@@ -1,4 +1,4 @@
-use Rattle.std.proofs.Common.{◌≡◌, ℕ, ◌+◌, ◌<◌, ◌≤◌, ◌++◌, ◌∷◌, List, [], false, sym, ap, ◌∙◌, subst, arith}
+use Rattle.std.proofs.Common.{ℕ, ◌<◌, ◌++◌, ◌∷◌, List, [], sym, ap, ◌∙◌, subst, arith}
 use Rattle.std.proofs.lemmas.Bool.{false≢true}
 use Rattle.history.specs.declared.header.Header.{Header}
 use Rattle.history.specs.declared.step.Step.{Step}
@@ -20,7 +20,7 @@ put_answer-requires g c =
     has_line c.loop-out.lines.header old.entries c.in-Some.seat c.in-Some.step c.answer-answer.result c.loop-out.invariant.telling.told.behind.legal below a.0
 
 pub loop-out-preserved : goal.loop-out-preserved
-loop-out-preserved g c = 
+loop-out-preserved g c =
     let old = g.O.Answering.view_of c.loop-out.object in
     let new = g.O.Answering.view_of c.answer-answer.new.self in
     let x : ℕ × Step = (c.in-Some.seat, c.in-Some.step) in
@@ -41,6 +41,6 @@ loop-out-preserved g c =
     }
 
 pub returns-clause-ok : goal.returns-clause-ok
-returns-clause-ok g c = 
+returns-clause-ok g c =
     telling_all c.args.lines.now.text c.loop-out.lines c.loop-out.out.items c.push-2.new.self.items (g.O.Answering.view_of c.loop-out.object).entries c.loop-out.entries c.loop-out.calls c.loop-out.invariant.text (rw c.in_default.is at c.in_ok-seat.ensures.next)
     (c.in_ok-push-2.ensures.items ∙ ap (λ (t : List ℕ). t ++ 10 ∷ []) c.in_ok-put_counts.ensures) c.loop-out.invariant.telling

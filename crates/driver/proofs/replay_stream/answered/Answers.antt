@@ -1,5 +1,3 @@
-use Rattle.std.proofs.Common.{◌≡◌, All, reverse, sym, ap, ◌∙◌}
-use Rattle.history_text.specs.HistoryText.{history_text}
 use Rattle.driver.proofs.Driven.{spelt_driven, replayed_driven}
 use Rattle.driver.proofs.replay_stream.answered.Goals as goal
 

@@ -1,4 +1,4 @@
-use Rattle.std.proofs.Common.{◌≡◌, ◌≤◌, ◌+◌, ◌-◌, length, take, drop, rules, arith, sym, ◌∙◌}
+use Rattle.std.proofs.Common.{◌-◌, length, drop, arith}
 use Rattle.std.proofs.lemmas.List.{length-take, length-drop}
 use Rattle.driver.proofs.Written.{one_more, not_true}
 use Rattle.driver.proofs.whole.write_all.Goals as goal

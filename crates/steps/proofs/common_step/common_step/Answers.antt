@@ -1,4 +1,4 @@
-use Rattle.std.proofs.Common.{rules, ◌≡◌, sym, arith}
+use Rattle.std.proofs.Common.{rules, sym, arith}
 use Rattle.steps.proofs.Lines.{behind_seat, first_space}
 use Rattle.steps.proofs.common_step.common_step.Goals as goal
 

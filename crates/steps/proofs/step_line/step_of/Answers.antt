@@ -1,4 +1,4 @@
-use Rattle.std.proofs.Common.{sym, ℕ, ◌<◌, ◌^◌, arith}
+use Rattle.std.proofs.Common.{arith}
 use Rattle.steps.proofs.StepLemmas.{unread, not_all_read, is_step_line}
 use Rattle.steps.proofs.step_line.step_of.Goals as goal
 

@@ -1,4 +1,4 @@
-use Rattle.std.proofs.Common.{◌≡◌, ℕ, List, Err, subst}
+use Rattle.std.proofs.Common.{ℕ, List, Err, subst}
 use Rattle.line_text.specs.Reading.{IsReading}
 use Rattle.steps.specs.StepsText.{steps_form}
 use Rattle.steps.proofs.Faults.{fault_passed}

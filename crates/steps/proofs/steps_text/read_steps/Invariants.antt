@@ -1,4 +1,4 @@
-use Rattle.std.proofs.Common.{◌≡◌, ℕ, length}
+use Rattle.std.proofs.Common.{◌≡◌, length}
 use Rattle.steps.specs.StepsRead.{AreRead}
 use Rattle.steps.proofs.steps_text.read_steps.Given as goal
 

@@ -1,4 +1,4 @@
-use Rattle.std.proofs.Common.{◌≡◌, inl, inr, ap}
+use Rattle.std.proofs.Common.{inl, inr, ap}
 use Rattle.frame.specs.Core.{CoreView}
 use Rattle.driver.specs.Answering.{Answered}
 use Rattle.driver.proofs.answering.CoreAnswering.answer.Goals as goal

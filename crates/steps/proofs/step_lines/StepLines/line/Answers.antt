@@ -1,6 +1,5 @@
-use Rattle.std.proofs.Common.{◌≡◌, ℕ, ◌+◌, List, [], ◌∷◌, length, length-append, sym, ap, ◌∙◌}
-use Rattle.line_text.specs.Reading.{HasBadLine}
-use Rattle.line_text.proofs.Growing.{one_more, goes_on}
+use Rattle.std.proofs.Common.{sym, ap, ◌∙◌}
+use Rattle.line_text.proofs.Growing.{goes_on}
 use Rattle.steps.specs.StepLines.{end_line}
 use Rattle.steps.specs.StepsText.{steps_form}
 use Rattle.steps.proofs.step_lines.StepLines.line.Goals as goal
@@ -10,4 +9,3 @@ returns-then-is_end c =
     rw (← c.self.view_is) (λ steps read.
     let end = c.is_end.ensures.0 c.if-is_end.true in
     goes_on steps_form c.self.inside.text.now c.self.inside.header steps c.self.inside.rest.now c.in-Some.line.now c.in-Some.after.now c.self.inside.count read.begins c.in-Some.ensures.0 read.count (end.0, end.1 ∙ ap end_line read.count) (sym c.is_empty.ensures ∙ c.if-is_empty.false))
-

@@ -1,4 +1,3 @@
-use Rattle.std.proofs.Common.{◌≡◌, ℕ, ◌+◌, List}
 use Rattle.steps.proofs.Lines.{read_on}
 use Rattle.steps.proofs.step_lines.StepLines.next.Goals as goal
 
