@@ -1,9 +1,9 @@
 -- A line begins the text.
-use Rattle.std.proofs.Common.{◌≡◌, ℕ, suc, ◌+◌, ◌-◌, List, [], ◌∷◌, ◌++◌, length, length-append, append_assoc, take, drop, Some, refl, sym, ap, ◌∙◌, add-one, decimal, position, ◌==◌}
+use Rattle.std.proofs.Common.{◌≡◌, ℕ, suc, ◌+◌, ◌-◌, List, [], ◌∷◌, ◌++◌, length, length-append, append_assoc, take, drop, Some, refl, sym, ap, ◌∙◌, arith, add-one, decimal, position, ◌==◌}
 use Rattle.std.proofs.lemmas.Bool.{eqb-true}
 use Rattle.std.proofs.lemmas.List.{take_rest, take-append-drop}
 use Rattle.std.proofs.lemmas.List.Quantifiers.{position-Some}
-use Rattle.std.proofs.Math.Seq.{drop-cons}
+use Rattle.std.proofs.Math.Seq.{drop-cons, drop-append_seam}
 use Rattle.history.specs.declared.step.Step.{Step}
 use Rattle.history.specs.declared.step.Step.TheVariants.{Acquire, Try, TryFair, EntryInterrupt, Give, Look, Expire, Interrupt, Await, Signal, SignalAll, Drain}
 use Rattle.history.specs.Text.{ended, line_of}
@@ -39,6 +39,12 @@ behind_seat text seat more rest s parts is words =
     let step = line_of (step_words s.1) in
     let line : ended (step_line s) ≡ seat ++ 32 ∷ ended step = ap ended (seat_first s.0 s.1) ∙ append_assoc (decimal s.0) (32 ∷ step) (10 ∷ []) ∙ ap (λ (t : List ℕ). t ++ 32 ∷ ended step) (sym is) in
     parts ∙ ap (λ (t : List ℕ). seat ++ 32 ∷ t) words ∙ sym (append_assoc seat (32 ∷ ended step) rest) ∙ ap (λ (t : List ℕ). t ++ rest) (sym line)
+
+-- what is left of a text, by its length
+pub left_over : (text front rest : List ℕ) (left : ℕ) → text ≡ front ++ rest → length rest ≡ left → take (length text - (length text - left)) (drop (length text - left) text) ≡ rest
+left_over text front rest left parts long =
+    let start : length text - left ≡ length front = omega (arith, long, ap length parts, length-append front rest) in
+    rw take_rest (ap (λ (i : ℕ). drop i text) start ∙ ap (drop (length front)) parts ∙ drop-append_seam front rest)
 
 -- one more step was read
 pub read_on : (old : StepsRead) (steps : List (ℕ × Step)) (step : ℕ × Step) (after : List ℕ) → IsAhead old step after → AreRead old steps → AreRead (record { text = old.text; header = old.header; count = old.count + 1; rest = after }) (steps ++ step ∷ [])

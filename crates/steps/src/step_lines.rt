@@ -89,15 +89,22 @@ impl<'a> StepLines<'a> {
         }
     }
 
-    /// The same, in fewer moves where the line is one of the commonest.
-    #[inline(always)]
-    fn ahead(&self) -> Result<Option<((u16, Step), &'a [u8])>, TextFault>
-        ensures { IsLineOf self.now result }
+    /// The next step, word by word.
+    #[inline(never)]
+    fn next_by_words(&mut self) -> Result<Option<(u16, Step)>, TextFault>
+        ensures text { self.new.text ≡ self.old.text }
+        ensures header { self.new.header ≡ self.old.header }
+        ensures few { self.new.count < 2 ^ 64 }
+        ensures next { IsNext self.old result self.new }
+        ensures seated { IfOk result (λ next. IfSome next (λ step. step.0 < self.old.header.seats)) }
+        ensures shorter { IfOk result (λ next. IfSome next (λ _. length self.new.rest < length self.old.rest)) }
     {
-        if let Some(read) = common_step(self.rest, self.header.seats) {
-            return Ok(Some(read));
-        }
-        self.line()
+        let Some((step, after)) = self.line()? else {
+            return Ok(None);
+        };
+        self.count += 1;
+        self.rest = after;
+        Ok(Some(step))
     }
 
     /// The next seat and its step, or None behind the last: nothing follows the end line.
@@ -110,11 +117,11 @@ impl<'a> StepLines<'a> {
         ensures seated { IfOk result (λ next. IfSome next (λ step. step.0 < self.old.header.seats)) }
         ensures shorter { IfOk result (λ next. IfSome next (λ _. length self.new.rest < length self.old.rest)) }
     {
-        let Some((step, after)) = self.ahead()? else {
-            return Ok(None);
-        };
-        self.count += 1;
-        self.rest = after;
-        Ok(Some(step))
+        if let Some((step, left)) = common_step(self.rest, self.header.seats) {
+            self.count += 1;
+            self.rest = &self.rest[self.rest.len() - left..];
+            return Ok(Some(step));
+        }
+        self.next_by_words()
     }
 }
