@@ -1,5 +1,6 @@
 pub mod Lawful
 pub mod WholeLines
 pub mod Growing
+pub mod Following
 pub mod OneReading
 pub mod Cuts

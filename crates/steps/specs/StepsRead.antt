@@ -39,9 +39,3 @@ abbrev pub IsLineOf : StepsRead → Result (Option ((ℕ × Step) × Bor (List �
 IsLineOf r (Ok (Some line)) = IsAhead r line.0 line.1.now
 IsLineOf r (Ok None) = AllRead r
 IsLineOf r (Err fault) = HasFault r fault
-
--- Whatever steps were read: one more was, or they are all, or the text has this fault.
-abbrev pub IsNext : StepsRead → Result (Option (ℕ × Step)) TextFault → StepsRead → Type 0
-IsNext old (Ok (Some step)) new = (steps : List (ℕ × Step)) → AreRead old steps → AreRead new (steps ++ step ∷ [])
-IsNext old (Ok None) new = AllRead old
-IsNext old (Err fault) new = HasFault old fault

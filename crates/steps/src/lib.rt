@@ -4,14 +4,13 @@
 //! [`one_reading`]. What begins a steps text and isn't all of it is cut short: [`cut_short`].
 #![tactic(auto)]
 
-mod common_step;
+pub mod common_step;
 mod end_line;
 mod law;
+pub mod next_line;
 mod step_line;
-pub mod step_lines;
 pub mod steps_text;
 
 pub use crate::law::{cut_short, one_reading};
-pub use crate::step_lines::StepLines;
 pub use crate::steps_text::{StepsText, read_steps};
 pub use line_text::fault::TextFault;

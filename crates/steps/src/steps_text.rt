@@ -2,7 +2,7 @@
 
 ghost use Rattle.steps.specs.StepsText.{Reads};
 
-use crate::step_lines::StepLines;
+use crate::next_line::{header_of, next_line};
 use history::header::Header;
 use history::step::Step;
 use line_text::fault::TextFault;
@@ -22,11 +22,11 @@ pub struct StepsText {
 pub fn read_steps(alloc: Global, text: &[u8]) -> Result<StepsText, TextFault>
     ensures { Reads text.now result }
 {
-    let mut lines = StepLines::open(text)?;
+    let (header, mut rest) = header_of(text)?;
     let mut steps = Vec::with_capacity(alloc, text.len() / LINE_LENGTH)?;
-    while let Some(step) = lines.next()? {
+    while let Some((step, after)) = next_line(rest, &header, steps.len() as u64)? {
         steps.push(step)?;
+        rest = after;
     }
-    let header = *lines.header();
     Ok(StepsText { header, steps })
 }

@@ -1,0 +1,61 @@
+//! The lines of a steps text, one after another.
+
+ghost use Rattle.std.specs.Prelude.{◌≡◌, ◌+◌, ◌<◌, ◌≤◌, ◌^◌, [], List, ℕ, Err, length, IfOk, IfErr, IfSome, IsErrOf};
+ghost use Rattle.history.specs.Text.{IsLine};
+ghost use Rattle.line_text.specs.Reading.{IsReading};
+ghost use Rattle.line_text.specs.declared.fault.TextFault.TheVariants.{CutShort};
+ghost use Rattle.steps.specs.StepsText.{steps_form};
+ghost use Rattle.steps.specs.StepsRead.{AreRead, IsLineOf};
+
+use crate::end_line::is_end;
+use crate::step_line::step_of;
+use history::header::Header;
+use history::step::Step;
+use history::text::first_line;
+use line_text::fault::TextFault;
+use line_text::header_line::header_behind;
+
+/// The header of a text, and what follows its line.
+pub fn header_of(text: &[u8]) -> Result<(Header, &[u8]), TextFault>
+    ensures ok { IfOk result (λ r. AreRead (record { text = text.now; header = r.0; count = 0; rest = r.1.now }) []) }
+    ensures err { IfErr result (λ fault. IsReading steps_form text.now (Err fault)) }
+    ensures cut { IsErrOf result CutShort → IsLine text.now }
+    ensures shorter { IfOk result (λ r. length r.1.now ≤ length text.now) }
+    ensures seats { IfOk result (λ r. 1 ≤ r.0.seats) }
+{
+    let Some((first, after)) = first_line(text) else {
+        return Err(TextFault::CutShort);
+    };
+    match header_behind(b"aqs-steps 1 ", first) {
+        Some(header) => Ok((header, after)),
+        None => Err(TextFault::BadHeader),
+    }
+}
+
+/// The seat and the step of the next line of a text of which so many steps were read, and what follows it;
+/// or None where that is the end line, and nothing follows.
+pub fn next_line<'a>(
+    rest: &'a [u8],
+    header: &Header,
+    count: u64,
+) -> Result<Option<((u16, Step), &'a [u8])>, TextFault>
+    requires seats { 1 ≤ header.now.seats }
+    requires few { count + 3 < 2 ^ 64 }
+    ensures line { (text : List ℕ) → IsLineOf (record { text = text; header = header.now; count = count; rest = rest.entry.now }) result }
+    ensures cut { IsErrOf result CutShort → IsLine rest.entry.now }
+    ensures shorter { IfOk result (λ next. IfSome next (λ line. length line.1.now < length rest.entry.now)) }
+{
+    let Some((line, after)) = first_line(rest) else {
+        return Err(TextFault::CutShort);
+    };
+    if is_end(line, count) {
+        if after.is_empty() {
+            return Ok(None);
+        }
+        return Err(TextFault::BadLine(count + 3));
+    }
+    match step_of(line, header.seats) {
+        Some(step) => Ok(Some((step, after))),
+        None => Err(TextFault::BadLine(count + 2)),
+    }
+}
