@@ -27,9 +27,6 @@ seated : (h : Header) (k : ℕ) (steps : List (ℕ × Step)) → AreItems steps_
 seated h k [] p = tt
 seated h k (s ∷ steps) p = (p.0.0, seated h (k + 1) steps p.1)
 
-pub are_seated : (text : List ℕ) (h : Header) (steps : List (ℕ × Step)) → IsText steps_form text h steps → All (λ s. s.0 < h.seats) steps
-are_seated text h steps is = All-from_recursion (IsSeated h.seats) steps (seated h 0 steps is.begins.each)
-
 pub record IsHistory (header : Header) (h : List Entry) : Type 0 where
   pub legal : IsLegal (opening header) h
   pub seated : AreSeated (opening header) h
@@ -57,7 +54,5 @@ replayed form text h steps written is same =
       written = same;
     }
 
-pub spelt_behind : (h : Header) (steps : List (ℕ × Step)) → All (λ s. s.0 < h.seats) steps → All IsSpelt (reverse (history_behind h steps))
-spelt_behind h steps all =
-    let is = results_are h [] steps (none_recorded h) (recursion_from_All (IsSeated h.seats) steps all) in
-    All-from_recursion IsSpelt (reverse (history_behind h steps)) (each-reverse IsSpelt (history_behind h steps) (all_spelt h (history_behind h steps) is.legal))
+pub spelt_behind : (header : Header) (h : List Entry) → IsLegal (opening header) h → All IsSpelt (reverse h)
+spelt_behind header h legal = All-from_recursion IsSpelt (reverse h) (each-reverse IsSpelt h (all_spelt header h legal))

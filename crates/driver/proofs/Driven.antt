@@ -1,5 +1,7 @@
 -- The steps of a text are answered as their lines are read.
-use Rattle.std.proofs.Common.{◌≡◌, ℕ, ◌+◌, ◌<◌, List, [], ◌∷◌, ◌++◌, All, reverse, length-append, Result, Ok, Some, subst, sym, ap, ◌∙◌}
+use Rattle.std.proofs.Common.{◌≡◌, ℕ, ◌+◌, ◌<◌, List, [], ◌∷◌, ◌++◌, All, reverse, Option, None, Some, Result, Ok, Err, IfSome, IfErr, Bool, true, false, refl, subst, sym, ap, ◌∙◌}
+use Rattle.std.proofs.lemmas.Bool.{false≢true}
+use Rattle.std.specs.Result.{IsErr, IsErrAnd}
 use Rattle.history.specs.declared.entry.Entry.{Entry}
 use Rattle.history.specs.declared.fault.Fault.{Fault}
 use Rattle.history.specs.declared.header.Header.{Header}
@@ -12,69 +14,96 @@ use Rattle.history.specs.Text.{ended}
 use Rattle.history_text.specs.EntryLines.{counts_line}
 use Rattle.history_text.specs.HistoryText.{history_text}
 use Rattle.line_text.specs.Reading.{IsText}
-use Rattle.steps.specs.StepsRead.{StepsRead, AreRead, AllRead, IsNext}
 use Rattle.steps.specs.StepsText.{steps_form}
 use Rattle.driver.specs.declared.form.Form.TheVariants.{Replay, History}
+use Rattle.driver.specs.declared.stream_fault.StreamFault.{StreamFault}
+use Rattle.driver.specs.declared.stream_fault.StreamFault.TheVariants.{ReadFailed}
 use Rattle.driver.specs.Replay.{calls_of}
 use Rattle.driver.specs.ReplayStream.{IsDriven, Replayed}
 use Rattle.driver.specs.ReplayText.{answer_line, entries_of, header_line}
-use Rattle.driver.proofs.Behind.{are_seated, replayed, spelt_behind}
+use Rattle.driver.specs.StepReader.{Progress, WereRead, OfText, IsFaultBehind, IsNext}
+use Rattle.driver.proofs.Behind.{replayed, spelt_behind}
 use Rattle.driver.proofs.Told.{Told, IsBehind, told_none, told_more, told_all, behind_none, behind_more, behind_all}
 
--- so many steps were read, and this is the history behind them
-pub record Driving (r : StepsRead) (h : List Entry) : Type 0 where
-  pub steps : List (ℕ × Step)
-  pub read : AreRead r steps
-  pub behind : IsBehind r.header steps h
+-- from the header on, these steps were read
+abbrev pub ReadOn : Progress → List (ℕ × Step) → Progress → Type 0
+ReadOn first steps now = (text : Option (List ℕ)) → WereRead text first [] → WereRead text now steps
 
--- so many steps were read, and this was told of them
-pub record Telling (front : List ℕ) (r : StepsRead) (out : List ℕ) (h : List Entry) (number ended_calls : ℕ) : Type 0 where
+-- these steps were read, and this is the history behind them
+pub record Driving (first now : Progress) (h : List Entry) : Type 0 where
   pub steps : List (ℕ × Step)
-  pub read : AreRead r steps
-  pub told : Told r.header front steps out h number ended_calls
+  pub read : ReadOn first steps now
+  pub behind : IsBehind now.header steps h
 
--- one more is counted
-pub one_further : (old new : StepsRead) (x : ℕ × Step) (steps : List (ℕ × Step)) → IsNext old (Ok (Some x)) new → AreRead old steps → new.count ≡ old.count + 1
-one_further old new x steps next read = (next steps read).count ∙ length-append steps (x ∷ []) ∙ ap (λ (n : ℕ). n + 1) (sym read.count)
+-- these steps were read, and this was told of them
+pub record Telling (front : List ℕ) (first now : Progress) (out : List ℕ) (h : List Entry) (number ended_calls : ℕ) : Type 0 where
+  pub steps : List (ℕ × Step)
+  pub read : ReadOn first steps now
+  pub told : Told now.header front steps out h number ended_calls
+
+-- a fault ends the reading, whatever was read before
+pub fault_behind : (first now new : Progress) (steps : List (ℕ × Step)) (fault : StreamFault) → ReadOn first steps now → IsNext now (Err fault) new → IsFaultBehind first fault
+fault_behind first now new steps fault read next = λ text were. next text steps (read text were)
+
+-- and is passed on
+pub failed_behind : {T : Type 0} (first : Progress) (r : Result T StreamFault) (fault : StreamFault) → IsErr r × IsErrAnd r (λ e. e ≡ fault) → IsFaultBehind first fault → IfErr r (IsFaultBehind first)
+failed_behind first (Ok next) fault passed is = absurd (false≢true passed.0)
+failed_behind first (Err e) fault passed is = subst (IsFaultBehind first) (sym passed.1) is
+
+abbrev sure : {T : Type 0} → T → Result T StreamFault
+sure x = Ok x
+
+-- a source goes on after an answer
+pub goes_on : {T : Type 0} (x : T) (failed : Bool) → (failed ≡ true → sure x ≡ Err ReadFailed) → failed ≡ false
+goes_on x true failing = absurd (no_fault x (failing refl))
+  where
+    no_fault : {T : Type 0} (x : T) → sure x ≡ Err ReadFailed → ⊥
+    no_fault x e = cc
+goes_on x false failing = refl
 
 -- ---- the history alone
 
-pub driving_none : (r : StepsRead) (h : List Entry) → AreRead r [] → h ≡ [] → Driving r h
-driving_none r h read none = record { steps = []; read = read; behind = rw none (behind_none r.header) }
+pub driving_none : (p : Progress) (h : List Entry) → h ≡ [] → Driving p p h
+driving_none p h none = record { steps = []; read = λ text were. were; behind = rw none (behind_none p.header) }
 
-pub driving_on : (old new : StepsRead) (x : ℕ × Step) (h h' : List Entry) → IsNext old (Ok (Some x)) new → new.header ≡ old.header → x.0 < old.header.seats → h' ≡ (answer (opening new.header) h x.0 x.1).1 → Driving old h → Driving new h'
-driving_on old new x h h' next same below q d =
+pub driving_on : (first old new : Progress) (x : ℕ × Step) (h h' : List Entry) → IsNext old (Ok (Some x)) new → new.header ≡ old.header → x.0 < old.header.seats → h' ≡ (answer (opening new.header) h x.0 x.1).1 → Driving first old h → Driving first new h'
+driving_on first old new x h h' next same below q d =
     let behind = subst (λ (k : Header). IsBehind k d.steps h) (sym same) d.behind in
     let seated = subst (λ (k : Header). x.0 < k.seats) (sym same) below in
-    record { steps = d.steps ++ x ∷ []; read = next d.steps d.read; behind = behind_more new.header d.steps h x h' behind seated q }
+    record { steps = d.steps ++ x ∷ []; read = λ text were. next text d.steps (d.read text were); behind = behind_more new.header d.steps h x h' behind seated q }
 
-pub driving_all : (first r : StepsRead) (h : List Entry) → r.text ≡ first.text → r.header ≡ first.header → AllRead r → Driving r h → IsDriven first h
-driving_all first r h text same all d =
-    let is = subst (λ (k : Header). IsText steps_form r.text k d.steps) same (all d.steps d.read) in
+pub driving_all : (first now new : Progress) (h : List Entry) → now.header ≡ first.header → IsNext now (Ok None) new → Driving first now h → IsDriven first h
+driving_all first now new h same all d =
     let behind = subst (λ (k : Header). IsBehind k d.steps h) same d.behind in
-    record { steps = d.steps; is = subst (λ (t : List ℕ). IsText steps_form t first.header d.steps) text is; entries_are = behind_all first.header d.steps h behind }
+    record {
+      steps = d.steps;
+      is = λ text were. subst (λ (k : Header). IfSome text (λ t. IsText steps_form t k d.steps)) same (all text d.steps (d.read text were));
+      entries_are = behind_all first.header d.steps h behind;
+      legal = behind.legal;
+    }
 
-pub spelt_driven : (r : StepsRead) (h : List Entry) → IsDriven r h → All IsSpelt (reverse h)
-spelt_driven r h d = rw d.entries_are (spelt_behind r.header d.steps (are_seated r.text r.header d.steps d.is))
+pub spelt_driven : (p : Progress) (h : List Entry) → IsDriven p h → All IsSpelt (reverse h)
+spelt_driven p h d = spelt_behind p.header h d.legal
 
-pub replayed_driven : (r : StepsRead) (h : List Entry) (out : List ℕ) → IsDriven r h → out ≡ history_text r.header h → Replayed History r.text (λ written. out ≡ written)
-replayed_driven r h out d o = replayed History r.text r.header d.steps out d.is (o ∙ ap (history_text r.header) d.entries_are)
+pub replayed_driven : (p : Progress) (h : List Entry) (out : List ℕ) → IsDriven p h → out ≡ history_text p.header h → OfText p (λ t. Replayed History t (λ written. out ≡ written))
+replayed_driven p h out d o None were = tt
+replayed_driven p h out d o (Some t) were = replayed History t p.header d.steps out (d.is (Some t) were) (o ∙ ap (history_text p.header) d.entries_are)
 
 -- ---- the text of the answers
 
-pub telling_none : (front : List ℕ) (r : StepsRead) (out : List ℕ) (h : List Entry) → AreRead r [] → out ≡ front → h ≡ [] → Telling front r out h 0 0
-telling_none front r out h read o none = record { steps = []; read = read; told = rw (o, none) (told_none r.header front) }
+pub telling_none : (front : List ℕ) (p : Progress) (out : List ℕ) (h : List Entry) → out ≡ front → h ≡ [] → Telling front p p out h 0 0
+telling_none front p out h o none = record { steps = []; read = λ text were. were; told = rw (o, none) (told_none p.header front) }
 
-pub telling_on : (front : List ℕ) (old new : StepsRead) (out out' : List ℕ) (x : ℕ × Step) (r : Result Answer Fault) (h h' : List Entry) (number ended_calls : ℕ)
+pub telling_on : (front : List ℕ) (first old new : Progress) (out out' : List ℕ) (x : ℕ × Step) (r : Result Answer Fault) (h h' : List Entry) (number ended_calls : ℕ)
     → IsNext old (Ok (Some x)) new → new.header ≡ old.header → x.0 < old.header.seats → r ≡ (answer (opening new.header) h x.0 x.1).0 → h' ≡ (answer (opening new.header) h x.0 x.1).1 → out' ≡ out ++ ended (answer_line number x.0 r)
-    → Telling front old out h number ended_calls → Telling front new out' h' (number + entries_of r) (ended_calls + calls_of r)
-telling_on front old new out out' x r h h' number ended_calls next same below p q o t =
+    → Telling front first old out h number ended_calls → Telling front first new out' h' (number + entries_of r) (ended_calls + calls_of r)
+telling_on front first old new out out' x r h h' number ended_calls next same below p q o t =
     let told = subst (λ (k : Header). Told k front t.steps out h number ended_calls) (sym same) t.told in
     let seated = subst (λ (k : Header). x.0 < k.seats) (sym same) below in
-    record { steps = t.steps ++ x ∷ []; read = next t.steps t.read; told = told_more new.header front t.steps out h number ended_calls x r out' h' told seated p q o }
+    record { steps = t.steps ++ x ∷ []; read = λ text were. next text t.steps (t.read text were); told = told_more new.header front t.steps out h number ended_calls x r out' h' told seated p q o }
 
-pub telling_all : (text : List ℕ) (r : StepsRead) (out out' : List ℕ) (h : List Entry) (number ended_calls : ℕ) → r.text ≡ text → AllRead r → out' ≡ (out ++ counts_line number ended_calls) ++ 10 ∷ []
-    → Telling (ended (header_line r.header)) r out h number ended_calls → Replayed Replay text (λ written. out' ≡ written)
-telling_all text r out out' h number ended_calls same all o t =
-    let is = subst (λ (b : List ℕ). IsText steps_form b r.header t.steps) same (all t.steps t.read) in
-    replayed Replay text r.header t.steps out' is (told_all r.header (ended (header_line r.header)) t.steps out h number ended_calls out' t.told o)
+pub telling_all : (first now new : Progress) (out out' : List ℕ) (h : List Entry) (number ended_calls : ℕ) → IsNext now (Ok None) new → out' ≡ (out ++ counts_line number ended_calls) ++ 10 ∷ []
+    → Telling (ended (header_line now.header)) first now out h number ended_calls → OfText first (λ t. Replayed Replay t (λ written. out' ≡ written))
+telling_all first now new out out' h number ended_calls all o t None were = tt
+telling_all first now new out out' h number ended_calls all o t (Some bytes) were =
+    replayed Replay bytes now.header t.steps out' (all (Some bytes) t.steps (t.read (Some bytes) were)) (told_all now.header (ended (header_line now.header)) t.steps out h number ended_calls out' t.told o)

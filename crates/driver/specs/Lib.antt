@@ -6,6 +6,8 @@ pub mod MemorySource
 pub mod Replay
 pub mod ReplayStream
 pub mod ReplayText
+pub mod StepReader
 pub mod Streams
 pub mod Turns
 pub mod Whole
+pub mod Window

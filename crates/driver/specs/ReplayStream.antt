@@ -7,13 +7,13 @@ use Rattle.history.specs.Order.{IsInOrder, IsFairOrder}
 use Rattle.history.specs.Start.{opening}
 use Rattle.line_text.specs.Reading.{IsText}
 use Rattle.steps.specs.StepsText.{steps_form}
-use Rattle.steps.specs.StepsRead.{StepsRead}
 use Rattle.history.specs.declared.entry.Entry.{Entry}
 use Rattle.history_text.specs.HistoryText.{history_text}
 use Rattle.driver.specs.declared.form.Form.{Form}
 use Rattle.driver.specs.declared.form.Form.TheVariants.{Replay, History}
 use Rattle.driver.specs.declared.stream_fault.StreamFault.{StreamFault}
 use Rattle.driver.specs.ReplayText.{replay_text, history_behind}
+use Rattle.driver.specs.StepReader.{Progress, OfText}
 use Rattle.driver.specs.Streams.{Streams}
 
 abbrev pub answer_text : Form → Header → List (ℕ × Step) → List ℕ
@@ -33,10 +33,11 @@ pub record Replayed (form : Form) (text : List ℕ) (Written : List ℕ → Type
   pub written : Written (answer_text form header steps)
 
 -- The text is a steps text of this header, and these entries are the history behind its steps.
-pub record IsDriven (r : StepsRead) (entries : List Entry) : Type 0 where
+pub record IsDriven (p : Progress) (entries : List Entry) : Type 0 where
   pub steps : List (ℕ × Step)
-  pub is : IsText steps_form r.text r.header steps
-  pub entries_are : entries ≡ history_behind r.header steps
+  pub is : OfText p (λ text. IsText steps_form text p.header steps)
+  pub entries_are : entries ≡ history_behind p.header steps
+  pub legal : IsLegal (opening p.header) entries
 
 -- what a replay leaves
 abbrev pub Replays : Form → Option (List ℕ) → Option (List ℕ) → Option (List ℕ) → Result (Unit {0}) StreamFault → Type 0

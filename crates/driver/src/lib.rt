@@ -15,8 +15,10 @@ mod replay;
 pub mod replay_stream;
 pub mod sink;
 pub mod source;
+mod step_reader;
 pub mod stream_fault;
 #[cfg(test)]
 mod tests;
 mod turns;
 mod whole;
+mod window;

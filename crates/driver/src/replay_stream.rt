@@ -1,10 +1,8 @@
 //! A steps text is answered by a replay text, or by a history text.
 
-ghost use Rattle.std.specs.Prelude.{◌≡◌, ◌↔◌, [], false, IsTrue, IfErr, IfOk, IsErrOf};
-ghost use Rattle.steps.specs.StepsText.{steps_form};
-ghost use Rattle.steps.specs.StepsRead.{AreRead};
+ghost use Rattle.std.specs.Prelude.{◌≡◌, ◌↔◌, [], false, IsTrue, IfErr, IfOk, IfSome, IsErrOf};
 ghost use Rattle.driver.specs.ReplayStream.{Replayed, Replays};
-ghost use Rattle.driver.specs.Streams.{IsOfText};
+ghost use Rattle.driver.specs.StepReader.{IsFaultBehind, IsFaultOf, OfText, progress};
 
 use crate::answering::Answering;
 use crate::form::Form;
@@ -12,7 +10,8 @@ use crate::replay::{drive, replay};
 use crate::sink::Sink;
 use crate::source::Source;
 use crate::stream_fault::StreamFault;
-use crate::whole::{read_all, write_all};
+use crate::step_reader::StepReader;
+use crate::whole::{read_on, write_all};
 use counting::latch::LatchHooks;
 use counting::semaphore::SemaphoreHooks;
 use frame::hooks::Hooks;
@@ -22,12 +21,12 @@ use history_text::write_text;
 use read_write::hooks::RwHooks;
 use reentrant::lock::LockHooks;
 use std::alloc::Global;
-use steps::StepLines;
 
 /// Reads a steps text, and writes what a fresh object of its header answers to the steps.
 ///
-/// All is read, then the whole answer is built, and then it is written: nothing is written where the
-/// text has a fault, where reading fails or where memory is refused, to a step too.
+/// Each line is answered as it is read, and nothing is written before all was read and the whole answer
+/// stands: nothing at all where the text has a fault, where reading fails or where memory is refused, to a
+/// step too. A text with a fault is read to its end too.
 pub fn replay_stream<R: Source, W: Sink>(
     alloc: Global,
     reader: &mut R,
@@ -40,41 +39,50 @@ pub fn replay_stream<R: Source, W: Sink>(
     ensures read { IsErrOf result StreamFault.ReadFailed ↔ IsTrue (R.failed reader.new) }
     ensures write { IsErrOf result StreamFault.WriteFailed ↔ IsTrue (W.failed writer.new) }
 {
-    let bytes = read_all(alloc, reader)?;
-    let text = answer_of(alloc, &bytes, form)?;
-    match write_all(writer, &text) {
-        Ok(()) => Ok(()),
-        Err(_) => Err(StreamFault::WriteFailed),
+    match answer_of(alloc, reader, form) {
+        Ok(text) => match write_all(writer, &text) {
+            Ok(()) => Ok(()),
+            Err(_) => Err(StreamFault::WriteFailed),
+        },
+        Err(StreamFault::Text(fault)) => {
+            read_on(reader)?;
+            Err(StreamFault::Text(fault))
+        }
+        Err(fault) => Err(fault),
     }
 }
 
-/// What is written for a text.
-fn answer_of(alloc: Global, bytes: &[u8], form: Form) -> Result<Vec<u8>, StreamFault>
-    ensures ok { IfOk result (λ text. Replayed form bytes.now (λ written. text.items ≡ written)) }
-    ensures err { IfErr result (IsOfText steps_form bytes.now) }
+/// What is written for the text that a source has.
+fn answer_of<R: Source>(alloc: Global, reader: &mut R, form: Form) -> Result<Vec<u8>, StreamFault>
+    requires { R.failed reader.old ≡ false }
+    ensures ok { IfOk result (λ text. IfSome (R.left reader.old) (λ t. Replayed form t (λ written. text.items ≡ written))) }
+    ensures err { IfErr result (IsFaultOf (R.left reader.old)) }
+    ensures failing { IsErrOf result StreamFault.ReadFailed ↔ IsTrue (R.failed reader.new) }
 {
-    let mut lines = StepLines::open(bytes)?;
-    answer_text(alloc, &mut lines, form)
+    let mut steps = StepReader::open(alloc, reader)?;
+    answer_text(alloc, &mut steps, reader, form)
 }
 
 /// What is written of an object's answers to the steps of a text.
-fn answered<O: Answering>(
+fn answered<O: Answering, R: Source>(
     alloc: Global,
     object: &mut O,
-    lines: &mut StepLines<'_>,
+    steps: &mut StepReader,
+    reader: &mut R,
     form: Form,
 ) -> Result<Vec<u8>, StreamFault>
-    requires header { (O.view_of object.old).header ≡ lines.old.header }
+    requires reader { R.failed reader.old ≡ false }
+    requires header { (O.view_of object.old).header ≡ steps.old.header }
     requires fresh { (O.view_of object.old).entries ≡ [] }
-    requires start { AreRead lines.old [] }
-    ensures ok { IfOk result (λ text. Replayed form lines.old.text (λ written. text.items ≡ written)) }
-    ensures err { IfErr result (IsOfText steps_form lines.old.text) }
+    ensures ok { IfOk result (λ text. OfText (progress steps.old (R.left reader.old)) (λ t. Replayed form t (λ written. text.items ≡ written))) }
+    ensures err { IfErr result (IsFaultBehind (progress steps.old (R.left reader.old))) }
+    ensures failing { IsErrOf result StreamFault.ReadFailed ↔ IsTrue (R.failed reader.new) }
 {
     match form {
-        Form::Replay => replay(alloc, object, lines),
+        Form::Replay => replay(alloc, object, steps, reader),
         Form::History => {
-            let header = *lines.header();
-            drive(object, lines)?;
+            let header = *steps.header();
+            drive(object, steps, reader)?;
             match write_text(alloc, &header, object.history()) {
                 Ok(text) => Ok(text),
                 Err(_) => Err(StreamFault::Memory),
@@ -84,41 +92,49 @@ fn answered<O: Answering>(
 }
 
 /// What is written of the answers of a core of these hooks.
-fn opened<H: Hooks + Drop>(
+fn opened<H: Hooks + Drop, R: Source>(
     alloc: Global,
     hooks: H,
-    lines: &mut StepLines<'_>,
+    steps: &mut StepReader,
+    reader: &mut R,
     form: Form,
 ) -> Result<Vec<u8>, StreamFault>
-    requires hooks { H.is_opened hooks lines.old.header.seats }
-    requires object { H.object_of hooks ≡ lines.old.header.object }
-    requires start { AreRead lines.old [] }
-    ensures ok { IfOk result (λ text. Replayed form lines.old.text (λ written. text.items ≡ written)) }
-    ensures err { IfErr result (IsOfText steps_form lines.old.text) }
+    requires reader { R.failed reader.old ≡ false }
+    requires hooks { H.is_opened hooks steps.old.header.seats }
+    requires object { H.object_of hooks ≡ steps.old.header.object }
+    ensures ok { IfOk result (λ text. OfText (progress steps.old (R.left reader.old)) (λ t. Replayed form t (λ written. text.items ≡ written))) }
+    ensures err { IfErr result (IsFaultBehind (progress steps.old (R.left reader.old))) }
+    ensures failing { IsErrOf result StreamFault.ReadFailed ↔ IsTrue (R.failed reader.new) }
 {
-    let header = *lines.header();
+    let header = *steps.header();
     match Core::open(alloc, hooks, header.seats, header.conditions, header.cap) {
-        Ok(mut core) => answered(alloc, &mut core, lines, form),
+        Ok(mut core) => answered(alloc, &mut core, steps, reader, form),
         Err(_) => Err(StreamFault::Memory),
     }
 }
 
 /// What is written of the answers of a fresh object of the text's header.
-fn answer_text(alloc: Global, lines: &mut StepLines<'_>, form: Form) -> Result<Vec<u8>, StreamFault>
-    requires start { AreRead lines.old [] }
-    ensures ok { IfOk result (λ text. Replayed form lines.old.text (λ written. text.items ≡ written)) }
-    ensures err { IfErr result (IsOfText steps_form lines.old.text) }
+fn answer_text<R: Source>(
+    alloc: Global,
+    steps: &mut StepReader,
+    reader: &mut R,
+    form: Form,
+) -> Result<Vec<u8>, StreamFault>
+    requires reader { R.failed reader.old ≡ false }
+    ensures ok { IfOk result (λ text. OfText (progress steps.old (R.left reader.old)) (λ t. Replayed form t (λ written. text.items ≡ written))) }
+    ensures err { IfErr result (IsFaultBehind (progress steps.old (R.left reader.old))) }
+    ensures failing { IsErrOf result StreamFault.ReadFailed ↔ IsTrue (R.failed reader.new) }
 {
-    let seats = lines.header().seats;
-    match lines.header().object {
-        Object::Lock(policy) => opened(alloc, LockHooks::open(policy), lines, form),
+    let seats = steps.header().seats;
+    match steps.header().object {
+        Object::Lock(policy) => opened(alloc, LockHooks::open(policy), steps, reader, form),
         Object::ReadWrite(policy) => match RwHooks::open(alloc, policy, seats) {
-            Ok(hooks) => opened(alloc, hooks, lines, form),
+            Ok(hooks) => opened(alloc, hooks, steps, reader, form),
             Err(_) => Err(StreamFault::Memory),
         },
         Object::Semaphore(policy, permits) => {
-            opened(alloc, SemaphoreHooks::open(policy, permits), lines, form)
+            opened(alloc, SemaphoreHooks::open(policy, permits), steps, reader, form)
         }
-        Object::Latch(count) => opened(alloc, LatchHooks::open(count), lines, form),
+        Object::Latch(count) => opened(alloc, LatchHooks::open(count), steps, reader, form),
     }
 }

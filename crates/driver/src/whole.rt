@@ -31,6 +31,24 @@ pub fn read_all<R: Source>(alloc: Global, reader: &mut R) -> Result<Vec<u8>, Str
     }
 }
 
+/// Reads what is left of a source, and keeps none of it.
+pub fn read_on<R: Source>(reader: &mut R) -> Result<(), StreamFault>
+    requires { R.failed reader.old ≡ false }
+    ensures failing { IsErrOf result StreamFault.ReadFailed ↔ IsTrue (R.failed reader.new) }
+    ensures kinds { IfErr result IsOfReading }
+{
+    let mut buffer = [0; 65536];
+    for _ in 0..u64::MAX {
+        let Ok(n) = reader.read(&mut buffer) else {
+            return Err(StreamFault::ReadFailed);
+        };
+        if n == 0 {
+            break;
+        }
+    }
+    Ok(())
+}
+
 /// Writes all the bytes, or a front of them.
 pub fn write_all<W: Sink>(writer: &mut W, bytes: &[u8]) -> Result<(), DeviceFailed>
     requires { W.failed writer.old ≡ false }

@@ -1,6 +1,7 @@
 //! The lines of a steps text, one after another.
 
 ghost use Rattle.std.specs.Prelude.{◌≡◌, ◌+◌, ◌<◌, ◌≤◌, ◌^◌, [], List, ℕ, Err, length, IfOk, IfErr, IfSome, IsErrOf};
+ghost use Rattle.history.specs.Header.{IsInRange};
 ghost use Rattle.history.specs.Text.{IsLine};
 ghost use Rattle.line_text.specs.Reading.{IsReading};
 ghost use Rattle.line_text.specs.declared.fault.TextFault.TheVariants.{CutShort};
@@ -21,7 +22,7 @@ pub fn header_of(text: &[u8]) -> Result<(Header, &[u8]), TextFault>
     ensures err { IfErr result (λ fault. IsReading steps_form text.now (Err fault)) }
     ensures cut { IsErrOf result CutShort → IsLine text.now }
     ensures shorter { IfOk result (λ r. length r.1.now ≤ length text.now) }
-    ensures seats { IfOk result (λ r. 1 ≤ r.0.seats) }
+    ensures range { IfOk result (λ r. IsInRange r.0) }
 {
     let Some((first, after)) = first_line(text) else {
         return Err(TextFault::CutShort);

@@ -1,10 +1,11 @@
-use Rattle.std.proofs.Common.{ℕ, ◌<◌, ◌++◌, ◌∷◌, List, [], sym, ap, ◌∙◌, subst, arith}
+use Rattle.std.proofs.Common.{ℕ, ◌<◌, ◌++◌, ◌∷◌, List, [], refl, sym, ap, ◌∙◌, subst, arith}
 use Rattle.std.proofs.lemmas.Bool.{false≢true}
 use Rattle.history.specs.declared.header.Header.{Header}
 use Rattle.history.specs.declared.step.Step.{Step}
 use Rattle.history.specs.Text.{ended}
 use Rattle.driver.specs.ReplayText.{header_line}
-use Rattle.driver.proofs.Driven.{Telling, one_further, telling_on, telling_all}
+use Rattle.driver.specs.StepReader.{progress}
+use Rattle.driver.proofs.Driven.{Telling, telling_on, telling_all, telling_none, goes_on}
 use Rattle.driver.proofs.Told.{answered, has_line}
 use Rattle.driver.proofs.replay.replay.Goals as goal
 
@@ -16,8 +17,8 @@ pub put_answer-requires : goal.put_answer-requires
 put_answer-requires g c =
     let old = g.O.Answering.view_of c.loop-out.object in
     let below = rw c.in-Some.is at c.in_ok-seat.ensures.seated in
-    let a = answered old (g.O.Answering.view_of c.answer-answer.new.self) c.loop-out.lines.header c.in-Some.seat c.in-Some.step c.answer-answer.result c.answer-answer.ensures c.loop-out.invariant.header (λ e. false≢true (c.if-lacks_memory.ensures.1 e)) in
-    has_line c.loop-out.lines.header old.entries c.in-Some.seat c.in-Some.step c.answer-answer.result c.loop-out.invariant.telling.told.behind.legal below a.0
+    let a = answered old (g.O.Answering.view_of c.answer-answer.new.self) c.loop-out.steps.header c.in-Some.seat c.in-Some.step c.answer-answer.result c.answer-answer.ensures c.loop-out.invariant.header (λ e. false≢true (c.if-lacks_memory.ensures.1 e)) in
+    has_line c.loop-out.steps.header old.entries c.in-Some.seat c.in-Some.step c.answer-answer.result c.loop-out.invariant.telling.told.behind.legal below a.0
 
 pub loop-out-preserved : goal.loop-out-preserved
 loop-out-preserved g c =
@@ -26,21 +27,43 @@ loop-out-preserved g c =
     let x : ℕ × Step = (c.in-Some.seat, c.in-Some.step) in
     let next = rw c.in-Some.is at c.in_ok-seat.ensures.next in
     let below = rw c.in-Some.is at c.in_ok-seat.ensures.seated in
+    let one = rw c.in-Some.is at c.in_ok-seat.ensures.counted in
     let same = c.in_ok-seat.ensures.header in
     let a = answered old new c.next.new.self.header x.0 x.1 c.answer-answer.result c.answer-answer.ensures (c.loop-out.invariant.header ∙ sym same) (λ e. false≢true (c.if-lacks_memory.ensures.1 e)) in
     let front = ended (header_line c.next.new.self.header) in
-    let was = subst (λ (k : Header). Telling (ended (header_line k)) c.loop-out.lines c.loop-out.out.items old.entries c.loop-out.entries c.loop-out.calls) (sym same) c.loop-out.invariant.telling in
-    let now = telling_on front c.loop-out.lines c.next.new.self c.loop-out.out.items c.put_answer.new.out.items x c.answer-answer.result old.entries new.entries c.loop-out.entries c.loop-out.calls next same below a.0 a.1 c.in_ok-put_answer.ensures was in
-    let one = one_further c.loop-out.lines c.next.new.self x c.loop-out.invariant.telling.steps next c.loop-out.invariant.telling.read in
+    let first = progress c.args.steps.now (g.R.Source.left c.args.reader.now) in
+    let was = subst (λ (k : Header). Telling (ended (header_line k)) first (progress c.loop-out.steps (g.R.Source.left c.loop-out.reader)) c.loop-out.out.items old.entries c.loop-out.entries c.loop-out.calls) (sym same) c.loop-out.invariant.telling in
+    let now = telling_on front first _ (progress c.next.new.self (g.R.Source.left c.next.new.reader)) c.loop-out.out.items c.put_answer.new.out.items x c.answer-answer.result old.entries new.entries c.loop-out.entries c.loop-out.calls next same below a.0 a.1 c.in_ok-put_answer.ensures was in
     record {
-      text = c.in_ok-seat.ensures.text ∙ c.loop-out.invariant.text;
+      going = goes_on c.in_ok-seat.field-0 (g.R.Source.failed c.next.new.reader) (λ t. c.in_ok-seat.ensures.failing.1 t);
+      same = same ∙ c.loop-out.invariant.same;
       header = a.2;
       telling = rw (c.entries_in-entries.ensures.value, c.calls_in-calls.ensures.value) now;
       few_entries = omega (arith, one, c.entries_in-entries.ensures.few, c.loop-out.invariant.few_entries);
       few_calls = omega (arith, one, c.calls_in-calls.ensures.few, c.loop-out.invariant.few_calls);
     }
 
+pub loop-out-smaller : goal.loop-out-smaller
+loop-out-smaller g c = omega (arith, rw c.in-Some.is at c.in_ok-seat.ensures.counted, c.in_ok-seat.ensures.few)
+
+pub overflow_add-entries : goal.overflow_add-entries
+overflow_add-entries g c = omega (arith, rw c.in-Some.is at c.in_ok-seat.ensures.counted, c.in_ok-seat.ensures.few, c.entries_in-entries.ensures.few, c.loop-out.invariant.few_entries)
+
+pub overflow_add-calls : goal.overflow_add-calls
+overflow_add-calls g c = omega (arith, rw c.in-Some.is at c.in_ok-seat.ensures.counted, c.in_ok-seat.ensures.few, c.calls_in-calls.ensures.few, c.loop-out.invariant.few_calls)
+
 pub returns-clause-ok : goal.returns-clause-ok
 returns-clause-ok g c =
-    telling_all c.args.lines.now.text c.loop-out.lines c.loop-out.out.items c.push-2.new.self.items (g.O.Answering.view_of c.loop-out.object).entries c.loop-out.entries c.loop-out.calls c.loop-out.invariant.text (rw c.in_default.is at c.in_ok-seat.ensures.next)
-    (c.in_ok-push-2.ensures.items ∙ ap (λ (t : List ℕ). t ++ 10 ∷ []) c.in_ok-put_counts.ensures) c.loop-out.invariant.telling
+    telling_all _ _ (progress c.next.new.self (g.R.Source.left c.next.new.reader)) c.loop-out.out.items c.push.new.self.items _ c.loop-out.entries c.loop-out.calls (rw c.in_default.is at c.in_ok-seat.ensures.next)
+    (c.in_ok-push.ensures.items ∙ ap (λ (t : List ℕ). t ++ 10 ∷ []) c.in_ok-put_counts.ensures) c.loop-out.invariant.telling
+
+pub loop-out-init : goal.loop-out-init
+loop-out-init g c =
+    record {
+      going = c.requires.reader;
+      same = refl;
+      header = c.requires.header;
+      telling = telling_none (ended (header_line c.args.steps.now.header)) (progress c.args.steps.now (g.R.Source.left c.args.reader.now)) c.in_ok-out.out.items (g.O.Answering.view_of c.args.object.now).entries (rw c.header.ensures.value at c.in_ok-out.ensures.ok) c.requires.fresh;
+      few_entries = omega arith;
+      few_calls = omega arith;
+    }

@@ -1,17 +1,19 @@
-use Rattle.std.proofs.Common.{◌≡◌, ◌≤◌, length}
+use Rattle.std.proofs.Common.{◌≡◌, ◌≤◌, ◌-◌, ◌^◌, false}
 use Rattle.history.specs.Text.{ended}
 use Rattle.driver.specs.ReplayText.{header_line}
+use Rattle.driver.specs.StepReader.{progress}
 use Rattle.driver.proofs.Driven.{Telling}
 use Rattle.driver.proofs.replay.replay.Given as goal
 
 abbrev pub invariant-loop-out : goal.invariant-loop-out
 invariant-loop-out g l = record {
-  text : l.lines.text ≡ l.initial.lines.text;
-  header : (g.O.Answering.view_of l.object).header ≡ l.lines.header;
-  telling : Telling (ended (header_line l.lines.header)) l.lines l.out.items (g.O.Answering.view_of l.object).entries l.entries l.calls;
-  few_entries : l.entries ≤ l.lines.count;
-  few_calls : l.calls ≤ l.lines.count;
+  going : g.R.Source.failed l.reader ≡ false;
+  same : l.steps.header ≡ l.initial.steps.header;
+  header : (g.O.Answering.view_of l.object).header ≡ l.steps.header;
+  telling : Telling (ended (header_line l.steps.header)) (progress l.initial.steps (g.R.Source.left l.initial.reader)) (progress l.steps (g.R.Source.left l.reader)) l.out.items (g.O.Answering.view_of l.object).entries l.entries l.calls;
+  few_entries : l.entries ≤ l.steps.count;
+  few_calls : l.calls ≤ l.steps.count;
 }
 
 abbrev pub decreases-loop-out : goal.decreases-loop-out
-decreases-loop-out g l = length l.lines.rest
+decreases-loop-out g l = 2 ^ 64 - l.steps.count

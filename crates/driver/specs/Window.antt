@@ -1,0 +1,10 @@
+-- A window on the bytes of a source.
+use Rattle.std.specs.Prelude.{◌≡◌, ℕ, List, ◌++◌, length, Option}
+use Rattle.std.specs.Io.KnownBytes.{Consumes}
+
+-- A read gave so many bytes, which stand behind those that stood in the window.
+pub record Grows (old new : List ℕ) (left after : Option (List ℕ)) (n : ℕ) : Type 0 where
+  pub more : List ℕ
+  pub consumed : Consumes left after more
+  pub behind : new ≡ old ++ more
+  pub count : length more ≡ n

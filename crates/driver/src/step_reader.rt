@@ -1,0 +1,137 @@
+//! The steps of a text, read from its source as they are asked for.
+
+ghost use Rattle.std.specs.Prelude.{◌≡◌, ◌+◌, ◌^◌, ◌<◌, ◌≤◌, ◌∷◌, ◌++◌, ◌↔◌, ◌-◌, [], false, drop, length, IsTrue, IsErrOf, IfOk, IfErr, IfSome, OnOk};
+ghost use Rattle.history.specs.Header.{IsInRange};
+ghost use Rattle.driver.specs.StepReader.{IsBehindEnd, IsFaultOf, IsNext, WereRead, progress};
+ghost use Rattle.driver.specs.declared.stream_fault.StreamFault.TheVariants.{Memory};
+
+use crate::source::Source;
+use crate::stream_fault::StreamFault;
+use crate::window::Window;
+use history::header::Header;
+use history::step::Step;
+use line_text::fault::TextFault;
+use std::alloc::Global;
+use std::marker::Model;
+use steps::common_step::common_step;
+use steps::next_line::{header_of, next_line};
+
+/// Steps are counted up to here: a text with more is answered by want of memory.
+const MOST: u64 = 18_446_744_073_709_551_612;
+
+/// A steps text of which the header, and so many steps, were read.
+#[derive(Drop)]
+pub struct StepReader {
+    header: Header,
+    count: u64,
+    window: Window,
+}
+
+impl Model for StepReader {
+    ghost use Rattle.std.specs.Prelude.{◌<◌, ◌+◌, ◌^◌};
+    ghost use Rattle.history.specs.Header.{IsInRange};
+    ghost use Rattle.driver.specs.StepReader.{Held};
+
+    ghost Value = { Held };
+
+    ghost view = { λ r. record { header = r.header; count = r.count; bytes = r.window } };
+
+    ghost invariant = { λ r. (r.count + 3 < 2 ^ 64) × IsInRange r.header };
+}
+
+impl StepReader {
+    /// Reads the header of a text.
+    pub fn open<R: Source>(alloc: Global, reader: &mut R) -> Result<Self, StreamFault>
+        requires { R.failed reader.old ≡ false }
+        ensures ok { IfOk result (λ steps. WereRead (R.left reader.old) (progress steps (R.left reader.new)) []) }
+        ensures err { IfErr result (IsFaultOf (R.left reader.old)) }
+        ensures failing { IsErrOf result StreamFault.ReadFailed ↔ IsTrue (R.failed reader.new) }
+    {
+        let mut window = Window::open(alloc)?;
+        window.read_line(reader)?;
+        let (header, after) = header_of(window.bytes())?;
+        let left = after.len();
+        window.keep_last(left);
+        Ok(StepReader {
+            header,
+            count: 0,
+            window,
+        })
+    }
+
+    pub fn header(&self) -> &Header
+        ensures value { result.now ≡ self.now.header }
+        ensures range { IsInRange self.now.header }
+    {
+        &self.header
+    }
+
+    /// Counts one more step, which ends where so many bytes are left.
+    #[inline(always)]
+    fn pass(&mut self, left: usize) -> Result<(), StreamFault>
+        requires { left ≤ length self.old.bytes }
+        ensures ok { OnOk result (self.new ≡ record self.old { count = self.old.count + 1; bytes = drop (length self.old.bytes - left) self.old.bytes }) }
+        ensures err { IfErr result (λ fault. fault ≡ Memory) }
+        ensures header { self.new.header ≡ self.old.header }
+        ensures few { self.new.count < 2 ^ 64 }
+    {
+        if self.count == MOST {
+            return Err(StreamFault::Memory);
+        }
+        self.count += 1;
+        self.window.keep_last(left);
+        Ok(())
+    }
+
+    /// Behind the end line: nothing may follow it.
+    fn end<R: Source>(&mut self, reader: &mut R) -> Result<Option<(u16, Step)>, StreamFault>
+        requires { R.failed reader.old ≡ false }
+        ensures header { self.new.header ≡ self.old.header }
+        ensures few { self.new.count < 2 ^ 64 }
+        ensures behind { IsBehindEnd self.old.count (R.left reader.old) result }
+        ensures failing { IsErrOf result StreamFault.ReadFailed ↔ IsTrue (R.failed reader.new) }
+    {
+        if self.window.read_more(reader)? > 0 {
+            return Err(StreamFault::Text(TextFault::BadLine(self.count + 3)));
+        }
+        Ok(None)
+    }
+
+    /// The next step, word by word.
+    #[inline(never)]
+    fn next_by_words<R: Source>(&mut self, reader: &mut R) -> Result<Option<(u16, Step)>, StreamFault>
+        requires { R.failed reader.old ≡ false }
+        ensures header { self.new.header ≡ self.old.header }
+        ensures next { IsNext (progress self.old (R.left reader.old)) result (progress self.new (R.left reader.new)) }
+        ensures seated { IfOk result (λ next. IfSome next (λ step. step.0 < self.old.header.seats)) }
+        ensures few { self.new.count < 2 ^ 64 }
+        ensures counted { IfOk result (λ next. IfSome next (λ _. self.new.count ≡ self.old.count + 1)) }
+        ensures failing { IsErrOf result StreamFault.ReadFailed ↔ IsTrue (R.failed reader.new) }
+    {
+        self.window.read_line(reader)?;
+        let Some((step, after)) = next_line(self.window.bytes(), &self.header, self.count)? else {
+            return self.end(reader);
+        };
+        let left = after.len();
+        self.pass(left)?;
+        Ok(Some(step))
+    }
+
+    /// The next seat and its step, or None behind the last: nothing follows the end line.
+    #[inline(always)]
+    pub fn next<R: Source>(&mut self, reader: &mut R) -> Result<Option<(u16, Step)>, StreamFault>
+        requires { R.failed reader.old ≡ false }
+        ensures header { self.new.header ≡ self.old.header }
+        ensures next { IsNext (progress self.old (R.left reader.old)) result (progress self.new (R.left reader.new)) }
+        ensures seated { IfOk result (λ next. IfSome next (λ step. step.0 < self.old.header.seats)) }
+        ensures few { self.new.count < 2 ^ 64 }
+        ensures counted { IfOk result (λ next. IfSome next (λ _. self.new.count ≡ self.old.count + 1)) }
+        ensures failing { IsErrOf result StreamFault.ReadFailed ↔ IsTrue (R.failed reader.new) }
+    {
+        if let Some((step, left)) = common_step(self.window.bytes(), self.header.seats) {
+            self.pass(left)?;
+            return Ok(Some(step));
+        }
+        self.next_by_words(reader)
+    }
+}
