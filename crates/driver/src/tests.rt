@@ -6,6 +6,7 @@ mod devices;
 mod memory;
 mod plain;
 mod spoiled;
+mod windows;
 
 ghost use Rattle.std.specs.Prelude.{◌<◌};
 

@@ -39,11 +39,10 @@ pub fn read_on<R: Source>(reader: &mut R) -> Result<(), StreamFault>
 {
     let mut buffer = [0; 65536];
     for _ in 0..u64::MAX {
-        let Ok(n) = reader.read(&mut buffer) else {
-            return Err(StreamFault::ReadFailed);
-        };
-        if n == 0 {
-            break;
+        match reader.read(&mut buffer) {
+            Ok(0) => break,
+            Ok(_) => {}
+            Err(_) => return Err(StreamFault::ReadFailed),
         }
     }
     Ok(())

@@ -15,18 +15,26 @@ fn common_words(text: &[u8]) -> Option<(Step, usize)>
     ensures { IfSome result (λ r. HasAmounts r.0 × ((rest : List ℕ) ×
         (text.now ≡ ended (line_of (step_words r.0)) ++ rest) × (length rest ≡ r.1))) }
 {
-    if let Some(rest) = behind(b"acquire x 1\n", text) {
-        Some((Step::Acquire(Mode::X, 1), rest.len()))
-    } else if let Some(rest) = behind(b"give x 1\n", text) {
-        Some((Step::Give(Mode::X, 1), rest.len()))
-    } else if let Some(rest) = behind(b"look\n", text) {
-        Some((Step::Look, rest.len()))
-    } else if let Some(rest) = behind(b"acquire s 1\n", text) {
-        Some((Step::Acquire(Mode::S, 1), rest.len()))
-    } else if let Some(rest) = behind(b"give s 1\n", text) {
-        Some((Step::Give(Mode::S, 1), rest.len()))
-    } else {
-        None
+    match text.first()? {
+        b'a' => match behind(b"acquire x 1\n", text) {
+            Some(rest) => Some((Step::Acquire(Mode::X, 1), rest.len())),
+            None => Some((Step::Acquire(Mode::S, 1), behind(b"acquire s 1\n", text)?.len())),
+        },
+        b'g' => match behind(b"give x 1\n", text) {
+            Some(rest) => Some((Step::Give(Mode::X, 1), rest.len())),
+            None => Some((Step::Give(Mode::S, 1), behind(b"give s 1\n", text)?.len())),
+        },
+        b'l' => Some((Step::Look, behind(b"look\n", text)?.len())),
+        b't' => match behind(b"try x 1\n", text) {
+            Some(rest) => Some((Step::Try(Mode::X, 1), rest.len())),
+            None => Some((Step::TryFair(Mode::X, 1), behind(b"tryfair x 1\n", text)?.len())),
+        },
+        b'e' => match behind(b"expire\n", text) {
+            Some(rest) => Some((Step::Expire, rest.len())),
+            None => Some((Step::EntryInterrupt(Mode::X, 1), behind(b"entryinterrupt x 1\n", text)?.len())),
+        },
+        b'i' => Some((Step::Interrupt, behind(b"interrupt\n", text)?.len())),
+        _ => None,
     }
 }
 

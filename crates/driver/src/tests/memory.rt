@@ -13,6 +13,7 @@ use crate::device::Device;
 use crate::form::Form;
 use crate::replay::{drive, replay};
 use crate::replay_stream::replay_stream;
+use crate::step_reader::StepReader;
 use crate::stream_fault::StreamFault;
 use frame::machine::Core;
 use history::entries::History;
@@ -23,7 +24,6 @@ use reentrant::lock::LockHooks;
 use std::alloc::Global;
 use std::process::Abort;
 use std::test::Fail;
-use steps::StepLines;
 
 /// Takes what the heap gives, down to blocks of so many bytes, the largest first.
 pub fn all_memory(alloc: Global, least: usize) -> Result<Vec<Vec<u8>>, Fail> {
@@ -160,16 +160,18 @@ fn lock_fed<R: Abort + AllocGlobal>(rt: &R, header: &Header, fed: usize) -> Resu
 
 /// Whether a replay goes on to the end where so many steps find memory.
 fn replays<R: Abort + AllocGlobal>(rt: &R, fed: usize) -> Result<bool, Fail> {
-    let mut lines = StepLines::open(ONE_LOCK)?;
-    let mut lock = lock_fed(rt, lines.header(), fed)?;
-    Ok(replay(rt.alloc(), &mut lock, &mut lines).is_ok())
+    let mut reader = Device::new(ONE_LOCK);
+    let mut steps = StepReader::open(rt.alloc(), &mut reader)?;
+    let mut lock = lock_fed(rt, steps.header(), fed)?;
+    Ok(replay(rt.alloc(), &mut lock, &mut steps, &mut reader).is_ok())
 }
 
 /// The same of a history's steps.
 fn drives<R: Abort + AllocGlobal>(rt: &R, fed: usize) -> Result<bool, Fail> {
-    let mut lines = StepLines::open(ONE_LOCK)?;
-    let mut lock = lock_fed(rt, lines.header(), fed)?;
-    Ok(drive(&mut lock, &mut lines).is_ok())
+    let mut reader = Device::new(ONE_LOCK);
+    let mut steps = StepReader::open(rt.alloc(), &mut reader)?;
+    let mut lock = lock_fed(rt, steps.header(), fed)?;
+    Ok(drive(&mut lock, &mut steps, &mut reader).is_ok())
 }
 
 #[test]
