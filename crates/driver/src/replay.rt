@@ -14,7 +14,7 @@ use crate::form::Form;
 use crate::stream_fault::StreamFault;
 use history::entry::Word;
 use history::fault::Fault;
-use history::number::put_number;
+use history::number::{Numbering, put_number};
 use history::step::Answer;
 use history_text::entry_line::{put_counts, put_entry};
 use std::alloc::{AllocError, Global};
@@ -24,6 +24,7 @@ use steps::StepLines;
 #[inline(always)]
 fn put_answer(
     out: &mut Vec<u8>,
+    numbering: &mut Numbering,
     number: u64,
     seat: u16,
     answer: &Result<Answer, Fault>,
@@ -33,7 +34,7 @@ fn put_answer(
 {
     match answer {
         Ok(Answer::Recorded(entry, named)) => {
-            put_entry(out, number, entry)?;
+            put_entry(out, numbering, number, entry)?;
             if let Some(named) = named {
                 out.extend_from_slice(b" wakes ")?;
                 put_number(out, u64::from(*named))?;
@@ -111,6 +112,7 @@ pub fn replay<O: Answering>(
         return Err(StreamFault::Memory);
     }
     out.push(b'\n')?;
+    let mut numbering = Numbering::new(alloc);
     let mut entries: u64 = 0;
     let mut calls: u64 = 0;
     while let Some((seat, step)) = lines.next()? {
@@ -118,7 +120,7 @@ pub fn replay<O: Answering>(
         if lacks_memory(&answer) {
             return Err(StreamFault::Memory);
         }
-        put_answer(&mut out, entries, seat, &answer)?;
+        put_answer(&mut out, &mut numbering, entries, seat, &answer)?;
         entries += entries_in(&answer);
         calls += calls_in(&answer);
     }

@@ -7,7 +7,8 @@ ghost use Rattle.std.specs.Prelude.{FitsSigned};
 ghost use Rattle.std.specs.Prelude.{◌≡◌, ◌≢◌, ℕ, ◌<◌, ◌^◌, ◌++◌, IfSome, IfNone, OnOk, OnErr, decimal};
 
 use itoa::Buffer;
-use std::alloc::AllocError;
+use std::alloc::{AllocError, Global};
+use std::marker::Model;
 
 /// The number that the bytes spell, one below 2^64.
 #[inline(always)]
@@ -91,6 +92,69 @@ fn put_long(out: &mut Vec<u8>, number: u64) -> Result<(), AllocError>
 {
     let mut buffer = Buffer::new();
     out.extend_from_slice(buffer.format(number).as_bytes())
+}
+
+/// Writes numbers of which most have the same digits but for the last: those are found once and kept.
+#[derive(Debug, Drop)]
+pub struct Numbering {
+    tens: u64,
+    front: Vec<u8>,
+}
+
+impl Model for Numbering {
+    ghost use Rattle.std.specs.Prelude.{◌≡◌, ◌<◌, ◌^◌};
+    ghost use Rattle.history.specs.Numbering.{front_of, Kept};
+
+    ghost Value = { Kept };
+
+    ghost view = { λ a. record { tens = a.tens } };
+
+    ghost invariant = { λ a. a.front.items ≡ front_of a.tens };
+}
+
+impl Numbering {
+    pub fn new(alloc: Global) -> Self {
+        Numbering {
+            tens: 0,
+            front: Vec::new(alloc),
+        }
+    }
+
+    /// Appends the number, or a front of it.
+    #[inline(always)]
+    pub fn put(&mut self, out: &mut Vec<u8>, number: u64) -> Result<(), AllocError>
+        ensures ok { OnOk result (out.new.items ≡ out.old.items ++ decimal number) }
+    {
+        self.keep(number / 10)?;
+        out.extend_from_slice(&self.front)?;
+        out.push(b'0' + (number % 10) as u8)?;
+        Ok(())
+    }
+
+    /// Keeps these digits before the last.
+    #[inline(always)]
+    fn keep(&mut self, tens: u64) -> Result<(), AllocError>
+        ensures ok { OnOk result (self.new.tens ≡ tens) }
+    {
+        if tens == self.tens {
+            return Ok(());
+        }
+        self.find(tens)
+    }
+
+    /// Finds them.
+    #[inline(never)]
+    fn find(&mut self, tens: u64) -> Result<(), AllocError>
+        ensures ok { OnOk result (self.new.tens ≡ tens) }
+    {
+        self.tens = 0;
+        self.front.clear();
+        if tens > 0 {
+            put_number(&mut self.front, tens)?;
+        }
+        self.tens = tens;
+        Ok(())
+    }
 }
 
 /// Appends a number of 32 bits, with a sign where it is below 0, or a front of it.

@@ -5,16 +5,21 @@ ghost use Rattle.history.specs.EntryWords.{IsSpelt};
 ghost use Rattle.history_text.specs.EntryLines.{entry_line, counts_line};
 
 use history::entry::Entry;
-use history::number::put_number;
+use history::number::{Numbering, put_number};
 use std::alloc::AllocError;
 
 /// Appends an entry's number, its seat and its words, or a front of them.
 #[inline(always)]
-pub fn put_entry(out: &mut Vec<u8>, number: u64, entry: &Entry) -> Result<(), AllocError>
+pub fn put_entry(
+    out: &mut Vec<u8>,
+    numbering: &mut Numbering,
+    number: u64,
+    entry: &Entry,
+) -> Result<(), AllocError>
     requires { IsSpelt entry.now }
     ensures { OnOk result (out.new.items ≡ out.old.items ++ entry_line number entry.now) }
 {
-    put_number(out, number)?;
+    numbering.put(out, number)?;
     out.push(b' ')?;
     put_number(out, u64::from(entry.seat))?;
     out.push(b' ')?;
