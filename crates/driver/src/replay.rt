@@ -1,6 +1,6 @@
 //! The replay text.
 
-ghost use Rattle.std.specs.Prelude.{◌≡◌, ◌++◌, ◌≤◌, ◌<◌, ◌↔◌, [], OnOk, IfOk, IfErr, IsTrue, Err};
+ghost use Rattle.std.specs.Prelude.{◌≡◌, ◌+◌, ◌++◌, ◌≤◌, ◌<◌, ◌↔◌, [], OnOk, OnErr, IfOk, IfErr, IfSome, IsTrue, Err, codes, decimal, length, take};
 ghost use Rattle.history.specs.Text.{ended};
 ghost use Rattle.steps.specs.StepsText.{steps_form};
 ghost use Rattle.steps.specs.StepsRead.{AreRead};
@@ -14,13 +14,17 @@ use crate::form::Form;
 use crate::stream_fault::StreamFault;
 use history::entry::Word;
 use history::fault::Fault;
-use history::number::{Numbering, put_number};
+use history::number::{Numbering, spell};
+use history::pieces::{put_byte, put_bytes};
 use history::step::Answer;
-use history_text::entry_line::{put_counts, put_entry};
+use history_text::entry_line::{put_counts, spell_entry};
 use std::alloc::{AllocError, Global};
 use steps::StepLines;
 
-/// Appends the line of an answer, or a front of it.
+/// No answer's line has more bytes.
+const MOST_BYTES: usize = 135;
+
+/// Appends the line of an answer.
 #[inline(always)]
 fn put_answer(
     out: &mut Vec<u8>,
@@ -30,30 +34,67 @@ fn put_answer(
     answer: &Result<Answer, Fault>,
 ) -> Result<(), AllocError>
     requires { HasLine answer.now }
-    ensures { OnOk result (out.new.items ≡ out.old.items ++ ended (answer_line number seat answer.now)) }
+    ensures ok { OnOk result (out.new.items ≡ out.old.items ++ ended (answer_line number seat answer.now)) }
+    ensures err { OnErr result (out.new.items ≡ out.old.items) }
+{
+    let at = out.len();
+    out.resize(at + MOST_BYTES, 0)?;
+    let end = spell_answer(out.as_mut_slice(), at, numbering, number, seat, answer);
+    out.truncate(end);
+    Ok(())
+}
+
+/// Puts the line of an answer from a place on, and returns the place behind it.
+#[inline(always)]
+fn spell_answer(
+    line: &mut [u8],
+    at: usize,
+    numbering: &mut Numbering,
+    number: u64,
+    seat: u16,
+    answer: &Result<Answer, Fault>,
+) -> usize
+    requires spelt { HasLine answer.now }
+    requires room { at + 135 ≤ length line.old }
+    ensures end { result ≤ at + 135 }
+    ensures line { take result line.new ≡ take at line.old ++ ended (answer_line number seat answer.now) }
 {
     match answer {
         Ok(Answer::Recorded(entry, named)) => {
-            put_entry(out, numbering, number, entry)?;
-            if let Some(named) = named {
-                out.extend_from_slice(b" wakes ")?;
-                put_number(out, u64::from(*named))?;
-            }
+            let wakes_at = spell_entry(line, at, numbering, number, entry);
+            let break_at = put_waking(line, wakes_at, *named);
+            put_byte(line, break_at, b'\n')
         }
         Ok(Answer::Sleep) => {
-            out.extend_from_slice(b"- ")?;
-            put_number(out, u64::from(seat))?;
-            out.extend_from_slice(b" sleep")?;
+            let seat_at = put_bytes(line, at, b"- ");
+            let sleep_at = spell(line, seat_at, u64::from(seat));
+            put_bytes(line, sleep_at, b" sleep\n")
         }
         Err(fault) => {
-            out.extend_from_slice(b"- ")?;
-            put_number(out, u64::from(seat))?;
-            out.push(b' ')?;
-            out.extend_from_slice(fault.name().as_bytes())?;
+            let seat_at = put_bytes(line, at, b"- ");
+            let space_at = spell(line, seat_at, u64::from(seat));
+            let name_at = put_byte(line, space_at, b' ');
+            let break_at = put_bytes(line, name_at, fault.name().as_bytes());
+            put_byte(line, break_at, b'\n')
         }
     }
-    out.push(b'\n')?;
-    Ok(())
+}
+
+/// Puts whom an entry names from a place on, and returns the place behind it: nothing where it names nobody.
+#[inline(always)]
+fn put_waking(line: &mut [u8], at: usize, named: Option<u16>) -> usize
+    requires { at + 27 ≤ length line.old }
+    ensures end { result ≤ at + 27 }
+    ensures nobody { named ≡ None → take result line.new ≡ take at line.old }
+    ensures named { IfSome named (λ seat. take result line.new ≡ take at line.old ++ codes " wakes " ++ decimal seat) }
+{
+    match named {
+        None => at,
+        Some(named) => {
+            let named_at = put_bytes(line, at, b" wakes ");
+            spell(line, named_at, u64::from(named))
+        }
+    }
 }
 
 /// Whether a step was refused for want of memory.
@@ -112,7 +153,7 @@ pub fn replay<O: Answering>(
         return Err(StreamFault::Memory);
     }
     out.push(b'\n')?;
-    let mut numbering = Numbering::new(alloc);
+    let mut numbering = Numbering::new();
     let mut entries: u64 = 0;
     let mut calls: u64 = 0;
     while let Some((seat, step)) = lines.next()? {

@@ -45,3 +45,7 @@ by_ten n false e fits =
 
 pub whole : (n : ℕ) → n < 2 ^ 64 → front_of (n / 10) ++ ((48 + n % 10) ∷ []) ≡ decimal n
 whole n fits = by_ten n (ltb n 10) refl fits
+
+pub two_digits : (n : ℕ) → 10 ≤ n → n < 100 → decimal n ≡ (48 + n / 10) ∷ (48 + n % 10) ∷ []
+two_digits n ge lt =
+    last_digit n ge (omega (arith, lt)) ∙ ap (λ (t : List ℕ). t ++ ((48 + n % 10) ∷ [])) (decimal_digit (n / 10) (omega (arith, lt)))

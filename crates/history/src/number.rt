@@ -4,11 +4,15 @@ ghost use Rattle.history.specs.Reading.{number_from, permits_from};
 ghost use Rattle.std.specs.Int.{w32};
 ghost use Rattle.std.specs.Fmt.{signed_decimal};
 ghost use Rattle.std.specs.Prelude.{FitsSigned};
-ghost use Rattle.std.specs.Prelude.{◌≡◌, ◌≢◌, ℕ, ◌<◌, ◌^◌, ◌++◌, IfSome, IfNone, OnOk, OnErr, decimal};
+ghost use Rattle.std.specs.Prelude.{◌≡◌, ◌≢◌, ℕ, ◌+◌, ◌<◌, ◌≤◌, ◌^◌, ◌++◌, IfSome, IfNone, OnOk, OnErr, decimal, length, take};
 
+use crate::pieces::{put_byte, put_bytes};
 use itoa::Buffer;
-use std::alloc::{AllocError, Global};
+use std::alloc::AllocError;
 use std::marker::Model;
+
+/// No number below 2^64 has more digits.
+const MOST_DIGITS: usize = 20;
 
 /// The number that the bytes spell, one below 2^64.
 #[inline(always)]
@@ -72,88 +76,102 @@ pub(crate) fn permits_of(bytes: &[u8]) -> Option<i32>
 }
 
 /// Appends the number.
-#[inline(always)]
 pub fn put_number(out: &mut Vec<u8>, number: u64) -> Result<(), AllocError>
     ensures ok { OnOk result (out.new.items ≡ out.old.items ++ decimal number) }
     ensures err { OnErr result (out.new.items ≡ out.old.items) }
 {
-    if number < 10 {
-        out.push(b'0' + number as u8)?;
-        return Ok(());
-    }
-    put_long(out, number)
+    let at = out.len();
+    out.extend_from_slice(&[0; MOST_DIGITS])?;
+    let end = spell(out.as_mut_slice(), at, number);
+    out.truncate(end);
+    Ok(())
 }
 
-/// The same of a number with more digits than one.
+/// Puts the number from a place on, and returns the place behind it.
+#[inline(always)]
+pub fn spell(line: &mut [u8], at: usize, number: u64) -> usize
+    requires { at + 20 ≤ length line.old }
+    ensures end { (at < result) × (result ≤ at + 20) }
+    ensures bytes { take result line.new ≡ take at line.old ++ decimal number }
+{
+    if number < 10 {
+        return put_byte(line, at, b'0' + number as u8);
+    }
+    if number < 100 {
+        let last = put_byte(line, at, b'0' + (number / 10) as u8);
+        return put_byte(line, last, b'0' + (number % 10) as u8);
+    }
+    spell_long(line, at, number)
+}
+
+/// The same of a number with more digits than two.
 #[inline(never)]
-fn put_long(out: &mut Vec<u8>, number: u64) -> Result<(), AllocError>
-    ensures ok { OnOk result (out.new.items ≡ out.old.items ++ decimal number) }
-    ensures err { OnErr result (out.new.items ≡ out.old.items) }
+fn spell_long(line: &mut [u8], at: usize, number: u64) -> usize
+    requires { at + 20 ≤ length line.old }
+    ensures end { (at < result) × (result ≤ at + 20) }
+    ensures bytes { take result line.new ≡ take at line.old ++ decimal number }
 {
     let mut buffer = Buffer::new();
-    out.extend_from_slice(buffer.format(number).as_bytes())
+    put_bytes(line, at, buffer.format(number).as_bytes())
 }
 
-/// Writes numbers of which most have the same digits but for the last: those are found once and kept.
+/// Spells numbers of which most have the same digits but for the last: those are found once and kept.
 #[derive(Debug, Drop)]
 pub struct Numbering {
     tens: u64,
-    front: Vec<u8>,
+    front: [u8; MOST_DIGITS],
+    digits: usize,
 }
 
 impl Model for Numbering {
-    ghost use Rattle.std.specs.Prelude.{◌≡◌, ◌<◌, ◌^◌};
+    ghost use Rattle.std.specs.Prelude.{◌≡◌, ◌≤◌, take};
     ghost use Rattle.history.specs.Numbering.{front_of, Kept};
 
     ghost Value = { Kept };
 
     ghost view = { λ a. record { tens = a.tens } };
 
-    ghost invariant = { λ a. a.front.items ≡ front_of a.tens };
+    ghost invariant = { λ a. (a.digits ≤ 20) × (take a.digits a.front ≡ front_of a.tens) };
 }
 
 impl Numbering {
-    pub fn new(alloc: Global) -> Self {
+    pub fn new() -> Self {
         Numbering {
             tens: 0,
-            front: Vec::new(alloc),
+            front: [0; MOST_DIGITS],
+            digits: 0,
         }
     }
 
-    /// Appends the number, or a front of it.
+    /// Puts the number from a place on, and returns the place behind it.
     #[inline(always)]
-    pub fn put(&mut self, out: &mut Vec<u8>, number: u64) -> Result<(), AllocError>
-        ensures ok { OnOk result (out.new.items ≡ out.old.items ++ decimal number) }
+    pub fn spell(&mut self, line: &mut [u8], at: usize, number: u64) -> usize
+        requires { at + 21 ≤ length line.old }
+        ensures end { result ≤ at + 21 }
+        ensures bytes { take result line.new ≡ take at line.old ++ decimal number }
     {
-        self.keep(number / 10)?;
-        out.extend_from_slice(&self.front)?;
-        out.push(b'0' + (number % 10) as u8)?;
-        Ok(())
+        let tens = number / 10;
+        if tens != self.tens {
+            self.keep(tens);
+        }
+        put_bytes(line, at, &self.front);
+        put_byte(line, at + self.digits, b'0' + (number - 10 * tens) as u8)
     }
 
     /// Keeps these digits before the last.
-    #[inline(always)]
-    fn keep(&mut self, tens: u64) -> Result<(), AllocError>
-        ensures ok { OnOk result (self.new.tens ≡ tens) }
-    {
-        if tens == self.tens {
-            return Ok(());
-        }
-        self.find(tens)
-    }
-
-    /// Finds them.
     #[inline(never)]
-    fn find(&mut self, tens: u64) -> Result<(), AllocError>
-        ensures ok { OnOk result (self.new.tens ≡ tens) }
+    fn keep(&mut self, tens: u64)
+        ensures { self.new.tens ≡ tens }
     {
-        self.tens = 0;
-        self.front.clear();
-        if tens > 0 {
-            put_number(&mut self.front, tens)?;
-        }
+        let mut front = [0; MOST_DIGITS];
+        let digits = if tens == 0 {
+            0
+        } else {
+            spell(&mut front, 0, tens)
+        };
         self.tens = tens;
-        Ok(())
+        self.front = front;
+        self.digits = digits;
     }
 }
 

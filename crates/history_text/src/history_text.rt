@@ -46,7 +46,7 @@ fn written(alloc: Global, header: &Header, history: &History) -> Result<Vec<u8>,
     out.extend_from_slice(b"aqs-history 1 ")?;
     header.write_part(&mut out).map_err(|_| AllocError)?;
     out.push(b'\n')?;
-    let mut numbering = Numbering::new(alloc);
+    let mut numbering = Numbering::new();
     let mut number = 0;
     while let Some(entry) = history.get(number) {
         put_entry(&mut out, &mut numbering, number, &entry)?;

@@ -10,37 +10,37 @@ use Rattle.driver.proofs.replay.replay.Goals as goal
 
 pub answer-answer-requires : goal.answer-answer-requires
 answer-answer-requires g c =
-    subst (λ (k : Header). c.in-Some.seat < k.seats) (sym c.loop-numbering.invariant.header) (rw c.in-Some.is at c.in_ok-seat.ensures.seated)
+    subst (λ (k : Header). c.in-Some.seat < k.seats) (sym c.loop-out.invariant.header) (rw c.in-Some.is at c.in_ok-seat.ensures.seated)
 
 pub put_answer-requires : goal.put_answer-requires
 put_answer-requires g c =
-    let old = g.O.Answering.view_of c.loop-numbering.object in
+    let old = g.O.Answering.view_of c.loop-out.object in
     let below = rw c.in-Some.is at c.in_ok-seat.ensures.seated in
-    let a = answered old (g.O.Answering.view_of c.answer-answer.new.self) c.loop-numbering.lines.header c.in-Some.seat c.in-Some.step c.answer-answer.result c.answer-answer.ensures c.loop-numbering.invariant.header (λ e. false≢true (c.if-lacks_memory.ensures.1 e)) in
-    has_line c.loop-numbering.lines.header old.entries c.in-Some.seat c.in-Some.step c.answer-answer.result c.loop-numbering.invariant.telling.told.behind.legal below a.0
+    let a = answered old (g.O.Answering.view_of c.answer-answer.new.self) c.loop-out.lines.header c.in-Some.seat c.in-Some.step c.answer-answer.result c.answer-answer.ensures c.loop-out.invariant.header (λ e. false≢true (c.if-lacks_memory.ensures.1 e)) in
+    has_line c.loop-out.lines.header old.entries c.in-Some.seat c.in-Some.step c.answer-answer.result c.loop-out.invariant.telling.told.behind.legal below a.0
 
-pub loop-numbering-preserved : goal.loop-numbering-preserved
-loop-numbering-preserved g c =
-    let old = g.O.Answering.view_of c.loop-numbering.object in
+pub loop-out-preserved : goal.loop-out-preserved
+loop-out-preserved g c =
+    let old = g.O.Answering.view_of c.loop-out.object in
     let new = g.O.Answering.view_of c.answer-answer.new.self in
     let x : ℕ × Step = (c.in-Some.seat, c.in-Some.step) in
     let next = rw c.in-Some.is at c.in_ok-seat.ensures.next in
     let below = rw c.in-Some.is at c.in_ok-seat.ensures.seated in
     let same = c.in_ok-seat.ensures.header in
-    let a = answered old new c.next.new.self.header x.0 x.1 c.answer-answer.result c.answer-answer.ensures (c.loop-numbering.invariant.header ∙ sym same) (λ e. false≢true (c.if-lacks_memory.ensures.1 e)) in
+    let a = answered old new c.next.new.self.header x.0 x.1 c.answer-answer.result c.answer-answer.ensures (c.loop-out.invariant.header ∙ sym same) (λ e. false≢true (c.if-lacks_memory.ensures.1 e)) in
     let front = ended (header_line c.next.new.self.header) in
-    let was = subst (λ (k : Header). Telling (ended (header_line k)) c.loop-numbering.lines c.loop-numbering.out.items old.entries c.loop-numbering.entries c.loop-numbering.calls) (sym same) c.loop-numbering.invariant.telling in
-    let now = telling_on front c.loop-numbering.lines c.next.new.self c.loop-numbering.out.items c.put_answer.new.out.items x c.answer-answer.result old.entries new.entries c.loop-numbering.entries c.loop-numbering.calls next same below a.0 a.1 c.in_ok-put_answer.ensures was in
-    let one = one_further c.loop-numbering.lines c.next.new.self x c.loop-numbering.invariant.telling.steps next c.loop-numbering.invariant.telling.read in
+    let was = subst (λ (k : Header). Telling (ended (header_line k)) c.loop-out.lines c.loop-out.out.items old.entries c.loop-out.entries c.loop-out.calls) (sym same) c.loop-out.invariant.telling in
+    let now = telling_on front c.loop-out.lines c.next.new.self c.loop-out.out.items c.put_answer.new.out.items x c.answer-answer.result old.entries new.entries c.loop-out.entries c.loop-out.calls next same below a.0 a.1 c.in_ok-put_answer.ensures.ok was in
+    let one = one_further c.loop-out.lines c.next.new.self x c.loop-out.invariant.telling.steps next c.loop-out.invariant.telling.read in
     record {
-      text = c.in_ok-seat.ensures.text ∙ c.loop-numbering.invariant.text;
+      text = c.in_ok-seat.ensures.text ∙ c.loop-out.invariant.text;
       header = a.2;
       telling = rw (c.entries_in-entries.ensures.value, c.calls_in-calls.ensures.value) now;
-      few_entries = omega (arith, one, c.entries_in-entries.ensures.few, c.loop-numbering.invariant.few_entries);
-      few_calls = omega (arith, one, c.calls_in-calls.ensures.few, c.loop-numbering.invariant.few_calls);
+      few_entries = omega (arith, one, c.entries_in-entries.ensures.few, c.loop-out.invariant.few_entries);
+      few_calls = omega (arith, one, c.calls_in-calls.ensures.few, c.loop-out.invariant.few_calls);
     }
 
 pub returns-clause-ok : goal.returns-clause-ok
 returns-clause-ok g c =
-    telling_all c.args.lines.now.text c.loop-numbering.lines c.loop-numbering.out.items c.push-2.new.self.items (g.O.Answering.view_of c.loop-numbering.object).entries c.loop-numbering.entries c.loop-numbering.calls c.loop-numbering.invariant.text (rw c.in_default.is at c.in_ok-seat.ensures.next)
-    (c.in_ok-push-2.ensures.items ∙ ap (λ (t : List ℕ). t ++ 10 ∷ []) c.in_ok-put_counts.ensures) c.loop-numbering.invariant.telling
+    telling_all c.args.lines.now.text c.loop-out.lines c.loop-out.out.items c.push-2.new.self.items (g.O.Answering.view_of c.loop-out.object).entries c.loop-out.entries c.loop-out.calls c.loop-out.invariant.text (rw c.in_default.is at c.in_ok-seat.ensures.next)
+    (c.in_ok-push-2.ensures.items ∙ ap (λ (t : List ℕ). t ++ 10 ∷ []) c.in_ok-put_counts.ensures) c.loop-out.invariant.telling

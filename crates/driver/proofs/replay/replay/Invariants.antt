@@ -4,8 +4,8 @@ use Rattle.driver.specs.ReplayText.{header_line}
 use Rattle.driver.proofs.Driven.{Telling}
 use Rattle.driver.proofs.replay.replay.Given as goal
 
-abbrev pub invariant-loop-numbering : goal.invariant-loop-numbering
-invariant-loop-numbering g l = record {
+abbrev pub invariant-loop-out : goal.invariant-loop-out
+invariant-loop-out g l = record {
   text : l.lines.text ≡ l.initial.lines.text;
   header : (g.O.Answering.view_of l.object).header ≡ l.lines.header;
   telling : Telling (ended (header_line l.lines.header)) l.lines l.out.items (g.O.Answering.view_of l.object).entries l.entries l.calls;
@@ -13,5 +13,5 @@ invariant-loop-numbering g l = record {
   few_calls : l.calls ≤ l.lines.count;
 }
 
-abbrev pub decreases-loop-numbering : goal.decreases-loop-numbering
-decreases-loop-numbering g l = length l.lines.rest
+abbrev pub decreases-loop-out : goal.decreases-loop-out
+decreases-loop-out g l = length l.lines.rest
