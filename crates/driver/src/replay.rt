@@ -1,6 +1,6 @@
 //! The replay text.
 
-ghost use Rattle.std.specs.Prelude.{◌≡◌, ◌+◌, ◌++◌, ◌≤◌, ◌<◌, ◌↔◌, [], OnOk, OnErr, IfOk, IfErr, IfSome, IsTrue, Err, codes, decimal, length, take};
+ghost use Rattle.std.specs.Prelude.{◌≡◌, ◌+◌, ◌++◌, ◌≤◌, ◌<◌, ◌↔◌, [], OnOk, IfOk, IfErr, IfSome, IsTrue, Err, codes, decimal, length, take, vec_len};
 ghost use Rattle.history.specs.Text.{ended};
 ghost use Rattle.steps.specs.StepsText.{steps_form};
 ghost use Rattle.steps.specs.StepsRead.{AreRead};
@@ -22,29 +22,44 @@ use std::alloc::{AllocError, Global};
 use steps::StepLines;
 
 /// No answer's line has more bytes.
-const MOST_BYTES: usize = 135;
+const MOST_BYTES: usize = 136;
 
-/// Appends the line of an answer.
+/// So many bytes are made blank at once.
+const BLANKS: usize = 4096;
+
+/// Puts the line of an answer from a place on, and returns the place behind it.
 #[inline(always)]
 fn put_answer(
     out: &mut Vec<u8>,
+    at: usize,
     numbering: &mut Numbering,
     number: u64,
     seat: u16,
     answer: &Result<Answer, Fault>,
-) -> Result<(), AllocError>
-    requires { HasLine answer.now }
-    ensures ok { OnOk result (out.new.items ≡ out.old.items ++ ended (answer_line number seat answer.now)) }
-    ensures err { OnErr result (out.new.items ≡ out.old.items) }
+) -> Result<usize, AllocError>
+    requires spelt { HasLine answer.now }
+    requires inside { at ≤ vec_len out.old }
+    ensures inside { IfOk result (λ end. end ≤ vec_len out.new) }
+    ensures line { IfOk result (λ end. take end out.new.items ≡ take at out.old.items ++ ended (answer_line number seat answer.now)) }
 {
-    let at = out.len();
-    out.resize(at + MOST_BYTES, 0)?;
-    let end = spell_answer(out.as_mut_slice(), at, numbering, number, seat, answer);
-    out.truncate(end);
-    Ok(())
+    make_blank(out, at)?;
+    Ok(spell_answer(out.as_mut_slice(), at, numbering, number, seat, answer))
 }
 
-/// Puts the line of an answer from a place on, and returns the place behind it.
+/// Sees to it that a line has room behind the place: most lines are put over the blanks that an earlier one made.
+#[inline(always)]
+fn make_blank(out: &mut Vec<u8>, at: usize) -> Result<(), AllocError>
+    requires { at ≤ vec_len out.old }
+    ensures room { OnOk result (at + 136 ≤ vec_len out.new) }
+    ensures kept { take at out.new.items ≡ take at out.old.items }
+{
+    if MOST_BYTES <= out.len() - at {
+        return Ok(());
+    }
+    out.resize(at + BLANKS, 0)
+}
+
+/// The same over bytes that are there.
 #[inline(always)]
 fn spell_answer(
     line: &mut [u8],
@@ -55,8 +70,8 @@ fn spell_answer(
     answer: &Result<Answer, Fault>,
 ) -> usize
     requires spelt { HasLine answer.now }
-    requires room { at + 135 ≤ length line.old }
-    ensures end { result ≤ at + 135 }
+    requires room { at + 136 ≤ length line.old }
+    ensures end { result ≤ at + 136 }
     ensures line { take result line.new ≡ take at line.old ++ ended (answer_line number seat answer.now) }
 {
     match answer {
@@ -154,6 +169,7 @@ pub fn replay<O: Answering>(
     }
     out.push(b'\n')?;
     let mut numbering = Numbering::new();
+    let mut end = out.len();
     let mut entries: u64 = 0;
     let mut calls: u64 = 0;
     while let Some((seat, step)) = lines.next()? {
@@ -161,10 +177,11 @@ pub fn replay<O: Answering>(
         if lacks_memory(&answer) {
             return Err(StreamFault::Memory);
         }
-        put_answer(&mut out, &mut numbering, entries, seat, &answer)?;
+        end = put_answer(&mut out, end, &mut numbering, entries, seat, &answer)?;
         entries += entries_in(&answer);
         calls += calls_in(&answer);
     }
+    out.truncate(end);
     put_counts(&mut out, entries, calls)?;
     out.push(b'\n')?;
     Ok(out)

@@ -203,7 +203,7 @@ fn put_asked(
 }
 
 /// Puts a name, a mode and an amount from a place on, each by itself.
-#[inline(always)]
+#[inline(never)]
 fn put_amount(line: &mut [u8], at: usize, name: &[u8], mode: Mode, n: u32) -> usize
     requires { at + length name.now + 23 ≤ length line.old }
     ensures end { result ≤ at + length name.now + 23 }
@@ -215,7 +215,7 @@ fn put_amount(line: &mut [u8], at: usize, name: &[u8], mode: Mode, n: u32) -> us
 }
 
 /// Puts a name with its space, a condition and an amount from a place on.
-#[inline(always)]
+#[inline(never)]
 fn put_at(line: &mut [u8], at: usize, name: &[u8], condition: u8, n: u32) -> usize
     requires { at + length name.now + 41 ≤ length line.old }
     ensures end { result ≤ at + length name.now + 41 }

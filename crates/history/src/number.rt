@@ -115,61 +115,69 @@ fn spell_long(line: &mut [u8], at: usize, number: u64) -> usize
     put_bytes(line, at, buffer.format(number).as_bytes())
 }
 
-/// Spells numbers of which most have the same digits but for the last: those are found once and kept.
+/// Spells numbers of which most have the same digits but for the last two: those are found once and kept.
 #[derive(Debug, Drop)]
 pub struct Numbering {
-    tens: u64,
+    hundreds: u64,
     front: [u8; MOST_DIGITS],
     digits: usize,
 }
 
 impl Model for Numbering {
-    ghost use Rattle.std.specs.Prelude.{◌≡◌, ◌≤◌, take};
-    ghost use Rattle.history.specs.Numbering.{front_of, Kept};
+    ghost use Rattle.std.specs.Prelude.{◌≡◌, ◌≤◌, decimal, take};
+    ghost use Rattle.history.specs.Numbering.{Kept};
 
     ghost Value = { Kept };
 
-    ghost view = { λ a. record { tens = a.tens } };
+    ghost view = { λ a. record { hundreds = a.hundreds } };
 
-    ghost invariant = { λ a. (a.digits ≤ 20) × (take a.digits a.front ≡ front_of a.tens) };
+    ghost invariant = { λ a. (a.digits ≤ 20) × (take a.digits a.front ≡ decimal a.hundreds) };
 }
 
 impl Numbering {
     pub fn new() -> Self {
         Numbering {
-            tens: 0,
-            front: [0; MOST_DIGITS],
-            digits: 0,
+            hundreds: 0,
+            front: [b'0'; MOST_DIGITS],
+            digits: 1,
         }
     }
 
     /// Puts the number from a place on, and returns the place behind it.
     #[inline(always)]
     pub fn spell(&mut self, line: &mut [u8], at: usize, number: u64) -> usize
-        requires { at + 21 ≤ length line.old }
-        ensures end { result ≤ at + 21 }
+        requires { at + 22 ≤ length line.old }
+        ensures end { result ≤ at + 22 }
         ensures bytes { take result line.new ≡ take at line.old ++ decimal number }
     {
-        let tens = number / 10;
-        if tens != self.tens {
-            self.keep(tens);
+        let hundreds = number / 100;
+        if hundreds == 0 {
+            return spell(line, at, number);
         }
+        self.keep(hundreds);
         put_bytes(line, at, &self.front);
-        put_byte(line, at + self.digits, b'0' + (number - 10 * tens) as u8)
+        let last_two = (number % 100) as u8;
+        let last_at = put_byte(line, at + self.digits, b'0' + last_two / 10);
+        put_byte(line, last_at, b'0' + last_two % 10)
     }
 
-    /// Keeps these digits before the last.
-    #[inline(never)]
-    fn keep(&mut self, tens: u64)
-        ensures { self.new.tens ≡ tens }
+    /// Keeps the digits before the last two.
+    #[inline(always)]
+    fn keep(&mut self, hundreds: u64)
+        ensures { self.new.hundreds ≡ hundreds }
     {
-        let mut front = [0; MOST_DIGITS];
-        let digits = if tens == 0 {
-            0
-        } else {
-            spell(&mut front, 0, tens)
-        };
-        self.tens = tens;
+        if hundreds != self.hundreds {
+            self.find(hundreds);
+        }
+    }
+
+    #[inline(never)]
+    fn find(&mut self, hundreds: u64)
+        ensures { self.new.hundreds ≡ hundreds }
+    {
+        let mut front = [b'0'; MOST_DIGITS];
+        let digits = spell(&mut front, 0, hundreds);
+        self.hundreds = hundreds;
         self.front = front;
         self.digits = digits;
     }

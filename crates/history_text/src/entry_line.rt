@@ -10,7 +10,7 @@ use history::pieces::put_byte;
 use std::alloc::AllocError;
 
 /// No entry's line has more bytes.
-const MOST_BYTES: usize = 107;
+const MOST_BYTES: usize = 108;
 
 /// Appends an entry's number, its seat and its words.
 pub fn put_entry(
@@ -40,8 +40,8 @@ pub fn spell_entry(
     entry: &Entry,
 ) -> usize
     requires spelt { IsSpelt entry.now }
-    requires room { at + 107 ≤ length line.old }
-    ensures end { result ≤ at + 107 }
+    requires room { at + 108 ≤ length line.old }
+    ensures end { result ≤ at + 108 }
     ensures line { take result line.new ≡ take at line.old ++ entry_line number entry.now }
 {
     let space_at = numbering.spell(line, at, number);

@@ -1,4 +1,4 @@
-use Rattle.std.proofs.Common.{◌≡◌, ◌≤◌, length}
+use Rattle.std.proofs.Common.{◌≡◌, ◌≤◌, length, take, vec_len}
 use Rattle.history.specs.Text.{ended}
 use Rattle.driver.specs.ReplayText.{header_line}
 use Rattle.driver.proofs.Driven.{Telling}
@@ -8,7 +8,8 @@ abbrev pub invariant-loop-out : goal.invariant-loop-out
 invariant-loop-out g l = record {
   text : l.lines.text ≡ l.initial.lines.text;
   header : (g.O.Answering.view_of l.object).header ≡ l.lines.header;
-  telling : Telling (ended (header_line l.lines.header)) l.lines l.out.items (g.O.Answering.view_of l.object).entries l.entries l.calls;
+  telling : Telling (ended (header_line l.lines.header)) l.lines (take l.end l.out.items) (g.O.Answering.view_of l.object).entries l.entries l.calls;
+  inside : l.end ≤ vec_len l.out;
   few_entries : l.entries ≤ l.lines.count;
   few_calls : l.calls ≤ l.lines.count;
 }
