@@ -53,7 +53,8 @@ pub fn spell_entry(
 
 /// Appends the end line of so many entries, of which so many end a call, or a front of it.
 pub fn put_counts(out: &mut Vec<u8>, entries: u64, calls: u64) -> Result<(), AllocError>
-    ensures { OnOk result (out.new.items ≡ out.old.items ++ counts_line entries calls) }
+    ensures ok { OnOk result (out.new.items ≡ out.old.items ++ counts_line entries calls) }
+    ensures err { OnErr result (take (length out.old.items) out.new.items ≡ out.old.items) }
 {
     out.extend_from_slice(b"end ")?;
     put_number(out, entries)?;

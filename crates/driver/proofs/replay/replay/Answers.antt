@@ -44,4 +44,4 @@ loop-out-preserved g c =
 pub returns-clause-ok : goal.returns-clause-ok
 returns-clause-ok g c =
     telling_all c.args.lines.now.text c.loop-out.lines (take c.loop-out.end c.loop-out.out.items) c.push-2.new.self.items (g.O.Answering.view_of c.loop-out.object).entries c.loop-out.entries c.loop-out.calls c.loop-out.invariant.text (rw c.in_default.is at c.in_ok-seat.ensures.next)
-    (c.in_ok-push-2.ensures.items ∙ ap (λ (t : List ℕ). t ++ 10 ∷ []) (c.in_ok-put_counts.ensures ∙ rw c.truncate.ensures.items refl)) c.loop-out.invariant.telling
+    (c.in_ok-push-2.ensures.items ∙ ap (λ (t : List ℕ). t ++ 10 ∷ []) (c.in_ok-put_counts.ensures.ok ∙ rw c.truncate.ensures.items refl)) c.loop-out.invariant.telling
