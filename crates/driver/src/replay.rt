@@ -1,6 +1,6 @@
 //! The replay text.
 
-ghost use Rattle.std.specs.Prelude.{◌≡◌, ◌++◌, ◌≤◌, ◌<◌, ◌↔◌, [], false, OnOk, IfOk, IfErr, IsErrOf, IsTrue, Err};
+ghost use Rattle.std.specs.Prelude.{◌≡◌, ◌+◌, ◌++◌, ◌≤◌, ◌<◌, ◌↔◌, [], false, OnOk, IfOk, IfErr, IfSome, IsErrOf, IsTrue, Err, codes, decimal, length, take, vec_len};
 ghost use Rattle.history.specs.Header.{IsInRange};
 ghost use Rattle.history.specs.Text.{ended};
 ghost use Rattle.driver.specs.declared.stream_fault.StreamFault.TheVariants.{Memory};
@@ -17,44 +17,101 @@ use crate::stream_fault::StreamFault;
 use history::entry::Word;
 use history::fault::Fault;
 use history::header::Header;
-use history::number::put_number;
+use history::number::{Numbering, spell};
+use history::pieces::{put_byte, put_bytes};
 use history::step::Answer;
-use history_text::entry_line::{put_counts, put_entry};
+use history_text::entry_line::{put_counts, spell_entry};
 use std::alloc::{AllocError, Global};
 
-/// Appends the line of an answer, or a front of it.
+/// No answer's line has more bytes.
+const MOST_BYTES: usize = 136;
+
+/// So many bytes are made blank at once.
+const BLANKS: usize = 4096;
+
+/// Puts the line of an answer from a place on, and returns the place behind it.
 #[inline(always)]
 fn put_answer(
     out: &mut Vec<u8>,
+    at: usize,
+    numbering: &mut Numbering,
     number: u64,
     seat: u16,
     answer: &Result<Answer, Fault>,
-) -> Result<(), AllocError>
-    requires { HasLine answer.now }
-    ensures { OnOk result (out.new.items ≡ out.old.items ++ ended (answer_line number seat answer.now)) }
+) -> Result<usize, AllocError>
+    requires spelt { HasLine answer.now }
+    requires inside { at ≤ vec_len out.old }
+    ensures inside { IfOk result (λ end. end ≤ vec_len out.new) }
+    ensures line { IfOk result (λ end. take end out.new.items ≡ take at out.old.items ++ ended (answer_line number seat answer.now)) }
+{
+    make_blank(out, at)?;
+    Ok(spell_answer(out.as_mut_slice(), at, numbering, number, seat, answer))
+}
+
+/// Sees to it that a line has room behind the place: most lines are put over the blanks that an earlier one made.
+#[inline(always)]
+fn make_blank(out: &mut Vec<u8>, at: usize) -> Result<(), AllocError>
+    requires { at ≤ vec_len out.old }
+    ensures room { OnOk result (at + 136 ≤ vec_len out.new) }
+    ensures kept { take at out.new.items ≡ take at out.old.items }
+{
+    if MOST_BYTES <= out.len() - at {
+        return Ok(());
+    }
+    out.resize(at + BLANKS, 0)
+}
+
+/// The same over bytes that are there.
+#[inline(always)]
+fn spell_answer(
+    line: &mut [u8],
+    at: usize,
+    numbering: &mut Numbering,
+    number: u64,
+    seat: u16,
+    answer: &Result<Answer, Fault>,
+) -> usize
+    requires spelt { HasLine answer.now }
+    requires room { at + 136 ≤ length line.old }
+    ensures end { result ≤ at + 136 }
+    ensures line { take result line.new ≡ take at line.old ++ ended (answer_line number seat answer.now) }
 {
     match answer {
         Ok(Answer::Recorded(entry, named)) => {
-            put_entry(out, number, entry)?;
-            if let Some(named) = named {
-                out.extend_from_slice(b" wakes ")?;
-                put_number(out, u64::from(*named))?;
-            }
+            let wakes_at = spell_entry(line, at, numbering, number, entry);
+            let break_at = put_waking(line, wakes_at, *named);
+            put_byte(line, break_at, b'\n')
         }
         Ok(Answer::Sleep) => {
-            out.extend_from_slice(b"- ")?;
-            put_number(out, u64::from(seat))?;
-            out.extend_from_slice(b" sleep")?;
+            let seat_at = put_bytes(line, at, b"- ");
+            let sleep_at = spell(line, seat_at, u64::from(seat));
+            put_bytes(line, sleep_at, b" sleep\n")
         }
         Err(fault) => {
-            out.extend_from_slice(b"- ")?;
-            put_number(out, u64::from(seat))?;
-            out.push(b' ')?;
-            out.extend_from_slice(fault.name().as_bytes())?;
+            let seat_at = put_bytes(line, at, b"- ");
+            let space_at = spell(line, seat_at, u64::from(seat));
+            let name_at = put_byte(line, space_at, b' ');
+            let break_at = put_bytes(line, name_at, fault.name().as_bytes());
+            put_byte(line, break_at, b'\n')
         }
     }
-    out.push(b'\n')?;
-    Ok(())
+}
+
+/// Puts whom an entry names from a place on, and returns the place behind it: nothing where it names nobody.
+#[inline(always)]
+fn put_waking(line: &mut [u8], at: usize, named: Option<u16>) -> usize
+    requires { at + 27 ≤ length line.old }
+    ensures end { result ≤ at + 27 }
+    ensures nobody { named ≡ None → take result line.new ≡ take at line.old }
+    ensures named { IfSome named (λ seat. take result line.new ≡ take at line.old ++ codes " wakes " ++ decimal seat) }
+{
+    match named {
+        None => at,
+        Some(named) => {
+            let named_at = put_bytes(line, at, b" wakes ");
+            spell(line, named_at, u64::from(named))
+        }
+    }
 }
 
 /// Whether a step was refused for want of memory.
@@ -126,6 +183,8 @@ pub fn replay<O: Answering, R: Source>(
     ensures failing { IsErrOf result StreamFault.ReadFailed ↔ IsTrue (R.failed reader.new) }
 {
     let mut out = header_line(alloc, steps.header())?;
+    let mut numbering = Numbering::new();
+    let mut end = out.len();
     let mut entries: u64 = 0;
     let mut calls: u64 = 0;
     while let Some((seat, step)) = steps.next(reader)? {
@@ -133,10 +192,11 @@ pub fn replay<O: Answering, R: Source>(
         if lacks_memory(&answer) {
             return Err(StreamFault::Memory);
         }
-        put_answer(&mut out, entries, seat, &answer)?;
+        end = put_answer(&mut out, end, &mut numbering, entries, seat, &answer)?;
         entries += entries_in(&answer);
         calls += calls_in(&answer);
     }
+    out.truncate(end);
     put_counts(&mut out, entries, calls)?;
     out.push(b'\n')?;
     Ok(out)

@@ -7,6 +7,8 @@ pub mod EntryAgain
 pub mod Breaks
 pub mod Writing
 pub mod AskedOnce
+pub mod LastDigit
+pub mod PieceFronts
 pub mod Lists
 pub mod LineLemmas
 pub mod Sums

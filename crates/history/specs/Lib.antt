@@ -25,3 +25,4 @@ pub mod Order
 pub mod Conservation
 pub mod Ownership
 pub mod Waiting
+pub mod Numbering

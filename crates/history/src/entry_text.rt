@@ -1,13 +1,16 @@
 //! The words of an entry.
 
-ghost use Rattle.std.specs.Prelude.{◌≡◌, ◌∷◌, ◌++◌, [], OnOk, OnErr, take, length, codes, decimal};
+ghost use Rattle.std.specs.Prelude.{◌≡◌, ◌+◌, ◌≤◌, ◌∷◌, ◌++◌, [], take, length, codes, decimal};
 ghost use Rattle.history.specs.Text.{line_of};
 ghost use Rattle.history.specs.EntryWords.{mode_word};
 
 use crate::entry::{End, Entry, Mode, Word};
 use crate::fault::Fault;
-use crate::number::put_number;
-use std::alloc::AllocError;
+use crate::number::spell;
+use crate::pieces::{put_byte, put_bytes};
+
+/// No entry has more bytes of words.
+const MOST_WORDS: usize = 64;
 
 impl Mode {
     ghost use Rattle.std.specs.Prelude.{◌≡◌, ◌∷◌, ◌++◌, [], ◌↔◌, IsTrue, false};
@@ -73,7 +76,7 @@ impl End {
 }
 
 impl Entry {
-    ghost use Rattle.std.specs.Prelude.{◌≡◌, ◌++◌, ◌↔◌, IsTrue, OnOk, OnErr, IsOkUnless, take, length};
+    ghost use Rattle.std.specs.Prelude.{◌≡◌, ◌+◌, ◌≤◌, ◌++◌, ◌↔◌, IsTrue, OnOk, OnErr, IsOkUnless, take, length};
     ghost use Rattle.history.specs.Text.{line_of};
     ghost use Rattle.history.specs.EntryWords.{entry_words, IsSpelt, IsWritten};
 
@@ -111,100 +114,115 @@ impl Entry {
     }
 
     /// Appends the words that stand behind the seat.
-    #[inline(always)]
     pub fn write_words(&self, out: &mut Vec<u8>) -> Result<(), Fault>
         requires { IsSpelt self.now }
         ensures ok { OnOk result (out.new.items ≡ out.old.items ++ line_of (entry_words self.now)) }
         ensures err { OnErr result (out.new.items ≡ out.old.items) }
         ensures unless { IsOkUnless result Fault.OutOfMemory }
     {
-        let before = out.len();
-        match self.put_words(out) {
-            Ok(()) => Ok(()),
-            Err(_) => {
-                out.truncate(before);
-                Err(Fault::OutOfMemory)
+        let at = out.len();
+        match out.extend_from_slice(&[0; MOST_WORDS]) {
+            Ok(()) => {
+                let end = self.spell_words(out.as_mut_slice(), at);
+                out.truncate(end);
+                Ok(())
             }
+            Err(_) => Err(Fault::OutOfMemory),
         }
     }
 
-    /// Appends the words, or a front of them.
+    /// Puts the words that stand behind the seat from a place on, and returns the place behind them.
     #[inline(always)]
-    fn put_words(&self, out: &mut Vec<u8>) -> Result<(), AllocError>
-        ensures ok { OnOk result (out.new.items ≡ out.old.items ++ line_of (entry_words self.now)) }
-        ensures err { OnErr result (take (length out.old.items) out.new.items ≡ out.old.items) }
+    pub fn spell_words(&self, line: &mut [u8], at: usize) -> usize
+        requires spelt { IsSpelt self.now }
+        requires room { at + 64 ≤ length line.old }
+        ensures end { result ≤ at + 64 }
+        ensures words { take result line.new ≡ take at line.old ++ line_of (entry_words self.now) }
     {
         let Entry {
             seat: _,
             word,
             mode,
             n,
-            at,
+            at: condition,
             end,
         } = *self;
         match word {
-            Word::Got => put_asked(out, b"got", b"got x 1", mode, n),
-            Word::TryGot => put_asked(out, b"trygot", b"trygot x 1", mode, n),
-            Word::Queued => put_asked(out, b"queued", b"queued x 1", mode, n),
-            Word::Granted => put_asked(out, b"granted", b"granted x 1", mode, n),
-            Word::Missed => put_asked(out, b"missed", b"missed x 1", mode, n),
+            Word::Got => put_asked(line, at, b"got", b"got x 1", mode, n),
+            Word::TryGot => put_asked(line, at, b"trygot", b"trygot x 1", mode, n),
+            Word::Queued => put_asked(line, at, b"queued", b"queued x 1", mode, n),
+            Word::Granted => put_asked(line, at, b"granted", b"granted x 1", mode, n),
+            Word::Missed => put_asked(line, at, b"missed", b"missed x 1", mode, n),
             Word::Left => {
-                put_asked(out, b"left", b"left x 1", mode, n)?;
-                out.extend_from_slice(end.behind_space())
+                let end_at = put_asked(line, at, b"left", b"left x 1", mode, n);
+                put_bytes(line, end_at, end.behind_space())
             }
-            Word::Gave => put_asked(out, b"gave", b"gave x 1", mode, n),
+            Word::Gave => put_asked(line, at, b"gave", b"gave x 1", mode, n),
             Word::Refused(fault) => {
-                put_asked(out, b"refused", b"refused x 1", mode, n)?;
-                out.push(b' ')?;
-                out.extend_from_slice(fault.name().as_bytes())
+                let space_at = put_asked(line, at, b"refused", b"refused x 1", mode, n);
+                let name_at = put_byte(line, space_at, b' ');
+                put_bytes(line, name_at, fault.name().as_bytes())
             }
-            Word::Await => put_at(out, b"await ", at, n),
+            Word::Await => put_at(line, at, b"await ", condition, n),
             Word::Lapse => {
-                out.extend_from_slice(b"lapse ")?;
-                put_number(out, u64::from(at))?;
-                out.extend_from_slice(end.behind_space())
+                let condition_at = put_bytes(line, at, b"lapse ");
+                let end_at = spell(line, condition_at, u64::from(condition));
+                put_bytes(line, end_at, end.behind_space())
             }
-            Word::Signal => put_at(out, b"signal ", at, n),
-            Word::SignalAll => put_at(out, b"signalall ", at, n),
+            Word::Signal => put_at(line, at, b"signal ", condition, n),
+            Word::SignalAll => put_at(line, at, b"signalall ", condition, n),
             Word::Back => {
-                put_at(out, b"back ", at, n)?;
-                out.extend_from_slice(end.behind_space())
+                let end_at = put_at(line, at, b"back ", condition, n);
+                put_bytes(line, end_at, end.behind_space())
             }
-            Word::Counted => put_asked(out, b"counted", b"counted x 1", mode, n),
-            Word::Drained => put_asked(out, b"drained", b"drained x 1", mode, n),
+            Word::Counted => put_amount(line, at, b"counted", mode, n),
+            Word::Drained => put_amount(line, at, b"drained", mode, n),
         }
     }
 }
 
-/// Appends a name, a mode and an amount, or a front of them: what is asked for most, X of 1, in one piece.
+/// Puts a name, a mode and an amount from a place on: what is asked for most, X of 1, in one piece.
 #[inline(always)]
 fn put_asked(
-    out: &mut Vec<u8>,
+    line: &mut [u8],
+    at: usize,
     name: &[u8],
     once: &[u8],
     mode: Mode,
     n: u32,
-) -> Result<(), AllocError>
-    requires { once.now ≡ name.now ++ codes " x 1" }
-    ensures ok { OnOk result (out.new.items ≡ out.old.items ++ line_of (name.now ∷ mode_word mode ∷ decimal n ∷ [])) }
-    ensures err { OnErr result (take (length out.old.items) out.new.items ≡ out.old.items) }
+) -> usize
+    requires once { once.now ≡ name.now ++ codes " x 1" }
+    requires room { at + length name.now + 23 ≤ length line.old }
+    ensures end { result ≤ at + length name.now + 23 }
+    ensures words { take result line.new ≡ take at line.old ++ line_of (name.now ∷ mode_word mode ∷ decimal n ∷ []) }
 {
     if n == 1 && mode.is_exclusive() {
-        return out.extend_from_slice(once);
+        return put_bytes(line, at, once);
     }
-    out.extend_from_slice(name)?;
-    out.extend_from_slice(mode.spaced())?;
-    put_number(out, u64::from(n))
+    put_amount(line, at, name, mode, n)
 }
 
-/// Appends a name with its space, a condition and an amount, or a front of them.
-#[inline(always)]
-fn put_at(out: &mut Vec<u8>, name: &[u8], at: u8, n: u32) -> Result<(), AllocError>
-    ensures ok { OnOk result (out.new.items ≡ out.old.items ++ name.now ++ line_of (decimal at ∷ decimal n ∷ [])) }
-    ensures err { OnErr result (take (length out.old.items) out.new.items ≡ out.old.items) }
+/// Puts a name, a mode and an amount from a place on, each by itself.
+#[inline(never)]
+fn put_amount(line: &mut [u8], at: usize, name: &[u8], mode: Mode, n: u32) -> usize
+    requires { at + length name.now + 23 ≤ length line.old }
+    ensures end { result ≤ at + length name.now + 23 }
+    ensures words { take result line.new ≡ take at line.old ++ line_of (name.now ∷ mode_word mode ∷ decimal n ∷ []) }
 {
-    out.extend_from_slice(name)?;
-    put_number(out, u64::from(at))?;
-    out.push(b' ')?;
-    put_number(out, u64::from(n))
+    let mode_at = put_bytes(line, at, name);
+    let amount_at = put_bytes(line, mode_at, mode.spaced());
+    spell(line, amount_at, u64::from(n))
+}
+
+/// Puts a name with its space, a condition and an amount from a place on.
+#[inline(never)]
+fn put_at(line: &mut [u8], at: usize, name: &[u8], condition: u8, n: u32) -> usize
+    requires { at + length name.now + 41 ≤ length line.old }
+    ensures end { result ≤ at + length name.now + 41 }
+    ensures words { take result line.new ≡ take at line.old ++ name.now ++ line_of (decimal condition ∷ decimal n ∷ []) }
+{
+    let condition_at = put_bytes(line, at, name);
+    let space_at = spell(line, condition_at, u64::from(condition));
+    let amount_at = put_byte(line, space_at, b' ');
+    spell(line, amount_at, u64::from(n))
 }

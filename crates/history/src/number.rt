@@ -4,10 +4,15 @@ ghost use Rattle.history.specs.Reading.{number_from, permits_from};
 ghost use Rattle.std.specs.Int.{w32};
 ghost use Rattle.std.specs.Fmt.{signed_decimal};
 ghost use Rattle.std.specs.Prelude.{FitsSigned};
-ghost use Rattle.std.specs.Prelude.{◌≡◌, ◌≢◌, ℕ, ◌<◌, ◌^◌, ◌++◌, IfSome, IfNone, OnOk, OnErr, decimal};
+ghost use Rattle.std.specs.Prelude.{◌≡◌, ◌≢◌, ℕ, ◌+◌, ◌<◌, ◌≤◌, ◌^◌, ◌++◌, IfSome, IfNone, OnOk, OnErr, decimal, length, take};
 
+use crate::pieces::{put_byte, put_bytes};
 use itoa::Buffer;
 use std::alloc::AllocError;
+use std::marker::Model;
+
+/// No number below 2^64 has more digits.
+const MOST_DIGITS: usize = 20;
 
 /// The number that the bytes spell, one below 2^64.
 #[inline(always)]
@@ -71,26 +76,111 @@ pub(crate) fn permits_of(bytes: &[u8]) -> Option<i32>
 }
 
 /// Appends the number.
-#[inline(always)]
 pub fn put_number(out: &mut Vec<u8>, number: u64) -> Result<(), AllocError>
     ensures ok { OnOk result (out.new.items ≡ out.old.items ++ decimal number) }
     ensures err { OnErr result (out.new.items ≡ out.old.items) }
 {
-    if number < 10 {
-        out.push(b'0' + number as u8)?;
-        return Ok(());
-    }
-    put_long(out, number)
+    let at = out.len();
+    out.extend_from_slice(&[0; MOST_DIGITS])?;
+    let end = spell(out.as_mut_slice(), at, number);
+    out.truncate(end);
+    Ok(())
 }
 
-/// The same of a number with more digits than one.
+/// Puts the number from a place on, and returns the place behind it.
+#[inline(always)]
+pub fn spell(line: &mut [u8], at: usize, number: u64) -> usize
+    requires { at + 20 ≤ length line.old }
+    ensures end { (at < result) × (result ≤ at + 20) }
+    ensures bytes { take result line.new ≡ take at line.old ++ decimal number }
+{
+    if number < 10 {
+        return put_byte(line, at, b'0' + number as u8);
+    }
+    if number < 100 {
+        let last = put_byte(line, at, b'0' + (number / 10) as u8);
+        return put_byte(line, last, b'0' + (number % 10) as u8);
+    }
+    spell_long(line, at, number)
+}
+
+/// The same of a number with more digits than two.
 #[inline(never)]
-fn put_long(out: &mut Vec<u8>, number: u64) -> Result<(), AllocError>
-    ensures ok { OnOk result (out.new.items ≡ out.old.items ++ decimal number) }
-    ensures err { OnErr result (out.new.items ≡ out.old.items) }
+fn spell_long(line: &mut [u8], at: usize, number: u64) -> usize
+    requires { at + 20 ≤ length line.old }
+    ensures end { (at < result) × (result ≤ at + 20) }
+    ensures bytes { take result line.new ≡ take at line.old ++ decimal number }
 {
     let mut buffer = Buffer::new();
-    out.extend_from_slice(buffer.format(number).as_bytes())
+    put_bytes(line, at, buffer.format(number).as_bytes())
+}
+
+/// Spells numbers of which most have the same digits but for the last two: those are found once and kept.
+#[derive(Debug, Drop)]
+pub struct Numbering {
+    hundreds: u64,
+    front: [u8; MOST_DIGITS],
+    digits: usize,
+}
+
+impl Model for Numbering {
+    ghost use Rattle.std.specs.Prelude.{◌≡◌, ◌≤◌, decimal, take};
+    ghost use Rattle.history.specs.Numbering.{Kept};
+
+    ghost Value = { Kept };
+
+    ghost view = { λ a. record { hundreds = a.hundreds } };
+
+    ghost invariant = { λ a. (a.digits ≤ 20) × (take a.digits a.front ≡ decimal a.hundreds) };
+}
+
+impl Numbering {
+    pub fn new() -> Self {
+        Numbering {
+            hundreds: 0,
+            front: [b'0'; MOST_DIGITS],
+            digits: 1,
+        }
+    }
+
+    /// Puts the number from a place on, and returns the place behind it.
+    #[inline(always)]
+    pub fn spell(&mut self, line: &mut [u8], at: usize, number: u64) -> usize
+        requires { at + 22 ≤ length line.old }
+        ensures end { result ≤ at + 22 }
+        ensures bytes { take result line.new ≡ take at line.old ++ decimal number }
+    {
+        let hundreds = number / 100;
+        if hundreds == 0 {
+            return spell(line, at, number);
+        }
+        self.keep(hundreds);
+        put_bytes(line, at, &self.front);
+        let last_two = (number % 100) as u8;
+        let last_at = put_byte(line, at + self.digits, b'0' + last_two / 10);
+        put_byte(line, last_at, b'0' + last_two % 10)
+    }
+
+    /// Keeps the digits before the last two.
+    #[inline(always)]
+    fn keep(&mut self, hundreds: u64)
+        ensures { self.new.hundreds ≡ hundreds }
+    {
+        if hundreds != self.hundreds {
+            self.find(hundreds);
+        }
+    }
+
+    #[inline(never)]
+    fn find(&mut self, hundreds: u64)
+        ensures { self.new.hundreds ≡ hundreds }
+    {
+        let mut front = [b'0'; MOST_DIGITS];
+        let digits = spell(&mut front, 0, hundreds);
+        self.hundreds = hundreds;
+        self.front = front;
+        self.digits = digits;
+    }
 }
 
 /// Appends a number of 32 bits, with a sign where it is below 0, or a front of it.

@@ -4,4 +4,5 @@ mod headers;
 mod list;
 mod memory;
 mod numbers;
+mod pieces;
 mod words;

@@ -1,29 +1,60 @@
 //! A line of an entry, and the end line.
 
-ghost use Rattle.std.specs.Prelude.{◌≡◌, ◌++◌, OnOk};
+ghost use Rattle.std.specs.Prelude.{◌≡◌, ◌+◌, ◌≤◌, ◌++◌, OnOk, OnErr, length, take};
 ghost use Rattle.history.specs.EntryWords.{IsSpelt};
 ghost use Rattle.history_text.specs.EntryLines.{entry_line, counts_line};
 
 use history::entry::Entry;
-use history::number::put_number;
+use history::number::{Numbering, put_number, spell};
+use history::pieces::put_byte;
 use std::alloc::AllocError;
 
-/// Appends an entry's number, its seat and its words, or a front of them.
-#[inline(always)]
-pub fn put_entry(out: &mut Vec<u8>, number: u64, entry: &Entry) -> Result<(), AllocError>
+/// No entry's line has more bytes.
+const MOST_BYTES: usize = 108;
+
+/// Appends an entry's number, its seat and its words.
+pub fn put_entry(
+    out: &mut Vec<u8>,
+    numbering: &mut Numbering,
+    number: u64,
+    entry: &Entry,
+) -> Result<(), AllocError>
     requires { IsSpelt entry.now }
-    ensures { OnOk result (out.new.items ≡ out.old.items ++ entry_line number entry.now) }
+    ensures ok { OnOk result (out.new.items ≡ out.old.items ++ entry_line number entry.now) }
+    ensures err { OnErr result (out.new.items ≡ out.old.items) }
 {
-    put_number(out, number)?;
-    out.push(b' ')?;
-    put_number(out, u64::from(entry.seat))?;
-    out.push(b' ')?;
-    entry.write_words(out).map_err(|_| AllocError)
+    let at = out.len();
+    out.extend_from_slice(&[0; MOST_BYTES])?;
+    let end = spell_entry(out.as_mut_slice(), at, numbering, number, entry);
+    out.truncate(end);
+    Ok(())
+}
+
+/// Puts an entry's number, its seat and its words from a place on, and returns the place behind them.
+#[inline(always)]
+pub fn spell_entry(
+    line: &mut [u8],
+    at: usize,
+    numbering: &mut Numbering,
+    number: u64,
+    entry: &Entry,
+) -> usize
+    requires spelt { IsSpelt entry.now }
+    requires room { at + 108 ≤ length line.old }
+    ensures end { result ≤ at + 108 }
+    ensures line { take result line.new ≡ take at line.old ++ entry_line number entry.now }
+{
+    let space_at = numbering.spell(line, at, number);
+    let seat_at = put_byte(line, space_at, b' ');
+    let gap_at = spell(line, seat_at, u64::from(entry.seat));
+    let words_at = put_byte(line, gap_at, b' ');
+    entry.spell_words(line, words_at)
 }
 
 /// Appends the end line of so many entries, of which so many end a call, or a front of it.
 pub fn put_counts(out: &mut Vec<u8>, entries: u64, calls: u64) -> Result<(), AllocError>
-    ensures { OnOk result (out.new.items ≡ out.old.items ++ counts_line entries calls) }
+    ensures ok { OnOk result (out.new.items ≡ out.old.items ++ counts_line entries calls) }
+    ensures err { OnErr result (take (length out.old.items) out.new.items ≡ out.old.items) }
 {
     out.extend_from_slice(b"end ")?;
     put_number(out, entries)?;

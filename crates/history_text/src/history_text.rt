@@ -12,6 +12,7 @@ use crate::entry_reading::entry_of;
 use history::entries::History;
 use history::fault::Fault;
 use history::header::Header;
+use history::number::Numbering;
 use history::text::first_line;
 use line_text::fault::TextFault;
 use line_text::header_line::header_behind;
@@ -45,9 +46,10 @@ fn written(alloc: Global, header: &Header, history: &History) -> Result<Vec<u8>,
     out.extend_from_slice(b"aqs-history 1 ")?;
     header.write_part(&mut out).map_err(|_| AllocError)?;
     out.push(b'\n')?;
+    let mut numbering = Numbering::new();
     let mut number = 0;
     while let Some(entry) = history.get(number) {
-        put_entry(&mut out, number, &entry)?;
+        put_entry(&mut out, &mut numbering, number, &entry)?;
         out.push(b'\n')?;
         number += 1;
     }

@@ -7,6 +7,7 @@ use crate::entries::History;
 use crate::entry::{End, Entry, Mode, Word};
 use crate::fault::Fault;
 use crate::header::{Header, Object, Policy};
+use crate::number::put_number;
 use std::alloc::Global;
 use std::test::Fail;
 
@@ -64,6 +65,18 @@ fn writers_leave_the_bytes_as_they_were(rt: HostRuntime) -> Result<(), Fail> {
     header.write_part(&mut out)?;
     entry.write_words(&mut out)?;
     assert_eq!(rt; out.len(), SMALL + 37 + 7);
+    Ok(())
+}
+
+#[test]
+fn a_number_is_written_whole_or_not_at_all(rt: HostRuntime) -> Result<(), Fail> {
+    let mut out = full_bytes(rt.alloc())?;
+    let taken = all_memory(rt.alloc())?;
+    assert!(rt; put_number(&mut out, 10).is_err());
+    assert_eq!(rt; out.len(), SMALL);
+    drop(taken);
+    put_number(&mut out, 10)?;
+    assert_eq!(rt; out.len(), SMALL + 2);
     Ok(())
 }
 

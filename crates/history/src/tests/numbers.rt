@@ -1,6 +1,6 @@
 //! Numbers.
 
-use crate::number::{number_of, permits_of, put_number, put_permits};
+use crate::number::{Numbering, number_of, permits_of, put_number, put_permits, spell};
 use std::alloc::{AllocError, Global};
 use std::test::Fail;
 
@@ -28,6 +28,24 @@ fn numbers_have_one_spelling(rt: HostRuntime) -> Result<(), Fail> {
         assert!(rt; is_spelt(rt.alloc(), text, *number)?, "{text}");
     }
     Ok(())
+}
+
+#[test]
+fn numbers_are_put_over_other_bytes(rt: HostRuntime) {
+    let mut line = [b'.'; 32];
+    let end = spell(&mut line, 2, 4_294_967_296);
+    assert_eq!(rt; end, 12);
+    assert_eq!(rt; &line[..12], b"..4294967296".as_slice());
+}
+
+#[test]
+fn numbers_are_spelt_in_turn(rt: HostRuntime) {
+    let mut numbering = Numbering::new();
+    let mut line = [b'.'; 32];
+    for (text, number) in &NUMBERS {
+        let end = numbering.spell(&mut line, 0, *number);
+        assert_eq!(rt; &line[..end], text.as_bytes());
+    }
 }
 
 const PERMITS: [(&str, i32); 5] = [

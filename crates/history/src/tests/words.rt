@@ -114,6 +114,15 @@ fn each_entry_is_read_and_written(rt: HostRuntime) -> Result<(), Fail> {
     Ok(())
 }
 
+#[test]
+fn words_are_put_over_other_bytes(rt: HostRuntime) {
+    let entry = of((Word::Refused(Fault::NotOwner), Mode::X, 1, 0, End::None));
+    assert!(rt; entry.is_spelt());
+    let mut line = [b'.'; 80];
+    let end = entry.spell_words(&mut line, 2);
+    assert_eq!(rt; &line[..end], b"..refused x 1 NotOwner".as_slice());
+}
+
 const NOT_SPELT: [Fields; 16] = [
     (Word::Got, Mode::X, 1, 1, End::None),
     (Word::Gave, Mode::X, 1, 0, End::Timeout),

@@ -1,4 +1,4 @@
-use Rattle.std.proofs.Common.{◌≡◌, ◌≤◌, ◌-◌, ◌^◌, false}
+use Rattle.std.proofs.Common.{◌≡◌, ◌≤◌, ◌-◌, ◌^◌, false, take, vec_len}
 use Rattle.history.specs.Text.{ended}
 use Rattle.driver.specs.ReplayText.{header_line}
 use Rattle.driver.specs.StepReader.{progress}
@@ -10,7 +10,8 @@ invariant-loop-out g l = record {
   going : g.R.Source.failed l.reader ≡ false;
   same : l.steps.header ≡ l.initial.steps.header;
   header : (g.O.Answering.view_of l.object).header ≡ l.steps.header;
-  telling : Telling (ended (header_line l.steps.header)) (progress l.initial.steps (g.R.Source.left l.initial.reader)) (progress l.steps (g.R.Source.left l.reader)) l.out.items (g.O.Answering.view_of l.object).entries l.entries l.calls;
+  telling : Telling (ended (header_line l.steps.header)) (progress l.initial.steps (g.R.Source.left l.initial.reader)) (progress l.steps (g.R.Source.left l.reader)) (take l.end l.out.items) (g.O.Answering.view_of l.object).entries l.entries l.calls;
+  inside : l.end ≤ vec_len l.out;
   few_entries : l.entries ≤ l.steps.count;
   few_calls : l.calls ≤ l.steps.count;
 }

@@ -16,7 +16,7 @@ loop-entry-preserved c =
     record {
       lines = more_lines xs (ended (header_line c.args.header.now)) c.loop-entry.out.items
           c.put_entry.new.out.items c.push-in-Some.new.self.items c.loop-entry.number c.in-Some.entry
-          (sym c.in-Some.ensures) c.loop-entry.invariant.lines c.in_ok-put_entry.ensures
+          (sym c.in-Some.ensures) c.loop-entry.invariant.lines c.in_ok-put_entry.ensures.ok
           c.in_ok-push-2.ensures.items;
       inside = omega (arith, lt);
     }
@@ -30,4 +30,4 @@ returns c =
     history_form 0 l) all in
     all_lines c.args.header.now c.args.history.now.entries c.loop-entry.out.items c.put_counts.new.out.items
     c.push-2.new.self.items c.len-2.result c.calls.result lines c.len-2.ensures c.calls.ensures
-    c.in_ok-put_counts.ensures c.in_ok-push-3.ensures.items
+    c.in_ok-put_counts.ensures.ok c.in_ok-push-3.ensures.items

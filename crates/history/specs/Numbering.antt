@@ -1,0 +1,6 @@
+-- What one who numbers lines keeps.
+use Rattle.std.specs.Prelude.{ℕ}
+
+-- the number without its last two digits
+pub record Kept : Type 0 where
+  pub hundreds : ℕ
