@@ -1,11 +1,11 @@
 -- The lines of a steps text.
-use Rattle.std.specs.Prelude.{ℕ, ◌<◌, ◌^◌, List, [], ◌∷◌, ◌++◌, codes, decimal}
+use Rattle.std.specs.Prelude.{◌≡◌, ℕ, ◌<◌, ◌^◌, List, [], ◌∷◌, ◌++◌, length, codes, decimal}
 use Rattle.history.specs.declared.header.Header.{Header}
 use Rattle.history.specs.declared.step.Step.{Step}
 use Rattle.history.specs.declared.step.Step.TheVariants.{Acquire, Try, TryFair, EntryInterrupt, Give, Look, Expire, Interrupt, Await, Signal, SignalAll, Drain}
 use Rattle.history.specs.EntryWords.{mode_word}
 use Rattle.history.specs.Spelling.{part_of}
-use Rattle.history.specs.Text.{line_of}
+use Rattle.history.specs.Text.{ended, line_of}
 
 abbrev pub step_words : Step → List (List ℕ)
 step_words (Acquire m n) = codes "acquire" ∷ mode_word m ∷ decimal n ∷ []
@@ -39,6 +39,11 @@ HasAmounts Drain = Unit {0}
 -- a seat and its step, of an object with so many seats
 abbrev pub IsStep : ℕ → ℕ × Step → Type 0
 IsStep seats s = (s.0 < seats) × HasAmounts s.1
+
+-- the words of a step and a break begin the text, and so many bytes follow
+abbrev pub BeginsWith : List ℕ → Step × ℕ → Type 0
+BeginsWith text found =
+    HasAmounts found.0 × ((rest : List ℕ) × (text ≡ ended (line_of (step_words found.0)) ++ rest) × (length rest ≡ found.1))
 
 -- the seat, a space and the step
 abbrev pub step_line : ℕ × Step → List ℕ

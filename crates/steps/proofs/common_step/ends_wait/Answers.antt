@@ -1,0 +1,6 @@
+use Rattle.std.proofs.Common.{◌≡◌, ℕ, List, [], ◌∷◌, decimal, refl, arith, ap, ◌∙◌}
+use Rattle.steps.proofs.StepLemmas.{one_spelt}
+use Rattle.steps.proofs.common_step.ends_wait.Goals as goal
+
+pub returns-in_ok-behind-in-None : goal.returns-in_ok-behind-in-None
+returns-in_ok-behind-in-None c = (omega arith, rw one_spelt (c.in_ok-behind-in-None.field-0.now, c.in_ok-behind-in-None.ensures, refl))
