@@ -28,11 +28,11 @@ seat_first seat (SignalAll c) = refl
 seat_first seat Drain = refl
 
 -- a text that is cut at its first space
-pub first_space : (xs : List ℕ) (i : ℕ) → position (λ b. b == 32) xs ≡ Some i → xs ≡ take i xs ++ 32 ∷ take (length xs - (i + 1)) (drop (i + 1) xs)
+pub first_space : (xs : List ℕ) (i : ℕ) → position (λ b. b == 32) xs ≡ Some i → xs ≡ take i xs ++ 32 ∷ drop (i + 1) xs
 first_space xs i found =
     let at = position-Some (λ b. b == 32) xs i 0 found in
     let tail : drop i xs ≡ 32 ∷ drop (i + 1) xs = rw add-one (drop-cons xs i 0 at.0 ∙ ap (λ (b : ℕ). b ∷ drop (suc i) xs) (eqb-true _ _ at.1)) in
-    rw (take_rest xs (i + 1)) (sym (take-append-drop i xs) ∙ ap (λ (x : List ℕ). take i xs ++ x) tail)
+    sym (take-append-drop i xs) ∙ ap (λ (x : List ℕ). take i xs ++ x) tail
 
 pub behind_seat : (text seat more rest : List ℕ) (s : ℕ × Step) → text ≡ seat ++ 32 ∷ more → seat ≡ decimal s.0 → more ≡ ended (line_of (step_words s.1)) ++ rest → text ≡ ended (step_line s) ++ rest
 behind_seat text seat more rest s parts is words =
