@@ -29,7 +29,7 @@ const MOST_BYTES: usize = 136;
 /// So many bytes are made blank at once.
 const BLANKS: usize = 4096;
 
-/// Puts the line of an answer from a place on, and returns the place behind it.
+/// Puts the line of an answer from a place on, over blank bytes, and returns the place behind it.
 #[inline(always)]
 fn put_answer(
     out: &mut Vec<u8>,
@@ -48,7 +48,8 @@ fn put_answer(
     Ok(spell_answer(out.as_mut_slice(), at, numbering, number, seat, answer))
 }
 
-/// Sees to it that a line has room behind the place: most lines are put over the blanks that an earlier one made.
+/// Makes blank bytes for a line behind a place, where there aren't any: most lines find those that were
+/// made for an earlier one.
 #[inline(always)]
 fn make_blank(out: &mut Vec<u8>, at: usize) -> Result<(), AllocError>
     requires { at ≤ vec_len out.old }

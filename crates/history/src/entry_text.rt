@@ -183,14 +183,7 @@ impl Entry {
 
 /// Puts a name, a mode and an amount from a place on: what is asked for most, X of 1, in one piece.
 #[inline(always)]
-fn put_asked(
-    line: &mut [u8],
-    at: usize,
-    name: &[u8],
-    once: &[u8],
-    mode: Mode,
-    n: u32,
-) -> usize
+fn put_asked(line: &mut [u8], at: usize, name: &[u8], once: &[u8], mode: Mode, n: u32) -> usize
     requires once { once.now ≡ name.now ++ codes " x 1" }
     requires room { at + length name.now + 23 ≤ length line.old }
     ensures end { result ≤ at + length name.now + 23 }

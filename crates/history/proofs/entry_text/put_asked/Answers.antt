@@ -1,4 +1,4 @@
-use Rattle.std.proofs.Common.{rules, ◌≡◌, ◌++◌}
+use Rattle.std.proofs.Common.{rules}
 use Rattle.history.proofs.AskedOnce.{asked_once}
 use Rattle.history.proofs.entry_text.put_asked.Goals as goal
 

@@ -1,4 +1,4 @@
-use Rattle.std.proofs.Common.{◌≡◌, ℕ, ◌+◌, ◌/◌, ◌≤◌, List, [], ◌∷◌, ◌++◌, length, take, append_assoc, sym, ap, ◌∙◌, arith}
+use Rattle.std.proofs.Common.{◌≡◌, ◌/◌, append_assoc, ap, ◌∙◌, arith}
 use Rattle.history.specs.Numbering.{Kept}
 use Rattle.history.proofs.LastDigit.{last_two}
 use Rattle.history.proofs.PieceFronts.{front_of_piece}
