@@ -1,5 +1,5 @@
 -- The steps of a text are answered as their lines are read.
-use Rattle.std.proofs.Common.{◌≡◌, ℕ, ◌+◌, ◌<◌, List, [], ◌∷◌, ◌++◌, All, reverse, Option, None, Some, Result, Ok, Err, IfSome, IfErr, Bool, true, false, refl, subst, sym, ap, ◌∙◌}
+use Rattle.std.proofs.Common.{◌≡◌, ℕ, ◌+◌, ◌<◌, List, [], ◌∷◌, ◌++◌, All, length, reverse, Option, None, Some, Result, Ok, Err, IfSome, IfErr, Bool, true, false, refl, subst, sym, ap, ◌∙◌, arith}
 use Rattle.std.proofs.lemmas.Bool.{false≢true}
 use Rattle.std.specs.Result.{IsErr, IsErrAnd}
 use Rattle.history.specs.declared.entry.Entry.{Entry}
@@ -8,9 +8,12 @@ use Rattle.history.specs.declared.header.Header.{Header}
 use Rattle.history.specs.declared.step.Answer.{Answer}
 use Rattle.history.specs.declared.step.Step.{Step}
 use Rattle.history.specs.Answers.{answer}
+use Rattle.history.specs.Entries.{ended_calls}
 use Rattle.history.specs.EntryWords.{IsSpelt}
+use Rattle.history.specs.Legal.{calls}
 use Rattle.history.specs.Start.{opening}
 use Rattle.history.specs.Text.{ended}
+use Rattle.history.proofs.Lists.{calls-ended}
 use Rattle.history_text.specs.EntryLines.{counts_line}
 use Rattle.history_text.specs.HistoryText.{history_text}
 use Rattle.line_text.specs.Reading.{IsText}
@@ -18,9 +21,8 @@ use Rattle.steps.specs.StepsText.{steps_form}
 use Rattle.driver.specs.declared.form.Form.TheVariants.{Replay, History}
 use Rattle.driver.specs.declared.stream_fault.StreamFault.{StreamFault}
 use Rattle.driver.specs.declared.stream_fault.StreamFault.TheVariants.{ReadFailed}
-use Rattle.driver.specs.Replay.{calls_of}
 use Rattle.driver.specs.ReplayStream.{IsDriven, Replayed}
-use Rattle.driver.specs.ReplayText.{answer_line, entries_of, header_line}
+use Rattle.driver.specs.ReplayText.{answer_line, header_line}
 use Rattle.driver.specs.StepReader.{Progress, WereRead, OfText, IsFaultBehind, IsNext}
 use Rattle.driver.proofs.Behind.{replayed, spelt_behind}
 use Rattle.driver.proofs.Told.{Told, IsBehind, told_none, told_more, told_all, behind_none, behind_more, behind_all}
@@ -36,10 +38,10 @@ pub record Driving (first now : Progress) (h : List Entry) : Type 0 where
   pub behind : IsBehind now.header steps h
 
 -- these steps were read, and this was told of them
-pub record Telling (front : List ℕ) (first now : Progress) (out : List ℕ) (h : List Entry) (number ended_calls : ℕ) : Type 0 where
+pub record Telling (front : List ℕ) (first now : Progress) (out : List ℕ) (h : List Entry) : Type 0 where
   pub steps : List (ℕ × Step)
   pub read : ReadOn first steps now
-  pub told : Told now.header front steps out h number ended_calls
+  pub told : Told now.header front steps out h
 
 -- a fault ends the reading, whatever was read before
 pub fault_behind : (first now new : Progress) (steps : List (ℕ × Step)) (fault : StreamFault) → ReadOn first steps now → IsNext now (Err fault) new → IsFaultBehind first fault
@@ -91,19 +93,20 @@ replayed_driven p h out d o (Some t) were = replayed History t p.header d.steps 
 
 -- ---- the text of the answers
 
-pub telling_none : (front : List ℕ) (p : Progress) (out : List ℕ) (h : List Entry) → out ≡ front → h ≡ [] → Telling front p p out h 0 0
+pub telling_none : (front : List ℕ) (p : Progress) (out : List ℕ) (h : List Entry) → out ≡ front → h ≡ [] → Telling front p p out h
 telling_none front p out h o none = record { steps = []; read = λ text were. were; told = rw (o, none) (told_none p.header front) }
 
-pub telling_on : (front : List ℕ) (first old new : Progress) (out out' : List ℕ) (x : ℕ × Step) (r : Result Answer Fault) (h h' : List Entry) (number ended_calls : ℕ)
-    → IsNext old (Ok (Some x)) new → new.header ≡ old.header → x.0 < old.header.seats → r ≡ (answer (opening new.header) h x.0 x.1).0 → h' ≡ (answer (opening new.header) h x.0 x.1).1 → out' ≡ out ++ ended (answer_line number x.0 r)
-    → Telling front first old out h number ended_calls → Telling front first new out' h' (number + entries_of r) (ended_calls + calls_of r)
-telling_on front first old new out out' x r h h' number ended_calls next same below p q o t =
-    let told = subst (λ (k : Header). Told k front t.steps out h number ended_calls) (sym same) t.told in
+pub telling_on : (front : List ℕ) (first old new : Progress) (out out' : List ℕ) (x : ℕ × Step) (r : Result Answer Fault) (h h' : List Entry)
+    → IsNext old (Ok (Some x)) new → new.header ≡ old.header → x.0 < old.header.seats → r ≡ (answer (opening new.header) h x.0 x.1).0 → h' ≡ (answer (opening new.header) h x.0 x.1).1 → out' ≡ out ++ ended (answer_line (length h) x.0 r)
+    → Telling front first old out h → Telling front first new out' h'
+telling_on front first old new out out' x r h h' next same below p q o t =
+    let told = subst (λ (k : Header). Told k front t.steps out h) (sym same) t.told in
     let seated = subst (λ (k : Header). x.0 < k.seats) (sym same) below in
-    record { steps = t.steps ++ x ∷ []; read = λ text were. next text t.steps (t.read text were); told = told_more new.header front t.steps out h number ended_calls x r out' h' told seated p q o }
+    record { steps = t.steps ++ x ∷ []; read = λ text were. next text t.steps (t.read text were); told = told_more new.header front t.steps out h x r out' h' told seated p q o }
 
-pub telling_all : (first now new : Progress) (out out' : List ℕ) (h : List Entry) (number ended_calls : ℕ) → IsNext now (Ok None) new → out' ≡ (out ++ counts_line number ended_calls) ++ 10 ∷ []
-    → Telling (ended (header_line now.header)) first now out h number ended_calls → OfText first (λ t. Replayed Replay t (λ written. out' ≡ written))
-telling_all first now new out out' h number ended_calls all o t None were = tt
-telling_all first now new out out' h number ended_calls all o t (Some bytes) were =
-    replayed Replay bytes now.header t.steps out' (all (Some bytes) t.steps (t.read (Some bytes) were)) (told_all now.header (ended (header_line now.header)) t.steps out h number ended_calls out' t.told o)
+pub telling_all : (first now new : Progress) (out out' : List ℕ) (h : List Entry) → IsNext now (Ok None) new → out' ≡ (out ++ counts_line (length h) (ended_calls h)) ++ 10 ∷ []
+    → Telling (ended (header_line now.header)) first now out h → OfText first (λ t. Replayed Replay t (λ written. out' ≡ written))
+telling_all first now new out out' h all o t None were = tt
+telling_all first now new out out' h all o t (Some bytes) were =
+    let ends : ended_calls h ≡ calls (opening now.header) h = omega (arith, calls-ended (opening now.header) h) in
+    replayed Replay bytes now.header t.steps out' (all (Some bytes) t.steps (t.read (Some bytes) were)) (told_all now.header (ended (header_line now.header)) t.steps out h out' t.told (o ∙ ap (λ (n : ℕ). (out ++ counts_line (length h) n) ++ 10 ∷ []) ends))

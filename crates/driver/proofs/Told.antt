@@ -15,7 +15,7 @@ use Rattle.history.specs.Start.{Start, opening}
 use Rattle.history.specs.Steps.{entry_for}
 use Rattle.history.specs.Text.{ended}
 use Rattle.history_text.proofs.Spelt.{legal_more, seated_more, spelt}
-use Rattle.driver.specs.Replay.{HasLine, calls_of}
+use Rattle.driver.specs.Replay.{HasLine}
 use Rattle.history_text.specs.EntryLines.{counts_line}
 use Rattle.driver.specs.ReplayText.{answer_line, answer_lines, entries_of, history_behind}
 use Rattle.driver.specs.Answering.{Answered, IsAnswered}
@@ -26,23 +26,22 @@ use Rattle.driver.specs.Answering.{Answered, IsAnswered}
 pub record Follows (header : Header) (h : List Entry) (r : Result Answer Fault) (new : List Entry) : Type 0 where
   pub line : HasLine r
   pub entries : length new ≡ length h + entries_of r
-  pub calls : calls (opening header) new ≡ calls (opening header) h + calls_of r
   pub legal : IsLegal (opening header) new
   pub seated : AreSeated (opening header) h → AreSeated (opening header) new
 
-none_added : (header : Header) (h : List Entry) (r : Result Answer Fault) → HasLine r → entries_of r ≡ 0 → calls_of r ≡ 0 → IsLegal (opening header) h → Follows header h r h
-none_added header h r line e c legal = record { line = line; entries = omega (arith, e); calls = omega (arith, c); legal = legal; seated = λ s. s }
+none_added : (header : Header) (h : List Entry) (r : Result Answer Fault) → HasLine r → entries_of r ≡ 0 → IsLegal (opening header) h → Follows header h r h
+none_added header h r line e legal = record { line = line; entries = omega (arith, e); legal = legal; seated = λ s. s }
 
 recorded_follows : (header : Header) (h : List Entry) (i : ℕ) (step : Step) (e : Entry) (room : Bool) (whom : Option ℕ) → IsLegal (opening header) h → i < header.seats → entry_for (opening header) h i step ≡ Ok (Some e)
     → (r : Result Answer Fault × List Entry) → r ≡ cond room (Ok (Recorded e whom), e ∷ h) (Err HistoryFull, h) → Follows header h r.0 r.1
 recorded_follows header h i step e true whom legal below made r is =
-    rw is (record { line = spelt header h i step e legal made; entries = omega arith; calls = refl; legal = legal_more (opening header) h i step e legal made; seated = λ s. seated_more (opening header) h i step e s below made })
-recorded_follows header h i step e false whom legal below made r is = rw is (none_added header h (Err HistoryFull) tt refl refl legal)
+    rw is (record { line = spelt header h i step e legal made; entries = omega arith; legal = legal_more (opening header) h i step e legal made; seated = λ s. seated_more (opening header) h i step e s below made })
+recorded_follows header h i step e false whom legal below made r is = rw is (none_added header h (Err HistoryFull) tt refl legal)
 
 answer_follows : (header : Header) (h : List Entry) (i : ℕ) (step : Step) (o : Result (Option Entry) Fault) → IsLegal (opening header) h → i < header.seats → entry_for (opening header) h i step ≡ o
     → Follows header h (answer_by (opening header) h o).0 (answer_by (opening header) h o).1
-answer_follows header h i step (Err fault) legal below made = none_added header h (Err fault) tt refl refl legal
-answer_follows header h i step (Ok None) legal below made = none_added header h (Ok Sleep) tt refl refl legal
+answer_follows header h i step (Err fault) legal below made = none_added header h (Err fault) tt refl legal
+answer_follows header h i step (Ok None) legal below made = none_added header h (Ok Sleep) tt refl legal
 answer_follows header h i step (Ok (Some e)) legal below made =
     recorded_follows header h i step e (has_room (opening header) h e) (named (opening header) h e) legal below made (recorded (opening header) h e) refl
 
@@ -110,47 +109,41 @@ behind_all header steps h behind =
 
 -- Behind these steps of a text, whatever follows: what was written, with the lines that are left, is all; and
 -- so is the history.
-pub record Told (header : Header) (front : List ℕ) (steps : List (ℕ × Step)) (out : List ℕ) (h : List Entry) (number ended_calls : ℕ) : Type 0 where
-  pub lines : (left : List (ℕ × Step)) → out ++ lines_left (opening header) h number left ≡ front ++ lines_left (opening header) [] 0 (steps ++ left)
+pub record Told (header : Header) (front : List ℕ) (steps : List (ℕ × Step)) (out : List ℕ) (h : List Entry) : Type 0 where
+  pub lines : (left : List (ℕ × Step)) → out ++ lines_left (opening header) h (length h) left ≡ front ++ lines_left (opening header) [] 0 (steps ++ left)
   pub behind : IsBehind header steps h
-  pub count : number ≡ length h
-  pub calls : ended_calls ≡ calls (opening header) h
 
 -- nothing was told yet
-pub told_none : (header : Header) (front : List ℕ) → Told header front [] front [] 0 0
-told_none header front = record { lines = λ left. refl; behind = behind_none header; count = refl; calls = refl }
+pub told_none : (header : Header) (front : List ℕ) → Told header front [] front []
+told_none header front = record { lines = λ left. refl; behind = behind_none header }
 
-pub told_more : (header : Header) (front : List ℕ) (steps : List (ℕ × Step)) (out : List ℕ) (h : List Entry) (number ended_calls : ℕ) (x : ℕ × Step) (r : Result Answer Fault) (out' : List ℕ) (h' : List Entry)
-    → Told header front steps out h number ended_calls → x.0 < header.seats → r ≡ (answer (opening header) h x.0 x.1).0 → h' ≡ (answer (opening header) h x.0 x.1).1 → out' ≡ out ++ ended (answer_line number x.0 r)
-    → Told header front (steps ++ x ∷ []) out' h' (number + entries_of r) (ended_calls + calls_of r)
-told_more header front steps out h number ended_calls x r out' h' told below p q o =
+pub told_more : (header : Header) (front : List ℕ) (steps : List (ℕ × Step)) (out : List ℕ) (h : List Entry) (x : ℕ × Step) (r : Result Answer Fault) (out' : List ℕ) (h' : List Entry)
+    → Told header front steps out h → x.0 < header.seats → r ≡ (answer (opening header) h x.0 x.1).0 → h' ≡ (answer (opening header) h x.0 x.1).1 → out' ≡ out ++ ended (answer_line (length h) x.0 r)
+    → Told header front (steps ++ x ∷ []) out' h'
+told_more header front steps out h x r out' h' told below p q o =
     let s = opening header in
     let f : Follows header h r h' = rw (p, q) (follows header h x.0 x.1 told.behind.legal below) in
-    let line = ended (answer_line number x.0 r) in
-    let next : (left : List (ℕ × Step)) → out ++ lines_left s h number (x ∷ left) ≡ out' ++ lines_left s h' (number + entries_of r) left =
-    λ left. ap (λ (t : List ℕ). out ++ t) (lines_left-cons s h number x left r h' p q) ∙ sym (append_assoc out line (lines_left s h' (number + entries_of r) left)) ∙ ap (λ (t : List ℕ). t ++ lines_left s h' (number + entries_of r) left) (sym o) in
+    let line = ended (answer_line (length h) x.0 r) in
+    let next : (left : List (ℕ × Step)) → out ++ lines_left s h (length h) (x ∷ left) ≡ out' ++ lines_left s h' (length h') left =
+    λ left. ap (λ (t : List ℕ). out ++ t) (lines_left-cons s h (length h) x left r h' p q ∙ ap (λ (n : ℕ). line ++ lines_left s h' n left) (sym f.entries))
+    ∙ sym (append_assoc out line (lines_left s h' (length h') left)) ∙ ap (λ (t : List ℕ). t ++ lines_left s h' (length h') left) (sym o) in
     record {
       lines = λ left. sym (next left) ∙ told.lines (x ∷ left) ∙ ap (λ (t : List (ℕ × Step)). front ++ lines_left s [] 0 t) (sym (append_assoc steps (x ∷ []) left));
       behind = behind_more header steps h x h' told.behind below q;
-      count = omega (arith, told.count, f.entries);
-      calls = omega (arith, told.calls, f.calls);
     }
 
 -- nothing is left
-pub told_all : (h : Header) (front : List ℕ) (steps : List (ℕ × Step)) (out : List ℕ) (entries : List Entry) (number ended_calls : ℕ) (out' : List ℕ)
-    → Told h front steps out entries number ended_calls → out' ≡ (out ++ counts_line number ended_calls) ++ 10 ∷ []
+pub told_all : (h : Header) (front : List ℕ) (steps : List (ℕ × Step)) (out : List ℕ) (entries : List Entry) (out' : List ℕ)
+    → Told h front steps out entries → out' ≡ (out ++ counts_line (length entries) (calls (opening h) entries)) ++ 10 ∷ []
     → out' ≡ front ++ answer_lines 0 steps (results (opening h) [] steps).0 ++ ended (counts_line (length (history_behind h steps)) (calls (opening h) (history_behind h steps)))
-told_all h front steps out entries number ended_calls out' told o =
+told_all h front steps out entries out' told o =
     let s = opening h in
     let whole : lines_left s [] 0 (steps ++ []) ≡ answer_lines 0 steps (results s [] steps).0 = ap (lines_left s [] 0) (append-nil steps) ∙ lines_left-is s [] 0 steps in
     let written : out ≡ front ++ answer_lines 0 steps (results s [] steps).0 =
-    sym (ap (λ (t : List ℕ). out ++ t) (lines_left-nil s entries number) ∙ append-nil out) ∙ told.lines [] ∙ ap (λ (t : List ℕ). front ++ t) whole in
-    let behind : entries ≡ history_behind h steps = behind_all h steps entries told.behind in
-    let count : number ≡ length (history_behind h steps) = told.count ∙ ap (λ (t : List Entry). length t) behind in
-    let ends : ended_calls ≡ calls s (history_behind h steps) = told.calls ∙ ap (calls s) behind in
-    let last : counts_line number ended_calls ≡ counts_line (length (history_behind h steps)) (calls s (history_behind h steps)) =
-    ap (λ (n : ℕ). counts_line n ended_calls) count ∙ ap (λ (n : ℕ). counts_line (length (history_behind h steps)) n) ends in
-    o ∙ append_assoc out (counts_line number ended_calls) (10 ∷ []) ∙ ap (λ (t : List ℕ). out ++ ended t) last
+    sym (ap (λ (t : List ℕ). out ++ t) (lines_left-nil s entries (length entries)) ∙ append-nil out) ∙ told.lines [] ∙ ap (λ (t : List ℕ). front ++ t) whole in
+    let last : counts_line (length entries) (calls s entries) ≡ counts_line (length (history_behind h steps)) (calls s (history_behind h steps)) =
+    ap (λ (t : List Entry). counts_line (length t) (calls s t)) (behind_all h steps entries told.behind) in
+    o ∙ append_assoc out (counts_line (length entries) (calls s entries)) (10 ∷ []) ∙ ap (λ (t : List ℕ). out ++ ended t) last
     ∙ ap (λ (t : List ℕ). t ++ ended (counts_line (length (history_behind h steps)) (calls s (history_behind h steps)))) written
 
 -- ---- what a core answers

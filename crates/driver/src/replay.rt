@@ -4,9 +4,9 @@ ghost use Rattle.std.specs.Prelude.{◌≡◌, ◌+◌, ◌++◌, ◌≤◌, ◌
 ghost use Rattle.history.specs.Header.{IsInRange};
 ghost use Rattle.history.specs.Text.{ended};
 ghost use Rattle.driver.specs.declared.stream_fault.StreamFault.TheVariants.{Memory};
-ghost use Rattle.driver.specs.Replay.{HasLine, calls_of};
+ghost use Rattle.driver.specs.Replay.{HasLine};
 ghost use Rattle.driver.specs.ReplayStream.{IsDriven, Replayed};
-ghost use Rattle.driver.specs.ReplayText.{answer_line, entries_of, header_line};
+ghost use Rattle.driver.specs.ReplayText.{answer_line, header_line};
 ghost use Rattle.driver.specs.StepReader.{IsFaultBehind, OfText, progress};
 
 use crate::answering::Answering;
@@ -14,7 +14,6 @@ use crate::form::Form;
 use crate::source::Source;
 use crate::step_reader::StepReader;
 use crate::stream_fault::StreamFault;
-use history::entry::Word;
 use history::fault::Fault;
 use history::header::Header;
 use history::number::{Numbering, spell};
@@ -123,33 +122,6 @@ fn lacks_memory(answer: &Result<Answer, Fault>) -> bool
     matches!(answer, Err(Fault::OutOfMemory))
 }
 
-/// How many entries an answer adds.
-#[inline(always)]
-fn entries_in(answer: &Result<Answer, Fault>) -> u64
-    ensures value { result ≡ entries_of answer.now }
-    ensures few { result ≤ 1 }
-{
-    match answer {
-        Ok(Answer::Recorded(_, _)) => 1,
-        Ok(Answer::Sleep) | Err(_) => 0,
-    }
-}
-
-/// How many calls an answer ends.
-#[inline(always)]
-fn calls_in(answer: &Result<Answer, Fault>) -> u64
-    ensures value { result ≡ calls_of answer.now }
-    ensures few { result ≤ 1 }
-{
-    match answer {
-        Ok(Answer::Recorded(entry, _)) => match entry.word {
-            Word::Queued | Word::Await | Word::Lapse => 0,
-            _ => 1,
-        },
-        Ok(Answer::Sleep) | Err(_) => 0,
-    }
-}
-
 /// The first line of a replay.
 fn header_line(alloc: Global, header: &Header) -> Result<Vec<u8>, StreamFault>
     requires { IsInRange header.now }
@@ -186,19 +158,16 @@ pub fn replay<O: Answering, R: Source>(
     let mut out = header_line(alloc, steps.header())?;
     let mut numbering = Numbering::new();
     let mut end = out.len();
-    let mut entries: u64 = 0;
-    let mut calls: u64 = 0;
     while let Some((seat, step)) = steps.next(reader)? {
+        let number = object.history().len();
         let answer = object.answer(seat, step);
         if lacks_memory(&answer) {
             return Err(StreamFault::Memory);
         }
-        end = put_answer(&mut out, end, &mut numbering, entries, seat, &answer)?;
-        entries += entries_in(&answer);
-        calls += calls_in(&answer);
+        end = put_answer(&mut out, end, &mut numbering, number, seat, &answer)?;
     }
     out.truncate(end);
-    put_counts(&mut out, entries, calls)?;
+    put_counts(&mut out, object.history().len(), object.history().calls())?;
     out.push(b'\n')?;
     Ok(out)
 }

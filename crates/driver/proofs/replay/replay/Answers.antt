@@ -32,31 +32,23 @@ loop-out-preserved g c =
     let a = answered old new c.next.new.self.header x.0 x.1 c.answer-answer.result c.answer-answer.ensures (c.loop-out.invariant.header ∙ sym same) (λ e. false≢true (c.if-lacks_memory.ensures.1 e)) in
     let front = ended (header_line c.next.new.self.header) in
     let first = progress c.args.steps.now (g.R.Source.left c.args.reader.now) in
-    let was = subst (λ (k : Header). Telling (ended (header_line k)) first (progress c.loop-out.steps (g.R.Source.left c.loop-out.reader)) (take c.loop-out.end c.loop-out.out.items) old.entries c.loop-out.entries c.loop-out.calls) (sym same) c.loop-out.invariant.telling in
-    let now = telling_on front first _ (progress c.next.new.self (g.R.Source.left c.next.new.reader)) (take c.loop-out.end c.loop-out.out.items) (take c.in_ok-end.end c.put_answer.new.out.items) x c.answer-answer.result old.entries new.entries c.loop-out.entries c.loop-out.calls next same below a.0 a.1 c.in_ok-end.ensures.line was in
+    let was = subst (λ (k : Header). Telling (ended (header_line k)) first (progress c.loop-out.steps (g.R.Source.left c.loop-out.reader)) (take c.loop-out.end c.loop-out.out.items) old.entries) (sym same) c.loop-out.invariant.telling in
+    let now = telling_on front first _ (progress c.next.new.self (g.R.Source.left c.next.new.reader)) (take c.loop-out.end c.loop-out.out.items) (take c.in_ok-end.end c.put_answer.new.out.items) x c.answer-answer.result old.entries new.entries next same below a.0 a.1 (rw (c.len-number.ensures, c.history.ensures) at c.in_ok-end.ensures.line) was in
     record {
       going = goes_on c.in_ok-seat.field-0 (g.R.Source.failed c.next.new.reader) (λ t. c.in_ok-seat.ensures.failing.1 t);
       same = same ∙ c.loop-out.invariant.same;
       header = a.2;
-      telling = rw (c.entries_in-entries.ensures.value, c.calls_in-calls.ensures.value) now;
+      telling = now;
       inside = c.in_ok-end.ensures.inside;
-      few_entries = omega (arith, one, c.entries_in-entries.ensures.few, c.loop-out.invariant.few_entries);
-      few_calls = omega (arith, one, c.calls_in-calls.ensures.few, c.loop-out.invariant.few_calls);
     }
 
 pub loop-out-smaller : goal.loop-out-smaller
 loop-out-smaller g c = omega (arith, rw c.in-Some.is at c.in_ok-seat.ensures.counted, c.in_ok-seat.ensures.few)
 
-pub overflow_add-entries : goal.overflow_add-entries
-overflow_add-entries g c = omega (arith, rw c.in-Some.is at c.in_ok-seat.ensures.counted, c.in_ok-seat.ensures.few, c.entries_in-entries.ensures.few, c.loop-out.invariant.few_entries)
-
-pub overflow_add-calls : goal.overflow_add-calls
-overflow_add-calls g c = omega (arith, rw c.in-Some.is at c.in_ok-seat.ensures.counted, c.in_ok-seat.ensures.few, c.calls_in-calls.ensures.few, c.loop-out.invariant.few_calls)
-
 pub returns-clause-ok : goal.returns-clause-ok
 returns-clause-ok g c =
-    telling_all _ _ (progress c.next.new.self (g.R.Source.left c.next.new.reader)) (take c.loop-out.end c.loop-out.out.items) c.push.new.self.items _ c.loop-out.entries c.loop-out.calls (rw c.in_default.is at c.in_ok-seat.ensures.next)
-    (c.in_ok-push.ensures.items ∙ ap (λ (t : List ℕ). t ++ 10 ∷ []) (c.in_ok-put_counts.ensures.ok ∙ rw c.truncate.ensures.items refl)) c.loop-out.invariant.telling
+    telling_all _ _ (progress c.next.new.self (g.R.Source.left c.next.new.reader)) (take c.loop-out.end c.loop-out.out.items) c.push.new.self.items _ (rw c.in_default.is at c.in_ok-seat.ensures.next)
+    (c.in_ok-push.ensures.items ∙ ap (λ (t : List ℕ). t ++ 10 ∷ []) (rw (c.len.ensures, c.history-2.ensures, c.calls.ensures, c.history-3.ensures, c.truncate.ensures.items) at c.in_ok-put_counts.ensures.ok)) c.loop-out.invariant.telling
 
 pub loop-out-init : goal.loop-out-init
 loop-out-init g c =
@@ -68,6 +60,4 @@ loop-out-init g c =
       header = c.requires.header;
       telling = telling_none (ended (header_line c.args.steps.now.header)) (progress c.args.steps.now (g.R.Source.left c.args.reader.now)) (take c.len-end.result c.in_ok-out.out.items) (g.O.Answering.view_of c.args.object.now).entries (whole ∙ header) c.requires.fresh;
       inside = omega (arith, c.len-end.ensures);
-      few_entries = omega arith;
-      few_calls = omega arith;
     }

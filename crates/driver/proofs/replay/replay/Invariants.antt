@@ -10,10 +10,8 @@ invariant-loop-out g l = record {
   going : g.R.Source.failed l.reader ≡ false;
   same : l.steps.header ≡ l.initial.steps.header;
   header : (g.O.Answering.view_of l.object).header ≡ l.steps.header;
-  telling : Telling (ended (header_line l.steps.header)) (progress l.initial.steps (g.R.Source.left l.initial.reader)) (progress l.steps (g.R.Source.left l.reader)) (take l.end l.out.items) (g.O.Answering.view_of l.object).entries l.entries l.calls;
+  telling : Telling (ended (header_line l.steps.header)) (progress l.initial.steps (g.R.Source.left l.initial.reader)) (progress l.steps (g.R.Source.left l.reader)) (take l.end l.out.items) (g.O.Answering.view_of l.object).entries;
   inside : l.end ≤ vec_len l.out;
-  few_entries : l.entries ≤ l.steps.count;
-  few_calls : l.calls ≤ l.steps.count;
 }
 
 abbrev pub decreases-loop-out : goal.decreases-loop-out
