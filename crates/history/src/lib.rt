@@ -15,7 +15,5 @@ pub mod header_text;
 pub mod laws;
 pub mod number;
 pub mod step;
-#[cfg(test)]
-mod tests;
 pub mod text;
 pub mod words;

@@ -2,12 +2,13 @@
 
 ghost use Rattle.history.specs.Header.{IsInRange};
 
-use crate::fitting::fits;
-use crate::history_text::{read_text, write_text};
+use crate::memory::all_memory;
 use history::entries::History;
 use history::entry::{End, Entry, Mode, Word};
 use history::fault::Fault;
 use history::header::{Header, Object, Policy};
+use history_text::fitting::fits;
+use history_text::history_text::{read_text, write_text};
 use line_text::fault::TextFault;
 use std::alloc::Global;
 use std::test::Fail;
@@ -85,26 +86,10 @@ fn a_seat_beyond_the_header_does_not_fit(rt: HostRuntime) -> Result<(), Fail> {
     Ok(())
 }
 
-/// Takes what the heap gives, down to blocks of 64 bytes.
-fn all_memory(alloc: Global) -> Result<Vec<Vec<u8>>, Fail> {
-    let mut taken = Vec::with_capacity(alloc, 65_536)?;
-    let mut size: usize = 1 << 46;
-    for _ in 0..65_536 {
-        match Vec::with_capacity(alloc, size) {
-            Ok(block) => taken.push(block)?,
-            Err(_) => size /= 2,
-        }
-        if size < 64 {
-            break;
-        }
-    }
-    Ok(taken)
-}
-
 #[test]
 fn a_call_without_memory_says_so(rt: HostRuntime) -> Result<(), Fail> {
     let (header, history) = read_text(rt.alloc(), TEXT)?;
-    let taken = all_memory(rt.alloc())?;
+    let taken = all_memory(rt.alloc(), 64)?;
     let read = read_text(rt.alloc(), TEXT).err();
     let wrote = written(rt.alloc(), &header, &history).err();
     drop(taken);

@@ -1,9 +1,9 @@
 //! Words of entries, lines and faults.
 
-use crate::entry::{End, Entry, Mode, Word};
-use crate::fault::Fault;
-use crate::text::{behind, first_line, place_of};
-use crate::words::Words;
+use history::entry::{End, Entry, Mode, Word};
+use history::fault::Fault;
+use history::text::{behind, first_line, place_of};
+use history::words::Words;
 use std::alloc::AllocError;
 use std::test::Fail;
 
@@ -215,20 +215,19 @@ fn other_words_are_refused(rt: HostRuntime) {
 }
 
 /// What the words of a line are taken as, from left to right.
-fn taken(words: &mut Words<'_>) -> Option<(u64, Mode, u64, i32, u16)> {
+fn taken(words: &mut Words<'_>) -> Option<(u64, Mode, u64, u16)> {
     let number = words.number(0, 12)?;
-    words.policy()?;
     let mode = words.mode()?;
-    let seats = words.named(b"seats", 1, 256)?;
-    let permits = words.permits()?;
+    words.expect(b"seats")?;
+    let seats = words.number(1, 256)?;
     let entry = words.entry(2)?;
-    Some((number, mode, seats, permits, entry.seat))
+    Some((number, mode, seats, entry.seat))
 }
 
 #[test]
 fn words_are_taken_from_left_to_right(rt: HostRuntime) {
-    let mut words = Words::of(b"12 fair s seats 5 -6 got x 1  end");
-    assert_eq!(rt; taken(&mut words), Some((12, Mode::S, 5, -6, 2)));
+    let mut words = Words::of(b"12 s seats 5 got x 1  end");
+    assert_eq!(rt; taken(&mut words), Some((12, Mode::S, 5, 2)));
     assert_eq!(rt; words.next(), Some(b"".as_slice()));
     assert_eq!(rt; words.expect(b"end"), Some(()));
     assert_eq!(rt; (words.next(), words.next()), (None, None));

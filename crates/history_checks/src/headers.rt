@@ -1,7 +1,7 @@
 //! Object parts.
 
-use crate::header::Policy::{Fair, NonFair};
-use crate::header::{Header, Object};
+use history::header::Policy::{Fair, NonFair};
+use history::header::{Header, Object};
 use std::test::Fail;
 
 fn of(object: Object, seats: u16, conditions: u8, cap: u32) -> Header {

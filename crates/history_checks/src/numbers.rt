@@ -1,6 +1,7 @@
-//! Numbers.
+//! Numbers, and permits, which a semaphore's header has.
 
-use crate::number::{number_of, permits_of, put_number, put_permits};
+use history::header::{Header, Object, Policy};
+use history::number::{number_of, put_number, put_permits};
 use std::alloc::{AllocError, Global};
 use std::test::Fail;
 
@@ -38,12 +39,26 @@ const PERMITS: [(&str, i32); 5] = [
     ("-2147483648", -2_147_483_648),
 ];
 
+/// The permits of a semaphore whose header has this text in their place.
+fn permits_of(alloc: Global, text: &str) -> Result<Option<i32>, AllocError> {
+    let part = format!(in alloc; "semaphore fair seats 1 permits {text} cap 16")?;
+    match Header::read_part(part.as_bytes()) {
+        Some(
+            Header {
+                object: Object::Semaphore(Policy::Fair, permits),
+                ..
+            },
+        ) => Ok(Some(permits)),
+        _ => Ok(None),
+    }
+}
+
 /// Whether permits are read from this text, and written so behind other bytes.
 fn are_spelt(alloc: Global, text: &str, permits: i32) -> Result<bool, AllocError> {
     let mut out = Vec::from_slice(alloc, b"permits ")?;
     put_permits(&mut out, permits)?;
     let is_written = out.strip_prefix(b"permits ") == Some(text.as_bytes());
-    Ok(is_written && permits_of(text.as_bytes()) == Some(permits))
+    Ok(is_written && permits_of(alloc, text)? == Some(permits))
 }
 
 #[test]
@@ -91,10 +106,16 @@ const NO_PERMITS: [&str; 9] = [
 fn nothing_else_is_a_number(rt: HostRuntime) {
     for text in &NO_NUMBERS {
         assert_eq!(rt; number_of(text.as_bytes()), None, "{text}");
-        assert_eq!(rt; permits_of(text.as_bytes()), None, "{text}");
-    }
-    for text in &NO_PERMITS {
-        assert_eq!(rt; permits_of(text.as_bytes()), None, "{text}");
     }
     assert_eq!(rt; number_of(b"-1"), None);
+}
+
+#[test]
+fn nothing_else_is_a_number_of_permits(rt: HostRuntime) -> Result<(), Fail> {
+    for texts in [NO_NUMBERS.as_slice(), &NO_PERMITS] {
+        for text in texts {
+            assert_eq!(rt; permits_of(rt.alloc(), text)?, None, "{text}");
+        }
+    }
+    Ok(())
 }

@@ -1,8 +1,8 @@
 //! The list of entries.
 
-use crate::entries::History;
-use crate::entry::{End, Entry, Mode, Word};
-use crate::fault::Fault;
+use history::entries::History;
+use history::entry::{End, Entry, Mode, Word};
+use history::fault::Fault;
 use std::test::Fail;
 
 fn of(seat: u16, word: Word) -> Entry {
