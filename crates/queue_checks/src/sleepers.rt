@@ -1,13 +1,29 @@
-//! Tests of the waiters: that their calls succeed, and a long run beside plain lists.
+//! Those who sleep on conditions: that their calls succeed, and a long run beside plain lists.
 
 ghost use Rattle.std.specs.Prelude.{◌≡◌, ◌<◌};
 
-use super::*;
+use acquire_queue::queue::Queue;
+use condition_queue::sleeper::Sleeper;
+use condition_queue::waiters::Waiters;
+use history::arrival::Arrival;
+use history::entry::Mode;
+use history::fault::Fault;
+use std::alloc::{AllocError, Global};
 use std::test::Fail;
 
 const SEATS: u16 = 8;
 
 const CONDITIONS: u8 = 3;
+
+/// What joins the line for a seat that was signalled.
+fn on_its_way_back(seat: u16) -> Arrival {
+    Arrival {
+        seat,
+        mode: Mode::X,
+        n: 1,
+        back: true,
+    }
+}
 
 fn sleeper(condition: u8, holds: u32) -> Option<Sleeper> {
     Some(Sleeper { condition, holds })

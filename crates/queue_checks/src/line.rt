@@ -1,9 +1,11 @@
-//! Tests of a queue: that its calls succeed, and a long run beside a plain list.
+//! The line: that its calls succeed, and a long run beside a plain list.
 
 ghost use Rattle.std.specs.Prelude.{◌≡◌};
 
-use super::*;
+use acquire_queue::queue::Queue;
+use history::arrival::Arrival;
 use history::entry::Mode;
+use history::fault::Fault;
 use std::alloc::AllocError;
 use std::test::Fail;
 
