@@ -2,16 +2,16 @@
 
 ghost use Rattle.std.specs.Prelude.{◌<◌};
 
-use super::memory::all_memory;
-use super::situations;
-use super::spoiled::SPOILED;
-use crate::audit_stream::audit_stream;
-use crate::memory_sink::MemorySink;
-use crate::memory_source::MemorySource;
-use crate::sink::Sink;
-use crate::source::Source;
-use crate::stream_fault::StreamFault;
+use crate::memory::all_memory;
+use crate::spoiled::SPOILED;
+use crate::streams::{fail_as_told, situations};
 use audit::verdict::Verdict;
+use driver::audit_stream::audit_stream;
+use driver::memory_sink::MemorySink;
+use driver::memory_source::MemorySource;
+use driver::sink::Sink;
+use driver::source::Source;
+use driver::stream_fault::StreamFault;
 use history::fault::Fault;
 use history_text::{read_text, write_text};
 use std::alloc::Global;
@@ -179,14 +179,7 @@ fn audited<R: Abort + AllocGlobal>(
     let mut source = MemorySource::new(bytes, piece, fails_at.0);
     let mut sink = MemorySink::with_places(rt.alloc(), places, piece, fails_at.1)?;
     let verdict = audit_stream(rt.alloc(), &mut source, &mut sink);
-    assert_eq!(rt;
-        source.has_failed(),
-        matches!(verdict, Err(StreamFault::ReadFailed))
-    );
-    assert_eq!(rt;
-        sink.has_failed(),
-        matches!(verdict, Err(StreamFault::WriteFailed))
-    );
+    fail_as_told(rt, &verdict, &source, &sink);
     Ok((verdict, sink))
 }
 

@@ -1,9 +1,9 @@
 //! Each cut and each changed byte of the worked examples' texts, one byte at a time.
 
-use super::plain::plainly_read;
-use super::{AMPLE, situations, streamed};
-use crate::form::Form;
-use crate::stream_fault::StreamFault;
+use crate::plain::plainly_read;
+use crate::streams::{AMPLE, situations, streamed};
+use driver::form::Form;
+use driver::stream_fault::StreamFault;
 use std::alloc::{AllocError, Global};
 use std::process::Abort;
 use std::test::Fail;
@@ -101,6 +101,19 @@ fn is_answered_so<R: Abort + AllocGlobal>(
     Ok(())
 }
 
+/// A text is refused for its first fault, and nothing is written.
+fn is_refused_so<R: Abort>(
+    rt: &R,
+    answer: Result<(), StreamFault>,
+    written: &[u8],
+    fault: TextFault,
+    name: &str,
+) -> Result<(), Fail> {
+    assert!(rt; answer == Err(StreamFault::Text(fault)), "{name}");
+    assert!(rt; written.is_empty(), "{name}");
+    Ok(())
+}
+
 /// A text is answered as the plain reader says.
 fn is_answered_as_read<R: Abort + AllocGlobal>(
     rt: &R,
@@ -109,11 +122,7 @@ fn is_answered_as_read<R: Abort + AllocGlobal>(
 ) -> Result<(), Fail> {
     let (answer, sink) = streamed(rt, text, Form::Replay, 1, (None, None), AMPLE)?;
     match plainly_read(rt.alloc(), text) {
-        Err(fault) => {
-            assert!(rt; answer == Err(StreamFault::Text(fault)), "{name}");
-            assert!(rt; sink.bytes().is_empty(), "{name}");
-            Ok(())
-        }
+        Err(fault) => is_refused_so(rt, answer, sink.bytes(), fault, name),
         Ok(plain) => {
             assert!(rt; answer.is_ok(), "{name}");
             is_answered_so(rt, text, &plain, sink.bytes(), name)

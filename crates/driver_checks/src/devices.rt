@@ -1,12 +1,12 @@
 //! The readers and writers of std.
 
-use super::{ANSWER, TEXT};
-use crate::device::Device;
-use crate::form::Form;
-use crate::replay_stream::replay_stream;
-use crate::sink::Sink;
-use crate::source::Source;
-use crate::stream_fault::StreamFault;
+use crate::streams::{ANSWER, TEXT};
+use driver::device::Device;
+use driver::form::Form;
+use driver::replay_stream::replay_stream;
+use driver::sink::Sink;
+use driver::source::Source;
+use driver::stream_fault::StreamFault;
 use std::io;
 use std::test::Fail;
 

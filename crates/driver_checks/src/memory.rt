@@ -8,12 +8,12 @@ ghost use Rattle.history.specs.Header.{IsInRange};
 ghost use Rattle.history.specs.declared.header.Object.TheVariants.{Lock};
 ghost use Rattle.history.specs.declared.header.Policy.TheVariants.{Fair};
 
-use crate::answering::Answering;
-use crate::device::Device;
-use crate::form::Form;
-use crate::replay::{drive, replay};
-use crate::replay_stream::replay_stream;
-use crate::stream_fault::StreamFault;
+use driver::answering::Answering;
+use driver::device::Device;
+use driver::form::Form;
+use driver::replay::{drive, replay};
+use driver::replay_stream::replay_stream;
+use driver::stream_fault::StreamFault;
 use frame::machine::Core;
 use history::entries::History;
 use history::fault::Fault;

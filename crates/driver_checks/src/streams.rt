@@ -1,37 +1,30 @@
 //! Texts from end to end, over devices in memory.
 
-mod audits;
-mod changes;
-mod devices;
-mod memory;
-mod plain;
-mod spoiled;
-
 ghost use Rattle.std.specs.Prelude.{◌<◌};
 
-use crate::form::Form;
-use crate::memory_sink::MemorySink;
-use crate::memory_source::MemorySource;
-use crate::replay_stream::replay_stream;
-use crate::sink::Sink;
-use crate::source::Source;
-use crate::stream_fault::StreamFault;
+use driver::form::Form;
+use driver::memory_sink::MemorySink;
+use driver::memory_source::MemorySource;
+use driver::replay_stream::replay_stream;
+use driver::sink::Sink;
+use driver::source::Source;
+use driver::stream_fault::StreamFault;
 use examples::{EXAMPLES, Example};
 use std::process::Abort;
 use std::test::Fail;
 use steps::TextFault;
 
 /// More places than any answer here takes.
-const AMPLE: usize = 16384;
+pub const AMPLE: usize = 16384;
 
-const TEXT: &[u8] = b"aqs-steps 1 lock fair seats 2 conditions 1 cap 64\n\
+pub const TEXT: &[u8] = b"aqs-steps 1 lock fair seats 2 conditions 1 cap 64\n\
 0 acquire x 1\n\
 1 try x 1\n\
 0 await 0\n\
 0 look\n\
 end 4\n";
 
-const ANSWER: &[u8] = b"aqs-replay 1 lock fair seats 2 conditions 1 cap 64\n\
+pub const ANSWER: &[u8] = b"aqs-replay 1 lock fair seats 2 conditions 1 cap 64\n\
 0 0 got x 1\n\
 1 1 missed x 1\n\
 2 0 await 0 1\n\
@@ -47,8 +40,25 @@ end 3 2\n";
 /// What is written for `TEXT`.
 const FORMS: [(Form, &[u8]); 2] = [(Form::Replay, ANSWER), (Form::History, HISTORY)];
 
+/// Each device has failed exactly where the answer says so.
+pub fn fail_as_told<R: Abort, T>(
+    rt: &R,
+    answer: &Result<T, StreamFault>,
+    source: &MemorySource,
+    sink: &MemorySink,
+) {
+    assert_eq!(rt;
+        source.has_failed(),
+        matches!(answer, Err(StreamFault::ReadFailed))
+    );
+    assert_eq!(rt;
+        sink.has_failed(),
+        matches!(answer, Err(StreamFault::WriteFailed))
+    );
+}
+
 /// The answer to a text that comes and goes in pieces, and the sink afterwards.
-fn streamed<R: Abort + AllocGlobal>(
+pub fn streamed<R: Abort + AllocGlobal>(
     rt: &R,
     text: &[u8],
     form: Form,
@@ -62,19 +72,12 @@ fn streamed<R: Abort + AllocGlobal>(
     let mut source = MemorySource::new(bytes, piece, fails_at.0);
     let mut sink = MemorySink::with_places(rt.alloc(), places, piece, fails_at.1)?;
     let answer = replay_stream(rt.alloc(), &mut source, &mut sink, form);
-    assert_eq!(rt;
-        source.has_failed(),
-        matches!(answer, Err(StreamFault::ReadFailed))
-    );
-    assert_eq!(rt;
-        sink.has_failed(),
-        matches!(answer, Err(StreamFault::WriteFailed))
-    );
+    fail_as_told(rt, &answer, &source, &sink);
     Ok((answer, sink))
 }
 
 /// The known situations. Proofs of other functions don't look into them.
-fn situations() -> &'static [Example] {
+pub fn situations() -> &'static [Example] {
     &EXAMPLES
 }
 

@@ -6,7 +6,7 @@ use Rattle.history.specs.declared.header.Header.{Header}
 use Rattle.history.specs.EntryWords.{IsSpelt}
 use Rattle.history_text.specs.HistoryText.{history_form}
 use Rattle.line_text.specs.Form.{AreItems}
-use Rattle.driver.proofs.tests.audits.written_again.Goals as goal
+use Rattle.driver_checks.proofs.audits.written_again.Goals as goal
 
 items_spelt : (h : Header) (k : ℕ) (xs : List Entry) → AreItems history_form h k xs → AllByRecursion IsSpelt xs
 items_spelt h k [] p = tt
