@@ -3,6 +3,7 @@
 use history::entries::History;
 use history::entry::{End, Entry, Mode, Word};
 use history::fault::Fault;
+use std::process::Abort;
 use std::test::Fail;
 
 fn of(seat: u16, word: Word) -> Entry {
@@ -26,11 +27,8 @@ fn told(history: &History) -> (u64, u64, u64, u64) {
     )
 }
 
-#[test]
-fn entries_are_kept_in_their_order(rt: HostRuntime) -> Result<(), Fail> {
-    let mut history = History::open(rt.alloc(), 16);
-    assert!(rt; history.is_empty());
-    assert_eq!(rt; (history.cap(), told(&history)), (16, (0, 0, 0, 0)));
+/// Adds three entries, of which the second was owed.
+fn add_three<R: Abort>(rt: &R, history: &mut History) -> Result<(), Fail> {
     history.make_room(3)?;
     assert!(rt; 3 <= history.places());
     history.add(of(0, Word::Got), 1);
@@ -38,6 +36,21 @@ fn entries_are_kept_in_their_order(rt: HostRuntime) -> Result<(), Fail> {
     history.add(of(1, Word::Queued), 0);
     history.make_room(1)?;
     history.add(of(0, Word::Gave), 0);
+    Ok(())
+}
+
+#[test]
+fn entries_are_kept_in_their_order(rt: HostRuntime) -> Result<(), Fail> {
+    let mut history = History::open(rt.alloc(), 16);
+    assert!(rt; history.is_empty());
+    assert_eq!(rt; (history.cap(), told(&history)), (16, (0, 0, 0, 0)));
+    add_three(&rt, &mut history)?;
+    has_three(&rt, &history);
+    Ok(())
+}
+
+/// Those three, and no others.
+fn has_three<R: Abort>(rt: &R, history: &History) {
     assert_eq!(rt;
         (history.is_empty(), history.len(), history.calls()),
         (false, 3, 2)
@@ -47,7 +60,6 @@ fn entries_are_kept_in_their_order(rt: HostRuntime) -> Result<(), Fail> {
         assert_eq!(rt; history.get(number as u64), Some(*entry));
     }
     assert!(rt; history.get(3).is_none() && history.get(18_446_744_073_709_551_615).is_none());
-    Ok(())
 }
 
 /// Each word, and how many calls an entry of it ends.
@@ -80,9 +92,8 @@ fn each_word_ends_a_call_but_three(rt: HostRuntime) -> Result<(), Fail> {
     Ok(())
 }
 
-#[test]
-fn room_ends_at_the_cap(rt: HostRuntime) -> Result<(), Fail> {
-    let mut history = History::open(rt.alloc(), 16);
+/// Asks an empty list with a cap of 16 for more than its room, and for all.
+fn reserve_all<R: Abort>(rt: &R, history: &mut History) -> Result<(), Fail> {
     assert_eq!(rt; history.make_room(17), Err(Fault::HistoryFull));
     assert_eq!(rt;
         history.make_room(18_446_744_073_709_551_615),
@@ -94,6 +105,11 @@ fn room_ends_at_the_cap(rt: HostRuntime) -> Result<(), Fail> {
     history.make_room(16)?;
     assert_eq!(rt; history.places(), 16);
     history.add(of(0, Word::Got), 14);
+    Ok(())
+}
+
+/// Asks for the place that is left where 14 are owed, and for more.
+fn fill<R: Abort>(rt: &R, history: &mut History) -> Result<(), Fail> {
     assert_eq!(rt; history.make_room(2), Err(Fault::HistoryFull));
     assert_eq!(rt;
         (history.len(), history.owed(), history.places()),
@@ -105,6 +121,13 @@ fn room_ends_at_the_cap(rt: HostRuntime) -> Result<(), Fail> {
     assert_eq!(rt; history.make_room(1), Err(Fault::HistoryFull));
     history.make_room(0)?;
     Ok(())
+}
+
+#[test]
+fn room_ends_at_the_cap(rt: HostRuntime) -> Result<(), Fail> {
+    let mut history = History::open(rt.alloc(), 16);
+    reserve_all(&rt, &mut history)?;
+    fill(&rt, &mut history)
 }
 
 /// The places double: 100,000 entries that ask for room one by one move a few times, not each time.

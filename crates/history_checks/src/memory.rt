@@ -3,11 +3,14 @@
 //! Nothing stands between these calls and the heap, so a test takes all addresses first: each further growth
 //! is then refused for true. Untouched memory costs next to nothing.
 
+ghost use Rattle.std.specs.Prelude.{◌≡◌};
+
 use history::entries::History;
 use history::entry::{End, Entry, Mode, Word};
 use history::fault::Fault;
 use history::header::{Header, Object, Policy};
 use std::alloc::Global;
+use std::process::Abort;
 use std::test::Fail;
 
 const SMALL: usize = 65_536;
@@ -67,6 +70,24 @@ fn writers_leave_the_bytes_as_they_were(rt: HostRuntime) -> Result<(), Fail> {
     Ok(())
 }
 
+/// Growth is refused, and the list of one entry is as it was. What is reserved still stands.
+fn refuse_growth<R: Abort>(rt: &R, history: &mut History, entry: Entry) -> Result<(), Fail>
+    requires { history.old.owed ≡ 1 }
+{
+    let places = history.places();
+    assert_eq!(rt; history.make_room(100_000), Err(Fault::OutOfMemory));
+    assert_eq!(rt; history.make_room(1_000_000), Err(Fault::HistoryFull));
+    assert_eq!(rt;
+        (history.len(), history.owed(), history.places()),
+        (1, 1, places)
+    );
+    assert_eq!(rt; history.get(0), Some(entry));
+    history.make_room(0)?;
+    history.add(entry, 0);
+    assert_eq!(rt; history.len(), 2);
+    Ok(())
+}
+
 #[test]
 fn a_refused_growth_leaves_the_list_as_it_was(rt: HostRuntime) -> Result<(), Fail> {
     let entry = Entry {
@@ -79,20 +100,9 @@ fn a_refused_growth_leaves_the_list_as_it_was(rt: HostRuntime) -> Result<(), Fai
     };
     let mut history = History::open(rt.alloc(), 1_000_000);
     history.make_room(2)?;
-    let places = history.places();
     history.add(entry, 1);
     let taken = all_memory(rt.alloc(), SMALL)?;
-    assert_eq!(rt; history.make_room(100_000), Err(Fault::OutOfMemory));
-    assert_eq!(rt; history.make_room(1_000_000), Err(Fault::HistoryFull));
-    assert_eq!(rt;
-        (history.len(), history.owed(), history.places()),
-        (1, 1, places)
-    );
-    assert_eq!(rt; history.get(0), Some(entry));
-    // What is reserved still stands.
-    history.make_room(0)?;
-    history.add(entry, 0);
-    assert_eq!(rt; history.len(), 2);
+    refuse_growth(&rt, &mut history, entry)?;
     drop(taken);
     history.make_room(100_000)?;
     Ok(())
