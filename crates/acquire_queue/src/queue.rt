@@ -194,6 +194,3 @@ fn place_in(line: &VecDeque<Arrival>, seat: u16) -> Option<usize>
 {
     line.iter().position(|a| a.seat == seat)
 }
-
-#[cfg(test)]
-mod tests;

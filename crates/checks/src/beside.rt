@@ -70,20 +70,30 @@ impl Seen {
 /// Steps of a list: more than a small history has room for.
 const STEPS: u32 = 100;
 
+/// Steps by chance.
 fn play<R: Abort + AllocGlobal>(
+    rt: &R,
+    core: &mut AnyCore,
+    mut chance: Chance,
+    seen: &mut Seen,
+) -> Result<(), Fail> {
+    for _ in 0..STEPS {
+        let (seat, asked) = chance.step(core);
+        let answer = step_beside(rt, core, seat, asked);
+        seen.note(&answer)?;
+    }
+    compare_totals(rt, core)
+}
+
+/// Steps by chance of a fresh core.
+fn play_list<R: Abort + AllocGlobal>(
     rt: &R,
     header: &Header,
     seed: u64,
     seen: &mut Seen,
 ) -> Result<(), Fail> {
-    let mut chance = Chance::from_seed(seed);
     let mut core = AnyCore::open(rt.alloc(), header)?;
-    for _ in 0..STEPS {
-        let (seat, asked) = chance.step(&core);
-        let answer = step_beside(rt, &mut core, seat, asked);
-        seen.note(&answer)?;
-    }
-    compare_totals(rt, &core)
+    play(rt, &mut core, Chance::from_seed(seed), seen)
 }
 
 /// Lists of an object: each number of seats with each of conditions and each cap, eight times.
@@ -114,7 +124,7 @@ fn play_lists<R: Abort + AllocGlobal>(rt: &R, object: Object) -> Result<Seen, Fa
         named: false,
     };
     for number in 0..LISTS {
-        play(rt, &header_of(object, number), u64::from(number), &mut seen)?;
+        play_list(rt, &header_of(object, number), u64::from(number), &mut seen)?;
     }
     Ok(seen)
 }
@@ -200,14 +210,23 @@ fn latches_answer_like_the_plain_program(rt: HostRuntime) -> Result<(), Fail> {
     Ok(())
 }
 
+/// Each of these steps in turn.
+fn play_steps<R: Abort + AllocGlobal>(
+    rt: &R,
+    core: &mut AnyCore,
+    steps: &[(u16, Step)],
+) -> Result<(), Fail> {
+    for step in steps {
+        let _answer = step_beside(rt, core, step.0, step.1);
+    }
+    compare_totals(rt, core)
+}
+
 /// The steps of a known situation.
 fn play_example<R: Abort + AllocGlobal>(rt: &R, example: &Example) -> Result<(), Fail> {
     let said = steps_of(rt.alloc(), example.steps)?;
     let mut core = AnyCore::open(rt.alloc(), &said.header)?;
-    for step in &said.steps {
-        let _answer = step_beside(rt, &mut core, step.0, step.1);
-    }
-    compare_totals(rt, &core)
+    play_steps(rt, &mut core, &said.steps)
 }
 
 #[test]

@@ -32,8 +32,7 @@ const READ: Step = Step::Acquire(Mode::S, 1);
 
 const MANY: Word = Word::Refused(Fault::TooManyHolds);
 
-/// All its holds are given up for an await, and are there again when it comes back.
-fn take_and_await<R: Abort>(rt: &R, core: &mut AnyCore) {
+fn take_to_the_limit<R: Abort>(rt: &R, core: &mut AnyCore) {
     repeat(rt, core, 0, TAKE, 65_536, Word::Got);
     let told = core.told();
     assert_eq!(rt;
@@ -41,6 +40,9 @@ fn take_and_await<R: Abort>(rt: &R, core: &mut AnyCore) {
         (65_536, 65_536, 65_536)
     );
     assert_eq!(rt; told.exclusive, [65_536, 0, 0, 0]);
+}
+
+fn await_with_all_holds<R: Abort>(rt: &R, core: &mut AnyCore) {
     let slept = core.step(0, Step::Await(0));
     assert_eq!(rt; recorded(&slept), Some((Word::Await, 65_536)));
     let told = core.told();
@@ -63,8 +65,10 @@ fn come_back_and_give<R: Abort>(rt: &R, core: &mut AnyCore) {
     repeat(rt, core, 0, GIVE, 1, Word::Refused(Fault::NotOwner));
 }
 
+/// All its holds are given up for an await, and are there again when it comes back.
 fn take_and_give<R: Abort>(rt: &R, core: &mut AnyCore) {
-    take_and_await(rt, core);
+    take_to_the_limit(rt, core);
+    await_with_all_holds(rt, core);
     come_back_and_give(rt, core);
 }
 

@@ -199,6 +199,21 @@ fn follow<R: Abort>(
     recorded
 }
 
+/// What a core made where there was no memory is what another makes that lacks none.
+fn follow_log<R: Abort + AllocGlobal>(
+    rt: &R,
+    pair: &mut Pair,
+    log: &Log,
+    answers: &[Result<Answer, Fault>],
+) -> Result<u32, Fail> {
+    assert!(rt; answers.first().is_some_and(lacks_memory));
+    follow(rt, &mut pair.rich, &log.steps, &log.answers);
+    let recorded = follow(rt, &mut pair.rich, &log.again, answers);
+    assert_eq!(rt; pair.scarce.told(), pair.rich.told());
+    assert!(rt; pair.run(rt.alloc(), &log.again)?);
+    Ok(recorded)
+}
+
 /// A run whose first step is refused goes on with the others; how many it records.
 fn run_past_refusals<R: Abort + AllocGlobal>(
     rt: &R,
@@ -207,12 +222,7 @@ fn run_past_refusals<R: Abort + AllocGlobal>(
 ) -> Result<u32, Fail> {
     let mut log = Log::open(rt.alloc())?;
     let answers = play_starved(rt, &mut pair.scarce, steps, &mut log)?;
-    assert!(rt; answers.first().is_some_and(lacks_memory));
-    follow(rt, &mut pair.rich, &log.steps, &log.answers);
-    let recorded = follow(rt, &mut pair.rich, &log.again, &answers);
-    assert_eq!(rt; pair.scarce.told(), pair.rich.told());
-    assert!(rt; pair.run(rt.alloc(), &log.again)?);
-    Ok(recorded)
+    follow_log(rt, pair, &log, &answers)
 }
 
 /// The same behind a history of many places.

@@ -42,14 +42,23 @@ fn play(core: &mut AnyCore, steps: &[(u16, Step)], played: &mut Vec<Played>) -> 
     Ok(())
 }
 
-/// The steps of a situation, over and over.
-fn play_rounds(alloc: Global, said: &StepsText) -> Result<Vec<Played>, Fail> {
-    let mut core = AnyCore::open(alloc, &said.header)?;
+/// The steps, over and over.
+fn play_rounds(
+    alloc: Global,
+    core: &mut AnyCore,
+    steps: &[(u16, Step)],
+) -> Result<Vec<Played>, Fail> {
     let mut played = Vec::new(alloc);
     for _ in 0..ROUNDS {
-        play(&mut core, &said.steps, &mut played)?;
+        play(core, steps, &mut played)?;
     }
     Ok(played)
+}
+
+/// The steps of a situation, over and over.
+fn play_situation(alloc: Global, said: &StepsText) -> Result<Vec<Played>, Fail> {
+    let mut core = AnyCore::open(alloc, &said.header)?;
+    play_rounds(alloc, &mut core, &said.steps)
 }
 
 /// Whether room and memory for an entry were reserved before it came.
@@ -101,26 +110,36 @@ impl Starved {
     }
 }
 
-/// A step where there is no memory is refused exactly where its history wants a larger block, and is answered in
-/// the end as if it came first. Whether it was refused.
-fn compare_step<R: Abort>(rt: &R, starved: &mut Starved, played: &Played) -> Result<bool, Fail> {
-    let before = starved.core.told();
-    let first = starved.core.step(played.seat, played.asked);
-    if !lacks_memory(&first) {
-        assert!(rt; is_same(&first, &played.answer));
-        assert_eq!(rt; starved.core.told(), played.told);
-        // The smallest block of a heap has a second place.
-        assert!(rt; before.places == played.told.places || before.places == 1);
-        return Ok(false);
-    }
-    assert_eq!(rt; starved.core.told(), before);
+/// A step that was refused changed nothing, and is answered in the end as if it came first.
+fn compare_refused<R: Abort>(
+    rt: &R,
+    starved: &mut Starved,
+    played: &Played,
+    before: &Told,
+) -> Result<(), Fail> {
+    assert_eq!(rt; starved.core.told(), *before);
     assert!(rt; may_lack_memory(starved.core.header().object, &played.answer));
     let answer = starved.step(rt, played.seat, played.asked);
     assert!(rt; is_same(&answer, &played.answer));
     assert_eq!(rt; starved.core.told(), played.told);
     assert!(rt; before.places < played.told.places);
-    starved.memory.take_rest()?;
-    Ok(true)
+    starved.memory.take_rest()
+}
+
+/// A step where there is no memory is refused exactly where its history wants a larger block, and is answered in
+/// the end as if it came first. Whether it was refused.
+fn compare_step<R: Abort>(rt: &R, starved: &mut Starved, played: &Played) -> Result<bool, Fail> {
+    let before = starved.core.told();
+    let first = starved.core.step(played.seat, played.asked);
+    if lacks_memory(&first) {
+        compare_refused(rt, starved, played, &before)?;
+        return Ok(true);
+    }
+    assert!(rt; is_same(&first, &played.answer));
+    assert_eq!(rt; starved.core.told(), played.told);
+    // The smallest block of a heap has a second place.
+    assert!(rt; before.places == played.told.places || before.places == 1);
+    Ok(false)
 }
 
 /// How many steps were refused.
@@ -136,7 +155,7 @@ fn compare_steps<R: Abort>(rt: &R, starved: &mut Starved, played: &[Played]) -> 
 
 /// Plays the steps over and over where each growth of the history is refused before it is met; how many were.
 fn refuse_growth<R: Abort + AllocGlobal>(rt: &R, said: &StepsText) -> Result<u32, Fail> {
-    let played = play_rounds(rt.alloc(), said)?;
+    let played = play_situation(rt.alloc(), said)?;
     let mut starved = Starved::open(rt.alloc(), &said.header)?;
     compare_steps(rt, &mut starved, &played)
 }

@@ -135,6 +135,10 @@ fn release_and_take<R: Abort + AllocGlobal>(rt: &R, core: &mut AnyCore) -> Resul
     Ok(())
 }
 
+fn available(core: &AnyCore) -> i64 {
+    core.told().available
+}
+
 /// Permits that began below none.
 #[test]
 fn a_semaphore_tells_its_permits(rt: HostRuntime) -> Result<(), Fail> {
@@ -145,7 +149,7 @@ fn a_semaphore_tells_its_permits(rt: HostRuntime) -> Result<(), Fail> {
         cap: 64,
     };
     let mut core = AnyCore::open(rt.alloc(), &header)?;
-    assert_eq!(rt; core.told().available, -2);
+    assert_eq!(rt; available(&core), -2);
     release_and_take(&rt, &mut core)
 }
 

@@ -225,6 +225,3 @@ fn on_its_way_back(seat: u16) -> Arrival
         back: true,
     }
 }
-
-#[cfg(test)]
-mod tests;

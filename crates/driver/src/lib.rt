@@ -4,21 +4,19 @@
 //! text that is refused. Sources and sinks tell their bytes to the contracts, where these are known.
 #![tactic(auto)]
 
-mod answering;
+pub mod answering;
 pub mod audit_stream;
 mod audit_text;
 pub mod device;
 pub mod form;
 pub mod memory_sink;
 pub mod memory_source;
-mod replay;
+pub mod replay;
 pub mod replay_stream;
 pub mod sink;
 pub mod source;
-mod step_reader;
+pub mod step_reader;
 pub mod stream_fault;
-#[cfg(test)]
-mod tests;
 mod turns;
 mod whole;
 mod window;

@@ -155,7 +155,7 @@ pub fn replay<O: Answering, R: Source>(
     ensures err { IfErr result (IsFaultBehind (progress steps.old (R.left reader.old))) }
     ensures failing { IsErrOf result StreamFault.ReadFailed ↔ IsTrue (R.failed reader.new) }
 {
-    let mut out = header_line(alloc, steps.header())?;
+    let mut out = header_line(alloc, &steps.header())?;
     let mut numbering = Numbering::new();
     let mut end = out.len();
     while let Some((seat, step)) = steps.next(reader)? {

@@ -81,7 +81,7 @@ fn answered<O: Answering, R: Source>(
     match form {
         Form::Replay => replay(alloc, object, steps, reader),
         Form::History => {
-            let header = *steps.header();
+            let header = steps.header();
             drive(object, steps, reader)?;
             match write_text(alloc, &header, object.history()) {
                 Ok(text) => Ok(text),
@@ -106,7 +106,7 @@ fn opened<H: Hooks + Drop, R: Source>(
     ensures err { IfErr result (IsFaultBehind (progress steps.old (R.left reader.old))) }
     ensures failing { IsErrOf result StreamFault.ReadFailed ↔ IsTrue (R.failed reader.new) }
 {
-    let header = *steps.header();
+    let header = steps.header();
     match Core::open(alloc, hooks, header.seats, header.conditions, header.cap) {
         Ok(mut core) => answered(alloc, &mut core, steps, reader, form),
         Err(_) => Err(StreamFault::Memory),
@@ -125,8 +125,9 @@ fn answer_text<R: Source>(
     ensures err { IfErr result (IsFaultBehind (progress steps.old (R.left reader.old))) }
     ensures failing { IsErrOf result StreamFault.ReadFailed ↔ IsTrue (R.failed reader.new) }
 {
-    let seats = steps.header().seats;
-    match steps.header().object {
+    let header = steps.header();
+    let seats = header.seats;
+    match header.object {
         Object::Lock(policy) => opened(alloc, LockHooks::open(policy), steps, reader, form),
         Object::ReadWrite(policy) => match RwHooks::open(alloc, policy, seats) {
             Ok(hooks) => opened(alloc, hooks, steps, reader, form),

@@ -59,11 +59,12 @@ impl StepReader {
         })
     }
 
-    pub fn header(&self) -> &Header
-        ensures value { result.now ≡ self.now.header }
+    /// The header that the text began with.
+    pub fn header(&self) -> Header
+        ensures value { result ≡ self.now.header }
         ensures range { IsInRange self.now.header }
     {
-        &self.header
+        self.header
     }
 
     /// Counts one more step, which ends where so many bytes are left.

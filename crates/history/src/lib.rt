@@ -16,7 +16,5 @@ pub mod laws;
 pub mod number;
 pub mod pieces;
 pub mod step;
-#[cfg(test)]
-mod tests;
 pub mod text;
 pub mod words;

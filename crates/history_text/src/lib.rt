@@ -12,8 +12,6 @@ mod entry_reading;
 pub mod fitting;
 pub mod history_text;
 mod law;
-#[cfg(test)]
-mod tests;
 
 pub use crate::fitting::fits;
 pub use crate::history_text::{read_text, write_text};

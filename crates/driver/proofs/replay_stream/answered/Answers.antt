@@ -6,4 +6,4 @@ write_text-requires-clause-spelt g c = rw c.history.ensures (spelt_driven _ _ c.
 
 pub returns-in-Ok-clause-ok : goal.returns-in-Ok-clause-ok
 returns-in-Ok-clause-ok g c =
-    rw c.in-History.is (replayed_driven _ _ c.in-Ok.text.items c.in_ok-drive-in-History.ensures.ok (rw (c.history.ensures, c.header.ensures.value) at c.in-Ok.ensures.ok))
+    rw c.in-History.is (replayed_driven _ _ c.in-Ok.text.items c.in_ok-drive-in-History.ensures.ok (rw (c.history.ensures, c.header-header.ensures.value) at c.in-Ok.ensures.ok))

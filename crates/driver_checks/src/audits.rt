@@ -1,0 +1,426 @@
+//! Histories: the texts that an audit reads, and what it says of them.
+
+ghost use Rattle.std.specs.Prelude.{◌<◌};
+
+use crate::memory::all_memory;
+use crate::spoiled::SPOILED;
+use crate::streams::{fail_as_told, situations};
+use audit::verdict::Verdict;
+use driver::audit_stream::audit_stream;
+use driver::memory_sink::MemorySink;
+use driver::memory_source::MemorySource;
+use driver::sink::Sink;
+use driver::source::Source;
+use driver::stream_fault::StreamFault;
+use history::fault::Fault;
+use history_text::{read_text, write_text};
+use std::alloc::Global;
+use std::process::Abort;
+use std::test::Fail;
+use steps::TextFault;
+
+/// More places than any answer here takes.
+const AMPLE: usize = 256;
+
+const TEXT: &[u8] = b"aqs-history 1 lock fair seats 2 conditions 0 cap 64\n\
+0 0 got x 1\n\
+1 1 queued x 1\n\
+2 0 gave x 1\n\
+3 1 granted x 1\n\
+4 1 gave x 1\n\
+end 5 4\n";
+
+const ANSWER: &[u8] = b"legal\n\
+entries 5\n\
+calls 4\n\
+holds x 0 s 0 line 0 sleepers 0\n";
+
+/// The entries, the ended calls and the totals of the history of each worked example.
+const TOTALS: [(&str, u64, u64, &str); 26] = [
+    ("one_hold", 2, 2, "holds x 0 s 0 line 0 sleepers 0"),
+    ("no_steps", 0, 0, "holds x 0 s 0 line 0 sleepers 0"),
+    ("barging", 6, 5, "holds x 1 s 0 line 0 sleepers 0"),
+    (
+        "fair_try_passes_a_waiter",
+        5,
+        4,
+        "holds x 1 s 0 line 1 sleepers 0",
+    ),
+    (
+        "await_restores_all_holds",
+        12,
+        11,
+        "holds x 0 s 0 line 0 sleepers 0",
+    ),
+    (
+        "strangers_are_refused",
+        6,
+        6,
+        "holds x 1 s 0 line 0 sleepers 0",
+    ),
+    (
+        "the_next_is_granted_or_leaves",
+        6,
+        4,
+        "holds x 1 s 0 line 0 sleepers 0",
+    ),
+    (
+        "an_interrupt_of_the_first_names_the_next",
+        6,
+        4,
+        "holds x 1 s 0 line 0 sleepers 0",
+    ),
+    (
+        "interrupt_before_a_signal",
+        5,
+        3,
+        "holds x 0 s 0 line 0 sleepers 0",
+    ),
+    (
+        "interrupt_after_a_signal",
+        6,
+        5,
+        "holds x 1 s 0 line 0 sleepers 0",
+    ),
+    (
+        "readers_behind_a_writer_in_fair_order",
+        7,
+        4,
+        "holds x 0 s 3 line 0 sleepers 0",
+    ),
+    (
+        "readers_behind_a_writer",
+        7,
+        4,
+        "holds x 0 s 3 line 0 sleepers 0",
+    ),
+    (
+        "permits_below_zero",
+        5,
+        4,
+        "held 1 free 0 created -2 unheld 3 line 0",
+    ),
+    (
+        "a_fair_semaphore_holds_new_callers_back",
+        3,
+        1,
+        "held 1 free 4 created 5 unheld 0 line 2",
+    ),
+    (
+        "a_semaphore_lets_new_callers_pass",
+        3,
+        2,
+        "held 2 free 3 created 5 unheld 0 line 1",
+    ),
+    (
+        "permits_at_their_limit",
+        7,
+        7,
+        "held 2147483647 free 0 created 1 unheld 2147483646 line 0",
+    ),
+    (
+        "an_await_with_read_holds",
+        6,
+        6,
+        "holds x 0 s 2 line 0 sleepers 0",
+    ),
+    ("a_full_history", 16, 15, "holds x 0 s 0 line 0 sleepers 0"),
+    ("an_open_latch", 1, 1, "count 0 line 0"),
+    ("a_latch_counts_down", 6, 5, "count 0 line 0"),
+    (
+        "a_request_for_no_permits",
+        7,
+        6,
+        "held 2 free 0 created 0 unheld 2 line 0",
+    ),
+    (
+        "a_request_for_no_permits_in_line",
+        5,
+        3,
+        "held 1 free 0 created 0 unheld 1 line 0",
+    ),
+    (
+        "a_writer_reads_and_gives_up_writing",
+        9,
+        7,
+        "holds x 0 s 0 line 0 sleepers 0",
+    ),
+    (
+        "who_leaves_comes_back_last",
+        11,
+        7,
+        "holds x 1 s 0 line 0 sleepers 0",
+    ),
+    (
+        "the_first_in_line_is_named_once",
+        4,
+        3,
+        "held 1 free 1 created 0 unheld 2 line 0",
+    ),
+    (
+        "a_reader_is_named_once",
+        6,
+        4,
+        "holds x 0 s 1 line 0 sleepers 0",
+    ),
+];
+
+/// The verdict on a text that comes and goes in pieces, and the sink afterwards.
+fn audited<R: Abort + AllocGlobal>(
+    rt: &R,
+    text: &[u8],
+    piece: usize,
+    fails_at: (Option<u64>, Option<u64>),
+    places: usize,
+) -> Result<(Result<Verdict, StreamFault>, MemorySink), Fail>
+    requires { 0 < piece }
+{
+    let bytes = Vec::from_slice(rt.alloc(), text)?;
+    let mut source = MemorySource::new(bytes, piece, fails_at.0);
+    let mut sink = MemorySink::with_places(rt.alloc(), places, piece, fails_at.1)?;
+    let verdict = audit_stream(rt.alloc(), &mut source, &mut sink);
+    fail_as_told(rt, &verdict, &source, &sink);
+    Ok((verdict, sink))
+}
+
+/// A history that comes in pieces of any size is legal, and adds up so.
+fn is_legal<R: Abort + AllocGlobal>(
+    rt: &R,
+    history: &str,
+    expected: &str,
+    name: &str,
+) -> Result<(), Fail> {
+    for piece in [1, 7, 4096] {
+        let (verdict, sink) = audited(rt, history.as_bytes(), piece, (None, None), AMPLE)?;
+        assert!(rt; verdict == Ok(Verdict::Legal), "{name}");
+        assert!(rt; sink.bytes() == expected.as_bytes(), "{name}");
+    }
+    Ok(())
+}
+
+#[test]
+fn adds_up_the_history_of_each_example(rt: HostRuntime) -> Result<(), Fail> {
+    for (example, (name, entries, calls, totals)) in situations().iter().zip(&TOTALS) {
+        assert!(rt; example.name == *name);
+        let expected = format!(in rt.alloc();
+            "legal\nentries {entries}\ncalls {calls}\n{totals}\n"
+        )?;
+        is_legal(&rt, example.history, expected.as_str(), name)?;
+    }
+    Ok(())
+}
+
+#[test]
+fn names_the_first_entry_that_is_not_legal(rt: HostRuntime) -> Result<(), Fail> {
+    for spoiled in &SPOILED {
+        let text = spoiled.history.as_bytes();
+        let (verdict, sink) = audited(&rt, text, 64, (None, None), AMPLE)?;
+        let number = spoiled.number;
+        assert!(rt;
+            verdict == Ok(Verdict::NotLegal(number)),
+            "{}",
+            spoiled.name
+        );
+        let expected = format!(in rt.alloc(); "not legal at {number}\n")?;
+        assert!(rt; sink.bytes() == expected.as_bytes(), "{}", spoiled.name);
+    }
+    Ok(())
+}
+
+const LOCK: &str = "aqs-history 1 lock fair seats 2 conditions 0 cap 16\n";
+
+/// The first line of a text, those behind it, and the first fault.
+const FAULTS: [(&str, &str, TextFault); 11] = [
+    (LOCK, "0 2 got x 1\nend 1 1\n", TextFault::BadLine(2)),
+    (LOCK, "0 0 got x 01\nend 1 1\n", TextFault::BadLine(2)),
+    (LOCK, "0 0  got x 1\nend 1 1\n", TextFault::BadLine(2)),
+    (
+        LOCK,
+        "0 0 got x 2147483648\nend 1 1\n",
+        TextFault::BadLine(2),
+    ),
+    (LOCK, "0 0 await 16 1\nend 1 0\n", TextFault::BadLine(2)),
+    (
+        LOCK,
+        "0 0 got x 1\n2 0 gave x 1\nend 2 2\n",
+        TextFault::BadLine(3),
+    ),
+    (LOCK, "0 0 got x 1\nend 1 2\n", TextFault::BadLine(3)),
+    (LOCK, "0 0 got x 1\nend 1 1\n\n", TextFault::BadLine(4)),
+    (LOCK, "0 0 got x 1", TextFault::CutShort),
+    (
+        "aqs-history 1  lock fair seats 2 conditions 0 cap 16\n",
+        "end 0 0\n",
+        TextFault::BadHeader,
+    ),
+    (
+        "aqs-steps 1 lock fair seats 2 conditions 0 cap 16\n",
+        "end 0 0\n",
+        TextFault::BadHeader,
+    ),
+];
+
+/// What isn't a history text is told by its first fault, and nothing is written.
+#[test]
+fn tells_the_first_fault_of_a_history(rt: HostRuntime) -> Result<(), Fail> {
+    for (header, lines, fault) in &FAULTS {
+        let text = format!(in rt.alloc(); "{header}{lines}")?;
+        let (verdict, sink) = audited(&rt, text.as_bytes(), 9, (None, None), AMPLE)?;
+        assert!(rt; verdict == Err(StreamFault::Text(*fault)), "{lines}");
+        assert!(rt; sink.bytes().is_empty());
+    }
+    Ok(())
+}
+
+/// A history has no entry at its cap.
+#[test]
+fn an_entry_at_the_cap_is_a_bad_line(rt: HostRuntime) -> Result<(), Fail> {
+    let mut text = String::from_str(
+        rt.alloc(),
+        "aqs-history 1 lock fair seats 1 conditions 0 cap 16\n",
+    )?;
+    for number in 0..17u32 {
+        let line = format!(in rt.alloc(); "{number} 0 got x 1\n")?;
+        text.push_str(line.as_str())?;
+    }
+    let (verdict, _) = audited(&rt, text.as_bytes(), 64, (None, None), AMPLE)?;
+    assert!(rt; verdict == Err(StreamFault::Text(TextFault::BadLine(18))));
+    Ok(())
+}
+
+/// Each text that a history begins with, but the whole of it, is cut short.
+fn is_cut_short<R: Abort + AllocGlobal>(rt: &R, text: &[u8], name: &str) -> Result<(), Fail> {
+    for n in 0..text.len() {
+        let (verdict, sink) = audited(rt, &text[..n], 64, (None, None), AMPLE)?;
+        assert!(rt;
+            verdict == Err(StreamFault::Text(TextFault::CutShort)),
+            "{name}"
+        );
+        assert!(rt; sink.bytes().is_empty(), "{name}");
+    }
+    Ok(())
+}
+
+#[test]
+fn each_beginning_of_a_history_is_cut_short(rt: HostRuntime) -> Result<(), Fail> {
+    for example in situations() {
+        is_cut_short(&rt, example.history.as_bytes(), example.name)?;
+    }
+    Ok(())
+}
+
+/// The text of the history that a text spells, if it spells one.
+fn written_again(alloc: Global, text: &[u8]) -> Result<Option<Vec<u8>>, Fault> {
+    let (header, history) = match read_text(alloc, text) {
+        Ok(read) => read,
+        Err(TextFault::OutOfMemory) => return Err(Fault::OutOfMemory),
+        Err(_) => return Ok(None),
+    };
+    match write_text(alloc, &header, &history) {
+        Ok(written) => Ok(Some(written)),
+        Err(fault) => Err(fault),
+    }
+}
+
+/// Whether a text is refused, or read and written as it is.
+fn is_kept(alloc: Global, text: &[u8]) -> Result<bool, Fault> {
+    match written_again(alloc, text)? {
+        Some(written) => Ok(written.as_slice() == text),
+        None => Ok(true),
+    }
+}
+
+/// Whatever one of its bytes becomes, a history text is refused, or read and written as it is.
+fn is_kept_when_changed<R: Abort + AllocGlobal>(
+    rt: &R,
+    text: &[u8],
+    name: &str,
+) -> Result<(), Fail> {
+    for at in 0..text.len() {
+        for byte in 0..=255u8 {
+            let mut changed = Vec::from_slice(rt.alloc(), text)?;
+            changed[at] = byte;
+            assert!(rt; is_kept(rt.alloc(), &changed)?, "{name}");
+        }
+    }
+    Ok(())
+}
+
+#[test]
+fn a_changed_history_is_refused_or_read_as_it_is(rt: HostRuntime) -> Result<(), Fail> {
+    for example in situations() {
+        is_kept_when_changed(&rt, example.history.as_bytes(), example.name)?;
+    }
+    Ok(())
+}
+
+#[test]
+fn each_read_of_an_audit_fails_in_turn(rt: HostRuntime) -> Result<(), Fail> {
+    let reads = TEXT.len().div_ceil(16) as u64 + 1;
+    for call in 0..reads {
+        let (verdict, sink) = audited(&rt, TEXT, 16, (Some(call), None), AMPLE)?;
+        assert!(rt; verdict == Err(StreamFault::ReadFailed));
+        assert!(rt; sink.bytes().is_empty());
+    }
+    let (verdict, sink) = audited(&rt, TEXT, 16, (Some(reads), None), AMPLE)?;
+    assert!(rt; verdict == Ok(Verdict::Legal) && sink.bytes() == ANSWER);
+    Ok(())
+}
+
+#[test]
+fn each_write_of_an_audit_fails_in_turn(rt: HostRuntime) -> Result<(), Fail> {
+    for call in 0..ANSWER.len().div_ceil(16) {
+        let fails_at = (None, Some(call as u64));
+        let (verdict, sink) = audited(&rt, TEXT, 16, fails_at, AMPLE)?;
+        assert!(rt; verdict == Err(StreamFault::WriteFailed));
+        assert!(rt; sink.bytes() == &ANSWER[..(16 * call).min(ANSWER.len())]);
+    }
+    for places in 0..ANSWER.len() {
+        let (verdict, sink) = audited(&rt, TEXT, 10, (None, None), places)?;
+        assert!(rt; verdict == Err(StreamFault::WriteFailed));
+        assert!(rt; sink.bytes() == &ANSWER[..places]);
+    }
+    Ok(())
+}
+
+/// More blocks than an audit needs.
+const BLOCKS: usize = 4096;
+
+/// A history of so many seats that tables of them take more than what a text does.
+const WIDE: &[u8] = b"aqs-history 1 lock fair seats 256 conditions 0 cap 64\n\
+0 255 got x 1\n\
+end 1 1\n";
+
+const WIDE_ANSWER: &[u8] = b"legal\n\
+entries 1\n\
+calls 1\n\
+holds x 1 s 0 line 0 sleepers 0\n";
+
+/// All memory is taken and comes back block by block: nothing is written before it is enough.
+#[test]
+fn an_audit_that_lacks_memory_writes_nothing(rt: HostRuntime) -> Result<(), Fail> {
+    let mut sources = Vec::with_capacity(rt.alloc(), BLOCKS)?;
+    for _ in 0..BLOCKS {
+        let bytes = Vec::from_slice(rt.alloc(), WIDE)?;
+        sources.push(MemorySource::new(bytes, 64, None))?;
+    }
+    let mut sink = MemorySink::with_places(rt.alloc(), AMPLE, 64, None)?;
+    let mut taken = all_memory(rt.alloc(), 64)?;
+    let mut refused: u64 = 0;
+    for mut source in sources {
+        assert!(rt; !source.has_failed() && !sink.has_failed());
+        match audit_stream(rt.alloc(), &mut source, &mut sink) {
+            Err(StreamFault::Memory) => {
+                assert!(rt; sink.bytes().is_empty());
+                refused = refused.saturating_add(1);
+                drop(taken.pop());
+            }
+            verdict => {
+                assert!(rt; verdict == Ok(Verdict::Legal) && sink.bytes() == WIDE_ANSWER);
+                break;
+            }
+        }
+    }
+    assert!(rt; 2 < refused && !sink.bytes().is_empty());
+    Ok(())
+}

@@ -1,0 +1,19 @@
+//! Tests of whole streams: texts from bytes to bytes, over devices in memory.
+#![tactic(auto)]
+
+#[cfg(test)]
+mod audits;
+#[cfg(test)]
+mod changes;
+#[cfg(test)]
+mod devices;
+#[cfg(test)]
+mod memory;
+#[cfg(test)]
+mod plain;
+#[cfg(test)]
+mod spoiled;
+#[cfg(test)]
+mod streams;
+#[cfg(test)]
+mod windows;

@@ -1,0 +1,303 @@
+//! Texts from end to end, over devices in memory.
+
+ghost use Rattle.std.specs.Prelude.{◌<◌};
+
+use driver::form::Form;
+use driver::memory_sink::MemorySink;
+use driver::memory_source::MemorySource;
+use driver::replay_stream::replay_stream;
+use driver::sink::Sink;
+use driver::source::Source;
+use driver::stream_fault::StreamFault;
+use examples::{EXAMPLES, Example};
+use std::process::Abort;
+use std::test::Fail;
+use steps::TextFault;
+
+/// More places than any answer here takes.
+pub const AMPLE: usize = 16384;
+
+pub const TEXT: &[u8] = b"aqs-steps 1 lock fair seats 2 conditions 1 cap 64\n\
+0 acquire x 1\n\
+1 try x 1\n\
+0 await 0\n\
+0 look\n\
+end 4\n";
+
+pub const ANSWER: &[u8] = b"aqs-replay 1 lock fair seats 2 conditions 1 cap 64\n\
+0 0 got x 1\n\
+1 1 missed x 1\n\
+2 0 await 0 1\n\
+- 0 sleep\n\
+end 3 2\n";
+
+const HISTORY: &[u8] = b"aqs-history 1 lock fair seats 2 conditions 1 cap 64\n\
+0 0 got x 1\n\
+1 1 missed x 1\n\
+2 0 await 0 1\n\
+end 3 2\n";
+
+/// What is written for `TEXT`.
+const FORMS: [(Form, &[u8]); 2] = [(Form::Replay, ANSWER), (Form::History, HISTORY)];
+
+/// Each device has failed exactly where the answer says so.
+pub fn fail_as_told<R: Abort, T>(
+    rt: &R,
+    answer: &Result<T, StreamFault>,
+    source: &MemorySource,
+    sink: &MemorySink,
+) {
+    assert_eq!(rt;
+        source.has_failed(),
+        matches!(answer, Err(StreamFault::ReadFailed))
+    );
+    assert_eq!(rt;
+        sink.has_failed(),
+        matches!(answer, Err(StreamFault::WriteFailed))
+    );
+}
+
+/// The answer to a text that comes and goes in pieces, and the sink afterwards.
+pub fn streamed<R: Abort + AllocGlobal>(
+    rt: &R,
+    text: &[u8],
+    form: Form,
+    piece: usize,
+    fails_at: (Option<u64>, Option<u64>),
+    places: usize,
+) -> Result<(Result<(), StreamFault>, MemorySink), Fail>
+    requires { 0 < piece }
+{
+    let bytes = Vec::from_slice(rt.alloc(), text)?;
+    let mut source = MemorySource::new(bytes, piece, fails_at.0);
+    let mut sink = MemorySink::with_places(rt.alloc(), places, piece, fails_at.1)?;
+    let answer = replay_stream(rt.alloc(), &mut source, &mut sink, form);
+    fail_as_told(rt, &answer, &source, &sink);
+    Ok((answer, sink))
+}
+
+/// The known situations. Proofs of other functions don't look into them.
+pub fn situations() -> &'static [Example] {
+    &EXAMPLES
+}
+
+/// A text that comes and goes in pieces of any size is answered so.
+fn is_answered<R: Abort + AllocGlobal>(
+    rt: &R,
+    text: &str,
+    form: Form,
+    expected: &str,
+    name: &str,
+) -> Result<(), Fail> {
+    for piece in [1, 7, 4096] {
+        let (answer, sink) = streamed(rt, text.as_bytes(), form, piece, (None, None), AMPLE)?;
+        assert!(rt; answer.is_ok(), "{name}");
+        assert!(rt; sink.bytes() == expected.as_bytes(), "{name}");
+    }
+    Ok(())
+}
+
+#[test]
+fn answers_each_example(rt: HostRuntime) -> Result<(), Fail> {
+    for Example {
+        name,
+        steps,
+        replay,
+        history,
+    } in situations() {
+        is_answered(&rt, steps, Form::Replay, replay, name)?;
+        is_answered(&rt, steps, Form::History, history, name)?;
+    }
+    Ok(())
+}
+
+#[test]
+fn bytes_behind_the_end_are_told(rt: HostRuntime) -> Result<(), Fail> {
+    for more in [b"\n".as_slice(), b" ", b"0 look\n", b"end 4\n"] {
+        let mut text = Vec::from_slice(rt.alloc(), TEXT)?;
+        text.extend_from_slice(more)?;
+        let (answer, sink) = streamed(&rt, &text, Form::Replay, 64, (None, None), AMPLE)?;
+        assert!(rt; matches!(answer, Err(StreamFault::Text(TextFault::BadLine(7)))));
+        assert!(rt; sink.bytes().is_empty());
+    }
+    Ok(())
+}
+
+/// Lines behind a header of one seat, and the first fault of the text.
+const FAULTS: [(&str, TextFault); 10] = [
+    ("0 acquire x 01\nend 1\n", TextFault::BadLine(2)),
+    ("1 look\nend 1\n", TextFault::BadLine(2)),
+    ("0  look\nend 1\n", TextFault::BadLine(2)),
+    ("0 look \nend 1\n", TextFault::BadLine(2)),
+    ("0 look\n\nend 1\n", TextFault::BadLine(3)),
+    ("0 look\nend 2\nend 1\n", TextFault::BadLine(3)),
+    ("0 acquire x 4294967296\nend 1\n", TextFault::BadLine(2)),
+    ("0 await 256\nend 1\n", TextFault::BadLine(2)),
+    ("0 look", TextFault::CutShort),
+    ("", TextFault::CutShort),
+];
+
+/// What isn't spelt as it must be is told by its line, and nothing is written.
+#[test]
+fn tells_the_first_fault(rt: HostRuntime) -> Result<(), Fail> {
+    let lock = "aqs-steps 1 lock fair seats 1 conditions 0 cap 16\n";
+    for (lines, fault) in &FAULTS {
+        let text = format!(in rt.alloc(); "{lock}{lines}")?;
+        let (answer, sink) = streamed(&rt, text.as_bytes(), Form::History, 9, (None, None), AMPLE)?;
+        assert!(rt; answer == Err(StreamFault::Text(*fault)), "{lines}");
+        assert!(rt; sink.bytes().is_empty());
+    }
+    Ok(())
+}
+
+const NO_HEADERS: [&[u8]; 17] = [
+    b"\n",
+    b"aqs-steps 2 lock fair seats 1 conditions 0 cap 16\n",
+    b"aqs-history 1 lock fair seats 1 conditions 0 cap 16\n",
+    b" aqs-steps 1 lock fair seats 1 conditions 0 cap 16\n",
+    b"aqs-steps 1 lock fair seats 1 conditions 0 cap 16 \n",
+    b"aqs-steps 1 lock fair seats 0 conditions 0 cap 16\n",
+    b"aqs-steps 1 lock fair seats 257 conditions 0 cap 16\n",
+    b"aqs-steps 1 rw fair seats 1 conditions 17 cap 16\n",
+    b"aqs-steps 1 lock fair seats 1 conditions 0 cap 15\n",
+    b"aqs-steps 1 lock fair seats 1 conditions 0 cap 4294967296\n",
+    b"aqs-steps 1 lock seats 1 conditions 0 cap 16\n",
+    b"aqs-steps 1 semaphore fair seats 1 permits 2147483648 cap 16\n",
+    b"aqs-steps 1 semaphore fair seats 1 permits -2147483649 cap 16\n",
+    b"aqs-steps 1 semaphore fair seats 1 permits -0 cap 16\n",
+    b"aqs-steps 1 latch seats 1 count 2147483648 cap 16\n",
+    b"aqs-steps 1 latch seats 1 count -1 cap 16\n",
+    b"aqs-steps 1 latch fair seats 1 count 1 cap 16\n",
+];
+
+/// A first line that is no header is told before it is known whether the text has an end.
+#[test]
+fn tells_a_bad_header(rt: HostRuntime) -> Result<(), Fail> {
+    for header in &NO_HEADERS {
+        let (answer, sink) = streamed(&rt, header, Form::Replay, 8, (None, None), AMPLE)?;
+        assert!(rt; answer == Err(StreamFault::Text(TextFault::BadHeader)));
+        assert!(rt; sink.bytes().is_empty());
+    }
+    Ok(())
+}
+
+/// An object part with numbers at their limits, and the faults of a try of too many and of an await.
+const LIMITS: [(&str, &str, &str); 4] = [
+    (
+        "lock nonfair seats 256 conditions 16 cap 4294967295",
+        "BadAmount",
+        "NoSuchCondition",
+    ),
+    (
+        "semaphore fair seats 1 permits -2147483648 cap 16",
+        "WrongMode",
+        "WrongMode",
+    ),
+    (
+        "semaphore fair seats 1 permits 2147483647 cap 16",
+        "WrongMode",
+        "WrongMode",
+    ),
+    (
+        "latch seats 1 count 2147483647 cap 16",
+        "WrongMode",
+        "WrongMode",
+    ),
+];
+
+#[test]
+fn reads_numbers_up_to_their_limits(rt: HostRuntime) -> Result<(), Fail> {
+    for (part, to_try, to_await) in &LIMITS {
+        let text = format!(in rt.alloc();
+            "aqs-steps 1 {part}\n0 try x 4294967295\n0 await 255\nend 2\n"
+        )?;
+        let expected = format!(in rt.alloc();
+            "aqs-replay 1 {part}\n- 0 {to_try}\n- 0 {to_await}\nend 0 0\n"
+        )?;
+        let (answer, sink) = streamed(&rt, text.as_bytes(), Form::Replay, 64, (None, None), AMPLE)?;
+        assert!(rt;
+            answer.is_ok() && sink.bytes() == expected.as_bytes(),
+            "{part}"
+        );
+    }
+    Ok(())
+}
+
+#[test]
+fn each_read_fails_in_turn(rt: HostRuntime) -> Result<(), Fail> {
+    for (form, expected) in FORMS {
+        for piece in [1, 16] {
+            let reads = TEXT.len().div_ceil(piece) as u64 + 1;
+            for call in 0..reads {
+                let (answer, sink) = streamed(&rt, TEXT, form, piece, (Some(call), None), AMPLE)?;
+                assert!(rt; answer == Err(StreamFault::ReadFailed));
+                assert!(rt; sink.bytes().is_empty());
+            }
+            let (answer, sink) = streamed(&rt, TEXT, form, piece, (Some(reads), None), AMPLE)?;
+            assert!(rt; answer.is_ok() && sink.bytes() == expected);
+        }
+    }
+    Ok(())
+}
+
+#[test]
+fn each_write_fails_in_turn(rt: HostRuntime) -> Result<(), Fail> {
+    for (form, expected) in FORMS {
+        for piece in [1, 16] {
+            let writes = expected.len().div_ceil(piece) as u64;
+            let mut written = 0;
+            for call in 0..writes {
+                let (answer, sink) = streamed(&rt, TEXT, form, piece, (None, Some(call)), AMPLE)?;
+                assert!(rt; answer == Err(StreamFault::WriteFailed));
+                assert!(rt; sink.bytes().len() == written && expected.starts_with(sink.bytes()));
+                written = expected.len().min(written.saturating_add(piece));
+            }
+            let (answer, sink) = streamed(&rt, TEXT, form, piece, (None, Some(writes)), AMPLE)?;
+            assert!(rt; answer.is_ok() && sink.bytes() == expected);
+        }
+    }
+    Ok(())
+}
+
+#[test]
+fn writes_while_places_are_free(rt: HostRuntime) -> Result<(), Fail> {
+    for (form, expected) in FORMS {
+        for places in 0..expected.len() {
+            let (answer, sink) = streamed(&rt, TEXT, form, 10, (None, None), places)?;
+            assert!(rt; answer == Err(StreamFault::WriteFailed));
+            assert!(rt; sink.bytes() == &expected[..places]);
+        }
+        let (answer, sink) = streamed(&rt, TEXT, form, 10, (None, None), expected.len())?;
+        assert!(rt; answer.is_ok() && sink.bytes() == expected);
+    }
+    Ok(())
+}
+
+/// As many read holds as there may be, and one more.
+#[test]
+fn reads_up_to_the_limit(rt: HostRuntime) -> Result<(), Fail> {
+    let mut text = String::from_str(
+        rt.alloc(),
+        "aqs-steps 1 rw nonfair seats 1 conditions 0 cap 200000\n",
+    )?;
+    let mut expected = String::from_str(
+        rt.alloc(),
+        "aqs-replay 1 rw nonfair seats 1 conditions 0 cap 200000\n",
+    )?;
+    for number in 0..65535u32 {
+        text.push_str("0 acquire s 1\n")?;
+        let line = format!(in rt.alloc(); "{number} 0 got s 1\n")?;
+        expected.push_str(line.as_str())?;
+    }
+    text.push_str("0 acquire s 1\nend 65536\n")?;
+    expected.push_str("65535 0 refused s 1 TooManyHolds\nend 65536 65536\n")?;
+    let places = expected.len();
+    // A pipe gives at most so much at once, and a file more than a read asks for.
+    for piece in [4096, 65536, 1_000_000] {
+        let text = text.as_bytes();
+        let (answer, sink) = streamed(&rt, text, Form::Replay, piece, (None, None), places)?;
+        assert!(rt; answer.is_ok());
+        assert!(rt; sink.bytes() == expected.as_bytes());
+    }
+    Ok(())
+}

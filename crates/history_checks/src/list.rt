@@ -1,0 +1,150 @@
+//! The list of entries.
+
+use history::entries::History;
+use history::entry::{End, Entry, Mode, Word};
+use history::fault::Fault;
+use std::process::Abort;
+use std::test::Fail;
+
+fn of(seat: u16, word: Word) -> Entry {
+    Entry {
+        seat,
+        word,
+        mode: Mode::X,
+        n: 1,
+        at: 0,
+        end: End::None,
+    }
+}
+
+/// Length, what is owed, places and ended calls.
+fn told(history: &History) -> (u64, u64, u64, u64) {
+    (
+        history.len(),
+        history.owed(),
+        history.places(),
+        history.calls(),
+    )
+}
+
+/// Adds three entries, of which the second was owed.
+fn add_three<R: Abort>(rt: &R, history: &mut History) -> Result<(), Fail> {
+    history.make_room(3)?;
+    assert!(rt; 3 <= history.places());
+    history.add(of(0, Word::Got), 1);
+    assert_eq!(rt; history.owed(), 1);
+    history.add(of(1, Word::Queued), 0);
+    history.make_room(1)?;
+    history.add(of(0, Word::Gave), 0);
+    Ok(())
+}
+
+#[test]
+fn entries_are_kept_in_their_order(rt: HostRuntime) -> Result<(), Fail> {
+    let mut history = History::open(rt.alloc(), 16);
+    assert!(rt; history.is_empty());
+    assert_eq!(rt; (history.cap(), told(&history)), (16, (0, 0, 0, 0)));
+    add_three(&rt, &mut history)?;
+    has_three(&rt, &history);
+    Ok(())
+}
+
+/// Those three, and no others.
+fn has_three<R: Abort>(rt: &R, history: &History) {
+    assert_eq!(rt;
+        (history.is_empty(), history.len(), history.calls()),
+        (false, 3, 2)
+    );
+    let entries = [of(0, Word::Got), of(1, Word::Queued), of(0, Word::Gave)];
+    for (number, entry) in entries.iter().enumerate() {
+        assert_eq!(rt; history.get(number as u64), Some(*entry));
+    }
+    assert!(rt; history.get(3).is_none() && history.get(18_446_744_073_709_551_615).is_none());
+}
+
+/// Each word, and how many calls an entry of it ends.
+const ENDS: [(Word, u64); 15] = [
+    (Word::Got, 1),
+    (Word::TryGot, 1),
+    (Word::Queued, 0),
+    (Word::Granted, 1),
+    (Word::Missed, 1),
+    (Word::Left, 1),
+    (Word::Gave, 1),
+    (Word::Refused(Fault::NotOwner), 1),
+    (Word::Await, 0),
+    (Word::Lapse, 0),
+    (Word::Signal, 1),
+    (Word::SignalAll, 1),
+    (Word::Back, 1),
+    (Word::Counted, 1),
+    (Word::Drained, 1),
+];
+
+#[test]
+fn each_word_ends_a_call_but_three(rt: HostRuntime) -> Result<(), Fail> {
+    for (word, ended) in &ENDS {
+        let mut history = History::open(rt.alloc(), 16);
+        history.make_room(1)?;
+        history.add(of(0, *word), 0);
+        assert_eq!(rt; history.calls(), *ended, "{word:?}");
+    }
+    Ok(())
+}
+
+/// Asks an empty list with a cap of 16 for more than its room, and for all.
+fn reserve_all<R: Abort>(rt: &R, history: &mut History) -> Result<(), Fail> {
+    assert_eq!(rt; history.make_room(17), Err(Fault::HistoryFull));
+    assert_eq!(rt;
+        history.make_room(18_446_744_073_709_551_615),
+        Err(Fault::HistoryFull)
+    );
+    assert_eq!(rt; history.places(), 0);
+    history.make_room(0)?;
+    assert_eq!(rt; history.places(), 0);
+    history.make_room(16)?;
+    assert_eq!(rt; history.places(), 16);
+    history.add(of(0, Word::Got), 14);
+    Ok(())
+}
+
+/// Asks for the place that is left where 14 are owed, and for more.
+fn fill<R: Abort>(rt: &R, history: &mut History) -> Result<(), Fail> {
+    assert_eq!(rt; history.make_room(2), Err(Fault::HistoryFull));
+    assert_eq!(rt;
+        (history.len(), history.owed(), history.places()),
+        (1, 14, 16)
+    );
+    history.make_room(1)?;
+    assert_eq!(rt; history.places(), 16);
+    history.add(of(0, Word::Got), 14);
+    assert_eq!(rt; history.make_room(1), Err(Fault::HistoryFull));
+    history.make_room(0)?;
+    Ok(())
+}
+
+#[test]
+fn room_ends_at_the_cap(rt: HostRuntime) -> Result<(), Fail> {
+    let mut history = History::open(rt.alloc(), 16);
+    reserve_all(&rt, &mut history)?;
+    fill(&rt, &mut history)
+}
+
+/// The places double: 100,000 entries that ask for room one by one move a few times, not each time.
+#[test]
+fn many_entries_grow_the_list_seldom(rt: HostRuntime) -> Result<(), Fail> {
+    let mut history = History::open(rt.alloc(), 100_000);
+    let mut grown: u64 = 0;
+    for _ in 0..100_000 {
+        let before = history.places();
+        history.make_room(1)?;
+        if history.places() != before {
+            grown = grown.saturating_add(1);
+        }
+        history.add(of(0, Word::Got), 0);
+    }
+    assert_eq!(rt; history.len(), 100_000);
+    assert_eq!(rt; history.places(), 100_000);
+    assert!(rt; grown <= 18, "grown {grown} times");
+    Ok(())
+}
