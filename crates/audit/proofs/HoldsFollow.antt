@@ -4,6 +4,8 @@ use Rattle.std.proofs.lemmas.Bool.{cases_eq, eq-eqb, ne_eqb, ltb-true, ltb-false
 use Rattle.std.proofs.Math.ListN.{length-set}
 use Rattle.history.specs.declared.entry.Entry.{Entry}
 use Rattle.history.specs.declared.entry.Mode.TheVariants.{X, S}
+use Rattle.history.specs.declared.entry.Word.{Word}
+use Rattle.history.specs.declared.header.Object.{Object}
 use Rattle.history.specs.Could.{is_seat}
 use Rattle.history.specs.Counts.{counts, held, holds_after, owner, readers, total, seat_with}
 use Rattle.history.specs.Entry.{same_mode}
@@ -145,14 +147,24 @@ stands_shared s e h old new st seat mode amount sh x ow re =
     }
 
 -- the holds of one seat fit 64 bits with an entry more
-pub shared_fits : (s : Start) (h : List Entry) (holds : Holds) (i v : ℕ) → HoldsStand s h holds →
-    i < s.header.seats → length h + 1 < 4294967296 → v ≡ get_or holds.shared.items i 0 →
-    (v + 4294967295 < 18446744073709551616) × (v ≤ holds.readers)
-shared_fits s h holds i v st seat l is =
+pub exclusive_fits : (s : Start) (h : List Entry) (holds : Holds) (o : Object) (w : Word) (n i v : ℕ) →
+    HoldsStand s h holds → length h + 1 < 4294967296 → n ≤ 4294967295 → v ≡ get_or holds.exclusive.items i 0 →
+    holds_after o w n v < 18446744073709551616
+exclusive_fits s h holds o w n i v st l b is =
+    let had : get_or holds.exclusive.items i 0 ≡ held s h i X = st.exclusive i in
+    omega (arith, is, had, l, st.exclusive_bound i, holds_more o w n v b)
+
+pub shared_fits : (s : Start) (h : List Entry) (holds : Holds) (o : Object) (w : Word) (n i v : ℕ) →
+    HoldsStand s h holds → i < s.header.seats → length h + 1 < 4294967296 → n ≤ 4294967295 →
+    v ≡ get_or holds.shared.items i 0 →
+    (holds_after o w n v < 18446744073709551616) × (v ≤ holds.readers)
+shared_fits s h holds o w n i v st seat l b is =
     let part : held s h i S ≤ readers (counts s h) =
     part_of_total s.header.seats (λ j. held s h j S) i seat in
-    let had : get_or holds.shared.items i 0 ≡ held s h i S = st.shared i in
-    (omega (arith, is, had, part, st.shared_bound, l), omega (arith, is, had, part, st.reads))
+    let had : get_or holds.shared.items i 0 ≡ held s h i S = st.shared i in (
+      omega (arith, is, had, part, st.shared_bound, l, holds_more o w n v b),
+      omega (arith, is, had, part, st.reads),
+    )
 
 -- nobody holds anything at the opening
 no_total : (n : ℕ) → total n (λ i. 0) ≡ 0

@@ -6,9 +6,9 @@ ghost use Rattle.history.specs.Naming.{named_by};
 ghost use Rattle.history.specs.Sleepers.{last_sleep};
 ghost use Rattle.history.specs.Start.{Start};
 ghost use Rattle.history.specs.Steps.{plain, ended, queued_entry, sleeping_entry, back};
-ghost use Rattle.frame.specs.Seat.{sleep_of};
+ghost use Rattle.deciding.specs.Sleep.{sleep_of};
 
-use crate::seat::LastSleep;
+use crate::sleep::LastSleep;
 use history::arrival::Arrival;
 use history::entry::{End, Entry, Mode, Word};
 use history::step::Step;
@@ -103,18 +103,16 @@ pub fn sleeping_entry(seat: u16, sleep: LastSleep, step: Step) -> Option<Entry>
 pub fn named(before: Option<u16>, after: Option<u16>, seat: u16) -> Option<u16>
     ensures { result ≡ named_by before after seat }
 {
-    match after {
-        None => None,
-        Some(first) => {
-            let was_ready = match before {
-                None => false,
-                Some(was) => was == first,
-            };
-            if first != seat && !was_ready {
-                Some(first)
-            } else {
-                None
-            }
-        }
+    let Some(first) = after else {
+        return None;
+    };
+    let was_ready = match before {
+        None => false,
+        Some(was) => was == first,
+    };
+    if first == seat || was_ready {
+        None
+    } else {
+        Some(first)
     }
 }

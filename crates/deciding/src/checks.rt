@@ -4,7 +4,7 @@ ghost use Rattle.std.specs.Prelude.{◌≡◌};
 ghost use Rattle.history.specs.Faults.{is_wrong_mode, is_no_condition, is_bad_amount, is_bad_number, lacks_mode};
 ghost use Rattle.history.specs.Object.{is_lock, is_semaphore, is_latch};
 ghost use Rattle.history.specs.Phase.{waits};
-ghost use Rattle.frame.specs.Checks.{refused_as};
+ghost use Rattle.deciding.specs.Checks.{refused_as};
 
 use history::entry::Mode;
 use history::fault::Fault;
@@ -33,14 +33,14 @@ pub fn waits(step: Step) -> bool
     matches!(step, Step::Look | Step::Expire | Step::Interrupt)
 }
 
-/// Whether it is owned, has conditions, and keeps room for each hold.
+/// Whether the object is owned, has conditions, and keeps room for each hold: a lock or a read-write lock.
 pub fn is_lock(object: Object) -> bool
     ensures { result ≡ is_lock object }
 {
     matches!(object, Object::Lock(_) | Object::ReadWrite(_))
 }
 
-pub fn is_semaphore(object: Object) -> bool
+fn is_semaphore(object: Object) -> bool
     ensures { result ≡ is_semaphore object }
 {
     matches!(object, Object::Semaphore(_, _))

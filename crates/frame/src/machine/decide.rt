@@ -6,14 +6,14 @@ ghost use Rattle.history.specs.Phase.{waits};
 ghost use Rattle.history.specs.Object.{is_lock};
 ghost use Rattle.history.specs.Steps.{acquired, awaits, entry_for, gave, idle_entry, line_entry, signals};
 ghost use Rattle.history.specs.Steps.{tried, tried_fairly};
-ghost use Rattle.frame.specs.Checks.{refused_as, in_phase};
+ghost use Rattle.deciding.specs.Checks.{refused_as, in_phase};
 ghost use Rattle.frame.specs.Core.{start_of, counts_of, first_mode_of, phase_of, ready_of};
 ghost use Rattle.frame.specs.Hooks.{line_mode};
 
 use super::Core;
-use crate::checks::{refused_as, waits};
-use crate::entries::{back, plain, queued_entry, sleeping_entry};
 use crate::hooks::{Hooks, Line};
+use deciding::checks::{refused_as, waits};
+use deciding::entries::{back, plain, queued_entry, sleeping_entry};
 use history::arrival::Arrival;
 use history::entry::{End, Entry, Mode, Word};
 use history::fault::Fault;
