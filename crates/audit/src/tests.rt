@@ -9,22 +9,10 @@ ghost use Rattle.history.specs.Legal.{AreSeated};
 ghost use Rattle.history.specs.Start.{opening};
 
 use history::entries::History;
-use history::entry::{End, Entry, Mode, Word};
+use history::entry::Entry;
 use history::fault::Fault;
 use history::header::Header;
 use std::alloc::Global;
-
-/// An entry of no condition and no wait.
-fn of(seat: u16, word: Word, mode: Mode, n: u32) -> Entry {
-    Entry {
-        seat,
-        word,
-        mode,
-        n,
-        at: 0,
-        end: End::None,
-    }
-}
 
 fn history_of(alloc: Global, header: &Header, entries: &[Entry]) -> Result<History, Fault>
     ensures { IfOk result (λ history. history.cap ≡ header.now.cap) }

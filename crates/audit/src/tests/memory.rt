@@ -9,10 +9,11 @@ ghost use Rattle.history.specs.Header.{IsInRange};
 ghost use Rattle.history.specs.Legal.{AreSeated};
 ghost use Rattle.history.specs.Start.{opening};
 
-use super::{are_seated, history_of, of};
+use super::{are_seated, history_of};
 use crate::sums::Totals;
 use crate::totals::totals;
 use crate::verdict::{Verdict, check};
+use deciding::entries::plain;
 use history::entries::History;
 use history::entry::{End, Entry, Mode, Word};
 use history::fault::Fault;
@@ -107,9 +108,9 @@ fn signalled(alloc: Global) -> Result<History, Fault>
     ensures { IfOk result (λ history. history.cap ≡ 64) }
 {
     let entries = [
-        of(0, Word::Got, Mode::X, 1),
+        plain(0, Word::Got, Mode::X, 1),
         on_condition(0, Word::Await),
-        of(1, Word::Got, Mode::X, 1),
+        plain(1, Word::Got, Mode::X, 1),
         on_condition(1, Word::Signal),
     ];
     history_of(alloc, &HEADER, &entries)
@@ -133,7 +134,7 @@ fn each_request_of_a_check_that_finds_a_wrong_entry_is_refused(
 ) -> Result<(), Fail> {
     let mut history = signalled(rt.alloc())?;
     history.make_room(1)?;
-    history.add(of(0, Word::TryGot, Mode::X, 1), 0);
+    history.add(plain(0, Word::TryGot, Mode::X, 1), 0);
     assert!(rt; HEADER.in_range());
     assert!(rt; are_seated(&HEADER, &history));
     let (verdict, refused) = fed_check(rt.alloc(), &HEADER, &history)?;

@@ -5,10 +5,11 @@ ghost use Rattle.history.specs.Header.{IsInRange};
 ghost use Rattle.history.specs.Legal.{AreSeated};
 ghost use Rattle.history.specs.Start.{opening};
 
-use super::{are_seated, history_of, of};
+use super::{are_seated, history_of};
 use crate::sums::Totals;
 use crate::totals::totals;
 use crate::verdict::{Verdict, check};
+use deciding::entries::plain;
 use history::entries::History;
 use history::entry::{End, Entry, Mode, Word};
 use history::fault::Fault;
@@ -51,7 +52,7 @@ fn a_read_write_lock_has_holds_a_line_and_sleepers(rt: HostRuntime) -> Result<()
         cap: 64,
     };
     let entries = [
-        of(0, Word::Got, Mode::X, 1),
+        plain(0, Word::Got, Mode::X, 1),
         Entry {
             seat: 0,
             word: Word::Await,
@@ -60,10 +61,10 @@ fn a_read_write_lock_has_holds_a_line_and_sleepers(rt: HostRuntime) -> Result<()
             at: 1,
             end: End::None,
         },
-        of(1, Word::Got, Mode::X, 1),
-        of(1, Word::Got, Mode::X, 1),
-        of(1, Word::Got, Mode::S, 1),
-        of(2, Word::Queued, Mode::S, 1),
+        plain(1, Word::Got, Mode::X, 1),
+        plain(1, Word::Got, Mode::X, 1),
+        plain(1, Word::Got, Mode::S, 1),
+        plain(2, Word::Queued, Mode::S, 1),
     ];
     let history = history_of(rt.alloc(), &header, &entries)?;
     assert!(rt; header.in_range());
@@ -91,9 +92,9 @@ fn a_semaphore_has_permits_held_free_and_unheld(rt: HostRuntime) -> Result<(), F
         cap: 64,
     };
     let entries = [
-        of(0, Word::Got, Mode::S, 1),
-        of(1, Word::Gave, Mode::S, 3),
-        of(2, Word::Queued, Mode::S, 5),
+        plain(0, Word::Got, Mode::S, 1),
+        plain(1, Word::Gave, Mode::S, 3),
+        plain(2, Word::Queued, Mode::S, 5),
     ];
     let history = history_of(rt.alloc(), &header, &entries)?;
     assert!(rt; header.in_range());
@@ -122,8 +123,8 @@ fn a_latch_has_a_count_and_a_line(rt: HostRuntime) -> Result<(), Fail> {
         cap: 64,
     };
     let entries = [
-        of(1, Word::Queued, Mode::S, 1),
-        of(0, Word::Counted, Mode::S, 1),
+        plain(1, Word::Queued, Mode::S, 1),
+        plain(0, Word::Counted, Mode::S, 1),
     ];
     let history = history_of(rt.alloc(), &header, &entries)?;
     assert!(rt; header.in_range());

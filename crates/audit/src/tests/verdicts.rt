@@ -1,7 +1,8 @@
 //! Verdicts on worked histories.
 
-use super::{are_seated, history_of, of};
+use super::{are_seated, history_of};
 use crate::verdict::{Verdict, check};
+use deciding::entries::plain;
 use history::entry::{Mode, Word};
 use history::header::{Header, Object, Policy};
 use std::test::Fail;
@@ -17,10 +18,10 @@ const LOCK: Header = Header {
 #[test]
 fn a_lock_handed_over_is_legal(rt: HostRuntime) -> Result<(), Fail> {
     let entries = [
-        of(0, Word::Got, Mode::X, 1),
-        of(1, Word::Queued, Mode::X, 1),
-        of(0, Word::Gave, Mode::X, 1),
-        of(1, Word::Granted, Mode::X, 1),
+        plain(0, Word::Got, Mode::X, 1),
+        plain(1, Word::Queued, Mode::X, 1),
+        plain(0, Word::Gave, Mode::X, 1),
+        plain(1, Word::Granted, Mode::X, 1),
     ];
     let history = history_of(rt.alloc(), &LOCK, &entries)?;
     assert!(rt; LOCK.in_range());
@@ -33,11 +34,11 @@ fn a_lock_handed_over_is_legal(rt: HostRuntime) -> Result<(), Fail> {
 #[test]
 fn barging_in_a_fair_lock_is_the_first_wrong_entry(rt: HostRuntime) -> Result<(), Fail> {
     let entries = [
-        of(0, Word::Got, Mode::X, 1),
-        of(1, Word::Queued, Mode::X, 1),
-        of(0, Word::Gave, Mode::X, 1),
-        of(2, Word::Got, Mode::X, 1),
-        of(0, Word::Gave, Mode::X, 1),
+        plain(0, Word::Got, Mode::X, 1),
+        plain(1, Word::Queued, Mode::X, 1),
+        plain(0, Word::Gave, Mode::X, 1),
+        plain(2, Word::Got, Mode::X, 1),
+        plain(0, Word::Gave, Mode::X, 1),
     ];
     let history = history_of(rt.alloc(), &LOCK, &entries)?;
     assert!(rt; LOCK.in_range());
@@ -53,10 +54,10 @@ fn barging_in_a_fair_lock_is_the_first_wrong_entry(rt: HostRuntime) -> Result<()
 #[test]
 fn a_try_past_the_line_is_legal(rt: HostRuntime) -> Result<(), Fail> {
     let entries = [
-        of(0, Word::Got, Mode::X, 1),
-        of(1, Word::Queued, Mode::X, 1),
-        of(0, Word::Gave, Mode::X, 1),
-        of(2, Word::TryGot, Mode::X, 1),
+        plain(0, Word::Got, Mode::X, 1),
+        plain(1, Word::Queued, Mode::X, 1),
+        plain(0, Word::Gave, Mode::X, 1),
+        plain(2, Word::TryGot, Mode::X, 1),
     ];
     let history = history_of(rt.alloc(), &LOCK, &entries)?;
     assert!(rt; LOCK.in_range());
