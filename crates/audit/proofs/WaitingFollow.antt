@@ -17,16 +17,13 @@ use Rattle.history.specs.Start.{Start, opening}
 use Rattle.history.specs.Start as start
 use Rattle.history.proofs.LineLemmas.{line_after, stays, no_arrival}
 use Rattle.audit.specs.declared.waiting.Sleeper.{Sleeper}
+use Rattle.history.proofs.Changes.{all_stay, either_way}
 use Rattle.deciding.specs.Sleep.{sleep_of}
 use Rattle.deciding.specs.declared.sleep.LastSleep.{LastSleep}
 use Rattle.audit.specs.declared.waiting.Waiting.{Waiting}
 use Rattle.audit.specs.Waiting.{seats_on, ended_by, never_slept, WaitingStand}
 
 -- the line behind an entry: nobody leaves, or its seat does
-all_stay : (w : Word) (i : ℕ) (q : List Arrival) → ends_arrival w ≡ false → filter (stays w i) q ≡ q
-all_stay w i [] t = refl
-all_stay w i (a ∷ q) t = let s : stays w i a ≡ true = rw t refl in rw s (ap (λ l. a ∷ l) (all_stay w i q t))
-
 line_more : (s : Start) (e : Entry) (h : List Entry) → ends_arrival e.word ≡ false →
     line s (e ∷ h) ≡ line s h ++ arrivals_by s e.word e h
 line_more s e h t = line_after s e h ∙ ap (λ l. l ++ arrivals_by s e.word e h)
@@ -51,10 +48,6 @@ abbrev pub saves_nothing : Word → Bool
 saves_nothing word.Await = false
 saves_nothing word.Lapse = false
 saves_nothing _ = true
-
-either_way : {A : Type 0} (b : Bool) (x y : A) → x ≡ y → cond b x y ≡ y
-either_way true x y q = q
-either_way false x y q = refl
 
 after_same : (w : Word) (i n : ℕ) (xs : List ℕ) → wakes_nobody w ≡ true → sleepers_after w i n xs ≡ xs
 after_same word.Await i n xs t = cc
