@@ -16,7 +16,7 @@ use crate::replay_stream::replay_stream;
 use crate::sink::Sink;
 use crate::source::Source;
 use crate::stream_fault::StreamFault;
-use examples::{EXAMPLES, Example};
+use examples::{Example, situations};
 use std::process::Abort;
 use std::test::Fail;
 use steps::TextFault;
@@ -71,11 +71,6 @@ fn streamed<R: Abort + AllocGlobal>(
         matches!(answer, Err(StreamFault::WriteFailed))
     );
     Ok((answer, sink))
-}
-
-/// The known situations. Proofs of other functions don't look into them.
-fn situations() -> &'static [Example] {
-    &EXAMPLES
 }
 
 /// A text that comes and goes in pieces of any size is answered so.

@@ -18,36 +18,19 @@ use history::entries::History;
 use history::entry::{End, Entry, Mode, Word};
 use history::fault::Fault;
 use history::header::{Header, Object, Policy};
+use scarce_memory::Memory;
 use std::alloc::Global;
 use std::test::Fail;
 
-/// More small blocks than an audit needs.
-const BLOCKS: usize = 4096;
+/// A request takes a piece of this size or more.
+const PIECE: usize = 16;
+
+/// More pieces than an audit needs.
+const MOST: usize = 4096;
 
 /// What an audit of the history below asks memory for: two tables of holds, one of last sleeps, a list of
 /// sleepers and a line.
 const REQUESTS: usize = 5;
-
-/// All memory: blocks of 16 bytes, and then what else the heap gives, in blocks of each size down to that.
-fn all_memory(alloc: Global) -> Result<(Vec<Vec<u8>>, Vec<Vec<u8>>), Fail> {
-    let mut small = Vec::with_capacity(alloc, BLOCKS)?;
-    for _ in 0..BLOCKS {
-        small.push(Vec::with_capacity(alloc, 16)?)?;
-    }
-    let mut rest = Vec::with_capacity(alloc, 65_536)?;
-    let mut size: usize = 1 << 46;
-    for _ in 0..65_536 {
-        match Vec::with_capacity(alloc, size) {
-            Ok(block) => rest.push(block)?,
-            Err(_) if size <= 1024 => size = size.saturating_sub(16),
-            Err(_) => size /= 2,
-        }
-        if size < 16 {
-            break;
-        }
-    }
-    Ok((small, rest))
-}
 
 /// The verdict, once there is memory for it, and how often memory was refused before.
 fn fed_check(alloc: Global, header: &Header, history: &History) -> Result<(Verdict, usize), Fail>
@@ -55,11 +38,13 @@ fn fed_check(alloc: Global, header: &Header, history: &History) -> Result<(Verdi
     requires cap { history.now.cap ≡ header.now.cap }
     requires seated { AreSeated (opening header.now) history.now.entries }
 {
-    let (mut small, _rest) = all_memory(alloc)?;
-    for refused in 0..BLOCKS {
+    let mut memory = Memory::take_all(alloc, PIECE)?;
+    for refused in 0..MOST {
         match check(alloc, header, history) {
             Ok(verdict) => return Ok((verdict, refused)),
-            Err(_) => drop(small.pop()),
+            Err(_) => {
+                let _was_left = memory.give_piece();
+            }
         }
     }
     Err(Fail::new("memory was refused to the end"))
@@ -75,11 +60,13 @@ fn fed_totals(alloc: Global, header: &Header, history: &History) -> Result<(Tota
         Verdict::NotLegal(_) => return Err(Fail::new("the history is not legal")),
         Verdict::Legal => {}
     }
-    let (mut small, _rest) = all_memory(alloc)?;
-    for refused in 0..BLOCKS {
+    let mut memory = Memory::take_all(alloc, PIECE)?;
+    for refused in 0..MOST {
         match totals(alloc, header, history) {
             Ok(totals) => return Ok((totals, refused)),
-            Err(_) => drop(small.pop()),
+            Err(_) => {
+                let _was_left = memory.give_piece();
+            }
         }
     }
     Err(Fail::new("memory was refused to the end"))

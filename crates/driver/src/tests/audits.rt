@@ -2,8 +2,6 @@
 
 ghost use Rattle.std.specs.Prelude.{◌<◌};
 
-use super::memory::all_memory;
-use super::situations;
 use super::spoiled::SPOILED;
 use crate::audit_stream::audit_stream;
 use crate::memory_sink::MemorySink;
@@ -12,8 +10,10 @@ use crate::sink::Sink;
 use crate::source::Source;
 use crate::stream_fault::StreamFault;
 use audit::verdict::Verdict;
+use examples::situations;
 use history::fault::Fault;
 use history_text::{read_text, write_text};
+use scarce_memory::all_memory;
 use std::alloc::Global;
 use std::process::Abort;
 use std::test::Fail;

@@ -1,9 +1,10 @@
 //! Each cut and each changed byte of the worked examples' texts, one byte at a time.
 
 use super::plain::plainly_read;
-use super::{AMPLE, situations, streamed};
+use super::{AMPLE, streamed};
 use crate::form::Form;
 use crate::stream_fault::StreamFault;
+use examples::situations;
 use std::alloc::{AllocError, Global};
 use std::process::Abort;
 use std::test::Fail;

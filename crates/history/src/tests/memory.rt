@@ -1,32 +1,14 @@
 //! Memory that is refused.
-//!
-//! Nothing stands between these calls and the heap, so a test takes all addresses first: each further growth
-//! is then refused for true. Untouched memory costs next to nothing.
 
 use crate::entries::History;
 use crate::entry::{End, Entry, Mode, Word};
 use crate::fault::Fault;
 use crate::header::{Header, Object, Policy};
+use scarce_memory::all_memory;
 use std::alloc::Global;
 use std::test::Fail;
 
 const SMALL: usize = 65_536;
-
-/// Takes what the heap gives, down to blocks of `SMALL` bytes.
-fn all_memory(alloc: Global) -> Result<Vec<Vec<u8>>, Fail> {
-    let mut taken = Vec::with_capacity(alloc, 65_536)?;
-    let mut size: usize = 1 << 46;
-    for _ in 0..65_536 {
-        match Vec::with_capacity(alloc, size) {
-            Ok(block) => taken.push(block)?,
-            Err(_) => size /= 2,
-        }
-        if size < SMALL {
-            break;
-        }
-    }
-    Ok(taken)
-}
 
 /// Bytes with no place left.
 fn full_bytes(alloc: Global) -> Result<Vec<u8>, Fail> {
@@ -56,7 +38,7 @@ fn writers_leave_the_bytes_as_they_were(rt: HostRuntime) -> Result<(), Fail> {
     assert!(rt; header.in_range());
     assert!(rt; entry.is_spelt());
     let mut out = full_bytes(rt.alloc())?;
-    let taken = all_memory(rt.alloc())?;
+    let taken = all_memory(rt.alloc(), SMALL)?;
     assert_eq!(rt; header.write_part(&mut out), Err(Fault::OutOfMemory));
     assert_eq!(rt; entry.write_words(&mut out), Err(Fault::OutOfMemory));
     assert_eq!(rt; out.len(), SMALL);
@@ -81,7 +63,7 @@ fn a_refused_growth_leaves_the_list_as_it_was(rt: HostRuntime) -> Result<(), Fai
     history.make_room(2)?;
     let places = history.places();
     history.add(entry, 1);
-    let taken = all_memory(rt.alloc())?;
+    let taken = all_memory(rt.alloc(), SMALL)?;
     assert_eq!(rt; history.make_room(100_000), Err(Fault::OutOfMemory));
     assert_eq!(rt; history.make_room(1_000_000), Err(Fault::HistoryFull));
     assert_eq!(rt;
