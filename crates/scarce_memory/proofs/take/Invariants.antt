@@ -5,6 +5,7 @@ use Rattle.scarce_memory.proofs.take.Given as goal
 abbrev pub invariant-loop : goal.invariant-loop
 invariant-loop l =
     record {
-      blocks : All (λ block. l.least ≤ vec_capacity block) l.fn.blocks.items → All (λ block. l.least ≤ vec_capacity block) l.blocks.items;
+      blocks : All (λ block. l.least ≤ vec_capacity block) l.fn.blocks.items →
+          All (λ block. l.least ≤ vec_capacity block) l.blocks.items;
       size : l.least ≤ l.size;
     }

@@ -10,7 +10,8 @@ pub holds_after-has-requires : goal.holds_after-has-requires
 holds_after-has-requires c =
     let b = c.requires.bounds in
     let e = c.args.entry in
-    exclusive_fits b.0 b.1 c.args.self.now c.args.object e.word e.n e.seat c.index-had.result.now b.2 b.3 (omega arith)
+    exclusive_fits b.0 b.1 c.args.self.now c.args.object e.word e.n e.seat c.index-had.result.now b.2 b.3
+    (omega arith)
     (get_or_read _ _ _ c.requires.seat.0 c.index-had.ensures 0)
 
 pub holds_after-has-requires-in-S : goal.holds_after-has-requires-in-S
