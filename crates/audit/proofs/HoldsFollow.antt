@@ -4,16 +4,21 @@ use Rattle.std.proofs.lemmas.Bool.{cases_eq, eq-eqb, ne_eqb, ltb-true, ltb-false
 use Rattle.std.proofs.Math.ListN.{length-set}
 use Rattle.history.specs.declared.entry.Entry.{Entry}
 use Rattle.history.specs.declared.entry.Mode.TheVariants.{X, S}
+use Rattle.history.specs.declared.entry.Word.{Word}
+use Rattle.history.specs.declared.header.Object.{Object}
 use Rattle.history.specs.Could.{is_seat}
-use Rattle.history.specs.Counts.{counts, held, holds_after, owner, readers, total, seat_with}
+use Rattle.history.specs.Counts.{counts, held, holds_after, owner, readers}
 use Rattle.history.specs.Entry.{same_mode}
 use Rattle.history.specs.Object.{is_lock}
 use Rattle.history.specs.declared.header.Header.{Header}
 use Rattle.history.specs.Start.{Start, opening}
-use Rattle.history.proofs.Sums.{total_change, total_same}
+use Rattle.history.proofs.Owners.{seat_with_found, seat_with_nobody}
+use Rattle.history.proofs.SleepLemmas.{held_other}
+use Rattle.history.proofs.Sums.{seat_with_none, total_change, total_nothing, total_same}
+use Rattle.history.proofs.Times.{total_part}
 use Rattle.audit.specs.declared.holds.Holds.{Holds}
 use Rattle.audit.specs.Holds.{HoldsStand, IsOnlyOwner, owner_after, most_held}
-use Rattle.audit.proofs.HoldsLemmas.{held_here, held_there, held_other_mode, holds_more, table_follows, table_stays, part_of_total, seat_with_some, seat_with_nobody, seat_with_same, seat_with_zero, seat_with_only}
+use Rattle.audit.proofs.HoldsLemmas.{held_here, held_other_mode, holds_more, table_follows, table_stays, seat_with_same, seat_with_zero, seat_with_only}
 
 -- the owner behind an entry in mode X, where nobody owns beside another
 owner_follows : (s : Start) (e : Entry) (h : List Entry) (was : Option ℕ) → e.seat < s.header.seats →
@@ -27,22 +32,22 @@ owner_follows s e h was seat mode old new is = by (ltb 0 (held s (e ∷ h) e.sea
     all_zero : (j : ℕ) → was ≡ Some j → e.seat ≡ j → ltb 0 (held s (e ∷ h) e.seat X) ≡ false → (i : ℕ) →
         held s (e ∷ h) i X ≡ 0
     all_zero j o q t i =
-        let had : 0 < held s h j X = (seat_with_some s.header.seats (λ i. held s h i X) j (sym is ∙ o)).0 in
+        let had : 0 < held s h j X = (seat_with_found s.header.seats (λ i. held s h i X) j (sym is ∙ o)).1 in
         ⊎_elim (λ x. ap (λ i. held s (e ∷ h) i X) (sym x) ∙ has_none t)
-        (λ ne. held_there s e h i X ne ∙ old j i had (λ x. ne (q ∙ x))) (cases_eq e.seat i)
+        (λ ne. held_other s e h i X ne ∙ old j i had (λ x. ne (q ∙ x))) (cases_eq e.seat i)
 
     stays : (j : ℕ) → was ≡ Some j → (e.seat ≡ j → ⊥) → owner (counts s (e ∷ h)) ≡ Some j
     stays j o ne =
-        let had = seat_with_some s.header.seats (λ i. held s h i X) j (sym is ∙ o) in
-        let now : held s (e ∷ h) j X ≡ held s h j X = held_there s e h j X ne in
-        let some : 0 < held s (e ∷ h) j X = omega (arith, had.0, now) in
-        seat_with_only s.header.seats (λ i. held s (e ∷ h) i X) j had.1 some (λ i d. new j i some d)
+        let had = seat_with_found s.header.seats (λ i. held s h i X) j (sym is ∙ o) in
+        let now : held s (e ∷ h) j X ≡ held s h j X = held_other s e h j X ne in
+        let some : 0 < held s (e ∷ h) j X = omega (arith, had.1, now) in
+        seat_with_only s.header.seats (λ i. held s (e ∷ h) i X) j had.0 some (λ i d. new j i some d)
 
     empty : was ≡ None → ltb 0 (held s (e ∷ h) e.seat X) ≡ false → owner (counts s (e ∷ h)) ≡ None
     empty o t = seat_with_zero s.header.seats (λ i. held s (e ∷ h) i X) (λ i l.
         ⊎_elim (λ x. ap (λ i. held s (e ∷ h) i X) (sym x) ∙ has_none t)
-        (λ ne. held_there s e h i X ne
-        ∙ seat_with_nobody s.header.seats (λ i. held s h i X) (sym is ∙ o) i l) (cases_eq e.seat i))
+        (λ ne. held_other s e h i X ne
+        ∙ seat_with_nobody s.header.seats (λ i. held s h i X) i (sym is ∙ o) l) (cases_eq e.seat i))
 
     gone : (o : Option ℕ) → was ≡ o → ltb 0 (held s (e ∷ h) e.seat X) ≡ false →
         cond (is_seat o e.seat) None o ≡ owner (counts s (e ∷ h))
@@ -70,7 +75,7 @@ each_bound s e h n mode p i = ⊎_elim
     (λ q. let a = held_here s e h i X q mode in
     let b = holds_more s.header.object e.word e.n (held s h i X) n in let c = p i in
     omega (arith, a, b, c))
-    (λ ne. let a = held_there s e h i X ne in let c = p i in omega (arith, a, c)) (cases_eq e.seat i)
+    (λ ne. let a = held_other s e h i X ne in let c = p i in omega (arith, a, c)) (cases_eq e.seat i)
 
 -- an entry in mode X
 pub stands_exclusive : (s : Start) (e : Entry) (h : List Entry) (old new : Holds) → HoldsStand s h old →
@@ -123,11 +128,11 @@ stands_shared s e h old new st seat mode amount sh x ow re =
     ≡ held s (e ∷ h) e.seat S = ap (holds_after s.header.object e.word e.n) had
     ∙ sym (held_here s e h e.seat S refl same) in
     let part : held s h e.seat S ≤ readers (counts s h) =
-    part_of_total s.header.seats (λ i. held s h i S) e.seat seat in
+    total_part s.header.seats (λ i. held s h i S) e.seat seat in
     let change : readers (counts s (e ∷ h)) + held s h e.seat S
     ≡ readers (counts s h) + held s (e ∷ h) e.seat S =
     total_change s.header.seats (λ i. held s (e ∷ h) i S) (λ i. held s h i S) e.seat seat
-    (λ i ne. held_there s e h i S (λ q. ne (sym q))) in
+    (λ i ne. held_other s e h i S (λ q. ne (sym q))) in
     let more = holds_more s.header.object e.word e.n (get_or old.shared.items e.seat 0) amount in
     record {
       exclusive_seats = ap length x ∙ st.exclusive_seats;
@@ -145,24 +150,26 @@ stands_shared s e h old new st seat mode amount sh x ow re =
     }
 
 -- the holds of one seat fit 64 bits with an entry more
-pub shared_fits : (s : Start) (h : List Entry) (holds : Holds) (i v : ℕ) → HoldsStand s h holds →
-    i < s.header.seats → length h + 1 < 4294967296 → v ≡ get_or holds.shared.items i 0 →
-    (v + 4294967295 < 18446744073709551616) × (v ≤ holds.readers)
-shared_fits s h holds i v st seat l is =
+pub exclusive_fits : (s : Start) (h : List Entry) (holds : Holds) (o : Object) (w : Word) (n i v : ℕ) →
+    HoldsStand s h holds → length h + 1 < 4294967296 → n ≤ 4294967295 → v ≡ get_or holds.exclusive.items i 0 →
+    holds_after o w n v < 18446744073709551616
+exclusive_fits s h holds o w n i v st l b is =
+    let had : get_or holds.exclusive.items i 0 ≡ held s h i X = st.exclusive i in
+    omega (arith, is, had, l, st.exclusive_bound i, holds_more o w n v b)
+
+pub shared_fits : (s : Start) (h : List Entry) (holds : Holds) (o : Object) (w : Word) (n i v : ℕ) →
+    HoldsStand s h holds → i < s.header.seats → length h + 1 < 4294967296 → n ≤ 4294967295 →
+    v ≡ get_or holds.shared.items i 0 →
+    (holds_after o w n v < 18446744073709551616) × (v ≤ holds.readers)
+shared_fits s h holds o w n i v st seat l b is =
     let part : held s h i S ≤ readers (counts s h) =
-    part_of_total s.header.seats (λ j. held s h j S) i seat in
-    let had : get_or holds.shared.items i 0 ≡ held s h i S = st.shared i in
-    (omega (arith, is, had, part, st.shared_bound, l), omega (arith, is, had, part, st.reads))
+    total_part s.header.seats (λ j. held s h j S) i seat in
+    let had : get_or holds.shared.items i 0 ≡ held s h i S = st.shared i in (
+      omega (arith, is, had, part, st.shared_bound, l, holds_more o w n v b),
+      omega (arith, is, had, part, st.reads),
+    )
 
 -- nobody holds anything at the opening
-no_total : (n : ℕ) → total n (λ i. 0) ≡ 0
-no_total zero = refl
-no_total (suc n) = omega (arith, no_total n)
-
-no_seat : (n : ℕ) → seat_with n (λ i. 0) ≡ None
-no_seat zero = refl
-no_seat (suc n) = no_seat n
-
 pub stands_opened : (k : Header) (holds : Holds) → length holds.exclusive.items ≡ k.seats →
     length holds.shared.items ≡ k.seats → ((i : ℕ) → get_or holds.exclusive.items i 0 ≡ 0) →
     ((i : ℕ) → get_or holds.shared.items i 0 ≡ 0) → holds.owner ≡ None → holds.readers ≡ 0 →
@@ -173,10 +180,10 @@ stands_opened k holds x sh zx zs ow re =
       shared_seats = sh;
       exclusive = zx;
       shared = zs;
-      owns = λ l. ow ∙ sym (no_seat k.seats);
-      reads = re ∙ sym (no_total k.seats);
+      owns = λ l. ow ∙ sym (seat_with_none k.seats (λ i. 0) (λ i. refl));
+      reads = re ∙ sym (total_nothing k.seats);
       exclusive_bound = λ i. omega arith;
-      shared_bound = omega (arith, no_total k.seats);
+      shared_bound = omega (arith, total_nothing k.seats);
     }
 
 pub zeros : (n i : ℕ) → ◌≡◌ {A = ℕ} (get_or (replicate n 0) i 0) 0

@@ -1,7 +1,8 @@
 -- That the tables of holds follow each entry.
-use Rattle.std.proofs.Common.{◌≡◌, ◌≢◌, ⊎_elim, ℕ, zero, suc, ◌+◌, ◌<◌, ◌≤◌, Bool, true, false, ◌&&◌, cond, eqb, ltb, List, ◌∷◌, length, get_or, set, Some, None, refl, ap, ◌∙◌, sym, subst, arith}
-use Rattle.std.proofs.lemmas.Bool.{cases_eq, eq-eqb, ne_eqb}
-use borrow.Author.Tests.{ltb-true, ltb-false}
+use Rattle.std.proofs.Common.{◌≡◌, ◌≢◌, ⊎_elim, ℕ, zero, suc, ◌+◌, ◌<◌, ◌≤◌, true, false, cond, eqb, ltb, List, ◌∷◌, length, get_or, set, Some, None, refl, ap, ◌∙◌, sym, arith}
+use Rattle.std.proofs.lemmas.Bool.{cases_eq, eq-eqb}
+use Rattle.std.proofs.Math.Bool.{and-false}
+use Rattle.history.proofs.SleepLemmas.{held_other}
 use Rattle.history.proofs.Sums.{seat_with_one}
 use Rattle.std.proofs.lemmas.List.{get_or-set_same, get_or-set_other}
 use Rattle.history.specs.declared.entry.Entry.{Entry}
@@ -10,30 +11,19 @@ use Rattle.history.specs.declared.entry.Word.{Word}
 use Rattle.history.specs.declared.entry.Word.TheVariants as word
 use Rattle.history.specs.declared.header.Object.{Object}
 use Rattle.history.specs.declared.header.Object.TheVariants.{Lock, ReadWrite, Semaphore, Latch}
-use Rattle.history.specs.Counts.{held, holds_after, total, seat_with}
+use Rattle.history.specs.Counts.{held, holds_after, seat_with}
 use Rattle.history.specs.Entry.{same_mode}
 use Rattle.history.specs.Object.{in_holds}
 use Rattle.history.specs.Start.{Start}
 
-some_same : {A : Type 0} {x y : A} → Some x ≡ Some y → x ≡ y
-some_same q = cc
-
--- the holds of the entry's seat in its mode, and all others
+-- the holds of the entry's seat in its mode, and in the other
 pub held_here : (s : Start) (e : Entry) (h : List Entry) (i : ℕ) (m : Mode) → e.seat ≡ i →
     same_mode e.mode m ≡ true → held s (e ∷ h) i m ≡ holds_after s.header.object e.word e.n (held s h i m)
 held_here s e h i m seat mode = let t : eqb e.seat i ≡ true = eq-eqb _ _ seat in rw t (rw mode refl)
 
-pub held_there : (s : Start) (e : Entry) (h : List Entry) (i : ℕ) (m : Mode) → e.seat ≢ i →
-    held s (e ∷ h) i m ≡ held s h i m
-held_there s e h i m seat = let t : eqb e.seat i ≡ false = ne_eqb _ _ seat in rw t refl
-
-and_false : (b : Bool) → (b && false) ≡ false
-and_false true = refl
-and_false false = refl
-
 pub held_other_mode : (s : Start) (e : Entry) (h : List Entry) (i : ℕ) (m : Mode) →
     same_mode e.mode m ≡ false → held s (e ∷ h) i m ≡ held s h i m
-held_other_mode s e h i m mode = rw mode (rw (and_false (eqb e.seat i)) refl)
+held_other_mode s e h i m mode = rw mode (rw (and-false (eqb e.seat i)) refl)
 
 -- one entry adds at most its amount, or one
 taken_more : (o : Object) (n had : ℕ) → n ≤ 4294967295 → had + in_holds o n ≤ had + 4294967295
@@ -75,7 +65,7 @@ table_follows s e h m table seat mode is i = ⊎_elim same other (cases_eq e.sea
         (holds_after s.header.object e.word e.n (get_or table e.seat 0))) i 0 ≡ held s (e ∷ h) i m
     other ne =
         let v = holds_after s.header.object e.word e.n (get_or table e.seat 0) in
-        get_or-set_other table e.seat i v 0 (λ q. ne (sym q)) ∙ is i ∙ sym (held_there s e h i m ne)
+        get_or-set_other table e.seat i v 0 (λ q. ne (sym q)) ∙ is i ∙ sym (held_other s e h i m ne)
 
 -- a table of the other mode stays
 pub table_stays : (s : Start) (e : Entry) (h : List Entry) (m : Mode) (table : List ℕ) →
@@ -83,38 +73,7 @@ pub table_stays : (s : Start) (e : Entry) (h : List Entry) (m : Mode) (table : L
     get_or table i 0 ≡ held s (e ∷ h) i m
 table_stays s e h m table mode is i = is i ∙ sym (held_other_mode s e h i m mode)
 
--- the sum over the seats and the seat that has something, where one seat's number changes
-pub part_of_total : (n : ℕ) (f : ℕ → ℕ) (j : ℕ) → j < n → f j ≤ total n f
-part_of_total zero f j l = absurd (omega arith)
-part_of_total (suc n) f j l = ⊎_elim (λ q. let x : f n ≡ f j = ap f q in omega (arith, x))
-    (λ ne. below (omega (arith, ne, l)) (λ b. part_of_total n f j b)) (cases_eq n j)
-  where
-    below : j < n → (j < n → f j ≤ total n f) → f j ≤ total (suc n) f
-    below b ih = let p : f j ≤ total n f = ih b in omega (arith, p)
-
-pub seat_with_some : (n : ℕ) (f : ℕ → ℕ) (j : ℕ) → seat_with n f ≡ Some j → (0 < f j) × (j < n)
-seat_with_some zero f j q = cc
-seat_with_some (suc n) f j q = by (ltb 0 (f n)) refl q (λ r. seat_with_some n f j r)
-  where
-    by : (b : Bool) → ltb 0 (f n) ≡ b → cond b (Some n) (seat_with n f) ≡ Some j →
-        (seat_with n f ≡ Some j → (0 < f j) × (j < n)) → (0 < f j) × (j < suc n)
-    by true t r ih =
-        let e : n ≡ j = some_same r in
-        let p : 0 < f n = ltb-true _ _ t in
-        let P : ℕ → Type 0 = λ i. (0 < f i) × (i < suc n) in
-        subst P e (p, omega arith)
-    by false t r ih = let p = ih r in (p.0, omega (arith, p.1))
-
-pub seat_with_nobody : (n : ℕ) (f : ℕ → ℕ) → seat_with n f ≡ None → (i : ℕ) → i < n → f i ≡ 0
-seat_with_nobody zero f q i l = absurd (omega arith)
-seat_with_nobody (suc n) f q i l = by (ltb 0 (f n)) refl q (λ r b. seat_with_nobody n f r i b)
-  where
-    by : (b : Bool) → ltb 0 (f n) ≡ b → cond b (Some n) (seat_with n f) ≡ None →
-        (seat_with n f ≡ None → i < n → f i ≡ 0) → f i ≡ 0
-    by true t r ih = cc
-    by false t r ih = ⊎_elim (λ e. let z : f n ≡ 0 = omega (arith, ltb-false 0 (f n) t) in ap f (sym e) ∙ z)
-        (λ ne. ih r (omega (arith, ne, l))) (cases_eq n i)
-
+-- the seat that has something
 pub seat_with_same : (n : ℕ) (f g : ℕ → ℕ) → ((i : ℕ) → i < n → f i ≡ g i) → seat_with n f ≡ seat_with n g
 seat_with_same zero f g h = refl
 seat_with_same (suc n) f g h =

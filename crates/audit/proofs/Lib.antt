@@ -4,7 +4,6 @@ pub mod WaitingLemmas
 pub mod WaitingFollow
 pub mod PermitsFollow
 pub mod Outcomes
-pub mod Deciding
 pub mod SleepsLemmas
 pub mod Limits
 pub mod Making

@@ -7,26 +7,19 @@ use Rattle.history.specs.declared.entry.Entry.{Entry}
 use Rattle.history.specs.declared.entry.Mode.TheVariants.{X}
 use Rattle.history.specs.declared.entry.Word.TheVariants.{Signal}
 use Rattle.history.specs.declared.header.Header.{Header}
-use Rattle.history.specs.declared.header.Object.{Object}
-use Rattle.history.specs.declared.header.Object.TheVariants.{Lock, ReadWrite, Semaphore, Latch}
 use Rattle.history.specs.Counts.{free, held}
 use Rattle.history.specs.Legal.{IsLegal, AreSeated}
 use Rattle.history.specs.Object.{is_lock, is_semaphore}
-use Rattle.history.specs.Ownership.{IsOwned, most_exclusive}
+use Rattle.history.specs.Ownership.{IsOwned}
 use Rattle.history.specs.Start.{Start, opening}
 use Rattle.history.specs.Steps.{at_most_one}
 use Rattle.history.proofs.Entering.{KnownBy, known}
 use Rattle.history.proofs.OneOwner.{owned}
+use Rattle.history.proofs.Owners.{most_fits}
 use Rattle.history.proofs.Permits.{free_fits}
 use Rattle.audit.specs.declared.ledger.Ledger.{Ledger}
 use Rattle.audit.specs.Holds.{IsOnlyOwner}
 use Rattle.audit.specs.Ledger.{LedgerStand, IsNext}
-
-small_limit : (o : Object) → most_exclusive o ≤ 2147483647
-small_limit (Lock p) = omega arith
-small_limit (ReadWrite p) = omega arith
-small_limit (Semaphore p c) = omega arith
-small_limit (Latch c) = omega arith
 
 owned_by : (s : Start) (h : List Entry) (k : Header) → s ≡ opening k → is_lock s.header.object ≡ true →
     IsLegal s h → AreSeated s h → IsOwned s h
@@ -53,7 +46,7 @@ exclusive_small s h l i st lock =
     let v = owned_by s h l.header st.opened (ap (λ (k : Header). is_lock k.object) (sym st.header) ∙ lock)
     st.legal st.seated in
     let most = v.exclusive i in
-    let small = small_limit s.header.object in
+    let small = most_fits s.header.object in
     omega (arith, most, small)
 
 fits_small : (z : ℤ) → FitsSigned w32 z → nat_abs z ≤ 2147483648

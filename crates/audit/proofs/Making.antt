@@ -30,7 +30,7 @@ use Rattle.history.specs.Steps.{plain, gave, awaits, at_most_one, idle_entry, ba
 use Rattle.history.proofs.Entering.{Admitted}
 use Rattle.history.proofs.Entering as entering
 use Rattle.audit.specs.Candidates.{candidates, IsCandidate}
-use Rattle.audit.proofs.Deciding.{entry_admitted, in_phase_made}
+use Rattle.deciding.proofs.InPhase.{entry_admitted, in_phase_made}
 
 -- A candidate that makes an entry.
 pub record Found (s : Start) (h : List Entry) (i : ℕ) (e : Entry) : Type 0 where

@@ -1,5 +1,6 @@
 -- Entries whose numbers are the same are the same.
 use Rattle.std.proofs.Common.{◌≡◌, ℕ, Bool, true, false, ◌&&◌, eqb, eqb-true, eq-eqb, List, [], ◌∷◌, get_or, refl, ap, ◌∙◌, sym}
+use Rattle.std.proofs.lemmas.Bool.{and_parts}
 use Rattle.history.specs.declared.entry.Entry.{Entry}
 use Rattle.history.specs.declared.entry.End.{End}
 use Rattle.history.specs.declared.entry.End.TheVariants as end
@@ -79,18 +80,14 @@ end_again end.Signalled = refl
 abbrev entry_by : ℕ → Word → Mode → ℕ → ℕ → End → Entry
 entry_by i w m n c how = record { seat = i; word = w; mode = m; n = n; at = c; end = how }
 
-both : (x y : Bool) → (x && y) ≡ true → (x ≡ true) × (y ≡ true)
-both true y t = (refl, t)
-both false y t = absurd (cc)
-
 pub same_entries : (a b : Entry) → agree a b ≡ true → a ≡ b
 same_entries a b t =
-    let p1 = both _ _ t in
-    let p2 = both _ _ p1.1 in
-    let p3 = both _ _ p2.1 in
-    let p4 = both _ _ p3.1 in
-    let p5 = both _ _ p4.1 in
-    let p6 = both _ _ p5.1 in
+    let p1 = and_parts _ _ t in
+    let p2 = and_parts _ _ p1.1 in
+    let p3 = and_parts _ _ p2.1 in
+    let p4 = and_parts _ _ p3.1 in
+    let p5 = and_parts _ _ p4.1 in
+    let p6 = and_parts _ _ p5.1 in
     let seat : a.seat ≡ b.seat = eqb-true a.seat b.seat p1.0 in
     let n : a.n ≡ b.n = eqb-true a.n b.n p2.0 in
     let at : a.at ≡ b.at = eqb-true a.at b.at p3.0 in

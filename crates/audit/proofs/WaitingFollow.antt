@@ -17,15 +17,13 @@ use Rattle.history.specs.Start.{Start, opening}
 use Rattle.history.specs.Start as start
 use Rattle.history.proofs.LineLemmas.{line_after, stays, no_arrival}
 use Rattle.audit.specs.declared.waiting.Sleeper.{Sleeper}
-use Rattle.audit.specs.declared.waiting.Sleep.{Sleep}
+use Rattle.history.proofs.Changes.{all_stay, either_way}
+use Rattle.deciding.specs.Sleep.{sleep_of}
+use Rattle.deciding.specs.declared.sleep.LastSleep.{LastSleep}
 use Rattle.audit.specs.declared.waiting.Waiting.{Waiting}
-use Rattle.audit.specs.Waiting.{seats_on, sleep_of, ended_by, never_slept, WaitingStand}
+use Rattle.audit.specs.Waiting.{seats_on, ended_by, never_slept, WaitingStand}
 
 -- the line behind an entry: nobody leaves, or its seat does
-all_stay : (w : Word) (i : ℕ) (q : List Arrival) → ends_arrival w ≡ false → filter (stays w i) q ≡ q
-all_stay w i [] t = refl
-all_stay w i (a ∷ q) t = let s : stays w i a ≡ true = rw t refl in rw s (ap (λ l. a ∷ l) (all_stay w i q t))
-
 line_more : (s : Start) (e : Entry) (h : List Entry) → ends_arrival e.word ≡ false →
     line s (e ∷ h) ≡ line s h ++ arrivals_by s e.word e h
 line_more s e h t = line_after s e h ∙ ap (λ l. l ++ arrivals_by s e.word e h)
@@ -51,10 +49,6 @@ saves_nothing word.Await = false
 saves_nothing word.Lapse = false
 saves_nothing _ = true
 
-either_way : {A : Type 0} (b : Bool) (x y : A) → x ≡ y → cond b x y ≡ y
-either_way true x y q = q
-either_way false x y q = refl
-
 after_same : (w : Word) (i n : ℕ) (xs : List ℕ) → wakes_nobody w ≡ true → sleepers_after w i n xs ≡ xs
 after_same word.Await i n xs t = cc
 after_same word.Lapse i n xs t = cc
@@ -75,7 +69,7 @@ sleep_same : (s : Start) (e : Entry) (h : List Entry) (i : ℕ) → saves_nothin
     last_sleep s (e ∷ h) i ≡ last_sleep s h i
 sleep_same s e h i t = either_way (eqb e.seat i) _ _ (sleep_same_by e.word e (last_sleep s h i) t)
 
-slept_same : (s : Start) (e : Entry) (h : List Entry) (old new : List Sleep) → saves_nothing e.word ≡ true →
+slept_same : (s : Start) (e : Entry) (h : List Entry) (old new : List LastSleep) → saves_nothing e.word ≡ true →
     new ≡ old → ((i : ℕ) → sleep_of (get_or old i never_slept) ≡ last_sleep s h i) → (i : ℕ) →
     sleep_of (get_or new i never_slept) ≡ last_sleep s (e ∷ h) i
 slept_same s e h old new t same is i =
@@ -173,7 +167,7 @@ woken_else c o i (x ∷ xs) ne = by (eqb x.condition c) refl (eqb x.seat i) (wok
     by false t d ih = ap (λ l. cond (eqb x.condition o) (x.seat ∷ l) l) ih
 
 -- a table of last sleeps that is written at the entry's seat
-slept_written : (s : Start) (e : Entry) (h : List Entry) (old new : List Sleep) (v : Sleep) →
+slept_written : (s : Start) (e : Entry) (h : List Entry) (old new : List LastSleep) (v : LastSleep) →
     e.seat < length old → new ≡ set old e.seat v →
     sleep_of v ≡ sleep_after e.word e (last_sleep s h e.seat) →
     ((i : ℕ) → sleep_of (get_or old i never_slept) ≡ last_sleep s h i) → (i : ℕ) →
@@ -312,7 +306,7 @@ length-seats_on c (x ∷ xs) = by (eqb x.condition c) (length-seats_on c xs)
     by false ih = omega (arith, ih)
 
 -- nobody waits at the opening
-never : (n i : ℕ) → ◌≡◌ {A = Sleep} (get_or (replicate n never_slept) i never_slept) never_slept
+never : (n i : ℕ) → ◌≡◌ {A = LastSleep} (get_or (replicate n never_slept) i never_slept) never_slept
 never zero i = refl
 never (suc n) zero = refl
 never (suc n) (suc i) = never n i

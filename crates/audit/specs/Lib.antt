@@ -2,7 +2,6 @@ pub mod Holds
 pub mod Waiting
 pub mod Permits
 pub mod Ledger
-pub mod Checks
 pub mod Candidates
 pub mod Verdict
 pub mod Totals

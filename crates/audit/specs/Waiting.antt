@@ -6,9 +6,9 @@ use Rattle.history.specs.declared.entry.End.TheVariants as end
 use Rattle.history.specs.Line.{line}
 use Rattle.history.specs.Sleepers.{sleepers, last_sleep}
 use Rattle.history.specs.Start.{Start}
-use Rattle.history.specs.Start as start
 use Rattle.audit.specs.declared.waiting.Sleeper.{Sleeper}
-use Rattle.audit.specs.declared.waiting.Sleep.{Sleep}
+use Rattle.deciding.specs.Sleep.{sleep_of}
+use Rattle.deciding.specs.declared.sleep.LastSleep.{LastSleep}
 use Rattle.audit.specs.declared.waiting.Waiting.{Waiting}
 
 -- the seats asleep on one condition
@@ -16,21 +16,18 @@ abbrev pub seats_on : ℕ → List Sleeper → List ℕ
 seats_on c [] = []
 seats_on c (x ∷ xs) = if x.condition == c then x.seat ∷ seats_on c xs else seats_on c xs
 
-abbrev pub sleep_of : Sleep → start.Sleep
-sleep_of x = record { condition = x.condition; holds = x.holds; how = x.how }
-
 -- who falls asleep by an await, and what it saves
 abbrev pub sleeper_by : Entry → Sleeper
 sleeper_by e = record { condition = e.at; seat = e.seat }
 
-abbrev pub sleep_by : Entry → Sleep
+abbrev pub sleep_by : Entry → LastSleep
 sleep_by e = record { condition = e.at; holds = e.n; how = end.Signalled }
 
 -- a sleep that is ended in some way
-abbrev pub ended_by : End → Sleep → Sleep
+abbrev pub ended_by : End → LastSleep → LastSleep
 ended_by how was = record { condition = was.condition; holds = was.holds; how = how }
 
-abbrev pub never_slept : Sleep
+abbrev pub never_slept : LastSleep
 never_slept = record { condition = 0; holds = 0; how = end.None }
 
 pub record WaitingStand (s : Start) (h : List Entry) (w : Waiting) : Type 0 where

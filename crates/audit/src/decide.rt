@@ -13,14 +13,16 @@ ghost use Rattle.history.specs.Start.{Start};
 ghost use Rattle.history.specs.Steps.{acquired, at_least_none, awaits, entry_for, gave, idle_entry, line_entry, signals, tried, tried_fairly};
 ghost use Rattle.history.specs.declared.entry.Entry.{Entry};
 ghost use Rattle.history.specs.declared.entry.Mode.TheVariants.{X};
-ghost use Rattle.audit.specs.Checks.{in_phase, refused_as};
 ghost use Rattle.audit.specs.Ledger.{HasSeat, LedgerStand};
-ghost use Rattle.audit.specs.Waiting.{seats_on, sleep_of};
+ghost use Rattle.audit.specs.Waiting.{seats_on};
+ghost use Rattle.deciding.specs.Checks.{in_phase, refused_as};
+ghost use Rattle.deciding.specs.Sleep.{sleep_of};
 
-use crate::checks::{refused_as, waits};
-use crate::entries::{back, plain, queued_entry, sleeping_entry};
 use crate::ledger::Ledger;
-use crate::waiting::{Sleep, Sleeper};
+use crate::waiting::Sleeper;
+use deciding::checks::{refused_as, waits};
+use deciding::entries::{back, plain, queued_entry, sleeping_entry};
+use deciding::sleep::LastSleep;
 use history::arrival::Arrival;
 use history::entry::{End, Entry, Mode, Word};
 use history::fault::Fault;
@@ -244,7 +246,7 @@ impl Ledger {
     }
 
     /// The last sleep of a seat.
-    fn last_sleep(&self, seat: u16) -> Sleep
+    fn last_sleep(&self, seat: u16) -> LastSleep
         requires { HasSeat self.now seat }
         ensures { (s : Start) (h : List Entry) → LedgerStand s h self.now →
             sleep_of result ≡ last_sleep s h seat }

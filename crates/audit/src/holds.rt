@@ -1,50 +1,18 @@
 //! The holds of each seat, who owns and how many read.
 
 ghost use Rattle.std.specs.Prelude.{◌≡◌, ◌≢◌, ℕ, ◌+◌, ◌*◌, ◌<◌, ◌≤◌, ◌^◌, ◌∷◌, List, IfOk, length, slice_index, true, [], IsOkUnless};
-ghost use Rattle.history.specs.Counts.{held, holds_after};
-ghost use Rattle.history.specs.Object.{in_holds, is_lock};
+ghost use Rattle.history.specs.Object.{is_lock};
 ghost use Rattle.history.specs.Start.{Start, opening};
 ghost use Rattle.history.specs.declared.entry.Entry.{Entry};
 ghost use Rattle.history.specs.declared.entry.Mode.TheVariants.{X, S};
 ghost use Rattle.history.specs.declared.header.Header.{Header};
 ghost use Rattle.audit.specs.Holds.{HoldsStand, IsOnlyOwner, owner_after};
 
-use history::entry::{Entry, Mode, Word};
+use deciding::holds::holds_after;
+use history::entry::{Entry, Mode};
 use history::fault::Fault;
 use history::header::Object;
 use std::alloc::Global;
-
-/// What one request is in holds.
-fn in_holds(object: Object, n: u32) -> u64
-    ensures { result ≡ in_holds object n }
-{
-    match object {
-        Object::Lock(_) | Object::ReadWrite(_) => 1,
-        Object::Semaphore(_, _permits) => u64::from(n),
-        Object::Latch(_count) => 0,
-    }
-}
-
-/// The holds of a seat after an entry of its own.
-fn holds_after(object: Object, word: Word, n: u32, had: u64) -> u64
-    requires { had + 4294967295 < 2 ^ 64 }
-    ensures { result ≡ holds_after object word n had }
-{
-    match word {
-        Word::Got | Word::TryGot | Word::Granted => had + in_holds(object, n),
-        Word::Drained | Word::Back => had + u64::from(n),
-        Word::Gave => had.saturating_sub(in_holds(object, n)),
-        Word::Await => 0,
-        Word::Queued
-        | Word::Missed
-        | Word::Left
-        | Word::Refused(_)
-        | Word::Lapse
-        | Word::Signal
-        | Word::SignalAll
-        | Word::Counted => had,
-    }
-}
 
 /// The holds of each seat by mode. Of a lock also the owner, so that asking for it needs no walk.
 #[derive(Drop)]
@@ -91,13 +59,13 @@ impl Holds {
         match entry.mode {
             Mode::X => {
                 let had = self.exclusive[seat];
-                let has = holds_after(object, entry.word, entry.n, had);
+                let has = holds_after(object, entry, had);
                 self.exclusive[seat] = has;
                 self.owner = owner_after(self.owner, entry.seat, has);
             }
             Mode::S => {
                 let had = self.shared[seat];
-                let has = holds_after(object, entry.word, entry.n, had);
+                let has = holds_after(object, entry, had);
                 self.shared[seat] = has;
                 self.readers = self.readers - had + has;
             }

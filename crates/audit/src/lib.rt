@@ -4,10 +4,10 @@
 //! - [`totals`](totals::totals) adds a legal history up.
 //! - [`Ledger`](ledger::Ledger) is what both keep of the entries so far.
 //!
-//! The audit stands on `history` alone. It keeps counts and lists of its own, entry by entry, and asks of
-//! each entry whether some step of its seat makes it: so it judges histories of any source. A history is
-//! only read, in one pass; each entry is compared with those in line and asleep, of whom there are no more
-//! than seats.
+//! The audit stands on `deciding` and `history` alone. It keeps counts and lists of its own, entry by entry,
+//! and asks of each entry whether some step of its seat makes it: so it judges histories of any source. A
+//! history is only read, in one pass; each entry is compared with those in line and asleep, of whom there
+//! are no more than seats.
 //!
 //! Memory is asked for three tables with a place for each seat, for a line and for a list of sleepers. Where
 //! it is refused the answer is [`OutOfMemory`](history::fault::Fault::OutOfMemory), and there is no other
@@ -16,16 +16,12 @@
 
 mod admit;
 mod candidates;
-pub mod checks;
 mod decide;
-mod entries;
 mod holds;
 pub mod ledger;
 mod permits;
 mod same;
 pub mod sums;
-#[cfg(test)]
-mod tests;
 pub mod totals;
 pub mod verdict;
 mod waiting;

@@ -9,8 +9,10 @@ ghost use Rattle.history.specs.declared.entry.Word.TheVariants.{Signal};
 ghost use Rattle.history.specs.declared.header.Header.{Header};
 ghost use Rattle.audit.specs.Waiting.{seats_on, sleeper_by, sleep_by, ended_by, never_slept, WaitingStand};
 
+use deciding::arrivals::{coming_back, queued};
+use deciding::sleep::LastSleep;
 use history::arrival::Arrival;
-use history::entry::{End, Entry, Mode, Word};
+use history::entry::{End, Entry, Word};
 use history::fault::Fault;
 use std::alloc::Global;
 
@@ -21,20 +23,12 @@ pub(crate) struct Sleeper {
     pub(crate) seat: u16,
 }
 
-/// What a seat gave up when it last went to sleep, and how it will come back.
-#[derive(Clone, Copy, Drop)]
-pub(crate) struct Sleep {
-    pub(crate) condition: u8,
-    pub(crate) holds: u32,
-    pub(crate) how: End,
-}
-
 /// The line, and all sleepers in order of their awaits.
 #[derive(Drop)]
 pub(crate) struct Waiting {
     pub(crate) line: Vec<Arrival>,
     pub(crate) asleep: Vec<Sleeper>,
-    pub(crate) last_sleep: Vec<Sleep>,
+    pub(crate) last_sleep: Vec<LastSleep>,
 }
 
 impl Waiting {
@@ -44,7 +38,7 @@ impl Waiting {
             WaitingStand (opening k) [] waiting) }
         ensures memory { IsOkUnless result Fault.OutOfMemory }
     {
-        let awake = Sleep {
+        let awake = LastSleep {
             condition: 0,
             holds: 0,
             how: End::None,
@@ -70,12 +64,7 @@ impl Waiting {
         ensures memory { IsOkUnless result Fault.OutOfMemory }
     {
         match entry.word {
-            Word::Queued => self.join(Arrival {
-                seat: entry.seat,
-                mode: entry.mode,
-                n: entry.n,
-                back: false,
-            }),
+            Word::Queued => self.join(queued(entry)),
             Word::Granted | Word::Left | Word::Back => {
                 self.leave_line(entry.seat);
                 Ok(())
@@ -131,7 +120,7 @@ impl Waiting {
             Ok(()) => {}
             Err(_) => return Err(Fault::OutOfMemory),
         }
-        self.last_sleep[entry.seat as usize] = Sleep {
+        self.last_sleep[entry.seat as usize] = LastSleep {
             condition: entry.at,
             holds: entry.n,
             how: End::Signalled,
@@ -153,7 +142,7 @@ impl Waiting {
         self.join(coming_back(entry.seat))?;
         self.wake(entry.at, entry.seat);
         let slept = self.last_sleep[entry.seat as usize];
-        self.last_sleep[entry.seat as usize] = Sleep {
+        self.last_sleep[entry.seat as usize] = LastSleep {
             condition: slept.condition,
             holds: slept.holds,
             how: entry.end,
@@ -235,16 +224,4 @@ fn first_on(asleep: &[Sleeper], condition: u8) -> Option<usize>
     ensures { result ≡ position (λ x. x.condition == condition) asleep.now }
 {
     asleep.iter().position(|x| x.condition == condition)
-}
-
-/// One that comes back from a condition asks for its lock again.
-fn coming_back(seat: u16) -> Arrival
-    ensures { result ≡ coming_back seat }
-{
-    Arrival {
-        seat,
-        mode: Mode::X,
-        n: 1,
-        back: true,
-    }
 }

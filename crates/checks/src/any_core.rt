@@ -16,6 +16,9 @@ use read_write::hooks::RwHooks;
 use reentrant::lock::LockHooks;
 use std::alloc::Global;
 
+/// Less than each table takes that a core of 256 seats opens.
+pub const PIECE: usize = 256;
+
 /// What a core tells of itself: of its history, of those who wait, and of the holds of its first seats.
 #[derive(Clone, Copy, Debug, PartialEq, Eq)]
 pub struct Told {

@@ -6,9 +6,9 @@ mod found;
 mod sums;
 
 use crate::any_core::AnyCore;
-use crate::texts::{situations, steps_of};
+use crate::texts::steps_of;
 use chance::Chance;
-use examples::Example;
+use examples::{Example, situations};
 use found::{answer_found, totals_found};
 use history::entry::Word;
 use history::fault::Fault;

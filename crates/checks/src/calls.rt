@@ -1,39 +1,25 @@
 //! Public calls that no other test makes by themselves.
 
-ghost use Rattle.std.specs.Prelude.{◌≡◌};
-ghost use Rattle.history.specs.Steps.{plain};
-
 use counting::latch::LatchHooks;
 use counting::semaphore::SemaphoreHooks;
+use deciding::entries::plain;
+use deciding::sleep::LastSleep;
 use frame::hooks::Hooks;
-use frame::seat::{LastSleep, Seat, update};
-use history::entry::{End, Entry, Mode, Word};
+use frame::seat::{Seat, update};
+use history::entry::{End, Mode, Word};
 use history::header::{Object, Policy};
 use std::test::Fail;
 
 const LOCK: Object = Object::Lock(Policy::Fair);
-
-fn of(word: Word, mode: Mode, n: u32) -> Entry
-    ensures { result ≡ plain 1 word mode n }
-{
-    Entry {
-        seat: 1,
-        word,
-        mode,
-        n,
-        at: 0,
-        end: End::None,
-    }
-}
 
 /// An await saves the holds that it gives up.
 #[test]
 fn a_seat_follows_its_entries(rt: HostRuntime) {
     let mut seat = Seat::free();
     assert_eq!(rt; (seat.holds(Mode::X), seat.holds(Mode::S)), (0, 0));
-    seat.follow(LOCK, of(Word::Got, Mode::X, 1));
+    seat.follow(LOCK, plain(1, Word::Got, Mode::X, 1));
     assert_eq!(rt; (seat.holds(Mode::X), seat.holds(Mode::S)), (1, 0));
-    seat.follow(LOCK, of(Word::Await, Mode::X, 1));
+    seat.follow(LOCK, plain(1, Word::Await, Mode::X, 1));
     assert_eq!(rt; seat.holds(Mode::X), 0);
     assert_eq!(rt;
         seat.sleep,
@@ -51,7 +37,7 @@ fn an_entry_is_of_its_own_seat(rt: HostRuntime) -> Result<(), Fail> {
     update(
         &mut seats,
         Object::Semaphore(Policy::Fair, 7),
-        of(Word::Got, Mode::S, 5),
+        plain(1, Word::Got, Mode::S, 5),
     );
     let holds = seats.iter().map(|seat| seat.holds(Mode::S));
     assert!(rt; holds.eq([0, 5]));

@@ -13,8 +13,6 @@ mod calls;
 #[cfg(test)]
 mod limits;
 #[cfg(test)]
-mod memory;
-#[cfg(test)]
 mod refused_runs;
 #[cfg(test)]
 mod refused_steps;

@@ -3,13 +3,13 @@
 //! What a core is to answer is told by one that lacks no memory.
 
 use crate::answers::{are_same, is_recorded, is_same, lacks_memory};
-use crate::any_core::AnyCore;
-use crate::memory::Memory;
-use crate::texts::{long_situation, situations, steps_of};
-use examples::Example;
+use crate::any_core::{AnyCore, PIECE};
+use crate::texts::{long_situation, steps_of};
+use examples::{Example, situations};
 use history::fault::Fault;
 use history::header::Header;
 use history::step::{Answer, Step};
+use scarce_memory::Memory;
 use std::alloc::Global;
 use std::process::Abort;
 use std::test::Fail;
@@ -39,7 +39,7 @@ impl Pair {
 
 /// Whether a run is refused where there is no memory.
 fn is_run_refused(alloc: Global, core: &mut AnyCore, steps: &[(u16, Step)]) -> Result<bool, Fail> {
-    let _memory = Memory::take_all(alloc)?;
+    let _memory = Memory::take_all(alloc, PIECE)?;
     match core.run(alloc, steps) {
         Ok(_answers) => Ok(false),
         Err(fault) => Ok(fault == Fault::OutOfMemory),
@@ -174,7 +174,7 @@ fn play_starved<R: Abort + AllocGlobal>(
     steps: &[(u16, Step)],
     log: &mut Log,
 ) -> Result<Vec<Result<Answer, Fault>>, Fail> {
-    let mut memory = Memory::take_all(rt.alloc())?;
+    let mut memory = Memory::take_all(rt.alloc(), PIECE)?;
     starve(core, steps, log)?;
     run_starved(rt, core, &mut memory, &log.again)
 }

@@ -3,14 +3,14 @@
 //! What a core is to answer is told by one that lacks no memory.
 
 use crate::answers::{is_same, lacks_memory};
-use crate::any_core::{AnyCore, Told};
-use crate::memory::Memory;
-use crate::texts::{long_situation, situations, steps_of};
-use examples::Example;
+use crate::any_core::{AnyCore, PIECE, Told};
+use crate::texts::{long_situation, steps_of};
+use examples::{Example, situations};
 use history::entry::{Entry, Word};
 use history::fault::Fault;
 use history::header::{Header, Object};
 use history::step::{Answer, Step};
+use scarce_memory::Memory;
 use std::alloc::Global;
 use std::process::Abort;
 use std::test::Fail;
@@ -89,7 +89,7 @@ struct Starved {
 impl Starved {
     fn open(alloc: Global, header: &Header) -> Result<Starved, Fail> {
         let core = AnyCore::open(alloc, header)?;
-        let memory = Memory::take_all(alloc)?;
+        let memory = Memory::take_all(alloc, PIECE)?;
         Ok(Starved { core, memory })
     }
 

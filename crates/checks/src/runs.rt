@@ -1,8 +1,8 @@
 //! The known situations through `run`.
 
 use crate::any_core::{AnyCore, Told};
-use crate::texts::{history_text, replay_text, situations, steps_of};
-use examples::Example;
+use crate::texts::{history_text, replay_text, steps_of};
+use examples::{Example, situations};
 use history::entry::Mode;
 use history::fault::Fault;
 use history::header::{Header, Object, Policy};

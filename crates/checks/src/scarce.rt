@@ -1,10 +1,10 @@
 //! Memory that is refused to an open.
 
-use crate::any_core::{AnyCore, Told};
-use crate::memory::Memory;
+use crate::any_core::{AnyCore, PIECE, Told};
 use history::fault::Fault;
 use history::header::{Header, Object, Policy};
 use read_write::hooks::RwHooks;
+use scarce_memory::Memory;
 use std::alloc::Global;
 use std::process::Abort;
 use std::test::Fail;
@@ -30,7 +30,7 @@ fn told_opened(alloc: Global, object: Object) -> Result<Told, Fault> {
 
 /// How often an open is refused while memory is given back piece by piece.
 fn refusals<R: Abort + AllocGlobal>(rt: &R, object: Object) -> Result<u32, Fail> {
-    let mut memory = Memory::take_all(rt.alloc())?;
+    let mut memory = Memory::take_all(rt.alloc(), PIECE)?;
     let mut refused: u32 = 0;
     for _ in 0..65_536 {
         match told_opened(rt.alloc(), object) {
@@ -68,7 +68,7 @@ fn a_core_is_opened_whole_or_not_at_all(rt: HostRuntime) -> Result<(), Fail> {
 
 #[test]
 fn a_table_of_readers_is_refused(rt: HostRuntime) -> Result<(), Fail> {
-    let taken = Memory::take_all(rt.alloc())?;
+    let taken = Memory::take_all(rt.alloc(), PIECE)?;
     let refused = RwHooks::open(rt.alloc(), Policy::Fair, 256);
     assert!(rt; matches!(refused, Err(Fault::OutOfMemory)));
     drop(taken);

@@ -1,7 +1,7 @@
-//! Steps texts, replay texts and history texts, and those of the known situations.
+//! Steps texts, replay texts and history texts.
 
 use crate::any_core::AnyCore;
-use examples::{EXAMPLES, Example};
+use examples::Example;
 use history::entry::Entry;
 use history::fault::Fault;
 use history::header::Header;
@@ -9,11 +9,6 @@ use history::step::{Answer, Step};
 use std::alloc::Global;
 use std::test::Fail;
 use steps::{StepsText, read_steps};
-
-/// The known situations. Proofs of other functions don't look into them.
-pub fn situations() -> &'static [Example] {
-    &EXAMPLES
-}
 
 /// What a steps text says.
 pub fn steps_of(alloc: Global, text: &str) -> Result<StepsText, Fail> {

@@ -5,14 +5,11 @@ use Rattle.std.specs.List.{AllByRecursion, IsDistinct, list_any}
 use Rattle.std.specs.declared.collections.VecDeque.{VecDeque}
 use Rattle.std.specs.VecDeque.{deque_items}
 use Rattle.std.proofs.lemmas.Bool.{cases_eq, eq-eqb, ne_eqb}
-use Rattle.std.proofs.lemmas.Bool.Decides.{nat_tests}
 use Rattle.std.proofs.lemmas.List.{get_or-set_same, get_or-set_other, length-map, map-set}
 use Rattle.std.proofs.lemmas.Map.Steps.{length-le_from_distinct_below}
+use Rattle.acquire_queue.proofs.Kept.{eqb_swap}
 use Rattle.history.specs.Sleepers.{has, without}
 use Rattle.condition_queue.specs.Sleepers.{SleepOnce}
-
-pub eqb_swap : (i j : ℕ) → eqb i j ≡ eqb j i
-eqb_swap i j = grind (arith, nat_tests)
 
 -- who sleeps, once a seat fell asleep or left
 pub has-append : (i : ℕ) (xs ys : List ℕ) → has i (xs ++ ys) ≡ (has i xs || has i ys)

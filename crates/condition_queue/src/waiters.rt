@@ -11,8 +11,7 @@ ghost use Rattle.condition_queue.specs.Sleepers.{asleep_on, sleeper_of, sleeps_o
 
 use crate::sleeper::Sleeper;
 use acquire_queue::queue::Queue;
-use history::arrival::Arrival;
-use history::entry::Mode;
+use deciding::arrivals::coming_back;
 use history::fault::Fault;
 use std::alloc::{AllocError, Global};
 use std::collections::VecDeque;
@@ -131,7 +130,7 @@ impl Waiters {
             Some(seat) => {
                 self.lists[c as usize].pop_front();
                 self.table[seat as usize] = None;
-                queue.join(on_its_way_back(seat));
+                queue.join(coming_back(seat));
                 1
             }
         }
@@ -214,14 +213,3 @@ fn remove_seat(list: &mut VecDeque<u16>, seat: u16)
     list.retain(|i| *i != seat);
 }
 
-/// One that slept asks for the lock again.
-fn on_its_way_back(seat: u16) -> Arrival
-    ensures { result ≡ coming_back seat }
-{
-    Arrival {
-        seat,
-        mode: Mode::X,
-        n: 1,
-        back: true,
-    }
-}

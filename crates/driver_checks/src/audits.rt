@@ -2,9 +2,8 @@
 
 ghost use Rattle.std.specs.Prelude.{◌<◌};
 
-use crate::memory::all_memory;
 use crate::spoiled::SPOILED;
-use crate::streams::{fail_as_told, situations};
+use crate::streams::fail_as_told;
 use audit::verdict::Verdict;
 use driver::audit_stream::audit_stream;
 use driver::memory_sink::MemorySink;
@@ -12,8 +11,10 @@ use driver::memory_source::MemorySource;
 use driver::sink::Sink;
 use driver::source::Source;
 use driver::stream_fault::StreamFault;
+use examples::situations;
 use history::fault::Fault;
 use history_text::{read_text, write_text};
+use scarce_memory::all_memory;
 use std::alloc::Global;
 use std::process::Abort;
 use std::test::Fail;

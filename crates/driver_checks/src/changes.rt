@@ -1,9 +1,10 @@
 //! Each cut and each changed byte of the worked examples' texts, one byte at a time.
 
 use crate::plain::plainly_read;
-use crate::streams::{AMPLE, situations, streamed};
+use crate::streams::{AMPLE, streamed};
 use driver::form::Form;
 use driver::stream_fault::StreamFault;
+use examples::situations;
 use std::alloc::{AllocError, Global};
 use std::process::Abort;
 use std::test::Fail;

@@ -21,25 +21,10 @@ use history::fault::Fault;
 use history::header::{Header, Object, Policy};
 use history::step::{Answer, Step};
 use reentrant::lock::LockHooks;
+use scarce_memory::all_memory;
 use std::alloc::Global;
 use std::process::Abort;
 use std::test::Fail;
-
-/// Takes what the heap gives, down to blocks of so many bytes, the largest first.
-pub fn all_memory(alloc: Global, least: usize) -> Result<Vec<Vec<u8>>, Fail> {
-    let mut taken = Vec::with_capacity(alloc, 65_536)?;
-    let mut size: usize = 1 << 46;
-    for _ in 0..65_536 {
-        match Vec::with_capacity(alloc, size) {
-            Ok(block) => taken.push(block)?,
-            Err(_) => size /= 2,
-        }
-        if size < least {
-            break;
-        }
-    }
-    Ok(taken)
-}
 
 /// Has a text answered with no memory left, and then with a block more each time.
 ///

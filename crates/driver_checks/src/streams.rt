@@ -9,7 +9,7 @@ use driver::replay_stream::replay_stream;
 use driver::sink::Sink;
 use driver::source::Source;
 use driver::stream_fault::StreamFault;
-use examples::{EXAMPLES, Example};
+use examples::{Example, situations};
 use std::process::Abort;
 use std::test::Fail;
 use steps::TextFault;
@@ -74,11 +74,6 @@ pub fn streamed<R: Abort + AllocGlobal>(
     let answer = replay_stream(rt.alloc(), &mut source, &mut sink, form);
     fail_as_told(rt, &answer, &source, &sink);
     Ok((answer, sink))
-}
-
-/// The known situations. Proofs of other functions don't look into them.
-pub fn situations() -> &'static [Example] {
-    &EXAMPLES
 }
 
 /// A text that comes and goes in pieces of any size is answered so.

@@ -1,6 +1,8 @@
 //! Known situations of all objects: steps texts, and the replay texts and history texts that answer them.
 #![tactic(auto)]
 
+ghost use Rattle.std.specs.Prelude.{◌≡◌, length};
+
 /// A worked example.
 pub struct Example {
     pub name: &'static str,
@@ -9,7 +11,14 @@ pub struct Example {
     pub history: &'static str,
 }
 
-pub const EXAMPLES: [Example; 26] = [
+/// The known situations.
+pub fn situations() -> &'static [Example]
+    ensures { length result.now ≡ 26 }
+{
+    &EXAMPLES
+}
+
+const EXAMPLES: [Example; 26] = [
     Example {
         name: "one_hold",
         steps: "aqs-steps 1 lock fair seats 1 conditions 0 cap 16\n\

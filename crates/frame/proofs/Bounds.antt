@@ -25,12 +25,12 @@ use Rattle.history.specs.Entry.{same_mode}
 use Rattle.history.specs.Header.{IsInRange}
 use Rattle.history.specs.Legal.{IsLegal, AreSeated}
 use Rattle.history.specs.Object.{in_holds, is_lock, is_latch, is_semaphore}
-use Rattle.history.specs.Ownership.{most_exclusive, most_shared}
+use Rattle.history.specs.Ownership.{most_shared}
 use Rattle.history.specs.Start.{Start, opening}
 use Rattle.history.proofs.Entering.{Known, KnownBy, known}
 use Rattle.history.proofs.OneOwner.{owned}
 use Rattle.history.proofs.OneWait.{Waits, waits}
-use Rattle.history.proofs.Owners.{owner_holds, nobody_holds}
+use Rattle.history.proofs.Owners.{most_fits, owner_holds, nobody_holds}
 use Rattle.history.proofs.Permits.{held_at_most, free_fits, free_at_most}
 use Rattle.history.proofs.Times.{total_part}
 use Rattle.history.proofs.WhoWaits.{comes_back}
@@ -150,12 +150,6 @@ no_shared s t h e word.SignalAll v k a m = refl
 no_shared s t h e word.Counted v k a m = refl
 
 -- what is held fits
-most_fits : (o : Object) → most_exclusive o ≤ 2147483647
-most_fits (Lock p) = omega arith
-most_fits (ReadWrite p) = omega arith
-most_fits (Semaphore p a) = omega arith
-most_fits (Latch a) = omega arith
-
 pub exclusive_fits : (k : Header) (h : List Entry) → IsLegal (opening k) h → AreSeated (opening k) h → (i : ℕ) →
     held (opening k) h i X ≤ 2147483647
 exclusive_fits k h legal seated i = by (is_lock k.object) refl

@@ -21,6 +21,7 @@ use Rattle.history.specs.Object.{is_lock, is_latch, is_semaphore, opening_count}
 use Rattle.history.specs.Sleepers.{last_sleep}
 use Rattle.history.specs.Start.{Start}
 use Rattle.history.specs.Steps.{gave, at_least_none, ended, back}
+use Rattle.history.proofs.Changes.{either_way}
 use Rattle.history.proofs.Entering.{Known, KnownBy}
 use Rattle.history.proofs.OneWait.{Waits}
 use Rattle.history.proofs.Owners.{ready_could, most_holds}
@@ -38,10 +39,6 @@ counts_with s h e w =
       free = free_after w e.n (free s h);
       count = opening_count s.header.object - counted_after w (counted s h);
     }
-
-either_way : (b : Bool) (x y : ℕ) → x ≡ y → cond b x y ≡ y
-either_way true x y p = p
-either_way false x y p = refl
 
 -- a word that leaves every number
 same_counts : (s : Start) (h : List Entry) (e : Entry) (w : Word) →

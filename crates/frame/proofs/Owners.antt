@@ -4,7 +4,7 @@ use Rattle.std.proofs.lemmas.Bool.{cases_eq, ltb-true, leb-true, eqb-true, ne_eq
 use Rattle.history.specs.declared.entry.Mode.{Mode}
 use Rattle.history.specs.declared.entry.Mode.TheVariants.{X, S}
 use Rattle.history.specs.Changes.{holds_with, took, gave_back, let_go, restored}
-use Rattle.history.specs.Could.{is_seat, is_none_or}
+use Rattle.history.specs.Could.{is_none_or}
 use Rattle.history.specs.Counts.{Counts, owner, seat_with}
 use Rattle.history.specs.Object.{in_holds}
 use Rattle.history.proofs.Sums.{seat_with_none, seat_with_one}
@@ -52,10 +52,6 @@ owned_some most i holds t = ltb-true 0 holds (and_parts _ _ t).0
 pub owned_most : (most : ℕ) (o : Option ℕ) (holds : ℕ) → is_owned most o holds ≡ true → holds ≤ most
 owned_most most None holds t = let e : holds ≡ 0 = eqb-true holds 0 t in omega arith
 owned_most most (Some i) holds t = leb-true holds most (and_parts _ _ t).1
-
-pub seat_is : (o : Option ℕ) (i : ℕ) → is_seat o i ≡ true → o ≡ Some i
-seat_is None i e = cc
-seat_is (Some j) i e = ap Some (eqb-true j i e)
 
 pub others_not : (i j : ℕ) → j ≢ i → eqb i j ≡ false
 others_not i j ne = ne_eqb i j (λ e. ne (sym e))

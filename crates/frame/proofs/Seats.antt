@@ -11,9 +11,10 @@ use Rattle.history.specs.Counts.{held, holds_after}
 use Rattle.history.specs.Entry.{is_exclusive, same_mode}
 use Rattle.history.specs.Sleepers.{last_sleep, sleep_after}
 use Rattle.history.specs.Start.{opening}
-use Rattle.frame.specs.declared.seat.LastSleep.{LastSleep}
+use Rattle.deciding.specs.declared.sleep.LastSleep.{LastSleep}
 use Rattle.frame.specs.declared.seat.Seat.{Seat}
-use Rattle.frame.specs.Seat.{seat_of, seat_after, holds_in, sleep_behind, sleep_of}
+use Rattle.deciding.specs.Sleep.{sleep_of}
+use Rattle.frame.specs.Seat.{seat_of, seat_after, holds_in, sleep_behind}
 
 -- the holds
 seat_held_more : (o : Object) (w : Word) (n : ℕ) (b : Bool) (k m : Mode) (was : Seat) (next : LastSleep) (x : ℕ) →

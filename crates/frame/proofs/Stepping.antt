@@ -1,26 +1,23 @@
 -- What stands for a history stands for it with one entry more.
 use Rattle.std.proofs.Common.{◌≡◌, ◌≢◌, ◌⊎◌, ⊎_elim, ◌↔◌, ℕ, zero, suc, ◌+◌, ◌-◌, ◌^◌, ◌<◌, ◌≤◌, Bool, true, false, List, ◌∷◌, length, get_or, set, Some, Result, Ok, Err, refl, ap, ◌∙◌, sym, subst, arith}
 use Rattle.std.specs.Prelude.{slice_get}
-use Rattle.std.proofs.lemmas.Bool.{cases_eq, eq-eqb, ne_eqb, le-leb, lt-leb, ltb-true, cond_both, cases_lt, false≢true}
+use Rattle.std.proofs.lemmas.Bool.{cases_eq, eq-eqb, ne_eqb, le-leb, lt-leb, cases_lt, false≢true}
 use Rattle.std.proofs.lemmas.List.{length-set, get_or-set_same, get_or-set_other}
 use Rattle.std.proofs.lemmas.Option.{slice_get-get_or, get_or_from_slice_get}
 use Rattle.acquire_queue.specs.Line.{Line}
 use Rattle.condition_queue.specs.Sleepers.{Sleepers}
 use Rattle.history.specs.declared.entry.Entry.{Entry}
 use Rattle.history.specs.declared.entry.Mode.TheVariants.{X, S}
-use Rattle.history.specs.declared.entry.Word.{Word}
-use Rattle.history.specs.declared.entry.Word.TheVariants as word
 use Rattle.history.specs.declared.fault.Fault.{Fault}
 use Rattle.history.specs.declared.fault.Fault.TheVariants as fault
 use Rattle.history.specs.declared.header.Header.{Header}
-use Rattle.history.specs.declared.header.Object.{Object}
 use Rattle.history.specs.Counts.{Counts, counts, held}
 use Rattle.history.specs.Entries.{HistoryView}
 use Rattle.history.specs.Header.{IsInRange}
 use Rattle.history.specs.Legal.{IsLegal, AreSeated}
-use Rattle.history.specs.Object.{is_lock}
-use Rattle.history.specs.Room.{owed, was_owed, was_owed_by, releases, released_by, reserves, reserved_by}
+use Rattle.history.specs.Room.{owed, was_owed, releases, reserves}
 use Rattle.history.specs.Start.{opening}
+use Rattle.history.proofs.RoomLemmas.{owed_releases}
 use Rattle.history.proofs.Entering.{Known, known}
 use Rattle.history.proofs.OneWait.{waits}
 use Rattle.history.proofs.Owing.{owed_step}
@@ -105,17 +102,6 @@ shared_next k h e x range legal seated short is =
     ap (λ (y : Seat). (seat_after k.object e y).shared) is
     ∙ ap (λ (y : Seat). y.shared) (sym (own_seat k h e)) ∙ seat_held k (e ∷ h) e.seat S in
     omega (arith, l, q, c, short)
-
--- an entry that was owed reserves nothing, and releases itself
-owed_releases : (o : Object) (w : Word) (n : ℕ) → was_owed_by o w n ≡ true → (reserved_by o w ≡ 0) × (1 ≤ released_by o w n)
-owed_releases o word.Granted n t = (refl, omega arith)
-owed_releases o word.Left n t = (refl, cond_both (is_lock o) 2 1 (λ x. 1 ≤ x) (λ _. omega arith) (λ _. omega arith))
-owed_releases o word.Lapse n t = (refl, omega arith)
-owed_releases o word.Back n t = (refl, omega arith)
-owed_releases o word.Gave n t = (refl, rw t (omega arith))
-owed_releases o word.Signal n t = (refl, let l = ltb-true 0 n t in omega (arith, l))
-owed_releases o word.SignalAll n t = (refl, let l = ltb-true 0 n t in omega (arith, l))
-owed_releases o _ n t = absurd (cc)
 
 -- The room that an entry needs, by what was owed before.
 pub record Needs (k : Header) (h : List Entry) (e : Entry) (was more less : ℕ) : Type 0 where

@@ -1,28 +1,14 @@
 -- The sum of a table with a number for each seat.
-use Rattle.std.proofs.Common.{◌≡◌, ◌≢◌, ⊎_elim, ℕ, zero, suc, ◌+◌, ◌<◌, ◌≤◌, List, length, length-set, get_or, slice_index, refl, ap, arith}
+use Rattle.std.proofs.Common.{◌≡◌, ◌≢◌, ⊎_elim, ℕ, zero, suc, ◌+◌, ◌<◌, ◌≤◌, List, length, length-set, get_or, slice_index, refl, arith}
 use Rattle.std.proofs.Math.ListN.{set, replicate, length-replicate, get_or-eq_default}
-use Rattle.std.proofs.lemmas.Bool.{cases_eq, cases_lt}
+use Rattle.std.proofs.lemmas.Bool.{cases_lt}
 use Rattle.std.proofs.lemmas.List.{get_or-set_same, get_or-set_other, get_or-replicate}
 use Rattle.history.specs.Counts.{total}
 use Rattle.history.proofs.Sums.{total_change}
+use Rattle.history.proofs.Times.{total_part}
 
 abbrev pub table_total : List ℕ → ℕ
 table_total xs = total (length xs) (slice_index xs)
-
-part_of_total : (n : ℕ) (f : ℕ → ℕ) (i : ℕ) → i < n → f i ≤ total n f
-part_of_total zero f i p = absurd (omega arith)
-part_of_total (suc n) f i p = ⊎_elim same (λ ne. other ne (λ q. part_of_total n f i q)) (cases_eq i n)
-  where
-    same : i ≡ n → f i ≤ total n f + f n
-    same e =
-        let d : f i ≡ f n = ap f e in
-        omega arith
-
-    other : (i ≡ n → ⊥) → (i < n → f i ≤ total n f) → f i ≤ total n f + f n
-    other ne ih =
-        let q : i < n = omega (arith, ne) in
-        let d : f i ≤ total n f = ih q in
-        omega arith
 
 -- a seat past the table has nothing
 pub past_table : (xs : List ℕ) (i : ℕ) → length xs ≤ i → slice_index xs i ≡ 0
@@ -32,7 +18,7 @@ pub in_total : (xs : List ℕ) (i : ℕ) → slice_index xs i ≤ table_total xs
 in_total xs i = ⊎_elim within past (cases_lt i (length xs))
   where
     within : i < length xs → slice_index xs i ≤ table_total xs
-    within p = part_of_total (length xs) (slice_index xs) i p
+    within p = total_part (length xs) (slice_index xs) i p
 
     past : length xs ≤ i → slice_index xs i ≤ table_total xs
     past p =

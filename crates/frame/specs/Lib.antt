@@ -1,6 +1,5 @@
 pub mod Hooks
 pub mod Seat
-pub mod Checks
 pub mod Effects
 pub mod Waiting
 pub mod Observed

@@ -9,8 +9,7 @@ use Rattle.history.specs.declared.entry.Word.TheVariants.{Await, Lapse}
 use Rattle.history.specs.declared.header.Object.{Object}
 use Rattle.history.specs.Counts.{holds_after}
 use Rattle.history.specs.Entry.{is_exclusive}
-use Rattle.history.specs.Start.{Sleep}
-use Rattle.frame.specs.declared.seat.LastSleep.{LastSleep}
+use Rattle.deciding.specs.declared.sleep.LastSleep.{LastSleep}
 use Rattle.frame.specs.declared.seat.Seat.{Seat}
 
 abbrev pub no_holds : Seat
@@ -25,10 +24,6 @@ abbrev pub sleep_behind : Word → Entry → LastSleep → LastSleep
 sleep_behind Await e was = record { condition = e.at; holds = e.n; how = end.Signalled }
 sleep_behind Lapse e was = record { condition = was.condition; holds = was.holds; how = e.end }
 sleep_behind _ e was = was
-
--- the same, as histories speak of it
-abbrev pub sleep_of : LastSleep → Sleep
-sleep_of last = record { condition = last.condition; holds = last.holds; how = last.how }
 
 abbrev pub seat_after : Object → Entry → Seat → Seat
 seat_after o e was =

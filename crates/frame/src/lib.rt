@@ -2,9 +2,7 @@
 //! the holds and the history.
 #![tactic(auto)]
 
-mod checks;
 mod effects;
-mod entries;
 pub mod hooks;
 pub mod machine;
 pub mod run;

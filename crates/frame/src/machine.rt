@@ -1,6 +1,6 @@
 //! The core of one object.
 
-mod deciding;
+mod decide;
 mod observing;
 mod recording;
 

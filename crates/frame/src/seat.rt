@@ -1,21 +1,12 @@
 //! What the core keeps of each seat.
 
 ghost use Rattle.std.specs.Prelude.{◌≡◌, ◌+◌, ◌<◌, ◌^◌, length, slice_set};
-ghost use Rattle.history.specs.Counts.{holds_after};
-ghost use Rattle.history.specs.Object.{in_holds};
 ghost use Rattle.frame.specs.Seat.{seat_after, seat_behind, no_holds, holds_in};
 
+use deciding::holds::holds_after;
+use deciding::sleep::LastSleep;
 use history::entry::{End, Entry, Mode, Word};
 use history::header::Object;
-
-/// What a seat gave up when it last slept on a condition, and how that await ends.
-#[derive(Clone, Copy, Debug, PartialEq, Eq)]
-pub struct LastSleep {
-    pub condition: u8,
-    /// The exclusive holds that it has again when it comes back.
-    pub holds: u32,
-    pub how: End,
-}
 
 /// The holds of a seat and its last sleep.
 #[derive(Clone, Copy, Debug, PartialEq, Eq)]
@@ -75,33 +66,6 @@ impl Seat {
             Word::Lapse => self.sleep.how = entry.end,
             _ => {}
         }
-    }
-}
-
-/// The holds behind an entry, of those before it in its mode.
-#[inline(always)]
-fn holds_after(object: Object, entry: Entry, had: u64) -> u64
-    requires { holds_after object entry.word entry.n had < 2 ^ 64 }
-    ensures { result ≡ holds_after object entry.word entry.n had }
-{
-    match entry.word {
-        Word::Got | Word::TryGot | Word::Granted => had + in_holds(object, entry.n),
-        Word::Drained | Word::Back => had + u64::from(entry.n),
-        Word::Gave => had.saturating_sub(in_holds(object, entry.n)),
-        Word::Await => 0,
-        _ => had,
-    }
-}
-
-/// What a request for n is in holds.
-#[inline(always)]
-fn in_holds(object: Object, n: u32) -> u64
-    ensures { result ≡ in_holds object n }
-{
-    match object {
-        Object::Lock(_) | Object::ReadWrite(_) => 1,
-        Object::Semaphore(_, _) => u64::from(n),
-        Object::Latch(_) => 0,
     }
 }
 

@@ -1,15 +1,14 @@
 //! What an entry makes of those who wait: in line, or asleep on a condition.
 
-ghost use Rattle.std.specs.Prelude.{◌≡◌, ◌≤◌, ◌+◌, ◌==◌, if◌then◌else◌, ℕ, false};
-ghost use Rattle.history.specs.Line.{coming_back};
+ghost use Rattle.std.specs.Prelude.{◌≡◌, ◌≤◌, ◌+◌, ◌==◌, if◌then◌else◌, ℕ};
 ghost use Rattle.history.specs.Sleepers.{sleepers_after};
 ghost use Rattle.condition_queue.specs.Sleepers.{asleep_on, sleeper_of};
 ghost use Rattle.frame.specs.Waiting.{IsMovable, line_behind, sleeper_behind};
 
 use acquire_queue::queue::Queue;
 use condition_queue::waiters::Waiters;
-use history::arrival::Arrival;
-use history::entry::{Entry, Mode, Word};
+use deciding::arrivals::{coming_back, queued};
+use history::entry::{Entry, Word};
 
 /// Has those join, leave and move of whom an entry says so. It takes no memory.
 #[inline(always)]
@@ -45,29 +44,5 @@ pub fn move_waiters(queue: &mut Queue, waiters: &mut Waiters, entry: Entry)
             let _moved = waiters.move_all(entry.at, queue);
         }
         _ => {}
-    }
-}
-
-/// A new acquire, in line.
-fn queued(entry: Entry) -> Arrival
-    ensures { result ≡ record { seat = entry.seat; mode = entry.mode; n = entry.n; back = false } }
-{
-    Arrival {
-        seat: entry.seat,
-        mode: entry.mode,
-        n: entry.n,
-        back: false,
-    }
-}
-
-/// One that slept asks for X again.
-fn coming_back(seat: u16) -> Arrival
-    ensures { result ≡ coming_back seat }
-{
-    Arrival {
-        seat,
-        mode: Mode::X,
-        n: 1,
-        back: true,
     }
 }

@@ -1,21 +1,18 @@
 -- What each word of a lock's history changes, and what it leaves.
-use Rattle.std.proofs.Common.{◌≡◌, ◌≢◌, ℕ, zero, suc, ◌+◌, ◌-◌, ◌*◌, ◌<◌, ◌≤◌, Bool, true, false, not, ◌&&◌, cond, eqb, List, [], ◌∷◌, ◌++◌, length, Option, Some, None, refl, ap, ◌∙◌, sym, subst, arith, rules, ℤ}
+use Rattle.std.proofs.Common.{◌≡◌, ℕ, ◌-◌, Bool, true, false, not, ◌&&◌, cond, eqb, List, [], ◌∷◌, ◌++◌, refl, ap, ◌∙◌, ℤ}
 use mathlib.Core.Path.{fun_ext}
-use Rattle.std.specs.List.{filter, AllByRecursion, sum_by}
-use Rattle.std.proofs.lemmas.List.{append-nil, length_push}
-use Rattle.std.proofs.lemmas.List.Sums.{sum_by-append}
+use Rattle.std.specs.List.{filter}
+use Rattle.std.proofs.lemmas.List.{append-nil}
 use Rattle.history.specs.declared.entry.Entry.{Entry}
-use Rattle.history.specs.declared.entry.End.{End}
 use Rattle.history.specs.declared.arrival.Arrival.{Arrival}
 use Rattle.history.specs.declared.entry.Mode.{Mode}
-use Rattle.history.specs.declared.entry.Mode.TheVariants.{X, S}
 use Rattle.history.specs.declared.entry.Word.{Word}
-use Rattle.history.specs.declared.entry.Word.TheVariants.{Got, TryGot, Queued, Granted, Missed, Left, Gave, Refused, Await, Lapse, Signal, SignalAll, Back, Counted, Drained}
+use Rattle.history.specs.declared.entry.Word.TheVariants.{Got, TryGot, Queued, Granted, Missed, Left, Gave, Refused}
 use Rattle.history.specs.Start.{Start}
 use Rattle.history.specs.declared.header.Object.{Object}
 use Rattle.history.specs.Entry.{ends_arrival, same_mode}
-use Rattle.history.specs.Changes.{took, gave_back}
-use Rattle.history.specs.Counts.{Counts, counts, held, holds_after, free, free_after, count, counted, counted_after}
+use Rattle.history.specs.Changes.{took}
+use Rattle.history.specs.Counts.{counts, held, holds_after, free, free_after, count, counted, counted_after}
 use Rattle.history.specs.Object.{opening_count}
 use Rattle.history.specs.Line.{line, arrivals_by}
 use Rattle.history.proofs.LineLemmas.{line_after, stays}
@@ -64,7 +61,7 @@ counted_kept Left x t = refl
 counted_kept (Refused f) x t = refl
 counted_kept _ x t = cc
 
-either_way : (b : Bool) (x y : ℕ) → x ≡ y → cond b x y ≡ y
+pub either_way : {A : Type 0} (b : Bool) (x y : A) → x ≡ y → cond b x y ≡ y
 either_way true x y e = e
 either_way false x y e = refl
 

@@ -15,17 +15,16 @@ use Rattle.history.specs.Counts.{Counts, counts, held, holds_after, owner, reade
 use Rattle.history.specs.Entry.{same_mode}
 use Rattle.history.specs.Legal.{AreSeated, IsLegal}
 use Rattle.history.specs.Line.{line, place_of}
-use Rattle.history.specs.Object.{in_holds, is_lock, is_semaphore}
+use Rattle.history.specs.Object.{in_holds, is_lock}
 use Rattle.history.specs.Ownership.{IsOwned, IsSaved, is_away, most_exclusive, most_shared}
 use Rattle.history.specs.Phase.{phase, phase_by}
 use Rattle.history.specs.Sleepers.{last_sleep, sleeps_below}
 use Rattle.history.specs.Start.{Start, opening}
 use Rattle.history.proofs.Entering.{Known, KnownBy, known, seat_is}
 use Rattle.history.proofs.OneWait.{Saved, SavedIfBack, Waits, placed, waits}
-use Rattle.history.proofs.Owners.{most_holds, nobody_holds, owner_holds, ready_could}
-use Rattle.history.proofs.RoomLemmas.{total_nothing}
+use Rattle.history.proofs.Owners.{most_holds, nobody_holds, owner_holds, ready_could, semaphore_no_lock}
 use Rattle.history.proofs.SleepLemmas.{held_other, sleeps_at}
-use Rattle.history.proofs.Sums.{total_change, total_same}
+use Rattle.history.proofs.Sums.{total_change, total_nothing, total_same}
 use Rattle.history.proofs.Times.{place_once, total_part}
 
 -- What is known of all holds: one owner, alone, few readers, and nobody but the seats holds anything.
@@ -158,12 +157,6 @@ lock_holds (Lock p) n t = refl
 lock_holds (ReadWrite p) n t = refl
 lock_holds (Semaphore p c) n t = cc
 lock_holds (Latch c) n t = cc
-
-semaphore_no_lock : (o : Object) → is_semaphore o ≡ true → is_lock o ≡ true → ⊥
-semaphore_no_lock (Lock p) t u = cc
-semaphore_no_lock (ReadWrite p) t u = cc
-semaphore_no_lock (Semaphore p c) t u = cc
-semaphore_no_lock (Latch c) t u = cc
 
 takes_change : (s : Start) (e : Entry) (h : List Entry) (w : Word) → e.word ≡ w → Owned s h →
     is_lock s.header.object ≡ true

@@ -10,7 +10,8 @@ use Rattle.history.specs.Could.{could, could_of, is_seat, is_none_or, max_holds,
 use Rattle.history.specs.Counts.{Counts, counts, owner, readers, seat_with}
 use Rattle.history.specs.Line.{line, first_of, place_of}
 use Rattle.history.specs.Naming.{ready, ready_by}
-use Rattle.history.specs.Object.{in_holds}
+use Rattle.history.specs.Object.{in_holds, is_lock, is_semaphore}
+use Rattle.history.specs.Ownership.{most_exclusive}
 use Rattle.history.specs.Start.{Start}
 
 -- the seat that has something
@@ -107,3 +108,17 @@ ready_could s h i a r p =
     let seat : a.seat ≡ i = ap (λ (x : Arrival). x.seat) (sym same) ∙ f.2 in
     subst (λ j. could (counts s h) j a.mode a.n ≡ true) seat
     (subst (λ (x : Arrival). could (counts s h) x.seat x.mode x.n ≡ true) same f.3)
+
+-- a semaphore isn't owned
+pub semaphore_no_lock : (o : Object) → is_semaphore o ≡ true → is_lock o ≡ true → ⊥
+semaphore_no_lock (Lock p) t u = cc
+semaphore_no_lock (ReadWrite p) t u = cc
+semaphore_no_lock (Semaphore p c) t u = cc
+semaphore_no_lock (Latch c) t u = cc
+
+-- the most exclusive holds fit 31 bits
+pub most_fits : (o : Object) → most_exclusive o ≤ 2147483647
+most_fits (Lock p) = omega arith
+most_fits (ReadWrite p) = omega arith
+most_fits (Semaphore p c) = omega arith
+most_fits (Latch c) = omega arith

@@ -21,22 +21,15 @@ use Rattle.history.specs.Faults.{lacks_mode}
 use Rattle.history.specs.Header.{IsInRange, IsOpening}
 use Rattle.history.specs.Legal.{IsLegal, AreSeated}
 use Rattle.history.specs.Line.{line}
-use Rattle.history.specs.Object.{created, in_holds, is_lock, is_semaphore}
+use Rattle.history.specs.Object.{created, in_holds, is_semaphore}
 use Rattle.history.specs.Start.{Start, opening}
 use Rattle.history.specs.Steps.{at_least_none, gave}
 use Rattle.history.proofs.Entering.{Known, KnownBy, known}
 use Rattle.history.proofs.OneWait.{Waits, SavedIfBack, placed, waits}
-use Rattle.history.proofs.Owners.{ready_could}
-use Rattle.history.proofs.RoomLemmas.{total_nothing}
-use Rattle.history.proofs.Sums.{total_change, total_same}
+use Rattle.history.proofs.Owners.{ready_could, semaphore_no_lock}
+use Rattle.history.proofs.Sums.{total_change, total_nothing, total_same}
 
 -- a semaphore is no lock, has the shared mode alone and holds what is asked for
-semaphore_no_lock : (o : Object) → is_semaphore o ≡ true → is_lock o ≡ true → ⊥
-semaphore_no_lock (Lock p) t u = cc
-semaphore_no_lock (ReadWrite p) t u = cc
-semaphore_no_lock (Semaphore p c) t u = cc
-semaphore_no_lock (Latch c) t u = cc
-
 semaphore_holds : (o : Object) (n : ℕ) → is_semaphore o ≡ true → in_holds o n ≡ n
 semaphore_holds (Lock p) n t = cc
 semaphore_holds (ReadWrite p) n t = cc

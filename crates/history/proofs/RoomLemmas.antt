@@ -16,12 +16,12 @@ use Rattle.history.specs.Room.{released_by, reserved_by, Fits, has_room, owed, s
 use Rattle.history.specs.Start.{Start, opening}
 use Rattle.history.specs.Steps.{entry_for}
 use Rattle.history.proofs.Entering.{Known, known}
-use Rattle.history.proofs.Sums.{total_same}
+use Rattle.history.proofs.Sums.{total_nothing, total_same}
 use Rattle.history.proofs.OneWait.{Waits, waits}
 use Rattle.history.proofs.Owing.{owed_known}
 
 -- an entry that was owed reserves nothing, and releases itself
-owed_releases : (o : Object) (w : Word) (n : ℕ) → was_owed_by o w n ≡ true →
+pub owed_releases : (o : Object) (w : Word) (n : ℕ) → was_owed_by o w n ≡ true →
     (reserved_by o w ≡ 0) × (1 ≤ released_by o w n)
 owed_releases o word.Granted n t = (refl, omega arith)
 owed_releases o word.Left n t = (refl, by (is_lock o))
@@ -80,10 +80,6 @@ pub results_fit : (s : Start) (h : List Entry) (steps : List (ℕ × Step)) → 
 results_fit s h [] fits = fits
 results_fit s h (first ∷ steps) fits =
     results_fit s (answer s h first.0 first.1).1 steps (answer_fits s h first.0 first.1 fits)
-
-pub total_nothing : (n : ℕ) → total n (λ i. 0) ≡ 0
-total_nothing zero = refl
-total_nothing (suc n) = let e = total_nothing n in omega (arith, e)
 
 -- an object owes nothing as it opens
 nobody_owes : (n : ℕ) (k : Header) → sleepers_owe n (opening k) [] ≡ 0

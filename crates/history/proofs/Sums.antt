@@ -1,10 +1,10 @@
 -- What an entry makes of the numbers.
-use Rattle.std.proofs.Common.{◌≡◌, ◌≢◌, ◌⊎◌, ⊎_elim, inl, inr, ℕ, zero, suc, ◌+◌, ◌<◌, ◌≤◌, Bool, true, false, ltb, List, ◌∷◌, Option, Some, None, refl, ap, arith}
+use Rattle.std.proofs.Common.{◌≡◌, ◌≢◌, ⊎_elim, ℕ, zero, suc, ◌+◌, ◌<◌, ◌≤◌, true, ltb, List, ◌∷◌, Some, None, refl, ap, arith}
 use Rattle.std.proofs.lemmas.Bool.{cases_eq, lt-ltb}
 use Rattle.history.specs.declared.entry.Entry.{Entry}
 use Rattle.history.specs.declared.entry.End.{End}
 use Rattle.history.specs.declared.entry.Mode.{Mode}
-use Rattle.history.specs.declared.entry.Word.TheVariants.{Got, TryGot, Granted, Gave}
+use Rattle.history.specs.declared.entry.Word.TheVariants.{Got, Gave}
 use Rattle.history.specs.Start.{Start}
 use Rattle.history.specs.Changes.{took, gave_back}
 use Rattle.history.specs.Counts.{counts, total}
@@ -38,6 +38,10 @@ seat_with_one (suc n) f j l p h =
         rw z (ih l')
 
 -- the sum over the seats
+pub total_nothing : (n : ℕ) → total n (λ i. 0) ≡ 0
+total_nothing zero = refl
+total_nothing (suc n) = let e = total_nothing n in omega (arith, e)
+
 pub total_same : (n : ℕ) (f g : ℕ → ℕ) → ((i : ℕ) → f i ≡ g i) → total n f ≡ total n g
 total_same zero f g h = refl
 total_same (suc n) f g h = let e = total_same n f g h in let d = h n in omega (arith, e, d)

@@ -8,7 +8,7 @@ use Rattle.history.specs.Counts.{total}
 use Rattle.history.specs.Line.{place_of, coming_back}
 use Rattle.history.specs.Sleepers.{without, has}
 use Rattle.history.specs.Waiting.{times, seats_of}
-use Rattle.history.proofs.Sums.{total_change}
+use Rattle.history.proofs.Sums.{total_change, total_nothing}
 
 -- one where a test says so, and else none
 abbrev pub one_if : Bool → ℕ
@@ -132,10 +132,6 @@ seats-coming_back [] = refl
 seats-coming_back (x ∷ xs) = ap (λ l. x ∷ l) (seats-coming_back xs)
 
 -- each seat stands in the list once at most, and is below a bound: there are no more than the bound
-total_nothing : (n : ℕ) → total n (λ i. 0) ≡ 0
-total_nothing zero = refl
-total_nothing (suc n) = let e = total_nothing n in omega (arith, e)
-
 pub length_total : (n : ℕ) (xs : List ℕ) → AllByRecursion (λ x. x < n) xs →
     length xs ≡ total n (λ i. times i xs)
 length_total n [] below = sym (total_nothing n)

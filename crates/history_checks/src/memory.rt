@@ -1,7 +1,4 @@
 //! Memory that is refused.
-//!
-//! Nothing stands between these calls and the heap, so a test takes all addresses first: each further growth
-//! is then refused for true. Untouched memory costs next to nothing.
 
 ghost use Rattle.std.specs.Prelude.{◌≡◌};
 
@@ -10,27 +7,12 @@ use history::entry::{End, Entry, Mode, Word};
 use history::fault::Fault;
 use history::header::{Header, Object, Policy};
 use history::number::put_number;
+use scarce_memory::all_memory;
 use std::alloc::Global;
 use std::process::Abort;
 use std::test::Fail;
 
 const SMALL: usize = 65_536;
-
-/// Takes what the heap gives, down to blocks of `least` bytes.
-pub fn all_memory(alloc: Global, least: usize) -> Result<Vec<Vec<u8>>, Fail> {
-    let mut taken = Vec::with_capacity(alloc, 65_536)?;
-    let mut size: usize = 1 << 46;
-    for _ in 0..65_536 {
-        match Vec::with_capacity(alloc, size) {
-            Ok(block) => taken.push(block)?,
-            Err(_) => size /= 2,
-        }
-        if size < least {
-            break;
-        }
-    }
-    Ok(taken)
-}
 
 /// Bytes with no place left.
 fn full_bytes(alloc: Global) -> Result<Vec<u8>, Fail> {
@@ -92,7 +74,7 @@ fn refuse_growth<R: Abort>(rt: &R, history: &mut History, entry: Entry) -> Resul
 #[test]
 fn a_number_is_written_whole_or_not_at_all(rt: HostRuntime) -> Result<(), Fail> {
     let mut out = full_bytes(rt.alloc())?;
-    let taken = all_memory(rt.alloc())?;
+    let taken = all_memory(rt.alloc(), SMALL)?;
     assert!(rt; put_number(&mut out, 10).is_err());
     assert_eq!(rt; out.len(), SMALL);
     drop(taken);

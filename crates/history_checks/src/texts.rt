@@ -2,7 +2,6 @@
 
 ghost use Rattle.history.specs.Header.{IsInRange};
 
-use crate::memory::all_memory;
 use history::entries::History;
 use history::entry::{End, Entry, Mode, Word};
 use history::fault::Fault;
@@ -10,6 +9,7 @@ use history::header::{Header, Object, Policy};
 use history_text::fitting::fits;
 use history_text::history_text::{read_text, write_text};
 use line_text::fault::TextFault;
+use scarce_memory::all_memory;
 use std::alloc::Global;
 use std::test::Fail;
 

@@ -12,6 +12,7 @@ use history::fault::Fault;
 use history::header::{Object, Policy};
 use read_write::hooks::RwHooks;
 use reentrant::lock::LockHooks;
+use scarce_memory::all_memory;
 use std::alloc::Global;
 use std::test::Fail;
 
@@ -80,25 +81,9 @@ fn rw(alloc: Global, policy: Policy) -> Result<RwHooks, &'static str> {
     RwHooks::open(alloc, policy, 3).ok().ok_or("memory")
 }
 
-/// Takes what the heap gives, down to blocks of 64 bytes.
-fn all_memory(alloc: Global) -> Result<Vec<Vec<u8>>, Fail> {
-    let mut taken = Vec::with_capacity(alloc, 65_536)?;
-    let mut size: usize = 1 << 46;
-    for _ in 0..65_536 {
-        match Vec::with_capacity(alloc, size) {
-            Ok(block) => taken.push(block)?,
-            Err(_) => size /= 2,
-        }
-        if size < 64 {
-            break;
-        }
-    }
-    Ok(taken)
-}
-
 #[test]
 fn an_opening_without_memory_says_so(rt: HostRuntime) -> Result<(), Fail> {
-    let taken = all_memory(rt.alloc())?;
+    let taken = all_memory(rt.alloc(), 64)?;
     let refused = RwHooks::open(rt.alloc(), Policy::Fair, 256);
     assert_eq!(rt; refused.err(), Some(Fault::OutOfMemory));
     drop(taken);

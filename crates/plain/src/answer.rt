@@ -11,8 +11,9 @@ ghost use Rattle.plain.specs.Owing.{IsNextEntry};
 
 use crate::ledgers::ledger_of;
 use crate::owing::{owed_behind, owed_of};
-use crate::ready::{named_by, ready};
+use crate::ready::ready;
 use audit::ledger::Ledger;
+use deciding::entries::named;
 use history::entries::History;
 use history::entry::Entry;
 use history::fault::Fault;
@@ -43,8 +44,7 @@ fn recorded(
         Ok(()) => {}
     }
     let after = ready(&ledger, header.seats);
-    let named = named_by(before, after, entry.seat);
-    Ok(Answer::Recorded(entry, named))
+    Ok(Answer::Recorded(entry, named(before, after, entry.seat)))
 }
 
 /// What a seat's step is answered behind a legal history of the header's object.

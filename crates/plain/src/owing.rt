@@ -2,42 +2,14 @@
 
 ghost use Rattle.std.specs.Prelude.{◌≡◌, ◌+◌, ◌*◌, ◌<◌, ◌≤◌, ◌^◌, ◌∷◌, List, length};
 ghost use Rattle.history.specs.Legal.{AreSeated, IsLegal};
-ghost use Rattle.history.specs.Object.{is_lock};
-ghost use Rattle.history.specs.Room.{owed, releases, reserves};
 ghost use Rattle.history.specs.Start.{opening};
 ghost use Rattle.history.specs.declared.entry.Entry.{Entry};
 ghost use Rattle.plain.specs.Owing.{IsOwed};
 
-use audit::checks::is_lock;
+use deciding::room::{releases, reserves};
 use history::entries::History;
-use history::entry::{Entry, Word};
-use history::header::{Header, Object};
-
-/// For how many entries more an entry reserves room.
-fn reserved(object: Object, entry: Entry) -> u64
-    ensures is { result ≡ reserves object entry }
-    ensures few { result ≤ 2 }
-{
-    match entry.word {
-        Word::Got | Word::TryGot => u64::from(is_lock(object)),
-        Word::Queued => 1 + u64::from(is_lock(object)),
-        Word::Await => 2,
-        _ => 0,
-    }
-}
-
-/// For how many entries an entry releases room.
-fn released(object: Object, entry: Entry) -> u64
-    ensures { result ≡ releases object entry }
-{
-    match entry.word {
-        Word::Granted | Word::Lapse | Word::Back => 1,
-        Word::Left => 1 + u64::from(is_lock(object)),
-        Word::Gave => u64::from(is_lock(object)),
-        Word::Signal | Word::SignalAll => u64::from(entry.n),
-        _ => 0,
-    }
-}
+use history::entry::Entry;
+use history::header::Header;
 
 /// What is owed behind an entry, of what was owed before it.
 pub fn owed_behind(header: &Header, owed: u64, entry: Entry) -> u64
@@ -49,7 +21,7 @@ pub fn owed_behind(header: &Header, owed: u64, entry: Entry) -> u64
         → IsOwed header.now (entry ∷ h) result }
     ensures few { result ≤ owed + 2 }
 {
-    owed + reserved(header.object, entry) - released(header.object, entry)
+    owed + reserves(header.object, entry) - releases(header.object, entry)
 }
 
 /// What a legal history owes.

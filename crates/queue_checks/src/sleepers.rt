@@ -47,7 +47,7 @@ fn a_signal_moves_the_longest_sleeper(rt: HostRuntime) -> Result<(), Fail> {
     assert_eq!(rt; waiters.move_first(0, &mut queue), 0);
     assert_eq!(rt; queue.joined(), 0);
     assert_eq!(rt; waiters.move_first(1, &mut queue), 1);
-    assert_eq!(rt; queue.first(), Some(on_its_way_back(4)));
+    assert_eq!(rt; queue.first(), Some(coming_back(4)));
     assert_eq!(rt; waiters.sleeper_of(4), None);
     assert_eq!(rt; waiters.sleeper_of(2), sleeper(1, 1));
     assert_eq!(rt; waiters.len(1), 1);
@@ -65,8 +65,8 @@ fn a_signal_to_all_moves_them_in_order(rt: HostRuntime) -> Result<(), Fail> {
     assert!(rt; waiters.leave(3));
     assert!(rt; !waiters.leave(3));
     assert_eq!(rt; waiters.move_all(2, &mut queue), 2);
-    assert_eq!(rt; queue.take_first(), Some(on_its_way_back(7)));
-    assert_eq!(rt; queue.take_first(), Some(on_its_way_back(5)));
+    assert_eq!(rt; queue.take_first(), Some(coming_back(7)));
+    assert_eq!(rt; queue.take_first(), Some(coming_back(5)));
     assert_eq!(rt; queue.take_first(), None);
     assert_eq!(rt; waiters.len(2), 0);
     assert_eq!(rt; waiters.sleeper_of(1), sleeper(0, 9));
@@ -130,7 +130,7 @@ fn moves_as(
     for _ in 0..moved {
         if let Some(place) = list.iter().position(|a| a.condition == c) {
             let seat = list.remove(place).seat;
-            same = same && queue.take_first() == Some(on_its_way_back(seat));
+            same = same && queue.take_first() == Some(coming_back(seat));
         }
     }
     Ok(same && queue.is_empty())

@@ -12,7 +12,8 @@ use Rattle.history.specs.Counts.{Counts}
 use Rattle.history.specs.Object.{in_holds}
 use Rattle.frame.specs.Hooks.{IsRestorable}
 use Rattle.frame.specs.Owners.{is_owned, is_owner_in, Owns}
-use Rattle.frame.proofs.Owners.{owns_took, owns_gave, owns_freed, owns_let_go, owns_restored, shared_kept, exclusive_kept, changed_own, changed_other, some_owned, owned_some, owned_most, seated_some, seat_is, no_owner}
+use Rattle.history.proofs.Entering.{seat_is}
+use Rattle.frame.proofs.Owners.{owns_took, owns_gave, owns_freed, owns_let_go, owns_restored, shared_kept, exclusive_kept, changed_own, changed_other, some_owned, owned_some, owned_most, seated_some, no_owner}
 use Rattle.frame.proofs.Tables.{table_total, table_set, in_total, past_table}
 use Rattle.read_write.specs.State.{State, IsSound, StandsFor}
 use Rattle.read_write.proofs.Reading.{MayWrite, could_is, may_write}

@@ -11,14 +11,12 @@ use Rattle.frame.specs.declared.hooks.Taken.TheVariants as take_answers
 use Rattle.history.specs.declared.header.Object.{Object}
 use Rattle.frame.specs.Hooks.{take_answer, take_answer_of, give_answer, open_where, IsRestorable}
 use Rattle.frame.specs.Owners.{holds_of}
-use Rattle.frame.proofs.Owners.{others_not, seat_is}
+use Rattle.std.proofs.Math.Bool.{and-false}
+use Rattle.history.proofs.Entering.{seat_is}
+use Rattle.frame.proofs.Owners.{others_not}
 use Rattle.read_write.specs.State.{State, IsSound, StandsFor, could_by}
 use Rattle.read_write.proofs.Reading.{MayWrite, MayRead, could_is, owner_of, readers_of}
 use Rattle.read_write.proofs.Changing.{owned_by, with_reads, sound_wrote, stands_wrote, sound_read, stands_read, sound_read_less, stands_read_less, sound_write_less, stands_write_less, sound_restored, stands_restored, reader_seated, readers_some}
-
-and_false : (b : Bool) → (b && false) ≡ false
-and_false true = refl
-and_false false = refl
 
 -- beside an owner nobody else could
 alone_by : (i w r j : ℕ) (m : Mode) → j ≢ i → could_by (Some i) w r j m ≡ false
@@ -49,18 +47,18 @@ writer_as_before o w r i j m c t f = ⊎_elim (λ e. same m e f) (λ ne. alone_b
         let P : ℕ → Type 0 = λ z. could_by o w r z S ≡ false in
         let no : could_by o w r i S ≡ false = subst P e g in
         let full : ltb r max_shared ≡ false = rw t at no in
-        rw full (and_false (eqb i j))
+        rw full (and-false (eqb i j))
 
 -- beside a reader nobody else could write
 reader_alone : (o : Option ℕ) (w r i j : ℕ) → is_none_or o i ≡ true → j ≢ i → could_by o w (r + 1) j X ≡ false
 reader_alone o w r i j t ne =
     let some : eqb (r + 1) 0 ≡ false = ne_eqb (r + 1) 0 (λ e. omega (arith, e)) in
-    rw (none_other o i j t ne) (rw some (and_false (is_none_or o j)))
+    rw (none_other o i j t ne) (rw some (and-false (is_none_or o j)))
 
 full_alone : (o : Option ℕ) (w r j : ℕ) → r ≡ max_shared → could_by o w r j S ≡ false
 full_alone o w r j e =
     let full : ltb r max_shared ≡ false = le-ltb r max_shared (omega (arith, e)) in
-    rw full (and_false (is_none_or o j))
+    rw full (and-false (is_none_or o j))
 
 -- a read hold more makes nobody able
 reader_as_before : (o : Option ℕ) (w r j : ℕ) (m : Mode) → could_by o w r j m ≡ false → could_by o w (r + 1) j m ≡ false
@@ -70,7 +68,7 @@ reader_as_before o w r j X f = by (is_seat o j) (ltb (holds_of o w j) max_shared
     by true a g = g
     by false a g =
         let some : eqb (r + 1) 0 ≡ false = ne_eqb (r + 1) 0 (λ e. omega (arith, e)) in
-        rw some (and_false (is_none_or o j))
+        rw some (and-false (is_none_or o j))
 reader_as_before o w r j S f = by (is_none_or o j) f
   where
     by : (b : Bool) → (b && ltb r max_shared) ≡ false → (b && ltb (r + 1) max_shared) ≡ false
@@ -87,7 +85,7 @@ reader_less o w r j X last full some most f = by (is_seat o j) (ltb (holds_of o 
     by true a g = g
     by false a g =
         let left : eqb (r - 1) 0 ≡ false = ne_eqb (r - 1) 0 (λ e. last (omega (arith, e, some))) in
-        rw left (and_false (is_none_or o j))
+        rw left (and-false (is_none_or o j))
 reader_less o w r j S last full some most f = by (is_none_or o j) f
   where
     by : (b : Bool) → (b && ltb r max_shared) ≡ false → (b && ltb (r - 1) max_shared) ≡ false

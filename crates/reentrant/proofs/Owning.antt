@@ -12,7 +12,8 @@ use Rattle.history.specs.Counts.{Counts, owner}
 use Rattle.history.specs.Object.{in_holds}
 use Rattle.frame.specs.Hooks.{let_go_answer, IsRestorable}
 use Rattle.frame.specs.Owners.{holds_of, is_owned, Owns}
-use Rattle.frame.proofs.Owners.{owner_is, all_its_own, others_not, seat_is, no_owner, shared_kept, owns_took, owns_gave, owns_restored, some_owned, owned_most}
+use Rattle.history.proofs.Entering.{seat_is}
+use Rattle.frame.proofs.Owners.{owner_is, all_its_own, others_not, no_owner, shared_kept, owns_took, owns_gave, owns_restored, some_owned, owned_most}
 use Rattle.reentrant.specs.Lock.{StandsBy}
 
 -- what can be taken, by the fields

@@ -14,7 +14,8 @@ ghost use Rattle.history.specs.Order.{IsInOrder, IsFairOrder};
 ghost use Rattle.history.specs.Room.{owed};
 ghost use Rattle.frame.specs.Core.{start_of, counts_of, is_asleep, ready_of};
 ghost use Rattle.frame.specs.Hooks.{level_of};
-ghost use Rattle.frame.specs.Seat.{seat_of, sleep_of};
+ghost use Rattle.deciding.specs.Sleep.{sleep_of};
+ghost use Rattle.frame.specs.Seat.{seat_of};
 
 use super::Core;
 use crate::hooks::Hooks;

@@ -7,11 +7,12 @@ ghost use Rattle.history.specs.Room.{was_owed};
 ghost use Rattle.std.specs.Prelude.{true};
 
 use super::Core;
-use crate::effects::{change, releases, reserves};
-use crate::entries::named;
+use crate::effects::change;
 use crate::hooks::Hooks;
 use crate::seat::update;
 use crate::waiting::move_waiters;
+use deciding::entries::named;
+use deciding::room::{releases, reserves};
 use history::entry::Entry;
 use history::fault::Fault;
 use history::step::{Answer, Step};

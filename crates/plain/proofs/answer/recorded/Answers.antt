@@ -18,6 +18,6 @@ returns c =
     let owed = c.owed_behind-behind.ensures.is h c.owed_of-owed.ensures.is next.legal (next.seat, next.seated) in
     let long = c.len.ensures in
     let room = c.if-from-len.false in
-    inl (named_so k h e c.owed_behind-behind.result c.ready-before.result c.ready-after.result c.named_by-named.result owed
+    inl (named_so k h e c.owed_behind-behind.result c.ready-before.result c.ready-after.result c.named.result owed
     (omega (arith, long, room)) (c.ready-before.ensures (opening k) h c.requires.stand refl)
-    (c.ready-after.ensures (opening k) (e ∷ h) stand refl) c.named_by-named.ensures)
+    (c.ready-after.ensures (opening k) (e ∷ h) stand refl) c.named.ensures)

@@ -3,21 +3,31 @@ use Rattle.std.proofs.lemmas.List.{get_or_read}
 use Rattle.history.specs.Counts.{holds_after}
 use Rattle.history.specs.Object.{is_lock}
 use Rattle.audit.specs.Holds.{owner_after}
-use Rattle.audit.proofs.HoldsFollow.{stands_exclusive, stands_shared, shared_fits}
+use Rattle.audit.proofs.HoldsFollow.{stands_exclusive, stands_shared, exclusive_fits, shared_fits}
 use Rattle.audit.proofs.holds.Holds.note.Goals as goal
+
+pub holds_after-has-requires : goal.holds_after-has-requires
+holds_after-has-requires c =
+    let b = c.requires.bounds in
+    let e = c.args.entry in
+    exclusive_fits b.0 b.1 c.args.self.now c.args.object e.word e.n e.seat c.index-had.result.now b.2 b.3
+    (omega arith)
+    (get_or_read _ _ _ c.requires.seat.0 c.index-had.ensures 0)
 
 pub holds_after-has-requires-in-S : goal.holds_after-has-requires-in-S
 holds_after-has-requires-in-S c =
     let b = c.requires.bounds in
-    (shared_fits b.0 b.1 c.args.self.now c.args.entry.seat c.index-had-in-S.result.now b.2
-    (omega (arith, c.requires.seat, b.2.exclusive_seats)) b.3
+    let e = c.args.entry in
+    (shared_fits b.0 b.1 c.args.self.now c.args.object e.word e.n e.seat c.index-had-in-S.result.now b.2
+    (omega (arith, c.requires.seat, b.2.exclusive_seats)) b.3 (omega arith)
     (get_or_read _ _ _ c.requires.seat.1 c.index-had-in-S.ensures 0)).0
 
 pub overflow_sub-self : goal.overflow_sub-self
 overflow_sub-self c =
     let b = c.requires.bounds in
-    (shared_fits b.0 b.1 c.args.self.now c.args.entry.seat c.index-had-in-S.result.now b.2
-    (omega (arith, c.requires.seat, b.2.exclusive_seats)) b.3
+    let e = c.args.entry in
+    (shared_fits b.0 b.1 c.args.self.now c.args.object e.word e.n e.seat c.index-had-in-S.result.now b.2
+    (omega (arith, c.requires.seat, b.2.exclusive_seats)) b.3 (omega arith)
     (get_or_read _ _ _ c.requires.seat.1 c.index-had-in-S.ensures 0)).1
 
 pub returns-in-X : goal.returns-in-X

@@ -1,6 +1,7 @@
 use Rattle.std.proofs.Common.{ap, ◌∙◌}
 use Rattle.std.proofs.lemmas.List.{get_or_read}
-use Rattle.audit.specs.Waiting.{sleep_of, never_slept}
+use Rattle.audit.specs.Waiting.{never_slept}
+use Rattle.deciding.specs.Sleep.{sleep_of}
 use Rattle.audit.proofs.ledger.Ledger.last_sleep.Goals as goal
 
 pub returns : goal.returns

@@ -1,4 +1,4 @@
-use Rattle.std.proofs.Common.{ap, sym, ◌∙◌, ⊎_elim}
+use Rattle.std.proofs.Common.{[], ◌∷◌, ◌++◌, ap, sym, ◌∙◌, ⊎_elim}
 use Rattle.history.specs.Entry.{ends_arrival}
 use Rattle.history.specs.Line.{coming_back}
 use Rattle.history.specs.Sleepers.{sleepers, sleepers_after}
@@ -12,7 +12,8 @@ use Rattle.audit.proofs.waiting.Waiting.note.Goals as goal
 pub returns-in-Queued-clause-stand : goal.returns-in-Queued-clause-stand
 returns-in-Queued-clause-stand c = on_ok c.join.result _ (λ ok s h st.
     follows_queued s c.args.entry h c.args.self.now c.join.new.self st c.in-Queued.is
-    (of_ok _ _ c.join.ensures.line ok) (ap (λ v. v.items) c.join.ensures.asleep)
+    (of_ok _ _ c.join.ensures.line ok ∙ ap (λ a. c.args.self.now.line.items ++ a ∷ []) c.queued.ensures)
+    (ap (λ v. v.items) c.join.ensures.asleep)
     (ap (λ v. v.items) c.join.ensures.last_sleep))
 
 pub returns-in-Granted-clause-stand : goal.returns-in-Granted-clause-stand

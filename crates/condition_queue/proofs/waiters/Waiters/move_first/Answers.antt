@@ -23,7 +23,7 @@ join-requires-clause-seat c =
     let first : slice_get (get_or (map deque_items c.self.inside.lists.items) c.args.c []) 0 ≡ Some c.in-Some.seat =
     ap (λ (v : Sleepers). slice_get (asleep_on v c.args.c) 0) c.self.view_is ∙ sym c.in-Some.ensures in
     let low = first_below _ _ _ _ c.self.invariant c.args.c c.in-Some.seat first in
-    omega (arith, low, c.self.invariant.one_a_seat, c.requires.seats, ap (λ (v : Sleepers). v.seats) c.self.view_is, ap (λ (a : Arrival). a.seat) c.on_its_way_back.ensures)
+    omega (arith, low, c.self.invariant.one_a_seat, c.requires.seats, ap (λ (v : Sleepers). v.seats) c.self.view_is, ap (λ (a : Arrival). a.seat) c.coming_back.ensures)
 
 pub invariant_of-self : goal.invariant_of-self
 invariant_of-self c =
@@ -45,7 +45,7 @@ returns-in-Some-clause-moves c =
     record {
       arrivals =
           c.join.ensures.line
-          ∙ ap (λ a. c.args.queue.now.arrivals ++ a ∷ []) c.on_its_way_back.ensures
+          ∙ ap (λ a. c.args.queue.now.arrivals ++ a ∷ []) c.coming_back.ensures
           ∙ ap (λ l. c.args.queue.now.arrivals ++ map coming_back l) alone;
       lists = lists_changed (drop 1) c.self.inside.lists.items (asleep_on c.args.self.now) c.args.c c.index_mut.result.now c.pop_front.new.self (λ d. ap (λ (v : Sleepers). asleep_on v d) c.self.view_is) low c.index_mut.ensures.value c.pop_front.ensures.rest;
       sleepers = moved_table c.self.inside.table.items (sleeper_of c.args.self.now) c.in-Some.seat (asleep_on c.args.self.now c.args.c) (λ i. ap (λ (v : Sleepers). sleeper_of v i) c.self.view_is) seat alone;

@@ -1,7 +1,7 @@
 use Rattle.std.proofs.Common.{◌≡◌, ◌∙◌, sym, subst, Some}
-use Rattle.frame.specs.Checks.{refused_as}
+use Rattle.deciding.specs.Checks.{refused_as}
 use Rattle.frame.specs.Core.{CoreView, start_of}
-use Rattle.frame.proofs.Deciding.{entry_refused}
+use Rattle.deciding.proofs.InPhase.{entry_refused}
 use Rattle.frame.proofs.machine.Core.decide.Goals as goal
 
 pub returns-in-Some : goal.returns-in-Some

@@ -5,7 +5,7 @@ use Rattle.history.specs.Legal.{IsLegal, AreSeated}
 use Rattle.history.specs.Start.{opening}
 use Rattle.frame.specs.declared.seat.Seat.{Seat}
 use Rattle.frame.specs.Core.{CoreView, start_of}
-use Rattle.frame.specs.Seat.{sleep_of}
+use Rattle.deciding.specs.Sleep.{sleep_of}
 use Rattle.history.proofs.OneOwner.{owned}
 use Rattle.frame.proofs.Bounds.{owner_is}
 use Rattle.frame.proofs.Seats.{seat_held, seat_sleep}

@@ -19,7 +19,7 @@ overflow_sub-owed g c =
     let was = c.owed-was_owed.result in
     let more = c.reserves.result in
     let less = c.releases.result in
-    let m = needs k h e was more less n (c.owed-was_owed.ensures.value ∙ s.owed) c.reserves.ensures c.releases.ensures in
+    let m = needs k h e was more less n (c.owed-was_owed.ensures.value ∙ s.owed) c.reserves.ensures.is c.releases.ensures in
     m.within
 
 pub returns-in-Err : goal.returns-in-Err
@@ -35,7 +35,7 @@ returns-in-Err g c =
     let was = c.owed-was_owed.result in
     let more = c.reserves.result in
     let less = c.releases.result in
-    let m = needs k h e was more less n (c.owed-was_owed.ensures.value ∙ s.owed) c.reserves.ensures c.releases.ensures in
+    let m = needs k h e was more less n (c.owed-was_owed.ensures.value ∙ s.owed) c.reserves.ensures.is c.releases.ensures in
     let new = c.make_room.new.self in
     let P : CoreView → Type 0 = λ w. IsAdded w e (Err c.in-Err.fault) (record { header = k; entries = new.entries }) in
     subst P c.self.view_is
@@ -106,7 +106,7 @@ invariant_of-self-2 g c =
     let was = c.owed-was_owed.result in
     let more = c.reserves.result in
     let less = c.releases.result in
-    let m = needs k h e was more less n (c.owed-was_owed.ensures.value ∙ s.owed) c.reserves.ensures c.releases.ensures in
+    let m = needs k h e was more less n (c.owed-was_owed.ensures.value ∙ s.owed) c.reserves.ensures.is c.releases.ensures in
     let mid = c.make_room.new.self in
     let new = c.add.new.self in
     let fits = fitted k e a.history mid was more less c.saturating_sub-needed.result m c.owed-was_owed.ensures.value
@@ -133,7 +133,7 @@ returns g c =
     let was = c.owed-was_owed.result in
     let more = c.reserves.result in
     let less = c.releases.result in
-    let m = needs k h e was more less n (c.owed-was_owed.ensures.value ∙ s.owed) c.reserves.ensures c.releases.ensures in
+    let m = needs k h e was more less n (c.owed-was_owed.ensures.value ∙ s.owed) c.reserves.ensures.is c.releases.ensures in
     let mid = c.make_room.new.self in
     let new = c.add.new.self in
     let fits = fitted k e a.history mid was more less c.saturating_sub-needed.result m c.owed-was_owed.ensures.value

@@ -1,0 +1,108 @@
+//! The steps that are refused and not recorded, whatever the history says.
+
+ghost use Rattle.std.specs.Prelude.{◌≡◌};
+ghost use Rattle.history.specs.Faults.{is_wrong_mode, is_no_condition, is_bad_amount, is_bad_number, lacks_mode};
+ghost use Rattle.history.specs.Object.{is_lock, is_semaphore, is_latch};
+ghost use Rattle.history.specs.Phase.{waits};
+ghost use Rattle.deciding.specs.Checks.{refused_as};
+
+use history::entry::Mode;
+use history::fault::Fault;
+use history::header::{Header, Object};
+use history::step::Step;
+
+/// The fault of a step that the object doesn't have: its mode, its condition, its amount, in this order.
+pub fn refused_as(header: &Header, step: Step) -> Option<Fault>
+    ensures { result ≡ refused_as header.now step }
+{
+    if is_wrong_mode(header.object, step) {
+        Some(Fault::WrongMode)
+    } else if is_no_condition(header, step) {
+        Some(Fault::NoSuchCondition)
+    } else if is_bad_amount(header.object, step) {
+        Some(Fault::BadAmount)
+    } else {
+        None
+    }
+}
+
+/// Whether a step is for one who stands in line or sleeps.
+pub fn waits(step: Step) -> bool
+    ensures { result ≡ waits step }
+{
+    matches!(step, Step::Look | Step::Expire | Step::Interrupt)
+}
+
+/// Whether the object is owned, has conditions, and keeps room for each hold: a lock or a read-write lock.
+pub fn is_lock(object: Object) -> bool
+    ensures { result ≡ is_lock object }
+{
+    matches!(object, Object::Lock(_) | Object::ReadWrite(_))
+}
+
+fn is_semaphore(object: Object) -> bool
+    ensures { result ≡ is_semaphore object }
+{
+    matches!(object, Object::Semaphore(_, _))
+}
+
+fn is_latch(object: Object) -> bool
+    ensures { result ≡ is_latch object }
+{
+    matches!(object, Object::Latch(_))
+}
+
+fn lacks_mode(object: Object, mode: Mode) -> bool
+    ensures { result ≡ lacks_mode object mode }
+{
+    match object {
+        Object::Lock(_) => matches!(mode, Mode::S),
+        Object::ReadWrite(_) => false,
+        Object::Semaphore(_, _) | Object::Latch(_) => matches!(mode, Mode::X),
+    }
+}
+
+fn is_wrong_mode(object: Object, step: Step) -> bool
+    ensures { result ≡ is_wrong_mode object step }
+{
+    match step {
+        Step::Acquire(mode, _)
+        | Step::TryFair(mode, _)
+        | Step::EntryInterrupt(mode, _)
+        | Step::Give(mode, _) => lacks_mode(object, mode),
+        Step::Try(mode, _) => lacks_mode(object, mode) || is_latch(object),
+        Step::Await(_) | Step::Signal(_) | Step::SignalAll(_) => !is_lock(object),
+        Step::Drain => !is_semaphore(object),
+        Step::Look | Step::Expire | Step::Interrupt => false,
+    }
+}
+
+fn is_no_condition(header: &Header, step: Step) -> bool
+    ensures { result ≡ is_no_condition header.now step }
+{
+    match step {
+        Step::Await(condition) | Step::Signal(condition) | Step::SignalAll(condition) => {
+            header.conditions <= condition
+        }
+        _ => false,
+    }
+}
+
+fn is_bad_amount(object: Object, step: Step) -> bool
+    ensures { result ≡ is_bad_amount object step }
+{
+    match step {
+        Step::Acquire(_, n)
+        | Step::Try(_, n)
+        | Step::TryFair(_, n)
+        | Step::EntryInterrupt(_, n)
+        | Step::Give(_, n) => is_bad_number(object, n),
+        _ => false,
+    }
+}
+
+fn is_bad_number(object: Object, n: u32) -> bool
+    ensures { result ≡ is_bad_number object n }
+{
+    2_147_483_647 < n || (!is_semaphore(object) && n != 1)
+}

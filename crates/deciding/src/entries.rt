@@ -1,0 +1,118 @@
+//! The entries that steps make.
+
+ghost use Rattle.std.specs.Prelude.{◌≡◌, ℕ, List};
+ghost use Rattle.history.specs.declared.entry.Entry.{Entry};
+ghost use Rattle.history.specs.Naming.{named_by};
+ghost use Rattle.history.specs.Sleepers.{last_sleep};
+ghost use Rattle.history.specs.Start.{Start};
+ghost use Rattle.history.specs.Steps.{plain, ended, queued_entry, sleeping_entry, back};
+ghost use Rattle.deciding.specs.Sleep.{sleep_of};
+
+use crate::sleep::LastSleep;
+use history::arrival::Arrival;
+use history::entry::{End, Entry, Mode, Word};
+use history::step::Step;
+
+/// An entry of no condition and no wait.
+pub fn plain(seat: u16, word: Word, mode: Mode, n: u32) -> Entry
+    ensures { result ≡ plain seat word mode n }
+{
+    Entry {
+        seat,
+        word,
+        mode,
+        n,
+        at: 0,
+        end: End::None,
+    }
+}
+
+/// The entry by which an acquire leaves the line.
+fn ended(seat: u16, word: Word, arrival: Arrival, end: End) -> Entry
+    ensures { result ≡ ended seat word arrival end }
+{
+    Entry {
+        seat,
+        word,
+        mode: arrival.mode,
+        n: arrival.n,
+        at: 0,
+        end,
+    }
+}
+
+/// What a queued acquire makes of a step, whether it may go or not; `None` is sleep.
+pub fn queued_entry(goes: bool, seat: u16, arrival: Arrival, step: Step) -> Option<Entry>
+    ensures { result ≡ queued_entry goes seat arrival step }
+{
+    match step {
+        Step::Look => {
+            if goes {
+                Some(ended(seat, Word::Granted, arrival, End::None))
+            } else {
+                None
+            }
+        }
+        Step::Expire => {
+            if goes {
+                Some(ended(seat, Word::Granted, arrival, End::None))
+            } else {
+                Some(ended(seat, Word::Left, arrival, End::Timeout))
+            }
+        }
+        Step::Interrupt => Some(ended(seat, Word::Left, arrival, End::Interrupt)),
+        _ => None,
+    }
+}
+
+/// The end of an await: all that was given up is held again.
+pub fn back(seat: u16, sleep: LastSleep) -> Entry
+    ensures { (s : Start) (h : List Entry) → sleep_of sleep ≡ last_sleep s h seat → result ≡ back s h seat }
+{
+    Entry {
+        seat,
+        word: Word::Back,
+        mode: Mode::X,
+        n: sleep.holds,
+        at: sleep.condition,
+        end: sleep.how,
+    }
+}
+
+/// What a sleeper makes of a step; `None` is sleep.
+pub fn sleeping_entry(seat: u16, sleep: LastSleep, step: Step) -> Option<Entry>
+    ensures { (s : Start) (h : List Entry) → sleep_of sleep ≡ last_sleep s h seat
+        → result ≡ sleeping_entry s h seat step }
+{
+    let end = match step {
+        Step::Expire => End::Timeout,
+        Step::Interrupt => End::Interrupt,
+        _ => return None,
+    };
+    Some(Entry {
+        seat,
+        word: Word::Lapse,
+        mode: Mode::X,
+        n: 0,
+        at: sleep.condition,
+        end,
+    })
+}
+
+/// Whom an entry names, by who was ready before it and who is behind it.
+pub fn named(before: Option<u16>, after: Option<u16>, seat: u16) -> Option<u16>
+    ensures { result ≡ named_by before after seat }
+{
+    let Some(first) = after else {
+        return None;
+    };
+    let was_ready = match before {
+        None => false,
+        Some(was) => was == first,
+    };
+    if first == seat || was_ready {
+        None
+    } else {
+        Some(first)
+    }
+}
