@@ -1,7 +1,8 @@
 //! From bytes to bytes: what a stream's text asks for is answered by a text.
 //!
-//! A stream reads all, builds its whole output, and only then writes, so that nothing is written for a
-//! text that is refused. Sources and sinks tell their bytes to the contracts, where these are known.
+//! A stream reads all and builds its whole output before it writes, so that nothing is written for a text
+//! that is refused. A replay answers each line as it is read. Sources and sinks tell their bytes to the
+//! contracts, where these are known.
 #![tactic(auto)]
 
 pub mod answering;
