@@ -43,12 +43,6 @@ impl From<AllocError> for Fault {
     }
 }
 
-impl From<StreamFault> for Fault {
-    fn from(fault: StreamFault) -> Fault {
-        Fault::Stream(fault)
-    }
-}
-
 impl From<Error> for Fault {
     fn from(error: Error) -> Fault {
         match error.kind() {

@@ -7,8 +7,9 @@
 //! writing itself.
 #![tactic(auto)]
 
-ghost use Rattle.std.specs.Prelude.{◌≡◌, MatchResult};
+ghost use Rattle.std.specs.Prelude.{◌≡◌, false, MatchResult};
 ghost use Rattle.aqs.specs.Fault.{status_of};
+ghost use Rattle.aqs.specs.Perform.{Performs, status_for};
 
 mod arguments;
 mod fault;
@@ -19,6 +20,8 @@ use audit::verdict::Verdict;
 use driver::audit_stream::audit_stream;
 use driver::device::Device;
 use driver::replay_stream::replay_stream;
+use driver::sink::Sink;
+use driver::source::Source;
 use driver::stream_fault::StreamFault;
 use std::alloc::Global;
 use std::convert::AsStr;
@@ -28,26 +31,35 @@ use std::io::{self, Read, Write};
 use std::process::ExitCode;
 use std::rt::{Env, Files};
 
-/// The status of an audit that finds a history not legal.
-const NOT_LEGAL: u8 = 1;
+/// The exit status behind a verdict.
+fn status_for(verdict: Verdict) -> u8
+    ensures { result ≡ status_for verdict }
+{
+    match verdict {
+        Verdict::Legal => 0,
+        Verdict::NotLegal(_) => 1,
+    }
+}
 
-/// Answers what a reader gives to a writer, and tells the exit status.
-fn perform<R: Read + Drop, W: Write + Drop>(
+/// Answers what a source has to a sink, and tells the exit status.
+fn perform<R: Source, W: Sink>(
     alloc: Global,
-    reader: R,
-    writer: W,
+    reader: &mut R,
+    writer: &mut W,
     task: Task,
-) -> Result<u8, Fault> {
-    let mut reader = Device::new(reader);
-    let mut writer = Device::new(writer);
+) -> Result<u8, Fault>
+    requires reader { R.failed reader.old ≡ false }
+    requires writer { W.failed writer.old ≡ false }
+    ensures { Performs task (R.left reader.old) (W.held writer.old) (W.held writer.new) result }
+{
     match task {
-        Task::Replay(form) => {
-            replay_stream(alloc, &mut reader, &mut writer, form)?;
-            Ok(0)
-        }
-        Task::Audit => match audit_stream(alloc, &mut reader, &mut writer)? {
-            Verdict::Legal => Ok(0),
-            Verdict::NotLegal(_) => Ok(NOT_LEGAL),
+        Task::Replay(form) => match replay_stream(alloc, reader, writer, form) {
+            Ok(()) => Ok(0),
+            Err(fault) => Err(Fault::Stream(fault)),
+        },
+        Task::Audit => match audit_stream(alloc, reader, writer) {
+            Ok(verdict) => Ok(status_for(verdict)),
+            Err(fault) => Err(Fault::Stream(fault)),
         },
     }
 }
@@ -60,10 +72,11 @@ fn run<R: Files + AllocGlobal, S: AsStr, I: Read + Drop, O: Write + Drop>(
     output: O,
 ) -> Result<u8, Fault> {
     let Asked { task, file } = arguments(rt.alloc(), words)?;
+    let mut writer = Device::new(output);
     match file {
-        None => perform(rt.alloc(), input, output, task),
+        None => perform(rt.alloc(), &mut Device::new(input), &mut writer, task),
         Some(file) => match File::open(rt, file.as_str()) {
-            Ok(file) => perform(rt.alloc(), file, output, task),
+            Ok(file) => perform(rt.alloc(), &mut Device::new(file), &mut writer, task),
             Err(_) => Err(Fault::Stream(StreamFault::ReadFailed)),
         },
     }

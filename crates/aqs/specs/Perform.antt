@@ -1,0 +1,26 @@
+-- What the program does for a task, and the status that it ends with.
+use Rattle.std.specs.Prelude.{◌≡◌, ℕ, List, Option, Result, Ok, Err}
+use Rattle.audit.specs.declared.verdict.Verdict.{Verdict}
+use Rattle.audit.specs.declared.verdict.Verdict.TheVariants.{Legal, NotLegal}
+use Rattle.driver.specs.AuditStream.{Audits}
+use Rattle.driver.specs.ReplayStream.{Replays}
+use Rattle.aqs.specs.declared.arguments.Task.{Task}
+use Rattle.aqs.specs.declared.arguments.Task.TheVariants.{Replay, Audit}
+use Rattle.aqs.specs.declared.fault.Fault.{Fault}
+use Rattle.aqs.specs.declared.fault.Fault.TheVariants.{Usage, Memory, Stream}
+
+-- a history that isn't legal ends the program with 1
+abbrev pub status_for : Verdict → ℕ
+status_for Legal = 0
+status_for (NotLegal number) = 1
+
+-- From what the source has left, and what the sink held before and holds after.
+abbrev pub Performs : Task → Option (List ℕ) → Option (List ℕ) → Option (List ℕ) → Result ℕ Fault → Type 0
+Performs (Replay form) left old new (Ok status) = (status ≡ 0) × Replays form left old new (Ok tt)
+Performs (Replay form) left old new (Err (Stream fault)) = Replays form left old new (Err fault)
+Performs (Replay form) left old new (Err Usage) = ⊥
+Performs (Replay form) left old new (Err Memory) = ⊥
+Performs Audit left old new (Ok status) = (verdict : Verdict) × (status ≡ status_for verdict) × Audits left old new (Ok verdict)
+Performs Audit left old new (Err (Stream fault)) = Audits left old new (Err fault)
+Performs Audit left old new (Err Usage) = ⊥
+Performs Audit left old new (Err Memory) = ⊥
