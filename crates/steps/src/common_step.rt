@@ -29,9 +29,21 @@ fn letter_of_acquire(text: &[u8]) -> Option<(u8, usize)>
     ensures { IfSome result (λ r. (rest : List ℕ) × (text.now ≡ codes "acquire " ++ r.0 ∷ codes " 1" ++ 10 ∷ rest) × (length rest ≡ r.1)) }
 {
     match text {
-        [b'a', b'c', b'q', b'u', b'i', b'r', b'e', b' ', letter, b' ', b'1', b'\n', rest @ ..] => {
-            Some((*letter, rest.len()))
-        }
+        [
+            b'a',
+            b'c',
+            b'q',
+            b'u',
+            b'i',
+            b'r',
+            b'e',
+            b' ',
+            letter,
+            b' ',
+            b'1',
+            b'\n',
+            rest @ ..,
+        ] => { Some((*letter, rest.len())) }
         _ => None,
     }
 }
@@ -42,9 +54,18 @@ fn letter_of_give(text: &[u8]) -> Option<(u8, usize)>
     ensures { IfSome result (λ r. (rest : List ℕ) × (text.now ≡ codes "give " ++ r.0 ∷ codes " 1" ++ 10 ∷ rest) × (length rest ≡ r.1)) }
 {
     match text {
-        [b'g', b'i', b'v', b'e', b' ', letter, b' ', b'1', b'\n', rest @ ..] => {
-            Some((*letter, rest.len()))
-        }
+        [
+            b'g',
+            b'i',
+            b'v',
+            b'e',
+            b' ',
+            letter,
+            b' ',
+            b'1',
+            b'\n',
+            rest @ ..,
+        ] => { Some((*letter, rest.len())) }
         _ => None,
     }
 }
@@ -85,7 +106,10 @@ fn tries(text: &[u8]) -> Option<(Step, usize)>
 {
     match behind(b"try x 1\n", text) {
         Some(rest) => Some((Step::Try(Mode::X, 1), rest.len())),
-        None => Some((Step::TryFair(Mode::X, 1), behind(b"tryfair x 1\n", text)?.len())),
+        None => Some((
+            Step::TryFair(Mode::X, 1),
+            behind(b"tryfair x 1\n", text)?.len(),
+        )),
     }
 }
 
@@ -99,7 +123,10 @@ fn ends_wait(text: &[u8]) -> Option<(Step, usize)>
     }
     match behind(b"interrupt\n", text) {
         Some(rest) => Some((Step::Interrupt, rest.len())),
-        None => Some((Step::EntryInterrupt(Mode::X, 1), behind(b"entryinterrupt x 1\n", text)?.len())),
+        None => Some((
+            Step::EntryInterrupt(Mode::X, 1),
+            behind(b"entryinterrupt x 1\n", text)?.len(),
+        )),
     }
 }
 

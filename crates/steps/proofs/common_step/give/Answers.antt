@@ -1,4 +1,4 @@
-use Rattle.std.proofs.Common.{◌≡◌, ℕ, List, [], ◌∷◌, decimal, refl, arith, ap, ◌∙◌}
+use Rattle.std.proofs.Common.{arith}
 use Rattle.steps.proofs.StepLemmas.{one_spelt}
 use Rattle.steps.proofs.common_step.give.Goals as goal
 

@@ -1,4 +1,4 @@
-use Rattle.std.proofs.Common.{◌≡◌, ◌+◌, ◌∷◌, ◌++◌, ap, sym, ◌∙◌, arith, drop, List, ℕ}
+use Rattle.std.proofs.Common.{◌+◌, ◌∷◌, ◌++◌, ap, sym, ◌∙◌, drop, List, ℕ}
 use Rattle.std.proofs.lemmas.Fmt.{decimal_digit}
 use Rattle.steps.proofs.Lines.{first_space}
 use Rattle.steps.proofs.common_step.seat_of.Goals as goal

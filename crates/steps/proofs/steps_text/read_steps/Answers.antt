@@ -1,4 +1,3 @@
-use Rattle.std.proofs.Common.{◌∷◌, []}
 use Rattle.std.specs.Vec.{vec_len}
 use Rattle.steps.specs.StepsRead.{StepsRead}
 use Rattle.steps.proofs.Faults.{fault_passed}
