@@ -5,8 +5,7 @@ ghost use Rattle.std.specs.Prelude.{◌≡◌, ◌<◌};
 use acquire_queue::queue::Queue;
 use condition_queue::sleeper::Sleeper;
 use condition_queue::waiters::Waiters;
-use history::arrival::Arrival;
-use history::entry::Mode;
+use deciding::arrivals::coming_back;
 use history::fault::Fault;
 use std::alloc::{AllocError, Global};
 use std::test::Fail;
@@ -14,16 +13,6 @@ use std::test::Fail;
 const SEATS: u16 = 8;
 
 const CONDITIONS: u8 = 3;
-
-/// What joins the line for a seat that was signalled.
-fn on_its_way_back(seat: u16) -> Arrival {
-    Arrival {
-        seat,
-        mode: Mode::X,
-        n: 1,
-        back: true,
-    }
-}
 
 fn sleeper(condition: u8, holds: u32) -> Option<Sleeper> {
     Some(Sleeper { condition, holds })
