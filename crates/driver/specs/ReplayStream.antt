@@ -1,5 +1,5 @@
 -- What is written for what is read.
-use Rattle.std.specs.Prelude.{◌≡◌, ℕ, List, Option, Result}
+use Rattle.std.specs.Prelude.{◌≡◌, ℕ, List, Option, Result, IfSome}
 use Rattle.history.specs.declared.header.Header.{Header}
 use Rattle.history.specs.declared.step.Step.{Step}
 use Rattle.history.specs.Legal.{IsLegal, AreSeated}
@@ -31,6 +31,14 @@ pub record Replayed (form : Form) (text : List ℕ) (Written : List ℕ → Type
   pub in_order : IsInOrder (opening header) (history_behind header steps)
   pub in_fair_order : IsFairOrder (opening header) (history_behind header steps)
   pub written : Written (answer_text form header steps)
+
+-- this is what is written for the text, where it is known
+abbrev pub IsAnswerTo : Form → Option (List ℕ) → List ℕ → Type 0
+IsAnswerTo form text answer = IfSome text (λ t. Replayed form t (λ written. answer ≡ written))
+
+-- the same of a text of which the header was read
+abbrev pub IsAnswerBehind : Form → Progress → List ℕ → Type 0
+IsAnswerBehind form p answer = OfText p (λ t. Replayed form t (λ written. answer ≡ written))
 
 -- The text is a steps text of this header, and these entries are the history behind its steps.
 pub record IsDriven (p : Progress) (entries : List Entry) : Type 0 where

@@ -1,5 +1,5 @@
 -- A steps text that is read from a source as its steps are asked for.
-use Rattle.std.specs.Prelude.{◌≡◌, ◌≢◌, ◌+◌, ℕ, List, [], ◌∷◌, ◌++◌, Option, Some, None, Result, Ok, Err, IfSome, IsSomeAnd}
+use Rattle.std.specs.Prelude.{◌≡◌, ◌≢◌, ◌+◌, ◌-◌, ℕ, drop, length, List, [], ◌∷◌, ◌++◌, Option, Some, None, Result, Ok, Err, IfSome, IsSomeAnd}
 use Rattle.std.specs.Io.KnownBytes.{IsAtEnd, prepend_known}
 use Rattle.history.specs.declared.header.Header.{Header}
 use Rattle.history.specs.declared.step.Step.{Step}
@@ -15,6 +15,11 @@ pub record Held : Type 0 where
   pub header : Header
   pub count : ℕ
   pub bytes : List ℕ
+
+-- the same after one more step, behind which so many bytes are left
+abbrev pub passed : ℕ → Held → Held
+passed left held =
+    record { header = held.header; count = held.count + 1; bytes = drop (length held.bytes - left) held.bytes }
 
 -- A text under way: its header, how many steps were read, and all that follows them, where it is known.
 pub record Progress : Type 0 where

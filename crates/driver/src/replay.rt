@@ -5,9 +5,9 @@ ghost use Rattle.history.specs.Header.{IsInRange};
 ghost use Rattle.history.specs.Text.{ended};
 ghost use Rattle.driver.specs.declared.stream_fault.StreamFault.TheVariants.{Memory};
 ghost use Rattle.driver.specs.Replay.{HasLine};
-ghost use Rattle.driver.specs.ReplayStream.{IsDriven, Replayed};
+ghost use Rattle.driver.specs.ReplayStream.{IsAnswerBehind, IsDriven};
 ghost use Rattle.driver.specs.ReplayText.{answer_line, header_line};
-ghost use Rattle.driver.specs.StepReader.{IsFaultBehind, OfText, progress};
+ghost use Rattle.driver.specs.StepReader.{IsFaultBehind, progress};
 
 use crate::answering::Answering;
 use crate::form::Form;
@@ -151,7 +151,7 @@ pub fn replay<O: Answering, R: Source>(
     requires reader { R.failed reader.old ≡ false }
     requires header { (O.view_of object.old).header ≡ steps.old.header }
     requires fresh { (O.view_of object.old).entries ≡ [] }
-    ensures ok { IfOk result (λ text. OfText (progress steps.old (R.left reader.old)) (λ t. Replayed Form.Replay t (λ written. text.items ≡ written))) }
+    ensures ok { IfOk result (λ text. IsAnswerBehind Form.Replay (progress steps.old (R.left reader.old)) text.items) }
     ensures err { IfErr result (IsFaultBehind (progress steps.old (R.left reader.old))) }
     ensures failing { IsErrOf result StreamFault.ReadFailed ↔ IsTrue (R.failed reader.new) }
 {

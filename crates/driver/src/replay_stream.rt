@@ -1,8 +1,8 @@
 //! A steps text is answered by a replay text, or by a history text.
 
-ghost use Rattle.std.specs.Prelude.{◌≡◌, ◌↔◌, [], false, IsTrue, IfErr, IfOk, IfSome, IsErrOf};
-ghost use Rattle.driver.specs.ReplayStream.{Replayed, Replays};
-ghost use Rattle.driver.specs.StepReader.{IsFaultBehind, IsFaultOf, OfText, progress};
+ghost use Rattle.std.specs.Prelude.{◌≡◌, ◌↔◌, [], false, IsTrue, IfErr, IfOk, IsErrOf};
+ghost use Rattle.driver.specs.ReplayStream.{IsAnswerBehind, IsAnswerTo, Replays};
+ghost use Rattle.driver.specs.StepReader.{IsFaultBehind, IsFaultOf, progress};
 
 use crate::answering::Answering;
 use crate::form::Form;
@@ -55,7 +55,7 @@ pub fn replay_stream<R: Source, W: Sink>(
 /// What is written for the text that a source has.
 fn answer_of<R: Source>(alloc: Global, reader: &mut R, form: Form) -> Result<Vec<u8>, StreamFault>
     requires { R.failed reader.old ≡ false }
-    ensures ok { IfOk result (λ text. IfSome (R.left reader.old) (λ t. Replayed form t (λ written. text.items ≡ written))) }
+    ensures ok { IfOk result (λ text. IsAnswerTo form (R.left reader.old) text.items) }
     ensures err { IfErr result (IsFaultOf (R.left reader.old)) }
     ensures failing { IsErrOf result StreamFault.ReadFailed ↔ IsTrue (R.failed reader.new) }
 {
@@ -74,7 +74,7 @@ fn answered<O: Answering, R: Source>(
     requires reader { R.failed reader.old ≡ false }
     requires header { (O.view_of object.old).header ≡ steps.old.header }
     requires fresh { (O.view_of object.old).entries ≡ [] }
-    ensures ok { IfOk result (λ text. OfText (progress steps.old (R.left reader.old)) (λ t. Replayed form t (λ written. text.items ≡ written))) }
+    ensures ok { IfOk result (λ text. IsAnswerBehind form (progress steps.old (R.left reader.old)) text.items) }
     ensures err { IfErr result (IsFaultBehind (progress steps.old (R.left reader.old))) }
     ensures failing { IsErrOf result StreamFault.ReadFailed ↔ IsTrue (R.failed reader.new) }
 {
@@ -102,7 +102,7 @@ fn opened<H: Hooks + Drop, R: Source>(
     requires reader { R.failed reader.old ≡ false }
     requires hooks { H.is_opened hooks steps.old.header.seats }
     requires object { H.object_of hooks ≡ steps.old.header.object }
-    ensures ok { IfOk result (λ text. OfText (progress steps.old (R.left reader.old)) (λ t. Replayed form t (λ written. text.items ≡ written))) }
+    ensures ok { IfOk result (λ text. IsAnswerBehind form (progress steps.old (R.left reader.old)) text.items) }
     ensures err { IfErr result (IsFaultBehind (progress steps.old (R.left reader.old))) }
     ensures failing { IsErrOf result StreamFault.ReadFailed ↔ IsTrue (R.failed reader.new) }
 {
@@ -121,7 +121,7 @@ fn answer_text<R: Source>(
     form: Form,
 ) -> Result<Vec<u8>, StreamFault>
     requires reader { R.failed reader.old ≡ false }
-    ensures ok { IfOk result (λ text. OfText (progress steps.old (R.left reader.old)) (λ t. Replayed form t (λ written. text.items ≡ written))) }
+    ensures ok { IfOk result (λ text. IsAnswerBehind form (progress steps.old (R.left reader.old)) text.items) }
     ensures err { IfErr result (IsFaultBehind (progress steps.old (R.left reader.old))) }
     ensures failing { IsErrOf result StreamFault.ReadFailed ↔ IsTrue (R.failed reader.new) }
 {

@@ -2,7 +2,7 @@
 
 ghost use Rattle.std.specs.Prelude.{◌≡◌, ◌+◌, ◌^◌, ◌<◌, ◌≤◌, ◌∷◌, ◌++◌, ◌↔◌, ◌-◌, [], false, drop, length, IsTrue, IsErrOf, IfOk, IfErr, IfSome, OnOk};
 ghost use Rattle.history.specs.Header.{IsInRange};
-ghost use Rattle.driver.specs.StepReader.{IsBehindEnd, IsFaultOf, IsNext, WereRead, progress};
+ghost use Rattle.driver.specs.StepReader.{IsBehindEnd, IsFaultOf, IsNext, WereRead, passed, progress};
 ghost use Rattle.driver.specs.declared.stream_fault.StreamFault.TheVariants.{Memory};
 
 use crate::source::Source;
@@ -71,7 +71,7 @@ impl StepReader {
     #[inline(always)]
     fn pass(&mut self, left: usize) -> Result<(), StreamFault>
         requires { left ≤ length self.old.bytes }
-        ensures ok { OnOk result (self.new ≡ record self.old { count = self.old.count + 1; bytes = drop (length self.old.bytes - left) self.old.bytes }) }
+        ensures ok { OnOk result (self.new ≡ passed left self.old) }
         ensures err { IfErr result (λ fault. fault ≡ Memory) }
         ensures header { self.new.header ≡ self.old.header }
         ensures few { self.new.count < 2 ^ 64 }

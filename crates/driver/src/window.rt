@@ -1,10 +1,10 @@
 //! The bytes of a source that were read and are still wanted.
 
 ghost use Rattle.std.specs.Prelude.{◌≡◌, ◌+◌, ◌<◌, ◌≤◌, ◌^◌, ◌-◌, ◌↔◌, [], ◌++◌, List, ℕ, false, true, drop, length, take, IsTrue, IsErrOf, IfOk, IfErr, OnOk};
-ghost use Rattle.std.specs.Io.KnownBytes.{Keeps, IsAtEnd, prepend_known};
+ghost use Rattle.std.specs.Io.KnownBytes.{IsAtEnd};
 ghost use Rattle.history.specs.Text.{IsLine};
 ghost use Rattle.driver.specs.Whole.{IsOfReading};
-ghost use Rattle.driver.specs.Window.{Grows};
+ghost use Rattle.driver.specs.Window.{Grows, KeepsAhead};
 
 use crate::source::Source;
 use crate::stream_fault::StreamFault;
@@ -99,7 +99,7 @@ impl Window {
     /// Reads on until a whole line stands in the window, or to the end of the source.
     pub fn read_line<R: Source>(&mut self, reader: &mut R) -> Result<(), StreamFault>
         requires { R.failed reader.old ≡ false }
-        ensures kept { OnOk result (Keeps (prepend_known self.old (R.left reader.old)) (prepend_known self.new (R.left reader.new))) }
+        ensures kept { OnOk result (KeepsAhead self.old (R.left reader.old) self.new (R.left reader.new)) }
         ensures whole { OnOk result (IsLine self.new → IsAtEnd (R.left reader.new)) }
         ensures failing { IsErrOf result StreamFault.ReadFailed ↔ IsTrue (R.failed reader.new) }
         ensures kinds { IfErr result IsOfReading }

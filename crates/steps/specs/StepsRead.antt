@@ -1,5 +1,5 @@
 -- A steps text under way: what was read of it, and what the next line says.
-use Rattle.std.specs.Prelude.{◌≡◌, ℕ, List, ◌++◌, length, Option, Some, None, Result, Ok, Err}
+use Rattle.std.specs.Prelude.{◌≡◌, ℕ, List, [], ◌++◌, length, Option, Some, None, Result, Ok, Err}
 use Rattle.history.specs.declared.header.Header.{Header}
 use Rattle.history.specs.declared.step.Step.{Step}
 use Rattle.line_text.specs.declared.fault.TextFault.{TextFault}
@@ -39,3 +39,12 @@ abbrev pub IsLineOf : StepsRead → Result (Option ((ℕ × Step) × Bor (List �
 IsLineOf r (Ok (Some line)) = IsAhead r line.0 line.1.now
 IsLineOf r (Ok None) = AllRead r
 IsLineOf r (Err fault) = HasFault r fault
+
+-- the same of these bytes behind so many steps, whatever stands before them
+abbrev pub IsLineBehind : Header → ℕ → List ℕ → Result (Option ((ℕ × Step) × Bor (List ℕ))) TextFault → Type 0
+IsLineBehind header count rest result =
+    (text : List ℕ) → IsLineOf (record { text = text; header = header; count = count; rest = rest }) result
+
+-- this is the header of the text, and this follows it
+abbrev pub IsHeaderOf : List ℕ → Header × Bor (List ℕ) → Type 0
+IsHeaderOf text found = AreRead (record { text = text; header = found.0; count = 0; rest = found.1.now }) []

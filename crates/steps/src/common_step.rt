@@ -3,7 +3,7 @@
 ghost use Rattle.std.specs.Prelude.{◌≡◌, ◌+◌, ◌<◌, ◌≤◌, ◌∷◌, [], ◌++◌, drop, length, List, ℕ, IfSome, codes, decimal};
 ghost use Rattle.history.specs.EntryWords.{mode_word};
 ghost use Rattle.history.specs.Text.{ended};
-ghost use Rattle.steps.specs.StepLines.{BeginsWith, IsStep, step_line};
+ghost use Rattle.steps.specs.StepLines.{AsksOnce, BeginsWith, IsStep, step_line};
 
 use history::entry::Mode;
 use history::number::number_of;
@@ -26,7 +26,7 @@ fn mode_of(letter: u8) -> Option<Mode>
 /// of all are not worth a call.
 #[inline(always)]
 fn letter_of_acquire(text: &[u8]) -> Option<(u8, usize)>
-    ensures { IfSome result (λ r. (rest : List ℕ) × (text.now ≡ codes "acquire " ++ r.0 ∷ codes " 1" ++ 10 ∷ rest) × (length rest ≡ r.1)) }
+    ensures { IfSome result (AsksOnce (codes "acquire") text.now) }
 {
     match text {
         [
@@ -51,7 +51,7 @@ fn letter_of_acquire(text: &[u8]) -> Option<(u8, usize)>
 /// The same of a give.
 #[inline(always)]
 fn letter_of_give(text: &[u8]) -> Option<(u8, usize)>
-    ensures { IfSome result (λ r. (rest : List ℕ) × (text.now ≡ codes "give " ++ r.0 ∷ codes " 1" ++ 10 ∷ rest) × (length rest ≡ r.1)) }
+    ensures { IfSome result (AsksOnce (codes "give") text.now) }
 {
     match text {
         [

@@ -6,7 +6,7 @@ ghost use Rattle.history.specs.Text.{IsLine};
 ghost use Rattle.line_text.specs.Reading.{IsReading};
 ghost use Rattle.line_text.specs.declared.fault.TextFault.TheVariants.{CutShort};
 ghost use Rattle.steps.specs.StepsText.{steps_form};
-ghost use Rattle.steps.specs.StepsRead.{AreRead, IsLineOf};
+ghost use Rattle.steps.specs.StepsRead.{IsHeaderOf, IsLineBehind};
 
 use crate::end_line::is_end;
 use crate::step_line::step_of;
@@ -18,7 +18,7 @@ use line_text::header_line::header_behind;
 
 /// The header of a text, and what follows its line.
 pub fn header_of(text: &[u8]) -> Result<(Header, &[u8]), TextFault>
-    ensures ok { IfOk result (λ r. AreRead (record { text = text.now; header = r.0; count = 0; rest = r.1.now }) []) }
+    ensures ok { IfOk result (IsHeaderOf text.now) }
     ensures err { IfErr result (λ fault. IsReading steps_form text.now (Err fault)) }
     ensures cut { IsErrOf result CutShort → IsLine text.now }
     ensures shorter { IfOk result (λ r. length r.1.now ≤ length text.now) }
@@ -42,7 +42,7 @@ pub fn next_line<'a>(
 ) -> Result<Option<((u16, Step), &'a [u8])>, TextFault>
     requires seats { 1 ≤ header.now.seats }
     requires few { count + 3 < 2 ^ 64 }
-    ensures line { (text : List ℕ) → IsLineOf (record { text = text; header = header.now; count = count; rest = rest.entry.now }) result }
+    ensures line { IsLineBehind header.now count rest.entry.now result }
     ensures cut { IsErrOf result CutShort → IsLine rest.entry.now }
     ensures shorter { IfOk result (λ next. IfSome next (λ line. length line.1.now < length rest.entry.now)) }
 {
