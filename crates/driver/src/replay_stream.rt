@@ -9,8 +9,8 @@ use crate::form::Form;
 use crate::replay::{drive, replay};
 use crate::sink::Sink;
 use crate::source::Source;
-use crate::stream_fault::StreamFault;
 use crate::step_reader::StepReader;
+use crate::stream_fault::StreamFault;
 use crate::whole::{read_on, write_all};
 use counting::latch::LatchHooks;
 use counting::semaphore::SemaphoreHooks;
@@ -134,7 +134,13 @@ fn answer_text<R: Source>(
             Err(_) => Err(StreamFault::Memory),
         },
         Object::Semaphore(policy, permits) => {
-            opened(alloc, SemaphoreHooks::open(policy, permits), steps, reader, form)
+            opened(
+                alloc,
+                SemaphoreHooks::open(policy, permits),
+                steps,
+                reader,
+                form,
+            )
         }
         Object::Latch(count) => opened(alloc, LatchHooks::open(count), steps, reader, form),
     }

@@ -100,7 +100,10 @@ impl StepReader {
 
     /// The next step, word by word.
     #[inline(never)]
-    fn next_by_words<R: Source>(&mut self, reader: &mut R) -> Result<Option<(u16, Step)>, StreamFault>
+    fn next_by_words<R: Source>(
+        &mut self,
+        reader: &mut R,
+    ) -> Result<Option<(u16, Step)>, StreamFault>
         requires { R.failed reader.old ≡ false }
         ensures header { self.new.header ≡ self.old.header }
         ensures next { IsNext (progress self.old (R.left reader.old)) result (progress self.new (R.left reader.new)) }

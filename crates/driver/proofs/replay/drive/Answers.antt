@@ -3,7 +3,7 @@ use Rattle.std.proofs.lemmas.Bool.{false≢true}
 use Rattle.history.specs.declared.header.Header.{Header}
 use Rattle.history.specs.declared.step.Step.{Step}
 use Rattle.driver.specs.StepReader.{progress}
-use Rattle.driver.proofs.Driven.{driving_on, driving_all, driving_none, goes_on}
+use Rattle.driver.proofs.Driven.{driving_on, driving_all, goes_on}
 use Rattle.driver.proofs.Told.{answered}
 use Rattle.driver.proofs.replay.drive.Goals as goal
 

@@ -1,4 +1,4 @@
-use Rattle.std.proofs.Common.{◌≡◌, ℕ, ◌-◌, List, ◌++◌, length, drop, sym, ap, ◌∙◌}
+use Rattle.std.proofs.Common.{◌≡◌, ℕ, ◌-◌, ◌++◌, length, drop, sym, ap, ◌∙◌}
 use Rattle.history.specs.Text.{ended}
 use Rattle.steps.specs.StepLines.{step_line}
 use Rattle.driver.specs.StepReader.{Held}

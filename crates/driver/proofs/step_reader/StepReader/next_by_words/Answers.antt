@@ -1,9 +1,8 @@
-use Rattle.std.proofs.Common.{[], ◌≡◌, Err, ℕ, ◌-◌, List, ◌++◌, length, drop, sym, ap, ◌∙◌}
+use Rattle.std.proofs.Common.{[], Err, ap}
 use Rattle.history.specs.Text.{ended}
 use Rattle.steps.specs.StepLines.{step_line}
 use Rattle.driver.proofs.Stepping.{kept, step_ahead, fault_ahead, next_failed, next_kept, ended_here, last_bytes}
 use Rattle.line_text.specs.declared.fault.TextFault.{TextFault}
-use Rattle.line_text.specs.declared.fault.TextFault.TheVariants.{CutShort}
 use Rattle.driver.specs.declared.stream_fault.StreamFault.TheVariants.{Text}
 use Rattle.driver.proofs.step_reader.StepReader.next_by_words.Goals as goal
 

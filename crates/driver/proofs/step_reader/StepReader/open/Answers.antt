@@ -1,10 +1,9 @@
-use Rattle.std.proofs.Common.{◌≡◌, Err, ℕ, ◌-◌, List, ◌++◌, length, drop, sym, ap, ◌∙◌, subst}
+use Rattle.std.proofs.Common.{Err, ℕ, List, ap, subst}
 use Rattle.history.specs.Text.{ended}
 use Rattle.line_text.specs.Reading.{IsReading}
 use Rattle.steps.specs.StepsText.{steps_form}
 use Rattle.driver.proofs.Stepping.{header_ahead, header_fault, open_failed, last_bytes}
 use Rattle.line_text.specs.declared.fault.TextFault.{TextFault}
-use Rattle.line_text.specs.declared.fault.TextFault.TheVariants.{CutShort}
 use Rattle.driver.specs.declared.stream_fault.StreamFault.TheVariants.{Text}
 use Rattle.driver.proofs.step_reader.StepReader.open.Goals as goal
 

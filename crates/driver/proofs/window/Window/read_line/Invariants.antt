@@ -1,4 +1,4 @@
-use Rattle.std.proofs.Common.{◌≡◌, ◌-◌, ◌^◌, true, false, length}
+use Rattle.std.proofs.Common.{◌≡◌, ◌-◌, ◌^◌, false, length}
 use Rattle.std.specs.Io.KnownBytes.{Keeps, IsAtEnd, prepend_known}
 use Rattle.history.specs.Text.{IsLine}
 use Rattle.driver.proofs.window.Window.read_line.Given as goal
