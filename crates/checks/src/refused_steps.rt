@@ -123,7 +123,8 @@ fn compare_refused<R: Abort>(
     assert!(rt; is_same(&answer, &played.answer));
     assert_eq!(rt; starved.core.told(), played.told);
     assert!(rt; before.places < played.told.places);
-    starved.memory.take_rest()
+    starved.memory.take_rest()?;
+    Ok(())
 }
 
 /// A step where there is no memory is refused exactly where its history wants a larger block, and is answered in
