@@ -212,4 +212,3 @@ fn remove_seat(list: &mut VecDeque<u16>, seat: u16)
 {
     list.retain(|i| *i != seat);
 }
-

@@ -10,13 +10,24 @@ use std::test::Fail;
 const HEADER: &str = "aqs-steps 1 lock fair seats 2 conditions 0 cap 64\n";
 
 /// The fault of a steps text whose second line is so long.
-fn fault_of<R: Abort + AllocGlobal>(rt: &R, length: usize, ending: &str) -> Result<StreamFault, Fail> {
+fn fault_of<R: Abort + AllocGlobal>(
+    rt: &R,
+    length: usize,
+    ending: &str,
+) -> Result<StreamFault, Fail> {
     let mut text = String::from_str(rt.alloc(), HEADER)?;
     for _ in 0..length {
         text.push('7')?;
     }
     text.push_str(ending)?;
-    let (answer, sink) = streamed(rt, text.as_bytes(), Form::Replay, 1_000_000, (None, None), AMPLE)?;
+    let (answer, sink) = streamed(
+        rt,
+        text.as_bytes(),
+        Form::Replay,
+        1_000_000,
+        (None, None),
+        AMPLE,
+    )?;
     assert!(rt; sink.bytes().is_empty());
     Ok(answer.expect_err(rt, "a long line is no step"))
 }
@@ -42,12 +53,25 @@ fn a_read_that_fails_behind_a_fault_is_told(rt: HostRuntime) -> Result<(), Fail>
     }
     let reads = text.len().div_ceil(4096) as u64 + 1;
     for call in [0, 1, reads - 1] {
-        let (answer, sink) =
-            streamed(&rt, text.as_bytes(), Form::Replay, 4096, (Some(call), None), AMPLE)?;
+        let (answer, sink) = streamed(
+            &rt,
+            text.as_bytes(),
+            Form::Replay,
+            4096,
+            (Some(call), None),
+            AMPLE,
+        )?;
         assert!(rt; answer == Err(StreamFault::ReadFailed));
         assert!(rt; sink.bytes().is_empty());
     }
-    let (answer, _) = streamed(&rt, text.as_bytes(), Form::Replay, 4096, (Some(reads), None), AMPLE)?;
+    let (answer, _) = streamed(
+        &rt,
+        text.as_bytes(),
+        Form::Replay,
+        4096,
+        (Some(reads), None),
+        AMPLE,
+    )?;
     assert!(rt; answer == Err(StreamFault::Text(TextFault::BadLine(2))));
     Ok(())
 }

@@ -11,7 +11,7 @@ begins_more form text h xs rest more begun = record {
   header = begun.header;
   each = begun.each;
   parts = ap (λ (t : List ℕ). t ++ more) begun.parts ∙ append_assoc (ended (form.header_line h)) (lines_of form 0 xs ++ rest) more
-    ∙ ap (λ (t : List ℕ). ended (form.header_line h) ++ t) (append_assoc (lines_of form 0 xs) rest more);
+      ∙ ap (λ (t : List ℕ). ended (form.header_line h) ++ t) (append_assoc (lines_of form 0 xs) rest more);
 }
 
 -- a text without what follows some of it
