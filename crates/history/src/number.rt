@@ -135,7 +135,10 @@ impl Model for Numbering {
 }
 
 impl Numbering {
-    pub fn new() -> Self {
+    /// What keeps no digits but those of 0.
+    pub fn new() -> Self
+        ensures { result ≡ record { hundreds = 0 } }
+    {
         Numbering {
             hundreds: 0,
             front: [b'0'; MOST_DIGITS],
