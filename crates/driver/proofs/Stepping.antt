@@ -48,9 +48,9 @@ none_left old new (Some xs) None n g none end = absurd g.consumed
 none_left old new (Some xs) (Some ys) n g none end = g.consumed ∙ rw (none_more g.more (g.count ∙ none)) end
 
 -- the last bytes, by their number
-pub last_bytes : (window front after : List ℕ) → window ≡ front ++ after → drop (length window - length after) window ≡ after
-last_bytes window front after parts =
-    let start : length window - length after ≡ length front = omega (arith, ap length parts, length-append front after) in
+pub last_bytes : (window front after : List ℕ) (left : ℕ) → window ≡ front ++ after → length after ≡ left → drop (length window - left) window ≡ after
+last_bytes window front after left parts long =
+    let start : length window - left ≡ length front = omega (arith, long, ap length parts, length-append front after) in
     ap (λ (i : ℕ). drop i window) start ∙ ap (drop (length front)) parts ∙ drop-append_seam front after
 
 -- ---- what was read

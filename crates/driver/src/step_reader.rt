@@ -13,7 +13,6 @@ use history::step::Step;
 use line_text::fault::TextFault;
 use std::alloc::Global;
 use std::marker::Model;
-use steps::common_step::common_step;
 use steps::next_line::{header_of, next_line};
 
 /// Steps are counted up to here: a text with more is answered by want of memory.
@@ -98,9 +97,9 @@ impl StepReader {
         Ok(None)
     }
 
-    /// The next step, word by word.
+    /// The next step, where a whole line isn't in the window yet or no step is.
     #[inline(never)]
-    fn next_by_words<R: Source>(
+    fn next_after_reading<R: Source>(
         &mut self,
         reader: &mut R,
     ) -> Result<Option<(u16, Step)>, StreamFault>
@@ -113,10 +112,9 @@ impl StepReader {
         ensures failing { IsErrOf result StreamFault.ReadFailed ↔ IsTrue (R.failed reader.new) }
     {
         self.window.read_line(reader)?;
-        let Some((step, after)) = next_line(self.window.bytes(), &self.header, self.count)? else {
+        let Some((step, left)) = next_line(self.window.bytes(), &self.header, self.count)? else {
             return self.end(reader);
         };
-        let left = after.len();
         self.pass(left)?;
         Ok(Some(step))
     }
@@ -132,10 +130,12 @@ impl StepReader {
         ensures counted { IfOk result (λ next. IfSome next (λ _. self.new.count ≡ self.old.count + 1)) }
         ensures failing { IsErrOf result StreamFault.ReadFailed ↔ IsTrue (R.failed reader.new) }
     {
-        if let Some((step, left)) = common_step(self.window.bytes(), self.header.seats) {
-            self.pass(left)?;
-            return Ok(Some(step));
+        match next_line(self.window.bytes(), &self.header, self.count) {
+            Ok(Some((step, left))) => {
+                self.pass(left)?;
+                Ok(Some(step))
+            }
+            _ => self.next_after_reading(reader),
         }
-        self.next_by_words(reader)
     }
 }

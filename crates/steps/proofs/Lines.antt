@@ -1,5 +1,5 @@
 -- A line begins the text.
-use Rattle.std.proofs.Common.{◌≡◌, ℕ, suc, ◌+◌, ◌-◌, List, [], ◌∷◌, ◌++◌, length, length-append, append_assoc, take, drop, Some, refl, sym, ap, ◌∙◌, arith, add-one, decimal, position, ◌==◌}
+use Rattle.std.proofs.Common.{◌≡◌, ℕ, suc, ◌+◌, ◌-◌, ◌<◌, List, [], ◌∷◌, ◌++◌, length, length-append, append_assoc, take, drop, Some, refl, sym, ap, ◌∙◌, arith, add-one, decimal, position, ◌==◌}
 use Rattle.std.proofs.lemmas.Bool.{eqb-true}
 use Rattle.std.proofs.lemmas.List.{take_rest, take-append-drop}
 use Rattle.std.proofs.lemmas.List.Quantifiers.{position-Some}
@@ -45,6 +45,10 @@ pub left_over : (text front rest : List ℕ) (left : ℕ) → text ≡ front ++ 
 left_over text front rest left parts long =
     let start : length text - left ≡ length front = omega (arith, long, ap length parts, length-append front rest) in
     rw take_rest (ap (λ (i : ℕ). drop i text) start ∙ ap (drop (length front)) parts ∙ drop-append_seam front rest)
+
+-- what follows a line is shorter
+pub shorter : (text line rest : List ℕ) (left : ℕ) → text ≡ ended line ++ rest → length rest ≡ left → left < length text
+shorter text line rest left parts long = omega (arith, long, ap length parts, length-append (line ++ 10 ∷ []) rest, length-append line (10 ∷ []))
 
 -- one more step was read
 pub read_on : (old : StepsRead) (steps : List (ℕ × Step)) (step : ℕ × Step) (after : List ℕ) → IsAhead old step after → AreRead old steps → AreRead (record { text = old.text; header = old.header; count = old.count + 1; rest = after }) (steps ++ step ∷ [])

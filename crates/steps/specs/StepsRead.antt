@@ -35,13 +35,13 @@ abbrev pub HasFault : StepsRead → TextFault → Type 0
 HasFault r fault = (steps : List (ℕ × Step)) → AreRead r steps → IsReading steps_form r.text (Err fault)
 
 -- what the next line says
-abbrev pub IsLineOf : StepsRead → Result (Option ((ℕ × Step) × Bor (List ℕ))) TextFault → Type 0
-IsLineOf r (Ok (Some line)) = IsAhead r line.0 line.1.now
+abbrev pub IsLineOf : StepsRead → Result (Option ((ℕ × Step) × ℕ)) TextFault → Type 0
+IsLineOf r (Ok (Some line)) = (after : List ℕ) × IsAhead r line.0 after × (length after ≡ line.1)
 IsLineOf r (Ok None) = AllRead r
 IsLineOf r (Err fault) = HasFault r fault
 
 -- the same of these bytes behind so many steps, whatever stands before them
-abbrev pub IsLineBehind : Header → ℕ → List ℕ → Result (Option ((ℕ × Step) × Bor (List ℕ))) TextFault → Type 0
+abbrev pub IsLineBehind : Header → ℕ → List ℕ → Result (Option ((ℕ × Step) × ℕ)) TextFault → Type 0
 IsLineBehind header count rest result =
     (text : List ℕ) → IsLineOf (record { text = text; header = header; count = count; rest = rest }) result
 

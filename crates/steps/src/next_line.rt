@@ -1,6 +1,6 @@
 //! The lines of a steps text, one after another.
 
-ghost use Rattle.std.specs.Prelude.{◌≡◌, ◌+◌, ◌<◌, ◌≤◌, ◌^◌, [], List, ℕ, Err, length, IfOk, IfErr, IfSome, IsErrOf};
+ghost use Rattle.std.specs.Prelude.{◌≡◌, ◌+◌, ◌<◌, ◌≤◌, ◌^◌, Err, length, IfOk, IfErr, IsErrOf};
 ghost use Rattle.history.specs.Header.{IsInRange};
 ghost use Rattle.history.specs.Text.{IsLine};
 ghost use Rattle.line_text.specs.Reading.{IsReading};
@@ -8,6 +8,7 @@ ghost use Rattle.line_text.specs.declared.fault.TextFault.TheVariants.{CutShort}
 ghost use Rattle.steps.specs.StepsText.{steps_form};
 ghost use Rattle.steps.specs.StepsRead.{IsHeaderOf, IsLineBehind};
 
+use crate::common_step::common_step;
 use crate::end_line::is_end;
 use crate::step_line::step_of;
 use history::header::Header;
@@ -33,18 +34,17 @@ pub fn header_of(text: &[u8]) -> Result<(Header, &[u8]), TextFault>
     }
 }
 
-/// The seat and the step of the next line of a text of which so many steps were read, and what follows it;
-/// or None where that is the end line, and nothing follows.
-pub fn next_line<'a>(
-    rest: &'a [u8],
+/// The next line, word by word.
+#[inline(never)]
+fn line_by_words(
+    rest: &[u8],
     header: &Header,
     count: u64,
-) -> Result<Option<((u16, Step), &'a [u8])>, TextFault>
+) -> Result<Option<((u16, Step), usize)>, TextFault>
     requires seats { 1 ≤ header.now.seats }
     requires few { count + 3 < 2 ^ 64 }
-    ensures line { IsLineBehind header.now count rest.entry.now result }
-    ensures cut { IsErrOf result CutShort → IsLine rest.entry.now }
-    ensures shorter { IfOk result (λ next. IfSome next (λ line. length line.1.now < length rest.entry.now)) }
+    ensures line { IsLineBehind header.now count rest.now result }
+    ensures cut { IsErrOf result CutShort → IsLine rest.now }
 {
     let Some((line, after)) = first_line(rest) else {
         return Err(TextFault::CutShort);
@@ -56,7 +56,26 @@ pub fn next_line<'a>(
         return Err(TextFault::BadLine(count + 3));
     }
     match step_of(line, header.seats) {
-        Some(step) => Ok(Some((step, after))),
+        Some(step) => Ok(Some((step, after.len()))),
         None => Err(TextFault::BadLine(count + 2)),
+    }
+}
+
+/// The seat and the step of the next line of a text of which so many steps were read, and how many bytes
+/// follow it; or None where that is the end line, and nothing follows.
+#[inline(always)]
+pub fn next_line(
+    rest: &[u8],
+    header: &Header,
+    count: u64,
+) -> Result<Option<((u16, Step), usize)>, TextFault>
+    requires seats { 1 ≤ header.now.seats }
+    requires few { count + 3 < 2 ^ 64 }
+    ensures line { IsLineBehind header.now count rest.now result }
+    ensures cut { IsErrOf result CutShort → IsLine rest.now }
+{
+    match common_step(rest, header.seats) {
+        Some(found) => Ok(Some(found)),
+        None => line_by_words(rest, header, count),
     }
 }

@@ -24,9 +24,9 @@ pub fn read_steps(alloc: Global, text: &[u8]) -> Result<StepsText, TextFault>
 {
     let (header, mut rest) = header_of(text)?;
     let mut steps = Vec::with_capacity(alloc, text.len() / LINE_LENGTH)?;
-    while let Some((step, after)) = next_line(rest, &header, steps.len() as u64)? {
+    while let Some((step, left)) = next_line(rest, &header, steps.len() as u64)? {
         steps.push(step)?;
-        rest = after;
+        rest = &rest[rest.len() - left..];
     }
     Ok(StepsText { header, steps })
 }

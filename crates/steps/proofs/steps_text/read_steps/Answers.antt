@@ -1,7 +1,10 @@
+use Rattle.std.proofs.Common.{arith}
 use Rattle.std.specs.Vec.{vec_len}
+use Rattle.history.specs.Text.{ended}
+use Rattle.steps.specs.StepLines.{step_line}
 use Rattle.steps.specs.StepsRead.{StepsRead}
 use Rattle.steps.proofs.Faults.{fault_passed}
-use Rattle.steps.proofs.Lines.{read_on}
+use Rattle.steps.proofs.Lines.{left_over, read_on, shorter}
 use Rattle.steps.proofs.steps_text.read_steps.Goals as goal
 
 pub returns-in_err-step : goal.returns-in_err-step
@@ -12,7 +15,20 @@ returns-in_err-step c =
 pub loop-steps-preserved : goal.loop-steps-preserved
 loop-steps-preserved c =
     let was : StepsRead = record { text = c.args.text.now; header = c.in_ok-header.header; count = vec_len c.loop-steps.steps; rest = c.loop-steps.rest.now } in
-    record { read = rw (c.in_ok-push.ensures.items, c.in_ok-push.ensures.len) (read_on was c.loop-steps.steps.items c.in-Some.step c.in-Some.after.now ((rw (c.in-Some.is, c.len.ensures) at c.in_ok-step.ensures.line) c.args.text.now) c.loop-steps.invariant.read) }
+    let found = (rw (c.in-Some.is, c.len.ensures) at c.in_ok-step.ensures.line) c.args.text.now in
+    let same = left_over c.loop-steps.rest.now (ended (step_line c.in-Some.step)) found.0 c.in-Some.left found.1.parts found.2 in
+    record { read = rw (c.in_ok-push.ensures.items, c.in_ok-push.ensures.len, same) (read_on was c.loop-steps.steps.items c.in-Some.step found.0 found.1 c.loop-steps.invariant.read) }
+
+pub overflow_sub-rest : goal.overflow_sub-rest
+overflow_sub-rest c =
+    let found = (rw c.in-Some.is at c.in_ok-step.ensures.line) c.args.text.now in
+    omega (arith, shorter c.loop-steps.rest.now (step_line c.in-Some.step) found.0 c.in-Some.left found.1.parts found.2)
+
+pub loop-steps-smaller : goal.loop-steps-smaller
+loop-steps-smaller c =
+    let found = (rw c.in-Some.is at c.in_ok-step.ensures.line) c.args.text.now in
+    let same = left_over c.loop-steps.rest.now (ended (step_line c.in-Some.step)) found.0 c.in-Some.left found.1.parts found.2 in
+    rw same (omega (arith, found.2, shorter c.loop-steps.rest.now (step_line c.in-Some.step) found.0 c.in-Some.left found.1.parts found.2))
 
 pub returns : goal.returns
 returns c = (rw (c.in_default.is, c.len.ensures) at c.in_ok-step.ensures.line) c.args.text.now c.loop-steps.steps.items c.loop-steps.invariant.read

@@ -1,4 +1,4 @@
-use Rattle.std.proofs.Common.{Err, ℕ, List, ap, subst}
+use Rattle.std.proofs.Common.{length, refl, Err, ℕ, List, ap, subst}
 use Rattle.history.specs.Text.{ended}
 use Rattle.line_text.specs.Reading.{IsReading}
 use Rattle.steps.specs.StepsText.{steps_form}
@@ -25,5 +25,5 @@ returns-clause-ok g c =
     let read = rw c.bytes.ensures at c.in_ok-header.ensures.ok in
     let header = c.in_ok-header.header in
     let after = c.in_ok-header.after.now in
-    rw (c.keep_last.ensures, last_bytes window (ended (steps_form.header_line header)) after read.begins.parts)
+    rw (c.keep_last.ensures, last_bytes window (ended (steps_form.header_line header)) after (length after) read.begins.parts refl)
     (header_ahead (g.R.Source.left c.args.reader.now) header window after left read (rw c.in_ok-window.ensures at c.in_ok-read_line.ensures.kept))

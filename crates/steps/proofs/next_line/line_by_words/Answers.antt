@@ -2,7 +2,7 @@ use Rattle.std.proofs.Common.{sym, ap, ◌∙◌}
 use Rattle.line_text.proofs.Growing.{goes_on}
 use Rattle.steps.specs.StepLines.{end_line}
 use Rattle.steps.specs.StepsText.{steps_form}
-use Rattle.steps.proofs.next_line.next_line.Goals as goal
+use Rattle.steps.proofs.next_line.line_by_words.Goals as goal
 
 pub returns-then-is_end-clause-line : goal.returns-then-is_end-clause-line
 returns-then-is_end-clause-line c =
