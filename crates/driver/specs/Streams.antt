@@ -1,6 +1,6 @@
 -- What a stream reads, writes and answers.
 use Rattle.std.specs.Prelude.{ℕ, List, Option, Result, Ok, Err, IfSome}
-use Rattle.std.specs.Io.KnownBytes.{Keeps, Appends}
+use Rattle.std.specs.Io.KnownBytes.{IsAtEnd, Keeps, Appends}
 use Rattle.line_text.specs.Form.{Form}
 use Rattle.line_text.specs.Reading.{IsReading}
 use Rattle.driver.specs.declared.stream_fault.StreamFault.{StreamFault}
@@ -21,3 +21,11 @@ abbrev pub IsOfText : {H I : Type 0} → Form H I → List ℕ → StreamFault �
 IsOfText form text (Text fault) = IsReading form text (Err fault)
 IsOfText form text Memory = Unit {0}
 IsOfText form text fault = ⊥
+
+-- a text with a fault was read to its end
+abbrev pub IsReadOut : {T : Type 0} → Result T StreamFault → Option (List ℕ) → Type 0
+IsReadOut {T} (Err (Text fault)) left = IsAtEnd left
+IsReadOut {T} (Err ReadFailed) left = Unit {0}
+IsReadOut {T} (Err WriteFailed) left = Unit {0}
+IsReadOut {T} (Err Memory) left = Unit {0}
+IsReadOut {T} (Ok answer) left = Unit {0}

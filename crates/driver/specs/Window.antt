@@ -2,6 +2,12 @@
 use Rattle.std.specs.Prelude.{◌≡◌, ℕ, List, ◌++◌, length, Option}
 use Rattle.std.specs.Io.KnownBytes.{Consumes, Keeps, prepend_known}
 
+-- What stands in it, how many bytes that were let go of stand before that, and how many places there are.
+pub record Seen : Type 0 where
+  pub bytes : List ℕ
+  pub passed : ℕ
+  pub places : ℕ
+
 -- A read gave so many bytes, which stand behind those that stood in the window.
 pub record Grows (old new : List ℕ) (left after : Option (List ℕ)) (n : ℕ) : Type 0 where
   pub more : List ℕ

@@ -3,7 +3,7 @@
 ghost use Rattle.std.specs.Prelude.{◌≡◌, ◌↔◌, false, IsTrue, IfErr, IfOk, IsErrOf};
 ghost use Rattle.history_text.specs.HistoryText.{history_form};
 ghost use Rattle.driver.specs.AuditStream.{Audited, Audits};
-ghost use Rattle.driver.specs.Streams.{IsOfText};
+ghost use Rattle.driver.specs.Streams.{IsOfText, IsReadOut};
 
 use crate::audit_text::audit_text;
 use crate::sink::Sink;
@@ -28,6 +28,7 @@ pub fn audit_stream<R: Source, W: Sink>(
     requires reader { R.failed reader.old ≡ false }
     requires writer { W.failed writer.old ≡ false }
     ensures audits { Audits (R.left reader.old) (W.held writer.old) (W.held writer.new) result }
+    ensures end { IsReadOut result (R.left reader.new) }
     ensures read { IsErrOf result StreamFault.ReadFailed ↔ IsTrue (R.failed reader.new) }
     ensures write { IsErrOf result StreamFault.WriteFailed ↔ IsTrue (W.failed writer.new) }
 {

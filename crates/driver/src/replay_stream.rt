@@ -2,6 +2,7 @@
 
 ghost use Rattle.std.specs.Prelude.{◌≡◌, ◌↔◌, [], false, IsTrue, IfErr, IfOk, IsErrOf};
 ghost use Rattle.driver.specs.ReplayStream.{IsAnswerBehind, IsAnswerTo, Replays};
+ghost use Rattle.driver.specs.Streams.{IsReadOut};
 ghost use Rattle.driver.specs.StepReader.{IsFaultBehind, IsFaultOf, progress};
 
 use crate::answering::Answering;
@@ -36,6 +37,7 @@ pub fn replay_stream<R: Source, W: Sink>(
     requires reader { R.failed reader.old ≡ false }
     requires writer { W.failed writer.old ≡ false }
     ensures replays { Replays form (R.left reader.old) (W.held writer.old) (W.held writer.new) result }
+    ensures end { IsReadOut result (R.left reader.new) }
     ensures read { IsErrOf result StreamFault.ReadFailed ↔ IsTrue (R.failed reader.new) }
     ensures write { IsErrOf result StreamFault.WriteFailed ↔ IsTrue (W.failed writer.new) }
 {

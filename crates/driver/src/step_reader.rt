@@ -33,7 +33,7 @@ impl Model for StepReader {
 
     ghost Value = { Held };
 
-    ghost view = { λ r. record { header = r.header; count = r.count; bytes = r.window } };
+    ghost view = { λ r. record { header = r.header; count = r.count; bytes = r.window.bytes } };
 
     ghost invariant = { λ r. (r.count + 3 < 2 ^ 64) × IsInRange r.header };
 }
@@ -46,7 +46,7 @@ impl StepReader {
         ensures err { IfErr result (IsFaultOf (R.left reader.old)) }
         ensures failing { IsErrOf result StreamFault.ReadFailed ↔ IsTrue (R.failed reader.new) }
     {
-        let mut window = Window::open(alloc)?;
+        let mut window = Window::open(alloc);
         window.read_line(reader)?;
         let (header, after) = header_of(window.bytes())?;
         let left = after.len();

@@ -1,7 +1,7 @@
 //! All that a source has, and all that a sink is to get.
 
 ghost use Rattle.std.specs.Prelude.{◌≡◌, ◌↔◌, false, IsTrue, IsErr, IfOk, OnOk, OnErr, IfErr, IsErrOf, IfSome};
-ghost use Rattle.std.specs.Io.KnownBytes.{Appends};
+ghost use Rattle.std.specs.Io.KnownBytes.{Appends, IsAtEnd};
 ghost use Rattle.driver.specs.Whole.{AppendsFront, IsOfReading};
 
 use crate::sink::Sink;
@@ -13,6 +13,7 @@ use std::alloc::Global;
 pub fn read_all<R: Source>(alloc: Global, reader: &mut R) -> Result<Vec<u8>, StreamFault>
     requires { R.failed reader.old ≡ false }
     ensures bytes { IfOk result (λ bytes. IfSome (R.left reader.old) (λ all. bytes.items ≡ all)) }
+    ensures end { OnOk result (IsAtEnd (R.left reader.new)) }
     ensures failing { IsErrOf result StreamFault.ReadFailed ↔ IsTrue (R.failed reader.new) }
     ensures kinds { IfErr result IsOfReading }
 {
@@ -34,18 +35,19 @@ pub fn read_all<R: Source>(alloc: Global, reader: &mut R) -> Result<Vec<u8>, Str
 /// Reads what is left of a source, and keeps none of it.
 pub fn read_on<R: Source>(reader: &mut R) -> Result<(), StreamFault>
     requires { R.failed reader.old ≡ false }
+    ensures end { OnOk result (IsAtEnd (R.left reader.new)) }
     ensures failing { IsErrOf result StreamFault.ReadFailed ↔ IsTrue (R.failed reader.new) }
     ensures kinds { IfErr result IsOfReading }
 {
     let mut buffer = [0; 65536];
     for _ in 0..u64::MAX {
         match reader.read(&mut buffer) {
-            Ok(0) => break,
+            Ok(0) => return Ok(()),
             Ok(_) => {}
             Err(_) => return Err(StreamFault::ReadFailed),
         }
     }
-    Ok(())
+    Err(StreamFault::Memory)
 }
 
 /// Writes all the bytes, or a front of them.

@@ -9,7 +9,7 @@ use Rattle.driver.proofs.step_reader.StepReader.next.Goals as goal
 pub pass-requires : goal.pass-requires
 pass-requires g c =
     let found = (rw (c.in-Ok-Some.field-0-is, c.bytes.ensures) at c.in-Ok-Some.ensures.line) [] in
-    omega (arith, shorter c.self.inside.window (step_line c.in-Ok-Some.step) found.0 c.in-Ok-Some.left found.1.parts found.2, ap (λ (h : Held). length h.bytes) (sym c.self.view_is))
+    omega (arith, shorter c.self.inside.window.bytes (step_line c.in-Ok-Some.step) found.0 c.in-Ok-Some.left found.1.parts found.2, ap (λ (h : Held). length h.bytes) (sym c.self.view_is))
 
 pub returns-in_ok-pass-in-Ok-Some-clause-next : goal.returns-in_ok-pass-in-Ok-Some-clause-next
 returns-in_ok-pass-in-Ok-Some-clause-next g c = λ text steps were.

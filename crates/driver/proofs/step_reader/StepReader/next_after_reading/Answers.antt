@@ -11,7 +11,7 @@ pub returns-in_err-step-clause-next : goal.returns-in_err-step-clause-next
 returns-in_err-step-clause-next g c =
     let header = c.self.inside.header in
     let count = c.self.inside.count in
-    let window = c.read_line.new.self in
+    let window = c.read_line.new.self.bytes in
     let left = g.R.Source.left c.read_line.new.reader in
     let is = rw c.bytes.ensures at c.in_err-step.ensures.line in
     let cut = rw c.bytes.ensures at c.in_err-step.ensures.cut in
@@ -25,16 +25,16 @@ returns-in_default-clause-next g c =
     let is = rw (c.in_default.is, c.bytes.ensures) at c.in_ok-step.ensures.line in
     let left = g.R.Source.left c.read_line.new.reader in
     rw (← c.self.view_is) (next_kept c.self.inside.header c.self.inside.count _ _ c.end.result _ c.in_ok-read_line.ensures.kept
-    (ended_here c.self.inside.header c.self.inside.count c.read_line.new.self left c.end.result _ is c.end.ensures.behind))
+    (ended_here c.self.inside.header c.self.inside.count c.read_line.new.self.bytes left c.end.result _ is c.end.ensures.behind))
 
 pub pass-requires : goal.pass-requires
 pass-requires g c =
     let found = (rw (c.in-Some.is, c.bytes.ensures) at c.in_ok-step.ensures.line) [] in
-    omega (arith, shorter c.read_line.new.self (step_line c.in-Some.step) found.0 c.in-Some.left found.1.parts found.2)
+    omega (arith, shorter c.read_line.new.self.bytes (step_line c.in-Some.step) found.0 c.in-Some.left found.1.parts found.2)
 
 pub returns-clause-next : goal.returns-clause-next
 returns-clause-next g c = rw (← c.self.view_is) (λ text steps were.
-    let window = c.read_line.new.self in
+    let window = c.read_line.new.self.bytes in
     let left = g.R.Source.left c.read_line.new.reader in
     let found = (rw (c.in-Some.is, c.bytes.ensures) at c.in_ok-step.ensures.line) [] in
     let here = kept text c.self.inside.header c.self.inside.count _ _ steps c.in_ok-read_line.ensures.kept were in

@@ -5,10 +5,10 @@ use Rattle.driver.proofs.window.Window.read_line.Given as goal
 
 abbrev pub invariant-loop-wanted : goal.invariant-loop-wanted
 invariant-loop-wanted g l = record {
-  kept : Keeps (prepend_known l.fn.self (g.R.Source.left l.fn.reader)) (prepend_known l.self (g.R.Source.left l.reader));
+  kept : Keeps (prepend_known l.fn.self.bytes (g.R.Source.left l.fn.reader)) (prepend_known l.self.bytes (g.R.Source.left l.reader));
   going : g.R.Source.failed l.reader ≡ false;
-  whole : l.wanted ≡ false → IsLine l.self → IsAtEnd (g.R.Source.left l.reader);
+  whole : l.wanted ≡ false → IsLine l.self.bytes → IsAtEnd (g.R.Source.left l.reader);
 }
 
 abbrev pub decreases-loop-wanted : goal.decreases-loop-wanted
-decreases-loop-wanted g l = 2 ^ 64 - length l.self
+decreases-loop-wanted g l = 2 ^ 64 - length l.self.bytes
