@@ -1,5 +1,6 @@
 -- The history behind the answers to a steps text.
-use Rattle.std.proofs.Common.{◌≡◌, ℕ, ◌+◌, ◌<◌, List, [], ◌∷◌, All, reverse}
+use Rattle.std.proofs.Common.{◌≡◌, ℕ, ◌+◌, ◌<◌, List, [], ◌∷◌, All, reverse, Option, None, Some, Result, Ok, Err, subst}
+use Rattle.std.specs.Io.KnownBytes.{Appends}
 use Rattle.std.specs.List.{AllByRecursion}
 use Rattle.std.proofs.lemmas.List.Elements.{All-from_recursion}
 use Rattle.history.specs.declared.entry.Entry.{Entry}
@@ -16,7 +17,11 @@ use Rattle.steps.specs.StepsText.{steps_form}
 use Rattle.history.specs.EntryWords.{IsSpelt}
 use Rattle.history_text.proofs.Lists.{each-reverse}
 use Rattle.driver.specs.declared.form.Form.{Form}
-use Rattle.driver.specs.ReplayStream.{Replayed, answer_text}
+use Rattle.driver.specs.declared.stream_fault.StreamFault.{StreamFault}
+use Rattle.driver.specs.declared.stream_fault.StreamFault.TheVariants.{Text, ReadFailed, WriteFailed, Memory}
+use Rattle.driver.specs.Answers.{AllAnswers, Writes, answers_text}
+use Rattle.driver.specs.ReplayStream.{AreAnswersTo, Replayed, Replays, answer_text}
+use Rattle.driver.specs.Whole.{AppendsFront}
 use Rattle.driver.specs.ReplayText.{history_behind}
 use Rattle.driver.proofs.Told.{follows}
 
@@ -53,6 +58,30 @@ replayed form text h steps written is same =
       in_fair_order = fair_order (opening h) (history_behind h steps) all.legal;
       written = same;
     }
+
+-- what is written is told of another way
+rewritten : (form : Form) (text all : List ℕ) (Written : List ℕ → Type 0) → Replayed form text (λ written. all ≡ written) → Written all → Replayed form text Written
+rewritten form text all Written r w =
+    record {
+      header = r.header;
+      steps = r.steps;
+      is = r.is;
+      legal = r.legal;
+      seated = r.seated;
+      in_order = r.in_order;
+      in_fair_order = r.in_fair_order;
+      written = subst Written r.written w;
+    }
+
+-- the answers are written
+pub replays : (form : Form) (left old new : Option (List ℕ)) (answers : AllAnswers) (r : Result (Unit {0}) StreamFault) → AreAnswersTo left answers → Writes old r new (answers_text form answers) → Replays form left old new r
+replays form None old new answers (Ok done) are w = tt
+replays form (Some text) old new answers (Ok done) are w = rewritten form text _ (Appends old new) (are form) w
+replays form None old new answers (Err WriteFailed) are w = tt
+replays form (Some text) old new answers (Err WriteFailed) are w = (tt, rewritten form text _ (AppendsFront old new) (are form) w)
+replays form left old new answers (Err Memory) are w = w
+replays form left old new answers (Err ReadFailed) are w = absurd w
+replays form left old new answers (Err (Text fault)) are w = absurd w
 
 pub spelt_behind : (header : Header) (h : List Entry) → IsLegal (opening header) h → All IsSpelt (reverse h)
 spelt_behind header h legal = All-from_recursion IsSpelt (reverse h) (each-reverse IsSpelt h (all_spelt header h legal))

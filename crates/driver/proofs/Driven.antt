@@ -1,5 +1,5 @@
 -- The steps of a text are answered as their lines are read.
-use Rattle.std.proofs.Common.{◌≡◌, ℕ, ◌<◌, List, [], ◌∷◌, ◌++◌, All, length, reverse, Option, None, Some, Result, Ok, Err, IfSome, IfErr, Bool, true, false, refl, subst, sym, ap, ◌∙◌, arith}
+use Rattle.std.proofs.Common.{◌≡◌, ℕ, ◌<◌, List, [], ◌∷◌, ◌++◌, length, reverse, Option, None, Some, Result, Ok, Err, IfSome, IfErr, Bool, true, false, refl, subst, sym, ap, ◌∙◌, arith, append_assoc}
 use Rattle.std.proofs.lemmas.Bool.{false≢true}
 use Rattle.std.specs.Result.{IsErr, IsErrAnd}
 use Rattle.history.specs.declared.entry.Entry.{Entry}
@@ -7,41 +7,43 @@ use Rattle.history.specs.declared.fault.Fault.{Fault}
 use Rattle.history.specs.declared.header.Header.{Header}
 use Rattle.history.specs.declared.step.Answer.{Answer}
 use Rattle.history.specs.declared.step.Step.{Step}
-use Rattle.history.specs.Answers.{answer}
+use Rattle.history.specs.Answers.{answer, results}
 use Rattle.history.specs.Entries.{ended_calls}
-use Rattle.history.specs.EntryWords.{IsSpelt}
-use Rattle.history.specs.Legal.{calls}
+use Rattle.history.specs.Legal.{IsLegal, calls}
 use Rattle.history.specs.Start.{opening}
 use Rattle.history.specs.Text.{ended}
 use Rattle.history.proofs.Lists.{calls-ended}
 use Rattle.history_text.specs.EntryLines.{counts_line}
-use Rattle.history_text.specs.HistoryText.{history_text}
+use Rattle.history_text.specs.HistoryText.{history_form, history_text}
+use Rattle.history_text.proofs.HistoryReading.{end_of}
+use Rattle.line_text.specs.Form.{lines_of}
 use Rattle.line_text.specs.Reading.{IsText}
 use Rattle.steps.specs.StepsText.{steps_form}
 use Rattle.driver.specs.declared.form.Form.TheVariants.{Replay, History}
 use Rattle.driver.specs.declared.stream_fault.StreamFault.{StreamFault}
 use Rattle.driver.specs.declared.stream_fault.StreamFault.TheVariants.{ReadFailed}
-use Rattle.driver.specs.ReplayStream.{IsDriven, Replayed}
-use Rattle.driver.specs.ReplayText.{answer_line, header_line}
-use Rattle.driver.specs.StepReader.{Progress, WereRead, OfText, IsFaultBehind, IsNext}
-use Rattle.driver.proofs.Behind.{replayed, spelt_behind}
-use Rattle.driver.proofs.Told.{Told, IsBehind, told_none, told_more, told_all, behind_none, behind_more, behind_all}
+use Rattle.driver.specs.ReplayStream.{AreAnswersBehind, IsAnswerTo, answer_text}
+use Rattle.driver.specs.Answers.{answers_text, first_line}
+use Rattle.driver.specs.Remarks.{IsKept, remark_of}
+use Rattle.driver.specs.declared.form.Form.{Form}
+use Rattle.driver.specs.declared.remark.Remark.{Remark}
+use Rattle.driver.specs.ReplayText.{answer_line, answer_lines, header_line, history_behind}
+use Rattle.driver.specs.StepReader.{Progress, WereRead, IsFaultBehind, IsNext}
+use Rattle.driver.proofs.Behind.{replayed}
+use Rattle.driver.proofs.Remarking.{Remarked, remarked_none, remarked_on, remarked_all}
+use Rattle.driver.proofs.Told.{Told, told_none, told_more, told_all, behind_all}
 
 -- from the header on, these steps were read
 abbrev pub ReadOn : Progress → List (ℕ × Step) → Progress → Type 0
 ReadOn first steps now = (text : Option (List ℕ)) → WereRead text first [] → WereRead text now steps
 
--- these steps were read, and this is the history behind them
-pub record Driving (first now : Progress) (h : List Entry) : Type 0 where
+-- these steps were read, and the history with these remarks tells their answers
+pub record Answering (first now : Progress) (h : List Entry) (remarks : List Remark) : Type 0 where
   pub steps : List (ℕ × Step)
+  pub lines : List ℕ
   pub read : ReadOn first steps now
-  pub behind : IsBehind now.header steps h
-
--- these steps were read, and this was told of them
-pub record Telling (front : List ℕ) (first now : Progress) (out : List ℕ) (h : List Entry) : Type 0 where
-  pub steps : List (ℕ × Step)
-  pub read : ReadOn first steps now
-  pub told : Told now.header front steps out h
+  pub told : Told now.header steps lines h
+  pub remarked : Remarked h remarks lines
 
 -- a fault ends the reading, whatever was read before
 pub fault_behind : (first now new : Progress) (steps : List (ℕ × Step)) (fault : StreamFault) → ReadOn first steps now → IsNext now (Err fault) new → IsFaultBehind first fault
@@ -63,50 +65,55 @@ goes_on x true failing = absurd (no_fault x (failing refl))
     no_fault x e = cc
 goes_on x false failing = refl
 
--- ---- the history alone
+pub answering_none : (p : Progress) (h : List Entry) → h ≡ [] → Answering p p h []
+answering_none p h none = rw none (record { steps = []; lines = []; read = λ text were. were; told = told_none p.header; remarked = remarked_none })
 
-pub driving_none : (p : Progress) (h : List Entry) → h ≡ [] → Driving p p h
-driving_none p h none = record { steps = []; read = λ text were. were; behind = rw none (behind_none p.header) }
-
-pub driving_on : (first old new : Progress) (x : ℕ × Step) (h h' : List Entry) → IsNext old (Ok (Some x)) new → new.header ≡ old.header → x.0 < old.header.seats → h' ≡ (answer (opening new.header) h x.0 x.1).1 → Driving first old h → Driving first new h'
-driving_on first old new x h h' next same below q d =
-    let behind = subst (λ (k : Header). IsBehind k d.steps h) (sym same) d.behind in
+-- one more step was answered
+pub answering_on : (first old new : Progress) (x : ℕ × Step) (r : Result Answer Fault) (h h' : List Entry) (remarks remarks' : List Remark)
+    → IsNext old (Ok (Some x)) new → new.header ≡ old.header → x.0 < old.header.seats → r ≡ (answer (opening new.header) h x.0 x.1).0 → h' ≡ (answer (opening new.header) h x.0 x.1).1
+    → IsKept remarks (remark_of (length h) x.0 r) remarks' → Answering first old h remarks → Answering first new h' remarks'
+answering_on first old new x r h h' remarks remarks' next same below p q more a =
+    let told = subst (λ (k : Header). Told k a.steps a.lines h) (sym same) a.told in
     let seated = subst (λ (k : Header). x.0 < k.seats) (sym same) below in
-    record { steps = d.steps ++ x ∷ []; read = λ text were. next text d.steps (d.read text were); behind = behind_more new.header d.steps h x h' behind seated q }
-
-pub driving_all : (first now new : Progress) (h : List Entry) → now.header ≡ first.header → IsNext now (Ok None) new → Driving first now h → IsDriven first h
-driving_all first now new h same all d =
-    let behind = subst (λ (k : Header). IsBehind k d.steps h) same d.behind in
+    let line = ended (answer_line (length h) x.0 r) in
     record {
-      steps = d.steps;
-      is = λ text were. subst (λ (k : Header). IfSome text (λ t. IsText steps_form t k d.steps)) same (all text d.steps (d.read text were));
-      entries_are = behind_all first.header d.steps h behind;
-      legal = behind.legal;
+      steps = a.steps ++ x ∷ [];
+      lines = a.lines ++ line;
+      read = λ text were. next text a.steps (a.read text were);
+      told = told_more new.header a.steps a.lines h x r h' told seated p q;
+      remarked = remarked_on (opening new.header) h x.0 x.1 r h' remarks remarks' a.lines p q more a.remarked;
     }
 
-pub spelt_driven : (p : Progress) (h : List Entry) → IsDriven p h → All IsSpelt (reverse h)
-spelt_driven p h d = spelt_behind p.header h d.legal
+counts_are : (header : Header) (h : List Entry) (steps : List (ℕ × Step)) → h ≡ history_behind header steps
+    → ended (counts_line (length h) (ended_calls h)) ≡ ended (counts_line (length (history_behind header steps)) (calls (opening header) (history_behind header steps)))
+counts_are header h steps behind =
+    let ends : ended_calls h ≡ calls (opening header) h = omega (arith, calls-ended (opening header) h) in
+    ap (λ (n : ℕ). ended (counts_line (length h) n)) ends ∙ ap (λ (es : List Entry). ended (counts_line (length es) (calls (opening header) es))) behind
 
-pub replayed_driven : (p : Progress) (h : List Entry) (out : List ℕ) → IsDriven p h → out ≡ history_text p.header h → OfText p (λ t. Replayed History t (λ written. out ≡ written))
-replayed_driven p h out d o None were = tt
-replayed_driven p h out d o (Some t) were = replayed History t p.header d.steps out (d.is (Some t) were) (o ∙ ap (history_text p.header) d.entries_are)
+-- the text of all answers, in each form
+text_is : (form : Form) (header : Header) (h : List Entry) (remarks : List Remark) (steps : List (ℕ × Step)) (lines : List ℕ) → Told header steps lines h → Remarked h remarks lines
+    → answers_text form (record { header = header; entries = h; remarks = remarks }) ≡ answer_text form header steps
+text_is Replay header h remarks steps lines told remarked =
+    ap (λ (t : List ℕ). ended (header_line header) ++ t)
+    (ap (λ (t : List ℕ). t ++ ended (counts_line (length h) (ended_calls h))) (remarked_all h remarks lines remarked ∙ told_all header steps lines h told)
+    ∙ ap (λ (t : List ℕ). answer_lines 0 steps (results (opening header) [] steps).0 ++ t) (counts_are header h steps (behind_all header steps h told.behind)))
+    ∙ sym (append_assoc (ended (header_line header)) (answer_lines 0 steps (results (opening header) [] steps).0) (ended (counts_line (length (history_behind header steps)) (calls (opening header) (history_behind header steps)))))
+text_is History header h remarks steps lines told remarked =
+    ap (λ (t : List ℕ). ended (first_line History header) ++ (lines_of history_form 0 (reverse h) ++ ended t)) (end_of h (length h) (ended_calls h) refl refl)
+    ∙ ap (history_text header) (behind_all header steps h told.behind)
 
--- ---- the text of the answers
+answer_is : (form : Form) (text : Option (List ℕ)) (header : Header) (h : List Entry) (remarks : List Remark) (steps : List (ℕ × Step)) (lines : List ℕ) → Told header steps lines h → Remarked h remarks lines
+    → IfSome text (λ t. IsText steps_form t header steps) → IsAnswerTo form text (answers_text form (record { header = header; entries = h; remarks = remarks }))
+answer_is form None header h remarks steps lines told remarked is = tt
+answer_is form (Some t) header h remarks steps lines told remarked is = replayed form t header steps _ is (text_is form header h remarks steps lines told remarked)
 
-pub telling_none : (front : List ℕ) (p : Progress) (out : List ℕ) (h : List Entry) → out ≡ front → h ≡ [] → Telling front p p out h
-telling_none front p out h o none = record { steps = []; read = λ text were. were; told = rw (o, none) (told_none p.header front) }
+-- the last step was answered
+pub answering_all : (first now new : Progress) (h : List Entry) (remarks : List Remark) → now.header ≡ first.header → IsNext now (Ok None) new → Answering first now h remarks
+    → AreAnswersBehind first (record { header = first.header; entries = h; remarks = remarks })
+answering_all first now new h remarks same all a = λ form text were.
+    let told : Told first.header a.steps a.lines h = subst (λ (k : Header). Told k a.steps a.lines h) same a.told in
+    let is = subst (λ (k : Header). IfSome text (λ t. IsText steps_form t k a.steps)) same (all text a.steps (a.read text were)) in
+    answer_is form text first.header h remarks a.steps a.lines told a.remarked is
 
-pub telling_on : (front : List ℕ) (first old new : Progress) (out out' : List ℕ) (x : ℕ × Step) (r : Result Answer Fault) (h h' : List Entry)
-    → IsNext old (Ok (Some x)) new → new.header ≡ old.header → x.0 < old.header.seats → r ≡ (answer (opening new.header) h x.0 x.1).0 → h' ≡ (answer (opening new.header) h x.0 x.1).1 → out' ≡ out ++ ended (answer_line (length h) x.0 r)
-    → Telling front first old out h → Telling front first new out' h'
-telling_on front first old new out out' x r h h' next same below p q o t =
-    let told = subst (λ (k : Header). Told k front t.steps out h) (sym same) t.told in
-    let seated = subst (λ (k : Header). x.0 < k.seats) (sym same) below in
-    record { steps = t.steps ++ x ∷ []; read = λ text were. next text t.steps (t.read text were); told = told_more new.header front t.steps out h x r out' h' told seated p q o }
-
-pub telling_all : (first now new : Progress) (out out' : List ℕ) (h : List Entry) → IsNext now (Ok None) new → out' ≡ (out ++ counts_line (length h) (ended_calls h)) ++ 10 ∷ []
-    → Telling (ended (header_line now.header)) first now out h → OfText first (λ t. Replayed Replay t (λ written. out' ≡ written))
-telling_all first now new out out' h all o t None were = tt
-telling_all first now new out out' h all o t (Some bytes) were =
-    let ends : ended_calls h ≡ calls (opening now.header) h = omega (arith, calls-ended (opening now.header) h) in
-    replayed Replay bytes now.header t.steps out' (all (Some bytes) t.steps (t.read (Some bytes) were)) (told_all now.header (ended (header_line now.header)) t.steps out h out' t.told (o ∙ ap (λ (n : ℕ). (out ++ counts_line (length h) n) ++ 10 ∷ []) ends))
+pub legal_behind : (first now : Progress) (h : List Entry) (remarks : List Remark) → now.header ≡ first.header → Answering first now h remarks → IsLegal (opening first.header) h
+legal_behind first now h remarks same a = subst (λ (k : Header). IsLegal (opening k) h) same a.told.behind.legal

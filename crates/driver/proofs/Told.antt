@@ -7,7 +7,7 @@ use Rattle.history.specs.declared.step.Answer.{Answer}
 use Rattle.history.specs.declared.step.Answer.TheVariants.{Recorded, Sleep}
 use Rattle.history.specs.declared.step.Step.{Step}
 use Rattle.history.specs.Answers.{recorded, answer_by, answer, results}
-use Rattle.history.specs.Legal.{calls, IsLegal, AreSeated}
+use Rattle.history.specs.Legal.{IsLegal, AreSeated}
 use Rattle.history.specs.Naming.{named}
 use Rattle.history.specs.Room.{has_room}
 use Rattle.history.specs.declared.header.Header.{Header}
@@ -16,7 +16,6 @@ use Rattle.history.specs.Steps.{entry_for}
 use Rattle.history.specs.Text.{ended}
 use Rattle.history_text.proofs.Spelt.{legal_more, seated_more, spelt}
 use Rattle.driver.specs.Replay.{HasLine}
-use Rattle.history_text.specs.EntryLines.{counts_line}
 use Rattle.driver.specs.ReplayText.{answer_line, answer_lines, entries_of, history_behind}
 use Rattle.driver.specs.Answering.{Answered, IsAnswered}
 
@@ -107,49 +106,39 @@ behind_all header steps h behind =
 
 -- ---- a replay under way
 
--- Behind these steps of a text, whatever follows: what was written, with the lines that are left, is all; and
+-- Behind these steps of a text, whatever follows: the lines that were told, with those that are left, are all; and
 -- so is the history.
-pub record Told (header : Header) (front : List ℕ) (steps : List (ℕ × Step)) (out : List ℕ) (h : List Entry) : Type 0 where
-  pub lines : (left : List (ℕ × Step)) → out ++ lines_left (opening header) h (length h) left ≡ front ++ lines_left (opening header) [] 0 (steps ++ left)
+pub record Told (header : Header) (steps : List (ℕ × Step)) (out : List ℕ) (h : List Entry) : Type 0 where
+  pub lines : (left : List (ℕ × Step)) → out ++ lines_left (opening header) h (length h) left ≡ lines_left (opening header) [] 0 (steps ++ left)
   pub behind : IsBehind header steps h
 
 -- nothing was told yet
-pub told_none : (header : Header) (front : List ℕ) → Told header front [] front []
-told_none header front = record { lines = λ left. refl; behind = behind_none header }
+pub told_none : (header : Header) → Told header [] [] []
+told_none header = record { lines = λ left. refl; behind = behind_none header }
 
-pub told_more : (header : Header) (front : List ℕ) (steps : List (ℕ × Step)) (out : List ℕ) (h : List Entry) (x : ℕ × Step) (r : Result Answer Fault) (out' : List ℕ) (h' : List Entry)
-    → Told header front steps out h → x.0 < header.seats → r ≡ (answer (opening header) h x.0 x.1).0 → h' ≡ (answer (opening header) h x.0 x.1).1 → out' ≡ out ++ ended (answer_line (length h) x.0 r)
-    → Told header front (steps ++ x ∷ []) out' h'
-told_more header front steps out h x r out' h' told below p q o =
+pub told_more : (header : Header) (steps : List (ℕ × Step)) (out : List ℕ) (h : List Entry) (x : ℕ × Step) (r : Result Answer Fault) (h' : List Entry)
+    → Told header steps out h → x.0 < header.seats → r ≡ (answer (opening header) h x.0 x.1).0 → h' ≡ (answer (opening header) h x.0 x.1).1
+    → Told header (steps ++ x ∷ []) (out ++ ended (answer_line (length h) x.0 r)) h'
+told_more header steps out h x r h' told below p q =
     let s = opening header in
     let f : Follows header h r h' = rw (p, q) (follows header h x.0 x.1 told.behind.legal below) in
     let line = ended (answer_line (length h) x.0 r) in
-    let next : (left : List (ℕ × Step)) → out ++ lines_left s h (length h) (x ∷ left) ≡ out' ++ lines_left s h' (length h') left =
+    let next : (left : List (ℕ × Step)) → out ++ lines_left s h (length h) (x ∷ left) ≡ (out ++ line) ++ lines_left s h' (length h') left =
     λ left. ap (λ (t : List ℕ). out ++ t) (lines_left-cons s h (length h) x left r h' p q ∙ ap (λ (n : ℕ). line ++ lines_left s h' n left) (sym f.entries))
-    ∙ sym (append_assoc out line (lines_left s h' (length h') left)) ∙ ap (λ (t : List ℕ). t ++ lines_left s h' (length h') left) (sym o) in
+    ∙ sym (append_assoc out line (lines_left s h' (length h') left)) in
     record {
-      lines = λ left. sym (next left) ∙ told.lines (x ∷ left) ∙ ap (λ (t : List (ℕ × Step)). front ++ lines_left s [] 0 t) (sym (append_assoc steps (x ∷ []) left));
+      lines = λ left. sym (next left) ∙ told.lines (x ∷ left) ∙ ap (lines_left s [] 0) (sym (append_assoc steps (x ∷ []) left));
       behind = behind_more header steps h x h' told.behind below q;
     }
 
 -- nothing is left
-pub told_all : (h : Header) (front : List ℕ) (steps : List (ℕ × Step)) (out : List ℕ) (entries : List Entry) (out' : List ℕ)
-    → Told h front steps out entries → out' ≡ (out ++ counts_line (length entries) (calls (opening h) entries)) ++ 10 ∷ []
-    → out' ≡ front ++ answer_lines 0 steps (results (opening h) [] steps).0 ++ ended (counts_line (length (history_behind h steps)) (calls (opening h) (history_behind h steps)))
-told_all h front steps out entries out' told o =
+pub told_all : (h : Header) (steps : List (ℕ × Step)) (out : List ℕ) (entries : List Entry) → Told h steps out entries → out ≡ answer_lines 0 steps (results (opening h) [] steps).0
+told_all h steps out entries told =
     let s = opening h in
-    let whole : lines_left s [] 0 (steps ++ []) ≡ answer_lines 0 steps (results s [] steps).0 = ap (lines_left s [] 0) (append-nil steps) ∙ lines_left-is s [] 0 steps in
-    let written : out ≡ front ++ answer_lines 0 steps (results s [] steps).0 =
-    sym (ap (λ (t : List ℕ). out ++ t) (lines_left-nil s entries (length entries)) ∙ append-nil out) ∙ told.lines [] ∙ ap (λ (t : List ℕ). front ++ t) whole in
-    let last : counts_line (length entries) (calls s entries) ≡ counts_line (length (history_behind h steps)) (calls s (history_behind h steps)) =
-    ap (λ (t : List Entry). counts_line (length t) (calls s t)) (behind_all h steps entries told.behind) in
-    o ∙ append_assoc out (counts_line (length entries) (calls s entries)) (10 ∷ []) ∙ ap (λ (t : List ℕ). out ++ ended t) last
-    ∙ ap (λ (t : List ℕ). t ++ ended (counts_line (length (history_behind h steps)) (calls s (history_behind h steps)))) written
+    sym (ap (λ (t : List ℕ). out ++ t) (lines_left-nil s entries (length entries)) ∙ append-nil out) ∙ told.lines []
+    ∙ ap (lines_left s [] 0) (append-nil steps) ∙ lines_left-is s [] 0 steps
 
 -- ---- what a core answers
-
-pub has_line : (header : Header) (h : List Entry) (i : ℕ) (step : Step) (r : Result Answer Fault) → IsLegal (opening header) h → i < header.seats → r ≡ (answer (opening header) h i step).0 → HasLine r
-has_line header h i step r legal below p = rw p (follows header h i step legal below).line
 
 pub answered : (old new : Answered) (header : Header) (i : ℕ) (step : Step) (r : Result Answer Fault) → IsAnswered old i step r new → old.header ≡ header → (r ≡ Err OutOfMemory → ⊥)
     → (r ≡ (answer (opening header) old.entries i step).0) × (new.entries ≡ (answer (opening header) old.entries i step).1) × (new.header ≡ header)

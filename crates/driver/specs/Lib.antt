@@ -1,8 +1,11 @@
 pub mod Answering
+pub mod Answers
 pub mod AuditStream
 pub mod AuditText
+pub mod LineWriter
 pub mod MemorySink
 pub mod MemorySource
+pub mod Remarks
 pub mod Replay
 pub mod ReplayStream
 pub mod ReplayText

@@ -7,11 +7,11 @@ use Rattle.history.specs.Order.{IsInOrder, IsFairOrder}
 use Rattle.history.specs.Start.{opening}
 use Rattle.line_text.specs.Reading.{IsText}
 use Rattle.steps.specs.StepsText.{steps_form}
-use Rattle.history.specs.declared.entry.Entry.{Entry}
 use Rattle.history_text.specs.HistoryText.{history_text}
 use Rattle.driver.specs.declared.form.Form.{Form}
 use Rattle.driver.specs.declared.form.Form.TheVariants.{Replay, History}
 use Rattle.driver.specs.declared.stream_fault.StreamFault.{StreamFault}
+use Rattle.driver.specs.Answers.{AllAnswers, answers_text}
 use Rattle.driver.specs.ReplayText.{replay_text, history_behind}
 use Rattle.driver.specs.StepReader.{Progress, OfText}
 use Rattle.driver.specs.Streams.{Streams}
@@ -40,12 +40,12 @@ IsAnswerTo form text answer = IfSome text (λ t. Replayed form t (λ written. an
 abbrev pub IsAnswerBehind : Form → Progress → List ℕ → Type 0
 IsAnswerBehind form p answer = OfText p (λ t. Replayed form t (λ written. answer ≡ written))
 
--- The text is a steps text of this header, and these entries are the history behind its steps.
-pub record IsDriven (p : Progress) (entries : List Entry) : Type 0 where
-  pub steps : List (ℕ × Step)
-  pub is : OfText p (λ text. IsText steps_form text p.header steps)
-  pub entries_are : entries ≡ history_behind p.header steps
-  pub legal : IsLegal (opening p.header) entries
+-- in each form, what is written of the answers is what is to be written for the text
+abbrev pub AreAnswersTo : Option (List ℕ) → AllAnswers → Type 0
+AreAnswersTo text answers = (form : Form) → IsAnswerTo form text (answers_text form answers)
+
+abbrev pub AreAnswersBehind : Progress → AllAnswers → Type 0
+AreAnswersBehind p answers = (form : Form) → IsAnswerBehind form p (answers_text form answers)
 
 -- what a replay leaves
 abbrev pub Replays : Form → Option (List ℕ) → Option (List ℕ) → Option (List ℕ) → Result (Unit {0}) StreamFault → Type 0

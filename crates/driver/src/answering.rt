@@ -22,6 +22,10 @@ pub trait Answering {
 
     fn history(&self) -> &History
         ensures { result.now.entries ≡ (view_of self.now).entries };
+
+    /// The history, which is all that is left of the object.
+    fn into_history(self) -> History
+        ensures { result.entries ≡ (view_of self).entries };
 }
 
 impl<H: Hooks + Drop> Answering for Core<H> {
@@ -34,5 +38,9 @@ impl<H: Hooks + Drop> Answering for Core<H> {
 
     fn history(&self) -> &History {
         Core::history(self)
+    }
+
+    fn into_history(self) -> History {
+        Core::into_history(self)
     }
 }

@@ -1,17 +1,21 @@
 //! From bytes to bytes: what a stream's text asks for is answered by a text.
 //!
-//! A stream reads all and builds its whole output before it writes, so that nothing is written for a text
-//! that is refused. A replay answers each line as it is read. Sources and sinks tell their bytes to the
+//! A stream reads all and finds all its memory before it writes, so that nothing is written for a text that is
+//! refused. A replay answers each line as it is read, and keeps the answers short until they are written. Sources and sinks tell their bytes to the
 //! contracts, where these are known.
 #![tactic(auto)]
 
+mod answer_line;
 pub mod answering;
+pub mod answers;
 pub mod audit_stream;
 mod audit_text;
 pub mod device;
 pub mod form;
+mod line_writer;
 pub mod memory_sink;
 pub mod memory_source;
+pub mod remark;
 pub mod replay;
 pub mod replay_stream;
 pub mod sink;

@@ -1,33 +1,33 @@
 //! A steps text is answered by a replay text, or by a history text.
 
 ghost use Rattle.std.specs.Prelude.{◌≡◌, ◌↔◌, [], false, IsTrue, IfErr, IfOk, IsErrOf};
-ghost use Rattle.driver.specs.ReplayStream.{IsAnswerBehind, IsAnswerTo, Replays};
+ghost use Rattle.driver.specs.ReplayStream.{AreAnswersBehind, AreAnswersTo, Replays};
 ghost use Rattle.driver.specs.Streams.{IsReadOut};
 ghost use Rattle.driver.specs.StepReader.{IsFaultBehind, IsFaultOf, progress};
 
 use crate::answering::Answering;
+use crate::answers::Answers;
 use crate::form::Form;
-use crate::replay::{drive, replay};
+use crate::replay::replay;
 use crate::sink::Sink;
 use crate::source::Source;
 use crate::step_reader::StepReader;
 use crate::stream_fault::StreamFault;
-use crate::whole::{read_on, write_all};
+use crate::whole::read_on;
 use counting::latch::LatchHooks;
 use counting::semaphore::SemaphoreHooks;
 use frame::hooks::Hooks;
 use frame::machine::Core;
 use history::header::Object;
-use history_text::write_text;
 use read_write::hooks::RwHooks;
 use reentrant::lock::LockHooks;
 use std::alloc::Global;
 
 /// Reads a steps text, and writes what a fresh object of its header answers to the steps.
 ///
-/// Each line is answered as it is read, and nothing is written before all was read and the whole answer
-/// stands: nothing at all where the text has a fault, where reading fails or where memory is refused, to a
-/// step too. A text with a fault is read to its end too.
+/// Each line is answered as it is read, and nothing is written before all was answered and all memory was
+/// found: nothing at all where the text has a fault, where reading fails or where memory is refused, to a step
+/// too. A text with a fault is read to its end too.
 pub fn replay_stream<R: Source, W: Sink>(
     alloc: Global,
     reader: &mut R,
@@ -41,11 +41,8 @@ pub fn replay_stream<R: Source, W: Sink>(
     ensures read { IsErrOf result StreamFault.ReadFailed ↔ IsTrue (R.failed reader.new) }
     ensures write { IsErrOf result StreamFault.WriteFailed ↔ IsTrue (W.failed writer.new) }
 {
-    match answer_of(alloc, reader, form) {
-        Ok(text) => match write_all(writer, &text) {
-            Ok(()) => Ok(()),
-            Err(_) => Err(StreamFault::WriteFailed),
-        },
+    match answers_to(alloc, reader) {
+        Ok(answers) => answers.write(alloc, writer, form),
         Err(StreamFault::Text(fault)) => {
             read_on(reader)?;
             Err(StreamFault::Text(fault))
@@ -54,96 +51,79 @@ pub fn replay_stream<R: Source, W: Sink>(
     }
 }
 
-/// What is written for the text that a source has.
-fn answer_of<R: Source>(alloc: Global, reader: &mut R, form: Form) -> Result<Vec<u8>, StreamFault>
+/// The answers to the text that a source has.
+fn answers_to<R: Source>(alloc: Global, reader: &mut R) -> Result<Answers, StreamFault>
     requires { R.failed reader.old ≡ false }
-    ensures ok { IfOk result (λ text. IsAnswerTo form (R.left reader.old) text.items) }
+    ensures ok { IfOk result (AreAnswersTo (R.left reader.old)) }
     ensures err { IfErr result (IsFaultOf (R.left reader.old)) }
     ensures failing { IsErrOf result StreamFault.ReadFailed ↔ IsTrue (R.failed reader.new) }
 {
     let mut steps = StepReader::open(alloc, reader)?;
-    answer_text(alloc, &mut steps, reader, form)
+    answers_behind(alloc, &mut steps, reader)
 }
 
-/// What is written of an object's answers to the steps of a text.
-fn answered<O: Answering, R: Source>(
+/// The answers of an object to the steps of a text.
+fn answered<O: Answering + Drop, R: Source>(
     alloc: Global,
-    object: &mut O,
+    object: O,
     steps: &mut StepReader,
     reader: &mut R,
-    form: Form,
-) -> Result<Vec<u8>, StreamFault>
+) -> Result<Answers, StreamFault>
     requires reader { R.failed reader.old ≡ false }
-    requires header { (O.view_of object.old).header ≡ steps.old.header }
-    requires fresh { (O.view_of object.old).entries ≡ [] }
-    ensures ok { IfOk result (λ text. IsAnswerBehind form (progress steps.old (R.left reader.old)) text.items) }
+    requires header { (O.view_of object).header ≡ steps.old.header }
+    requires fresh { (O.view_of object).entries ≡ [] }
+    ensures ok { IfOk result (AreAnswersBehind (progress steps.old (R.left reader.old))) }
     ensures err { IfErr result (IsFaultBehind (progress steps.old (R.left reader.old))) }
     ensures failing { IsErrOf result StreamFault.ReadFailed ↔ IsTrue (R.failed reader.new) }
 {
-    match form {
-        Form::Replay => replay(alloc, object, steps, reader),
-        Form::History => {
-            let header = steps.header();
-            drive(object, steps, reader)?;
-            match write_text(alloc, &header, object.history()) {
-                Ok(text) => Ok(text),
-                Err(_) => Err(StreamFault::Memory),
-            }
-        }
-    }
+    let mut object = object;
+    let header = steps.header();
+    let remarks = replay(alloc, &mut object, steps, reader)?;
+    Ok(Answers::new(header, object.into_history(), remarks))
 }
 
-/// What is written of the answers of a core of these hooks.
+/// The answers of a core of these hooks.
 fn opened<H: Hooks + Drop, R: Source>(
     alloc: Global,
     hooks: H,
     steps: &mut StepReader,
     reader: &mut R,
-    form: Form,
-) -> Result<Vec<u8>, StreamFault>
+) -> Result<Answers, StreamFault>
     requires reader { R.failed reader.old ≡ false }
     requires hooks { H.is_opened hooks steps.old.header.seats }
     requires object { H.object_of hooks ≡ steps.old.header.object }
-    ensures ok { IfOk result (λ text. IsAnswerBehind form (progress steps.old (R.left reader.old)) text.items) }
+    ensures ok { IfOk result (AreAnswersBehind (progress steps.old (R.left reader.old))) }
     ensures err { IfErr result (IsFaultBehind (progress steps.old (R.left reader.old))) }
     ensures failing { IsErrOf result StreamFault.ReadFailed ↔ IsTrue (R.failed reader.new) }
 {
     let header = steps.header();
     match Core::open(alloc, hooks, header.seats, header.conditions, header.cap) {
-        Ok(mut core) => answered(alloc, &mut core, steps, reader, form),
+        Ok(core) => answered(alloc, core, steps, reader),
         Err(_) => Err(StreamFault::Memory),
     }
 }
 
-/// What is written of the answers of a fresh object of the text's header.
-fn answer_text<R: Source>(
+/// The answers of a fresh object of the text's header.
+fn answers_behind<R: Source>(
     alloc: Global,
     steps: &mut StepReader,
     reader: &mut R,
-    form: Form,
-) -> Result<Vec<u8>, StreamFault>
+) -> Result<Answers, StreamFault>
     requires reader { R.failed reader.old ≡ false }
-    ensures ok { IfOk result (λ text. IsAnswerBehind form (progress steps.old (R.left reader.old)) text.items) }
+    ensures ok { IfOk result (AreAnswersBehind (progress steps.old (R.left reader.old))) }
     ensures err { IfErr result (IsFaultBehind (progress steps.old (R.left reader.old))) }
     ensures failing { IsErrOf result StreamFault.ReadFailed ↔ IsTrue (R.failed reader.new) }
 {
     let header = steps.header();
-    let seats = header.seats;
     match header.object {
-        Object::Lock(policy) => opened(alloc, LockHooks::open(policy), steps, reader, form),
-        Object::ReadWrite(policy) => match RwHooks::open(alloc, policy, seats) {
-            Ok(hooks) => opened(alloc, hooks, steps, reader, form),
+        Object::Lock(policy) => opened(alloc, LockHooks::open(policy), steps, reader),
+        Object::ReadWrite(policy) => match RwHooks::open(alloc, policy, header.seats) {
+            Ok(hooks) => opened(alloc, hooks, steps, reader),
             Err(_) => Err(StreamFault::Memory),
         },
         Object::Semaphore(policy, permits) => {
-            opened(
-                alloc,
-                SemaphoreHooks::open(policy, permits),
-                steps,
-                reader,
-                form,
-            )
+            opened(alloc, SemaphoreHooks::open(policy, permits), steps, reader)
         }
-        Object::Latch(count) => opened(alloc, LatchHooks::open(count), steps, reader, form),
+        Object::Latch(count) => opened(alloc, LatchHooks::open(count), steps, reader),
     }
 }

@@ -10,6 +10,8 @@ mod devices;
 #[cfg(test)]
 mod memory;
 #[cfg(test)]
+mod pieces;
+#[cfg(test)]
 mod plain;
 #[cfg(test)]
 mod spoiled;

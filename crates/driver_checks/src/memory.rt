@@ -11,7 +11,7 @@ ghost use Rattle.history.specs.declared.header.Policy.TheVariants.{Fair};
 use driver::answering::Answering;
 use driver::device::Device;
 use driver::form::Form;
-use driver::replay::{drive, replay};
+use driver::replay::replay;
 use driver::replay_stream::replay_stream;
 use driver::step_reader::StepReader;
 use driver::stream_fault::StreamFault;
@@ -116,6 +116,10 @@ impl Answering for Starving {
     fn history(&self) -> &History {
         Answering::history(&self.core)
     }
+
+    fn into_history(self) -> History {
+        Answering::into_history(self.core)
+    }
 }
 
 /// A fresh fair lock with the numbers of a header.
@@ -151,19 +155,10 @@ fn replays<R: Abort + AllocGlobal>(rt: &R, fed: usize) -> Result<bool, Fail> {
     Ok(replay(rt.alloc(), &mut lock, &mut steps, &mut reader).is_ok())
 }
 
-/// The same of a history's steps.
-fn drives<R: Abort + AllocGlobal>(rt: &R, fed: usize) -> Result<bool, Fail> {
-    let mut reader = Device::new(ONE_LOCK);
-    let mut steps = StepReader::open(rt.alloc(), &mut reader)?;
-    let mut lock = lock_fed(rt, &steps.header(), fed)?;
-    Ok(drive(&mut lock, &mut steps, &mut reader).is_ok())
-}
-
 #[test]
 fn a_step_without_memory_ends_the_replay(rt: HostRuntime) -> Result<(), Fail> {
     for fed in 0..=4 {
         assert_eq!(rt; replays(&rt, fed)?, fed == 4);
-        assert_eq!(rt; drives(&rt, fed)?, fed == 4);
     }
     Ok(())
 }

@@ -158,7 +158,9 @@ impl Numbering {
             return spell(line, at, number);
         }
         self.keep(hundreds);
-        put_bytes(line, at, &self.front);
+        // A copy of its own: the line then can't alias it, and it is moved at once, not byte by byte.
+        let front = self.front;
+        put_bytes(line, at, &front);
         let last_two = (number % 100) as u8;
         let last_at = put_byte(line, at + self.digits, b'0' + last_two / 10);
         put_byte(line, last_at, b'0' + last_two % 10)

@@ -41,6 +41,14 @@ impl<H: Hooks + Drop> Core<H> {
         &self.history
     }
 
+    /// The entries that a core leaves behind.
+    pub fn into_history(self) -> History
+        ensures entries { result.entries ≡ self.entries }
+        ensures cap { result.cap ≡ self.header.cap }
+    {
+        self.history
+    }
+
     /// The holds of a seat in a mode.
     pub fn holds(&self, seat: u16, mode: Mode) -> u64
         requires { seat < self.now.header.seats }

@@ -1,4 +1,4 @@
-use Rattle.driver.proofs.replay_stream.answer_text.Goals as goal
+use Rattle.driver.proofs.replay_stream.answers_behind.Goals as goal
 
 pub opened-requires-clause-hooks : goal.opened-requires-clause-hooks
 opened-requires-clause-hooks g c = c.open.ensures.opened c.args.steps.now.header.seats

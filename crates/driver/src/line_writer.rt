@@ -1,0 +1,149 @@
+//! Lines on their way to a sink.
+
+ghost use Rattle.std.specs.Prelude.{◌≡◌, ◌++◌, ◌≤◌, ◌↔◌, [], false, IsErr, IsTrue, IfOk, OnErr, OnOk};
+ghost use Rattle.std.specs.Io.KnownBytes.{Appends};
+ghost use Rattle.history.specs.Text.{ended};
+ghost use Rattle.history_text.specs.EntryLines.{counts_line};
+ghost use Rattle.driver.specs.LineWriter.{Gathers};
+ghost use Rattle.driver.specs.Replay.{HasLine};
+ghost use Rattle.driver.specs.ReplayText.{answer_line};
+ghost use Rattle.driver.specs.Whole.{AppendsFront};
+
+use crate::answer_line::spell_answer;
+use crate::sink::Sink;
+use crate::source::DeviceFailed;
+use crate::whole::write_all;
+use history::fault::Fault;
+use history::number::{Numbering, spell};
+use history::pieces::{put_byte, put_bytes};
+use history::step::Answer;
+use std::alloc::{AllocError, Global};
+use std::marker::Model;
+
+/// No line has more bytes.
+const MOST_BYTES: usize = 136;
+
+/// So many bytes are gathered, and then written at once.
+const PIECE: usize = 65_536;
+
+/// Lines that are gathered over blank bytes, and written piece by piece. No line takes memory.
+#[derive(Drop)]
+pub struct LineWriter {
+    bytes: Vec<u8>,
+    at: usize,
+    numbering: Numbering,
+}
+
+impl Model for LineWriter {
+    ghost use Rattle.std.specs.Prelude.{◌≤◌, ◌-◌, length, take};
+    ghost use Rattle.driver.specs.LineWriter.{Gathered};
+
+    ghost Value = { Gathered };
+
+    ghost view = { λ w. record { bytes = take w.at w.bytes.items; room = length w.bytes.items - w.at } };
+
+    ghost invariant = { λ w. (w.at ≤ length w.bytes.items) × (136 ≤ length w.bytes.items) };
+}
+
+impl LineWriter {
+    /// A writer that begins with this line, and has all the memory that it will want.
+    pub fn open(alloc: Global, first: &[u8]) -> Result<Self, AllocError>
+        ensures { IfOk result (λ lines. lines.bytes ≡ first.now) }
+    {
+        let mut bytes = Vec::from_slice(alloc, first)?;
+        bytes.resize(first.len() + PIECE, 0)?;
+        Ok(LineWriter {
+            bytes,
+            at: first.len(),
+            numbering: Numbering::new(),
+        })
+    }
+
+    /// Writes what was gathered.
+    #[inline(never)]
+    pub fn flush<W: Sink>(&mut self, writer: &mut W) -> Result<(), DeviceFailed>
+        requires { W.failed writer.old ≡ false }
+        ensures ok { OnOk result (Appends (W.held writer.old) (W.held writer.new) self.old.bytes) }
+        ensures none { OnOk result (self.new.bytes ≡ []) }
+        ensures room { OnOk result (136 ≤ self.new.room) }
+        ensures err { OnErr result (AppendsFront (W.held writer.old) (W.held writer.new) self.old.bytes) }
+        ensures failing { IsTrue (W.failed writer.new) ↔ IsErr result }
+    {
+        write_all(writer, &self.bytes[..self.at])?;
+        self.at = 0;
+        Ok(())
+    }
+
+    /// Makes room for a line.
+    #[inline(always)]
+    fn make_room<W: Sink>(&mut self, writer: &mut W) -> Result<(), DeviceFailed>
+        requires { W.failed writer.old ≡ false }
+        ensures room { OnOk result (136 ≤ self.new.room) }
+        ensures adds { Gathers (W.held writer.old) self.old.bytes result (W.held writer.new) self.new.bytes [] }
+        ensures failing { IsTrue (W.failed writer.new) ↔ IsErr result }
+    {
+        if MOST_BYTES <= self.bytes.len() - self.at {
+            return Ok(());
+        }
+        self.flush(writer)
+    }
+
+    /// Adds the line of the answer to a seat's step.
+    #[inline(always)]
+    pub fn put_answer<W: Sink>(
+        &mut self,
+        writer: &mut W,
+        number: u64,
+        seat: u16,
+        answer: &Result<Answer, Fault>,
+    ) -> Result<(), DeviceFailed>
+        requires writer { W.failed writer.old ≡ false }
+        requires spelt { HasLine answer.now }
+        ensures adds { Gathers (W.held writer.old) self.old.bytes result (W.held writer.new) self.new.bytes (ended (answer_line number seat answer.now)) }
+        ensures failing { IsTrue (W.failed writer.new) ↔ IsErr result }
+    {
+        self.make_room(writer)?;
+        self.spell_answer(number, seat, answer);
+        Ok(())
+    }
+
+    /// Adds the end line of so many entries, of which so many end a call.
+    pub fn put_counts<W: Sink>(
+        &mut self,
+        writer: &mut W,
+        entries: u64,
+        calls: u64,
+    ) -> Result<(), DeviceFailed>
+        requires { W.failed writer.old ≡ false }
+        ensures adds { Gathers (W.held writer.old) self.old.bytes result (W.held writer.new) self.new.bytes (ended (counts_line entries calls)) }
+        ensures failing { IsTrue (W.failed writer.new) ↔ IsErr result }
+    {
+        self.make_room(writer)?;
+        self.spell_counts(entries, calls);
+        Ok(())
+    }
+
+    /// Adds the line of an answer, for which there is room.
+    #[inline(always)]
+    fn spell_answer(&mut self, number: u64, seat: u16, answer: &Result<Answer, Fault>)
+        requires spelt { HasLine answer.now }
+        requires room { 136 ≤ self.old.room }
+        ensures { self.new.bytes ≡ self.old.bytes ++ ended (answer_line number seat answer.now) }
+    {
+        let line = self.bytes.as_mut_slice();
+        self.at = spell_answer(line, self.at, &mut self.numbering, number, seat, answer);
+    }
+
+    /// Adds an end line, for which there is room.
+    fn spell_counts(&mut self, entries: u64, calls: u64)
+        requires { 136 ≤ self.old.room }
+        ensures { self.new.bytes ≡ self.old.bytes ++ ended (counts_line entries calls) }
+    {
+        let line = self.bytes.as_mut_slice();
+        let entries_at = put_bytes(line, self.at, b"end ");
+        let space_at = spell(line, entries_at, entries);
+        let calls_at = put_byte(line, space_at, b' ');
+        let break_at = spell(line, calls_at, calls);
+        self.at = put_byte(line, break_at, b'\n');
+    }
+}
