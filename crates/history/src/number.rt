@@ -3,8 +3,8 @@
 ghost use Rattle.history.specs.Reading.{number_from, permits_from};
 ghost use Rattle.std.specs.Int.{w32};
 ghost use Rattle.std.specs.Fmt.{signed_decimal};
-ghost use Rattle.std.specs.Prelude.{FitsSigned};
-ghost use Rattle.std.specs.Prelude.{◌≡◌, ◌≢◌, ℕ, ◌+◌, ◌<◌, ◌≤◌, ◌^◌, ◌++◌, IfSome, IfNone, OnOk, OnErr, decimal, length, take, drop};
+ghost use Rattle.std.specs.Prelude.{FitsSigned, drop};
+ghost use Rattle.std.specs.Prelude.{◌≡◌, ◌≢◌, ℕ, ◌+◌, ◌<◌, ◌≤◌, ◌^◌, ◌++◌, IfSome, IfNone, OnOk, OnErr, decimal, length, take};
 
 use crate::pieces::{put_byte, put_bytes};
 use itoa::Buffer;
