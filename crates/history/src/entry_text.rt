@@ -1,6 +1,6 @@
 //! The words of an entry.
 
-ghost use Rattle.std.specs.Prelude.{◌≡◌, ◌+◌, ◌≤◌, ◌∷◌, ◌++◌, [], take, length, codes, decimal};
+ghost use Rattle.std.specs.Prelude.{◌≡◌, ◌+◌, ◌≤◌, ◌∷◌, ◌++◌, [], take, drop, length, codes, decimal};
 ghost use Rattle.history.specs.Text.{line_of};
 ghost use Rattle.history.specs.EntryWords.{mode_word};
 
@@ -76,7 +76,7 @@ impl End {
 }
 
 impl Entry {
-    ghost use Rattle.std.specs.Prelude.{◌≡◌, ◌+◌, ◌≤◌, ◌++◌, ◌↔◌, IsTrue, OnOk, OnErr, IsOkUnless, take, length};
+    ghost use Rattle.std.specs.Prelude.{◌≡◌, ◌+◌, ◌≤◌, ◌++◌, ◌↔◌, IsTrue, OnOk, OnErr, IsOkUnless, take, drop, length};
     ghost use Rattle.history.specs.Text.{line_of};
     ghost use Rattle.history.specs.EntryWords.{entry_words, IsSpelt, IsWritten};
 
@@ -132,12 +132,14 @@ impl Entry {
     }
 
     /// Puts the words that stand behind the seat from a place on, and returns the place behind them.
+    #[tactic(auto, using(crate::proofs::PieceFronts::rest_behind))]
     #[inline(always)]
     pub fn spell_words(&self, line: &mut [u8], at: usize) -> usize
         requires spelt { IsSpelt self.now }
         requires room { at + 64 ≤ length line.old }
         ensures end { result ≤ at + 64 }
         ensures words { take result line.new ≡ take at line.old ++ line_of (entry_words self.now) }
+        ensures rest { drop (at + 64) line.new ≡ drop (at + 64) line.old }
     {
         let Entry {
             seat: _,
@@ -182,12 +184,14 @@ impl Entry {
 }
 
 /// Puts a name, a mode and an amount from a place on: what is asked for most, X of 1, in one piece.
+#[tactic(auto, using(crate::proofs::PieceFronts::rest_behind))]
 #[inline(always)]
 fn put_asked(line: &mut [u8], at: usize, name: &[u8], once: &[u8], mode: Mode, n: u32) -> usize
     requires once { once.now ≡ name.now ++ codes " x 1" }
     requires room { at + length name.now + 23 ≤ length line.old }
     ensures end { result ≤ at + length name.now + 23 }
     ensures words { take result line.new ≡ take at line.old ++ line_of (name.now ∷ mode_word mode ∷ decimal n ∷ []) }
+    ensures rest { drop (at + length name.now + 23) line.new ≡ drop (at + length name.now + 23) line.old }
 {
     if n == 1 && mode.is_exclusive() {
         return put_bytes(line, at, once);
@@ -196,11 +200,13 @@ fn put_asked(line: &mut [u8], at: usize, name: &[u8], once: &[u8], mode: Mode, n
 }
 
 /// Puts a name, a mode and an amount from a place on, each by itself.
+#[tactic(auto, using(crate::proofs::PieceFronts::rest_behind))]
 #[inline(never)]
 fn put_amount(line: &mut [u8], at: usize, name: &[u8], mode: Mode, n: u32) -> usize
     requires { at + length name.now + 23 ≤ length line.old }
     ensures end { result ≤ at + length name.now + 23 }
     ensures words { take result line.new ≡ take at line.old ++ line_of (name.now ∷ mode_word mode ∷ decimal n ∷ []) }
+    ensures rest { drop (at + length name.now + 23) line.new ≡ drop (at + length name.now + 23) line.old }
 {
     let mode_at = put_bytes(line, at, name);
     let amount_at = put_bytes(line, mode_at, mode.spaced());
@@ -208,11 +214,13 @@ fn put_amount(line: &mut [u8], at: usize, name: &[u8], mode: Mode, n: u32) -> us
 }
 
 /// Puts a name with its space, a condition and an amount from a place on.
+#[tactic(auto, using(crate::proofs::PieceFronts::rest_behind))]
 #[inline(never)]
 fn put_at(line: &mut [u8], at: usize, name: &[u8], condition: u8, n: u32) -> usize
     requires { at + length name.now + 41 ≤ length line.old }
     ensures end { result ≤ at + length name.now + 41 }
     ensures words { take result line.new ≡ take at line.old ++ name.now ++ line_of (decimal condition ∷ decimal n ∷ []) }
+    ensures rest { drop (at + length name.now + 41) line.new ≡ drop (at + length name.now + 41) line.old }
 {
     let condition_at = put_bytes(line, at, name);
     let space_at = spell(line, condition_at, u64::from(condition));

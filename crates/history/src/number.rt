@@ -3,7 +3,7 @@
 ghost use Rattle.history.specs.Reading.{number_from, permits_from};
 ghost use Rattle.std.specs.Int.{w32};
 ghost use Rattle.std.specs.Fmt.{signed_decimal};
-ghost use Rattle.std.specs.Prelude.{FitsSigned};
+ghost use Rattle.std.specs.Prelude.{FitsSigned, drop};
 ghost use Rattle.std.specs.Prelude.{◌≡◌, ◌≢◌, ℕ, ◌+◌, ◌<◌, ◌≤◌, ◌^◌, ◌++◌, IfSome, IfNone, OnOk, OnErr, decimal, length, take};
 
 use crate::pieces::{put_byte, put_bytes};
@@ -88,11 +88,13 @@ pub fn put_number(out: &mut Vec<u8>, number: u64) -> Result<(), AllocError>
 }
 
 /// Puts the number from a place on, and returns the place behind it.
+#[tactic(auto, using(crate::proofs::PieceFronts::rest_behind))]
 #[inline(always)]
 pub fn spell(line: &mut [u8], at: usize, number: u64) -> usize
     requires { at + 20 ≤ length line.old }
     ensures end { (at < result) × (result ≤ at + 20) }
     ensures bytes { take result line.new ≡ take at line.old ++ decimal number }
+    ensures rest { drop (at + 20) line.new ≡ drop (at + 20) line.old }
 {
     if number < 10 {
         return put_byte(line, at, b'0' + number as u8);
@@ -105,11 +107,13 @@ pub fn spell(line: &mut [u8], at: usize, number: u64) -> usize
 }
 
 /// The same of a number with more digits than two.
+#[tactic(auto, using(crate::proofs::PieceFronts::rest_behind))]
 #[inline(never)]
 fn spell_long(line: &mut [u8], at: usize, number: u64) -> usize
     requires { at + 20 ≤ length line.old }
     ensures end { (at < result) × (result ≤ at + 20) }
     ensures bytes { take result line.new ≡ take at line.old ++ decimal number }
+    ensures rest { drop (at + 20) line.new ≡ drop (at + 20) line.old }
 {
     let mut buffer = Buffer::new();
     put_bytes(line, at, buffer.format(number).as_bytes())
@@ -147,11 +151,13 @@ impl Numbering {
     }
 
     /// Puts the number from a place on, and returns the place behind it.
+    #[tactic(auto, using(crate::proofs::PieceFronts::rest_behind))]
     #[inline(always)]
     pub fn spell(&mut self, line: &mut [u8], at: usize, number: u64) -> usize
         requires { at + 22 ≤ length line.old }
         ensures end { result ≤ at + 22 }
         ensures bytes { take result line.new ≡ take at line.old ++ decimal number }
+        ensures rest { drop (at + 22) line.new ≡ drop (at + 22) line.old }
     {
         let hundreds = number / 100;
         if hundreds == 0 {

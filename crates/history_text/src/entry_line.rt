@@ -1,6 +1,6 @@
 //! A line of an entry, and the end line.
 
-ghost use Rattle.std.specs.Prelude.{◌≡◌, ◌+◌, ◌≤◌, ◌++◌, OnOk, OnErr, length, take};
+ghost use Rattle.std.specs.Prelude.{◌≡◌, ◌+◌, ◌≤◌, ◌++◌, OnOk, OnErr, length, take, drop};
 ghost use Rattle.history.specs.EntryWords.{IsSpelt};
 ghost use Rattle.history_text.specs.EntryLines.{entry_line, counts_line};
 
@@ -43,6 +43,7 @@ pub fn spell_entry(
     requires room { at + 108 ≤ length line.old }
     ensures end { result ≤ at + 108 }
     ensures line { take result line.new ≡ take at line.old ++ entry_line number entry.now }
+    ensures rest { drop (at + 108) line.new ≡ drop (at + 108) line.old }
 {
     let space_at = numbering.spell(line, at, number);
     let seat_at = put_byte(line, space_at, b' ');

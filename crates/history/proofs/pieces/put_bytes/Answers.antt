@@ -1,0 +1,11 @@
+use Rattle.std.proofs.Common.{arith}
+use Rattle.std.proofs.lemmas.Grind.{common_steps}
+use Rattle.std.proofs.lemmas.List.{drop-set-lt}
+use Rattle.history.proofs.PieceFronts.{rest_behind}
+use Rattle.history.proofs.pieces.put_bytes.Goals as goal
+
+pub loop-i-preserved : goal.loop-i-preserved
+loop-i-preserved c = record {
+  put = grind (arith, common_steps);
+  rest = grind (arith, common_steps, drop-set-lt, rest_behind);
+}
