@@ -7,7 +7,7 @@ use crate::arrivals::{coming_back, queued};
 use crate::checks::{is_lock, refused_as, waits};
 use crate::entries::{back, named, plain, queued_entry, sleeping_entry};
 use crate::holds::holds_after;
-use crate::room::{releases, reserves};
+use crate::room::owed_behind;
 use crate::sleep::LastSleep;
 use history::arrival::Arrival;
 use history::entry::{End, Entry, Mode, Word};
@@ -149,17 +149,17 @@ fn an_entry_names_who_became_able_to_go(rt: HostRuntime) {
     assert_eq!(rt; named(Some(1), None, 2), None);
 }
 
-/// An object, a word with n, the room that it reserves and releases, and what it makes of 6 holds.
-const EFFECTS: [(Object, Word, u32, (u64, u64), u64); 9] = [
-    (LOCK, Word::Got, 1, (1, 0), 7),
-    (LOCK, Word::Queued, 1, (2, 0), 6),
-    (LOCK, Word::Gave, 1, (0, 1), 5),
-    (LOCK, Word::Await, 6, (2, 0), 0),
-    (LOCK, Word::Back, 3, (0, 1), 9),
-    (LOCK, Word::SignalAll, 4, (0, 4), 6),
-    (SEMAPHORE, Word::Queued, 5, (1, 0), 6),
-    (SEMAPHORE, Word::Gave, 7, (0, 0), 0),
-    (LATCH, Word::Left, 1, (0, 1), 6),
+/// An object, a word with n, the room owed behind it where 10 places were owed, and what it makes of 6 holds.
+const EFFECTS: [(Object, Word, u32, u64, u64); 9] = [
+    (LOCK, Word::Got, 1, 11, 7),
+    (LOCK, Word::Queued, 1, 12, 6),
+    (LOCK, Word::Gave, 1, 9, 5),
+    (LOCK, Word::Await, 6, 12, 0),
+    (LOCK, Word::Back, 3, 9, 9),
+    (LOCK, Word::SignalAll, 4, 6, 6),
+    (SEMAPHORE, Word::Queued, 5, 11, 6),
+    (SEMAPHORE, Word::Gave, 7, 10, 0),
+    (LATCH, Word::Left, 1, 9, 6),
 ];
 
 #[test]
@@ -167,7 +167,7 @@ fn an_entry_changes_holds_and_room(rt: HostRuntime) {
     for (object, word, n, room, holds) in &EFFECTS {
         let entry = plain(2, *word, Mode::X, *n);
         assert_eq!(rt;
-            (reserves(*object, entry), releases(*object, entry)),
+            owed_behind(*object, entry, 10),
             *room,
             "{object:?} {word:?}"
         );

@@ -45,11 +45,6 @@ abbrev pub BeginsWith : List ℕ → Step × ℕ → Type 0
 BeginsWith text found =
     HasAmounts found.0 × ((rest : List ℕ) × (text ≡ ended (line_of (step_words found.0)) ++ rest) × (length rest ≡ found.1))
 
--- this name, a letter, 1 and a break begin the text, and so many bytes follow
-abbrev pub AsksOnce : List ℕ → List ℕ → ℕ × ℕ → Type 0
-AsksOnce name text found =
-    (rest : List ℕ) × (text ≡ name ++ 32 ∷ found.0 ∷ codes " 1" ++ 10 ∷ rest) × (length rest ≡ found.1)
-
 -- the seat, a space and the step
 abbrev pub step_line : ℕ × Step → List ℕ
 step_line s = line_of (decimal s.0 ∷ step_words s.1)

@@ -1,72 +1,28 @@
 //! The commonest lines of a steps text, read without cutting them into words.
 
 ghost use Rattle.std.specs.Prelude.{◌≡◌, ◌+◌, ◌<◌, ◌≤◌, ◌∷◌, [], ◌++◌, drop, length, List, ℕ, IfSome, codes, decimal};
+ghost use Rattle.std.specs.Int.{w32, to_le_bytes};
 ghost use Rattle.history.specs.EntryWords.{mode_word};
 ghost use Rattle.history.specs.Text.{ended};
-ghost use Rattle.steps.specs.StepLines.{AsksOnce, BeginsWith, IsStep, step_line};
+ghost use Rattle.steps.specs.StepLines.{BeginsWith, IsStep, step_line};
 
+use crate::at_once::{behind_byte, behind_four, first_four, four};
 use history::entry::Mode;
 use history::number::number_of;
 use history::step::Step;
 use history::text::{behind, place_of};
 
-/// The mode of this letter.
+/// The mode in the four bytes that end a line behind the name of its step, where 1 is asked for.
 #[inline(always)]
-fn mode_of(letter: u8) -> Option<Mode>
-    ensures { IfSome result (λ mode. mode_word mode ≡ letter ∷ []) }
+fn mode_of_one(bytes: u32) -> Option<Mode>
+    ensures { IfSome result (λ mode. to_le_bytes w32 bytes ≡ mode_word mode ++ codes " 1" ++ 10 ∷ []) }
 {
-    match letter {
-        b'x' => Some(Mode::X),
-        b's' => Some(Mode::S),
-        _ => None,
-    }
-}
-
-/// The letter for the mode of an acquire of 1, byte by byte, and how many bytes follow: the commonest lines
-/// of all are not worth a call.
-#[inline(always)]
-fn letter_of_acquire(text: &[u8]) -> Option<(u8, usize)>
-    ensures { IfSome result (AsksOnce (codes "acquire") text.now) }
-{
-    match text {
-        [
-            b'a',
-            b'c',
-            b'q',
-            b'u',
-            b'i',
-            b'r',
-            b'e',
-            b' ',
-            letter,
-            b' ',
-            b'1',
-            b'\n',
-            rest @ ..,
-        ] => { Some((*letter, rest.len())) }
-        _ => None,
-    }
-}
-
-/// The same of a give.
-#[inline(always)]
-fn letter_of_give(text: &[u8]) -> Option<(u8, usize)>
-    ensures { IfSome result (AsksOnce (codes "give") text.now) }
-{
-    match text {
-        [
-            b'g',
-            b'i',
-            b'v',
-            b'e',
-            b' ',
-            letter,
-            b' ',
-            b'1',
-            b'\n',
-            rest @ ..,
-        ] => { Some((*letter, rest.len())) }
-        _ => None,
+    if bytes == four(*b"x 1\n") {
+        Some(Mode::X)
+    } else if bytes == four(*b"s 1\n") {
+        Some(Mode::S)
+    } else {
+        None
     }
 }
 
@@ -75,8 +31,14 @@ fn letter_of_give(text: &[u8]) -> Option<(u8, usize)>
 fn acquire(text: &[u8]) -> Option<(Step, usize)>
     ensures { IfSome result (BeginsWith text.now) }
 {
-    let (letter, left) = letter_of_acquire(text)?;
-    Some((Step::Acquire(mode_of(letter)?, 1), left))
+    // One test of the length in place of three.
+    if text.len() < 12 {
+        return None;
+    }
+    let name_end = behind_four(*b"acqu", text)?;
+    let asked = behind_four(*b"ire ", name_end)?;
+    let (bytes, rest) = first_four(asked)?;
+    Some((Step::Acquire(mode_of_one(bytes)?, 1), rest.len()))
 }
 
 /// A give of 1.
@@ -84,19 +46,23 @@ fn acquire(text: &[u8]) -> Option<(Step, usize)>
 fn give(text: &[u8]) -> Option<(Step, usize)>
     ensures { IfSome result (BeginsWith text.now) }
 {
-    let (letter, left) = letter_of_give(text)?;
-    Some((Step::Give(mode_of(letter)?, 1), left))
+    if text.len() < 9 {
+        return None;
+    }
+    let name_end = behind_four(*b"give", text)?;
+    let asked = behind_byte(b' ', name_end)?;
+    let (bytes, rest) = first_four(asked)?;
+    Some((Step::Give(mode_of_one(bytes)?, 1), rest.len()))
 }
 
-/// A look, byte by byte.
+/// A look.
 #[inline(always)]
 fn look(text: &[u8]) -> Option<(Step, usize)>
     ensures { IfSome result (BeginsWith text.now) }
 {
-    match text {
-        [b'l', b'o', b'o', b'k', b'\n', rest @ ..] => Some((Step::Look, rest.len())),
-        _ => None,
-    }
+    let name_end = behind_four(*b"look", text)?;
+    let rest = behind_byte(b'\n', name_end)?;
+    Some((Step::Look, rest.len()))
 }
 
 /// A try of X, one that doesn't pass who waits or one that may.
@@ -135,9 +101,13 @@ fn ends_wait(text: &[u8]) -> Option<(Step, usize)>
 fn common_words(text: &[u8]) -> Option<(Step, usize)>
     ensures { IfSome result (BeginsWith text.now) }
 {
+    if let Some(found) = acquire(text) {
+        return Some(found);
+    }
+    if let Some(found) = give(text) {
+        return Some(found);
+    }
     match text.first()? {
-        b'a' => acquire(text),
-        b'g' => give(text),
         b'l' => look(text),
         b't' => tries(text),
         b'e' | b'i' => ends_wait(text),

@@ -12,7 +12,7 @@ use crate::hooks::Hooks;
 use crate::seat::update;
 use crate::waiting::move_waiters;
 use deciding::entries::named;
-use deciding::room::{releases, reserves};
+use deciding::room::owed_behind;
 use history::entry::Entry;
 use history::fault::Fault;
 use history::step::{Answer, Step};
@@ -26,7 +26,7 @@ impl<H: Hooks + Drop> Core<H> {
     {
         let object = self.header.object;
         let was_owed = self.history.owed();
-        let owed = was_owed + reserves(object, entry) - releases(object, entry);
+        let owed = owed_behind(object, entry, was_owed);
         let needed = (owed + 1).saturating_sub(was_owed);
         match self.history.make_room(needed) {
             Err(fault) => return Err(fault),

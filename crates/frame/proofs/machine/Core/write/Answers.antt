@@ -1,13 +1,14 @@
-use Rattle.std.proofs.Common.{◌+◌, ◌-◌, ◌≤◌, length, Ok, Err, ◌∙◌, sym, subst, arith}
+use Rattle.std.proofs.Common.{refl, ◌+◌, ◌-◌, ◌≤◌, length, Ok, Err, ◌∙◌, sym, subst, arith}
 use Rattle.history.specs.Counts.{counts}
+use Rattle.history.specs.Room.{releases, reserves}
 use Rattle.history.specs.Start.{opening}
 use Rattle.frame.specs.Core.{CoreView, IsNext, IsAdded}
 use Rattle.frame.proofs.Moving.{movable, keeps_next}
 use Rattle.frame.proofs.Stepping.{next, needs, refused, fitted, added, is_added, stands_next, tabled, exclusive_next, shared_next}
 use Rattle.frame.proofs.machine.Core.write.Goals as goal
 
-pub overflow_sub-owed : goal.overflow_sub-owed
-overflow_sub-owed g c =
+pub owed_behind-owed-requires-clause-owed : goal.owed_behind-owed-requires-clause-owed
+owed_behind-owed-requires-clause-owed g c =
     let a = c.self.inside in
     let k = a.header in
     let h = a.history.entries in
@@ -17,9 +18,9 @@ overflow_sub-owed g c =
     let P : CoreView → Type 0 = λ w. IsNext w e in subst P (sym c.self.view_is) c.requires in
     let n = next k h e s.legal s.seated is in
     let was = c.owed-was_owed.result in
-    let more = c.reserves.result in
-    let less = c.releases.result in
-    let m = needs k h e was more less n (c.owed-was_owed.ensures.value ∙ s.owed) c.reserves.ensures.is c.releases.ensures in
+    let more = reserves k.object e in
+    let less = releases k.object e in
+    let m = needs k h e was more less n (c.owed-was_owed.ensures.value ∙ s.owed) refl refl in
     m.within
 
 pub returns-in-Err : goal.returns-in-Err
@@ -33,14 +34,14 @@ returns-in-Err g c =
     let P : CoreView → Type 0 = λ w. IsNext w e in subst P (sym c.self.view_is) c.requires in
     let n = next k h e s.legal s.seated is in
     let was = c.owed-was_owed.result in
-    let more = c.reserves.result in
-    let less = c.releases.result in
-    let m = needs k h e was more less n (c.owed-was_owed.ensures.value ∙ s.owed) c.reserves.ensures.is c.releases.ensures in
+    let more = reserves k.object e in
+    let less = releases k.object e in
+    let m = needs k h e was more less n (c.owed-was_owed.ensures.value ∙ s.owed) refl refl in
     let new = c.make_room.new.self in
     let P : CoreView → Type 0 = λ w. IsAdded w e (Err c.in-Err.fault) (record { header = k; entries = new.entries }) in
     subst P c.self.view_is
     (refused k e c.in-Err.fault a.history new was more less c.saturating_sub-needed.result m s.cap
-    c.owed-was_owed.ensures.value c.owed-was_owed.ensures.reserved c.saturating_sub-needed.ensures
+    c.owed-was_owed.ensures.value c.owed-was_owed.ensures.reserved (rw c.owed_behind-owed.ensures at c.saturating_sub-needed.ensures)
     c.in-Err.ensures.full c.in-Err.ensures.faults c.in-Err.ensures.reserved c.in-Err.ensures.err)
 
 pub change-requires : goal.change-requires
@@ -104,14 +105,14 @@ invariant_of-self-2 g c =
     let P : CoreView → Type 0 = λ w. IsNext w e in subst P (sym c.self.view_is) c.requires in
     let n = next k h e s.legal s.seated is in
     let was = c.owed-was_owed.result in
-    let more = c.reserves.result in
-    let less = c.releases.result in
-    let m = needs k h e was more less n (c.owed-was_owed.ensures.value ∙ s.owed) c.reserves.ensures.is c.releases.ensures in
+    let more = reserves k.object e in
+    let less = releases k.object e in
+    let m = needs k h e was more less n (c.owed-was_owed.ensures.value ∙ s.owed) refl refl in
     let mid = c.make_room.new.self in
     let new = c.add.new.self in
     let fits = fitted k e a.history mid was more less c.saturating_sub-needed.result m c.owed-was_owed.ensures.value
-    c.saturating_sub-needed.ensures c.in-Ok.ensures.within_cap c.in-Ok.ensures.same s.cap in
-    let grown = added a.history mid new e (was + more - less) c.in-Ok.ensures.same c.add.ensures in
+    (rw c.owed_behind-owed.ensures at c.saturating_sub-needed.ensures) c.in-Ok.ensures.within_cap c.in-Ok.ensures.same s.cap in
+    let grown = added a.history mid new e (was + more - less) c.in-Ok.ensures.same (rw c.owed_behind-owed.ensures at c.add.ensures) in
     let moved = c.move_waiters.ensures in
     let waiting = keeps_next k h e a.queue c.move_waiters.new.queue a.waiters c.move_waiters.new.waiters s.waiting
     moved.line moved.sleepers moved.joined moved.places moved.beds moved.conditions in
@@ -131,13 +132,13 @@ returns g c =
     let P : CoreView → Type 0 = λ w. IsNext w e in subst P (sym c.self.view_is) c.requires in
     let n = next k h e s.legal s.seated is in
     let was = c.owed-was_owed.result in
-    let more = c.reserves.result in
-    let less = c.releases.result in
-    let m = needs k h e was more less n (c.owed-was_owed.ensures.value ∙ s.owed) c.reserves.ensures.is c.releases.ensures in
+    let more = reserves k.object e in
+    let less = releases k.object e in
+    let m = needs k h e was more less n (c.owed-was_owed.ensures.value ∙ s.owed) refl refl in
     let mid = c.make_room.new.self in
     let new = c.add.new.self in
     let fits = fitted k e a.history mid was more less c.saturating_sub-needed.result m c.owed-was_owed.ensures.value
-    c.saturating_sub-needed.ensures c.in-Ok.ensures.within_cap c.in-Ok.ensures.same s.cap in
-    let grown = added a.history mid new e (was + more - less) c.in-Ok.ensures.same c.add.ensures in
+    (rw c.owed_behind-owed.ensures at c.saturating_sub-needed.ensures) c.in-Ok.ensures.within_cap c.in-Ok.ensures.same s.cap in
+    let grown = added a.history mid new e (was + more - less) c.in-Ok.ensures.same (rw c.owed_behind-owed.ensures at c.add.ensures) in
     let P : CoreView → Type 0 = λ w. IsAdded w e (Ok tt) (record { header = k; entries = new.entries }) in
     subst P c.self.view_is (is_added k e tt a.history new was more less m fits grown.0)

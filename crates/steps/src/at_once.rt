@@ -1,0 +1,47 @@
+//! Four bytes of a text as one number, so that they are compared at once.
+
+ghost use Rattle.std.specs.Prelude.{◌≡◌, ◌∷◌, ◌++◌, IfSome};
+ghost use Rattle.std.specs.Int.{w32, to_le_bytes};
+
+/// Four bytes, the first the lowest of the number.
+#[inline(always)]
+pub fn four(bytes: [u8; 4]) -> u32
+    ensures { to_le_bytes w32 result ≡ bytes }
+{
+    u32::from_le_bytes(bytes)
+}
+
+/// The first four bytes of a text, and what follows them.
+#[inline(always)]
+pub fn first_four(text: &[u8]) -> Option<(u32, &[u8])>
+    ensures { IfSome result (λ r. text.now ≡ to_le_bytes w32 r.0 ++ r.1.now) }
+{
+    match text {
+        [a, b, c, d, rest @ ..] => Some((four([*a, *b, *c, *d]), rest)),
+        _ => None,
+    }
+}
+
+/// What stands behind these four bytes. None where the text begins otherwise.
+#[inline(always)]
+pub fn behind_four(beginning: [u8; 4], text: &[u8]) -> Option<&[u8]>
+    ensures { IfSome result (λ rest. text.now ≡ beginning ++ rest.now) }
+{
+    let (bytes, rest) = first_four(text)?;
+    if bytes == four(beginning) {
+        Some(rest)
+    } else {
+        None
+    }
+}
+
+/// What stands behind this byte. None where the text begins otherwise.
+#[inline(always)]
+pub fn behind_byte(byte: u8, text: &[u8]) -> Option<&[u8]>
+    ensures { IfSome result (λ rest. text.now ≡ byte ∷ rest.now) }
+{
+    match text {
+        [first, rest @ ..] if *first == byte => Some(rest),
+        _ => None,
+    }
+}
