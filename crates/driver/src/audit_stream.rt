@@ -10,7 +10,7 @@ use crate::sink::Sink;
 use crate::source::Source;
 use crate::stream_fault::StreamFault;
 use crate::whole::{read_all, write_all};
-use audit::verdict::{Verdict, check};
+use audit::verdict::{Verdict, judge};
 use history_text::read_text;
 use line_text::fault::TextFault;
 use std::alloc::Global;
@@ -57,11 +57,14 @@ fn audit_of(alloc: Global, bytes: &[u8]) -> Result<Audit, StreamFault>
         Err(TextFault::OutOfMemory) => return Err(StreamFault::Memory),
         Err(fault) => return Err(StreamFault::Text(fault)),
     };
-    let Ok(verdict) = check(alloc, &header, &history) else {
+    let Ok(judgement) = judge(alloc, &header, &history) else {
         return Err(StreamFault::Memory);
     };
-    match audit_text(alloc, &header, &history, verdict) {
-        Ok(text) => Ok(Audit { verdict, text }),
+    match audit_text(alloc, &header, &history, &judgement) {
+        Ok(text) => Ok(Audit {
+            verdict: judgement.verdict(),
+            text,
+        }),
         Err(_) => Err(StreamFault::Memory),
     }
 }

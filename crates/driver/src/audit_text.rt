@@ -2,45 +2,35 @@
 
 ghost use Rattle.std.specs.Prelude.{◌≡◌, ◌++◌, IfOk, OnOk, length};
 ghost use Rattle.std.specs.Fmt.{signed_decimal};
-ghost use Rattle.audit.specs.declared.verdict.Verdict.TheVariants.{Legal};
+ghost use Rattle.audit.specs.Verdict.{IsJudgement, verdict_of};
 ghost use Rattle.history.specs.Entries.{ended_calls};
-ghost use Rattle.history.specs.Header.{IsInRange};
-ghost use Rattle.history.specs.Legal.{AreSeated, IsLegal};
-ghost use Rattle.history.specs.Start.{opening};
 ghost use Rattle.history.specs.Text.{ended};
 ghost use Rattle.driver.specs.AuditText.{audit_text, legal_text, number_line, totals_line};
 ghost use Rattle.driver.specs.AuditText.{holds_line, permits_line, count_line};
 
 use audit::sums::Totals;
-use audit::totals::totals;
-use audit::verdict::Verdict;
+use audit::verdict::Judgement;
 use history::entries::History;
 use history::header::{Header, Object};
 use history::number::put_number;
 use itoa::Buffer;
 use std::alloc::{AllocError, Global};
 
-/// What is said of a history with this verdict.
+/// What is said of a history with this judgement.
 pub fn audit_text(
     alloc: Global,
     header: &Header,
     history: &History,
-    verdict: Verdict,
+    judgement: &Judgement,
 ) -> Result<Vec<u8>, AllocError>
-    requires range { IsInRange header.now }
-    requires cap { history.now.cap ≡ header.now.cap }
-    requires seated { AreSeated (opening header.now) history.now.entries }
-    requires judged { verdict ≡ Legal → IsLegal (opening header.now) history.now.entries }
-    ensures { IfOk result (λ text. text.items ≡ audit_text header.now history.now.entries verdict) }
+    requires { IsJudgement header.now history.now.entries judgement.now }
+    ensures { IfOk result (λ text. text.items ≡ audit_text header.now history.now.entries (verdict_of judgement.now)) }
 {
-    match verdict {
-        Verdict::Legal => match totals(alloc, header, history) {
-            Ok(totals) => legal_text(alloc, header.object, history, &totals),
-            Err(_) => Err(AllocError),
-        },
-        Verdict::NotLegal(number) => {
+    match judgement {
+        Judgement::Legal(totals) => legal_text(alloc, header.object, history, totals),
+        Judgement::NotLegal(number) => {
             let mut out = Vec::new(alloc);
-            put_line(&mut out, b"not legal at ", number)?;
+            put_line(&mut out, b"not legal at ", *number)?;
             Ok(out)
         }
     }

@@ -1,7 +1,7 @@
 use Rattle.history.specs.Start.{opening}
 use Rattle.audit.specs.Ledger.{LedgerStand}
 use Rattle.audit.specs.Verdict.{front}
-use Rattle.audit.proofs.verdict.legal_front.Given as goal
+use Rattle.audit.proofs.legal_front.legal_front.Given as goal
 
 -- the ledger stands for the entries that were followed
 abbrev pub invariant-loop-number : goal.invariant-loop-number

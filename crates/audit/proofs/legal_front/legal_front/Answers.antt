@@ -7,7 +7,7 @@ use Rattle.audit.specs.Ledger.{LedgerStand}
 use Rattle.audit.specs.Verdict.{front}
 use Rattle.audit.proofs.Fronts.{has_seat_next, next_seat, front_next}
 use Rattle.audit.proofs.Limits.{one_signalled}
-use Rattle.audit.proofs.verdict.legal_front.Goals as goal
+use Rattle.audit.proofs.legal_front.legal_front.Goals as goal
 
 pub admits-requires : goal.admits-requires
 admits-requires c =
