@@ -6,9 +6,8 @@ ghost use Rattle.history.specs.EntryWords.{IsSpelt};
 ghost use Rattle.history.specs.Header.{IsInRange};
 ghost use Rattle.history_text.specs.HistoryText.{history_text, Reads};
 
-use crate::end_line::is_end;
 use crate::entry_line::{put_counts, put_entry};
-use crate::entry_reading::entry_of;
+use crate::next_entry::next_entry;
 use history::entries::History;
 use history::fault::Fault;
 use history::header::Header;
@@ -71,26 +70,20 @@ pub fn read_text(alloc: Global, text: &[u8]) -> Result<(Header, History), TextFa
         return Err(TextFault::BadHeader);
     };
     let mut history = History::open(alloc, header.cap);
+    let mut numbering = Numbering::new();
     let mut rest = after;
-    while let Some((line, after)) = first_line(rest) {
-        let count = history.len();
-        if is_end(line, count, history.calls()) {
-            if after.is_empty() {
-                return Ok((header, history));
-            }
-            return Err(TextFault::BadLine(count + 3));
-        }
-        if count >= u64::from(header.cap) {
-            return Err(TextFault::BadLine(count + 2));
-        }
-        let Some(entry) = entry_of(line, count, &header) else {
-            return Err(TextFault::BadLine(count + 2));
-        };
+    while let Some((entry, left)) = next_entry(
+        rest,
+        &header,
+        &mut numbering,
+        history.len(),
+        history.calls(),
+    )? {
         if history.make_room(1).is_err() {
             return Err(TextFault::OutOfMemory);
         }
         history.add(entry, 0);
-        rest = after;
+        rest = &rest[rest.len() - left..];
     }
-    Err(TextFault::CutShort)
+    Ok((header, history))
 }
