@@ -1,5 +1,5 @@
 -- The fronts of a history, and the first entry that isn't legal.
-use Rattle.std.specs.Prelude.{◌≡◌, ◌<◌, ◌≤◌, ℕ, ◌+◌, ◌-◌, List, length, drop}
+use Rattle.std.specs.Prelude.{◌≡◌, ◌<◌, ℕ, ◌+◌, ◌-◌, List, length, drop}
 use Rattle.audit.specs.declared.verdict.Judgement.{Judgement}
 use Rattle.audit.specs.declared.verdict.Judgement.TheVariants.{Legal, NotLegal}
 use Rattle.audit.specs.declared.verdict.Verdict.{Verdict}
@@ -19,12 +19,6 @@ pub record IsFirstWrong (k : Header) (h : List Entry) (no : ℕ) : Type 0 where
   pub stands : no < length h
   pub legal : IsLegal (opening k) (front no h)
   pub wrong : IsLegal (opening k) (front (no + 1) h) → ⊥
-
--- the longest front that is legal
-pub record IsLegalFront (k : Header) (h : List Entry) (n : ℕ) : Type 0 where
-  pub stands : n ≤ length h
-  pub legal : IsLegal (opening k) (front n h)
-  pub wrong : n < length h → IsLegal (opening k) (front (n + 1) h) → ⊥
 
 -- the history is legal and adds up to this, or this is its first entry that isn't legal
 abbrev pub IsJudgement : Header → List Entry → Judgement → Type 0

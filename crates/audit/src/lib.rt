@@ -2,6 +2,7 @@
 //!
 //! - [`judge`](verdict::judge) says that a history is legal and what it adds up to, or names its first entry
 //!   that isn't.
+//! - [`Auditor`](auditor::Auditor) judges entries as they come, and keeps none of them.
 //! - [`check`](verdict::check) gives the verdict alone, and [`totals`](totals::totals) the sums alone.
 //! - [`Ledger`](ledger::Ledger) is what is kept of the entries so far.
 //!
@@ -16,11 +17,11 @@
 #![tactic(auto)]
 
 mod admit;
+pub mod auditor;
 mod candidates;
 mod decide;
 mod holds;
 pub mod ledger;
-mod legal_front;
 mod permits;
 mod same;
 pub mod sums;

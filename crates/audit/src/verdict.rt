@@ -1,13 +1,13 @@
 //! The verdict on a history.
 
-ghost use Rattle.std.specs.Prelude.{◌≡◌, ◌↔◌, ℕ, IfOk, IsOkUnless};
+ghost use Rattle.std.specs.Prelude.{◌≡◌, ◌↔◌, ◌<◌, ◌^◌, ℕ, IfOk, IsOkUnless, length};
 ghost use Rattle.history.specs.Header.{IsInRange};
 ghost use Rattle.history.specs.Legal.{AreSeated, IsLegal};
 ghost use Rattle.history.specs.Start.{opening};
 ghost use Rattle.audit.specs.Verdict.{IsFirstWrong, IsJudgement, verdict_of};
 ghost use Rattle.audit.specs.declared.verdict.Verdict.TheVariants.{Legal, NotLegal};
 
-use crate::legal_front::legal_front;
+use crate::auditor::Auditor;
 use crate::sums::Totals;
 use history::entries::History;
 use history::fault::Fault;
@@ -57,14 +57,34 @@ pub fn judge(alloc: Global, header: &Header, history: &History) -> Result<Judgem
     ensures judged { IfOk result (IsJudgement header.now history.now.entries) }
     ensures memory { IsOkUnless result Fault.OutOfMemory }
 {
-    let front = match legal_front(alloc, header, history) {
+    let mut auditor = match Auditor::open(alloc, *header) {
         Err(fault) => return Err(fault),
-        Ok(front) => front,
+        Ok(auditor) => auditor,
     };
-    if front.length < history.len() {
-        return Ok(Judgement::NotLegal(front.length));
+    for number in 0..length_of(header, history) {
+        let entry = match history.get(number) {
+            None => unreachable!(),
+            Some(entry) => entry,
+        };
+        match auditor.follow(entry) {
+            Err(fault) => return Err(fault),
+            Ok(()) => {}
+        }
     }
-    Ok(Judgement::Legal(front.ledger.add_up()))
+    Ok(auditor.judgement())
+}
+
+/// The number of entries, for which a history has places up to its cap.
+fn length_of(header: &Header, history: &History) -> u64
+    requires range { IsInRange header.now }
+    requires cap { history.now.cap ≡ header.now.cap }
+    ensures is { result ≡ length history.now.entries }
+    ensures few { result < 2 ^ 32 }
+{
+    let _cap = header.cap;
+    let _owed = history.owed();
+    let _places = history.places();
+    history.len()
 }
 
 /// The verdict on a history, as [`judge`] finds it.

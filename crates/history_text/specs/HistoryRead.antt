@@ -1,5 +1,6 @@
 -- A history text under way: what was read of it, and what the next line says.
-use Rattle.std.specs.Prelude.{◌≡◌, ℕ, ◌<◌, List, ◌++◌, length, reverse, Option, Some, None, Result, Ok, Err}
+use Rattle.std.specs.Prelude.{◌≡◌, ℕ, ◌<◌, List, [], ◌++◌, length, reverse, Option, Some, None, Result, Ok, Err}
+use Rattle.std.specs.Borrow.{Bor}
 use Rattle.history.specs.declared.entry.Entry.{Entry}
 use Rattle.history.specs.declared.header.Header.{Header}
 use Rattle.history.specs.Entries.{ended_calls}
@@ -47,3 +48,8 @@ IsLineOf r (Err fault) = HasFault r fault
 abbrev pub IsLineBehind : Header → ℕ → ℕ → List ℕ → Result (Option (Entry × ℕ)) TextFault → Type 0
 IsLineBehind header count calls rest result =
     (text : List ℕ) → IsLineOf (record { text = text; header = header; count = count; calls = calls; rest = rest }) result
+
+-- this is the header of the text, and this follows it
+abbrev pub IsHeaderOf : List ℕ → Header × Bor (List ℕ) → Type 0
+IsHeaderOf text found =
+    AreRead (record { text = text; header = found.0; count = 0; calls = 0; rest = found.1.now }) []

@@ -7,14 +7,12 @@ ghost use Rattle.history.specs.Header.{IsInRange};
 ghost use Rattle.history_text.specs.HistoryText.{history_text, Reads};
 
 use crate::entry_line::{put_counts, put_entry};
-use crate::next_entry::next_entry;
+use crate::next_entry::{header_of, next_entry};
 use history::entries::History;
 use history::fault::Fault;
 use history::header::Header;
 use history::number::Numbering;
-use history::text::first_line;
 use line_text::fault::TextFault;
-use line_text::header_line::header_behind;
 use std::alloc::{AllocError, Global};
 
 /// More than the length of most entries' lines: the text is made for lines of this length.
@@ -63,15 +61,9 @@ fn written(alloc: Global, header: &Header, history: &History) -> Result<Vec<u8>,
 pub fn read_text(alloc: Global, text: &[u8]) -> Result<(Header, History), TextFault>
     ensures { Reads text.now result }
 {
-    let Some((first, after)) = first_line(text) else {
-        return Err(TextFault::CutShort);
-    };
-    let Some(header) = header_behind(b"aqs-history 1 ", first) else {
-        return Err(TextFault::BadHeader);
-    };
+    let (header, mut rest) = header_of(text)?;
     let mut history = History::open(alloc, header.cap);
     let mut numbering = Numbering::new();
-    let mut rest = after;
     while let Some((entry, left)) = next_entry(
         rest,
         &header,

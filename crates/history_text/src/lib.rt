@@ -13,7 +13,7 @@ mod entry_reading;
 pub mod fitting;
 pub mod history_text;
 mod law;
-mod next_entry;
+pub mod next_entry;
 
 pub use crate::fitting::fits;
 pub use crate::history_text::{read_text, write_text};

@@ -1,10 +1,12 @@
 //! The lines of a history text, one after another.
 
-ghost use Rattle.std.specs.Prelude.{◌≡◌, ◌+◌, ◌<◌, ◌^◌, IsErrOf};
+ghost use Rattle.std.specs.Prelude.{◌≡◌, ◌+◌, ◌<◌, ◌≤◌, ◌^◌, Err, length, IfOk, IfErr, IsErrOf};
 ghost use Rattle.history.specs.Header.{IsInRange};
 ghost use Rattle.history.specs.Text.{IsLine};
+ghost use Rattle.line_text.specs.Reading.{IsReading};
 ghost use Rattle.line_text.specs.declared.fault.TextFault.TheVariants.{CutShort};
-ghost use Rattle.history_text.specs.HistoryRead.{IsLineBehind};
+ghost use Rattle.history_text.specs.HistoryRead.{IsHeaderOf, IsLineBehind};
+ghost use Rattle.history_text.specs.HistoryText.{history_form};
 
 use crate::common_entry::common_entry;
 use crate::end_line::is_end;
@@ -14,6 +16,24 @@ use history::header::Header;
 use history::number::Numbering;
 use history::text::first_line;
 use line_text::fault::TextFault;
+use line_text::header_line::header_behind;
+
+/// The header of a text, and what follows its line.
+pub fn header_of(text: &[u8]) -> Result<(Header, &[u8]), TextFault>
+    ensures ok { IfOk result (IsHeaderOf text.now) }
+    ensures err { IfErr result (λ fault. IsReading history_form text.now (Err fault)) }
+    ensures cut { IsErrOf result CutShort → IsLine text.now }
+    ensures shorter { IfOk result (λ r. length r.1.now ≤ length text.now) }
+    ensures range { IfOk result (λ r. IsInRange r.0) }
+{
+    let Some((first, after)) = first_line(text) else {
+        return Err(TextFault::CutShort);
+    };
+    match header_behind(b"aqs-history 1 ", first) {
+        Some(header) => Ok((header, after)),
+        None => Err(TextFault::BadHeader),
+    }
+}
 
 /// The next line, word by word.
 #[inline(never)]

@@ -1,5 +1,5 @@
 use Rattle.std.proofs.Common.{arith}
-use Rattle.audit.proofs.legal_front.length_of.Goals as goal
+use Rattle.audit.proofs.verdict.length_of.Goals as goal
 
 pub returns-clause-few : goal.returns-clause-few
 returns-clause-few c =
