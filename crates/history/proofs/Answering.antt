@@ -15,7 +15,7 @@ use Rattle.history.specs.declared.step.Step.{Step}
 use Rattle.history.specs.declared.step.Step.TheVariants.{Look, Expire, Interrupt, Await, Signal, SignalAll}
 use Rattle.history.specs.Answers.{answer, answer_by, results}
 use Rattle.history.specs.Could.{is_seat}
-use Rattle.history.specs.Counts.{Counts, counts, owner, held}
+use Rattle.history.specs.Counts.{Counts, counts, owner}
 use Rattle.history.specs.Legal.{IsLegal}
 use Rattle.history.specs.Naming.{named, ready}
 use Rattle.history.specs.Phase.{Phase, Idle, InLine, Sleeping, phase}

@@ -1,5 +1,5 @@
 -- In a legal history a seat waits in one place, and who sleeps or comes back saved its holds.
-use Rattle.std.proofs.Common.{◌≡◌, ◌≢◌, ◌⊎◌, inl, inr, ⊎_elim, ℕ, zero, suc, ◌+◌, ◌<◌, ◌≤◌, Bool, true, false, not, ◌&&◌, ◌||◌, cond, eqb, List, [], ◌∷◌, ◌++◌, map, take, Some, None, refl, ap, ◌∙◌, sym, subst, arith}
+use Rattle.std.proofs.Common.{◌≡◌, ◌≢◌, ◌⊎◌, inl, inr, ⊎_elim, ℕ, zero, suc, ◌+◌, ◌<◌, ◌≤◌, Bool, true, false, not, ◌&&◌, ◌||◌, cond, eqb, List, [], ◌∷◌, ◌++◌, map, take, Some, refl, ap, ◌∙◌, sym, subst, arith}
 use Rattle.std.specs.List.{filter, AllByRecursion}
 use Rattle.std.proofs.lemmas.Bool.{cases_eq, eqb-true, eq-eqb, ne_eqb, and_parts, or_right}
 use Rattle.history.specs.declared.arrival.Arrival.{Arrival}
@@ -13,7 +13,7 @@ use Rattle.history.specs.declared.header.Header.{Header}
 use Rattle.history.specs.declared.header.Object.{Object}
 use Rattle.history.specs.declared.header.Object.TheVariants.{Lock, ReadWrite, Semaphore, Latch}
 use Rattle.history.specs.Could.{could}
-use Rattle.history.specs.Counts.{counts, owner, held, holds_after, total}
+use Rattle.history.specs.Counts.{counts, held, holds_after, total}
 use Rattle.history.specs.Entry.{ends_arrival, same_mode}
 use Rattle.history.specs.Legal.{IsLegal}
 use Rattle.history.specs.Line.{line, arrivals_by, place_of, coming_back}
@@ -21,7 +21,7 @@ use Rattle.history.specs.Object.{is_lock, is_semaphore, in_holds}
 use Rattle.history.specs.Phase.{Idle, Sleeping, phase}
 use Rattle.history.specs.Sleepers.{sleepers, sleepers_after, sleeps_below, sleep_after, last_sleep, has, without}
 use Rattle.history.specs.Start.{Start, Sleep, opening}
-use Rattle.history.specs.Steps.{lapse, back}
+use Rattle.history.specs.Steps.{lapse}
 use Rattle.history.specs.Waiting.{times, seats_of, asleep, waiting, IsOneWait}
 use Rattle.history.proofs.Entering.{Known, KnownBy, known}
 use Rattle.history.proofs.LineLemmas.{line_after, stays}

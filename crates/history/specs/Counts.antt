@@ -2,12 +2,12 @@
 --
 -- A history is the list of its entries, the newest first: `e ∷ h` is the entry e behind the front h, and
 -- the number of e, counted from 0, is the length of h.
-use Rattle.std.specs.Prelude.{ℕ, zero, suc, ◌+◌, ◌-◌, ◌==◌, nat_lt, Bool, true, false, ◌&&◌, if◌then◌else◌, List, [], ◌∷◌, Option, Some, None, ℤ, pos, ◌+ℤ◌, ◌-ℤ◌}
+use Rattle.std.specs.Prelude.{ℕ, zero, suc, ◌+◌, ◌-◌, ◌==◌, nat_lt, ◌&&◌, if◌then◌else◌, List, [], ◌∷◌, Option, Some, None, ℤ, pos, ◌+ℤ◌, ◌-ℤ◌}
 use Rattle.history.specs.declared.entry.Entry.{Entry}
 use Rattle.history.specs.declared.entry.Mode.{Mode}
 use Rattle.history.specs.declared.entry.Mode.TheVariants.{X, S}
 use Rattle.history.specs.declared.entry.Word.{Word}
-use Rattle.history.specs.declared.entry.Word.TheVariants.{Got, TryGot, Queued, Granted, Missed, Left, Gave, Refused, Await, Lapse, Signal, SignalAll, Back, Counted, Drained}
+use Rattle.history.specs.declared.entry.Word.TheVariants.{Got, TryGot, Granted, Gave, Await, Back, Counted, Drained}
 use Rattle.history.specs.declared.header.Object.{Object}
 use Rattle.history.specs.Entry.{same_mode}
 use Rattle.history.specs.Object.{in_holds, is_semaphore, opening_count}

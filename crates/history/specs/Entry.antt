@@ -3,7 +3,7 @@ use Rattle.std.specs.Prelude.{Bool, true, false}
 use Rattle.history.specs.declared.entry.Mode.{Mode}
 use Rattle.history.specs.declared.entry.Mode.TheVariants.{X, S}
 use Rattle.history.specs.declared.entry.Word.{Word}
-use Rattle.history.specs.declared.entry.Word.TheVariants.{Got, TryGot, Queued, Granted, Missed, Left, Gave, Refused, Await, Lapse, Signal, SignalAll, Back, Counted, Drained}
+use Rattle.history.specs.declared.entry.Word.TheVariants.{Queued, Granted, Left, Await, Lapse, Back}
 
 abbrev pub is_exclusive : Mode → Bool
 is_exclusive X = true

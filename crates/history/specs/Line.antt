@@ -3,9 +3,9 @@ use Rattle.std.specs.Prelude.{ℕ, ◌==◌, nat_le, Bool, true, false, ◌&&◌
 use Rattle.history.specs.declared.arrival.Arrival.{Arrival}
 use Rattle.history.specs.declared.entry.Entry.{Entry}
 use Rattle.history.specs.declared.entry.Mode.{Mode}
-use Rattle.history.specs.declared.entry.Mode.TheVariants.{X, S}
+use Rattle.history.specs.declared.entry.Mode.TheVariants.{X}
 use Rattle.history.specs.declared.entry.Word.{Word}
-use Rattle.history.specs.declared.entry.Word.TheVariants.{Got, TryGot, Queued, Granted, Missed, Left, Gave, Refused, Await, Lapse, Signal, SignalAll, Back, Counted, Drained}
+use Rattle.history.specs.declared.entry.Word.TheVariants.{Queued, Lapse, Signal, SignalAll}
 use Rattle.history.specs.Entry.{ends_arrival}
 use Rattle.history.specs.Sleepers.{sleepers}
 use Rattle.history.specs.Start.{Start}

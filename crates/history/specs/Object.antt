@@ -1,5 +1,5 @@
 -- What the four objects have, and with what they open.
-use Rattle.std.specs.Prelude.{ℕ, Bool, true, false, not, ℤ, pos}
+use Rattle.std.specs.Prelude.{ℕ, Bool, true, false, ℤ, pos}
 use Rattle.history.specs.declared.header.Object.{Object}
 use Rattle.history.specs.declared.header.Object.TheVariants.{Lock, ReadWrite, Semaphore, Latch}
 use Rattle.history.specs.declared.header.Policy.{Policy}

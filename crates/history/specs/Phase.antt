@@ -3,7 +3,7 @@ use Rattle.std.specs.Prelude.{ℕ, Bool, true, false, not, List, Option, Some, N
 use Rattle.history.specs.declared.arrival.Arrival.{Arrival}
 use Rattle.history.specs.declared.entry.Entry.{Entry}
 use Rattle.history.specs.declared.step.Step.{Step}
-use Rattle.history.specs.declared.step.Step.TheVariants.{Acquire, Try, TryFair, EntryInterrupt, Give, Look, Expire, Interrupt, Await, Signal, SignalAll, Drain}
+use Rattle.history.specs.declared.step.Step.TheVariants.{Look, Expire, Interrupt}
 use Rattle.history.specs.Line.{line, place_of}
 use Rattle.history.specs.Sleepers.{sleeps_below}
 use Rattle.history.specs.Start.{Start}
