@@ -1,5 +1,5 @@
 -- The fronts of a history, entry by entry.
-use Rattle.std.proofs.Common.{◌≡◌, ℕ, zero, suc, ◌<◌, ◌≤◌, ◌+◌, ◌-◌, arith, Bool, true, false, ltb, ltb-true, ltb-false, List, [], ◌∷◌, length, drop, reverse, get_or, refl, ap, ◌∙◌, sym, subst, length-drop, drop-cons, Some}
+use Rattle.std.proofs.Common.{◌≡◌, ℕ, zero, suc, ◌<◌, ◌≤◌, ◌+◌, ◌-◌, arith, List, [], ◌∷◌, length, drop, reverse, get_or, ap, ◌∙◌, sym, subst, length-drop, drop-cons, Some}
 use Rattle.std.proofs.lemmas.Option.{get_or_from_slice_get}
 use Rattle.std.proofs.lemmas.List.{get_or-reverse}
 use Rattle.std.specs.Prelude.{slice_get}
@@ -8,8 +8,8 @@ use Rattle.history.specs.declared.header.Header.{Header}
 use Rattle.history.specs.Legal.{IsLegal, AreSeated}
 use Rattle.history.specs.Start.{Start, opening}
 use Rattle.audit.specs.declared.ledger.Ledger.{Ledger}
-use Rattle.audit.specs.Ledger.{HasSeat, LedgerStand}
-use Rattle.audit.specs.Verdict.{front, IsFirstWrong, IsLegalFront}
+use Rattle.audit.specs.Ledger.{HasSeat, IsNext, LedgerStand}
+use Rattle.audit.specs.Verdict.{front, IsFirstWrong}
 
 pub front_all : (h : List Entry) (n : ℕ) → length h ≤ n → front n h ≡ h
 front_all h n l = let z : length h - n ≡ 0 = omega arith in ap (λ m. drop m h) z
@@ -79,34 +79,40 @@ has_seat_next k h n end e l st seated less is few q =
     (next_seat (opening k) h n e seated (omega (arith, less, is)) q)
     (omega (arith, long, less, few))
 
--- What the longest legal front says of the whole.
-pub not_legal : (k : Header) (h : List Entry) (n : ℕ) → n < length h → IsLegalFront k h n →
-    IsLegal (opening k) h → ⊥
-not_legal k h n l v legal = v.wrong l (legal_drop (opening k) (length h - (n + 1)) h legal)
+-- one more entry, behind those that were followed
+front_more : (h : List Entry) (e : Entry) (n : ℕ) → n ≤ length h → front n (e ∷ h) ≡ front n h
+front_more h e n le =
+    let one : length (e ∷ h) - n ≡ suc (length h - n) = omega (arith, le) in
+    ap (λ i. drop i (e ∷ h)) one
 
-pub all_legal : (k : Header) (h : List Entry) (n : ℕ) → length h ≤ n → IsLegalFront k h n →
-    IsLegal (opening k) h
-all_legal k h n l v =
+front_same : (h : List Entry) → front (length h) h ≡ h
+front_same h = front_all h (length h) (omega arith)
+
+-- it is the first that isn't legal
+pub wrong_now : (k : Header) (h : List Entry) (e : Entry) → IsLegal (opening k) h → (IsNext (opening k) h e → ⊥) →
+    IsFirstWrong k (e ∷ h) (length h) × (IsLegal (opening k) (e ∷ h) → ⊥)
+wrong_now k h e legal wrong =
     let L : List Entry → Type 0 = λ x. IsLegal (opening k) x in
-    subst L (front_all h n l) v.legal
+    let all : front (length h + 1) (e ∷ h) ≡ e ∷ h = front_all (e ∷ h) (length h + 1) (omega arith) in (
+      record {
+        stands = omega arith;
+        legal = subst L (sym (front_more h e (length h) (omega arith) ∙ front_same h)) legal;
+        wrong = λ l. wrong (subst L all l).0;
+      },
+      λ l. wrong l.0,
+    )
 
-pub first_wrong : (k : Header) (h : List Entry) (n : ℕ) → n < length h → IsLegalFront k h n →
-    IsFirstWrong k h n
-first_wrong k h n l v = record { stands = l; legal = v.legal; wrong = v.wrong l }
-
--- the longest legal front of a legal history is all of it
-pub reaches_end : (k : Header) (h : List Entry) (n : ℕ) → IsLegal (opening k) h → IsLegalFront k h n →
-    length h ≤ n
-reaches_end k h n legal v = by (ltb n (length h)) refl
-  where
-    by : (b : Bool) → ltb n (length h) ≡ b → length h ≤ n
-    by true t = absurd (not_legal k h n (ltb-true n (length h) t) v legal)
-    by false t = ltb-false n (length h) t
-
--- so the ledger behind it stands for all of it
-pub stands_for_all : (k : Header) (h : List Entry) (n : ℕ) (l : Ledger) → IsLegal (opening k) h →
-    IsLegalFront k h n →
-    LedgerStand (opening k) (front n h) l → LedgerStand (opening k) h l
-stands_for_all k h n l legal v st =
-    let L : List Entry → Type 0 = λ x. LedgerStand (opening k) x l in
-    subst L (front_all h n (reaches_end k h n legal v)) st
+-- or the first one stays the first
+pub wrong_still : (k : Header) (h : List Entry) (e : Entry) (number : ℕ) → IsFirstWrong k h number → (IsLegal (opening k) h → ⊥) →
+    IsFirstWrong k (e ∷ h) number × (IsLegal (opening k) (e ∷ h) → ⊥)
+wrong_still k h e number first wrong =
+    let L : List Entry → Type 0 = λ x. IsLegal (opening k) x in
+    let before : number ≤ length h = omega (arith, first.stands) in
+    let with_it : number + 1 ≤ length h = omega (arith, first.stands) in (
+      record {
+        stands = omega (arith, first.stands);
+        legal = subst L (sym (front_more h e number before)) first.legal;
+        wrong = λ l. first.wrong (subst L (front_more h e (number + 1) with_it) l);
+      },
+      λ l. wrong l.1,
+    )

@@ -4,5 +4,6 @@ pub mod Permits
 pub mod Ledger
 pub mod Candidates
 pub mod Verdict
+pub mod Auditor
 pub mod Totals
 pub mod Same

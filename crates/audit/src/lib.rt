@@ -1,8 +1,10 @@
 //! Judges a history: whether each entry is the one that a step of its seat makes, and what it adds up to.
 //!
-//! - [`check`](verdict::check) says that a history is legal, or names its first entry that isn't.
-//! - [`totals`](totals::totals) adds a legal history up.
-//! - [`Ledger`](ledger::Ledger) is what both keep of the entries so far.
+//! - [`judge`](verdict::judge) says that a history is legal and what it adds up to, or names its first entry
+//!   that isn't.
+//! - [`Auditor`](auditor::Auditor) judges entries as they come, and keeps none of them.
+//! - [`check`](verdict::check) gives the verdict alone, and [`totals`](totals::totals) the sums alone.
+//! - [`Ledger`](ledger::Ledger) is what is kept of the entries so far.
 //!
 //! The audit stands on `deciding` and `history` alone. It keeps counts and lists of its own, entry by entry,
 //! and asks of each entry whether some step of its seat makes it: so it judges histories of any source. A
@@ -15,6 +17,7 @@
 #![tactic(auto)]
 
 mod admit;
+pub mod auditor;
 mod candidates;
 mod decide;
 mod holds;

@@ -7,7 +7,7 @@ ghost use Rattle.history.specs.Start.{opening};
 ghost use Rattle.audit.specs.Totals.{totals_of};
 
 use crate::sums::Totals;
-use crate::verdict::legal_front;
+use crate::verdict::{Judgement, judge};
 use history::entries::History;
 use history::fault::Fault;
 use history::header::Header;
@@ -24,8 +24,9 @@ pub fn totals(alloc: Global, header: &Header, history: &History) -> Result<Total
     ensures are { IfOk result (λ t. t ≡ totals_of (opening header.now) history.now.entries) }
     ensures memory { IsOkUnless result Fault.OutOfMemory }
 {
-    match legal_front(alloc, header, history) {
+    match judge(alloc, header, history) {
+        Ok(Judgement::Legal(totals)) => Ok(totals),
+        Ok(Judgement::NotLegal(_)) => unreachable!(),
         Err(fault) => Err(fault),
-        Ok(front) => Ok(front.ledger.add_up()),
     }
 }

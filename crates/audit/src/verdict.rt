@@ -1,14 +1,14 @@
 //! The verdict on a history.
 
-ghost use Rattle.std.specs.Prelude.{◌≡◌, ◌↔◌, ◌<◌, ◌≤◌, ◌^◌, ℕ, IfOk, IsOkUnless, length};
+ghost use Rattle.std.specs.Prelude.{◌≡◌, ◌↔◌, ◌<◌, ◌^◌, ℕ, IfOk, IsOkUnless, length};
 ghost use Rattle.history.specs.Header.{IsInRange};
 ghost use Rattle.history.specs.Legal.{AreSeated, IsLegal};
 ghost use Rattle.history.specs.Start.{opening};
-ghost use Rattle.audit.specs.Ledger.{LedgerStand};
-ghost use Rattle.audit.specs.Verdict.{front, IsFirstWrong, IsLegalFront};
+ghost use Rattle.audit.specs.Verdict.{IsFirstWrong, IsJudgement, verdict_of};
 ghost use Rattle.audit.specs.declared.verdict.Verdict.TheVariants.{Legal, NotLegal};
 
-use crate::ledger::Ledger;
+use crate::auditor::Auditor;
+use crate::sums::Totals;
 use history::entries::History;
 use history::fault::Fault;
 use history::header::Header;
@@ -23,76 +23,55 @@ pub enum Verdict {
     NotLegal(u64),
 }
 
-/// The longest front of a history that is legal.
-#[derive(Drop)]
-pub(crate) struct Front {
-    pub(crate) ledger: Ledger,
-    pub(crate) length: u64,
+/// A verdict, and of a legal history what it adds up to.
+#[derive(Clone, Copy, Debug, Drop, PartialEq, Eq)]
+pub enum Judgement {
+    Legal(Totals),
+    NotLegal(u64),
 }
 
-/// Judges a history of the header's object, whatever its source.
-///
-/// It is legal exactly where each entry is the one that some step of its seat makes behind the entries before
-/// it. Room and whom an entry names are no part of that. What follows the first wrong entry isn't looked at.
-///
-/// The header is in range, the history's cap is the header's, and each entry is of one of its seats. Where
-/// memory for what it counts is refused the answer is `OutOfMemory`.
-pub fn check(alloc: Global, header: &Header, history: &History) -> Result<Verdict, Fault>
-    requires range { IsInRange header.now }
-    requires cap { history.now.cap ≡ header.now.cap }
-    requires seated { AreSeated (opening header.now) history.now.entries }
-    ensures legal { IfOk result (λ v. (v ≡ Legal) ↔ IsLegal (opening header.now) history.now.entries) }
-    ensures first { IfOk result (λ v. (no : ℕ) → v ≡ NotLegal no →
-        IsFirstWrong header.now history.now.entries no) }
-    ensures memory { IsOkUnless result Fault.OutOfMemory }
-{
-    let front = match legal_front(alloc, header, history) {
-        Err(fault) => return Err(fault),
-        Ok(front) => front,
-    };
-    if front.length < history.len() {
-        Ok(Verdict::NotLegal(front.length))
-    } else {
-        Ok(Verdict::Legal)
+impl Judgement {
+    /// The verdict alone.
+    pub fn verdict(&self) -> Verdict
+        ensures { result ≡ verdict_of self.now }
+    {
+        match self {
+            Judgement::Legal(_) => Verdict::Legal,
+            Judgement::NotLegal(number) => Verdict::NotLegal(*number),
+        }
     }
 }
 
-/// Follows the entries, up to the first that no step makes.
-pub(crate) fn legal_front(alloc: Global, header: &Header, history: &History) -> Result<Front, Fault>
+/// Judges a history of the header's object, whatever its source, and adds it up if it is legal.
+///
+/// It is legal exactly where each entry is the one that some step of its seat makes behind the entries before
+/// it. Room and whom an entry names are no part of that. What follows the first wrong entry isn't looked at,
+/// and each entry before it is looked at once.
+///
+/// The header is in range, the history's cap is the header's, and each entry is of one of its seats. Where
+/// memory for what it counts is refused the answer is `OutOfMemory`.
+pub fn judge(alloc: Global, header: &Header, history: &History) -> Result<Judgement, Fault>
     requires range { IsInRange header.now }
     requires cap { history.now.cap ≡ header.now.cap }
     requires seated { AreSeated (opening header.now) history.now.entries }
-    ensures stand { IfOk result (λ f. LedgerStand (opening header.now) (front f.length history.now.entries)
-        f.ledger) }
-    ensures longest { IfOk result (λ f. IsLegalFront header.now history.now.entries f.length) }
-    ensures few { IfOk result (λ f. f.length < 2 ^ 32) }
+    ensures judged { IfOk result (IsJudgement header.now history.now.entries) }
     ensures memory { IsOkUnless result Fault.OutOfMemory }
 {
-    let mut ledger = match Ledger::open(alloc, *header) {
+    let mut auditor = match Auditor::open(alloc, *header) {
         Err(fault) => return Err(fault),
-        Ok(ledger) => ledger,
+        Ok(auditor) => auditor,
     };
-    let end = length_of(header, history);
-    for number in 0..end {
+    for number in 0..length_of(header, history) {
         let entry = match history.get(number) {
             None => unreachable!(),
             Some(entry) => entry,
         };
-        if !ledger.admits(entry) {
-            return Ok(Front {
-                ledger,
-                length: number,
-            });
-        }
-        match ledger.note(entry) {
+        match auditor.follow(entry) {
             Err(fault) => return Err(fault),
             Ok(()) => {}
         }
     }
-    Ok(Front {
-        ledger,
-        length: end,
-    })
+    Ok(auditor.judgement())
 }
 
 /// The number of entries, for which a history has places up to its cap.
@@ -106,4 +85,20 @@ fn length_of(header: &Header, history: &History) -> u64
     let _owed = history.owed();
     let _places = history.places();
     history.len()
+}
+
+/// The verdict on a history, as [`judge`] finds it.
+pub fn check(alloc: Global, header: &Header, history: &History) -> Result<Verdict, Fault>
+    requires range { IsInRange header.now }
+    requires cap { history.now.cap ≡ header.now.cap }
+    requires seated { AreSeated (opening header.now) history.now.entries }
+    ensures legal { IfOk result (λ v. (v ≡ Legal) ↔ IsLegal (opening header.now) history.now.entries) }
+    ensures first { IfOk result (λ v. (no : ℕ) → v ≡ NotLegal no →
+        IsFirstWrong header.now history.now.entries no) }
+    ensures memory { IsOkUnless result Fault.OutOfMemory }
+{
+    match judge(alloc, header, history) {
+        Ok(judgement) => Ok(judgement.verdict()),
+        Err(fault) => Err(fault),
+    }
 }

@@ -1,14 +1,13 @@
 -- The history that a text spells, and the verdict on it.
-use Rattle.std.proofs.Common.{◌≡◌, ℕ, ◌+◌, ◌<◌, List, [], ◌∷◌, reverse, refl, subst}
-use Rattle.std.specs.Prelude.{◌↔◌}
+use Rattle.std.proofs.Common.{ℕ, ◌+◌, ◌<◌, List, [], ◌∷◌, reverse, subst}
 use Rattle.std.specs.List.{AllByRecursion}
 use Rattle.std.proofs.lemmas.List.{reverse-reverse}
-use Rattle.audit.specs.declared.verdict.Verdict.{Verdict}
-use Rattle.audit.specs.declared.verdict.Verdict.TheVariants.{Legal, NotLegal}
-use Rattle.audit.specs.Verdict.{IsFirstWrong}
+use Rattle.audit.specs.declared.verdict.Judgement.{Judgement}
+use Rattle.audit.specs.declared.verdict.Judgement.TheVariants.{Legal, NotLegal}
+use Rattle.audit.specs.Verdict.{IsJudgement, verdict_of}
 use Rattle.history.specs.declared.entry.Entry.{Entry}
 use Rattle.history.specs.declared.header.Header.{Header}
-use Rattle.history.specs.Legal.{AreSeated, IsLegal}
+use Rattle.history.specs.Legal.{AreSeated}
 use Rattle.history.specs.Start.{opening}
 use Rattle.history_text.proofs.Lists.{each-reverse}
 use Rattle.history_text.specs.HistoryText.{history_form}
@@ -32,6 +31,6 @@ seated text h entries is =
     let each = each-reverse (IsSeated h.seats) (reverse entries) (items_seated h 0 (reverse entries) is.begins.each) in
     are_seated h entries (subst (AllByRecursion (IsSeated h.seats)) (reverse-reverse entries) each)
 
-pub verdict_is : (h : Header) (entries : List Entry) (v : Verdict) → ((v ≡ Legal) ↔ IsLegal (opening h) entries) → ((no : ℕ) → v ≡ NotLegal no → IsFirstWrong h entries no) → IsVerdict h entries v
-verdict_is h entries Legal legal first = legal.0 refl
-verdict_is h entries (NotLegal number) legal first = first number refl
+pub verdict_is : (h : Header) (entries : List Entry) (j : Judgement) → IsJudgement h entries j → IsVerdict h entries (verdict_of j)
+verdict_is h entries (Legal totals) judged = judged.0
+verdict_is h entries (NotLegal number) judged = judged.0

@@ -1,16 +1,19 @@
 -- What is written for a history text.
-use Rattle.std.specs.Prelude.{ℕ, List, Option, Result, reverse}
+use Rattle.std.specs.Prelude.{◌≡◌, ℕ, List, Option, Result, length, reverse}
 use Rattle.audit.specs.declared.verdict.Verdict.{Verdict}
 use Rattle.audit.specs.declared.verdict.Verdict.TheVariants.{Legal, NotLegal}
-use Rattle.audit.specs.Verdict.{IsFirstWrong}
+use Rattle.audit.specs.declared.verdict.Judgement.{Judgement}
+use Rattle.audit.specs.Verdict.{IsFirstWrong, IsJudgement}
 use Rattle.history.specs.declared.entry.Entry.{Entry}
 use Rattle.history.specs.declared.header.Header.{Header}
+use Rattle.history.specs.Entries.{ended_calls}
 use Rattle.history.specs.Legal.{IsLegal}
 use Rattle.history.specs.Start.{opening}
 use Rattle.history_text.specs.HistoryText.{history_form}
 use Rattle.line_text.specs.Reading.{IsText}
 use Rattle.driver.specs.declared.stream_fault.StreamFault.{StreamFault}
 use Rattle.driver.specs.AuditText.{audit_text}
+use Rattle.driver.specs.HistoryReader.{EntriesHeld, EntriesRead, OfText}
 use Rattle.driver.specs.Streams.{Streams}
 
 -- the history is legal, or this is its first entry that isn't
@@ -26,6 +29,15 @@ pub record Audited (text : List ℕ) (verdict : Verdict) (Written : List ℕ →
   pub is : IsText history_form text header (reverse entries)
   pub judged : IsVerdict header entries verdict
   pub written : Written (audit_text header entries verdict)
+
+-- The text is a history text of this header, whose entries were judged so; the reader has counted them.
+pub record IsJudged (p : EntriesRead) (end : EntriesHeld) (judgement : Judgement) : Type 0 where
+  pub entries : List Entry
+  pub is : OfText p (λ text. IsText history_form text p.header (reverse entries))
+  pub judged : IsJudgement p.header entries judgement
+  pub header : end.header ≡ p.header
+  pub count : end.count ≡ length entries
+  pub calls : end.calls ≡ ended_calls entries
 
 -- what an audit leaves
 abbrev pub Audits : Option (List ℕ) → Option (List ℕ) → Option (List ℕ) → Result Verdict StreamFault → Type 0

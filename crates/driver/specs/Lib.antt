@@ -14,3 +14,4 @@ pub mod Streams
 pub mod Turns
 pub mod Whole
 pub mod Window
+pub mod HistoryReader

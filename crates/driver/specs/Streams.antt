@@ -16,12 +16,6 @@ Streams {H} {I} {T} form Answers left old new (Err ReadFailed) = Keeps old new
 Streams {H} {I} {T} form Answers left old new (Err WriteFailed) = IfSome left (λ text. (answer : T) × Answers text answer (AppendsFront old new))
 Streams {H} {I} {T} form Answers left old new (Err Memory) = Keeps old new
 
--- the faults of a text of the form
-abbrev pub IsOfText : {H I : Type 0} → Form H I → List ℕ → StreamFault → Type 0
-IsOfText form text (Text fault) = IsReading form text (Err fault)
-IsOfText form text Memory = Unit {0}
-IsOfText form text fault = ⊥
-
 -- a text with a fault was read to its end
 abbrev pub IsReadOut : {T : Type 0} → Result T StreamFault → Option (List ℕ) → Type 0
 IsReadOut {T} (Err (Text fault)) left = IsAtEnd left

@@ -1,25 +1,27 @@
 //! A history text is answered by an audit text.
 
-ghost use Rattle.std.specs.Prelude.{◌≡◌, ◌↔◌, false, IsTrue, IfErr, IfOk, IsErrOf};
-ghost use Rattle.history_text.specs.HistoryText.{history_form};
-ghost use Rattle.driver.specs.AuditStream.{Audited, Audits};
-ghost use Rattle.driver.specs.Streams.{IsOfText, IsReadOut};
+ghost use Rattle.std.specs.Prelude.{◌≡◌, ◌↔◌, false, IsTrue, IfErr, IfOk, IfSome, IsErrOf};
+ghost use Rattle.driver.specs.AuditStream.{Audited, Audits, IsJudged};
+ghost use Rattle.driver.specs.HistoryReader.{IsFaultBehind, IsFaultOf, entries_read};
+ghost use Rattle.driver.specs.Streams.{IsReadOut};
 
 use crate::audit_text::audit_text;
+use crate::history_reader::HistoryReader;
 use crate::sink::Sink;
 use crate::source::Source;
 use crate::stream_fault::StreamFault;
-use crate::whole::{read_all, write_all};
-use audit::verdict::{Verdict, check};
-use history_text::read_text;
-use line_text::fault::TextFault;
+use crate::whole::{read_on, write_all};
+use audit::auditor::Auditor;
+use audit::verdict::{Judgement, Verdict};
 use std::alloc::Global;
 
 /// Reads a history text, judges the history, and writes what an audit says of it. The verdict is answered
 /// too.
 ///
-/// As in [`replay_stream`](crate::replay_stream::replay_stream) all is read first, and nothing is written
-/// where the text has a fault, where reading fails or where memory is refused.
+/// Each entry is judged as its line is read, and none is kept. As in
+/// [`replay_stream`](crate::replay_stream::replay_stream) all is read before anything is written, and nothing
+/// is written where the text has a fault, where reading fails or where memory is refused. A text with a fault
+/// is read to its end too.
 pub fn audit_stream<R: Source, W: Sink>(
     alloc: Global,
     reader: &mut R,
@@ -32,11 +34,16 @@ pub fn audit_stream<R: Source, W: Sink>(
     ensures read { IsErrOf result StreamFault.ReadFailed ↔ IsTrue (R.failed reader.new) }
     ensures write { IsErrOf result StreamFault.WriteFailed ↔ IsTrue (W.failed writer.new) }
 {
-    let bytes = read_all(alloc, reader)?;
-    let audit = audit_of(alloc, &bytes)?;
-    match write_all(writer, &audit.text) {
-        Ok(()) => Ok(audit.verdict),
-        Err(_) => Err(StreamFault::WriteFailed),
+    match audit_of(alloc, reader) {
+        Ok(audit) => match write_all(writer, &audit.text) {
+            Ok(()) => Ok(audit.verdict),
+            Err(_) => Err(StreamFault::WriteFailed),
+        },
+        Err(StreamFault::Text(fault)) => {
+            read_on(reader)?;
+            Err(StreamFault::Text(fault))
+        }
+        Err(fault) => Err(fault),
     }
 }
 
@@ -47,21 +54,44 @@ struct Audit {
     text: Vec<u8>,
 }
 
-/// What is said of a history text.
-fn audit_of(alloc: Global, bytes: &[u8]) -> Result<Audit, StreamFault>
-    ensures ok { IfOk result (λ audit. Audited bytes.now audit.verdict (λ written. audit.text.items ≡ written)) }
-    ensures err { IfErr result (IsOfText history_form bytes.now) }
+/// What is said of the history text that a source has.
+fn audit_of<R: Source>(alloc: Global, reader: &mut R) -> Result<Audit, StreamFault>
+    requires { R.failed reader.old ≡ false }
+    ensures ok { IfOk result (λ audit. IfSome (R.left reader.old) (λ text.
+        Audited text audit.verdict (λ written. audit.text.items ≡ written))) }
+    ensures err { IfErr result (IsFaultOf (R.left reader.old)) }
+    ensures failing { IsErrOf result StreamFault.ReadFailed ↔ IsTrue (R.failed reader.new) }
 {
-    let (header, history) = match read_text(alloc, bytes) {
-        Ok(read) => read,
-        Err(TextFault::OutOfMemory) => return Err(StreamFault::Memory),
-        Err(fault) => return Err(StreamFault::Text(fault)),
-    };
-    let Ok(verdict) = check(alloc, &header, &history) else {
+    let mut entries = HistoryReader::open(alloc, reader)?;
+    let judgement = judgement_of(alloc, &mut entries, reader)?;
+    let object = entries.header().object;
+    let text = audit_text(alloc, object, entries.count(), entries.calls(), &judgement)?;
+    Ok(Audit {
+        verdict: judgement.verdict(),
+        text,
+    })
+}
+
+/// The judgement on the entries of a text, each of which is followed as its line is read.
+fn judgement_of<R: Source>(
+    alloc: Global,
+    entries: &mut HistoryReader,
+    reader: &mut R,
+) -> Result<Judgement, StreamFault>
+    requires reader { R.failed reader.old ≡ false }
+    requires fresh { (entries.old.count ≡ 0) × (entries.old.calls ≡ 0) }
+    ensures ok { IfOk result (IsJudged (entries_read entries.old (R.left reader.old)) entries.new) }
+    ensures err { IfErr result (IsFaultBehind (entries_read entries.old (R.left reader.old))) }
+    ensures failing { IsErrOf result StreamFault.ReadFailed ↔ IsTrue (R.failed reader.new) }
+{
+    let Ok(mut auditor) = Auditor::open(alloc, entries.header()) else {
         return Err(StreamFault::Memory);
     };
-    match audit_text(alloc, &header, &history, verdict) {
-        Ok(text) => Ok(Audit { verdict, text }),
-        Err(_) => Err(StreamFault::Memory),
+    while let Some(entry) = entries.next(reader)? {
+        match auditor.follow(entry) {
+            Ok(()) => {}
+            Err(_) => return Err(StreamFault::Memory),
+        }
     }
+    Ok(auditor.judgement())
 }

@@ -1,46 +1,38 @@
 //! The audit text.
 
-ghost use Rattle.std.specs.Prelude.{◌≡◌, ◌++◌, IfOk, OnOk, length};
+ghost use Rattle.std.specs.Prelude.{◌≡◌, ◌++◌, List, IfOk, OnOk, length};
 ghost use Rattle.std.specs.Fmt.{signed_decimal};
-ghost use Rattle.audit.specs.declared.verdict.Verdict.TheVariants.{Legal};
+ghost use Rattle.audit.specs.Verdict.{IsJudgement, verdict_of};
+ghost use Rattle.history.specs.declared.entry.Entry.{Entry};
+ghost use Rattle.history.specs.declared.header.Header.{Header};
 ghost use Rattle.history.specs.Entries.{ended_calls};
-ghost use Rattle.history.specs.Header.{IsInRange};
-ghost use Rattle.history.specs.Legal.{AreSeated, IsLegal};
-ghost use Rattle.history.specs.Start.{opening};
 ghost use Rattle.history.specs.Text.{ended};
 ghost use Rattle.driver.specs.AuditText.{audit_text, legal_text, number_line, totals_line};
 ghost use Rattle.driver.specs.AuditText.{holds_line, permits_line, count_line};
 
 use audit::sums::Totals;
-use audit::totals::totals;
-use audit::verdict::Verdict;
-use history::entries::History;
-use history::header::{Header, Object};
+use audit::verdict::Judgement;
+use history::header::Object;
 use history::number::put_number;
 use itoa::Buffer;
 use std::alloc::{AllocError, Global};
 
-/// What is said of a history with this verdict.
+/// What is said of a history of so many entries, of which so many end a call, with this judgement.
 pub fn audit_text(
     alloc: Global,
-    header: &Header,
-    history: &History,
-    verdict: Verdict,
+    object: Object,
+    entries: u64,
+    calls: u64,
+    judgement: &Judgement,
 ) -> Result<Vec<u8>, AllocError>
-    requires range { IsInRange header.now }
-    requires cap { history.now.cap ≡ header.now.cap }
-    requires seated { AreSeated (opening header.now) history.now.entries }
-    requires judged { verdict ≡ Legal → IsLegal (opening header.now) history.now.entries }
-    ensures { IfOk result (λ text. text.items ≡ audit_text header.now history.now.entries verdict) }
+    ensures { (k : Header) (h : List Entry) → k.object ≡ object → entries ≡ length h → calls ≡ ended_calls h →
+        IsJudgement k h judgement.now → IfOk result (λ text. text.items ≡ audit_text k h (verdict_of judgement.now)) }
 {
-    match verdict {
-        Verdict::Legal => match totals(alloc, header, history) {
-            Ok(totals) => legal_text(alloc, header.object, history, &totals),
-            Err(_) => Err(AllocError),
-        },
-        Verdict::NotLegal(number) => {
+    match judgement {
+        Judgement::Legal(totals) => legal_text(alloc, object, entries, calls, totals),
+        Judgement::NotLegal(number) => {
             let mut out = Vec::new(alloc);
-            put_line(&mut out, b"not legal at ", number)?;
+            put_line(&mut out, b"not legal at ", *number)?;
             Ok(out)
         }
     }
@@ -50,14 +42,15 @@ pub fn audit_text(
 fn legal_text(
     alloc: Global,
     object: Object,
-    history: &History,
+    entries: u64,
+    calls: u64,
     totals: &Totals,
 ) -> Result<Vec<u8>, AllocError>
-    ensures { IfOk result (λ text. text.items ≡ legal_text object (length history.now.entries) (ended_calls history.now.entries) totals.now) }
+    ensures { IfOk result (λ text. text.items ≡ legal_text object entries calls totals.now) }
 {
     let mut out = Vec::from_slice(alloc, b"legal\n")?;
-    put_line(&mut out, b"entries ", history.len())?;
-    put_line(&mut out, b"calls ", history.calls())?;
+    put_line(&mut out, b"entries ", entries)?;
+    put_line(&mut out, b"calls ", calls)?;
     put_totals(&mut out, object, totals)?;
     out.push(b'\n')?;
     Ok(out)

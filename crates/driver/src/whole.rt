@@ -1,36 +1,12 @@
-//! All that a source has, and all that a sink is to get.
+//! The rest of a source, and all that a sink is to get.
 
-ghost use Rattle.std.specs.Prelude.{◌≡◌, ◌↔◌, false, IsTrue, IsErr, IfOk, OnOk, OnErr, IfErr, IsErrOf, IfSome};
+ghost use Rattle.std.specs.Prelude.{◌≡◌, ◌↔◌, false, IsTrue, IsErr, OnOk, OnErr, IfErr, IsErrOf};
 ghost use Rattle.std.specs.Io.KnownBytes.{Appends, IsAtEnd};
 ghost use Rattle.driver.specs.Whole.{AppendsFront, IsOfReading};
 
 use crate::sink::Sink;
 use crate::source::{DeviceFailed, Source};
 use crate::stream_fault::StreamFault;
-use std::alloc::Global;
-
-/// All the bytes of a source.
-pub fn read_all<R: Source>(alloc: Global, reader: &mut R) -> Result<Vec<u8>, StreamFault>
-    requires { R.failed reader.old ≡ false }
-    ensures bytes { IfOk result (λ bytes. IfSome (R.left reader.old) (λ all. bytes.items ≡ all)) }
-    ensures end { OnOk result (IsAtEnd (R.left reader.new)) }
-    ensures failing { IsErrOf result StreamFault.ReadFailed ↔ IsTrue (R.failed reader.new) }
-    ensures kinds { IfErr result IsOfReading }
-{
-    let mut bytes = Vec::new(alloc);
-    let mut buffer = [0; 65536];
-    loop {
-        let Ok(n) = reader.read(&mut buffer) else {
-            return Err(StreamFault::ReadFailed);
-        };
-        if n == 0 {
-            return Ok(bytes);
-        }
-        if bytes.extend_from_slice(&buffer[..n]).is_err() {
-            return Err(StreamFault::Memory);
-        }
-    }
-}
 
 /// Reads what is left of a source, and keeps none of it.
 pub fn read_on<R: Source>(reader: &mut R) -> Result<(), StreamFault>

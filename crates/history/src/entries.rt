@@ -148,7 +148,7 @@ impl History {
 }
 
 /// Whether the word ends a call: all but those that leave its seat waiting.
-fn ends_call(word: Word) -> bool
+pub fn ends_call(word: Word) -> bool
     ensures { result ≡ ends_call word }
 {
     !matches!(word, Word::Queued | Word::Await | Word::Lapse)

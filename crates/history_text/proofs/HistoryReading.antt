@@ -1,15 +1,17 @@
 -- One more entry is read, or the reading ends.
-use Rattle.std.proofs.Common.{◌≡◌, ℕ, ◌+◌, ◌<◌, ◌≤◌, ◌^◌, false, List, [], ◌∷◌, ◌++◌, length, reverse, refl, sym, ap, subst, ◌∙◌, arith, append-nil, inl, eqb}
-use Rattle.std.proofs.lemmas.List.{length-reverse, reverse-append}
+use Rattle.std.proofs.Common.{◌≡◌, ℕ, ◌+◌, ◌-◌, ◌<◌, ◌≤◌, ◌^◌, false, List, [], ◌∷◌, ◌++◌, length, reverse, refl, sym, ap, subst, ◌∙◌, arith, append-nil, inl, eqb, take, drop, length-append}
+use Rattle.std.proofs.lemmas.List.{length-reverse, reverse-append, take_rest}
+use Rattle.std.proofs.Math.Seq.{drop-append_seam}
 use Rattle.history.specs.declared.entry.Entry.{Entry}
 use Rattle.history.specs.declared.header.Header.{Header}
-use Rattle.history.specs.Entries.{HistoryView, ended_calls}
-use Rattle.history.specs.Text.{IsLine}
+use Rattle.history.specs.Entries.{ended_calls}
+use Rattle.history.specs.Text.{IsLine, ended}
 use Rattle.line_text.specs.Form.{AreItems}
-use Rattle.line_text.specs.Reading.{Begins, IsBadLine, HasBadLine}
-use Rattle.line_text.proofs.Growing.{one_more, at_end, goes_on}
+use Rattle.line_text.specs.Reading.{Begins, IsText, IsBadLine, HasBadLine}
+use Rattle.line_text.proofs.Growing.{one_more, at_end, goes_on, broken}
 use Rattle.history_text.specs.EntryLines.{HasLine, entry_line, counts_line}
-use Rattle.history_text.specs.HistoryText.{history_form, IsRead}
+use Rattle.history_text.specs.HistoryText.{history_form}
+use Rattle.history_text.specs.HistoryRead.{HistoryRead, AreRead, IsAhead}
 
 ended_calls-append : (xs ys : List Entry) → ended_calls (xs ++ ys) ≡ ended_calls xs + ended_calls ys
 ended_calls-append [] ys = omega arith
@@ -59,26 +61,19 @@ empty : (xs : List ℕ) → length xs ≡ 0 → xs ≡ []
 empty [] p = refl
 empty (x ∷ xs) p = absurd (omega arith)
 
-pub whole_text : (text : List ℕ) (h : Header) (kept : HistoryView) (rest line after : List ℕ)
-    (count calls : ℕ) → Begins history_form text h (reverse kept.entries) rest → rest ≡ line ++ 10 ∷ after
-    → count ≡ length kept.entries → calls ≡ ended_calls kept.entries → line ≡ counts_line count calls →
-    length after ≡ 0 → kept.cap ≡ h.cap → kept.owed ≡ 0 → IsRead text h kept
-whole_text text h kept rest line after count calls begun whole p q is none cap owed =
-    let xs = reverse kept.entries in
-    let end = history_form.end_line xs in
-    let begins = at_end history_form text h xs rest line after begun whole
-    (is ∙ end_of kept.entries count calls p q) in
+pub whole_text : (text : List ℕ) (h : Header) (xs : List Entry) (rest line after : List ℕ)
+    (count calls : ℕ) → Begins history_form text h (reverse xs) rest → rest ≡ line ++ 10 ∷ after
+    → count ≡ length xs → calls ≡ ended_calls xs → line ≡ counts_line count calls → length after ≡ 0 →
+    IsText history_form text h (reverse xs)
+whole_text text h xs rest line after count calls begun whole p q is none =
+    let end = history_form.end_line (reverse xs) in
+    let begins = at_end history_form text h (reverse xs) rest line after begun whole
+    (is ∙ end_of xs count calls p q) in
     let last : (end ++ 10 ∷ []) ++ after ≡ end ++ 10 ∷ [] =
     ap (λ (t : List ℕ). (end ++ 10 ∷ []) ++ t) (empty after none) ∙ append-nil (end ++ 10 ∷ []) in
     record {
-      reading =
-          record {
-            begins = subst (Begins history_form text h xs) last begins;
-            count =
-                omega (arith, p, few text h kept.entries rest count begun p, length-reverse kept.entries);
-          };
-      cap = cap;
-      owed = owed;
+      begins = subst (Begins history_form text h (reverse xs)) last begins;
+      count = omega (arith, p, few text h xs rest count begun p, length-reverse xs);
     }
 
 pub more_text : (text : List ℕ) (h : Header) (xs : List Entry) (rest line after : List ℕ)
@@ -112,3 +107,32 @@ bad_line text h xs rest line after count calls begun whole is_line p q no_end no
       bad,
       omega (arith, number),
     )
+
+-- one more entry was read
+pub read_on : (old : HistoryRead) (entries : List Entry) (e : Entry) (after : List ℕ) → IsAhead old e after →
+    AreRead old entries → AreRead (record {
+      text = old.text;
+      header = old.header;
+      count = length (e ∷ entries);
+      calls = ended_calls (e ∷ entries);
+      rest = after;
+    }) (e ∷ entries)
+read_on old entries e after ahead read = record {
+  begins = entry_more old.text old.header entries old.rest (entry_line old.count e) after e old.count
+      read.begins (ahead.parts ∙ broken (entry_line old.count e) after) read.count ahead.below ahead.fits refl;
+  count = refl;
+  calls = refl;
+}
+
+-- what is left of a text, by its length
+pub left_over : (text front rest : List ℕ) (left : ℕ) → text ≡ front ++ rest → length rest ≡ left →
+    take (length text - (length text - left)) (drop (length text - left) text) ≡ rest
+left_over text front rest left parts long =
+    let start : length text - left ≡ length front = omega (arith, long, ap length parts, length-append front rest) in
+    rw take_rest (ap (λ (i : ℕ). drop i text) start ∙ ap (drop (length front)) parts ∙ drop-append_seam front rest)
+
+-- what follows a line is shorter
+pub shorter : (text line rest : List ℕ) (left : ℕ) → text ≡ ended line ++ rest → length rest ≡ left →
+    left < length text
+shorter text line rest left parts long =
+    omega (arith, long, ap length parts, length-append (line ++ 10 ∷ []) rest, length-append line (10 ∷ []))

@@ -1,3 +1,5 @@
 pub mod EntryLines
+pub mod CommonEntry
 pub mod EntryReading
 pub mod HistoryText
+pub mod HistoryRead

@@ -6,16 +6,13 @@ ghost use Rattle.history.specs.EntryWords.{IsSpelt};
 ghost use Rattle.history.specs.Header.{IsInRange};
 ghost use Rattle.history_text.specs.HistoryText.{history_text, Reads};
 
-use crate::end_line::is_end;
 use crate::entry_line::{put_counts, put_entry};
-use crate::entry_reading::entry_of;
+use crate::next_entry::{header_of, next_entry};
 use history::entries::History;
 use history::fault::Fault;
 use history::header::Header;
 use history::number::Numbering;
-use history::text::first_line;
 use line_text::fault::TextFault;
-use line_text::header_line::header_behind;
 use std::alloc::{AllocError, Global};
 
 /// More than the length of most entries' lines: the text is made for lines of this length.
@@ -64,33 +61,21 @@ fn written(alloc: Global, header: &Header, history: &History) -> Result<Vec<u8>,
 pub fn read_text(alloc: Global, text: &[u8]) -> Result<(Header, History), TextFault>
     ensures { Reads text.now result }
 {
-    let Some((first, after)) = first_line(text) else {
-        return Err(TextFault::CutShort);
-    };
-    let Some(header) = header_behind(b"aqs-history 1 ", first) else {
-        return Err(TextFault::BadHeader);
-    };
+    let (header, mut rest) = header_of(text)?;
     let mut history = History::open(alloc, header.cap);
-    let mut rest = after;
-    while let Some((line, after)) = first_line(rest) {
-        let count = history.len();
-        if is_end(line, count, history.calls()) {
-            if after.is_empty() {
-                return Ok((header, history));
-            }
-            return Err(TextFault::BadLine(count + 3));
-        }
-        if count >= u64::from(header.cap) {
-            return Err(TextFault::BadLine(count + 2));
-        }
-        let Some(entry) = entry_of(line, count, &header) else {
-            return Err(TextFault::BadLine(count + 2));
-        };
+    let mut numbering = Numbering::new();
+    while let Some((entry, left)) = next_entry(
+        rest,
+        &header,
+        &mut numbering,
+        history.len(),
+        history.calls(),
+    )? {
         if history.make_room(1).is_err() {
             return Err(TextFault::OutOfMemory);
         }
         history.add(entry, 0);
-        rest = after;
+        rest = &rest[rest.len() - left..];
     }
-    Err(TextFault::CutShort)
+    Ok((header, history))
 }

@@ -6,12 +6,14 @@
 //! [`legal_histories_fit`]. A text needn't be of a legal history to be read.
 #![tactic(auto)]
 
+mod common_entry;
 mod end_line;
 pub mod entry_line;
 mod entry_reading;
 pub mod fitting;
 pub mod history_text;
 mod law;
+pub mod next_entry;
 
 pub use crate::fitting::fits;
 pub use crate::history_text::{read_text, write_text};

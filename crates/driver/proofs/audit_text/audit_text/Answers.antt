@@ -1,12 +1,12 @@
-use Rattle.std.proofs.Common.{◌≡◌, ℕ, List, length, ap, arith, ◌∙◌}
+use Rattle.std.proofs.Common.{◌≡◌, ℕ, List, length, arith, refl, ◌∙◌}
 use Rattle.std.specs.Prelude.{Result, Ok, Err, IfOk}
 use Rattle.audit.specs.declared.sums.Totals.{Totals}
-use Rattle.audit.specs.declared.verdict.Verdict.{Verdict}
-use Rattle.audit.specs.declared.verdict.Verdict.TheVariants.{Legal, NotLegal}
+use Rattle.audit.specs.declared.verdict.Verdict.TheVariants.{Legal}
 use Rattle.audit.specs.Totals.{totals_of}
 use Rattle.history.proofs.Lists.{calls-ended}
 use Rattle.history.specs.declared.entry.Entry.{Entry}
 use Rattle.history.specs.declared.header.Header.{Header}
+use Rattle.history.specs.declared.header.Object.{Object}
 use Rattle.history.specs.Entries.{ended_calls}
 use Rattle.history.specs.Legal.{calls}
 use Rattle.history.specs.Start.{opening}
@@ -18,15 +18,14 @@ weaker (Ok x) more p = more x p
 weaker (Err e) more p = p
 
 -- the calls of a history are counted as its list counts them
-legal_said : (h : Header) (entries : List Entry) (v : Verdict) (t : Totals) → v ≡ Legal → t ≡ totals_of (opening h) entries
-    → legal_text h.object (length entries) (ended_calls entries) t ≡ audit_text h entries v
-legal_said h entries Legal t legal same =
-    let ends : ended_calls entries ≡ calls (opening h) entries = omega (arith, calls-ended (opening h) entries) in
-    ap (λ (n : ℕ). legal_text h.object (length entries) n t) ends
-    ∙ ap (legal_text h.object (length entries) (calls (opening h) entries)) same
-legal_said h entries (NotLegal number) t legal same = cc
+legal_said : (k : Header) (h : List Entry) (object : Object) (entries counted : ℕ) (t : Totals) → k.object ≡ object → entries ≡ length h → counted ≡ ended_calls h
+    → t ≡ totals_of (opening k) h → legal_text object entries counted t ≡ audit_text k h Legal
+legal_said k h object entries counted t same long ended sums =
+    let ends : ended_calls h ≡ calls (opening k) h = omega (arith, calls-ended (opening k) h) in
+    rw (← same, long, ended ∙ ends, sums) refl
 
-pub returns-in-Ok : goal.returns-in-Ok
-returns-in-Ok c =
-    let said = legal_said c.args.header.now c.args.history.now.entries c.args.verdict c.in-Ok.totals c.in-Legal.is c.in-Ok.ensures.are in
-    weaker c.legal_text.result (λ text is. is ∙ said) c.legal_text.ensures
+pub returns-in-Legal : goal.returns-in-Legal
+returns-in-Legal c = λ k h same long ended judged.
+    let is = rw c.in-Legal.is at judged in
+    let said = legal_said k h c.args.object c.args.entries c.args.calls c.in-Legal.totals same long ended is.1 in
+    rw c.in-Legal.is (weaker c.legal_text.result (λ text is. is ∙ said) c.legal_text.ensures)

@@ -1,62 +1,47 @@
-use Rattle.std.proofs.Common.{◌≡◌, List, ◌∷◌, reverse, sym, ap, subst, ◌∙◌, arith}
-use Rattle.std.proofs.lemmas.Bool.{eqb-true, false≢true}
-use Rattle.history.specs.declared.entry.Entry.{Entry}
-use Rattle.history.specs.Entries.{HistoryView}
-use Rattle.line_text.specs.Reading.{Begins}
-use Rattle.history_text.specs.HistoryText.{history_form}
-use Rattle.history_text.proofs.HistoryReading.{entry_more, whole_text, more_text, bad_line}
+use Rattle.std.proofs.Common.{◌≡◌, ◌∷◌, length, arith, ap, ◌∙◌}
+use Rattle.history.specs.Entries.{HistoryView, ended_calls}
+use Rattle.history.specs.Text.{ended}
+use Rattle.history_text.specs.EntryLines.{entry_line}
+use Rattle.history_text.specs.HistoryRead.{HistoryRead}
+use Rattle.history_text.proofs.Faults.{fault_passed}
+use Rattle.history_text.proofs.HistoryReading.{left_over, read_on, shorter}
 use Rattle.history_text.proofs.history_text.read_text.Goals as goal
 
-pub returns-then-is_empty : goal.returns-then-is_empty
-returns-then-is_empty c =
-    whole_text c.args.text.now c.in-Some-header_behind.header c.loop-line.history c.loop-line.rest.now
-    c.in-Some-first_line.line.now c.in-Some-first_line.after.now c.len-count.result c.calls.result
-    c.loop-line.invariant.begun c.in-Some-first_line.ensures.0 c.len-count.ensures c.calls.ensures
-    (c.is_end.ensures.0 c.if-is_end.true) (eqb-true _ _ (sym c.is_empty.ensures ∙ c.if-is_empty.true))
-    c.loop-line.invariant.cap c.loop-line.invariant.owed
+pub returns-in_err-entry : goal.returns-in_err-entry
+returns-in_err-entry c =
+    let found = c.in_err-entry.ensures.line c.args.text.now c.loop-history.history.entries (rw (c.len.ensures, c.calls.ensures) c.loop-history.invariant.read) in
+    fault_passed c.args.text.now c.from_residual-in_err-entry.result c.in_err-entry.field-0.0 c.from_residual-in_err-entry.ensures found
 
-pub returns-then-is_end : goal.returns-then-is_end
-returns-then-is_end c =
-    more_text c.args.text.now c.in-Some-header_behind.header c.loop-line.history.entries
-    c.loop-line.rest.now c.in-Some-first_line.line.now c.in-Some-first_line.after.now c.len-count.result
-    c.calls.result
-    c.loop-line.invariant.begun c.in-Some-first_line.ensures.0 c.len-count.ensures c.calls.ensures
-    (c.is_end.ensures.0 c.if-is_end.true) (sym c.is_empty.ensures ∙ c.if-is_empty.false)
+pub overflow_sub-rest : goal.overflow_sub-rest
+overflow_sub-rest c =
+    let found = (rw c.in-Some.is at c.in_ok-entry.ensures.line) c.args.text.now in
+    omega (arith, shorter c.loop-history.rest.now (entry_line c.len.result c.in-Some.entry) found.0 c.in-Some.left found.1.parts found.2)
 
-pub returns-then-count-from : goal.returns-then-count-from
-returns-then-count-from c =
-    bad_line c.args.text.now c.in-Some-header_behind.header c.loop-line.history.entries c.loop-line.rest.now
-    c.in-Some-first_line.line.now c.in-Some-first_line.after.now c.len-count.result c.calls.result
-    c.loop-line.invariant.begun c.in-Some-first_line.ensures.0 c.in-Some-first_line.ensures.1
-    c.len-count.ensures c.calls.ensures
-    (λ is. false≢true (sym c.if-is_end.false ∙ c.is_end.ensures.1 is))
-    (λ e below fits is. absurd (omega (arith, below, c.if-count-from.true, c.from.ensures)))
+pub loop-history-smaller : goal.loop-history-smaller
+loop-history-smaller c =
+    let found = (rw c.in-Some.is at c.in_ok-entry.ensures.line) c.args.text.now in
+    let line = entry_line c.len.result c.in-Some.entry in
+    let same = left_over c.loop-history.rest.now (ended line) found.0 c.in-Some.left found.1.parts found.2 in
+    rw same (omega (arith, found.2, shorter c.loop-history.rest.now line found.0 c.in-Some.left found.1.parts found.2))
 
-pub returns-in_default-entry_of : goal.returns-in_default-entry_of
-returns-in_default-entry_of c =
-    bad_line c.args.text.now c.in-Some-header_behind.header c.loop-line.history.entries c.loop-line.rest.now
-    c.in-Some-first_line.line.now c.in-Some-first_line.after.now c.len-count.result c.calls.result
-    c.loop-line.invariant.begun c.in-Some-first_line.ensures.0 c.in-Some-first_line.ensures.1
-    c.len-count.ensures c.calls.ensures
-    (λ is. false≢true (sym c.if-is_end.false ∙ c.is_end.ensures.1 is))
-    (λ e below fits is. c.in_default-entry_of.ensures.none e fits is)
-
-pub loop-line-preserved : goal.loop-line-preserved
-loop-line-preserved c =
-    let old = c.loop-line.history in
-    let entries : c.add.new.self.entries ≡ c.in-Some-entry_of.entry ∷ old.entries =
-    ap (λ (v : HistoryView). v.entries) c.add.ensures
-    ∙ ap (λ (v : HistoryView). c.in-Some-entry_of.entry ∷ v.entries) c.make_room.ensures.same in
-    let grown = entry_more c.args.text.now c.in-Some-header_behind.header old.entries c.loop-line.rest.now
-    c.in-Some-first_line.line.now c.in-Some-first_line.after.now c.in-Some-entry_of.entry
-    c.len-count.result
-    c.loop-line.invariant.begun c.in-Some-first_line.ensures.0 c.len-count.ensures
-    (omega (arith, c.if-count-from.false, c.from.ensures)) c.in-Some-entry_of.ensures.found.0
-    c.in-Some-entry_of.ensures.found.1 in
+pub loop-history-preserved : goal.loop-history-preserved
+loop-history-preserved c =
+    let old = c.loop-history.history in
+    let was : HistoryRead = record { text = c.args.text.now; header = c.in_ok-header.header; count = length old.entries; calls = ended_calls old.entries; rest = c.loop-history.rest.now } in
+    let found = (rw (c.in-Some.is, c.len.ensures, c.calls.ensures) at c.in_ok-entry.ensures.line) c.args.text.now in
+    let line = entry_line (length old.entries) c.in-Some.entry in
+    let same = left_over c.loop-history.rest.now (ended line) found.0 c.in-Some.left found.1.parts found.2 in
+    let entries : c.add.new.self.entries ≡ c.in-Some.entry ∷ old.entries =
+    ap (λ (v : HistoryView). v.entries) c.add.ensures ∙ ap (λ (v : HistoryView). c.in-Some.entry ∷ v.entries) c.make_room.ensures.same in
     record {
-      begun = subst (λ (l : List Entry). Begins history_form c.args.text.now c.in-Some-header_behind.header
-          (reverse l) c.in-Some-first_line.after.now) (sym entries) grown;
-      cap = ap (λ (v : HistoryView). v.cap) c.add.ensures
-          ∙ ap (λ (v : HistoryView). v.cap) c.make_room.ensures.same ∙ c.loop-line.invariant.cap;
+      read = rw (entries, same) (read_on was old.entries c.in-Some.entry found.0 found.1 c.loop-history.invariant.read);
+      cap = ap (λ (v : HistoryView). v.cap) c.add.ensures ∙ ap (λ (v : HistoryView). v.cap) c.make_room.ensures.same ∙ c.loop-history.invariant.cap;
       owed = ap (λ (v : HistoryView). v.owed) c.add.ensures;
     }
+
+pub returns : goal.returns
+returns c = record {
+  reading = (rw (c.in_default.is, c.len.ensures, c.calls.ensures) at c.in_ok-entry.ensures.line) c.args.text.now c.loop-history.history.entries c.loop-history.invariant.read;
+  cap = c.loop-history.invariant.cap;
+  owed = c.loop-history.invariant.owed;
+}

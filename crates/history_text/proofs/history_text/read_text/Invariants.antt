@@ -1,14 +1,14 @@
-use Rattle.std.proofs.Common.{◌≡◌, length, reverse}
-use Rattle.line_text.specs.Reading.{Begins}
-use Rattle.history_text.specs.HistoryText.{history_form}
+use Rattle.std.proofs.Common.{◌≡◌, length}
+use Rattle.history.specs.Entries.{ended_calls}
+use Rattle.history_text.specs.HistoryRead.{AreRead}
 use Rattle.history_text.proofs.history_text.read_text.Given as goal
 
-abbrev pub invariant-loop-line : goal.invariant-loop-line
-invariant-loop-line l = record {
-  begun : Begins history_form l.text l.header (reverse l.history.entries) l.rest;
+abbrev pub invariant-loop-history : goal.invariant-loop-history
+invariant-loop-history l = record {
+  read : AreRead (record { text = l.text; header = l.header; count = length l.history.entries; calls = ended_calls l.history.entries; rest = l.rest }) l.history.entries;
   cap : l.history.cap ≡ l.header.cap;
   owed : l.history.owed ≡ 0;
 }
 
-abbrev pub decreases-loop-line : goal.decreases-loop-line
-decreases-loop-line l = length l.rest
+abbrev pub decreases-loop-history : goal.decreases-loop-history
+decreases-loop-history l = length l.rest
