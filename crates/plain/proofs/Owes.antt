@@ -1,9 +1,13 @@
 -- What is owed behind one entry more.
-use Rattle.std.proofs.Common.{◌≡◌, ℕ, ◌≤◌, ◌+◌, ◌-◌, List, [], ◌∷◌, arith, sym}
+use Rattle.std.proofs.Common.{◌≡◌, Bool, true, false, if◌then◌else◌, ℕ, ◌≤◌, ◌+◌, ◌-◌, List, [], ◌∷◌, arith, sym}
 use Rattle.history.specs.declared.entry.Entry.{Entry}
+use Rattle.history.specs.declared.entry.Word.{Word}
+use Rattle.history.specs.declared.entry.Word.TheVariants.{Got, TryGot, Queued, Granted, Missed, Left, Gave, Refused, Await, Lapse, Signal, SignalAll, Back, Counted, Drained}
 use Rattle.history.specs.declared.header.Header.{Header}
+use Rattle.history.specs.declared.header.Object.{Object}
+use Rattle.history.specs.Object.{is_lock}
 use Rattle.history.specs.Legal.{AreSeated, IsLegal}
-use Rattle.history.specs.Room.{owed, releases, reserves}
+use Rattle.history.specs.Room.{owed, releases, reserved_by, reserves}
 use Rattle.history.specs.Start.{opening}
 use Rattle.history.proofs.Owing.{owed_step}
 use Rattle.history.proofs.RoomLemmas.{nothing_owed}
@@ -34,3 +38,28 @@ owed_next k e h n more less o legal seated p q =
       is = behind n more less (owed (opening k) (e ∷ h)) (owed (opening k) h) (reserves k.object e) (releases k.object e) o.is p q
           (owed_step k e h legal seated);
     }
+
+-- no entry reserves more than two places
+of_a_lock : (b : Bool) (m n : ℕ) → m ≤ 2 → n ≤ 2 → (if b then m else n) ≤ 2
+of_a_lock true m n p q = p
+of_a_lock false m n p q = q
+
+reserved_few : (o : Object) (w : Word) → reserved_by o w ≤ 2
+reserved_few o Got = of_a_lock (is_lock o) 1 0 (omega arith) (omega arith)
+reserved_few o TryGot = of_a_lock (is_lock o) 1 0 (omega arith) (omega arith)
+reserved_few o Queued = of_a_lock (is_lock o) 2 1 (omega arith) (omega arith)
+reserved_few o Await = omega arith
+reserved_few o Granted = omega arith
+reserved_few o Missed = omega arith
+reserved_few o Left = omega arith
+reserved_few o Gave = omega arith
+reserved_few o (Refused fault) = omega arith
+reserved_few o Lapse = omega arith
+reserved_few o Signal = omega arith
+reserved_few o SignalAll = omega arith
+reserved_few o Back = omega arith
+reserved_few o Counted = omega arith
+reserved_few o Drained = omega arith
+
+pub reserves_few : (o : Object) (e : Entry) → reserves o e ≤ 2
+reserves_few o e = reserved_few o e.word

@@ -6,7 +6,7 @@ ghost use Rattle.history.specs.Start.{opening};
 ghost use Rattle.history.specs.declared.entry.Entry.{Entry};
 ghost use Rattle.plain.specs.Owing.{IsOwed};
 
-use deciding::room::{releases, reserves};
+use deciding::room;
 use history::entries::History;
 use history::entry::Entry;
 use history::header::Header;
@@ -21,7 +21,7 @@ pub fn owed_behind(header: &Header, owed: u64, entry: Entry) -> u64
         → IsOwed header.now (entry ∷ h) result }
     ensures few { result ≤ owed + 2 }
 {
-    owed + reserves(header.object, entry) - releases(header.object, entry)
+    room::owed_behind(header.object, entry, owed)
 }
 
 /// What a legal history owes.
