@@ -26,11 +26,12 @@ fn lacks_memory(answer: &Result<Answer, Fault>) -> bool
     matches!(answer, Err(Fault::OutOfMemory))
 }
 
-/// How many entries there are, of which a history's cap is the most.
+/// How many entries there are: a cap has 32 bits, and so have they.
 #[inline(always)]
 fn entries_in(history: &History) -> u32
     ensures { result ≡ length history.now.entries }
 {
+    // What these say bounds the number.
     let _owed = history.owed();
     let _places = history.places();
     let _cap = history.cap();
