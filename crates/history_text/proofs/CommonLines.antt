@@ -1,32 +1,29 @@
 -- The commonest lines of entries begin a text.
-use Rattle.std.proofs.Common.{◌≡◌, ℕ, List, [], ◌∷◌, ◌++◌, decimal, append_assoc, refl, ap, ◌∙◌, arith}
+use Rattle.std.proofs.Common.{◌≡◌, ℕ, List, ◌∷◌, ◌++◌, append_assoc, refl, ap, ◌∙◌, arith}
 use Rattle.std.specs.Prelude.{codes}
-use Rattle.std.proofs.lemmas.Fmt.{decimal_digit}
 use Rattle.history.specs.declared.entry.End.{End}
 use Rattle.history.specs.declared.entry.End.TheVariants as end
 use Rattle.history.specs.declared.entry.Mode.{Mode}
 use Rattle.history.specs.declared.entry.Word.{Word}
 use Rattle.history.specs.declared.entry.Word.TheVariants as word
-use Rattle.history.specs.EntryWords.{mode_word, HasWords, IsWritten}
+use Rattle.history.specs.EntryWords.{HasWords, IsWritten}
 use Rattle.history.specs.Text.{ended}
-use Rattle.history_text.specs.CommonEntry.{AsksOnce, BeginsWith, IsAsked, asked_name, once}
-
--- the amount of most entries
-pub one_spelt : decimal 1 ≡ 49 ∷ []
-one_spelt = decimal_digit 1 (omega arith)
+use Rattle.line_text.specs.Once.{AsksOnce}
+use Rattle.line_text.proofs.AskingOnce.{asked_behind}
+use Rattle.history_text.specs.CommonEntry.{BeginsWith, IsAsked, asked_name, once}
 
 pub written_once : (seat : ℕ) (w : Word) (m : Mode) (how : End) → HasWords w m 1 0 how → IsWritten (once seat w m how)
 written_once seat w m how words = record { words = words; amount = omega arith; condition = omega arith }
 
-pub asked_begins : (text : List ℕ) (seat : ℕ) (w : Word) (m : Mode) (letter left : ℕ) → IsAsked w → mode_word m ≡ letter ∷ []
-    → AsksOnce (asked_name w) text (letter, left) → BeginsWith text (once seat w m end.None, left)
-asked_begins text seat word.Got m letter left is mode read = (written_once seat word.Got m end.None (refl, refl), rw (mode, one_spelt) read)
-asked_begins text seat word.TryGot m letter left is mode read = (written_once seat word.TryGot m end.None (refl, refl), rw (mode, one_spelt) read)
-asked_begins text seat word.Queued m letter left is mode read = (written_once seat word.Queued m end.None (refl, refl), rw (mode, one_spelt) read)
-asked_begins text seat word.Granted m letter left is mode read = (written_once seat word.Granted m end.None (refl, refl), rw (mode, one_spelt) read)
-asked_begins text seat word.Missed m letter left is mode read = (written_once seat word.Missed m end.None (refl, refl), rw (mode, one_spelt) read)
-asked_begins text seat word.Gave m letter left is mode read = (written_once seat word.Gave m end.None (refl, refl), rw (mode, one_spelt) read)
-asked_begins text seat w m letter left is mode read = absurd is
+pub asked_begins : (text after : List ℕ) (seat : ℕ) (w : Word) (found : Mode × ℕ) → IsAsked w → text ≡ asked_name w ++ 32 ∷ after → AsksOnce after found
+    → BeginsWith text (once seat w found.0 end.None, found.1)
+asked_begins text after seat word.Got found is named asks = (written_once seat word.Got found.0 end.None (refl, refl), asked_behind (codes "got") text after found named asks)
+asked_begins text after seat word.TryGot found is named asks = (written_once seat word.TryGot found.0 end.None (refl, refl), asked_behind (codes "trygot") text after found named asks)
+asked_begins text after seat word.Queued found is named asks = (written_once seat word.Queued found.0 end.None (refl, refl), asked_behind (codes "queued") text after found named asks)
+asked_begins text after seat word.Granted found is named asks = (written_once seat word.Granted found.0 end.None (refl, refl), asked_behind (codes "granted") text after found named asks)
+asked_begins text after seat word.Missed found is named asks = (written_once seat word.Missed found.0 end.None (refl, refl), asked_behind (codes "missed") text after found named asks)
+asked_begins text after seat word.Gave found is named asks = (written_once seat word.Gave found.0 end.None (refl, refl), asked_behind (codes "gave") text after found named asks)
+asked_begins text after seat w found is named asks = absurd is
 
 -- a number, a seat and words begin a text
 pub line_begins : (number seat words text behind tail rest : List ℕ) → text ≡ number ++ 32 ∷ behind → behind ≡ seat ++ 32 ∷ tail

@@ -1,5 +1,5 @@
 -- The commonest lines of entries: those of an amount of 1.
-use Rattle.std.specs.Prelude.{◌≡◌, ℕ, ◌<◌, List, [], ◌∷◌, ◌++◌, length, codes}
+use Rattle.std.specs.Prelude.{◌≡◌, ℕ, ◌<◌, List, [], ◌++◌, length, codes}
 use Rattle.history.specs.declared.entry.Entry.{Entry}
 use Rattle.history.specs.declared.entry.End.{End}
 use Rattle.history.specs.declared.entry.Mode.{Mode}
@@ -27,11 +27,6 @@ asked_name word.Granted = codes "granted"
 asked_name word.Missed = codes "missed"
 asked_name word.Gave = codes "gave"
 asked_name _ = []
-
--- this name, a letter, 1 and a break begin the text, and so many bytes follow
-abbrev pub AsksOnce : List ℕ → List ℕ → ℕ × ℕ → Type 0
-AsksOnce name text found =
-    (rest : List ℕ) × (text ≡ name ++ 32 ∷ found.0 ∷ codes " 1" ++ 10 ∷ rest) × (length rest ≡ found.1)
 
 -- an entry of 1, of no condition
 abbrev pub once : ℕ → Word → Mode → End → Entry

@@ -1,185 +1,43 @@
 //! The commonest lines of entries, read without cutting them into words.
 
-ghost use Rattle.std.specs.Prelude.{◌≡◌, ◌+◌, ◌*◌, ◌<◌, ◌≤◌, ◌∷◌, [], ◌++◌, drop, length, IfSome, codes, decimal};
-ghost use Rattle.history.specs.EntryWords.{mode_word};
-ghost use Rattle.history_text.specs.CommonEntry.{AsksOnce, BeginsWith, IsAsked, IsLineAhead, asked_name, once};
+ghost use Rattle.std.specs.Prelude.{◌≡◌, ◌≤◌, ◌∷◌, ◌++◌, drop, length, IfSome, decimal};
+ghost use Rattle.history_text.specs.CommonEntry.{BeginsWith, IsAsked, IsLineAhead, asked_name, once};
 
 use history::entry::{End, Entry, Mode, Word};
 use history::fault::Fault;
 use history::number::Numbering;
 use history::pieces::put_byte;
 use history::text::behind;
+use line_text::at_once::{behind_byte, behind_four, behind_three};
+use line_text::once::mode_of_once;
+use line_text::seat::seat_of;
 
 /// No number and space have more bytes.
 const MOST_BYTES: usize = 23;
 
-/// The mode of this letter.
+/// The word that begins the text, if a mode and an amount follow such a word, and what stands behind it and
+/// a space.
 #[inline(always)]
-fn mode_of(letter: u8) -> Option<Mode>
-    ensures { IfSome result (λ mode. mode_word mode ≡ letter ∷ []) }
+fn asked_word(text: &[u8]) -> Option<(Word, &[u8])>
+    ensures { IfSome result (λ r. IsAsked r.0 × (text.now ≡ asked_name r.0 ++ 32 ∷ r.1.now)) }
 {
-    match letter {
-        b'x' => Some(Mode::X),
-        b's' => Some(Mode::S),
-        _ => None,
+    if let Some(rest) = behind_four(*b"gave", text) {
+        return Some((Word::Gave, behind_byte(b' ', rest)?));
     }
-}
-
-/// The letter for the mode of a take of 1 at once, byte by byte, and how many bytes follow: the commonest
-/// lines of all are not worth a call.
-#[inline(always)]
-fn letter_of_got(text: &[u8]) -> Option<(u8, usize)>
-    ensures { IfSome result (AsksOnce (codes "got") text.now) }
-{
-    match text {
-        [b'g', b'o', b't', b' ', letter, b' ', b'1', b'\n', rest @ ..] => {
-            Some((*letter, rest.len()))
-        }
-        _ => None,
+    if let Some(rest) = behind_four(*b"got ", text) {
+        return Some((Word::Got, rest));
     }
-}
-
-/// The same of what was given back.
-#[inline(always)]
-fn letter_of_gave(text: &[u8]) -> Option<(u8, usize)>
-    ensures { IfSome result (AsksOnce (codes "gave") text.now) }
-{
-    match text {
-        [
-            b'g',
-            b'a',
-            b'v',
-            b'e',
-            b' ',
-            letter,
-            b' ',
-            b'1',
-            b'\n',
-            rest @ ..,
-        ] => { Some((*letter, rest.len())) }
-        _ => None,
+    if let Some(rest) = behind_four(*b"gran", text) {
+        return Some((Word::Granted, behind_four(*b"ted ", rest)?));
     }
-}
-
-/// The same of who joined the line.
-#[inline(always)]
-fn letter_of_queued(text: &[u8]) -> Option<(u8, usize)>
-    ensures { IfSome result (AsksOnce (codes "queued") text.now) }
-{
-    match text {
-        [
-            b'q',
-            b'u',
-            b'e',
-            b'u',
-            b'e',
-            b'd',
-            b' ',
-            letter,
-            b' ',
-            b'1',
-            b'\n',
-            rest @ ..,
-        ] => { Some((*letter, rest.len())) }
-        _ => None,
+    if let Some(rest) = behind_four(*b"queu", text) {
+        return Some((Word::Queued, behind_three(*b"ed ", rest)?));
     }
-}
-
-/// The same of who took from the line.
-#[inline(always)]
-fn letter_of_granted(text: &[u8]) -> Option<(u8, usize)>
-    ensures { IfSome result (AsksOnce (codes "granted") text.now) }
-{
-    match text {
-        [
-            b'g',
-            b'r',
-            b'a',
-            b'n',
-            b't',
-            b'e',
-            b'd',
-            b' ',
-            letter,
-            b' ',
-            b'1',
-            b'\n',
-            rest @ ..,
-        ] => { Some((*letter, rest.len())) }
-        _ => None,
+    if let Some(rest) = behind_four(*b"miss", text) {
+        return Some((Word::Missed, behind_three(*b"ed ", rest)?));
     }
-}
-
-/// The same of a try that took nothing.
-#[inline(always)]
-fn letter_of_missed(text: &[u8]) -> Option<(u8, usize)>
-    ensures { IfSome result (AsksOnce (codes "missed") text.now) }
-{
-    match text {
-        [
-            b'm',
-            b'i',
-            b's',
-            b's',
-            b'e',
-            b'd',
-            b' ',
-            letter,
-            b' ',
-            b'1',
-            b'\n',
-            rest @ ..,
-        ] => { Some((*letter, rest.len())) }
-        _ => None,
-    }
-}
-
-/// The same of a try that took.
-#[inline(always)]
-fn letter_of_try(text: &[u8]) -> Option<(u8, usize)>
-    ensures { IfSome result (AsksOnce (codes "trygot") text.now) }
-{
-    match text {
-        [
-            b't',
-            b'r',
-            b'y',
-            b'g',
-            b'o',
-            b't',
-            b' ',
-            letter,
-            b' ',
-            b'1',
-            b'\n',
-            rest @ ..,
-        ] => { Some((*letter, rest.len())) }
-        _ => None,
-    }
-}
-
-/// The word that a mode and 1 follow, the letter for the mode, and how many bytes follow the line.
-#[inline(always)]
-fn asked_once(text: &[u8]) -> Option<(Word, u8, usize)>
-    ensures { IfSome result (λ r. IsAsked r.0 × AsksOnce (asked_name r.0) text.now (r.1, r.2)) }
-{
-    if let Some((letter, left)) = letter_of_gave(text) {
-        return Some((Word::Gave, letter, left));
-    }
-    if let Some((letter, left)) = letter_of_got(text) {
-        return Some((Word::Got, letter, left));
-    }
-    if let Some((letter, left)) = letter_of_granted(text) {
-        return Some((Word::Granted, letter, left));
-    }
-    if let Some((letter, left)) = letter_of_queued(text) {
-        return Some((Word::Queued, letter, left));
-    }
-    if let Some((letter, left)) = letter_of_missed(text) {
-        return Some((Word::Missed, letter, left));
-    }
-    let (letter, left) = letter_of_try(text)?;
-    Some((Word::TryGot, letter, left))
+    let rest = behind_four(*b"tryg", text)?;
+    Some((Word::TryGot, behind_three(*b"ot ", rest)?))
 }
 
 /// An entry of 1, of no condition.
@@ -223,73 +81,11 @@ fn common_words(text: &[u8], seat: u16) -> Option<(Entry, usize)>
     ensures seat { IfSome result (λ r. r.0.seat ≡ seat) }
     ensures begins { IfSome result (BeginsWith text.now) }
 {
-    match asked_once(text) {
-        Some((word, letter, left)) => Some((once(seat, word, mode_of(letter)?, End::None), left)),
-        None => gone_without(text, seat),
+    if let Some((word, rest)) = asked_word(text) {
+        let (mode, left) = mode_of_once(rest)?;
+        return Some((once(seat, word, mode, End::None), left));
     }
-}
-
-/// The value of a digit.
-#[inline(always)]
-fn digit_of(byte: u8) -> Option<u16>
-    ensures { IfSome result (λ digit. (digit < 10) × (byte ≡ 48 + digit)) }
-{
-    if byte.is_ascii_digit() {
-        Some(u16::from(byte - b'0'))
-    } else {
-        None
-    }
-}
-
-/// The one byte before the first space.
-#[inline(always)]
-fn one_byte(text: &[u8]) -> Option<u8>
-    ensures seat { IfSome result (λ byte. text.now ≡ byte ∷ 32 ∷ drop 2 text.now) }
-    ensures inside { IfSome result (λ byte. 2 ≤ length text.now) }
-{
-    match text {
-        [byte, b' ', ..] => Some(*byte),
-        _ => None,
-    }
-}
-
-/// The two bytes before the first space.
-#[inline(always)]
-fn two_bytes(text: &[u8]) -> Option<(u8, u8)>
-    ensures seat { IfSome result (λ r. text.now ≡ r.0 ∷ r.1 ∷ 32 ∷ drop 3 text.now) }
-    ensures inside { IfSome result (λ r. 3 ≤ length text.now) }
-{
-    match text {
-        [first, second, b' ', ..] => Some((*first, *second)),
-        _ => None,
-    }
-}
-
-/// The number that two digits spell.
-#[inline(always)]
-fn number_of_two(first: u8, second: u8) -> Option<u16>
-    ensures { IfSome result (λ number. decimal number ≡ first ∷ second ∷ []) }
-{
-    let tens = digit_of(first)?;
-    let ones = digit_of(second)?;
-    if tens == 0 {
-        return None;
-    }
-    Some(10 * tens + ones)
-}
-
-/// The seat before the first space, and where the text goes on behind the space: most have a digit or two,
-/// and others are left to the words.
-#[inline(always)]
-fn seat_of(text: &[u8]) -> Option<(u16, usize)>
-    ensures seat { IfSome result (λ r. text.now ≡ decimal r.0 ++ 32 ∷ drop r.1 text.now) }
-    ensures inside { IfSome result (λ r. r.1 ≤ length text.now) }
-{
-    if let Some(byte) = one_byte(text) {
-        return Some((digit_of(byte)?, 2));
-    }
-    let (first, second) = two_bytes(text)?;
-    Some((number_of_two(first, second)?, 3))
+    gone_without(text, seat)
 }
 
 /// Where the text goes on behind this number and a space.
@@ -321,9 +117,9 @@ pub fn common_entry(
     let seat_at = behind_number(text, numbering, number)?;
     let from_seat = &text[seat_at..];
     let (seat, words_at) = seat_of(from_seat)?;
-    if seats <= seat {
+    if u64::from(seats) <= seat {
         return None;
     }
-    let (entry, left) = common_words(&from_seat[words_at..], seat)?;
+    let (entry, left) = common_words(&from_seat[words_at..], seat as u16)?;
     Some((entry, left))
 }

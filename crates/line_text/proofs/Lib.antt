@@ -4,3 +4,5 @@ pub mod Growing
 pub mod Following
 pub mod OneReading
 pub mod Cuts
+pub mod Seats
+pub mod AskingOnce

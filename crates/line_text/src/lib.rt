@@ -6,5 +6,8 @@
 //! reading, and each proper beginning of a good text is cut short (`proofs/`).
 #![tactic(auto)]
 
+pub mod at_once;
 pub mod fault;
 pub mod header_line;
+pub mod once;
+pub mod seat;

@@ -1,9 +1,7 @@
 -- A line begins the text.
-use Rattle.std.proofs.Common.{◌≡◌, ℕ, suc, ◌+◌, ◌-◌, ◌<◌, List, [], ◌∷◌, ◌++◌, length, length-append, append_assoc, take, drop, Some, refl, sym, ap, ◌∙◌, arith, add-one, decimal, position, ◌==◌}
-use Rattle.std.proofs.lemmas.Bool.{eqb-true}
-use Rattle.std.proofs.lemmas.List.{take_rest, take-append-drop}
-use Rattle.std.proofs.lemmas.List.Quantifiers.{position-Some}
-use Rattle.std.proofs.Math.Seq.{drop-cons, drop-append_seam}
+use Rattle.std.proofs.Common.{◌≡◌, ℕ, ◌+◌, ◌-◌, ◌<◌, List, [], ◌∷◌, ◌++◌, length, length-append, append_assoc, take, drop, refl, sym, ap, ◌∙◌, arith, decimal}
+use Rattle.std.proofs.lemmas.List.{take_rest}
+use Rattle.std.proofs.Math.Seq.{drop-append_seam}
 use Rattle.history.specs.declared.step.Step.{Step}
 use Rattle.history.specs.declared.step.Step.TheVariants.{Acquire, Try, TryFair, EntryInterrupt, Give, Look, Expire, Interrupt, Await, Signal, SignalAll, Drain}
 use Rattle.history.specs.Text.{ended, line_of}
@@ -26,13 +24,6 @@ seat_first seat (Await c) = refl
 seat_first seat (Signal c) = refl
 seat_first seat (SignalAll c) = refl
 seat_first seat Drain = refl
-
--- a text that is cut at its first space
-pub first_space : (xs : List ℕ) (i : ℕ) → position (λ b. b == 32) xs ≡ Some i → xs ≡ take i xs ++ 32 ∷ drop (i + 1) xs
-first_space xs i found =
-    let at = position-Some (λ b. b == 32) xs i 0 found in
-    let tail : drop i xs ≡ 32 ∷ drop (i + 1) xs = rw add-one (drop-cons xs i 0 at.0 ∙ ap (λ (b : ℕ). b ∷ drop (suc i) xs) (eqb-true _ _ at.1)) in
-    sym (take-append-drop i xs) ∙ ap (λ (x : List ℕ). take i xs ++ x) tail
 
 pub behind_seat : (text seat more rest : List ℕ) (s : ℕ × Step) → text ≡ seat ++ 32 ∷ more → seat ≡ decimal s.0 → more ≡ ended (line_of (step_words s.1)) ++ rest → text ≡ ended (step_line s) ++ rest
 behind_seat text seat more rest s parts is words =

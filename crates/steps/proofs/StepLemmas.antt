@@ -1,7 +1,6 @@
 -- What a step line spells is read again.
 use Rattle.std.proofs.Common.{◌≡◌, ℕ, ◌-◌, ◌^◌, ◌<◌, true, List, [], ◌∷◌, ◌++◌, Some, None, refl, sym, ap, ◌∙◌, arith, decimal}
 use Rattle.std.proofs.lemmas.Bool.{le-leb}
-use Rattle.std.proofs.lemmas.Fmt.{decimal_digit}
 use Rattle.std.proofs.lemmas.List.{append-nil}
 use Rattle.std.proofs.lemmas.List.Splits.{join_with_byte-slice_split}
 use Rattle.history.specs.Text.{line_of, words_of}
@@ -15,10 +14,6 @@ use Rattle.history.specs.declared.step.Step.{Step}
 use Rattle.history.specs.declared.step.Step.TheVariants.{Acquire, Try, TryFair, EntryInterrupt, Give, Look, Expire, Interrupt, Await, Signal, SignalAll, Drain}
 use Rattle.steps.specs.StepLines.{step_words, step_line, IsStep, HasAmounts}
 use Rattle.steps.specs.StepReading.{asked_at, condition_at, step_at, line_at}
-
--- the amount of most steps
-pub one_spelt : decimal 1 ≡ 49 ∷ []
-one_spelt = decimal_digit 1 (omega arith)
 
 asked_again : (m : Mode) (n : ℕ) → n < 2 ^ 32 → asked_at (mode_word m ∷ decimal n ∷ []) ≡ Some ((m, n), [])
 unfolding asked_at

@@ -1,30 +1,15 @@
 //! The commonest lines of a steps text, read without cutting them into words.
 
-ghost use Rattle.std.specs.Prelude.{◌≡◌, ◌+◌, ◌<◌, ◌≤◌, ◌∷◌, [], ◌++◌, drop, length, List, ℕ, IfSome, codes, decimal};
-ghost use Rattle.std.specs.Int.{w32, to_le_bytes};
-ghost use Rattle.history.specs.EntryWords.{mode_word};
+ghost use Rattle.std.specs.Prelude.{◌≡◌, ◌++◌, length, List, ℕ, IfSome};
 ghost use Rattle.history.specs.Text.{ended};
 ghost use Rattle.steps.specs.StepLines.{BeginsWith, IsStep, step_line};
 
-use crate::at_once::{behind_byte, behind_four, first_four, four};
 use history::entry::Mode;
-use history::number::number_of;
 use history::step::Step;
-use history::text::{behind, place_of};
-
-/// The mode in the four bytes that end a line behind the name of its step, where 1 is asked for.
-#[inline(always)]
-fn mode_of_one(bytes: u32) -> Option<Mode>
-    ensures { IfSome result (λ mode. to_le_bytes w32 bytes ≡ mode_word mode ++ codes " 1" ++ 10 ∷ []) }
-{
-    if bytes == four(*b"x 1\n") {
-        Some(Mode::X)
-    } else if bytes == four(*b"s 1\n") {
-        Some(Mode::S)
-    } else {
-        None
-    }
-}
+use history::text::behind;
+use line_text::at_once::{behind_byte, behind_four};
+use line_text::once::mode_of_once;
+use line_text::seat::seat_of;
 
 /// An acquire of 1.
 #[inline(always)]
@@ -37,8 +22,8 @@ fn acquire(text: &[u8]) -> Option<(Step, usize)>
     }
     let name_end = behind_four(*b"acqu", text)?;
     let asked = behind_four(*b"ire ", name_end)?;
-    let (bytes, rest) = first_four(asked)?;
-    Some((Step::Acquire(mode_of_one(bytes)?, 1), rest.len()))
+    let (mode, left) = mode_of_once(asked)?;
+    Some((Step::Acquire(mode, 1), left))
 }
 
 /// A give of 1.
@@ -51,8 +36,8 @@ fn give(text: &[u8]) -> Option<(Step, usize)>
     }
     let name_end = behind_four(*b"give", text)?;
     let asked = behind_byte(b' ', name_end)?;
-    let (bytes, rest) = first_four(asked)?;
-    Some((Step::Give(mode_of_one(bytes)?, 1), rest.len()))
+    let (mode, left) = mode_of_once(asked)?;
+    Some((Step::Give(mode, 1), left))
 }
 
 /// A look.
@@ -113,71 +98,6 @@ fn common_words(text: &[u8]) -> Option<(Step, usize)>
         b'e' | b'i' => ends_wait(text),
         _ => None,
     }
-}
-
-/// The value of a digit.
-#[inline(always)]
-fn digit_of(byte: u8) -> Option<u64>
-    ensures { IfSome result (λ digit. (digit < 10) × (byte ≡ 48 + digit)) }
-{
-    if byte.is_ascii_digit() {
-        Some(u64::from(byte - b'0'))
-    } else {
-        None
-    }
-}
-
-/// The one byte before the first space.
-#[inline(always)]
-fn one_byte(text: &[u8]) -> Option<u8>
-    ensures seat { IfSome result (λ byte. text.now ≡ byte ∷ 32 ∷ drop 2 text.now) }
-    ensures inside { IfSome result (λ byte. 2 ≤ length text.now) }
-{
-    match text {
-        [byte, b' ', ..] => Some(*byte),
-        _ => None,
-    }
-}
-
-/// The two bytes before the first space.
-#[inline(always)]
-fn two_bytes(text: &[u8]) -> Option<(u8, u8)>
-    ensures seat { IfSome result (λ r. text.now ≡ r.0 ∷ r.1 ∷ 32 ∷ drop 3 text.now) }
-    ensures inside { IfSome result (λ r. 3 ≤ length text.now) }
-{
-    match text {
-        [first, second, b' ', ..] => Some((*first, *second)),
-        _ => None,
-    }
-}
-
-/// The number that two digits spell.
-#[inline(always)]
-fn number_of_two(first: u8, second: u8) -> Option<u64>
-    ensures { IfSome result (λ number. decimal number ≡ first ∷ second ∷ []) }
-{
-    let tens = digit_of(first)?;
-    let ones = digit_of(second)?;
-    if tens == 0 {
-        return None;
-    }
-    Some(10 * tens + ones)
-}
-
-/// The number before the first space, and where the text goes on behind the space: most have a digit or two.
-#[inline(always)]
-fn seat_of(text: &[u8]) -> Option<(u64, usize)>
-    ensures seat { IfSome result (λ r. text.now ≡ decimal r.0 ++ 32 ∷ drop r.1 text.now) }
-    ensures inside { IfSome result (λ r. r.1 ≤ length text.now) }
-{
-    if let Some(byte) = one_byte(text) {
-        return Some((digit_of(byte)?, 2));
-    }
-    if let Some((first, second)) = two_bytes(text) {
-        return Some((number_of_two(first, second)?, 3));
-    }
-    let at = place_of(b' ', text)?;
-    Some((number_of(&text[..at])?, at + 1))
 }
 
 /// The seat and the step whose line begins the text, if it is one of the commonest, and how many bytes follow.

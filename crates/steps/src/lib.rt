@@ -4,7 +4,6 @@
 //! [`one_reading`]. What begins a steps text and isn't all of it is cut short: [`cut_short`].
 #![tactic(auto)]
 
-mod at_once;
 mod common_step;
 mod end_line;
 mod law;

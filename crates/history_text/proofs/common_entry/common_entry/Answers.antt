@@ -1,4 +1,4 @@
-use Rattle.std.proofs.Common.{◌-◌, decimal, drop, take, length, sym, ◌∙◌}
+use Rattle.std.proofs.Common.{◌-◌, decimal, drop, take, length, sym, ◌∙◌, arith}
 use Rattle.std.proofs.lemmas.List.{take_rest}
 use Rattle.history.specs.EntryWords.{entry_words}
 use Rattle.history.specs.Text.{line_of}
@@ -15,7 +15,7 @@ returns c =
     let found = c.in_ok-entry.ensures in
     let seat = found.seat in
     let words = found.begins in (
-      rw seat c.if-seats-seat.false,
+      rw seat (omega (arith, c.if-from-seat.false)),
       words.0,
       (
         words.1.0,

@@ -1,10 +1,8 @@
-use Rattle.std.proofs.Common.{ℕ, List, ◌++◌, ◌∷◌, codes, refl, ap, ◌∙◌, arith}
-use Rattle.steps.proofs.StepLemmas.{one_spelt}
+use Rattle.std.proofs.Common.{ℕ, List, ◌++◌, codes, ap, ◌∙◌, arith}
+use Rattle.line_text.proofs.AskingOnce.{asked_behind}
 use Rattle.steps.proofs.common_step.give.Goals as goal
 
 pub returns : goal.returns
 returns c =
-    let rest = c.in_ok-bytes.rest.now in
-    let asked = c.in_ok-bytes.ensures ∙ ap (λ (t : List ℕ). t ++ rest) c.in_ok-mode_of_one.ensures in
-    let named = c.in_ok-name_end.ensures ∙ ap (λ (t : List ℕ). codes "give" ++ t) (c.in_ok-asked.ensures ∙ ap (λ (t : List ℕ). 32 ∷ t) asked) in
-    (omega arith, (rest, rw one_spelt named, refl))
+    let named = c.in_ok-name_end.ensures ∙ ap (λ (t : List ℕ). codes "give" ++ t) c.in_ok-asked.ensures in
+    (omega arith, asked_behind (codes "give") c.args.text.now _ (c.in_ok-mode.mode, c.in_ok-mode.left) named c.in_ok-mode.ensures)

@@ -1,7 +1,7 @@
 use Rattle.std.proofs.Common.{◌+◌, ◌∷◌, ◌++◌, ap, sym, ◌∙◌, drop, List, ℕ}
 use Rattle.std.proofs.lemmas.Fmt.{decimal_digit}
-use Rattle.steps.proofs.Lines.{first_space}
-use Rattle.steps.proofs.common_step.seat_of.Goals as goal
+use Rattle.line_text.proofs.Seats.{first_space}
+use Rattle.line_text.proofs.seat.seat_of.Goals as goal
 
 pub returns-in-Some-clause-seat : goal.returns-in-Some-clause-seat
 returns-in-Some-clause-seat c =

@@ -1,6 +1,6 @@
 use Rattle.std.proofs.Common.{◌≡◌, ◌+◌, ◌*◌, ◌/◌, ◌%◌, arith}
 use Rattle.history.proofs.LastDigit.{two_digits}
-use Rattle.history_text.proofs.common_entry.number_of_two.Goals as goal
+use Rattle.line_text.proofs.seat.number_of_two.Goals as goal
 
 pub returns : goal.returns
 returns c =

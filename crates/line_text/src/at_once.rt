@@ -5,7 +5,7 @@ ghost use Rattle.std.specs.Int.{w32, to_le_bytes};
 
 /// Four bytes, the first the lowest of the number.
 #[inline(always)]
-pub fn four(bytes: [u8; 4]) -> u32
+pub(crate) fn four(bytes: [u8; 4]) -> u32
     ensures { to_le_bytes w32 result ≡ bytes }
 {
     u32::from_le_bytes(bytes)
@@ -13,7 +13,7 @@ pub fn four(bytes: [u8; 4]) -> u32
 
 /// The first four bytes of a text, and what follows them.
 #[inline(always)]
-pub fn first_four(text: &[u8]) -> Option<(u32, &[u8])>
+pub(crate) fn first_four(text: &[u8]) -> Option<(u32, &[u8])>
     ensures { IfSome result (λ r. text.now ≡ to_le_bytes w32 r.0 ++ r.1.now) }
 {
     match text {
@@ -44,4 +44,15 @@ pub fn behind_byte(byte: u8, text: &[u8]) -> Option<&[u8]>
         [first, rest @ ..] if *first == byte => Some(rest),
         _ => None,
     }
+}
+
+/// What stands behind these three bytes. None where the text begins otherwise.
+#[inline(always)]
+pub fn behind_three(beginning: [u8; 3], text: &[u8]) -> Option<&[u8]>
+    ensures { IfSome result (λ rest. text.now ≡ beginning ++ rest.now) }
+{
+    let [first, second, third] = beginning;
+    let behind_first = behind_byte(first, text)?;
+    let behind_second = behind_byte(second, behind_first)?;
+    behind_byte(third, behind_second)
 }

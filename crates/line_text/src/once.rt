@@ -1,0 +1,32 @@
+//! The end of a line that asks for 1: a mode, the amount and the break.
+
+ghost use Rattle.std.specs.Prelude.{◌≡◌, ◌∷◌, [], ◌++◌, IfSome, codes};
+ghost use Rattle.std.specs.Int.{w32, to_le_bytes};
+ghost use Rattle.history.specs.EntryWords.{mode_word};
+ghost use Rattle.line_text.specs.Once.{AsksOnce};
+
+use crate::at_once::{first_four, four};
+use history::entry::Mode;
+
+/// The mode in these four bytes.
+#[inline(always)]
+fn mode_of_four(bytes: u32) -> Option<Mode>
+    ensures { IfSome result (λ mode. to_le_bytes w32 bytes ≡ mode_word mode ++ codes " 1" ++ 10 ∷ []) }
+{
+    if bytes == four(*b"x 1\n") {
+        Some(Mode::X)
+    } else if bytes == four(*b"s 1\n") {
+        Some(Mode::S)
+    } else {
+        None
+    }
+}
+
+/// The mode that begins the text, if 1 and a break stand behind it, and how many bytes follow them.
+#[inline(always)]
+pub fn mode_of_once(text: &[u8]) -> Option<(Mode, usize)>
+    ensures { IfSome result (AsksOnce text.now) }
+{
+    let (bytes, rest) = first_four(text)?;
+    Some((mode_of_four(bytes)?, rest.len()))
+}

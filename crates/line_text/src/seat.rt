@@ -1,0 +1,72 @@
+//! The seat that begins a line, read without cutting the line into words.
+
+ghost use Rattle.std.specs.Prelude.{◌≡◌, ◌+◌, ◌*◌, ◌<◌, ◌≤◌, ◌∷◌, [], ◌++◌, drop, length, IfSome, decimal};
+
+use history::number::number_of;
+use history::text::place_of;
+
+/// The value of a digit.
+#[inline(always)]
+fn digit_of(byte: u8) -> Option<u64>
+    ensures { IfSome result (λ digit. (digit < 10) × (byte ≡ 48 + digit)) }
+{
+    if byte.is_ascii_digit() {
+        Some(u64::from(byte - b'0'))
+    } else {
+        None
+    }
+}
+
+/// The one byte before the first space.
+#[inline(always)]
+fn one_byte(text: &[u8]) -> Option<u8>
+    ensures seat { IfSome result (λ byte. text.now ≡ byte ∷ 32 ∷ drop 2 text.now) }
+    ensures inside { IfSome result (λ byte. 2 ≤ length text.now) }
+{
+    match text {
+        [byte, b' ', ..] => Some(*byte),
+        _ => None,
+    }
+}
+
+/// The two bytes before the first space.
+#[inline(always)]
+fn two_bytes(text: &[u8]) -> Option<(u8, u8)>
+    ensures seat { IfSome result (λ r. text.now ≡ r.0 ∷ r.1 ∷ 32 ∷ drop 3 text.now) }
+    ensures inside { IfSome result (λ r. 3 ≤ length text.now) }
+{
+    match text {
+        [first, second, b' ', ..] => Some((*first, *second)),
+        _ => None,
+    }
+}
+
+/// The number that two digits spell.
+#[inline(always)]
+fn number_of_two(first: u8, second: u8) -> Option<u64>
+    ensures { IfSome result (λ number. decimal number ≡ first ∷ second ∷ []) }
+{
+    let tens = digit_of(first)?;
+    let ones = digit_of(second)?;
+    if tens == 0 {
+        return None;
+    }
+    Some(10 * tens + ones)
+}
+
+/// The number before the first space, and where the text goes on behind the space: most seats have a digit or
+/// two. None where no such number begins the text.
+#[inline(always)]
+pub fn seat_of(text: &[u8]) -> Option<(u64, usize)>
+    ensures seat { IfSome result (λ r. text.now ≡ decimal r.0 ++ 32 ∷ drop r.1 text.now) }
+    ensures inside { IfSome result (λ r. r.1 ≤ length text.now) }
+{
+    if let Some(byte) = one_byte(text) {
+        return Some((digit_of(byte)?, 2));
+    }
+    if let Some((first, second)) = two_bytes(text) {
+        return Some((number_of_two(first, second)?, 3));
+    }
+    let at = place_of(b' ', text)?;
+    Some((number_of(&text[..at])?, at + 1))
+}
