@@ -6,8 +6,8 @@ ghost use Rattle.aqs.specs.declared.fault.Fault.TheVariants.{Memory};
 
 use clap::Error;
 use clap::error::ErrorKind;
-use driver::stream_fault::StreamFault;
 use std::alloc::AllocError;
+use streams::stream_fault::StreamFault;
 
 /// A fault, which the program tells in one line.
 #[derive(Clone, Copy, Debug, PartialEq, Eq, thiserror::Error)]

@@ -18,11 +18,7 @@ use crate::arguments::{Asked, Task, arguments};
 use crate::fault::Fault;
 use audit::verdict::Verdict;
 use driver::audit_stream::audit_stream;
-use driver::device::Device;
 use driver::replay_stream::replay_stream;
-use driver::sink::Sink;
-use driver::source::Source;
-use driver::stream_fault::StreamFault;
 use std::alloc::Global;
 use std::convert::AsStr;
 use std::env;
@@ -30,6 +26,10 @@ use std::fs::File;
 use std::io::{self, Read, Write};
 use std::process::ExitCode;
 use std::rt::{Env, Files};
+use streams::device::Device;
+use streams::sink::Sink;
+use streams::source::Source;
+use streams::stream_fault::StreamFault;
 
 /// The exit status behind a verdict.
 fn status_for(verdict: Verdict) -> u8

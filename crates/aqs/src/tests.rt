@@ -4,12 +4,12 @@ use crate::arguments::{Task, arguments};
 use crate::fault::Fault;
 use crate::{run, told};
 use driver::form::Form;
-use driver::stream_fault::StreamFault;
 use std::cell::RefCell;
 use std::fmt::{Display, Write};
 use std::io;
 use std::test::Fail;
 use steps::TextFault;
+use streams::stream_fault::StreamFault;
 
 #[test]
 fn asks_for_a_file_or_standard_input(rt: HostRuntime) -> Result<(), Fail> {

@@ -10,7 +10,7 @@ use Rattle.audit.specs.declared.auditor.Auditor.{Auditor}
 use Rattle.audit.specs.declared.verdict.Judgement.{Judgement}
 use Rattle.audit.specs.Auditor.{CanFollow, HasJudged, IsAuditor}
 use Rattle.audit.specs.Verdict.{IsJudgement}
-use Rattle.driver.specs.declared.stream_fault.StreamFault.{StreamFault}
+use Rattle.streams.specs.declared.stream_fault.StreamFault.{StreamFault}
 use Rattle.driver.specs.AuditStream.{IsJudged}
 use Rattle.driver.specs.HistoryReader.{AreCounted, EntriesHeld, EntriesRead, WereRead, IsFaultBehind, IsNext, entries_read}
 

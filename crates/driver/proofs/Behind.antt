@@ -17,11 +17,11 @@ use Rattle.steps.specs.StepsText.{steps_form}
 use Rattle.history.specs.EntryWords.{IsSpelt}
 use Rattle.history_text.proofs.Lists.{each-reverse}
 use Rattle.driver.specs.declared.form.Form.{Form}
-use Rattle.driver.specs.declared.stream_fault.StreamFault.{StreamFault}
-use Rattle.driver.specs.declared.stream_fault.StreamFault.TheVariants.{Text, ReadFailed, WriteFailed, Memory}
+use Rattle.streams.specs.declared.stream_fault.StreamFault.{StreamFault}
+use Rattle.streams.specs.declared.stream_fault.StreamFault.TheVariants.{Text, ReadFailed, WriteFailed, Memory}
 use Rattle.driver.specs.Answers.{AllAnswers, Writes, answers_text}
 use Rattle.driver.specs.ReplayStream.{AreAnswersTo, Replayed, Replays, answer_text}
-use Rattle.driver.specs.Whole.{AppendsFront}
+use Rattle.streams.specs.Whole.{AppendsFront}
 use Rattle.driver.specs.ReplayText.{history_behind}
 use Rattle.driver.proofs.Told.{follows}
 

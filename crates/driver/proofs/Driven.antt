@@ -20,8 +20,8 @@ use Rattle.line_text.specs.Form.{lines_of}
 use Rattle.line_text.specs.Reading.{IsText}
 use Rattle.steps.specs.StepsText.{steps_form}
 use Rattle.driver.specs.declared.form.Form.TheVariants.{Replay, History}
-use Rattle.driver.specs.declared.stream_fault.StreamFault.{StreamFault}
-use Rattle.driver.specs.declared.stream_fault.StreamFault.TheVariants.{ReadFailed}
+use Rattle.streams.specs.declared.stream_fault.StreamFault.{StreamFault}
+use Rattle.streams.specs.declared.stream_fault.StreamFault.TheVariants.{ReadFailed}
 use Rattle.driver.specs.ReplayStream.{AreAnswersBehind, IsAnswerTo, answer_text}
 use Rattle.driver.specs.Answers.{answers_text, first_line}
 use Rattle.driver.specs.Remarks.{IsKept, remark_of}

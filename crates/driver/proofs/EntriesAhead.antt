@@ -16,8 +16,8 @@ use Rattle.history_text.specs.EntryLines.{entry_line}
 use Rattle.history_text.specs.HistoryRead.{HistoryRead, AreRead, IsAhead, IsLineOf}
 use Rattle.history_text.specs.HistoryText.{history_form}
 use Rattle.history_text.proofs.HistoryReading.{read_on}
-use Rattle.driver.specs.declared.stream_fault.StreamFault.{StreamFault}
-use Rattle.driver.specs.declared.stream_fault.StreamFault.TheVariants.{Text, ReadFailed, WriteFailed, Memory}
+use Rattle.streams.specs.declared.stream_fault.StreamFault.{StreamFault}
+use Rattle.streams.specs.declared.stream_fault.StreamFault.TheVariants.{Text, ReadFailed, WriteFailed, Memory}
 use Rattle.driver.specs.HistoryReader.{EntriesHeld, EntriesRead, entries_read, WereRead, IsFaultOf, IsBehindEnd, IsNext}
 
 -- ---- what was read

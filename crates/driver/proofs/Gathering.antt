@@ -6,9 +6,9 @@ use Rattle.std.proofs.lemmas.List.{take-append-le}
 use Rattle.std.proofs.KnownBytes.{Appends-nil, Appends-trans}
 use Rattle.std.specs.Io.KnownBytes.{Appends}
 use Rattle.std.specs.Result.{IsErr, OnErr, OnOk}
-use Rattle.driver.specs.declared.source.DeviceFailed.{DeviceFailed}
+use Rattle.streams.specs.declared.source.DeviceFailed.{DeviceFailed}
 use Rattle.driver.specs.LineWriter.{Gathers, IsGathered}
-use Rattle.driver.specs.Whole.{AppendsFront}
+use Rattle.streams.specs.Whole.{AppendsFront}
 
 -- a front of some bytes is a front of those and more
 front_by : (a b : Option (List ℕ)) (bytes more : List ℕ) (n : ℕ) → (n < length bytes) ⊎ (length bytes ≤ n) → Appends a b (take n bytes) → AppendsFront a b (bytes ++ more)

@@ -15,10 +15,10 @@ use Rattle.steps.specs.StepLines.{step_line}
 use Rattle.steps.specs.StepsRead.{StepsRead, AreRead, IsAhead, IsLineOf}
 use Rattle.steps.specs.StepsText.{steps_form}
 use Rattle.steps.proofs.Lines.{read_on}
-use Rattle.driver.specs.declared.stream_fault.StreamFault.{StreamFault}
-use Rattle.driver.specs.declared.stream_fault.StreamFault.TheVariants.{Text, ReadFailed, WriteFailed, Memory}
+use Rattle.streams.specs.declared.stream_fault.StreamFault.{StreamFault}
+use Rattle.streams.specs.declared.stream_fault.StreamFault.TheVariants.{Text, ReadFailed, WriteFailed, Memory}
 use Rattle.driver.specs.StepReader.{Held, Progress, progress, WereRead, IsFaultOf, IsBehindEnd, IsNext}
-use Rattle.driver.specs.Window.{Grows}
+use Rattle.streams.specs.Window.{Grows}
 
 -- ---- the source
 

@@ -9,11 +9,11 @@ use Rattle.history_text.specs.EntryLines.{entry_line}
 use Rattle.history_text.specs.HistoryText.{history_form}
 use Rattle.line_text.specs.Form.{lines_of}
 use Rattle.line_text.proofs.Growing.{lines_of-push}
-use Rattle.driver.specs.declared.source.DeviceFailed.{DeviceFailed}
+use Rattle.streams.specs.declared.source.DeviceFailed.{DeviceFailed}
 use Rattle.driver.specs.declared.remark.Remark.{Remark}
 use Rattle.driver.specs.Remarks.{entries_said, said_line, told_lines}
 use Rattle.driver.specs.LineWriter.{Gathers, IsGathered}
-use Rattle.driver.specs.Whole.{AppendsFront}
+use Rattle.streams.specs.Whole.{AppendsFront}
 use Rattle.driver.proofs.Gathering.{gathered_more, front_more, front_longer}
 
 lines_of-append : (k : ℕ) (xs ys : List Entry) → lines_of history_form k (xs ++ ys) ≡ lines_of history_form k xs ++ lines_of history_form (k + length xs) ys

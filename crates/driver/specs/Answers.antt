@@ -10,10 +10,10 @@ use Rattle.history_text.specs.EntryLines.{counts_line}
 use Rattle.driver.specs.declared.form.Form.{Form}
 use Rattle.driver.specs.declared.form.Form.TheVariants.{Replay, History}
 use Rattle.driver.specs.declared.remark.Remark.{Remark}
-use Rattle.driver.specs.declared.stream_fault.StreamFault.{StreamFault}
-use Rattle.driver.specs.declared.stream_fault.StreamFault.TheVariants.{WriteFailed, Memory}
+use Rattle.streams.specs.declared.stream_fault.StreamFault.{StreamFault}
+use Rattle.streams.specs.declared.stream_fault.StreamFault.TheVariants.{WriteFailed, Memory}
 use Rattle.driver.specs.Remarks.{told_lines}
-use Rattle.driver.specs.Whole.{AppendsFront}
+use Rattle.streams.specs.Whole.{AppendsFront}
 
 -- the header, the entries, the newest first, and what there is to remark beside them
 pub record AllAnswers : Type 0 where

@@ -11,10 +11,10 @@ use Rattle.history.specs.Legal.{IsLegal}
 use Rattle.history.specs.Start.{opening}
 use Rattle.history_text.specs.HistoryText.{history_form}
 use Rattle.line_text.specs.Reading.{IsText}
-use Rattle.driver.specs.declared.stream_fault.StreamFault.{StreamFault}
+use Rattle.streams.specs.declared.stream_fault.StreamFault.{StreamFault}
 use Rattle.driver.specs.AuditText.{audit_text}
 use Rattle.driver.specs.HistoryReader.{EntriesHeld, EntriesRead, OfText}
-use Rattle.driver.specs.Streams.{Streams}
+use Rattle.streams.specs.Streams.{Streams}
 
 -- the history is legal, or this is its first entry that isn't
 abbrev pub IsVerdict : Header → List Entry → Verdict → Type 0

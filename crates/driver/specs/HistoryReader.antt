@@ -8,8 +8,8 @@ use Rattle.line_text.specs.declared.fault.TextFault.TheVariants.{BadLine}
 use Rattle.line_text.specs.Reading.{IsText, IsReading}
 use Rattle.history_text.specs.HistoryRead.{AreRead}
 use Rattle.history_text.specs.HistoryText.{history_form}
-use Rattle.driver.specs.declared.stream_fault.StreamFault.{StreamFault}
-use Rattle.driver.specs.declared.stream_fault.StreamFault.TheVariants.{Text, ReadFailed, WriteFailed, Memory}
+use Rattle.streams.specs.declared.stream_fault.StreamFault.{StreamFault}
+use Rattle.streams.specs.declared.stream_fault.StreamFault.TheVariants.{Text, ReadFailed, WriteFailed, Memory}
 
 -- What a reader of entries has: the header, how many entries it gave, how many of them end a call, and the
 -- bytes behind them that it holds.

@@ -3,15 +3,9 @@ pub mod Answers
 pub mod AuditStream
 pub mod AuditText
 pub mod LineWriter
-pub mod MemorySink
-pub mod MemorySource
 pub mod Remarks
 pub mod Replay
 pub mod ReplayStream
 pub mod ReplayText
 pub mod StepReader
-pub mod Streams
-pub mod Turns
-pub mod Whole
-pub mod Window
 pub mod HistoryReader

@@ -1,8 +1,8 @@
 -- Lines on their way to a sink.
 use Rattle.std.specs.Prelude.{◌≡◌, ℕ, List, ◌++◌, Option, Result, Ok, Err}
 use Rattle.std.specs.Io.KnownBytes.{Appends}
-use Rattle.driver.specs.declared.source.DeviceFailed.{DeviceFailed}
-use Rattle.driver.specs.Whole.{AppendsFront}
+use Rattle.streams.specs.declared.source.DeviceFailed.{DeviceFailed}
+use Rattle.streams.specs.Whole.{AppendsFront}
 
 -- the bytes that were not written yet, and for how many more there is room
 pub record Gathered : Type 0 where

@@ -10,11 +10,11 @@ use Rattle.steps.specs.StepsText.{steps_form}
 use Rattle.history_text.specs.HistoryText.{history_text}
 use Rattle.driver.specs.declared.form.Form.{Form}
 use Rattle.driver.specs.declared.form.Form.TheVariants.{Replay, History}
-use Rattle.driver.specs.declared.stream_fault.StreamFault.{StreamFault}
+use Rattle.streams.specs.declared.stream_fault.StreamFault.{StreamFault}
 use Rattle.driver.specs.Answers.{AllAnswers, answers_text}
 use Rattle.driver.specs.ReplayText.{replay_text, history_behind}
 use Rattle.driver.specs.StepReader.{Progress, OfText}
-use Rattle.driver.specs.Streams.{Streams}
+use Rattle.streams.specs.Streams.{Streams}
 
 abbrev pub answer_text : Form → Header → List (ℕ × Step) → List ℕ
 answer_text Replay h steps = replay_text h steps

@@ -7,8 +7,8 @@ use Rattle.line_text.specs.declared.fault.TextFault.TheVariants.{BadLine}
 use Rattle.line_text.specs.Reading.{IsText, IsReading}
 use Rattle.steps.specs.StepsRead.{AreRead}
 use Rattle.steps.specs.StepsText.{steps_form}
-use Rattle.driver.specs.declared.stream_fault.StreamFault.{StreamFault}
-use Rattle.driver.specs.declared.stream_fault.StreamFault.TheVariants.{Text, ReadFailed, WriteFailed, Memory}
+use Rattle.streams.specs.declared.stream_fault.StreamFault.{StreamFault}
+use Rattle.streams.specs.declared.stream_fault.StreamFault.TheVariants.{Text, ReadFailed, WriteFailed, Memory}
 
 -- What a reader of steps has: the header, how many steps it gave, and the bytes behind them that it holds.
 pub record Held : Type 0 where

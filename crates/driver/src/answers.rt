@@ -9,23 +9,23 @@ ghost use Rattle.history.specs.Start.{opening};
 ghost use Rattle.history.specs.Text.{ended};
 ghost use Rattle.history_text.specs.HistoryText.{history_form};
 ghost use Rattle.line_text.specs.Form.{lines_of};
-ghost use Rattle.driver.specs.declared.stream_fault.StreamFault.TheVariants.{Memory};
+ghost use Rattle.streams.specs.declared.stream_fault.StreamFault.TheVariants.{Memory};
 ghost use Rattle.driver.specs.Answers.{Writes, answers_text, first_line, remarks_in, text_behind};
 ghost use Rattle.driver.specs.LineWriter.{Gathers};
 ghost use Rattle.driver.specs.Remarks.{said_line, told_lines};
-ghost use Rattle.driver.specs.Whole.{AppendsFront};
+ghost use Rattle.streams.specs.Whole.{AppendsFront};
 
 use crate::form::Form;
 use crate::line_writer::LineWriter;
 use crate::remark::{Remark, Said};
-use crate::sink::Sink;
-use crate::source::DeviceFailed;
-use crate::stream_fault::StreamFault;
 use history::entries::History;
 use history::header::Header;
 use history::step::Answer;
 use std::alloc::Global;
 use std::marker::Model;
+use streams::sink::Sink;
+use streams::source::DeviceFailed;
+use streams::stream_fault::StreamFault;
 
 /// The answers of an object to all steps of a text.
 ///

@@ -3,17 +3,17 @@
 ghost use Rattle.std.specs.Prelude.{◌≡◌, ◌↔◌, false, IsTrue, IfErr, IfOk, IfSome, IsErrOf};
 ghost use Rattle.driver.specs.AuditStream.{Audited, Audits, IsJudged};
 ghost use Rattle.driver.specs.HistoryReader.{IsFaultBehind, IsFaultOf, entries_read};
-ghost use Rattle.driver.specs.Streams.{IsReadOut};
+ghost use Rattle.streams.specs.Streams.{IsReadOut};
 
 use crate::audit_text::audit_text;
 use crate::history_reader::HistoryReader;
-use crate::sink::Sink;
-use crate::source::Source;
-use crate::stream_fault::StreamFault;
-use crate::whole::{read_on, write_all};
 use audit::auditor::Auditor;
 use audit::verdict::{Judgement, Verdict};
 use std::alloc::Global;
+use streams::sink::Sink;
+use streams::source::Source;
+use streams::stream_fault::StreamFault;
+use streams::whole::{read_on, write_all};
 
 /// Reads a history text, judges the history, and writes what an audit says of it. The verdict is answered
 /// too.

@@ -4,9 +4,6 @@ ghost use Rattle.std.specs.Prelude.{◌≡◌, ◌<◌, ◌≤◌, ◌↔◌, []
 ghost use Rattle.history.specs.Header.{IsInRange};
 ghost use Rattle.driver.specs.HistoryReader.{AreCounted, IsBehindEnd, IsFaultOf, IsNext, WereRead, entries_read, entry_passed};
 
-use crate::source::Source;
-use crate::stream_fault::StreamFault;
-use crate::window::Window;
 use history::entries::ends_call;
 use history::entry::Entry;
 use history::header::Header;
@@ -15,6 +12,9 @@ use history_text::next_entry::{header_of, next_entry};
 use line_text::fault::TextFault;
 use std::alloc::Global;
 use std::marker::Model;
+use streams::source::Source;
+use streams::stream_fault::StreamFault;
+use streams::window::Window;
 
 /// A history text of which the header, and so many entries, were read.
 #[derive(Drop)]

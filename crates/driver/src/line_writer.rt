@@ -7,18 +7,18 @@ ghost use Rattle.history_text.specs.EntryLines.{counts_line};
 ghost use Rattle.driver.specs.LineWriter.{Gathers};
 ghost use Rattle.driver.specs.Replay.{HasLine};
 ghost use Rattle.driver.specs.ReplayText.{answer_line};
-ghost use Rattle.driver.specs.Whole.{AppendsFront};
+ghost use Rattle.streams.specs.Whole.{AppendsFront};
 
 use crate::answer_line::spell_answer;
-use crate::sink::Sink;
-use crate::source::DeviceFailed;
-use crate::whole::write_all;
 use history::fault::Fault;
 use history::number::{Numbering, spell};
 use history::pieces::{put_byte, put_bytes};
 use history::step::Answer;
 use std::alloc::{AllocError, Global};
 use std::marker::Model;
+use streams::sink::Sink;
+use streams::source::DeviceFailed;
+use streams::whole::write_all;
 
 /// No line has more bytes.
 const MOST_BYTES: usize = 136;

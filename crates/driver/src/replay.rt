@@ -3,20 +3,20 @@
 ghost use Rattle.std.specs.Prelude.{◌≡◌, ◌↔◌, [], false, IfErr, IfOk, IsErrOf, IsTrue, OnOk, Err, length};
 ghost use Rattle.history.specs.Legal.{IsLegal};
 ghost use Rattle.history.specs.Start.{opening};
-ghost use Rattle.driver.specs.declared.stream_fault.StreamFault.TheVariants.{Memory};
+ghost use Rattle.streams.specs.declared.stream_fault.StreamFault.TheVariants.{Memory};
 ghost use Rattle.driver.specs.Remarks.{IsKept};
 ghost use Rattle.driver.specs.ReplayStream.{AreAnswersBehind};
 ghost use Rattle.driver.specs.StepReader.{IsFaultBehind, progress};
 
 use crate::answering::Answering;
 use crate::remark::{Remark, remark_on};
-use crate::source::Source;
 use crate::step_reader::StepReader;
-use crate::stream_fault::StreamFault;
 use history::entries::History;
 use history::fault::Fault;
 use history::step::Answer;
 use std::alloc::Global;
+use streams::source::Source;
+use streams::stream_fault::StreamFault;
 
 /// Whether a step was refused for want of memory.
 #[inline(always)]

@@ -2,18 +2,14 @@
 
 ghost use Rattle.std.specs.Prelude.{◌≡◌, ◌↔◌, [], false, IsTrue, IfErr, IfOk, IsErrOf};
 ghost use Rattle.driver.specs.ReplayStream.{AreAnswersBehind, AreAnswersTo, Replays};
-ghost use Rattle.driver.specs.Streams.{IsReadOut};
+ghost use Rattle.streams.specs.Streams.{IsReadOut};
 ghost use Rattle.driver.specs.StepReader.{IsFaultBehind, IsFaultOf, progress};
 
 use crate::answering::Answering;
 use crate::answers::Answers;
 use crate::form::Form;
 use crate::replay::replay;
-use crate::sink::Sink;
-use crate::source::Source;
 use crate::step_reader::StepReader;
-use crate::stream_fault::StreamFault;
-use crate::whole::read_on;
 use counting::latch::LatchHooks;
 use counting::semaphore::SemaphoreHooks;
 use frame::hooks::Hooks;
@@ -22,6 +18,10 @@ use history::header::Object;
 use read_write::hooks::RwHooks;
 use reentrant::lock::LockHooks;
 use std::alloc::Global;
+use streams::sink::Sink;
+use streams::source::Source;
+use streams::stream_fault::StreamFault;
+use streams::whole::read_on;
 
 /// Reads a steps text, and writes what a fresh object of its header answers to the steps.
 ///

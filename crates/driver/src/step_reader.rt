@@ -3,17 +3,17 @@
 ghost use Rattle.std.specs.Prelude.{◌≡◌, ◌+◌, ◌^◌, ◌<◌, ◌≤◌, ◌∷◌, ◌++◌, ◌↔◌, ◌-◌, [], false, drop, length, IsTrue, IsErrOf, IfOk, IfErr, IfSome, OnOk};
 ghost use Rattle.history.specs.Header.{IsInRange};
 ghost use Rattle.driver.specs.StepReader.{IsBehindEnd, IsFaultOf, IsNext, WereRead, passed, progress};
-ghost use Rattle.driver.specs.declared.stream_fault.StreamFault.TheVariants.{Memory};
+ghost use Rattle.streams.specs.declared.stream_fault.StreamFault.TheVariants.{Memory};
 
-use crate::source::Source;
-use crate::stream_fault::StreamFault;
-use crate::window::Window;
 use history::header::Header;
 use history::step::Step;
 use line_text::fault::TextFault;
 use std::alloc::Global;
 use std::marker::Model;
 use steps::next_line::{header_of, next_line};
+use streams::source::Source;
+use streams::stream_fault::StreamFault;
+use streams::window::Window;
 
 /// Steps are counted up to here: a text with more is answered by want of memory.
 const MOST: u64 = 18_446_744_073_709_551_612;

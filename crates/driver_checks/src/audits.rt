@@ -6,11 +6,6 @@ use crate::spoiled::SPOILED;
 use crate::streams::fail_as_told;
 use audit::verdict::Verdict;
 use driver::audit_stream::audit_stream;
-use driver::memory_sink::MemorySink;
-use driver::memory_source::MemorySource;
-use driver::sink::Sink;
-use driver::source::Source;
-use driver::stream_fault::StreamFault;
 use examples::situations;
 use history::fault::Fault;
 use history_text::{read_text, write_text};
@@ -19,6 +14,11 @@ use std::alloc::Global;
 use std::process::Abort;
 use std::test::Fail;
 use steps::TextFault;
+use streams::memory_sink::MemorySink;
+use streams::memory_source::MemorySource;
+use streams::sink::Sink;
+use streams::source::Source;
+use streams::stream_fault::StreamFault;
 
 /// More places than any answer here takes.
 const AMPLE: usize = 256;

@@ -3,12 +3,12 @@
 use crate::plain::plainly_read;
 use crate::streams::{AMPLE, streamed};
 use driver::form::Form;
-use driver::stream_fault::StreamFault;
 use examples::situations;
 use std::alloc::{AllocError, Global};
 use std::process::Abort;
 use std::test::Fail;
 use steps::{StepsText, TextFault, read_steps};
+use streams::stream_fault::StreamFault;
 
 /// The history text of a replay text: its lines for entries, without those whom they name.
 fn history_within(alloc: Global, replay: &[u8]) -> Result<Vec<u8>, AllocError> {

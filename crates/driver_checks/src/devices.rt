@@ -1,14 +1,14 @@
 //! The readers and writers of std.
 
 use crate::streams::{ANSWER, TEXT};
-use driver::device::Device;
 use driver::form::Form;
 use driver::replay_stream::replay_stream;
-use driver::sink::Sink;
-use driver::source::Source;
-use driver::stream_fault::StreamFault;
 use std::io;
 use std::test::Fail;
+use streams::device::Device;
+use streams::sink::Sink;
+use streams::source::Source;
+use streams::stream_fault::StreamFault;
 
 /// What each call answers.
 #[derive(Clone, Copy)]

@@ -9,12 +9,10 @@ ghost use Rattle.history.specs.declared.header.Object.TheVariants.{Lock};
 ghost use Rattle.history.specs.declared.header.Policy.TheVariants.{Fair};
 
 use driver::answering::Answering;
-use driver::device::Device;
 use driver::form::Form;
 use driver::replay::replay;
 use driver::replay_stream::replay_stream;
 use driver::step_reader::StepReader;
-use driver::stream_fault::StreamFault;
 use frame::machine::Core;
 use history::entries::History;
 use history::fault::Fault;
@@ -25,6 +23,8 @@ use scarce_memory::all_memory;
 use std::alloc::Global;
 use std::process::Abort;
 use std::test::Fail;
+use streams::device::Device;
+use streams::stream_fault::StreamFault;
 
 /// Has a text answered with no memory left, and then with a block more each time.
 ///

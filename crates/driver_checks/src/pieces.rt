@@ -2,10 +2,10 @@
 
 use crate::streams::streamed;
 use driver::form::Form;
-use driver::memory_sink::MemorySink;
-use driver::stream_fault::StreamFault;
 use std::process::Abort;
 use std::test::Fail;
+use streams::memory_sink::MemorySink;
+use streams::stream_fault::StreamFault;
 
 /// More places than the answer takes.
 const PLACES: usize = 400_000;

@@ -3,16 +3,16 @@
 ghost use Rattle.std.specs.Prelude.{◌<◌};
 
 use driver::form::Form;
-use driver::memory_sink::MemorySink;
-use driver::memory_source::MemorySource;
 use driver::replay_stream::replay_stream;
-use driver::sink::Sink;
-use driver::source::Source;
-use driver::stream_fault::StreamFault;
 use examples::{Example, situations};
 use std::process::Abort;
 use std::test::Fail;
 use steps::TextFault;
+use streams::memory_sink::MemorySink;
+use streams::memory_source::MemorySource;
+use streams::sink::Sink;
+use streams::source::Source;
+use streams::stream_fault::StreamFault;
 
 /// More places than any answer here takes.
 pub const AMPLE: usize = 16384;

@@ -2,10 +2,10 @@
 
 use crate::streams::{AMPLE, streamed};
 use driver::form::Form;
-use driver::stream_fault::StreamFault;
 use line_text::fault::TextFault;
 use std::process::Abort;
 use std::test::Fail;
+use streams::stream_fault::StreamFault;
 
 const HEADER: &str = "aqs-steps 1 lock fair seats 2 conditions 0 cap 64\n";
 

@@ -4,7 +4,7 @@ use Rattle.line_text.specs.Form.{lines_of}
 use Rattle.driver.specs.LineWriter.{IsGathered}
 use Rattle.driver.proofs.Gathering.{gathered_more, gathers_failed}
 use Rattle.driver.proofs.Telling.{entry_more, front_of_all, lines_longer}
-use Rattle.driver.proofs.Written.{not_true}
+use Rattle.streams.proofs.Written.{not_true}
 use Rattle.driver.proofs.answers.put_entries.Goals as goal
 
 pub returns-in_err-put_answer-clause-adds : goal.returns-in_err-put_answer-clause-adds

@@ -5,7 +5,7 @@ use Rattle.driver.specs.declared.remark.Said.TheVariants.{IsNamed}
 use Rattle.driver.specs.LineWriter.{Gathers}
 use Rattle.driver.proofs.Gathering.{gathered_more, gathers_failed}
 use Rattle.driver.proofs.Telling.{front_of_all, gathers_more, told_further, told_last, told_on}
-use Rattle.driver.proofs.Written.{not_true}
+use Rattle.streams.proofs.Written.{not_true}
 use Rattle.driver.proofs.answers.put_lines.Goals as goal
 
 abbrev no_remark : Remark

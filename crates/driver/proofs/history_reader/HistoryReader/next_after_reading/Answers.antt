@@ -5,7 +5,7 @@ use Rattle.history_text.proofs.HistoryReading.{shorter}
 use Rattle.driver.proofs.EntriesAhead.{kept, entry_ahead, fault_ahead, next_failed, next_kept, ended_here}
 use Rattle.driver.proofs.Stepping.{last_bytes}
 use Rattle.line_text.specs.declared.fault.TextFault.{TextFault}
-use Rattle.driver.specs.declared.stream_fault.StreamFault.TheVariants.{Text}
+use Rattle.streams.specs.declared.stream_fault.StreamFault.TheVariants.{Text}
 use Rattle.driver.proofs.history_reader.HistoryReader.next_after_reading.Goals as goal
 
 pub returns-in_err-entry-clause-next : goal.returns-in_err-entry-clause-next

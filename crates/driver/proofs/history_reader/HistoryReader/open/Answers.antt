@@ -5,7 +5,7 @@ use Rattle.history_text.specs.HistoryText.{history_form}
 use Rattle.driver.proofs.EntriesAhead.{header_ahead, header_fault, open_failed}
 use Rattle.driver.proofs.Stepping.{last_bytes}
 use Rattle.line_text.specs.declared.fault.TextFault.{TextFault}
-use Rattle.driver.specs.declared.stream_fault.StreamFault.TheVariants.{Text}
+use Rattle.streams.specs.declared.stream_fault.StreamFault.TheVariants.{Text}
 use Rattle.driver.proofs.history_reader.HistoryReader.open.Goals as goal
 
 pub returns-in_err-header-clause-err : goal.returns-in_err-header-clause-err

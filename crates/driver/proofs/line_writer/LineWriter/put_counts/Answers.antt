@@ -1,5 +1,5 @@
 use Rattle.std.proofs.Common.{subst, append-nil}
-use Rattle.driver.specs.Whole.{AppendsFront}
+use Rattle.streams.specs.Whole.{AppendsFront}
 use Rattle.driver.proofs.Gathering.{gathers_failed, front_longer}
 use Rattle.driver.proofs.line_writer.LineWriter.put_counts.Goals as goal
 

@@ -4,7 +4,7 @@ use Rattle.steps.specs.StepLines.{step_line}
 use Rattle.steps.proofs.Lines.{shorter}
 use Rattle.driver.proofs.Stepping.{kept, step_ahead, fault_ahead, next_failed, next_kept, ended_here, last_bytes}
 use Rattle.line_text.specs.declared.fault.TextFault.{TextFault}
-use Rattle.driver.specs.declared.stream_fault.StreamFault.TheVariants.{Text}
+use Rattle.streams.specs.declared.stream_fault.StreamFault.TheVariants.{Text}
 use Rattle.driver.proofs.step_reader.StepReader.next_after_reading.Goals as goal
 
 pub returns-in_err-step-clause-next : goal.returns-in_err-step-clause-next

@@ -4,7 +4,7 @@ use Rattle.line_text.specs.Reading.{IsReading}
 use Rattle.steps.specs.StepsText.{steps_form}
 use Rattle.driver.proofs.Stepping.{header_ahead, header_fault, open_failed, last_bytes}
 use Rattle.line_text.specs.declared.fault.TextFault.{TextFault}
-use Rattle.driver.specs.declared.stream_fault.StreamFault.TheVariants.{Text}
+use Rattle.streams.specs.declared.stream_fault.StreamFault.TheVariants.{Text}
 use Rattle.driver.proofs.step_reader.StepReader.open.Goals as goal
 
 pub returns-in_err-header-clause-err : goal.returns-in_err-header-clause-err

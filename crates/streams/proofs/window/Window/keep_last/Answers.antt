@@ -1,6 +1,6 @@
 use Rattle.std.proofs.Common.{arith}
-use Rattle.driver.proofs.Sliding.{kept_last}
-use Rattle.driver.proofs.window.Window.keep_last.Goals as goal
+use Rattle.streams.proofs.Sliding.{kept_last}
+use Rattle.streams.proofs.window.Window.keep_last.Goals as goal
 
 pub returns-clause-bytes : goal.returns-clause-bytes
 returns-clause-bytes c =

@@ -1,7 +1,7 @@
 //! Why a stream was not answered.
 
 ghost use Rattle.std.specs.Prelude.{◌≡◌};
-ghost use Rattle.driver.specs.declared.stream_fault.StreamFault.TheVariants.{Text, Memory};
+ghost use Rattle.streams.specs.declared.stream_fault.StreamFault.TheVariants.{Text, Memory};
 
 use line_text::fault::TextFault;
 use std::alloc::{AllocError, AllocFailed};

@@ -1,5 +1,5 @@
 use Rattle.std.proofs.Common.{◌≡◌, false}
-use Rattle.driver.proofs.whole.read_on.Given as goal
+use Rattle.streams.proofs.whole.read_on.Given as goal
 
 abbrev pub invariant-loop : goal.invariant-loop
 invariant-loop g l = record { going : g.R.Source.failed l.reader ≡ false }

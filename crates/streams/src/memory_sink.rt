@@ -2,7 +2,7 @@
 
 ghost use Rattle.std.specs.Prelude.{◌≡◌, ◌↔◌, ◌<◌, ◌≤◌, ◌-◌, ◌⊎◌, false, length, min, IsTrue, IsErr, IfOk, OnOk, Some};
 ghost use Rattle.std.specs.Io.KnownBytes.{WriteAppends};
-ghost use Rattle.driver.specs.Turns.{one_fewer};
+ghost use Rattle.streams.specs.Turns.{one_fewer};
 
 use crate::sink::Sink;
 use crate::source::DeviceFailed;
@@ -23,7 +23,7 @@ pub struct MemorySink {
 impl Model for MemorySink {
     ghost use Rattle.std.specs.Prelude.{◌<◌, ◌≤◌, ◌-◌, length};
     ghost use Rattle.std.specs.Vec.{vec_capacity};
-    ghost use Rattle.driver.specs.MemorySink.{Store};
+    ghost use Rattle.streams.specs.MemorySink.{Store};
 
     ghost Value = { Store };
 

@@ -1,7 +1,7 @@
 //! Which call of a device in memory fails.
 
 ghost use Rattle.std.specs.Prelude.{◌≡◌, ◌↔◌, IsTrue, if◌then◌else◌};
-ghost use Rattle.driver.specs.Turns.{one_fewer};
+ghost use Rattle.streams.specs.Turns.{one_fewer};
 
 /// Counts one call: whether it is the one that fails.
 pub fn strikes(fails_at: &mut Option<u64>) -> bool

@@ -1,7 +1,7 @@
 use Rattle.std.proofs.Common.{◌≡◌, ◌-◌, ◌^◌, false, length}
 use Rattle.std.specs.Io.KnownBytes.{Keeps, IsAtEnd, prepend_known}
 use Rattle.history.specs.Text.{IsLine}
-use Rattle.driver.proofs.window.Window.read_line.Given as goal
+use Rattle.streams.proofs.window.Window.read_line.Given as goal
 
 abbrev pub invariant-loop-wanted : goal.invariant-loop-wanted
 invariant-loop-wanted g l = record {

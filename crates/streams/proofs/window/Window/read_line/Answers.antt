@@ -1,5 +1,5 @@
 use Rattle.std.proofs.Common.{arith, length, length-append, ap}
-use Rattle.driver.proofs.window.Window.read_line.Goals as goal
+use Rattle.streams.proofs.window.Window.read_line.Goals as goal
 
 pub loop-wanted-smaller : goal.loop-wanted-smaller
 loop-wanted-smaller g c =

@@ -1,8 +1,8 @@
 use Rattle.std.proofs.Common.{◌≡◌, ℕ, ◌++◌, List, slice_range, take, arith, ap, ◌∙◌}
 use Rattle.std.proofs.lemmas.List.{length-take-le}
-use Rattle.driver.specs.Window.{Seen}
-use Rattle.driver.proofs.Sliding.{grown}
-use Rattle.driver.proofs.window.Window.read_more.Goals as goal
+use Rattle.streams.specs.Window.{Seen}
+use Rattle.streams.proofs.Sliding.{grown}
+use Rattle.streams.proofs.window.Window.read_more.Goals as goal
 
 pub returns-clause-grows : goal.returns-clause-grows
 returns-clause-grows g c =

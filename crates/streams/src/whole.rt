@@ -2,7 +2,7 @@
 
 ghost use Rattle.std.specs.Prelude.{◌≡◌, ◌↔◌, false, IsTrue, IsErr, OnOk, OnErr, IfErr, IsErrOf};
 ghost use Rattle.std.specs.Io.KnownBytes.{Appends, IsAtEnd};
-ghost use Rattle.driver.specs.Whole.{AppendsFront, IsOfReading};
+ghost use Rattle.streams.specs.Whole.{AppendsFront, IsOfReading};
 
 use crate::sink::Sink;
 use crate::source::{DeviceFailed, Source};

@@ -2,7 +2,7 @@
 
 ghost use Rattle.std.specs.Prelude.{◌≡◌, ◌↔◌, ◌<◌, ◌≤◌, false, length, min, IsTrue, IsErr, IfOk, OnOk, Some};
 ghost use Rattle.std.specs.Io.KnownBytes.{ReadConsumes};
-ghost use Rattle.driver.specs.Turns.{one_fewer};
+ghost use Rattle.streams.specs.Turns.{one_fewer};
 
 use crate::source::{DeviceFailed, Source};
 use crate::turns::strikes;
@@ -20,7 +20,7 @@ pub struct MemorySource {
 
 impl Model for MemorySource {
     ghost use Rattle.std.specs.Prelude.{◌<◌, ◌≤◌, length, drop};
-    ghost use Rattle.driver.specs.MemorySource.{Supply};
+    ghost use Rattle.streams.specs.MemorySource.{Supply};
 
     ghost Value = { Supply };
 

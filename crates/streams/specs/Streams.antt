@@ -3,9 +3,9 @@ use Rattle.std.specs.Prelude.{ℕ, List, Option, Result, Ok, Err, IfSome}
 use Rattle.std.specs.Io.KnownBytes.{IsAtEnd, Keeps, Appends}
 use Rattle.line_text.specs.Form.{Form}
 use Rattle.line_text.specs.Reading.{IsReading}
-use Rattle.driver.specs.declared.stream_fault.StreamFault.{StreamFault}
-use Rattle.driver.specs.declared.stream_fault.StreamFault.TheVariants.{Text, ReadFailed, WriteFailed, Memory}
-use Rattle.driver.specs.Whole.{AppendsFront}
+use Rattle.streams.specs.declared.stream_fault.StreamFault.{StreamFault}
+use Rattle.streams.specs.declared.stream_fault.StreamFault.TheVariants.{Text, ReadFailed, WriteFailed, Memory}
+use Rattle.streams.specs.Whole.{AppendsFront}
 
 -- From the bytes that a source has, and what a sink held before and holds after. A text of the form is
 -- answered by a value, and by what is written.

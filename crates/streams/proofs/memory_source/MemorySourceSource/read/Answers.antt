@@ -1,8 +1,8 @@
 use Rattle.std.proofs.Common.{◌≡◌, ◌+◌, ◌-◌, ◌≤◌, refl, length, take, drop, sym, ap, ◌∙◌, arith}
 use Rattle.std.proofs.lemmas.List.{drop_all, length-take, length-append, length-drop}
-use Rattle.driver.specs.MemorySource.{Supply}
-use Rattle.driver.proofs.Pieces.{handed}
-use Rattle.driver.proofs.memory_source.MemorySourceSource.read.Goals as goal
+use Rattle.streams.specs.MemorySource.{Supply}
+use Rattle.streams.proofs.Pieces.{handed}
+use Rattle.streams.proofs.memory_source.MemorySourceSource.read.Goals as goal
 
 pub returns-clause-bytes : goal.returns-clause-bytes
 returns-clause-bytes c =

@@ -1,8 +1,8 @@
 -- What reading all and writing all may answer and leave.
 use Rattle.std.specs.Prelude.{ℕ, List, Option, take}
 use Rattle.std.specs.Io.KnownBytes.{Appends}
-use Rattle.driver.specs.declared.stream_fault.StreamFault.{StreamFault}
-use Rattle.driver.specs.declared.stream_fault.StreamFault.TheVariants.{ReadFailed, Memory}
+use Rattle.streams.specs.declared.stream_fault.StreamFault.{StreamFault}
+use Rattle.streams.specs.declared.stream_fault.StreamFault.TheVariants.{ReadFailed, Memory}
 
 -- a front of the bytes is appended
 abbrev pub AppendsFront : Option (List ℕ) → Option (List ℕ) → List ℕ → Type 0

@@ -1,7 +1,7 @@
 use Rattle.std.proofs.Common.{◌-◌, length, drop, arith}
 use Rattle.std.proofs.lemmas.List.{length-take, length-drop}
-use Rattle.driver.proofs.Written.{one_more, not_true}
-use Rattle.driver.proofs.whole.write_all.Goals as goal
+use Rattle.streams.proofs.Written.{one_more, not_true}
+use Rattle.streams.proofs.whole.write_all.Goals as goal
 
 pub loop-at-preserved : goal.loop-at-preserved
 loop-at-preserved g c = record {

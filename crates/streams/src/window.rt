@@ -3,8 +3,8 @@
 ghost use Rattle.std.specs.Prelude.{◌≡◌, ◌+◌, ◌<◌, ◌≤◌, ◌^◌, ◌-◌, ◌↔◌, [], false, drop, length, max, IsTrue, IsErrOf, IfOk, IfErr, OnOk};
 ghost use Rattle.std.specs.Io.KnownBytes.{IsAtEnd};
 ghost use Rattle.history.specs.Text.{IsLine};
-ghost use Rattle.driver.specs.Whole.{IsOfReading};
-ghost use Rattle.driver.specs.Window.{Grows, KeepsAhead};
+ghost use Rattle.streams.specs.Whole.{IsOfReading};
+ghost use Rattle.streams.specs.Window.{Grows, KeepsAhead};
 
 use crate::source::Source;
 use crate::stream_fault::StreamFault;
@@ -26,7 +26,7 @@ pub struct Window {
 
 impl Model for Window {
     ghost use Rattle.std.specs.Prelude.{◌≤◌, length, slice_range};
-    ghost use Rattle.driver.specs.Window.{Seen};
+    ghost use Rattle.streams.specs.Window.{Seen};
 
     ghost Value = { Seen };
 
