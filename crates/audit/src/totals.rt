@@ -18,7 +18,6 @@ use std::alloc::Global;
 /// Where memory for what it counts is refused the answer is `OutOfMemory`.
 pub fn totals(alloc: Global, header: &Header, history: &History) -> Result<Totals, Fault>
     requires range { IsInRange header.now }
-    requires cap { history.now.cap ≡ header.now.cap }
     requires seated { AreSeated (opening header.now) history.now.entries }
     requires legal { IsLegal (opening header.now) history.now.entries }
     ensures are { IfOk result (λ t. t ≡ totals_of (opening header.now) history.now.entries) }

@@ -1,6 +1,6 @@
 //! The verdict on a history.
 
-ghost use Rattle.std.specs.Prelude.{◌≡◌, ◌↔◌, ◌<◌, ◌^◌, ℕ, IfOk, IsOkUnless, length};
+ghost use Rattle.std.specs.Prelude.{◌≡◌, ◌↔◌, ℕ, IfOk, IsOkUnless};
 ghost use Rattle.history.specs.Header.{IsInRange};
 ghost use Rattle.history.specs.Legal.{AreSeated, IsLegal};
 ghost use Rattle.history.specs.Start.{opening};
@@ -48,11 +48,10 @@ impl Judgement {
 /// it. Room and whom an entry names are no part of that. What follows the first wrong entry isn't looked at,
 /// and each entry before it is looked at once.
 ///
-/// The header is in range, the history's cap is the header's, and each entry is of one of its seats. Where
-/// memory for what it counts is refused the answer is `OutOfMemory`.
+/// The header is in range, and each entry is of one of its seats. Where memory for what it counts is refused the
+/// answer is `OutOfMemory`.
 pub fn judge(alloc: Global, header: &Header, history: &History) -> Result<Judgement, Fault>
     requires range { IsInRange header.now }
-    requires cap { history.now.cap ≡ header.now.cap }
     requires seated { AreSeated (opening header.now) history.now.entries }
     ensures judged { IfOk result (IsJudgement header.now history.now.entries) }
     ensures memory { IsOkUnless result Fault.OutOfMemory }
@@ -61,7 +60,7 @@ pub fn judge(alloc: Global, header: &Header, history: &History) -> Result<Judgem
         Err(fault) => return Err(fault),
         Ok(auditor) => auditor,
     };
-    for number in 0..length_of(header, history) {
+    for number in 0..history.len() {
         let entry = match history.get(number) {
             None => unreachable!(),
             Some(entry) => entry,
@@ -74,23 +73,9 @@ pub fn judge(alloc: Global, header: &Header, history: &History) -> Result<Judgem
     Ok(auditor.judgement())
 }
 
-/// The number of entries, for which a history has places up to its cap.
-fn length_of(header: &Header, history: &History) -> u64
-    requires range { IsInRange header.now }
-    requires cap { history.now.cap ≡ header.now.cap }
-    ensures is { result ≡ length history.now.entries }
-    ensures few { result < 2 ^ 32 }
-{
-    let _cap = header.cap;
-    let _owed = history.owed();
-    let _places = history.places();
-    history.len()
-}
-
 /// The verdict on a history, as [`judge`] finds it.
 pub fn check(alloc: Global, header: &Header, history: &History) -> Result<Verdict, Fault>
     requires range { IsInRange header.now }
-    requires cap { history.now.cap ≡ header.now.cap }
     requires seated { AreSeated (opening header.now) history.now.entries }
     ensures legal { IfOk result (λ v. (v ≡ Legal) ↔ IsLegal (opening header.now) history.now.entries) }
     ensures first { IfOk result (λ v. (no : ℕ) → v ≡ NotLegal no →

@@ -26,18 +26,6 @@ fn lacks_memory(answer: &Result<Answer, Fault>) -> bool
     matches!(answer, Err(Fault::OutOfMemory))
 }
 
-/// How many entries there are: a cap has 32 bits, and so have they.
-#[inline(always)]
-fn entries_in(history: &History) -> u32
-    ensures { result ≡ length history.now.entries }
-{
-    // What these say bounds the number.
-    let _owed = history.owed();
-    let _places = history.places();
-    let _cap = history.cap();
-    history.len() as u32
-}
-
 /// Keeps a remark, where there is one.
 #[inline(always)]
 fn keep(remarks: &mut Vec<Remark>, remark: Option<Remark>) -> Result<(), StreamFault>
@@ -71,7 +59,7 @@ pub fn replay<O: Answering, R: Source>(
 {
     let mut remarks = Vec::new(alloc);
     while let Some((seat, step)) = steps.next(reader)? {
-        let before = entries_in(object.history());
+        let before = object.history().len() as u32;
         let answer = object.answer(seat, step);
         if lacks_memory(&answer) {
             return Err(StreamFault::Memory);

@@ -1,6 +1,6 @@
 //! A list of entries that only grows, with room that stays reserved.
 
-ghost use Rattle.std.specs.Prelude.{◌≡◌, ◌+◌, ◌*◌, ◌<◌, ◌≤◌, ◌↔◌, ◌⊎◌, [], ◌∷◌, length, reverse, slice_get, IsTrue, IsOk, IsErrOf, OnOk, OnErr, IfErr};
+ghost use Rattle.std.specs.Prelude.{◌≡◌, ◌+◌, ◌*◌, ◌^◌, ◌<◌, ◌≤◌, ◌↔◌, ◌⊎◌, [], ◌∷◌, length, reverse, slice_get, IsTrue, IsOk, IsErrOf, OnOk, OnErr, IfErr};
 ghost use Rattle.history.specs.declared.fault.Fault.TheVariants.{HistoryFull, OutOfMemory};
 ghost use Rattle.history.specs.Entry.{ends_call};
 ghost use Rattle.history.specs.Entries.{ended_calls};
@@ -27,14 +27,14 @@ pub struct History {
 }
 
 impl Model for History {
-    ghost use Rattle.std.specs.Prelude.{◌≡◌, ◌+◌, ◌≤◌, reverse, vec_len, vec_capacity};
+    ghost use Rattle.std.specs.Prelude.{◌≡◌, ◌+◌, ◌≤◌, ◌<◌, ◌^◌, reverse, vec_len, vec_capacity};
     ghost use Rattle.history.specs.Entries.{HistoryView, ended_calls};
 
     ghost Value = { HistoryView };
 
     ghost view = { λ a. record { cap = a.cap; entries = reverse a.entries.items; owed = a.owed; places = vec_capacity a.entries } };
 
-    ghost invariant = { λ a. (vec_len a.entries + a.owed ≤ vec_capacity a.entries) × (vec_capacity a.entries ≤ a.cap) × (a.calls ≡ ended_calls (reverse a.entries.items)) };
+    ghost invariant = { λ a. (vec_len a.entries + a.owed ≤ vec_capacity a.entries) × (vec_capacity a.entries ≤ a.cap) × (a.calls ≡ ended_calls (reverse a.entries.items)) × (a.cap < 2 ^ 32) };
 }
 
 impl History {
@@ -50,8 +50,11 @@ impl History {
         }
     }
 
+    /// How many entries there are.
     pub fn len(&self) -> u64
-        ensures { result ≡ length self.now.entries }
+        ensures value { result ≡ length self.now.entries }
+        ensures within_cap { result ≤ self.now.cap }
+        ensures few { result < 2 ^ 32 }
     {
         self.entries.len() as u64
     }

@@ -11,15 +11,15 @@ follow-requires c =
     let k = c.args.header.now in
     let h = c.args.history.now.entries in
     let n = c.loop-number.number in
-    let end = c.length_of-number-end.ensures in
-    let less : n < length h = omega (arith, c.loop-number-test.true, end.is) in
+    let end = c.len-number-end.ensures in
+    let less : n < length h = omega (arith, c.loop-number-test.true, end.value) in
     let long = front_length h n (omega (arith, less)) in
     record {
       header = k;
       entries = front n h;
       judged = c.loop-number.invariant;
       seat = next_seat (opening k) h n c.in-Some.entry c.requires.seated less (sym c.get.ensures ∙ c.in-Some.is);
-      room = omega (arith, long, less, end.is, end.few);
+      room = omega (arith, long, less, end.value, end.few);
     }
 
 pub loop-number-preserved : goal.loop-number-preserved
@@ -27,7 +27,7 @@ loop-number-preserved c =
     let k = c.args.header.now in
     let h = c.args.history.now.entries in
     let n = c.loop-number.number in
-    let less : n < length h = omega (arith, c.loop-number-test.true, c.length_of-number-end.ensures.is) in
+    let less : n < length h = omega (arith, c.loop-number-test.true, c.len-number-end.ensures.value) in
     let q = sym c.get.ensures ∙ c.in-Some.is in
     let J : List Entry → Type 0 = λ x. HasJudged k x c.follow.new.self in
     subst J (sym (front_next h n c.in-Some.entry less q))
@@ -38,8 +38,8 @@ pub judgement-requires : goal.judgement-requires
 judgement-requires c =
     let h = c.args.history.now.entries in
     let n = c.loop-number.number in
-    let end = c.length_of-number-end.ensures in
-    let long = front_length h n (omega (arith, c.loop-number.auto.number-end, end.is)) in
+    let end = c.len-number-end.ensures in
+    let long = front_length h n (omega (arith, c.loop-number.auto.number-end, end.value)) in
     record {
       header = c.args.header.now;
       entries = front n h;
@@ -52,6 +52,6 @@ returns-clause-judged c =
     let k = c.args.header.now in
     let h = c.args.history.now.entries in
     let n = c.loop-number.number in
-    let all : length h ≤ n = omega (arith, c.loop-number-test.false, c.length_of-number-end.ensures.is) in
+    let all : length h ≤ n = omega (arith, c.loop-number-test.false, c.len-number-end.ensures.value) in
     let J : List Entry → Type 0 = λ x. IsJudgement k x c.judgement.result in
     subst J (front_all h n all) (c.judgement.ensures k (front n h) c.loop-number.invariant)

@@ -10,6 +10,6 @@ loop-number-preserved c =
     let h = c.args.history.now.entries in
     let n = c.loop-number.number in
     let S : List Entry → Type 0 = λ x. AreSeated (opening c.args.header.now) x in
-    let less : n < length h = omega (arith, c.loop-number-test.true, c.len-number-end.ensures) in
+    let less : n < length h = omega (arith, c.loop-number-test.true, c.len-number-end.ensures.value) in
     subst S (sym (front_next h n c.in-Some.entry less (sym c.get.ensures ∙ c.in-Some.is)))
     (c.if-header-entry.false, c.loop-number.invariant)

@@ -47,6 +47,6 @@ pub returns-clause-adds : goal.returns-clause-adds
 returns-clause-adds g c =
     let es = reverse c.args.history.now.entries in
     let told = c.loop-remark.invariant.added in
-    let all = told_last es c.args.remarks.now c.loop-remark.remark-index c.loop-remark.number c.len.result _ told.0 c.loop-remark-test.false (c.len.ensures ∙ sym (length-reverse c.args.history.now.entries)) told.2 in
+    let all = told_last es c.args.remarks.now c.loop-remark.remark-index c.loop-remark.number c.len.result _ told.0 c.loop-remark-test.false (c.len.ensures.value ∙ sym (length-reverse c.args.history.now.entries)) told.2 in
     subst (Gathers (g.W.Sink.held c.args.writer.now) c.args.lines.now.bytes c.put_entries-2.result (g.W.Sink.held c.put_entries-2.new.writer) c.put_entries-2.new.lines.bytes) (sym all)
     (gathers_more _ _ _ c.args.lines.now.bytes c.loop-remark.lines.bytes c.put_entries-2.new.lines.bytes told.0 _ c.put_entries-2.result told.1 c.put_entries-2.ensures.adds)

@@ -19,7 +19,7 @@ loop-remarks-preserved g c =
     let below = rw c.in-Some.is at c.in_ok-seat.ensures.seated in
     let same = c.in_ok-seat.ensures.header in
     let a = answered old new c.next.new.self.header x.0 x.1 c.answer-answer.result c.answer-answer.ensures (c.loop-remarks.invariant.header ∙ sym same) (λ e. false≢true (c.if-lacks_memory.ensures.1 e)) in
-    let kept = rw (c.remark_on.ensures, c.entries_in-before.ensures, c.history.ensures) at c.in_ok-keep.ensures.ok in
+    let kept = rw (c.remark_on.ensures, c.len-before.ensures.value, c.history.ensures) at c.in_ok-keep.ensures.ok in
     record {
       going = goes_on c.in_ok-seat.field-0 (g.R.Source.failed c.next.new.reader) (λ t. c.in_ok-seat.ensures.failing.1 t);
       same = same ∙ c.loop-remarks.invariant.same;

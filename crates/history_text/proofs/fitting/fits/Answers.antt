@@ -34,7 +34,7 @@ returns c =
               arith,
               lt,
               c.loop-number-test.false,
-              c.len-number-end.ensures,
+              c.len-number-end.ensures.value,
               length-reverse c.args.history.now.entries,
             )) (slice_get-get_or xs k d lt);
       }),

@@ -9,7 +9,7 @@ use Rattle.history_text.proofs.history_text.read_text.Goals as goal
 
 pub returns-in_err-entry : goal.returns-in_err-entry
 returns-in_err-entry c =
-    let found = c.in_err-entry.ensures.line c.args.text.now c.loop-history.history.entries (rw (c.len.ensures, c.calls.ensures) c.loop-history.invariant.read) in
+    let found = c.in_err-entry.ensures.line c.args.text.now c.loop-history.history.entries (rw (c.len.ensures.value, c.calls.ensures) c.loop-history.invariant.read) in
     fault_passed c.args.text.now c.from_residual-in_err-entry.result c.in_err-entry.field-0.0 c.from_residual-in_err-entry.ensures found
 
 pub overflow_sub-rest : goal.overflow_sub-rest
@@ -28,7 +28,7 @@ pub loop-history-preserved : goal.loop-history-preserved
 loop-history-preserved c =
     let old = c.loop-history.history in
     let was : HistoryRead = record { text = c.args.text.now; header = c.in_ok-header.header; count = length old.entries; calls = ended_calls old.entries; rest = c.loop-history.rest.now } in
-    let found = (rw (c.in-Some.is, c.len.ensures, c.calls.ensures) at c.in_ok-entry.ensures.line) c.args.text.now in
+    let found = (rw (c.in-Some.is, c.len.ensures.value, c.calls.ensures) at c.in_ok-entry.ensures.line) c.args.text.now in
     let line = entry_line (length old.entries) c.in-Some.entry in
     let same = left_over c.loop-history.rest.now (ended line) found.0 c.in-Some.left found.1.parts found.2 in
     let entries : c.add.new.self.entries ≡ c.in-Some.entry ∷ old.entries =
@@ -41,7 +41,7 @@ loop-history-preserved c =
 
 pub returns : goal.returns
 returns c = record {
-  reading = (rw (c.in_default.is, c.len.ensures, c.calls.ensures) at c.in_ok-entry.ensures.line) c.args.text.now c.loop-history.history.entries c.loop-history.invariant.read;
+  reading = (rw (c.in_default.is, c.len.ensures.value, c.calls.ensures) at c.in_ok-entry.ensures.line) c.args.text.now c.loop-history.history.entries c.loop-history.invariant.read;
   cap = c.loop-history.invariant.cap;
   owed = c.loop-history.invariant.owed;
 }

@@ -29,5 +29,5 @@ returns c =
     c.loop-entry.invariant.lines ∙ ap (λ (l : List Entry). ended (header_line c.args.header.now) ++ lines_of
     history_form 0 l) all in
     all_lines c.args.header.now c.args.history.now.entries c.loop-entry.out.items c.put_counts.new.out.items
-    c.push-2.new.self.items c.len-2.result c.calls.result lines c.len-2.ensures c.calls.ensures
+    c.push-2.new.self.items c.len-2.result c.calls.result lines c.len-2.ensures.value c.calls.ensures
     c.in_ok-put_counts.ensures.ok c.in_ok-push-3.ensures.items

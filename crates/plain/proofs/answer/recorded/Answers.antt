@@ -16,7 +16,7 @@ returns c =
     let next = c.requires.next in
     let stand = c.in-Ok.ensures.stand (opening k) h c.requires.stand next.seat next.legal.0 in
     let owed = c.owed_behind-behind.ensures.is h c.owed_of-owed.ensures.is next.legal (next.seat, next.seated) in
-    let long = c.len.ensures in
+    let long = c.len.ensures.value in
     let room = c.if-from-len.false in
     inl (named_so k h e c.owed_behind-behind.result c.ready-before.result c.ready-after.result c.named.result owed
     (omega (arith, long, room)) (c.ready-before.ensures (opening k) h c.requires.stand refl)

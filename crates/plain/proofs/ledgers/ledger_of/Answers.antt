@@ -10,10 +10,10 @@ use Rattle.plain.proofs.ledgers.ledger_of.Goals as goal
 
 pub note-requires-clause-seat : goal.note-requires-clause-seat
 note-requires-clause-seat c =
-    let is = c.len-end.ensures in
+    let is = c.len-end.ensures.value in
     let few = c.requires.few in
     has_seat_next c.args.header.now c.args.history.now.entries c.loop-number.number c.len-end.result c.in-Some.entry
-    c.loop-number.ledger c.loop-number.invariant c.requires.seated c.loop-number-test.true c.len-end.ensures (omega (arith, is, few))
+    c.loop-number.ledger c.loop-number.invariant c.requires.seated c.loop-number-test.true c.len-end.ensures.value (omega (arith, is, few))
     (sym c.get.ensures ∙ c.in-Some.is)
 
 pub note-requires-clause-signal : goal.note-requires-clause-signal
@@ -21,7 +21,7 @@ note-requires-clause-signal c =
     let s = opening c.args.header.now in
     let h = c.args.history.now.entries in
     let n = c.loop-number.number in
-    let is = c.len-end.ensures in
+    let is = c.len-end.ensures.value in
     let less : n < length h = omega (arith, c.loop-number-test.true, is) in
     one_signalled s (front n h) c.in-Some.entry
     (next_legal s h n c.in-Some.entry c.requires.legal less (sym c.get.ensures ∙ c.in-Some.is)).0
@@ -32,7 +32,7 @@ loop-number-preserved c =
     let h = c.args.history.now.entries in
     let n = c.loop-number.number in
     let e = c.in-Some.entry in
-    let is = c.len-end.ensures in
+    let is = c.len-end.ensures.value in
     let less : n < length h = omega (arith, c.loop-number-test.true, is) in
     let q = sym c.get.ensures ∙ c.in-Some.is in
     let L : List Entry → Type 0 = λ x. LedgerStand s x c.note.new.self in
@@ -44,7 +44,7 @@ pub returns-clause-stand : goal.returns-clause-stand
 returns-clause-stand c =
     let h = c.args.history.now.entries in
     let n = c.loop-number.number in
-    let is = c.len-end.ensures in
+    let is = c.len-end.ensures.value in
     let all : length h ≤ n = omega (arith, c.loop-number-test.false, is) in
     let L : List Entry → Type 0 = λ x. LedgerStand (opening c.args.header.now) x c.loop-number.ledger in
     subst L (front_all h n all) c.loop-number.invariant

@@ -14,7 +14,7 @@ owed_behind-owed-requires-clause-next c =
     let s = opening c.args.header.now in
     let h = c.args.history.now.entries in
     let n = c.loop-number.number in
-    let is = c.len-end.ensures in
+    let is = c.len-end.ensures.value in
     let less : n < length h = omega (arith, c.loop-number-test.true, is) in
     let q = sym c.get.ensures ∙ c.in-Some.is in (
       front n h,
@@ -29,7 +29,7 @@ loop-number-preserved c =
     let h = c.args.history.now.entries in
     let n = c.loop-number.number in
     let e = c.in-Some.entry in
-    let is = c.len-end.ensures in
+    let is = c.len-end.ensures.value in
     let less : n < length h = omega (arith, c.loop-number-test.true, is) in
     let q = sym c.get.ensures ∙ c.in-Some.is in
     let O : List Entry → Type 0 = λ x. IsOwed c.args.header.now x c.owed_behind-owed.result in
@@ -53,7 +53,7 @@ pub returns-clause-is : goal.returns-clause-is
 returns-clause-is c =
     let h = c.args.history.now.entries in
     let n = c.loop-number.number in
-    let is = c.len-end.ensures in
+    let is = c.len-end.ensures.value in
     let all : length h ≤ n = omega (arith, c.loop-number-test.false, is) in
     let O : List Entry → Type 0 = λ x. IsOwed c.args.header.now x c.loop-number.owed in
     subst O (front_all h n all) c.loop-number.invariant.owes

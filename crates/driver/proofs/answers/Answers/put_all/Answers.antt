@@ -25,16 +25,16 @@ returns-in_err-put_counts-clause-err g c =
     let a = c.args.self.now in
     let entries = ap (λ (b : AllAnswers). b.entries) c.self.view_is in
     let adds = rw (c.remarks_in.ensures, entries) at c.in_ok-put_lines.ensures.adds in
-    if_failed c.from_residual-in_err-put_counts.result _ (front_more _ _ _ c.args.lines.now.bytes c.put_lines.new.lines.bytes _ _ adds (rw (c.len.ensures, c.calls.ensures, entries) at c.in_err-put_counts.ensures.adds))
+    if_failed c.from_residual-in_err-put_counts.result _ (front_more _ _ _ c.args.lines.now.bytes c.put_lines.new.lines.bytes _ _ adds (rw (c.len.ensures.value, c.calls.ensures, entries) at c.in_err-put_counts.ensures.adds))
 
 pub returns-clause-ok : goal.returns-clause-ok
 returns-clause-ok g c =
     let entries = ap (λ (b : AllAnswers). b.entries) c.self.view_is in
-    let adds = gathered_more _ _ _ c.args.lines.now.bytes c.put_lines.new.lines.bytes c.put_counts.new.self.bytes _ _ (rw (c.remarks_in.ensures, entries) at c.in_ok-put_lines.ensures.adds) (rw (c.len.ensures, c.calls.ensures, entries) at c.in_ok-put_counts.ensures.adds) in
+    let adds = gathered_more _ _ _ c.args.lines.now.bytes c.put_lines.new.lines.bytes c.put_counts.new.self.bytes _ _ (rw (c.remarks_in.ensures, entries) at c.in_ok-put_lines.ensures.adds) (rw (c.len.ensures.value, c.calls.ensures, entries) at c.in_ok-put_counts.ensures.adds) in
     where_written c.flush.result _ _ (written_all _ _ _ c.args.lines.now.bytes c.put_counts.new.self.bytes _ adds) c.flush.ensures.ok
 
 pub returns-clause-err : goal.returns-clause-err
 returns-clause-err g c =
     let entries = ap (λ (b : AllAnswers). b.entries) c.self.view_is in
-    let adds = gathered_more _ _ _ c.args.lines.now.bytes c.put_lines.new.lines.bytes c.put_counts.new.self.bytes _ _ (rw (c.remarks_in.ensures, entries) at c.in_ok-put_lines.ensures.adds) (rw (c.len.ensures, c.calls.ensures, entries) at c.in_ok-put_counts.ensures.adds) in
+    let adds = gathered_more _ _ _ c.args.lines.now.bytes c.put_lines.new.lines.bytes c.put_counts.new.self.bytes _ _ (rw (c.remarks_in.ensures, entries) at c.in_ok-put_lines.ensures.adds) (rw (c.len.ensures.value, c.calls.ensures, entries) at c.in_ok-put_counts.ensures.adds) in
     where_failed c.flush.result _ _ (written_front _ _ _ c.args.lines.now.bytes c.put_counts.new.self.bytes _ adds) c.flush.ensures.err
