@@ -13,7 +13,7 @@ use std::alloc::Global;
 use streams::sink::Sink;
 use streams::source::Source;
 use streams::stream_fault::StreamFault;
-use streams::whole::{read_on, write_all};
+use streams::whole::{told_at_the_end, write_all};
 
 /// Reads a history text, judges the history, and writes what an audit says of it. The verdict is answered
 /// too.
@@ -39,11 +39,7 @@ pub fn audit_stream<R: Source, W: Sink>(
             Ok(()) => Ok(audit.verdict),
             Err(_) => Err(StreamFault::WriteFailed),
         },
-        Err(StreamFault::Text(fault)) => {
-            read_on(reader)?;
-            Err(StreamFault::Text(fault))
-        }
-        Err(fault) => Err(fault),
+        Err(fault) => Err(told_at_the_end(reader, fault)),
     }
 }
 

@@ -21,7 +21,7 @@ use std::alloc::Global;
 use streams::sink::Sink;
 use streams::source::Source;
 use streams::stream_fault::StreamFault;
-use streams::whole::read_on;
+use streams::whole::told_at_the_end;
 
 /// Reads a steps text, and writes what a fresh object of its header answers to the steps.
 ///
@@ -43,11 +43,7 @@ pub fn replay_stream<R: Source, W: Sink>(
 {
     match answers_to(alloc, reader) {
         Ok(answers) => answers.write(alloc, writer, form),
-        Err(StreamFault::Text(fault)) => {
-            read_on(reader)?;
-            Err(StreamFault::Text(fault))
-        }
-        Err(fault) => Err(fault),
+        Err(fault) => Err(told_at_the_end(reader, fault)),
     }
 }
 

@@ -16,10 +16,14 @@ Streams {H} {I} {T} form Answers left old new (Err ReadFailed) = Keeps old new
 Streams {H} {I} {T} form Answers left old new (Err WriteFailed) = IfSome left (λ text. (answer : T) × Answers text answer (AppendsFront old new))
 Streams {H} {I} {T} form Answers left old new (Err Memory) = Keeps old new
 
+-- of a text with a fault nothing is left
+abbrev pub IsReadTo : StreamFault → Option (List ℕ) → Type 0
+IsReadTo (Text fault) left = IsAtEnd left
+IsReadTo ReadFailed left = Unit {0}
+IsReadTo WriteFailed left = Unit {0}
+IsReadTo Memory left = Unit {0}
+
 -- a text with a fault was read to its end
 abbrev pub IsReadOut : {T : Type 0} → Result T StreamFault → Option (List ℕ) → Type 0
-IsReadOut {T} (Err (Text fault)) left = IsAtEnd left
-IsReadOut {T} (Err ReadFailed) left = Unit {0}
-IsReadOut {T} (Err WriteFailed) left = Unit {0}
-IsReadOut {T} (Err Memory) left = Unit {0}
 IsReadOut {T} (Ok answer) left = Unit {0}
+IsReadOut {T} (Err fault) left = IsReadTo fault left

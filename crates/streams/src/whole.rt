@@ -1,7 +1,9 @@
 //! The rest of a source, and all that a sink is to get.
 
-ghost use Rattle.std.specs.Prelude.{◌≡◌, ◌↔◌, false, IsTrue, IsErr, OnOk, OnErr, IfErr, IsErrOf};
+ghost use Rattle.std.specs.Prelude.{◌≡◌, ◌↔◌, ◌⊎◌, false, IsTrue, IsErr, OnOk, OnErr, IfErr, IsErrOf};
 ghost use Rattle.std.specs.Io.KnownBytes.{Appends, IsAtEnd};
+ghost use Rattle.streams.specs.Streams.{IsReadTo};
+ghost use Rattle.streams.specs.declared.stream_fault.StreamFault.TheVariants.{ReadFailed};
 ghost use Rattle.streams.specs.Whole.{AppendsFront, IsOfReading};
 
 use crate::sink::Sink;
@@ -24,6 +26,23 @@ pub fn read_on<R: Source>(reader: &mut R) -> Result<(), StreamFault>
         }
     }
     Err(StreamFault::Memory)
+}
+
+/// The fault that a stream answers: behind a fault of its text it reads what is left too, and a failure then
+/// is what it tells.
+pub fn told_at_the_end<R: Source>(reader: &mut R, fault: StreamFault) -> StreamFault
+    requires { (fault ≡ ReadFailed) ↔ IsTrue (R.failed reader.old) }
+    ensures same { (result ≡ fault) ⊎ IsOfReading result }
+    ensures end { IsReadTo result (R.left reader.new) }
+    ensures failing { (result ≡ ReadFailed) ↔ IsTrue (R.failed reader.new) }
+{
+    match fault {
+        StreamFault::Text(_) => match read_on(reader) {
+            Ok(()) => fault,
+            Err(failure) => failure,
+        },
+        _ => fault,
+    }
 }
 
 /// Writes all the bytes, or a front of them.
