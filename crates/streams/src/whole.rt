@@ -1,6 +1,6 @@
 //! The rest of a source, and all that a sink is to get.
 
-ghost use Rattle.std.specs.Prelude.{◌≡◌, ◌↔◌, false, IsTrue, IsErr, OnOk, OnErr, IfErr, IsErrOf};
+ghost use Rattle.std.specs.Prelude.{◌≡◌, ◌↔◌, ◌+◌, ◌^◌, ◌≤◌, false, length, IsTrue, IsErr, IfSome, OnOk, OnErr, IfErr, IsErrOf};
 ghost use Rattle.std.specs.Io.KnownBytes.{Appends, IsAtEnd};
 ghost use Rattle.streams.specs.Whole.{AppendsFront, IsOfReading};
 
@@ -8,12 +8,14 @@ use crate::sink::Sink;
 use crate::source::{DeviceFailed, Source};
 use crate::stream_fault::StreamFault;
 
-/// Reads what is left of a source, and keeps none of it.
+/// Reads what is left of a source, and keeps none of it. Reads are counted, and only a source of more bytes than
+/// a count can tell is answered by want of memory.
 pub fn read_on<R: Source>(reader: &mut R) -> Result<(), StreamFault>
     requires { R.failed reader.old ≡ false }
     ensures end { OnOk result (IsAtEnd (R.left reader.new)) }
     ensures failing { IsErrOf result StreamFault.ReadFailed ↔ IsTrue (R.failed reader.new) }
     ensures kinds { IfErr result IsOfReading }
+    ensures memory { IsErrOf result StreamFault.Memory → IfSome (R.left reader.old) (λ bytes. 2 ^ 64 ≤ length bytes + 1) }
 {
     let mut buffer = [0; 65536];
     for _ in 0..u64::MAX {
