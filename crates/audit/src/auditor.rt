@@ -1,6 +1,6 @@
 //! The entries of a history, judged one after another.
 
-ghost use Rattle.std.specs.Prelude.{◌≡◌, ◌<◌, ◌∷◌, [], List, IfOk, OnOk, IsOkUnless};
+ghost use Rattle.std.specs.Prelude.{◌≡◌, ◌<◌, ◌∷◌, [], List, None, IfOk, OnOk, OnErr, IsErr, IsOkUnless};
 ghost use Rattle.history.specs.Header.{IsInRange};
 ghost use Rattle.history.specs.declared.entry.Entry.{Entry};
 ghost use Rattle.history.specs.declared.header.Header.{Header};
@@ -43,13 +43,15 @@ impl Auditor {
     }
 
     /// Follows one more entry of one of the seats. Where memory is refused the answer is `OutOfMemory`, and
-    /// nothing is judged any more.
+    /// nothing is judged any more: the entry isn't counted. No memory is wanted behind a wrong entry.
     #[inline(always)]
     pub fn follow(&mut self, entry: Entry) -> Result<(), Fault>
         requires { CanFollow self.old entry }
         ensures judged { OnOk result ((k : Header) (h : List Entry) → HasJudged k h self.old →
             entry.seat < k.seats → HasJudged k (entry ∷ h) self.new) }
         ensures memory { IsOkUnless result Fault.OutOfMemory }
+        ensures uncounted { OnErr result ((self.new.count ≡ self.old.count) × (self.new.wrong ≡ self.old.wrong)) }
+        ensures wanted { IsErr result → self.old.wrong ≡ None }
     {
         match self.wrong {
             Some(_) => {}

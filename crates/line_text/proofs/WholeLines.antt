@@ -15,7 +15,7 @@ pub lacks_append : (a b : List ℕ) → Lacks a → Lacks b → Lacks (a ++ b)
 lacks_append [] b p q = q
 lacks_append (x ∷ a) b p q = (p.0, lacks_append a b p.1 q)
 
-both : (a b : Bool) → (a && b) ≡ true → (a ≡ true) × (b ≡ true)
+pub both : (a b : Bool) → (a && b) ≡ true → (a ≡ true) × (b ≡ true)
 both true b e = (cc, e)
 both false b e = absurd cc
 

@@ -1,6 +1,6 @@
 //! Four bytes of a text as one number, so that they are compared at once.
 
-ghost use Rattle.std.specs.Prelude.{◌≡◌, ◌∷◌, ◌++◌, IfSome};
+ghost use Rattle.std.specs.Prelude.{◌≡◌, ◌≢◌, ◌<◌, ◌∷◌, ◌++◌, List, ℕ, MatchOption, length};
 ghost use Rattle.std.specs.Int.{w32, to_le_bytes};
 
 /// Four bytes, the first the lowest of the number.
@@ -11,10 +11,10 @@ pub(crate) fn four(bytes: [u8; 4]) -> u32
     u32::from_le_bytes(bytes)
 }
 
-/// The first four bytes of a text, and what follows them.
+/// The first four bytes of a text, and what follows them. None where it has fewer.
 #[inline(always)]
 pub(crate) fn first_four(text: &[u8]) -> Option<(u32, &[u8])>
-    ensures { IfSome result (λ r. text.now ≡ to_le_bytes w32 r.0 ++ r.1.now) }
+    ensures { MatchOption result (length text.now < 4) (λ r. text.now ≡ to_le_bytes w32 r.0 ++ r.1.now) }
 {
     match text {
         [a, b, c, d, rest @ ..] => Some((four([*a, *b, *c, *d]), rest)),
@@ -25,7 +25,7 @@ pub(crate) fn first_four(text: &[u8]) -> Option<(u32, &[u8])>
 /// What stands behind these four bytes. None where the text begins otherwise.
 #[inline(always)]
 pub fn behind_four(beginning: [u8; 4], text: &[u8]) -> Option<&[u8]>
-    ensures { IfSome result (λ rest. text.now ≡ beginning ++ rest.now) }
+    ensures { MatchOption result ((rest : List ℕ) → text.now ≢ beginning ++ rest) (λ rest. text.now ≡ beginning ++ rest.now) }
 {
     let (bytes, rest) = first_four(text)?;
     if bytes == four(beginning) {
@@ -38,7 +38,7 @@ pub fn behind_four(beginning: [u8; 4], text: &[u8]) -> Option<&[u8]>
 /// What stands behind this byte. None where the text begins otherwise.
 #[inline(always)]
 pub fn behind_byte(byte: u8, text: &[u8]) -> Option<&[u8]>
-    ensures { IfSome result (λ rest. text.now ≡ byte ∷ rest.now) }
+    ensures { MatchOption result ((rest : List ℕ) → text.now ≢ byte ∷ rest) (λ rest. text.now ≡ byte ∷ rest.now) }
 {
     match text {
         [first, rest @ ..] if *first == byte => Some(rest),
@@ -49,7 +49,7 @@ pub fn behind_byte(byte: u8, text: &[u8]) -> Option<&[u8]>
 /// What stands behind these three bytes. None where the text begins otherwise.
 #[inline(always)]
 pub fn behind_three(beginning: [u8; 3], text: &[u8]) -> Option<&[u8]>
-    ensures { IfSome result (λ rest. text.now ≡ beginning ++ rest.now) }
+    ensures { MatchOption result ((rest : List ℕ) → text.now ≢ beginning ++ rest) (λ rest. text.now ≡ beginning ++ rest.now) }
 {
     let [first, second, third] = beginning;
     let behind_first = behind_byte(first, text)?;

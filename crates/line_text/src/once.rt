@@ -1,17 +1,17 @@
 //! The end of a line that asks for 1: a mode, the amount and the break.
 
-ghost use Rattle.std.specs.Prelude.{◌≡◌, ◌∷◌, [], ◌++◌, IfSome, codes};
+ghost use Rattle.std.specs.Prelude.{◌≡◌, ◌≢◌, ◌∷◌, [], ◌++◌, ℕ, MatchOption, codes};
 ghost use Rattle.std.specs.Int.{w32, to_le_bytes};
-ghost use Rattle.history.specs.EntryWords.{mode_word};
-ghost use Rattle.line_text.specs.Once.{AsksOnce};
+ghost use Rattle.history.specs.declared.entry.Mode.{Mode};
+ghost use Rattle.line_text.specs.Once.{AsksOnce, asking_once};
 
 use crate::at_once::{first_four, four};
 use history::entry::Mode;
 
-/// The mode in these four bytes.
+/// The mode in these four bytes. None where they spell none.
 #[inline(always)]
 fn mode_of_four(bytes: u32) -> Option<Mode>
-    ensures { IfSome result (λ mode. to_le_bytes w32 bytes ≡ mode_word mode ++ codes " 1" ++ 10 ∷ []) }
+    ensures { MatchOption result ((mode : Mode) → to_le_bytes w32 bytes ≢ asking_once mode) (λ mode. to_le_bytes w32 bytes ≡ asking_once mode) }
 {
     if bytes == four(*b"x 1\n") {
         Some(Mode::X)
@@ -22,10 +22,11 @@ fn mode_of_four(bytes: u32) -> Option<Mode>
     }
 }
 
-/// The mode that begins the text, if 1 and a break stand behind it, and how many bytes follow them.
+/// The mode that begins the text, if 1 and a break stand behind it, and how many bytes follow them. None where
+/// the text begins otherwise.
 #[inline(always)]
 pub fn mode_of_once(text: &[u8]) -> Option<(Mode, usize)>
-    ensures { IfSome result (AsksOnce text.now) }
+    ensures { MatchOption result ((found : Mode × ℕ) → AsksOnce text.now found → ⊥) (AsksOnce text.now) }
 {
     let (bytes, rest) = first_four(text)?;
     Some((mode_of_four(bytes)?, rest.len()))

@@ -1,8 +1,8 @@
 -- What reading all and writing all may answer and leave.
-use Rattle.std.specs.Prelude.{ℕ, List, Option, take}
+use Rattle.std.specs.Prelude.{◌≡◌, ◌⊎◌, ℕ, ◌+◌, ◌^◌, ◌≤◌, List, Option, length, take}
 use Rattle.std.specs.Io.KnownBytes.{Appends}
 use Rattle.streams.specs.declared.stream_fault.StreamFault.{StreamFault}
-use Rattle.streams.specs.declared.stream_fault.StreamFault.TheVariants.{ReadFailed, Memory}
+use Rattle.streams.specs.declared.stream_fault.StreamFault.TheVariants.{Text, ReadFailed, WriteFailed, Memory}
 
 -- a front of the bytes is appended
 abbrev pub AppendsFront : Option (List ℕ) → Option (List ℕ) → List ℕ → Type 0
@@ -13,3 +13,12 @@ abbrev pub IsOfReading : StreamFault → Type 0
 IsOfReading ReadFailed = Unit {0}
 IsOfReading Memory = Unit {0}
 IsOfReading fault = ⊥
+
+-- what may be told for a fault: it, or what befell the reading behind a fault of the text
+abbrev pub IsToldFor : StreamFault → StreamFault → Type 0
+IsToldFor (Text fault) told = (told ≡ Text fault) ⊎ IsOfReading told
+IsToldFor fault told = told ≡ fault
+
+-- more bytes than reads are counted
+abbrev pub IsTooLong : List ℕ → Type 0
+IsTooLong bytes = 2 ^ 64 ≤ length bytes + 1

@@ -1,21 +1,23 @@
 //! The rest of a source, and all that a sink is to get.
 
-ghost use Rattle.std.specs.Prelude.{◌≡◌, ◌↔◌, ◌⊎◌, false, IsTrue, IsErr, OnOk, OnErr, IfErr, IsErrOf};
+ghost use Rattle.std.specs.Prelude.{◌≡◌, ◌↔◌, ◌⊎◌, false, IsTrue, IsErr, IfSome, OnOk, OnErr, IfErr, IsErrOf};
 ghost use Rattle.std.specs.Io.KnownBytes.{Appends, IsAtEnd};
 ghost use Rattle.streams.specs.Streams.{IsReadTo};
-ghost use Rattle.streams.specs.declared.stream_fault.StreamFault.TheVariants.{ReadFailed};
-ghost use Rattle.streams.specs.Whole.{AppendsFront, IsOfReading};
+ghost use Rattle.streams.specs.declared.stream_fault.StreamFault.TheVariants.{ReadFailed, Memory};
+ghost use Rattle.streams.specs.Whole.{AppendsFront, IsOfReading, IsToldFor, IsTooLong};
 
 use crate::sink::Sink;
 use crate::source::{DeviceFailed, Source};
 use crate::stream_fault::StreamFault;
 
-/// Reads what is left of a source, and keeps none of it.
+/// Reads what is left of a source, and keeps none of it. Reads are counted, and only a source of more bytes than
+/// a count can tell is answered by want of memory.
 pub fn read_on<R: Source>(reader: &mut R) -> Result<(), StreamFault>
     requires { R.failed reader.old ≡ false }
     ensures end { OnOk result (IsAtEnd (R.left reader.new)) }
     ensures failing { IsErrOf result StreamFault.ReadFailed ↔ IsTrue (R.failed reader.new) }
     ensures kinds { IfErr result IsOfReading }
+    ensures memory { IsErrOf result StreamFault.Memory → IfSome (R.left reader.old) IsTooLong }
 {
     let mut buffer = [0; 65536];
     for _ in 0..u64::MAX {
@@ -32,7 +34,8 @@ pub fn read_on<R: Source>(reader: &mut R) -> Result<(), StreamFault>
 /// is what it tells.
 pub fn told_at_the_end<R: Source>(reader: &mut R, fault: StreamFault) -> StreamFault
     requires { (fault ≡ ReadFailed) ↔ IsTrue (R.failed reader.old) }
-    ensures same { (result ≡ fault) ⊎ IsOfReading result }
+    ensures told { IsToldFor fault result }
+    ensures memory { result ≡ Memory → (fault ≡ Memory) ⊎ IfSome (R.left reader.old) IsTooLong }
     ensures end { IsReadTo result (R.left reader.new) }
     ensures failing { (result ≡ ReadFailed) ↔ IsTrue (R.failed reader.new) }
 {

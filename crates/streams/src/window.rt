@@ -1,7 +1,7 @@
 //! The bytes of a source that were read and are still wanted.
 
-ghost use Rattle.std.specs.Prelude.{◌≡◌, ◌+◌, ◌<◌, ◌≤◌, ◌^◌, ◌-◌, ◌↔◌, [], false, drop, length, max, IsTrue, IsErrOf, IfOk, IfErr, OnOk};
-ghost use Rattle.std.specs.Io.KnownBytes.{IsAtEnd};
+ghost use Rattle.std.specs.Prelude.{◌≡◌, ◌+◌, ◌<◌, ◌≤◌, ◌^◌, ◌-◌, ◌↔◌, [], false, drop, length, max, IsTrue, IsErrOf, IfOk, IfErr, OnOk, OnErr};
+ghost use Rattle.std.specs.Io.KnownBytes.{IsAtEnd, Keeps};
 ghost use Rattle.history.specs.Text.{IsLine};
 ghost use Rattle.streams.specs.Whole.{IsOfReading};
 ghost use Rattle.streams.specs.Window.{Grows, KeepsAhead};
@@ -88,13 +88,15 @@ impl Window {
         self.bytes.resize(self.end + PIECE, 0)
     }
 
-    /// Adds what a read gives, and says how much that is; 0 is the end of the source.
+    /// Adds what a read gives, and says how much that is; 0 is the end of the source. A read that fails adds
+    /// nothing, and the same bytes stand in the window.
     pub fn read_more<R: Source>(&mut self, reader: &mut R) -> Result<usize, StreamFault>
         requires { R.failed reader.old ≡ false }
         ensures grows { IfOk result (Grows self.old.bytes self.new.bytes (R.left reader.old) (R.left reader.new)) }
         ensures end { IfOk result (λ n. n ≡ 0 → IsAtEnd (R.left reader.new)) }
         ensures few { OnOk result (length self.new.bytes < 2 ^ 64) }
-        ensures passed { OnOk result (self.new.passed ≡ 0) }
+        ensures kept { OnErr result ((self.new.bytes ≡ self.old.bytes) × Keeps (R.left reader.old) (R.left reader.new)) }
+        ensures passed { self.new.passed ≡ 0 }
         ensures room { self.new.places ≤ max self.old.places (length self.old.bytes + 65536) }
         ensures failing { IsErrOf result StreamFault.ReadFailed ↔ IsTrue (R.failed reader.new) }
         ensures kinds { IfErr result IsOfReading }
@@ -108,10 +110,13 @@ impl Window {
         Ok(n)
     }
 
-    /// Reads on until a whole line stands in the window, or to the end of the source.
+    /// Reads on until a whole line stands in the window, or to the end of the source. Nothing is read where one
+    /// stands in it, and nothing that was read is lost, also where reading fails.
     pub fn read_line<R: Source>(&mut self, reader: &mut R) -> Result<(), StreamFault>
         requires { R.failed reader.old ≡ false }
-        ensures kept { OnOk result (KeepsAhead self.old.bytes (R.left reader.old) self.new.bytes (R.left reader.new)) }
+        ensures kept { KeepsAhead self.old.bytes (R.left reader.old) self.new.bytes (R.left reader.new) }
+        ensures ready { (IsLine self.old.bytes → ⊥) → (self.new ≡ self.old) × (reader.new ≡ reader.old) }
+        ensures room { self.new.places ≤ max self.old.places (length self.new.bytes + 65536) }
         ensures whole { OnOk result (IsLine self.new.bytes → IsAtEnd (R.left reader.new)) }
         ensures failing { IsErrOf result StreamFault.ReadFailed ↔ IsTrue (R.failed reader.new) }
         ensures kinds { IfErr result IsOfReading }
