@@ -1,3 +1,4 @@
+pub mod AtOnce
 pub mod Form
 pub mod Once
 pub mod Reading

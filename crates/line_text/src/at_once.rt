@@ -1,7 +1,8 @@
 //! Four bytes of a text as one number, so that they are compared at once.
 
-ghost use Rattle.std.specs.Prelude.{◌≡◌, ◌≢◌, ◌<◌, ◌∷◌, ◌++◌, List, ℕ, MatchOption, length};
+ghost use Rattle.std.specs.Prelude.{◌≡◌, ◌<◌, ◌∷◌, [], ◌++◌, MatchOption, length};
 ghost use Rattle.std.specs.Int.{w32, to_le_bytes};
+ghost use Rattle.line_text.specs.AtOnce.{BeginsOtherwise};
 
 /// Four bytes, the first the lowest of the number.
 #[inline(always)]
@@ -25,7 +26,7 @@ pub(crate) fn first_four(text: &[u8]) -> Option<(u32, &[u8])>
 /// What stands behind these four bytes. None where the text begins otherwise.
 #[inline(always)]
 pub fn behind_four(beginning: [u8; 4], text: &[u8]) -> Option<&[u8]>
-    ensures { MatchOption result ((rest : List ℕ) → text.now ≢ beginning ++ rest) (λ rest. text.now ≡ beginning ++ rest.now) }
+    ensures { MatchOption result (BeginsOtherwise beginning text.now) (λ rest. text.now ≡ beginning ++ rest.now) }
 {
     let (bytes, rest) = first_four(text)?;
     if bytes == four(beginning) {
@@ -38,7 +39,7 @@ pub fn behind_four(beginning: [u8; 4], text: &[u8]) -> Option<&[u8]>
 /// What stands behind this byte. None where the text begins otherwise.
 #[inline(always)]
 pub fn behind_byte(byte: u8, text: &[u8]) -> Option<&[u8]>
-    ensures { MatchOption result ((rest : List ℕ) → text.now ≢ byte ∷ rest) (λ rest. text.now ≡ byte ∷ rest.now) }
+    ensures { MatchOption result (BeginsOtherwise (byte ∷ []) text.now) (λ rest. text.now ≡ byte ∷ rest.now) }
 {
     match text {
         [first, rest @ ..] if *first == byte => Some(rest),
@@ -49,7 +50,7 @@ pub fn behind_byte(byte: u8, text: &[u8]) -> Option<&[u8]>
 /// What stands behind these three bytes. None where the text begins otherwise.
 #[inline(always)]
 pub fn behind_three(beginning: [u8; 3], text: &[u8]) -> Option<&[u8]>
-    ensures { MatchOption result ((rest : List ℕ) → text.now ≢ beginning ++ rest) (λ rest. text.now ≡ beginning ++ rest.now) }
+    ensures { MatchOption result (BeginsOtherwise beginning text.now) (λ rest. text.now ≡ beginning ++ rest.now) }
 {
     let [first, second, third] = beginning;
     let behind_first = behind_byte(first, text)?;

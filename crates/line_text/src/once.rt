@@ -1,6 +1,6 @@
 //! The end of a line that asks for 1: a mode, the amount and the break.
 
-ghost use Rattle.std.specs.Prelude.{◌≡◌, ◌≢◌, ◌∷◌, [], ◌++◌, ℕ, MatchOption, codes};
+ghost use Rattle.std.specs.Prelude.{◌≡◌, ◌≢◌, ◌∷◌, [], ◌++◌, ℕ, IfSome, IfNone, codes};
 ghost use Rattle.std.specs.Int.{w32, to_le_bytes};
 ghost use Rattle.history.specs.declared.entry.Mode.{Mode};
 ghost use Rattle.line_text.specs.Once.{AsksOnce, asking_once};
@@ -11,7 +11,8 @@ use history::entry::Mode;
 /// The mode in these four bytes. None where they spell none.
 #[inline(always)]
 fn mode_of_four(bytes: u32) -> Option<Mode>
-    ensures { MatchOption result ((mode : Mode) → to_le_bytes w32 bytes ≢ asking_once mode) (λ mode. to_le_bytes w32 bytes ≡ asking_once mode) }
+    ensures found { IfSome result (λ mode. to_le_bytes w32 bytes ≡ asking_once mode) }
+    ensures none { IfNone result ((mode : Mode) → to_le_bytes w32 bytes ≢ asking_once mode) }
 {
     if bytes == four(*b"x 1\n") {
         Some(Mode::X)
@@ -26,7 +27,8 @@ fn mode_of_four(bytes: u32) -> Option<Mode>
 /// the text begins otherwise.
 #[inline(always)]
 pub fn mode_of_once(text: &[u8]) -> Option<(Mode, usize)>
-    ensures { MatchOption result ((found : Mode × ℕ) → AsksOnce text.now found → ⊥) (AsksOnce text.now) }
+    ensures found { IfSome result (AsksOnce text.now) }
+    ensures none { IfNone result ((found : Mode × ℕ) → AsksOnce text.now found → ⊥) }
 {
     let (bytes, rest) = first_four(text)?;
     Some((mode_of_four(bytes)?, rest.len()))
