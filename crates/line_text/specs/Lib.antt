@@ -1,3 +1,5 @@
 pub mod Form
+pub mod HeaderLine
 pub mod Once
 pub mod Reading
+pub mod UnderWay
