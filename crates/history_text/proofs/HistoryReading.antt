@@ -1,9 +1,10 @@
 -- One more entry is read, or the reading ends.
-use Rattle.std.proofs.Common.{◌≡◌, ℕ, ◌+◌, ◌<◌, ◌≤◌, ◌^◌, List, [], ◌∷◌, ◌++◌, length, reverse, refl, sym, ap, ◌∙◌, arith}
+use Rattle.std.proofs.Common.{◌≡◌, ℕ, ◌+◌, ◌<◌, ◌≤◌, ◌^◌, List, [], ◌∷◌, ◌++◌, length, reverse, if◌then◌else◌, refl, sym, ap, ◌∙◌, arith}
 use Rattle.std.proofs.lemmas.List.{length-reverse, reverse-append}
 use Rattle.history.specs.declared.entry.Entry.{Entry}
 use Rattle.history.specs.declared.header.Header.{Header}
 use Rattle.history.specs.Entries.{ended_calls}
+use Rattle.history.specs.Entry.{ends_call}
 use Rattle.line_text.specs.Form.{AreItems}
 use Rattle.line_text.specs.Reading.{Begins}
 use Rattle.line_text.specs.UnderWay.{AreRead, IsAhead}
@@ -20,6 +21,10 @@ ended_calls-reverse [] = refl
 ended_calls-reverse (e ∷ xs) =
     ap (λ (l : List Entry). ended_calls l) (reverse-append (e ∷ []) xs)
     ∙ ended_calls-append (reverse xs) (e ∷ []) ∙ omega (arith, ended_calls-reverse xs)
+
+-- one more entry is counted
+pub more_calls : (entries : List Entry) (e : Entry) (calls : ℕ) → calls ≡ ended_calls entries → calls + (if ends_call e.word then 1 else 0) ≡ ended_calls (entries ++ e ∷ [])
+more_calls entries e calls is = omega (arith, is, ended_calls-append entries (e ∷ []))
 
 -- so many entries have their numbers below the cap
 below_cap : (h : Header) (k : ℕ) (xs : List Entry) → k ≤ h.cap → AreItems history_form h k xs →
