@@ -1,5 +1,5 @@
 -- The entries of a text are judged as their lines are read.
-use Rattle.std.proofs.Common.{◌≡◌, ℕ, ◌-◌, ◌<◌, ◌≤◌, ◌^◌, List, [], ◌∷◌, length, reverse, Option, None, Some, Ok, IfSome, refl, ◌∙◌, arith, subst}
+use Rattle.std.proofs.Common.{◌≡◌, ℕ, ◌<◌, ◌≤◌, ◌^◌, List, [], ◌∷◌, length, reverse, Option, None, Some, Ok, IfSome, ◌∙◌, arith, subst}
 use Rattle.std.proofs.lemmas.List.{reverse-append}
 use Rattle.history.specs.declared.entry.Entry.{Entry}
 use Rattle.history.specs.declared.header.Header.{Header}
@@ -9,7 +9,7 @@ use Rattle.line_text.specs.Reading.{IsText}
 use Rattle.history_text.specs.HistoryText.{history_form}
 use Rattle.audit.specs.declared.auditor.Auditor.{Auditor}
 use Rattle.audit.specs.declared.verdict.Judgement.{Judgement}
-use Rattle.audit.specs.Auditor.{CanFollow, HasJudged, IsAuditor}
+use Rattle.audit.specs.Auditor.{HasJudged}
 use Rattle.audit.specs.Verdict.{IsJudgement}
 use Rattle.driver.specs.AuditStream.{IsJudged}
 use Rattle.driver.specs.HistoryReader.{AreCounted, EntriesHeld, entries_read}
@@ -26,11 +26,6 @@ pub record Judging (first : Progress Header Entry) (now : EntriesHeld) (left : O
   pub calls : now.calls ≡ ended_calls entries
   pub few : length entries < 2 ^ 32
   pub range : IsInRange first.seen.header
-
-pub judging_none : (held : EntriesHeld) (left : Option (List ℕ)) (a : Auditor) → IsInRange held.header → held.count ≡ 0 → held.calls ≡ 0 → HasJudged held.header [] a →
-    Judging (entries_read held left) held left a
-judging_none held left a range count calls judged =
-    record { entries = []; read = λ text were. were; judged = judged; header = refl; count = count; calls = calls; few = omega arith; range = range }
 
 pub judging_on : (first : Progress Header Entry) (old new : EntriesHeld) (left left' : Option (List ℕ)) (a b : Auditor) (e : Entry) →
     IsNext history_form (entries_read old left) (Ok (Some e)) (entries_read new left') → new.header ≡ old.header → AreCounted old (Some e) new →
@@ -49,18 +44,6 @@ judging_on first old new left left' a b e next same counted follow j =
       range = j.range;
     }
 
-pub can_follow : (first : Progress Header Entry) (old new : EntriesHeld) (left : Option (List ℕ)) (a : Auditor) (e : Entry) →
-    AreCounted old (Some e) new → Judging first old left a → CanFollow a e
-can_follow first old new left a e counted j =
-    let within = subst (λ (k : Header). new.count ≤ k.cap) j.header counted.2 in
-    record {
-      header = first.seen.header;
-      entries = j.entries;
-      judged = j.judged;
-      seat = subst (λ (k : Header). e.seat < k.seats) j.header counted.3;
-      room = omega (arith, counted.0, within, j.count, j.range.cap);
-    }
-
 pub all_judged : (first : Progress Header Entry) (now new : EntriesHeld) (left left' : Option (List ℕ)) (a : Auditor) (judgement : Judgement) →
     IsNext history_form (entries_read now left) (Ok None) (entries_read new left') → new.header ≡ now.header → AreCounted now None new →
     ((k : Header) (h : List Entry) → HasJudged k h a → IsJudgement k h judgement) → Judging first now left a → IsJudged first new judgement
@@ -73,13 +56,3 @@ all_judged first now new left left' a judgement all same counted judges j =
       count = counted.0 ∙ j.count;
       calls = counted.1 ∙ j.calls;
     }
-
-pub is_auditor : (first : Progress Header Entry) (now : EntriesHeld) (left : Option (List ℕ)) (a : Auditor) → Judging first now left a → IsAuditor a
-is_auditor first now left a j = record { header = first.seen.header; entries = j.entries; judged = j.judged; room = j.few }
-
--- each entry is below the cap
-pub fewer_left : (first : Progress Header Entry) (old new : EntriesHeld) (left : Option (List ℕ)) (a : Auditor) (e : Entry) →
-    AreCounted old (Some e) new → Judging first old left a → first.seen.header.cap - new.count < first.seen.header.cap - old.count
-fewer_left first old new left a e counted j =
-    let within = subst (λ (k : Header). new.count ≤ k.cap) j.header counted.2 in
-    omega (arith, counted.0, within)

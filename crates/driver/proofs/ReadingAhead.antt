@@ -14,7 +14,7 @@ use Rattle.line_text.proofs.UnderWay.{one_seen, read_on}
 use Rattle.streams.specs.declared.stream_fault.StreamFault.{StreamFault}
 use Rattle.streams.specs.declared.stream_fault.StreamFault.TheVariants.{Text, ReadFailed, WriteFailed, Memory}
 use Rattle.streams.specs.Window.{Grows}
-use Rattle.driver.specs.TextReader.{Progress, reader_at, WereRead, IsFaultOf, IsFaultBehind, IsBehindEnd, IsNext}
+use Rattle.driver.specs.TextReader.{Progress, reader_at, WereRead, IsFaultOf, IsBehindEnd, IsNext}
 
 -- ---- the source
 
@@ -136,16 +136,6 @@ next_kept form seen a b (Err fault) new keeps next = λ text items were. next te
 -- from the header on, these items were read
 abbrev pub ReadOn : {H I : Type 0} → Form H I → Progress H I → List I → Progress H I → Type 0
 ReadOn form first items now = (text : Option (List ℕ)) → WereRead form text first [] → WereRead form text now items
-
--- a fault ends the reading, whatever was read before
-pub fault_behind : {H I : Type 0} (form : Form H I) (first now new : Progress H I) (items : List I) (fault : StreamFault) → ReadOn form first items now → IsNext form now (Err fault) new → IsFaultBehind form first fault
-fault_behind form first now new items fault read next = λ text were. next text items (read text were)
-
--- and is passed on
-pub failed_behind : {H I T : Type 0} (form : Form H I) (first : Progress H I) (r : Result T StreamFault) (fault : StreamFault) → IsErr r × IsErrAnd r (λ e. e ≡ fault) → IsFaultBehind form first fault
-    → IfErr r (IsFaultBehind form first)
-failed_behind form first (Ok next) fault passed is = absurd (false≢true passed.0)
-failed_behind form first (Err e) fault passed is = subst (IsFaultBehind form first) (sym passed.1) is
 
 abbrev sure : {T : Type 0} → T → Result T StreamFault
 sure x = Ok x
