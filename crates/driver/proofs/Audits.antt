@@ -20,12 +20,12 @@ use Rattle.driver.proofs.ReadingAhead.{ReadOn}
 pub record Judging (first : Progress Header Entry) (now : EntriesHeld) (left : Option (List ℕ)) (a : Auditor) : Type 0 where
   pub entries : List Entry
   pub read : ReadOn history_form first (reverse entries) (entries_read now left)
-  pub judged : HasJudged first.seen.header entries a
-  pub header : now.header ≡ first.seen.header
+  pub judged : HasJudged first.so_far.header entries a
+  pub header : now.header ≡ first.so_far.header
   pub count : now.count ≡ length entries
   pub calls : now.calls ≡ ended_calls entries
   pub few : length entries < 2 ^ 32
-  pub range : IsInRange first.seen.header
+  pub range : IsInRange first.so_far.header
 
 pub judging_on : (first : Progress Header Entry) (old new : EntriesHeld) (left left' : Option (List ℕ)) (a b : Auditor) (e : Entry) →
     IsNext history_form (entries_read old left) (Ok (Some e)) (entries_read new left') → new.header ≡ old.header → AreCounted old (Some e) new →
@@ -36,7 +36,7 @@ judging_on first old new left left' a b e next same counted follow j =
     record {
       entries = e ∷ j.entries;
       read = rw (reverse-append (e ∷ []) j.entries) (λ text were. next text (reverse j.entries) (j.read text were));
-      judged = follow first.seen.header j.entries j.judged seat;
+      judged = follow first.so_far.header j.entries j.judged seat;
       header = same ∙ j.header;
       count = omega (arith, counted.0, j.count);
       calls = omega (arith, counted.1, j.calls);
@@ -51,7 +51,7 @@ all_judged first now new left left' a judgement all same counted judges j =
     record {
       entries = j.entries;
       is = λ text were. subst (λ (k : Header). IfSome text (λ t. IsText history_form t k (reverse j.entries))) j.header (all text (reverse j.entries) (j.read text were));
-      judged = judges first.seen.header j.entries j.judged;
+      judged = judges first.so_far.header j.entries j.judged;
       header = same ∙ j.header;
       count = counted.0 ∙ j.count;
       calls = counted.1 ∙ j.calls;

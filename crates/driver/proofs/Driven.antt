@@ -35,15 +35,15 @@ pub record Answering (first now : Progress Header (ℕ × Step)) (h : List Entry
   pub steps : List (ℕ × Step)
   pub lines : List ℕ
   pub read : ReadOn steps_form first steps now
-  pub told : Told now.seen.header steps lines h
+  pub told : Told now.so_far.header steps lines h
   pub remarked : Remarked h remarks lines
 
 pub answering_none : (p : Progress Header (ℕ × Step)) (h : List Entry) → h ≡ [] → Answering p p h []
-answering_none p h none = rw none (record { steps = []; lines = []; read = λ text were. were; told = told_none p.seen.header; remarked = remarked_none })
+answering_none p h none = rw none (record { steps = []; lines = []; read = λ text were. were; told = told_none p.so_far.header; remarked = remarked_none })
 
 -- one more step was answered
 pub answering_on : (first old new : Progress Header (ℕ × Step)) (x : ℕ × Step) (r : Result Answer Fault) (h h' : List Entry) (remarks remarks' : List Remark)
-    → IsNext steps_form old (Ok (Some x)) new → new.seen.header ≡ old.seen.header → x.0 < old.seen.header.seats → r ≡ (answer (opening new.seen.header) h x.0 x.1).0 → h' ≡ (answer (opening new.seen.header) h x.0 x.1).1
+    → IsNext steps_form old (Ok (Some x)) new → new.so_far.header ≡ old.so_far.header → x.0 < old.so_far.header.seats → r ≡ (answer (opening new.so_far.header) h x.0 x.1).0 → h' ≡ (answer (opening new.so_far.header) h x.0 x.1).1
     → IsKept remarks (remark_of (length h) x.0 r) remarks' → Answering first old h remarks → Answering first new h' remarks'
 answering_on first old new x r h h' remarks remarks' next same below p q more a =
     let told = subst (λ (k : Header). Told k a.steps a.lines h) (sym same) a.told in
@@ -53,8 +53,8 @@ answering_on first old new x r h h' remarks remarks' next same below p q more a 
       steps = a.steps ++ x ∷ [];
       lines = a.lines ++ line;
       read = λ text were. next text a.steps (a.read text were);
-      told = told_more new.seen.header a.steps a.lines h x r h' told seated p q;
-      remarked = remarked_on (opening new.seen.header) h x.0 x.1 r h' remarks remarks' a.lines p q more a.remarked;
+      told = told_more new.so_far.header a.steps a.lines h x r h' told seated p q;
+      remarked = remarked_on (opening new.so_far.header) h x.0 x.1 r h' remarks remarks' a.lines p q more a.remarked;
     }
 
 counts_are : (header : Header) (h : List Entry) (steps : List (ℕ × Step)) → h ≡ history_behind header steps
@@ -81,12 +81,12 @@ answer_is form None header h remarks steps lines told remarked is = tt
 answer_is form (Some t) header h remarks steps lines told remarked is = replayed form t header steps _ is (text_is form header h remarks steps lines told remarked)
 
 -- the last step was answered
-pub answering_all : (first now new : Progress Header (ℕ × Step)) (h : List Entry) (remarks : List Remark) → now.seen.header ≡ first.seen.header → IsNext steps_form now (Ok None) new → Answering first now h remarks
-    → AreAnswersBehind first (record { header = first.seen.header; entries = h; remarks = remarks })
+pub answering_all : (first now new : Progress Header (ℕ × Step)) (h : List Entry) (remarks : List Remark) → now.so_far.header ≡ first.so_far.header → IsNext steps_form now (Ok None) new → Answering first now h remarks
+    → AreAnswersBehind first (record { header = first.so_far.header; entries = h; remarks = remarks })
 answering_all first now new h remarks same all a = λ form text were.
-    let told : Told first.seen.header a.steps a.lines h = subst (λ (k : Header). Told k a.steps a.lines h) same a.told in
+    let told : Told first.so_far.header a.steps a.lines h = subst (λ (k : Header). Told k a.steps a.lines h) same a.told in
     let is = subst (λ (k : Header). IfSome text (λ t. IsText steps_form t k a.steps)) same (all text a.steps (a.read text were)) in
-    answer_is form text first.seen.header h remarks a.steps a.lines told a.remarked is
+    answer_is form text first.so_far.header h remarks a.steps a.lines told a.remarked is
 
-pub legal_behind : (first now : Progress Header (ℕ × Step)) (h : List Entry) (remarks : List Remark) → now.seen.header ≡ first.seen.header → Answering first now h remarks → IsLegal (opening first.seen.header) h
+pub legal_behind : (first now : Progress Header (ℕ × Step)) (h : List Entry) (remarks : List Remark) → now.so_far.header ≡ first.so_far.header → Answering first now h remarks → IsLegal (opening first.so_far.header) h
 legal_behind first now h remarks same a = subst (λ (k : Header). IsLegal (opening k) h) same a.told.behind.legal

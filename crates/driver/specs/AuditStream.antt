@@ -34,9 +34,9 @@ pub record Audited (text : List ℕ) (verdict : Verdict) (Written : List ℕ →
 -- The text is a history text of this header, whose entries were judged so; the reader has counted them.
 pub record IsJudged (p : Progress Header Entry) (end : EntriesHeld) (judgement : Judgement) : Type 0 where
   pub entries : List Entry
-  pub is : OfText history_form p (λ text. IsText history_form text p.seen.header (reverse entries))
-  pub judged : IsJudgement p.seen.header entries judgement
-  pub header : end.header ≡ p.seen.header
+  pub is : OfText history_form p (λ text. IsText history_form text p.so_far.header (reverse entries))
+  pub judged : IsJudgement p.so_far.header entries judgement
+  pub header : end.header ≡ p.so_far.header
   pub count : end.count ≡ length entries
   pub calls : end.calls ≡ ended_calls entries
 

@@ -3,7 +3,7 @@ use Rattle.std.specs.Prelude.{◌≡◌, ◌+◌, ◌-◌, ◌<◌, ◌≤◌, �
 use Rattle.history.specs.declared.entry.Entry.{Entry}
 use Rattle.history.specs.declared.header.Header.{Header}
 use Rattle.history.specs.Entry.{ends_call}
-use Rattle.history_text.specs.HistoryText.{entries_seen}
+use Rattle.history_text.specs.HistoryText.{entries_so_far}
 use Rattle.driver.specs.TextReader.{Progress, reader_at}
 
 -- What a reader of entries has: the header, how many entries it gave, how many of them end a call, and the
@@ -33,4 +33,4 @@ AreCounted old (Some e) new =
 
 -- where a reader is, whose source has this left
 abbrev pub entries_read : EntriesHeld → Option (List ℕ) → Progress Header Entry
-entries_read held = reader_at (entries_seen held.header held.count held.calls) held.bytes
+entries_read held = reader_at (entries_so_far held.header held.count held.calls) held.bytes

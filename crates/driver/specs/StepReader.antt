@@ -2,7 +2,7 @@
 use Rattle.std.specs.Prelude.{◌+◌, ◌-◌, ℕ, drop, length, List, Option}
 use Rattle.history.specs.declared.header.Header.{Header}
 use Rattle.history.specs.declared.step.Step.{Step}
-use Rattle.steps.specs.StepsText.{steps_seen}
+use Rattle.steps.specs.StepsText.{steps_so_far}
 use Rattle.driver.specs.TextReader.{Progress, reader_at}
 
 -- What a reader of steps has: the header, how many steps it gave, and the bytes behind them that it holds.
@@ -18,4 +18,4 @@ passed left held =
 
 -- where a reader is, whose source has this left
 abbrev pub progress : Held → Option (List ℕ) → Progress Header (ℕ × Step)
-progress held = reader_at (steps_seen held.header held.count) held.bytes
+progress held = reader_at (steps_so_far held.header held.count) held.bytes

@@ -4,22 +4,22 @@ use Rattle.std.specs.Io.KnownBytes.{IsAtEnd, prepend_known}
 use Rattle.line_text.specs.Form.{Form}
 use Rattle.line_text.specs.declared.fault.TextFault.TheVariants.{BadLine}
 use Rattle.line_text.specs.Reading.{IsText, IsReading}
-use Rattle.line_text.specs.UnderWay.{Seen, AreRead}
+use Rattle.line_text.specs.UnderWay.{SoFar, AreRead}
 use Rattle.streams.specs.declared.stream_fault.StreamFault.{StreamFault}
 use Rattle.streams.specs.declared.stream_fault.StreamFault.TheVariants.{Text, ReadFailed, WriteFailed, Memory}
 
--- A text under way: what was seen of it, and all that follows the items that were read, where it is known.
+-- A text under way: what is known of it so far, and all that follows the items that were read, where it is known.
 pub record Progress (H I : Type 0) : Type 1 where
-  pub seen : Seen H I
+  pub so_far : SoFar H I
   pub ahead : Option (List ℕ)
 
 -- where a reader is that holds these bytes, and whose source has this left
-abbrev pub reader_at : {H I : Type 0} → Seen H I → List ℕ → Option (List ℕ) → Progress H I
-reader_at seen bytes left = record { seen = seen; ahead = prepend_known bytes left }
+abbrev pub reader_at : {H I : Type 0} → SoFar H I → List ℕ → Option (List ℕ) → Progress H I
+reader_at so_far bytes left = record { so_far = so_far; ahead = prepend_known bytes left }
 
 -- these items of the text were read, the oldest first, where the text is known
 abbrev pub WereRead : {H I : Type 0} → Form H I → Option (List ℕ) → Progress H I → List I → Type 0
-WereRead form text p items = IfSome text (λ t. IsSomeAnd p.ahead (AreRead form t p.seen items))
+WereRead form text p items = IfSome text (λ t. IsSomeAnd p.ahead (AreRead form t p.so_far items))
 
 -- of a text of which the header and nothing more was read, P holds
 abbrev pub OfText : {H I : Type 0} → Form H I → Progress H I → (List ℕ → Type 0) → Type 0
@@ -50,6 +50,6 @@ abbrev pub IsNext : {H I : Type 0} → Form H I → Progress H I → Result (Opt
 IsNext {H} {I} form old (Ok (Some item)) new =
     (text : Option (List ℕ)) (items : List I) → WereRead form text old items → WereRead form text new (items ++ item ∷ [])
 IsNext {H} {I} form old (Ok None) new =
-    (text : Option (List ℕ)) (items : List I) → WereRead form text old items → IfSome text (λ t. IsText form t old.seen.header items)
+    (text : Option (List ℕ)) (items : List I) → WereRead form text old items → IfSome text (λ t. IsText form t old.so_far.header items)
 IsNext {H} {I} form old (Err fault) new =
     (text : Option (List ℕ)) (items : List I) → WereRead form text old items → IsFaultOf form text fault

@@ -10,7 +10,7 @@ use Rattle.line_text.specs.Reading.{Begins}
 use Rattle.line_text.specs.UnderWay.{AreRead, IsAhead}
 use Rattle.line_text.proofs.UnderWay.{IsEnd, read_on}
 use Rattle.history_text.specs.EntryLines.{counts_line}
-use Rattle.history_text.specs.HistoryText.{entries_seen, history_form}
+use Rattle.history_text.specs.HistoryText.{entries_so_far, history_form}
 
 ended_calls-append : (xs ys : List Entry) → ended_calls (xs ++ ys) ≡ ended_calls xs + ended_calls ys
 ended_calls-append [] ys = omega arith
@@ -43,16 +43,16 @@ end_of xs count calls p q =
     ∙ ap (counts_line (length (reverse xs))) (q ∙ sym (ended_calls-reverse xs))
 
 -- behind so many entries, of which so many end a call, the line of these counts is the end line
-pub counts_end : (h : Header) (count calls : ℕ) (rest line : List ℕ) → line ≡ counts_line count calls → IsEnd history_form (entries_seen h count calls) rest line
+pub counts_end : (h : Header) (count calls : ℕ) (rest line : List ℕ) → line ≡ counts_line count calls → IsEnd history_form (entries_so_far h count calls) rest line
 counts_end h count calls rest line is text entries read =
     (few text h entries rest read.begins, is ∙ ap (λ (n : ℕ). counts_line n calls) read.count ∙ ap (counts_line (length entries)) read.known)
 
 -- one more entry was read of a history, which stands newest first
-pub entry_read : (text : List ℕ) (h : Header) (entries : List Entry) (e : Entry) (rest after : List ℕ) → IsAhead history_form (entries_seen h (length entries) (ended_calls entries)) rest e after
-    → AreRead history_form text (entries_seen h (length entries) (ended_calls entries)) (reverse entries) rest
-    → AreRead history_form text (entries_seen h (length (e ∷ entries)) (ended_calls (e ∷ entries))) (reverse (e ∷ entries)) after
+pub entry_read : (text : List ℕ) (h : Header) (entries : List Entry) (e : Entry) (rest after : List ℕ) → IsAhead history_form (entries_so_far h (length entries) (ended_calls entries)) rest e after
+    → AreRead history_form text (entries_so_far h (length entries) (ended_calls entries)) (reverse entries) rest
+    → AreRead history_form text (entries_so_far h (length (e ∷ entries)) (ended_calls (e ∷ entries))) (reverse (e ∷ entries)) after
 entry_read text h entries e rest after ahead read =
-    let grown = read_on history_form text (entries_seen h (length entries) (ended_calls entries)) (λ all. Unit {0}) (reverse entries) rest e after ahead tt read in
+    let grown = read_on history_form text (entries_so_far h (length entries) (ended_calls entries)) (λ all. Unit {0}) (reverse entries) rest e after ahead tt read in
     record {
       begins = rw (reverse-append (e ∷ []) entries) grown.begins;
       count = sym (length-reverse (e ∷ entries));

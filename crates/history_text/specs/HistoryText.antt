@@ -8,7 +8,7 @@ use Rattle.line_text.specs.declared.fault.TextFault.{TextFault}
 use Rattle.line_text.specs.Form.{Form, text_of}
 use Rattle.line_text.specs.Reading.{IsReading}
 use Rattle.line_text.specs.Reading as reading
-use Rattle.line_text.specs.UnderWay.{Seen}
+use Rattle.line_text.specs.UnderWay.{SoFar}
 use Rattle.history_text.specs.EntryLines.{HasLine, header_line, entry_line, counts_line}
 
 -- a header of any object, entries of its seats with their numbers below its cap, and their two counts
@@ -38,8 +38,8 @@ pub record IsRead (text : List ℕ) (h : Header) (kept : HistoryView) : Type 0 w
   pub owed : kept.owed ≡ 0
 
 -- A reader of entries knows of the entries that it read how many there are, and how many of them end a call.
-abbrev pub entries_seen : Header → ℕ → ℕ → Seen Header Entry
-entries_seen header count calls =
+abbrev pub entries_so_far : Header → ℕ → ℕ → SoFar Header Entry
+entries_so_far header count calls =
     record { header = header; count = count; known = λ entries. calls ≡ ended_calls entries }
 
 -- what a call answers: the reading of the text, or want of memory

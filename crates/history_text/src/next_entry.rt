@@ -6,7 +6,7 @@ ghost use Rattle.history.specs.Text.{IsLine};
 ghost use Rattle.line_text.specs.Reading.{IsReading};
 ghost use Rattle.line_text.specs.declared.fault.TextFault.TheVariants.{CutShort};
 ghost use Rattle.line_text.specs.UnderWay.{IsHeaderOf, IsLineBehind};
-ghost use Rattle.history_text.specs.HistoryText.{entries_seen, history_form};
+ghost use Rattle.history_text.specs.HistoryText.{entries_so_far, history_form};
 
 use crate::common_entry::common_entry;
 use crate::end_line::is_end;
@@ -39,7 +39,7 @@ fn entry_by_words(
 ) -> Result<Option<(Entry, usize)>, TextFault>
     requires range { IsInRange header.now }
     requires few { count + 3 < 2 ^ 64 }
-    ensures line { IsLineBehind history_form (entries_seen header.now count calls) rest.now result }
+    ensures line { IsLineBehind history_form (entries_so_far header.now count calls) rest.now result }
     ensures cut { IsErrOf result CutShort → IsLine rest.now }
 {
     let Some((line, after)) = first_line(rest) else {
@@ -72,7 +72,7 @@ pub fn next_entry(
 ) -> Result<Option<(Entry, usize)>, TextFault>
     requires range { IsInRange header.now }
     requires few { count + 3 < 2 ^ 64 }
-    ensures line { IsLineBehind history_form (entries_seen header.now count calls) rest.now result }
+    ensures line { IsLineBehind history_form (entries_so_far header.now count calls) rest.now result }
     ensures cut { IsErrOf result CutShort → IsLine rest.now }
 {
     if count < u64::from(header.cap) {

@@ -7,7 +7,7 @@ use Rattle.line_text.specs.declared.fault.TextFault.{TextFault}
 use Rattle.line_text.specs.Form.{Form}
 use Rattle.line_text.specs.Reading.{IsReading}
 use Rattle.line_text.specs.Reading as reading
-use Rattle.line_text.specs.UnderWay.{Seen}
+use Rattle.line_text.specs.UnderWay.{SoFar}
 use Rattle.steps.specs.declared.steps_text.StepsText.{StepsText}
 use Rattle.steps.specs.StepLines.{header_line, step_line, end_line, IsStep}
 
@@ -23,8 +23,8 @@ steps_form =
     }
 
 -- A reader of steps knows of the steps that it read how many there are.
-abbrev pub steps_seen : Header → ℕ → Seen Header (ℕ × Step)
-steps_seen header count = record { header = header; count = count; known = λ steps. Unit {0} }
+abbrev pub steps_so_far : Header → ℕ → SoFar Header (ℕ × Step)
+steps_so_far header count = record { header = header; count = count; known = λ steps. Unit {0} }
 
 -- what a call answers: the reading of the text, or want of memory
 abbrev pub Reads : List ℕ → Result StepsText TextFault → Type 0

@@ -6,7 +6,7 @@ ghost use Rattle.history.specs.Text.{IsLine};
 ghost use Rattle.line_text.specs.Reading.{IsReading};
 ghost use Rattle.line_text.specs.declared.fault.TextFault.TheVariants.{CutShort};
 ghost use Rattle.line_text.specs.UnderWay.{IsHeaderOf, IsLineBehind};
-ghost use Rattle.steps.specs.StepsText.{steps_form, steps_seen};
+ghost use Rattle.steps.specs.StepsText.{steps_form, steps_so_far};
 
 use crate::common_step::common_step;
 use crate::end_line::is_end;
@@ -37,7 +37,7 @@ fn line_by_words(
 ) -> Result<Option<((u16, Step), usize)>, TextFault>
     requires seats { 1 ≤ header.now.seats }
     requires few { count + 3 < 2 ^ 64 }
-    ensures line { IsLineBehind steps_form (steps_seen header.now count) rest.now result }
+    ensures line { IsLineBehind steps_form (steps_so_far header.now count) rest.now result }
     ensures cut { IsErrOf result CutShort → IsLine rest.now }
 {
     let Some((line, after)) = first_line(rest) else {
@@ -65,7 +65,7 @@ pub fn next_line(
 ) -> Result<Option<((u16, Step), usize)>, TextFault>
     requires seats { 1 ≤ header.now.seats }
     requires few { count + 3 < 2 ^ 64 }
-    ensures line { IsLineBehind steps_form (steps_seen header.now count) rest.now result }
+    ensures line { IsLineBehind steps_form (steps_so_far header.now count) rest.now result }
     ensures cut { IsErrOf result CutShort → IsLine rest.now }
 {
     match common_step(rest, header.seats) {
