@@ -1,5 +1,6 @@
 -- The entries of a text are judged as their lines are read.
-use Rattle.std.proofs.Common.{◌≡◌, ℕ, ◌-◌, ◌<◌, ◌≤◌, ◌^◌, List, [], ◌∷◌, length, reverse, Option, None, Some, Ok, Err, IfSome, refl, ◌∙◌, arith, subst}
+use Rattle.std.proofs.Common.{◌≡◌, ℕ, ◌<◌, ◌≤◌, ◌^◌, List, [], ◌∷◌, length, reverse, Option, None, Some, Ok, IfSome, ◌∙◌, arith, subst}
+use Rattle.std.proofs.lemmas.List.{reverse-append}
 use Rattle.history.specs.declared.entry.Entry.{Entry}
 use Rattle.history.specs.declared.header.Header.{Header}
 use Rattle.history.specs.Entries.{ended_calls}
@@ -8,38 +9,34 @@ use Rattle.line_text.specs.Reading.{IsText}
 use Rattle.history_text.specs.HistoryText.{history_form}
 use Rattle.audit.specs.declared.auditor.Auditor.{Auditor}
 use Rattle.audit.specs.declared.verdict.Judgement.{Judgement}
-use Rattle.audit.specs.Auditor.{CanFollow, HasJudged, IsAuditor}
+use Rattle.audit.specs.Auditor.{HasJudged}
 use Rattle.audit.specs.Verdict.{IsJudgement}
-use Rattle.streams.specs.declared.stream_fault.StreamFault.{StreamFault}
 use Rattle.driver.specs.AuditStream.{IsJudged}
-use Rattle.driver.specs.HistoryReader.{AreCounted, EntriesHeld, EntriesRead, WereRead, IsFaultBehind, IsNext, entries_read}
+use Rattle.driver.specs.HistoryReader.{AreCounted, EntriesHeld, entries_read}
+use Rattle.driver.specs.TextReader.{Progress, IsNext}
+use Rattle.driver.proofs.ReadingAhead.{ReadOn}
 
 -- these entries were read from the header on, and followed
-pub record Judging (first : EntriesRead) (now : EntriesHeld) (left : Option (List ℕ)) (a : Auditor) : Type 0 where
+pub record Judging (first : Progress Header Entry) (now : EntriesHeld) (left : Option (List ℕ)) (a : Auditor) : Type 0 where
   pub entries : List Entry
-  pub read : (text : Option (List ℕ)) → WereRead text first [] → WereRead text (entries_read now left) entries
-  pub judged : HasJudged first.header entries a
-  pub header : now.header ≡ first.header
+  pub read : ReadOn history_form first (reverse entries) (entries_read now left)
+  pub judged : HasJudged first.so_far.header entries a
+  pub header : now.header ≡ first.so_far.header
   pub count : now.count ≡ length entries
   pub calls : now.calls ≡ ended_calls entries
   pub few : length entries < 2 ^ 32
-  pub range : IsInRange first.header
+  pub range : IsInRange first.so_far.header
 
-pub judging_none : (held : EntriesHeld) (left : Option (List ℕ)) (a : Auditor) → IsInRange held.header → held.count ≡ 0 → held.calls ≡ 0 → HasJudged held.header [] a →
-    Judging (entries_read held left) held left a
-judging_none held left a range count calls judged =
-    record { entries = []; read = λ text were. were; judged = judged; header = refl; count = count; calls = calls; few = omega arith; range = range }
-
-pub judging_on : (first : EntriesRead) (old new : EntriesHeld) (left left' : Option (List ℕ)) (a b : Auditor) (e : Entry) →
-    IsNext (entries_read old left) (Ok (Some e)) (entries_read new left') → new.header ≡ old.header → AreCounted old (Some e) new →
+pub judging_on : (first : Progress Header Entry) (old new : EntriesHeld) (left left' : Option (List ℕ)) (a b : Auditor) (e : Entry) →
+    IsNext history_form (entries_read old left) (Ok (Some e)) (entries_read new left') → new.header ≡ old.header → AreCounted old (Some e) new →
     ((k : Header) (h : List Entry) → HasJudged k h a → e.seat < k.seats → HasJudged k (e ∷ h) b) → Judging first old left a → Judging first new left' b
 judging_on first old new left left' a b e next same counted follow j =
     let seat = subst (λ (k : Header). e.seat < k.seats) j.header counted.3 in
     let within = subst (λ (k : Header). new.count ≤ k.cap) j.header counted.2 in
     record {
       entries = e ∷ j.entries;
-      read = λ text were. next text j.entries (j.read text were);
-      judged = follow first.header j.entries j.judged seat;
+      read = rw (reverse-append (e ∷ []) j.entries) (λ text were. next text (reverse j.entries) (j.read text were));
+      judged = follow first.so_far.header j.entries j.judged seat;
       header = same ∙ j.header;
       count = omega (arith, counted.0, j.count);
       calls = omega (arith, counted.1, j.calls);
@@ -47,41 +44,15 @@ judging_on first old new left left' a b e next same counted follow j =
       range = j.range;
     }
 
-pub can_follow : (first : EntriesRead) (old new : EntriesHeld) (left : Option (List ℕ)) (a : Auditor) (e : Entry) →
-    AreCounted old (Some e) new → Judging first old left a → CanFollow a e
-can_follow first old new left a e counted j =
-    let within = subst (λ (k : Header). new.count ≤ k.cap) j.header counted.2 in
-    record {
-      header = first.header;
-      entries = j.entries;
-      judged = j.judged;
-      seat = subst (λ (k : Header). e.seat < k.seats) j.header counted.3;
-      room = omega (arith, counted.0, within, j.count, j.range.cap);
-    }
-
-pub all_judged : (first : EntriesRead) (now new : EntriesHeld) (left left' : Option (List ℕ)) (a : Auditor) (judgement : Judgement) →
-    IsNext (entries_read now left) (Ok None) (entries_read new left') → new.header ≡ now.header → AreCounted now None new →
+pub all_judged : (first : Progress Header Entry) (now new : EntriesHeld) (left left' : Option (List ℕ)) (a : Auditor) (judgement : Judgement) →
+    IsNext history_form (entries_read now left) (Ok None) (entries_read new left') → new.header ≡ now.header → AreCounted now None new →
     ((k : Header) (h : List Entry) → HasJudged k h a → IsJudgement k h judgement) → Judging first now left a → IsJudged first new judgement
 all_judged first now new left left' a judgement all same counted judges j =
     record {
       entries = j.entries;
-      is = λ text were. subst (λ (k : Header). IfSome text (λ t. IsText history_form t k (reverse j.entries))) j.header (all text j.entries (j.read text were));
-      judged = judges first.header j.entries j.judged;
+      is = λ text were. subst (λ (k : Header). IfSome text (λ t. IsText history_form t k (reverse j.entries))) j.header (all text (reverse j.entries) (j.read text were));
+      judged = judges first.so_far.header j.entries j.judged;
       header = same ∙ j.header;
       count = counted.0 ∙ j.count;
       calls = counted.1 ∙ j.calls;
     }
-
-pub fault_behind : (first : EntriesRead) (now : EntriesHeld) (left : Option (List ℕ)) (new : EntriesRead) (a : Auditor) (fault : StreamFault) →
-    IsNext (entries_read now left) (Err fault) new → Judging first now left a → IsFaultBehind first fault
-fault_behind first now left new a fault next j = λ text were. next text j.entries (j.read text were)
-
-pub is_auditor : (first : EntriesRead) (now : EntriesHeld) (left : Option (List ℕ)) (a : Auditor) → Judging first now left a → IsAuditor a
-is_auditor first now left a j = record { header = first.header; entries = j.entries; judged = j.judged; room = j.few }
-
--- each entry is below the cap
-pub fewer_left : (first : EntriesRead) (old new : EntriesHeld) (left : Option (List ℕ)) (a : Auditor) (e : Entry) →
-    AreCounted old (Some e) new → Judging first old left a → first.header.cap - new.count < first.header.cap - old.count
-fewer_left first old new left a e counted j =
-    let within = subst (λ (k : Header). new.count ≤ k.cap) j.header counted.2 in
-    omega (arith, counted.0, within)

@@ -1,7 +1,5 @@
 -- The steps of a text are answered as their lines are read.
-use Rattle.std.proofs.Common.{◌≡◌, ℕ, ◌<◌, List, [], ◌∷◌, ◌++◌, length, reverse, Option, None, Some, Result, Ok, Err, IfSome, IfErr, Bool, true, false, refl, subst, sym, ap, ◌∙◌, arith, append_assoc}
-use Rattle.std.proofs.lemmas.Bool.{false≢true}
-use Rattle.std.specs.Result.{IsErr, IsErrAnd}
+use Rattle.std.proofs.Common.{◌≡◌, ℕ, ◌<◌, List, [], ◌∷◌, ◌++◌, length, reverse, Option, None, Some, Result, Ok, IfSome, refl, subst, sym, ap, ◌∙◌, arith, append_assoc}
 use Rattle.history.specs.declared.entry.Entry.{Entry}
 use Rattle.history.specs.declared.fault.Fault.{Fault}
 use Rattle.history.specs.declared.header.Header.{Header}
@@ -20,57 +18,32 @@ use Rattle.line_text.specs.Form.{lines_of}
 use Rattle.line_text.specs.Reading.{IsText}
 use Rattle.steps.specs.StepsText.{steps_form}
 use Rattle.driver.specs.declared.form.Form.TheVariants.{Replay, History}
-use Rattle.streams.specs.declared.stream_fault.StreamFault.{StreamFault}
-use Rattle.streams.specs.declared.stream_fault.StreamFault.TheVariants.{ReadFailed}
 use Rattle.driver.specs.ReplayStream.{AreAnswersBehind, IsAnswerTo, answer_text}
 use Rattle.driver.specs.Answers.{answers_text, first_line}
 use Rattle.driver.specs.Remarks.{IsKept, remark_of}
 use Rattle.driver.specs.declared.form.Form.{Form}
 use Rattle.driver.specs.declared.remark.Remark.{Remark}
 use Rattle.driver.specs.ReplayText.{answer_line, answer_lines, header_line, history_behind}
-use Rattle.driver.specs.StepReader.{Progress, WereRead, IsFaultBehind, IsNext}
+use Rattle.driver.specs.TextReader.{Progress, IsNext}
+use Rattle.driver.proofs.ReadingAhead.{ReadOn}
 use Rattle.driver.proofs.Behind.{replayed}
 use Rattle.driver.proofs.Remarking.{Remarked, remarked_none, remarked_on, remarked_all}
 use Rattle.driver.proofs.Told.{Told, told_none, told_more, told_all, behind_all}
 
--- from the header on, these steps were read
-abbrev pub ReadOn : Progress → List (ℕ × Step) → Progress → Type 0
-ReadOn first steps now = (text : Option (List ℕ)) → WereRead text first [] → WereRead text now steps
-
 -- these steps were read, and the history with these remarks tells their answers
-pub record Answering (first now : Progress) (h : List Entry) (remarks : List Remark) : Type 0 where
+pub record Answering (first now : Progress Header (ℕ × Step)) (h : List Entry) (remarks : List Remark) : Type 0 where
   pub steps : List (ℕ × Step)
   pub lines : List ℕ
-  pub read : ReadOn first steps now
-  pub told : Told now.header steps lines h
+  pub read : ReadOn steps_form first steps now
+  pub told : Told now.so_far.header steps lines h
   pub remarked : Remarked h remarks lines
 
--- a fault ends the reading, whatever was read before
-pub fault_behind : (first now new : Progress) (steps : List (ℕ × Step)) (fault : StreamFault) → ReadOn first steps now → IsNext now (Err fault) new → IsFaultBehind first fault
-fault_behind first now new steps fault read next = λ text were. next text steps (read text were)
-
--- and is passed on
-pub failed_behind : {T : Type 0} (first : Progress) (r : Result T StreamFault) (fault : StreamFault) → IsErr r × IsErrAnd r (λ e. e ≡ fault) → IsFaultBehind first fault → IfErr r (IsFaultBehind first)
-failed_behind first (Ok next) fault passed is = absurd (false≢true passed.0)
-failed_behind first (Err e) fault passed is = subst (IsFaultBehind first) (sym passed.1) is
-
-abbrev sure : {T : Type 0} → T → Result T StreamFault
-sure x = Ok x
-
--- a source goes on after an answer
-pub goes_on : {T : Type 0} (x : T) (failed : Bool) → (failed ≡ true → sure x ≡ Err ReadFailed) → failed ≡ false
-goes_on x true failing = absurd (no_fault x (failing refl))
-  where
-    no_fault : {T : Type 0} (x : T) → sure x ≡ Err ReadFailed → ⊥
-    no_fault x e = cc
-goes_on x false failing = refl
-
-pub answering_none : (p : Progress) (h : List Entry) → h ≡ [] → Answering p p h []
-answering_none p h none = rw none (record { steps = []; lines = []; read = λ text were. were; told = told_none p.header; remarked = remarked_none })
+pub answering_none : (p : Progress Header (ℕ × Step)) (h : List Entry) → h ≡ [] → Answering p p h []
+answering_none p h none = rw none (record { steps = []; lines = []; read = λ text were. were; told = told_none p.so_far.header; remarked = remarked_none })
 
 -- one more step was answered
-pub answering_on : (first old new : Progress) (x : ℕ × Step) (r : Result Answer Fault) (h h' : List Entry) (remarks remarks' : List Remark)
-    → IsNext old (Ok (Some x)) new → new.header ≡ old.header → x.0 < old.header.seats → r ≡ (answer (opening new.header) h x.0 x.1).0 → h' ≡ (answer (opening new.header) h x.0 x.1).1
+pub answering_on : (first old new : Progress Header (ℕ × Step)) (x : ℕ × Step) (r : Result Answer Fault) (h h' : List Entry) (remarks remarks' : List Remark)
+    → IsNext steps_form old (Ok (Some x)) new → new.so_far.header ≡ old.so_far.header → x.0 < old.so_far.header.seats → r ≡ (answer (opening new.so_far.header) h x.0 x.1).0 → h' ≡ (answer (opening new.so_far.header) h x.0 x.1).1
     → IsKept remarks (remark_of (length h) x.0 r) remarks' → Answering first old h remarks → Answering first new h' remarks'
 answering_on first old new x r h h' remarks remarks' next same below p q more a =
     let told = subst (λ (k : Header). Told k a.steps a.lines h) (sym same) a.told in
@@ -80,8 +53,8 @@ answering_on first old new x r h h' remarks remarks' next same below p q more a 
       steps = a.steps ++ x ∷ [];
       lines = a.lines ++ line;
       read = λ text were. next text a.steps (a.read text were);
-      told = told_more new.header a.steps a.lines h x r h' told seated p q;
-      remarked = remarked_on (opening new.header) h x.0 x.1 r h' remarks remarks' a.lines p q more a.remarked;
+      told = told_more new.so_far.header a.steps a.lines h x r h' told seated p q;
+      remarked = remarked_on (opening new.so_far.header) h x.0 x.1 r h' remarks remarks' a.lines p q more a.remarked;
     }
 
 counts_are : (header : Header) (h : List Entry) (steps : List (ℕ × Step)) → h ≡ history_behind header steps
@@ -108,12 +81,12 @@ answer_is form None header h remarks steps lines told remarked is = tt
 answer_is form (Some t) header h remarks steps lines told remarked is = replayed form t header steps _ is (text_is form header h remarks steps lines told remarked)
 
 -- the last step was answered
-pub answering_all : (first now new : Progress) (h : List Entry) (remarks : List Remark) → now.header ≡ first.header → IsNext now (Ok None) new → Answering first now h remarks
-    → AreAnswersBehind first (record { header = first.header; entries = h; remarks = remarks })
+pub answering_all : (first now new : Progress Header (ℕ × Step)) (h : List Entry) (remarks : List Remark) → now.so_far.header ≡ first.so_far.header → IsNext steps_form now (Ok None) new → Answering first now h remarks
+    → AreAnswersBehind first (record { header = first.so_far.header; entries = h; remarks = remarks })
 answering_all first now new h remarks same all a = λ form text were.
-    let told : Told first.header a.steps a.lines h = subst (λ (k : Header). Told k a.steps a.lines h) same a.told in
+    let told : Told first.so_far.header a.steps a.lines h = subst (λ (k : Header). Told k a.steps a.lines h) same a.told in
     let is = subst (λ (k : Header). IfSome text (λ t. IsText steps_form t k a.steps)) same (all text a.steps (a.read text were)) in
-    answer_is form text first.header h remarks a.steps a.lines told a.remarked is
+    answer_is form text first.so_far.header h remarks a.steps a.lines told a.remarked is
 
-pub legal_behind : (first now : Progress) (h : List Entry) (remarks : List Remark) → now.header ≡ first.header → Answering first now h remarks → IsLegal (opening first.header) h
+pub legal_behind : (first now : Progress Header (ℕ × Step)) (h : List Entry) (remarks : List Remark) → now.so_far.header ≡ first.so_far.header → Answering first now h remarks → IsLegal (opening first.so_far.header) h
 legal_behind first now h remarks same a = subst (λ (k : Header). IsLegal (opening k) h) same a.told.behind.legal

@@ -13,7 +13,8 @@ use Rattle.history_text.specs.HistoryText.{history_form}
 use Rattle.line_text.specs.Reading.{IsText}
 use Rattle.streams.specs.declared.stream_fault.StreamFault.{StreamFault}
 use Rattle.driver.specs.AuditText.{audit_text}
-use Rattle.driver.specs.HistoryReader.{EntriesHeld, EntriesRead, OfText}
+use Rattle.driver.specs.HistoryReader.{EntriesHeld}
+use Rattle.driver.specs.TextReader.{Progress, OfText}
 use Rattle.streams.specs.Streams.{Streams}
 
 -- the history is legal, or this is its first entry that isn't
@@ -31,11 +32,11 @@ pub record Audited (text : List ℕ) (verdict : Verdict) (Written : List ℕ →
   pub written : Written (audit_text header entries verdict)
 
 -- The text is a history text of this header, whose entries were judged so; the reader has counted them.
-pub record IsJudged (p : EntriesRead) (end : EntriesHeld) (judgement : Judgement) : Type 0 where
+pub record IsJudged (p : Progress Header Entry) (end : EntriesHeld) (judgement : Judgement) : Type 0 where
   pub entries : List Entry
-  pub is : OfText p (λ text. IsText history_form text p.header (reverse entries))
-  pub judged : IsJudgement p.header entries judgement
-  pub header : end.header ≡ p.header
+  pub is : OfText history_form p (λ text. IsText history_form text p.so_far.header (reverse entries))
+  pub judged : IsJudgement p.so_far.header entries judgement
+  pub header : end.header ≡ p.so_far.header
   pub count : end.count ≡ length entries
   pub calls : end.calls ≡ ended_calls entries
 

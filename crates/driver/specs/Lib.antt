@@ -9,3 +9,4 @@ pub mod ReplayStream
 pub mod ReplayText
 pub mod StepReader
 pub mod HistoryReader
+pub mod TextReader

@@ -13,7 +13,7 @@ use Rattle.driver.specs.declared.form.Form.TheVariants.{Replay, History}
 use Rattle.streams.specs.declared.stream_fault.StreamFault.{StreamFault}
 use Rattle.driver.specs.Answers.{AllAnswers, answers_text}
 use Rattle.driver.specs.ReplayText.{replay_text, history_behind}
-use Rattle.driver.specs.StepReader.{Progress, OfText}
+use Rattle.driver.specs.TextReader.{Progress, OfText}
 use Rattle.streams.specs.Streams.{Streams}
 
 abbrev pub answer_text : Form → Header → List (ℕ × Step) → List ℕ
@@ -37,14 +37,14 @@ abbrev pub IsAnswerTo : Form → Option (List ℕ) → List ℕ → Type 0
 IsAnswerTo form text answer = IfSome text (λ t. Replayed form t (λ written. answer ≡ written))
 
 -- the same of a text of which the header was read
-abbrev pub IsAnswerBehind : Form → Progress → List ℕ → Type 0
-IsAnswerBehind form p answer = OfText p (λ t. Replayed form t (λ written. answer ≡ written))
+abbrev pub IsAnswerBehind : Form → Progress Header (ℕ × Step) → List ℕ → Type 0
+IsAnswerBehind form p answer = OfText steps_form p (λ t. Replayed form t (λ written. answer ≡ written))
 
 -- in each form, what is written of the answers is what is to be written for the text
 abbrev pub AreAnswersTo : Option (List ℕ) → AllAnswers → Type 0
 AreAnswersTo text answers = (form : Form) → IsAnswerTo form text (answers_text form answers)
 
-abbrev pub AreAnswersBehind : Progress → AllAnswers → Type 0
+abbrev pub AreAnswersBehind : Progress Header (ℕ × Step) → AllAnswers → Type 0
 AreAnswersBehind p answers = (form : Form) → IsAnswerBehind form p (answers_text form answers)
 
 -- what a replay leaves

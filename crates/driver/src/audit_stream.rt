@@ -2,7 +2,9 @@
 
 ghost use Rattle.std.specs.Prelude.{◌≡◌, ◌↔◌, false, IsTrue, IfErr, IfOk, IfSome, IsErrOf};
 ghost use Rattle.driver.specs.AuditStream.{Audited, Audits, IsJudged};
-ghost use Rattle.driver.specs.HistoryReader.{IsFaultBehind, IsFaultOf, entries_read};
+ghost use Rattle.driver.specs.HistoryReader.{entries_read};
+ghost use Rattle.driver.specs.TextReader.{IsFaultBehind, IsFaultOf};
+ghost use Rattle.history_text.specs.HistoryText.{history_form};
 ghost use Rattle.streams.specs.Streams.{IsReadOut};
 
 use crate::audit_text::audit_text;
@@ -55,7 +57,7 @@ fn audit_of<R: Source>(alloc: Global, reader: &mut R) -> Result<Audit, StreamFau
     requires { R.failed reader.old ≡ false }
     ensures ok { IfOk result (λ audit. IfSome (R.left reader.old) (λ text.
         Audited text audit.verdict (λ written. audit.text.items ≡ written))) }
-    ensures err { IfErr result (IsFaultOf (R.left reader.old)) }
+    ensures err { IfErr result (IsFaultOf history_form (R.left reader.old)) }
     ensures failing { IsErrOf result StreamFault.ReadFailed ↔ IsTrue (R.failed reader.new) }
 {
     let mut entries = HistoryReader::open(alloc, reader)?;
@@ -77,7 +79,7 @@ fn judgement_of<R: Source>(
     requires reader { R.failed reader.old ≡ false }
     requires fresh { (entries.old.count ≡ 0) × (entries.old.calls ≡ 0) }
     ensures ok { IfOk result (IsJudged (entries_read entries.old (R.left reader.old)) entries.new) }
-    ensures err { IfErr result (IsFaultBehind (entries_read entries.old (R.left reader.old))) }
+    ensures err { IfErr result (IsFaultBehind history_form (entries_read entries.old (R.left reader.old))) }
     ensures failing { IsErrOf result StreamFault.ReadFailed ↔ IsTrue (R.failed reader.new) }
 {
     let Ok(mut auditor) = Auditor::open(alloc, entries.header()) else {

@@ -2,7 +2,9 @@
 
 ghost use Rattle.std.specs.Prelude.{◌≡◌, ◌<◌, ◌≤◌, ◌↔◌, [], false, length, IsTrue, IsErrOf, IfOk, IfErr};
 ghost use Rattle.history.specs.Header.{IsInRange};
-ghost use Rattle.driver.specs.HistoryReader.{AreCounted, IsBehindEnd, IsFaultOf, IsNext, WereRead, entries_read, entry_passed};
+ghost use Rattle.driver.specs.HistoryReader.{AreCounted, entries_read, entry_passed};
+ghost use Rattle.driver.specs.TextReader.{IsBehindEnd, IsFaultOf, IsNext, WereRead};
+ghost use Rattle.history_text.specs.HistoryText.{history_form};
 
 use history::entries::ends_call;
 use history::entry::Entry;
@@ -42,8 +44,8 @@ impl HistoryReader {
     /// Reads the header of a text.
     pub fn open<R: Source>(alloc: Global, reader: &mut R) -> Result<Self, StreamFault>
         requires { R.failed reader.old ≡ false }
-        ensures ok { IfOk result (λ entries. WereRead (R.left reader.old) (entries_read entries (R.left reader.new)) []) }
-        ensures err { IfErr result (IsFaultOf (R.left reader.old)) }
+        ensures ok { IfOk result (λ entries. WereRead history_form (R.left reader.old) (entries_read entries (R.left reader.new)) []) }
+        ensures err { IfErr result (IsFaultOf history_form (R.left reader.old)) }
         ensures failing { IsErrOf result StreamFault.ReadFailed ↔ IsTrue (R.failed reader.new) }
         ensures none { IfOk result (λ entries. (entries.count ≡ 0) × (entries.calls ≡ 0)) }
     {
@@ -118,7 +120,7 @@ impl HistoryReader {
     ) -> Result<Option<Entry>, StreamFault>
         requires { R.failed reader.old ≡ false }
         ensures header { self.new.header ≡ self.old.header }
-        ensures next { IsNext (entries_read self.old (R.left reader.old)) result (entries_read self.new (R.left reader.new)) }
+        ensures next { IsNext history_form (entries_read self.old (R.left reader.old)) result (entries_read self.new (R.left reader.new)) }
         ensures counted { IfOk result (λ next. AreCounted self.old next self.new) }
         ensures failing { IsErrOf result StreamFault.ReadFailed ↔ IsTrue (R.failed reader.new) }
     {
@@ -144,7 +146,7 @@ impl HistoryReader {
     pub fn next<R: Source>(&mut self, reader: &mut R) -> Result<Option<Entry>, StreamFault>
         requires { R.failed reader.old ≡ false }
         ensures header { self.new.header ≡ self.old.header }
-        ensures next { IsNext (entries_read self.old (R.left reader.old)) result (entries_read self.new (R.left reader.new)) }
+        ensures next { IsNext history_form (entries_read self.old (R.left reader.old)) result (entries_read self.new (R.left reader.new)) }
         ensures counted { IfOk result (λ next. AreCounted self.old next self.new) }
         ensures failing { IsErrOf result StreamFault.ReadFailed ↔ IsTrue (R.failed reader.new) }
     {

@@ -6,7 +6,9 @@ ghost use Rattle.history.specs.Start.{opening};
 ghost use Rattle.streams.specs.declared.stream_fault.StreamFault.TheVariants.{Memory};
 ghost use Rattle.driver.specs.Remarks.{IsKept};
 ghost use Rattle.driver.specs.ReplayStream.{AreAnswersBehind};
-ghost use Rattle.driver.specs.StepReader.{IsFaultBehind, progress};
+ghost use Rattle.driver.specs.StepReader.{progress};
+ghost use Rattle.driver.specs.TextReader.{IsFaultBehind};
+ghost use Rattle.steps.specs.StepsText.{steps_form};
 
 use crate::answering::Answering;
 use crate::remark::{Remark, remark_on};
@@ -54,7 +56,7 @@ pub fn replay<O: Answering, R: Source>(
     requires fresh { (O.view_of object.old).entries ≡ [] }
     ensures ok { IfOk result (λ remarks. AreAnswersBehind (progress steps.old (R.left reader.old)) (record { header = steps.old.header; entries = (O.view_of object.new).entries; remarks = remarks.items })) }
     ensures legal { OnOk result (IsLegal (opening steps.old.header) (O.view_of object.new).entries) }
-    ensures err { IfErr result (IsFaultBehind (progress steps.old (R.left reader.old))) }
+    ensures err { IfErr result (IsFaultBehind steps_form (progress steps.old (R.left reader.old))) }
     ensures failing { IsErrOf result StreamFault.ReadFailed ↔ IsTrue (R.failed reader.new) }
 {
     let mut remarks = Vec::new(alloc);

@@ -3,7 +3,9 @@
 ghost use Rattle.std.specs.Prelude.{◌≡◌, ◌↔◌, [], false, IsTrue, IfErr, IfOk, IsErrOf};
 ghost use Rattle.driver.specs.ReplayStream.{AreAnswersBehind, AreAnswersTo, Replays};
 ghost use Rattle.streams.specs.Streams.{IsReadOut};
-ghost use Rattle.driver.specs.StepReader.{IsFaultBehind, IsFaultOf, progress};
+ghost use Rattle.driver.specs.StepReader.{progress};
+ghost use Rattle.driver.specs.TextReader.{IsFaultBehind, IsFaultOf};
+ghost use Rattle.steps.specs.StepsText.{steps_form};
 
 use crate::answering::Answering;
 use crate::answers::Answers;
@@ -51,7 +53,7 @@ pub fn replay_stream<R: Source, W: Sink>(
 fn answers_to<R: Source>(alloc: Global, reader: &mut R) -> Result<Answers, StreamFault>
     requires { R.failed reader.old ≡ false }
     ensures ok { IfOk result (AreAnswersTo (R.left reader.old)) }
-    ensures err { IfErr result (IsFaultOf (R.left reader.old)) }
+    ensures err { IfErr result (IsFaultOf steps_form (R.left reader.old)) }
     ensures failing { IsErrOf result StreamFault.ReadFailed ↔ IsTrue (R.failed reader.new) }
 {
     let mut steps = StepReader::open(alloc, reader)?;
@@ -69,7 +71,7 @@ fn answered<O: Answering + Drop, R: Source>(
     requires header { (O.view_of object).header ≡ steps.old.header }
     requires fresh { (O.view_of object).entries ≡ [] }
     ensures ok { IfOk result (AreAnswersBehind (progress steps.old (R.left reader.old))) }
-    ensures err { IfErr result (IsFaultBehind (progress steps.old (R.left reader.old))) }
+    ensures err { IfErr result (IsFaultBehind steps_form (progress steps.old (R.left reader.old))) }
     ensures failing { IsErrOf result StreamFault.ReadFailed ↔ IsTrue (R.failed reader.new) }
 {
     let mut object = object;
@@ -89,7 +91,7 @@ fn opened<H: Hooks + Drop, R: Source>(
     requires hooks { H.is_opened hooks steps.old.header.seats }
     requires object { H.object_of hooks ≡ steps.old.header.object }
     ensures ok { IfOk result (AreAnswersBehind (progress steps.old (R.left reader.old))) }
-    ensures err { IfErr result (IsFaultBehind (progress steps.old (R.left reader.old))) }
+    ensures err { IfErr result (IsFaultBehind steps_form (progress steps.old (R.left reader.old))) }
     ensures failing { IsErrOf result StreamFault.ReadFailed ↔ IsTrue (R.failed reader.new) }
 {
     let header = steps.header();
@@ -107,7 +109,7 @@ fn answers_behind<R: Source>(
 ) -> Result<Answers, StreamFault>
     requires reader { R.failed reader.old ≡ false }
     ensures ok { IfOk result (AreAnswersBehind (progress steps.old (R.left reader.old))) }
-    ensures err { IfErr result (IsFaultBehind (progress steps.old (R.left reader.old))) }
+    ensures err { IfErr result (IsFaultBehind steps_form (progress steps.old (R.left reader.old))) }
     ensures failing { IsErrOf result StreamFault.ReadFailed ↔ IsTrue (R.failed reader.new) }
 {
     let header = steps.header();

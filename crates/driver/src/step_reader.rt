@@ -2,7 +2,9 @@
 
 ghost use Rattle.std.specs.Prelude.{◌≡◌, ◌+◌, ◌^◌, ◌<◌, ◌≤◌, ◌∷◌, ◌++◌, ◌↔◌, ◌-◌, [], false, drop, length, IsTrue, IsErrOf, IfOk, IfErr, IfSome, OnOk};
 ghost use Rattle.history.specs.Header.{IsInRange};
-ghost use Rattle.driver.specs.StepReader.{IsBehindEnd, IsFaultOf, IsNext, WereRead, passed, progress};
+ghost use Rattle.driver.specs.StepReader.{passed, progress};
+ghost use Rattle.driver.specs.TextReader.{IsBehindEnd, IsFaultOf, IsNext, WereRead};
+ghost use Rattle.steps.specs.StepsText.{steps_form};
 ghost use Rattle.streams.specs.declared.stream_fault.StreamFault.TheVariants.{Memory};
 
 use history::header::Header;
@@ -42,8 +44,8 @@ impl StepReader {
     /// Reads the header of a text.
     pub fn open<R: Source>(alloc: Global, reader: &mut R) -> Result<Self, StreamFault>
         requires { R.failed reader.old ≡ false }
-        ensures ok { IfOk result (λ steps. WereRead (R.left reader.old) (progress steps (R.left reader.new)) []) }
-        ensures err { IfErr result (IsFaultOf (R.left reader.old)) }
+        ensures ok { IfOk result (λ steps. WereRead steps_form (R.left reader.old) (progress steps (R.left reader.new)) []) }
+        ensures err { IfErr result (IsFaultOf steps_form (R.left reader.old)) }
         ensures failing { IsErrOf result StreamFault.ReadFailed ↔ IsTrue (R.failed reader.new) }
     {
         let mut window = Window::open(alloc);
@@ -105,7 +107,7 @@ impl StepReader {
     ) -> Result<Option<(u16, Step)>, StreamFault>
         requires { R.failed reader.old ≡ false }
         ensures header { self.new.header ≡ self.old.header }
-        ensures next { IsNext (progress self.old (R.left reader.old)) result (progress self.new (R.left reader.new)) }
+        ensures next { IsNext steps_form (progress self.old (R.left reader.old)) result (progress self.new (R.left reader.new)) }
         ensures seated { IfOk result (λ next. IfSome next (λ step. step.0 < self.old.header.seats)) }
         ensures few { self.new.count < 2 ^ 64 }
         ensures counted { IfOk result (λ next. IfSome next (λ _. self.new.count ≡ self.old.count + 1)) }
@@ -124,7 +126,7 @@ impl StepReader {
     pub fn next<R: Source>(&mut self, reader: &mut R) -> Result<Option<(u16, Step)>, StreamFault>
         requires { R.failed reader.old ≡ false }
         ensures header { self.new.header ≡ self.old.header }
-        ensures next { IsNext (progress self.old (R.left reader.old)) result (progress self.new (R.left reader.new)) }
+        ensures next { IsNext steps_form (progress self.old (R.left reader.old)) result (progress self.new (R.left reader.new)) }
         ensures seated { IfOk result (λ next. IfSome next (λ step. step.0 < self.old.header.seats)) }
         ensures few { self.new.count < 2 ^ 64 }
         ensures counted { IfOk result (λ next. IfSome next (λ _. self.new.count ≡ self.old.count + 1)) }

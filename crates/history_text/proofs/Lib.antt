@@ -1,7 +1,6 @@
 pub mod CommonLines
 pub mod Amounts
 pub mod EntryLemmas
-pub mod Faults
 pub mod HistoryLawful
 pub mod HistoryReading
 pub mod HistoryWriting

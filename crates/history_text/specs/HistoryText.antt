@@ -1,13 +1,14 @@
 -- History texts: their form, what is written, and what reading one answers.
-use Rattle.std.specs.Prelude.{◌≡◌, ℕ, ◌<◌, List, reverse, length, All, Result, Ok, Err}
+use Rattle.std.specs.Prelude.{◌≡◌, ℕ, ◌<◌, List, reverse, length, All, Result, Ok}
 use Rattle.history.specs.declared.entry.Entry.{Entry}
 use Rattle.history.specs.declared.header.Header.{Header}
 use Rattle.history.specs.Entries.{HistoryView, ended_calls}
 use Rattle.history.specs.Header.{IsInRange}
 use Rattle.line_text.specs.declared.fault.TextFault.{TextFault}
-use Rattle.line_text.specs.declared.fault.TextFault.TheVariants.{BadHeader, BadLine, CutShort, OutOfMemory}
 use Rattle.line_text.specs.Form.{Form, text_of}
 use Rattle.line_text.specs.Reading.{IsReading}
+use Rattle.line_text.specs.Reading as reading
+use Rattle.line_text.specs.UnderWay.{SoFar}
 use Rattle.history_text.specs.EntryLines.{HasLine, header_line, entry_line, counts_line}
 
 -- a header of any object, entries of its seats with their numbers below its cap, and their two counts
@@ -36,10 +37,11 @@ pub record IsRead (text : List ℕ) (h : Header) (kept : HistoryView) : Type 0 w
   pub cap : kept.cap ≡ h.cap
   pub owed : kept.owed ≡ 0
 
+-- A reader of entries knows of the entries that it read how many there are, and how many of them end a call.
+abbrev pub entries_so_far : Header → ℕ → ℕ → SoFar Header Entry
+entries_so_far header count calls =
+    record { header = header; count = count; known = λ entries. calls ≡ ended_calls entries }
+
 -- what a call answers: the reading of the text, or want of memory
 abbrev pub Reads : List ℕ → Result (Header × HistoryView) TextFault → Type 0
-Reads text (Ok read) = IsRead text read.0 read.1
-Reads text (Err CutShort) = IsReading history_form text (Err CutShort)
-Reads text (Err BadHeader) = IsReading history_form text (Err BadHeader)
-Reads text (Err (BadLine number)) = IsReading history_form text (Err (BadLine number))
-Reads text (Err OutOfMemory) = Unit {0}
+Reads text = reading.Reads history_form (λ read. IsRead text read.0 read.1) text

@@ -2,4 +2,3 @@ pub mod EntryLines
 pub mod CommonEntry
 pub mod EntryReading
 pub mod HistoryText
-pub mod HistoryRead

@@ -5,8 +5,8 @@ ghost use Rattle.history.specs.Header.{IsInRange};
 ghost use Rattle.history.specs.Text.{IsLine};
 ghost use Rattle.line_text.specs.Reading.{IsReading};
 ghost use Rattle.line_text.specs.declared.fault.TextFault.TheVariants.{CutShort};
-ghost use Rattle.history_text.specs.HistoryRead.{IsHeaderOf, IsLineBehind};
-ghost use Rattle.history_text.specs.HistoryText.{history_form};
+ghost use Rattle.line_text.specs.UnderWay.{IsHeaderOf, IsLineBehind};
+ghost use Rattle.history_text.specs.HistoryText.{entries_so_far, history_form};
 
 use crate::common_entry::common_entry;
 use crate::end_line::is_end;
@@ -16,23 +16,17 @@ use history::header::Header;
 use history::number::Numbering;
 use history::text::first_line;
 use line_text::fault::TextFault;
-use line_text::header_line::header_behind;
+use line_text::header_line::first_header;
 
 /// The header of a text, and what follows its line.
 pub fn header_of(text: &[u8]) -> Result<(Header, &[u8]), TextFault>
-    ensures ok { IfOk result (IsHeaderOf text.now) }
+    ensures ok { IfOk result (IsHeaderOf history_form text.now) }
     ensures err { IfErr result (λ fault. IsReading history_form text.now (Err fault)) }
     ensures cut { IsErrOf result CutShort → IsLine text.now }
     ensures shorter { IfOk result (λ r. length r.1.now ≤ length text.now) }
     ensures range { IfOk result (λ r. IsInRange r.0) }
 {
-    let Some((first, after)) = first_line(text) else {
-        return Err(TextFault::CutShort);
-    };
-    match header_behind(b"aqs-history 1 ", first) {
-        Some(header) => Ok((header, after)),
-        None => Err(TextFault::BadHeader),
-    }
+    first_header(b"aqs-history 1 ", text)
 }
 
 /// The next line, word by word.
@@ -45,7 +39,7 @@ fn entry_by_words(
 ) -> Result<Option<(Entry, usize)>, TextFault>
     requires range { IsInRange header.now }
     requires few { count + 3 < 2 ^ 64 }
-    ensures line { IsLineBehind header.now count calls rest.now result }
+    ensures line { IsLineBehind history_form (entries_so_far header.now count calls) rest.now result }
     ensures cut { IsErrOf result CutShort → IsLine rest.now }
 {
     let Some((line, after)) = first_line(rest) else {
@@ -78,7 +72,7 @@ pub fn next_entry(
 ) -> Result<Option<(Entry, usize)>, TextFault>
     requires range { IsInRange header.now }
     requires few { count + 3 < 2 ^ 64 }
-    ensures line { IsLineBehind header.now count calls rest.now result }
+    ensures line { IsLineBehind history_form (entries_so_far header.now count calls) rest.now result }
     ensures cut { IsErrOf result CutShort → IsLine rest.now }
 {
     if count < u64::from(header.cap) {

@@ -1,9 +1,8 @@
 -- One more line is read.
-use Rattle.std.proofs.Common.{false, ◌≡◌, ℕ, ◌+◌, ◌<◌, ◌^◌, List, [], ◌∷◌, ◌++◌, length, sym, ap, subst, ◌∙◌, arith, append_assoc, append-nil, inr, eqb}
-use Rattle.std.proofs.lemmas.Bool.{eqb-false}
+use Rattle.std.proofs.Common.{◌≡◌, ℕ, ◌+◌, List, [], ◌∷◌, ◌++◌, length, sym, ap, subst, ◌∙◌, arith, append_assoc, append-nil}
 use Rattle.history.specs.Text.{ended}
 use Rattle.line_text.specs.Form.{Form, lines_of, AreItems}
-use Rattle.line_text.specs.Reading.{Begins, HasBadLine}
+use Rattle.line_text.specs.Reading.{Begins}
 
 -- a break, and what follows it
 pub broken : (line rest : List ℕ) → ended line ++ rest ≡ line ++ 10 ∷ rest
@@ -48,9 +47,3 @@ pub at_end : {H I : Type 0} (form : Form H I) (text : List ℕ) (h : H) (xs : Li
 at_end form text h xs rest line after begun whole is =
     let next : rest ≡ ended (form.end_line xs) ++ after = whole ∙ ap (λ (l : List ℕ). l ++ 10 ∷ after) is ∙ sym (broken (form.end_line xs) after) in
     record { header = begun.header; each = begun.each; parts = begun.parts ∙ ap (λ (t : List ℕ). ended (form.header_line h) ++ (lines_of form 0 xs ++ t)) next }
-
--- bytes follow the end line
-pub goes_on : {H I : Type 0} (form : Form H I) (text : List ℕ) (h : H) (xs : List I) (rest line after : List ℕ) (count : ℕ)
-    → Begins form text h xs rest → rest ≡ line ++ 10 ∷ after → count ≡ length xs → (count < 2 ^ 32) × (line ≡ form.end_line xs) → eqb (length after) 0 ≡ false → HasBadLine form text (count + 3)
-goes_on form text h xs rest line after count begun whole is end some =
-    inr (h, xs, after, at_end form text h xs rest line after begun whole end.1, omega (arith, end.0, is), (λ e. eqb-false _ _ some (ap length e)), omega (arith, is))

@@ -6,3 +6,5 @@ pub mod OneReading
 pub mod Cuts
 pub mod Seats
 pub mod AskingOnce
+pub mod UnderWay
+pub mod Faults

@@ -1,4 +1,6 @@
 pub mod AtOnce
 pub mod Form
+pub mod HeaderLine
 pub mod Once
 pub mod Reading
+pub mod UnderWay

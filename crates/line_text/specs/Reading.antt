@@ -47,3 +47,12 @@ IsReading form text (Err CutShort) = IsCutShort form text
 IsReading form text (Err BadHeader) = HasBadHeader form text
 IsReading form text (Err (BadLine number)) = HasBadLine form text number
 IsReading form text (Err OutOfMemory) = ⊥
+
+-- what a call answers that keeps what it reads: what it keeps is as it is to be, or this is the first fault of the
+-- text, or memory was refused
+abbrev pub Reads : {H I T : Type 0} → Form H I → (T → Type 0) → List ℕ → Result T TextFault → Type 0
+Reads form Keeps text (Ok kept) = Keeps kept
+Reads form Keeps text (Err CutShort) = IsReading form text (Err CutShort)
+Reads form Keeps text (Err BadHeader) = IsReading form text (Err BadHeader)
+Reads form Keeps text (Err (BadLine number)) = IsReading form text (Err (BadLine number))
+Reads form Keeps text (Err OutOfMemory) = Unit {0}

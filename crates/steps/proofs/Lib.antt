@@ -1,4 +1,3 @@
 pub mod StepLemmas
 pub mod StepsLawful
-pub mod Faults
 pub mod Lines

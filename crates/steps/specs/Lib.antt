@@ -1,4 +1,3 @@
 pub mod StepLines
 pub mod StepReading
 pub mod StepsText
-pub mod StepsRead

@@ -5,8 +5,8 @@ ghost use Rattle.history.specs.Header.{IsInRange};
 ghost use Rattle.history.specs.Text.{IsLine};
 ghost use Rattle.line_text.specs.Reading.{IsReading};
 ghost use Rattle.line_text.specs.declared.fault.TextFault.TheVariants.{CutShort};
-ghost use Rattle.steps.specs.StepsText.{steps_form};
-ghost use Rattle.steps.specs.StepsRead.{IsHeaderOf, IsLineBehind};
+ghost use Rattle.line_text.specs.UnderWay.{IsHeaderOf, IsLineBehind};
+ghost use Rattle.steps.specs.StepsText.{steps_form, steps_so_far};
 
 use crate::common_step::common_step;
 use crate::end_line::is_end;
@@ -15,23 +15,17 @@ use history::header::Header;
 use history::step::Step;
 use history::text::first_line;
 use line_text::fault::TextFault;
-use line_text::header_line::header_behind;
+use line_text::header_line::first_header;
 
 /// The header of a text, and what follows its line.
 pub fn header_of(text: &[u8]) -> Result<(Header, &[u8]), TextFault>
-    ensures ok { IfOk result (IsHeaderOf text.now) }
+    ensures ok { IfOk result (IsHeaderOf steps_form text.now) }
     ensures err { IfErr result (λ fault. IsReading steps_form text.now (Err fault)) }
     ensures cut { IsErrOf result CutShort → IsLine text.now }
     ensures shorter { IfOk result (λ r. length r.1.now ≤ length text.now) }
     ensures range { IfOk result (λ r. IsInRange r.0) }
 {
-    let Some((first, after)) = first_line(text) else {
-        return Err(TextFault::CutShort);
-    };
-    match header_behind(b"aqs-steps 1 ", first) {
-        Some(header) => Ok((header, after)),
-        None => Err(TextFault::BadHeader),
-    }
+    first_header(b"aqs-steps 1 ", text)
 }
 
 /// The next line, word by word.
@@ -43,7 +37,7 @@ fn line_by_words(
 ) -> Result<Option<((u16, Step), usize)>, TextFault>
     requires seats { 1 ≤ header.now.seats }
     requires few { count + 3 < 2 ^ 64 }
-    ensures line { IsLineBehind header.now count rest.now result }
+    ensures line { IsLineBehind steps_form (steps_so_far header.now count) rest.now result }
     ensures cut { IsErrOf result CutShort → IsLine rest.now }
 {
     let Some((line, after)) = first_line(rest) else {
@@ -71,7 +65,7 @@ pub fn next_line(
 ) -> Result<Option<((u16, Step), usize)>, TextFault>
     requires seats { 1 ≤ header.now.seats }
     requires few { count + 3 < 2 ^ 64 }
-    ensures line { IsLineBehind header.now count rest.now result }
+    ensures line { IsLineBehind steps_form (steps_so_far header.now count) rest.now result }
     ensures cut { IsErrOf result CutShort → IsLine rest.now }
 {
     match common_step(rest, header.seats) {

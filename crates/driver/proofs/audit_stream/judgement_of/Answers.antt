@@ -1,6 +1,6 @@
 use Rattle.driver.specs.HistoryReader.{entries_read}
 use Rattle.driver.proofs.Audits.{all_judged, judging_on}
-use Rattle.driver.proofs.Driven.{goes_on}
+use Rattle.driver.proofs.ReadingAhead.{goes_on}
 use Rattle.driver.proofs.audit_stream.judgement_of.Goals as goal
 
 pub loop-auditor-preserved : goal.loop-auditor-preserved

@@ -3,7 +3,8 @@ use Rattle.std.proofs.lemmas.Bool.{false≢true}
 use Rattle.history.specs.declared.header.Header.{Header}
 use Rattle.history.specs.declared.step.Step.{Step}
 use Rattle.driver.specs.StepReader.{progress}
-use Rattle.driver.proofs.Driven.{answering_none, answering_on, answering_all, legal_behind, goes_on}
+use Rattle.driver.proofs.Driven.{answering_none, answering_on, answering_all, legal_behind}
+use Rattle.driver.proofs.ReadingAhead.{goes_on}
 use Rattle.driver.proofs.Told.{answered}
 use Rattle.driver.proofs.replay.replay.Goals as goal
 

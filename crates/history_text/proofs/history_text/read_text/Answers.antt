@@ -1,16 +1,17 @@
-use Rattle.std.proofs.Common.{◌≡◌, ◌∷◌, length, arith, ap, ◌∙◌}
-use Rattle.history.specs.Entries.{HistoryView, ended_calls}
+use Rattle.std.proofs.Common.{◌≡◌, ◌∷◌, length, reverse, arith, ap, ◌∙◌}
+use Rattle.history.specs.Entries.{HistoryView}
 use Rattle.history.specs.Text.{ended}
+use Rattle.line_text.proofs.Faults.{fault_passed}
+use Rattle.line_text.proofs.UnderWay.{left_over, shorter}
 use Rattle.history_text.specs.EntryLines.{entry_line}
-use Rattle.history_text.specs.HistoryRead.{HistoryRead}
-use Rattle.history_text.proofs.Faults.{fault_passed}
-use Rattle.history_text.proofs.HistoryReading.{left_over, read_on, shorter}
+use Rattle.history_text.specs.HistoryText.{history_form}
+use Rattle.history_text.proofs.HistoryReading.{entry_read}
 use Rattle.history_text.proofs.history_text.read_text.Goals as goal
 
 pub returns-in_err-entry : goal.returns-in_err-entry
 returns-in_err-entry c =
-    let found = c.in_err-entry.ensures.line c.args.text.now c.loop-history.history.entries (rw (c.len.ensures.value, c.calls.ensures) c.loop-history.invariant.read) in
-    fault_passed c.args.text.now c.from_residual-in_err-entry.result c.in_err-entry.field-0.0 c.from_residual-in_err-entry.ensures found
+    let found = c.in_err-entry.ensures.line c.args.text.now (reverse c.loop-history.history.entries) (rw (c.len.ensures.value, c.calls.ensures) c.loop-history.invariant.read) in
+    fault_passed history_form _ c.args.text.now c.from_residual-in_err-entry.result c.in_err-entry.field-0.0 c.from_residual-in_err-entry.ensures found
 
 pub overflow_sub-rest : goal.overflow_sub-rest
 overflow_sub-rest c =
@@ -26,22 +27,21 @@ loop-history-smaller c =
 
 pub loop-history-preserved : goal.loop-history-preserved
 loop-history-preserved c =
-    let old = c.loop-history.history in
-    let was : HistoryRead = record { text = c.args.text.now; header = c.in_ok-header.header; count = length old.entries; calls = ended_calls old.entries; rest = c.loop-history.rest.now } in
+    let was = c.loop-history in
+    let old = was.history.entries in
+    let e = c.in-Some.entry in
     let found = (rw (c.in-Some.is, c.len.ensures.value, c.calls.ensures) at c.in_ok-entry.ensures.line) c.args.text.now in
-    let line = entry_line (length old.entries) c.in-Some.entry in
-    let same = left_over c.loop-history.rest.now (ended line) found.0 c.in-Some.left found.1.parts found.2 in
-    let entries : c.add.new.self.entries ≡ c.in-Some.entry ∷ old.entries =
-    ap (λ (v : HistoryView). v.entries) c.add.ensures ∙ ap (λ (v : HistoryView). c.in-Some.entry ∷ v.entries) c.make_room.ensures.same in
+    let same = left_over was.rest.now (ended (entry_line (length old) e)) found.0 c.in-Some.left found.1.parts found.2 in
+    let entries : c.add.new.self.entries ≡ e ∷ old = ap (λ (v : HistoryView). v.entries) c.add.ensures ∙ ap (λ (v : HistoryView). e ∷ v.entries) c.make_room.ensures.same in
     record {
-      read = rw (entries, same) (read_on was old.entries c.in-Some.entry found.0 found.1 c.loop-history.invariant.read);
-      cap = ap (λ (v : HistoryView). v.cap) c.add.ensures ∙ ap (λ (v : HistoryView). v.cap) c.make_room.ensures.same ∙ c.loop-history.invariant.cap;
+      read = rw (entries, same) (entry_read c.args.text.now c.in_ok-header.header old e was.rest.now found.0 found.1 was.invariant.read);
+      cap = ap (λ (v : HistoryView). v.cap) c.add.ensures ∙ ap (λ (v : HistoryView). v.cap) c.make_room.ensures.same ∙ was.invariant.cap;
       owed = ap (λ (v : HistoryView). v.owed) c.add.ensures;
     }
 
 pub returns : goal.returns
 returns c = record {
-  reading = (rw (c.in_default.is, c.len.ensures.value, c.calls.ensures) at c.in_ok-entry.ensures.line) c.args.text.now c.loop-history.history.entries c.loop-history.invariant.read;
+  reading = (rw (c.in_default.is, c.len.ensures.value, c.calls.ensures) at c.in_ok-entry.ensures.line) c.args.text.now (reverse c.loop-history.history.entries) c.loop-history.invariant.read;
   cap = c.loop-history.invariant.cap;
   owed = c.loop-history.invariant.owed;
 }

@@ -1,23 +1,25 @@
 use Rattle.std.proofs.Common.{arith}
 use Rattle.std.specs.Vec.{vec_len}
 use Rattle.history.specs.Text.{ended}
+use Rattle.line_text.proofs.Faults.{fault_passed}
+use Rattle.line_text.proofs.UnderWay.{left_over, read_on, shorter}
 use Rattle.steps.specs.StepLines.{step_line}
-use Rattle.steps.specs.StepsRead.{StepsRead}
-use Rattle.steps.proofs.Faults.{fault_passed}
-use Rattle.steps.proofs.Lines.{left_over, read_on, shorter}
+use Rattle.steps.specs.StepsText.{steps_form, steps_so_far}
 use Rattle.steps.proofs.steps_text.read_steps.Goals as goal
 
 pub returns-in_err-step : goal.returns-in_err-step
 returns-in_err-step c =
     let found = c.in_err-step.ensures.line c.args.text.now c.loop-steps.steps.items (rw c.len.ensures c.loop-steps.invariant.read) in
-    fault_passed c.args.text.now c.from_residual-in_err-step.result c.in_err-step.field-0.0 c.from_residual-in_err-step.ensures found
+    fault_passed steps_form _ c.args.text.now c.from_residual-in_err-step.result c.in_err-step.field-0.0 c.from_residual-in_err-step.ensures found
 
 pub loop-steps-preserved : goal.loop-steps-preserved
 loop-steps-preserved c =
-    let was : StepsRead = record { text = c.args.text.now; header = c.in_ok-header.header; count = vec_len c.loop-steps.steps; rest = c.loop-steps.rest.now } in
-    let found = (rw (c.in-Some.is, c.len.ensures) at c.in_ok-step.ensures.line) c.args.text.now in
-    let same = left_over c.loop-steps.rest.now (ended (step_line c.in-Some.step)) found.0 c.in-Some.left found.1.parts found.2 in
-    record { read = rw (c.in_ok-push.ensures.items, c.in_ok-push.ensures.len, same) (read_on was c.loop-steps.steps.items c.in-Some.step found.0 found.1 c.loop-steps.invariant.read) }
+    let text = c.args.text.now in
+    let was = c.loop-steps in
+    let so_far = steps_so_far c.in_ok-header.header (vec_len was.steps) in
+    let found = (rw (c.in-Some.is, c.len.ensures) at c.in_ok-step.ensures.line) text in
+    let same = left_over was.rest.now (ended (step_line c.in-Some.step)) found.0 c.in-Some.left found.1.parts found.2 in
+    record { read = rw (c.in_ok-push.ensures.items, c.in_ok-push.ensures.len, same) (read_on steps_form text so_far so_far.known was.steps.items was.rest.now c.in-Some.step found.0 found.1 tt was.invariant.read) }
 
 pub overflow_sub-rest : goal.overflow_sub-rest
 overflow_sub-rest c =

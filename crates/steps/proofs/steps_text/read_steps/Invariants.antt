@@ -1,11 +1,12 @@
 use Rattle.std.proofs.Common.{length}
 use Rattle.std.specs.Vec.{vec_len}
-use Rattle.steps.specs.StepsRead.{AreRead}
+use Rattle.line_text.specs.UnderWay.{AreRead}
+use Rattle.steps.specs.StepsText.{steps_form, steps_so_far}
 use Rattle.steps.proofs.steps_text.read_steps.Given as goal
 
 abbrev pub invariant-loop-steps : goal.invariant-loop-steps
 invariant-loop-steps l = record {
-  read : AreRead (record { text = l.text; header = l.header; count = vec_len l.steps; rest = l.rest }) l.steps.items;
+  read : AreRead steps_form l.text (steps_so_far l.header (vec_len l.steps)) l.steps.items l.rest;
 }
 
 abbrev pub decreases-loop-steps : goal.decreases-loop-steps

@@ -1,5 +1,5 @@
 use Rattle.std.proofs.Common.{refl}
-use Rattle.driver.proofs.Stepping.{more_left}
+use Rattle.driver.proofs.ReadingAhead.{more_left}
 use Rattle.driver.proofs.history_reader.HistoryReader.end.Goals as goal
 
 pub returns-then-branch-gt0-clause-behind : goal.returns-then-branch-gt0-clause-behind

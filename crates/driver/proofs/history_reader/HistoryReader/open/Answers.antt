@@ -1,30 +1,22 @@
-use Rattle.std.proofs.Common.{length, refl, Err, ℕ, List, ap, subst}
-use Rattle.history.specs.Text.{ended}
-use Rattle.line_text.specs.Reading.{IsReading}
-use Rattle.history_text.specs.HistoryText.{history_form}
-use Rattle.driver.proofs.EntriesAhead.{header_ahead, header_fault, open_failed}
-use Rattle.driver.proofs.Stepping.{last_bytes}
+use Rattle.std.proofs.Common.{refl, Err, ℕ, List, ap, subst}
 use Rattle.line_text.specs.declared.fault.TextFault.{TextFault}
-use Rattle.streams.specs.declared.stream_fault.StreamFault.TheVariants.{Text}
+use Rattle.line_text.specs.Reading.{IsReading}
+use Rattle.history_text.specs.HistoryText.{entries_so_far, history_form}
+use Rattle.driver.proofs.ReadingAhead.{header_ahead, open_failed}
 use Rattle.driver.proofs.history_reader.HistoryReader.open.Goals as goal
 
 pub returns-in_err-header-clause-err : goal.returns-in_err-header-clause-err
 returns-in_err-header-clause-err g c =
-    let window = c.read_line.new.self.bytes in
-    let left = g.R.Source.left c.read_line.new.reader in
     let fault = c.in_err-header.field-0.0 in
+    let passed = c.from_residual-in_err-header in
     let is = subst (λ (t : List ℕ). IsReading history_form t (Err fault)) c.bytes.ensures c.in_err-header.ensures.err in
     let cut = rw c.bytes.ensures at c.in_err-header.ensures.cut in
-    open_failed (g.R.Source.left c.args.reader.now) c.from_residual-in_err-header.result (Text fault) c.from_residual-in_err-header.ensures
-    (header_fault (g.R.Source.left c.args.reader.now) window left fault is (λ e. c.in_ok-read_line.ensures.whole (cut (ap (λ (f : TextFault). Err f) e)))
-    (rw c.open-window.ensures at c.in_ok-read_line.ensures.kept))
+    open_failed history_form (g.R.Source.left c.args.reader.now) c.read_line.new.self.bytes (g.R.Source.left c.read_line.new.reader) passed.result fault passed.ensures is
+    (λ e. c.in_ok-read_line.ensures.whole (cut (ap (λ (f : TextFault). Err f) e))) (rw c.open-window.ensures at c.in_ok-read_line.ensures.kept)
 
 pub returns-clause-ok : goal.returns-clause-ok
 returns-clause-ok g c =
-    let window = c.read_line.new.self.bytes in
-    let left = g.R.Source.left c.read_line.new.reader in
-    let read = rw c.bytes.ensures at c.in_ok-header.ensures.ok in
-    let header = c.in_ok-header.header in
-    let after = c.in_ok-header.after.now in
-    rw (c.keep_last.ensures.bytes, last_bytes window (ended (history_form.header_line header)) after (length after) read.begins.parts refl)
-    (header_ahead (g.R.Source.left c.args.reader.now) header window after left read (rw c.open-window.ensures at c.in_ok-read_line.ensures.kept))
+    let begun = rw c.bytes.ensures at c.in_ok-header.ensures.ok in
+    rw c.keep_last.ensures.bytes
+    (header_ahead history_form (g.R.Source.left c.args.reader.now) (entries_so_far c.in_ok-header.header 0 0) c.read_line.new.self.bytes c.in_ok-header.after.now (g.R.Source.left c.read_line.new.reader)
+    (record { begins = begun; count = refl; known = refl }) (rw c.open-window.ensures at c.in_ok-read_line.ensures.kept))

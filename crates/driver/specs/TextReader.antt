@@ -1,0 +1,55 @@
+-- A text that is read from a source as its items are asked for.
+use Rattle.std.specs.Prelude.{◌≡◌, ◌≢◌, ◌+◌, ℕ, List, [], ◌∷◌, ◌++◌, Option, Some, None, Result, Ok, Err, IfSome, IsSomeAnd}
+use Rattle.std.specs.Io.KnownBytes.{IsAtEnd, prepend_known}
+use Rattle.line_text.specs.Form.{Form}
+use Rattle.line_text.specs.declared.fault.TextFault.TheVariants.{BadLine}
+use Rattle.line_text.specs.Reading.{IsText, IsReading}
+use Rattle.line_text.specs.UnderWay.{SoFar, AreRead}
+use Rattle.streams.specs.declared.stream_fault.StreamFault.{StreamFault}
+use Rattle.streams.specs.declared.stream_fault.StreamFault.TheVariants.{Text, ReadFailed, WriteFailed, Memory}
+
+-- A text under way: what is known of it so far, and all that follows the items that were read, where it is known.
+pub record Progress (H I : Type 0) : Type 1 where
+  pub so_far : SoFar H I
+  pub ahead : Option (List ℕ)
+
+-- where a reader is that holds these bytes, and whose source has this left
+abbrev pub reader_at : {H I : Type 0} → SoFar H I → List ℕ → Option (List ℕ) → Progress H I
+reader_at so_far bytes left = record { so_far = so_far; ahead = prepend_known bytes left }
+
+-- these items of the text were read, the oldest first, where the text is known
+abbrev pub WereRead : {H I : Type 0} → Form H I → Option (List ℕ) → Progress H I → List I → Type 0
+WereRead form text p items = IfSome text (λ t. IsSomeAnd p.ahead (AreRead form t p.so_far items))
+
+-- of a text of which the header and nothing more was read, P holds
+abbrev pub OfText : {H I : Type 0} → Form H I → Progress H I → (List ℕ → Type 0) → Type 0
+OfText form p P = (text : Option (List ℕ)) → WereRead form text p [] → IfSome text P
+
+-- the faults of a text, where it is known, and of its source
+abbrev pub IsFaultOf : {H I : Type 0} → Form H I → Option (List ℕ) → StreamFault → Type 0
+IsFaultOf form text (Text fault) = IfSome text (λ t. IsReading form t (Err fault))
+IsFaultOf form text ReadFailed = Unit {0}
+IsFaultOf form text Memory = Unit {0}
+IsFaultOf form text WriteFailed = ⊥
+
+-- the faults behind a header, whatever the text
+abbrev pub IsFaultBehind : {H I : Type 0} → Form H I → Progress H I → StreamFault → Type 0
+IsFaultBehind form p fault = (text : Option (List ℕ)) → WereRead form text p [] → IsFaultOf form text fault
+
+-- what stands behind the end line of so many items: nothing, or what makes the line after it a bad one
+abbrev pub IsBehindEnd : {I : Type 0} → ℕ → Option (List ℕ) → Result (Option I) StreamFault → Type 0
+IsBehindEnd count left (Ok (Some item)) = ⊥
+IsBehindEnd count left (Ok None) = IsAtEnd left
+IsBehindEnd count left (Err (Text fault)) = (fault ≡ BadLine (count + 3)) × IfSome left (λ more. more ≢ [])
+IsBehindEnd count left (Err ReadFailed) = Unit {0}
+IsBehindEnd count left (Err Memory) = Unit {0}
+IsBehindEnd count left (Err WriteFailed) = ⊥
+
+-- Whatever items were read: one more was, or they are all, or this is the fault of the text or of its source.
+abbrev pub IsNext : {H I : Type 0} → Form H I → Progress H I → Result (Option I) StreamFault → Progress H I → Type 0
+IsNext {H} {I} form old (Ok (Some item)) new =
+    (text : Option (List ℕ)) (items : List I) → WereRead form text old items → WereRead form text new (items ++ item ∷ [])
+IsNext {H} {I} form old (Ok None) new =
+    (text : Option (List ℕ)) (items : List I) → WereRead form text old items → IfSome text (λ t. IsText form t old.so_far.header items)
+IsNext {H} {I} form old (Err fault) new =
+    (text : Option (List ℕ)) (items : List I) → WereRead form text old items → IsFaultOf form text fault
