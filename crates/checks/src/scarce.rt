@@ -51,14 +51,14 @@ fn refusals<R: Abort + AllocGlobal>(rt: &R, object: Object) -> Result<u32, Fail>
 }
 
 /// A core opens four tables for its seats, a list of its conditions and a table for each; a read-write lock one more, for
-/// its readers. Each is greater than a piece, so memory ends at one after another.
+/// its readers. It is put in a box then. Each is greater than a piece, so memory ends at one after another.
 #[test]
 fn a_core_is_opened_whole_or_not_at_all(rt: HostRuntime) -> Result<(), Fail> {
     for (object, tables) in [
-        (Object::Lock(Policy::Fair), 21),
-        (Object::ReadWrite(Policy::NonFair), 22),
-        (Object::Semaphore(Policy::Fair, 3), 4),
-        (Object::Latch(2), 4),
+        (Object::Lock(Policy::Fair), 22),
+        (Object::ReadWrite(Policy::NonFair), 23),
+        (Object::Semaphore(Policy::Fair, 3), 5),
+        (Object::Latch(2), 5),
     ] {
         let refused = refusals(&rt, object)?;
         assert!(rt; tables <= refused, "{object:?} {refused}");
