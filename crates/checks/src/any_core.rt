@@ -16,6 +16,7 @@ use read_write::hooks::RwHooks;
 use reentrant::lock::LockHooks;
 use std::alloc::Global;
 use std::marker::Model;
+use std::process::Abort;
 
 /// Less than each table takes that a core of 256 seats opens.
 pub const PIECE: usize = 256;
@@ -52,6 +53,16 @@ fn open<H: Hooks + Drop>(alloc: Global, hooks: H, header: &Header) -> Result<Cor
         return Err(Fault::BadAmount);
     }
     Core::open(alloc, hooks, header.seats, header.conditions, header.cap)
+}
+
+/// Such a core in a box.
+fn open_boxed<H: Hooks + Drop>(
+    alloc: Global,
+    hooks: H,
+    header: &Header,
+) -> Result<Box<Core<H>>, Fault> {
+    let core = open(alloc, hooks, header)?;
+    Box::new(alloc, core).map_err(|_| Fault::OutOfMemory)
 }
 
 /// A step; `OutOfPhase` of a seat that the core doesn't have.
@@ -115,42 +126,59 @@ fn tell<H: Hooks + Drop>(core: &Core<H>) -> Told {
     }
 }
 
-/// A core of one of the four objects.
+/// A core of one of the four objects, in a box.
 #[derive(Drop)]
 pub enum ObjectCore {
-    Lock(Core<LockHooks>),
-    ReadWrite(Core<RwHooks>),
-    Semaphore(Core<SemaphoreHooks>),
-    Latch(Core<LatchHooks>),
+    Lock(Box<Core<LockHooks>>),
+    ReadWrite(Box<Core<RwHooks>>),
+    Semaphore(Box<Core<SemaphoreHooks>>),
+    Latch(Box<Core<LatchHooks>>),
 }
 
 fn open_core(alloc: Global, header: &Header) -> Result<ObjectCore, Fault> {
-    match header.object {
+    Ok(match header.object {
         Object::Lock(policy) => {
-            let core = open(alloc, LockHooks::open(policy), header)?;
-            Ok(ObjectCore::Lock(core))
+            ObjectCore::Lock(open_boxed(alloc, LockHooks::open(policy), header)?)
         }
         Object::ReadWrite(policy) => {
             let hooks = RwHooks::open(alloc, policy, header.seats)?;
-            let core = open(alloc, hooks, header)?;
-            Ok(ObjectCore::ReadWrite(core))
+            ObjectCore::ReadWrite(open_boxed(alloc, hooks, header)?)
         }
         Object::Semaphore(policy, permits) => {
-            let core = open(alloc, SemaphoreHooks::open(policy, permits), header)?;
-            Ok(ObjectCore::Semaphore(core))
+            let hooks = SemaphoreHooks::open(policy, permits);
+            ObjectCore::Semaphore(open_boxed(alloc, hooks, header)?)
         }
         Object::Latch(count) => {
-            let core = open(alloc, LatchHooks::open(count), header)?;
-            Ok(ObjectCore::Latch(core))
+            ObjectCore::Latch(open_boxed(alloc, LatchHooks::open(count), header)?)
         }
+    })
+}
+
+/// What a core tells that is opened in no box, so that its tables are all that it takes.
+fn open_and_tell<H: Hooks + Drop>(alloc: Global, hooks: H, header: &Header) -> Result<Told, Fault> {
+    let core = open(alloc, hooks, header)?;
+    Ok(tell(&core))
+}
+
+/// The same of the object that a header names.
+pub fn told_opened(alloc: Global, header: &Header) -> Result<Told, Fault> {
+    match header.object {
+        Object::Lock(policy) => open_and_tell(alloc, LockHooks::open(policy), header),
+        Object::ReadWrite(policy) => {
+            let hooks = RwHooks::open(alloc, policy, header.seats)?;
+            open_and_tell(alloc, hooks, header)
+        }
+        Object::Semaphore(policy, permits) => {
+            open_and_tell(alloc, SemaphoreHooks::open(policy, permits), header)
+        }
+        Object::Latch(count) => open_and_tell(alloc, LatchHooks::open(count), header),
     }
 }
 
-/// A core of the object that a header names. It is in a box, and clauses see nothing of it, which keeps the proofs
-/// of callers small.
+/// A core of the object that a header names. Clauses see nothing of it, which keeps the proofs of callers small.
 #[derive(Drop)]
 pub struct AnyCore {
-    core: Box<ObjectCore>,
+    core: ObjectCore,
 }
 
 impl Model for AnyCore {
@@ -161,18 +189,16 @@ impl Model for AnyCore {
 
 impl AnyCore {
     pub fn open(alloc: Global, header: &Header) -> Result<AnyCore, Fault> {
-        match Box::new(alloc, open_core(alloc, header)?) {
-            Ok(core) => Ok(AnyCore { core }),
-            Err(_) => Err(Fault::OutOfMemory),
-        }
+        let core = open_core(alloc, header)?;
+        Ok(AnyCore { core })
     }
 
     pub fn object_core(&self) -> &ObjectCore {
-        &*self.core
+        &self.core
     }
 
     pub fn step(&mut self, seat: u16, asked: Step) -> Result<Answer, Fault> {
-        match &mut *self.core {
+        match &mut self.core {
             ObjectCore::Lock(core) => step(core, seat, asked),
             ObjectCore::ReadWrite(core) => step(core, seat, asked),
             ObjectCore::Semaphore(core) => step(core, seat, asked),
@@ -185,7 +211,7 @@ impl AnyCore {
         alloc: Global,
         steps: &[(u16, Step)],
     ) -> Result<Vec<Result<Answer, Fault>>, Fault> {
-        match &mut *self.core {
+        match &mut self.core {
             ObjectCore::Lock(core) => run_all(alloc, core, steps),
             ObjectCore::ReadWrite(core) => run_all(alloc, core, steps),
             ObjectCore::Semaphore(core) => run_all(alloc, core, steps),
@@ -194,7 +220,7 @@ impl AnyCore {
     }
 
     pub fn header(&self) -> &Header {
-        match &*self.core {
+        match &self.core {
             ObjectCore::Lock(core) => core.header(),
             ObjectCore::ReadWrite(core) => core.header(),
             ObjectCore::Semaphore(core) => core.header(),
@@ -203,7 +229,7 @@ impl AnyCore {
     }
 
     pub fn history(&self) -> &History {
-        match &*self.core {
+        match &self.core {
             ObjectCore::Lock(core) => core.history(),
             ObjectCore::ReadWrite(core) => core.history(),
             ObjectCore::Semaphore(core) => core.history(),
@@ -212,11 +238,16 @@ impl AnyCore {
     }
 
     pub fn told(&self) -> Told {
-        match &*self.core {
+        match &self.core {
             ObjectCore::Lock(core) => tell(core),
             ObjectCore::ReadWrite(core) => tell(core),
             ObjectCore::Semaphore(core) => tell(core),
             ObjectCore::Latch(core) => tell(core),
         }
     }
+}
+
+/// A core tells this of itself.
+pub fn assert_tells<R: Abort>(rt: &R, core: &AnyCore, told: &Told) {
+    assert_eq!(rt; core.told(), *told);
 }
