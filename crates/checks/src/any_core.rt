@@ -1,6 +1,6 @@
 //! A core of any object, whose calls test what the core's own calls ask of their caller.
 
-ghost use Rattle.std.specs.Prelude.{◌<◌, All, IsTrue};
+ghost use Rattle.std.specs.Prelude.{◌<◌, All, IsTrue, ⊤};
 
 use counting::latch::LatchHooks;
 use counting::semaphore::SemaphoreHooks;
@@ -15,6 +15,8 @@ use history::step::{Answer, Step};
 use read_write::hooks::RwHooks;
 use reentrant::lock::LockHooks;
 use std::alloc::Global;
+use std::marker::Model;
+use std::process::Abort;
 
 /// Less than each table takes that a core of 256 seats opens.
 pub const PIECE: usize = 256;
@@ -51,6 +53,16 @@ fn open<H: Hooks + Drop>(alloc: Global, hooks: H, header: &Header) -> Result<Cor
         return Err(Fault::BadAmount);
     }
     Core::open(alloc, hooks, header.seats, header.conditions, header.cap)
+}
+
+/// Such a core in a box.
+fn open_boxed<H: Hooks + Drop>(
+    alloc: Global,
+    hooks: H,
+    header: &Header,
+) -> Result<Box<Core<H>>, Fault> {
+    let core = open(alloc, hooks, header)?;
+    Box::new(alloc, core).map_err(|_| Fault::OutOfMemory)
 }
 
 /// A step; `OutOfPhase` of a seat that the core doesn't have.
@@ -114,44 +126,83 @@ fn tell<H: Hooks + Drop>(core: &Core<H>) -> Told {
     }
 }
 
-/// A core of the object that a header names.
+/// A core of one of the four objects, in a box.
 #[derive(Drop)]
-pub enum AnyCore {
-    Lock(Core<LockHooks>),
-    ReadWrite(Core<RwHooks>),
-    Semaphore(Core<SemaphoreHooks>),
-    Latch(Core<LatchHooks>),
+pub enum ObjectCore {
+    Lock(Box<Core<LockHooks>>),
+    ReadWrite(Box<Core<RwHooks>>),
+    Semaphore(Box<Core<SemaphoreHooks>>),
+    Latch(Box<Core<LatchHooks>>),
+}
+
+fn open_core(alloc: Global, header: &Header) -> Result<ObjectCore, Fault> {
+    Ok(match header.object {
+        Object::Lock(policy) => {
+            ObjectCore::Lock(open_boxed(alloc, LockHooks::open(policy), header)?)
+        }
+        Object::ReadWrite(policy) => {
+            let hooks = RwHooks::open(alloc, policy, header.seats)?;
+            ObjectCore::ReadWrite(open_boxed(alloc, hooks, header)?)
+        }
+        Object::Semaphore(policy, permits) => {
+            let hooks = SemaphoreHooks::open(policy, permits);
+            ObjectCore::Semaphore(open_boxed(alloc, hooks, header)?)
+        }
+        Object::Latch(count) => {
+            ObjectCore::Latch(open_boxed(alloc, LatchHooks::open(count), header)?)
+        }
+    })
+}
+
+/// What a core tells that is opened in no box, so that its tables are all that it takes.
+fn open_and_tell<H: Hooks + Drop>(alloc: Global, hooks: H, header: &Header) -> Result<Told, Fault> {
+    let core = open(alloc, hooks, header)?;
+    Ok(tell(&core))
+}
+
+/// The same of the object that a header names.
+pub fn told_opened(alloc: Global, header: &Header) -> Result<Told, Fault> {
+    match header.object {
+        Object::Lock(policy) => open_and_tell(alloc, LockHooks::open(policy), header),
+        Object::ReadWrite(policy) => {
+            let hooks = RwHooks::open(alloc, policy, header.seats)?;
+            open_and_tell(alloc, hooks, header)
+        }
+        Object::Semaphore(policy, permits) => {
+            open_and_tell(alloc, SemaphoreHooks::open(policy, permits), header)
+        }
+        Object::Latch(count) => open_and_tell(alloc, LatchHooks::open(count), header),
+    }
+}
+
+/// A core of the object that a header names. Clauses see nothing of it, which keeps the proofs of callers small.
+#[derive(Drop)]
+pub struct AnyCore {
+    core: ObjectCore,
+}
+
+impl Model for AnyCore {
+    ghost Value = { ⊤ };
+
+    ghost view = { λ _. tt };
 }
 
 impl AnyCore {
     pub fn open(alloc: Global, header: &Header) -> Result<AnyCore, Fault> {
-        match header.object {
-            Object::Lock(policy) => {
-                let core = open(alloc, LockHooks::open(policy), header)?;
-                Ok(AnyCore::Lock(core))
-            }
-            Object::ReadWrite(policy) => {
-                let hooks = RwHooks::open(alloc, policy, header.seats)?;
-                let core = open(alloc, hooks, header)?;
-                Ok(AnyCore::ReadWrite(core))
-            }
-            Object::Semaphore(policy, permits) => {
-                let core = open(alloc, SemaphoreHooks::open(policy, permits), header)?;
-                Ok(AnyCore::Semaphore(core))
-            }
-            Object::Latch(count) => {
-                let core = open(alloc, LatchHooks::open(count), header)?;
-                Ok(AnyCore::Latch(core))
-            }
-        }
+        let core = open_core(alloc, header)?;
+        Ok(AnyCore { core })
+    }
+
+    pub fn object_core(&self) -> &ObjectCore {
+        &self.core
     }
 
     pub fn step(&mut self, seat: u16, asked: Step) -> Result<Answer, Fault> {
-        match self {
-            AnyCore::Lock(core) => step(core, seat, asked),
-            AnyCore::ReadWrite(core) => step(core, seat, asked),
-            AnyCore::Semaphore(core) => step(core, seat, asked),
-            AnyCore::Latch(core) => step(core, seat, asked),
+        match &mut self.core {
+            ObjectCore::Lock(core) => step(core, seat, asked),
+            ObjectCore::ReadWrite(core) => step(core, seat, asked),
+            ObjectCore::Semaphore(core) => step(core, seat, asked),
+            ObjectCore::Latch(core) => step(core, seat, asked),
         }
     }
 
@@ -160,38 +211,43 @@ impl AnyCore {
         alloc: Global,
         steps: &[(u16, Step)],
     ) -> Result<Vec<Result<Answer, Fault>>, Fault> {
-        match self {
-            AnyCore::Lock(core) => run_all(alloc, core, steps),
-            AnyCore::ReadWrite(core) => run_all(alloc, core, steps),
-            AnyCore::Semaphore(core) => run_all(alloc, core, steps),
-            AnyCore::Latch(core) => run_all(alloc, core, steps),
+        match &mut self.core {
+            ObjectCore::Lock(core) => run_all(alloc, core, steps),
+            ObjectCore::ReadWrite(core) => run_all(alloc, core, steps),
+            ObjectCore::Semaphore(core) => run_all(alloc, core, steps),
+            ObjectCore::Latch(core) => run_all(alloc, core, steps),
         }
     }
 
     pub fn header(&self) -> &Header {
-        match self {
-            AnyCore::Lock(core) => core.header(),
-            AnyCore::ReadWrite(core) => core.header(),
-            AnyCore::Semaphore(core) => core.header(),
-            AnyCore::Latch(core) => core.header(),
+        match &self.core {
+            ObjectCore::Lock(core) => core.header(),
+            ObjectCore::ReadWrite(core) => core.header(),
+            ObjectCore::Semaphore(core) => core.header(),
+            ObjectCore::Latch(core) => core.header(),
         }
     }
 
     pub fn history(&self) -> &History {
-        match self {
-            AnyCore::Lock(core) => core.history(),
-            AnyCore::ReadWrite(core) => core.history(),
-            AnyCore::Semaphore(core) => core.history(),
-            AnyCore::Latch(core) => core.history(),
+        match &self.core {
+            ObjectCore::Lock(core) => core.history(),
+            ObjectCore::ReadWrite(core) => core.history(),
+            ObjectCore::Semaphore(core) => core.history(),
+            ObjectCore::Latch(core) => core.history(),
         }
     }
 
     pub fn told(&self) -> Told {
-        match self {
-            AnyCore::Lock(core) => tell(core),
-            AnyCore::ReadWrite(core) => tell(core),
-            AnyCore::Semaphore(core) => tell(core),
-            AnyCore::Latch(core) => tell(core),
+        match &self.core {
+            ObjectCore::Lock(core) => tell(core),
+            ObjectCore::ReadWrite(core) => tell(core),
+            ObjectCore::Semaphore(core) => tell(core),
+            ObjectCore::Latch(core) => tell(core),
         }
     }
+}
+
+/// A core tells this of itself.
+pub fn assert_tells<R: Abort>(rt: &R, core: &AnyCore, told: &Told) {
+    assert_eq!(rt; core.told(), *told);
 }

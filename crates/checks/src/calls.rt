@@ -16,19 +16,17 @@ const LOCK: Object = Object::Lock(Policy::Fair);
 #[test]
 fn a_seat_follows_its_entries(rt: HostRuntime) {
     let mut seat = Seat::free();
-    assert_eq!(rt; (seat.holds(Mode::X), seat.holds(Mode::S)), (0, 0));
+    assert!(rt; seat.holds(Mode::X) == 0 && seat.holds(Mode::S) == 0);
     seat.follow(LOCK, plain(1, Word::Got, Mode::X, 1));
-    assert_eq!(rt; (seat.holds(Mode::X), seat.holds(Mode::S)), (1, 0));
+    assert!(rt; seat.holds(Mode::X) == 1 && seat.holds(Mode::S) == 0);
     seat.follow(LOCK, plain(1, Word::Await, Mode::X, 1));
-    assert_eq!(rt; seat.holds(Mode::X), 0);
-    assert_eq!(rt;
-        seat.sleep,
-        LastSleep {
-            condition: 0,
-            holds: 1,
-            how: End::Signalled,
-        }
-    );
+    assert!(rt; seat.holds(Mode::X) == 0);
+    let slept = LastSleep {
+        condition: 0,
+        holds: 1,
+        how: End::Signalled,
+    };
+    assert!(rt; seat.sleep == slept);
 }
 
 #[test]
@@ -49,8 +47,8 @@ fn an_entry_is_of_its_own_seat(rt: HostRuntime) -> Result<(), Fail> {
 fn restoring_changes_no_permits_and_no_count(rt: HostRuntime) {
     let mut semaphore = SemaphoreHooks::open(Policy::Fair, 3);
     semaphore.restore(0, 2);
-    assert_eq!(rt; semaphore.level(), 3);
+    assert!(rt; semaphore.level() == 3);
     let mut latch = LatchHooks::open(3);
     latch.restore(0, 2);
-    assert_eq!(rt; latch.level(), 3);
+    assert!(rt; latch.level() == 3);
 }

@@ -3,7 +3,7 @@
 //! What a core is to answer is told by one that lacks no memory.
 
 use crate::answers::{are_same, is_recorded, is_same, lacks_memory};
-use crate::any_core::{AnyCore, PIECE};
+use crate::any_core::{AnyCore, PIECE, assert_tells};
 use crate::texts::{long_situation, steps_of};
 use examples::{Example, situations};
 use history::fault::Fault;
@@ -54,7 +54,7 @@ fn refuse_run<R: Abort + AllocGlobal>(
 ) -> Result<(), Fail> {
     let before = pair.scarce.told();
     assert!(rt; is_run_refused(rt.alloc(), &mut pair.scarce, steps)?);
-    assert_eq!(rt; pair.scarce.told(), before);
+    assert_tells(rt, &pair.scarce, &before);
     assert!(rt; pair.run(rt.alloc(), steps)?);
     Ok(())
 }
@@ -158,8 +158,8 @@ fn run_starved<R: Abort + AllocGlobal>(
         match core.run(rt.alloc(), steps) {
             Ok(answers) => return Ok(answers),
             Err(fault) => {
-                assert_eq!(rt; fault, Fault::OutOfMemory);
-                assert_eq!(rt; core.told(), before);
+                assert!(rt; fault == Fault::OutOfMemory);
+                assert_tells(rt, core, &before);
                 assert!(rt; memory.give_piece());
             }
         }
@@ -209,7 +209,7 @@ fn follow_log<R: Abort + AllocGlobal>(
     assert!(rt; answers.first().is_some_and(lacks_memory));
     follow(rt, &mut pair.rich, &log.steps, &log.answers);
     let recorded = follow(rt, &mut pair.rich, &log.again, answers);
-    assert_eq!(rt; pair.scarce.told(), pair.rich.told());
+    assert_tells(rt, &pair.scarce, &pair.rich.told());
     assert!(rt; pair.run(rt.alloc(), &log.again)?);
     Ok(recorded)
 }

@@ -3,7 +3,7 @@
 //! What a core is to answer is told by one that lacks no memory.
 
 use crate::answers::{is_same, lacks_memory};
-use crate::any_core::{AnyCore, PIECE, Told};
+use crate::any_core::{AnyCore, PIECE, Told, assert_tells};
 use crate::texts::{long_situation, steps_of};
 use examples::{Example, situations};
 use history::entry::{Entry, Word};
@@ -102,7 +102,7 @@ impl Starved {
             if !lacks_memory(&answer) {
                 break;
             }
-            assert_eq!(rt; self.core.told(), before);
+            assert_tells(rt, &self.core, &before);
             assert!(rt; self.memory.give_piece());
             answer = self.core.step(seat, asked);
         }
@@ -117,11 +117,11 @@ fn compare_refused<R: Abort>(
     played: &Played,
     before: &Told,
 ) -> Result<(), Fail> {
-    assert_eq!(rt; starved.core.told(), *before);
+    assert_tells(rt, &starved.core, before);
     assert!(rt; may_lack_memory(starved.core.header().object, &played.answer));
     let answer = starved.step(rt, played.seat, played.asked);
     assert!(rt; is_same(&answer, &played.answer));
-    assert_eq!(rt; starved.core.told(), played.told);
+    assert_tells(rt, &starved.core, &played.told);
     assert!(rt; before.places < played.told.places);
     starved.memory.take_rest()?;
     Ok(())
@@ -137,7 +137,7 @@ fn compare_step<R: Abort>(rt: &R, starved: &mut Starved, played: &Played) -> Res
         return Ok(true);
     }
     assert!(rt; is_same(&first, &played.answer));
-    assert_eq!(rt; starved.core.told(), played.told);
+    assert_tells(rt, &starved.core, &played.told);
     // The smallest block of a heap has a second place.
     assert!(rt; before.places == played.told.places || before.places == 1);
     Ok(false)

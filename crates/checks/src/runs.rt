@@ -1,6 +1,6 @@
 //! The known situations through `run`.
 
-use crate::any_core::{AnyCore, Told};
+use crate::any_core::{AnyCore, Told, assert_tells};
 use crate::texts::{history_text, replay_text, steps_of};
 use examples::{Example, situations};
 use history::entry::Mode;
@@ -20,7 +20,7 @@ fn compare_replay<R: Abort + AllocGlobal>(
     steps: &[(u16, Step)],
     answers: &[Result<Answer, Fault>],
 ) -> Result<(), Fail> {
-    assert_eq!(rt; answers.len(), steps.len());
+    assert!(rt; answers.len() == steps.len());
     let replay = replay_text(rt.alloc(), core, steps, answers)?;
     assert!(rt;
         replay.as_slice() == example.replay.as_bytes(),
@@ -109,29 +109,31 @@ fn run_and_tell(alloc: Global, core: &mut AnyCore, steps: &[(u16, Step)]) -> Res
     Ok(core.told())
 }
 
-/// Of three permits that were released by who held none.
-fn release_and_take<R: Abort + AllocGlobal>(rt: &R, core: &mut AnyCore) -> Result<(), Fail> {
+/// Of three permits that were released by who held none, who waits may take one.
+fn release<R: Abort + AllocGlobal>(rt: &R, core: &mut AnyCore) -> Result<(), Fail> {
     let release = (1, Step::Give(Mode::S, 1));
     let steps = [(0, Step::Acquire(Mode::S, 1)), release, release, release];
     let told = run_and_tell(rt.alloc(), core, &steps)?;
-    assert_eq!(rt; (told.line, told.available), (1, 1));
-    let told = run_and_tell(rt.alloc(), core, &[(0, Step::Look)])?;
-    assert_eq!(rt;
-        told,
-        Told {
-            entries: 5,
-            calls: 4,
-            owed: 0,
-            places: core.history().places(),
-            line: 0,
-            asleep: [0; 2],
-            exclusive: [0; 4],
-            shared: [1, 0, 0, 0],
-            is_held: false,
-            available: 0,
-            count: 0,
-        }
-    );
+    assert!(rt; told.line == 1 && told.available == 1);
+    Ok(())
+}
+
+fn take<R: Abort + AllocGlobal>(rt: &R, core: &mut AnyCore) -> Result<(), Fail> {
+    core.run(rt.alloc(), &[(0, Step::Look)])?;
+    let told = Told {
+        entries: 5,
+        calls: 4,
+        owed: 0,
+        places: core.history().places(),
+        line: 0,
+        asleep: [0; 2],
+        exclusive: [0; 4],
+        shared: [1, 0, 0, 0],
+        is_held: false,
+        available: 0,
+        count: 0,
+    };
+    assert_tells(rt, core, &told);
     Ok(())
 }
 
@@ -149,18 +151,23 @@ fn a_semaphore_tells_its_permits(rt: HostRuntime) -> Result<(), Fail> {
         cap: 64,
     };
     let mut core = AnyCore::open(rt.alloc(), &header)?;
-    assert_eq!(rt; available(&core), -2);
-    release_and_take(&rt, &mut core)
+    assert!(rt; available(&core) == -2);
+    release(&rt, &mut core)?;
+    take(&rt, &mut core)
 }
 
 /// Who waits is in line until the count is none.
-fn count_down<R: Abort + AllocGlobal>(rt: &R, core: &mut AnyCore) -> Result<(), Fail> {
+fn count_to_one<R: Abort + AllocGlobal>(rt: &R, core: &mut AnyCore) -> Result<(), Fail> {
     let steps = [(0, Step::Acquire(Mode::S, 1)), (1, Step::Give(Mode::S, 1))];
     let told = run_and_tell(rt.alloc(), core, &steps)?;
-    assert_eq!(rt; (told.count, told.line, told.available), (1, 1, 0));
+    assert!(rt; told.count == 1 && told.line == 1 && told.available == 0);
+    Ok(())
+}
+
+fn count_to_none<R: Abort + AllocGlobal>(rt: &R, core: &mut AnyCore) -> Result<(), Fail> {
     let steps = [(1, Step::Give(Mode::S, 1)), (0, Step::Look)];
     let told = run_and_tell(rt.alloc(), core, &steps)?;
-    assert_eq!(rt; (told.count, told.line, told.owed), (0, 0, 0));
+    assert!(rt; told.count == 0 && told.line == 0 && told.owed == 0);
     Ok(())
 }
 
@@ -173,5 +180,6 @@ fn a_latch_tells_its_count(rt: HostRuntime) -> Result<(), Fail> {
         cap: 16,
     };
     let mut core = AnyCore::open(rt.alloc(), &header)?;
-    count_down(&rt, &mut core)
+    count_to_one(&rt, &mut core)?;
+    count_to_none(&rt, &mut core)
 }

@@ -1,11 +1,10 @@
 //! Memory that is refused to an open.
 
-use crate::any_core::{AnyCore, PIECE, Told};
+use crate::any_core::{PIECE, told_opened};
 use history::fault::Fault;
 use history::header::{Header, Object, Policy};
 use read_write::hooks::RwHooks;
 use scarce_memory::Memory;
-use std::alloc::Global;
 use std::process::Abort;
 use std::test::Fail;
 
@@ -18,33 +17,25 @@ fn header_of(object: Object, seats: u16, conditions: u8) -> Header {
     }
 }
 
-/// What a core tells that is opened for as much as there may be.
-fn told_opened(alloc: Global, object: Object) -> Result<Told, Fault> {
+/// Opens a core for as much as there may be. It tells that nothing has happened yet.
+fn open_widest<R: Abort + AllocGlobal>(rt: &R, object: Object) -> Result<(), Fault> {
     let conditions = match object {
         Object::Lock(_) | Object::ReadWrite(_) => 16,
         Object::Semaphore(_, _) | Object::Latch(_) => 0,
     };
-    let core = AnyCore::open(alloc, &header_of(object, 256, conditions))?;
-    Ok(core.told())
+    let told = told_opened(rt.alloc(), &header_of(object, 256, conditions))?;
+    assert!(rt; told.entries == 0 && told.owed == 0 && told.places == 0);
+    assert!(rt; told.asleep == [0; 2] && told.line == 0 && !told.is_held);
+    Ok(())
 }
 
 /// How often an open is refused while memory is given back piece by piece.
 fn refusals<R: Abort + AllocGlobal>(rt: &R, object: Object) -> Result<u32, Fail> {
     let mut memory = Memory::take_all(rt.alloc(), PIECE)?;
-    let mut refused: u32 = 0;
-    for _ in 0..65_536 {
-        match told_opened(rt.alloc(), object) {
-            Err(fault) => {
-                assert_eq!(rt; fault, Fault::OutOfMemory);
-                refused = refused.saturating_add(1);
-                assert!(rt; memory.give_piece());
-            }
-            Ok(told) => {
-                assert_eq!(rt; (told.entries, told.owed, told.places), (0, 0, 0));
-                assert_eq!(rt; told.asleep, [0; 2]);
-                assert!(rt; told.line == 0 && !told.is_held);
-                return Ok(refused);
-            }
+    for refused in 0..65_536 {
+        match open_widest(rt, object) {
+            Ok(()) => return Ok(refused),
+            Err(fault) => assert!(rt; fault == Fault::OutOfMemory && memory.give_piece()),
         }
     }
     Err(Fail::from("never opened"))

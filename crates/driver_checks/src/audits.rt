@@ -1,16 +1,17 @@
 //! Histories: the texts that an audit reads, and what it says of them.
 
-ghost use Rattle.std.specs.Prelude.{◌<◌};
+ghost use Rattle.std.specs.Prelude.{⊤};
 
 use crate::spoiled::SPOILED;
-use crate::streams::fail_as_told;
+use crate::streamed::fail_as_told;
 use audit::verdict::Verdict;
 use driver::audit_stream::audit_stream;
 use examples::situations;
 use history::fault::Fault;
 use history_text::{read_text, write_text};
 use scarce_memory::all_memory;
-use std::alloc::Global;
+use std::alloc::{AllocError, Global};
+use std::marker::Model;
 use std::process::Abort;
 use std::test::Fail;
 use steps::TextFault;
@@ -166,22 +167,53 @@ const TOTALS: [(&str, u64, u64, &str); 26] = [
     ),
 ];
 
-/// The verdict on a text that comes and goes in pieces, and the sink afterwards.
+/// The verdict on a history, and the sink afterwards.
+#[derive(Drop)]
+struct Ended {
+    verdict: Result<Verdict, StreamFault>,
+    sink: MemorySink,
+}
+
+/// The same in a box, and clauses see nothing of it, which keeps the proofs of callers small.
+#[derive(Drop)]
+struct Outcome {
+    ended: Box<Ended>,
+}
+
+impl Model for Outcome {
+    ghost Value = { ⊤ };
+
+    ghost view = { λ _. tt };
+}
+
+impl Outcome {
+    /// The history was judged so, and this was written.
+    fn is_judged(&self, verdict: Verdict, written: &[u8]) -> bool {
+        self.ended.verdict == Ok(verdict) && self.ended.sink.bytes() == written
+    }
+
+    /// The audit has failed so, and this was written.
+    fn has_failed(&self, fault: StreamFault, written: &[u8]) -> bool {
+        self.ended.verdict == Err(fault) && self.ended.sink.bytes() == written
+    }
+}
+
+/// What comes of a text that comes and goes in pieces.
 fn audited<R: Abort + AllocGlobal>(
     rt: &R,
     text: &[u8],
     piece: usize,
     fails_at: (Option<u64>, Option<u64>),
     places: usize,
-) -> Result<(Result<Verdict, StreamFault>, MemorySink), Fail>
-    requires { 0 < piece }
-{
+) -> Result<Outcome, Fail> {
+    let piece = piece.max(1);
     let bytes = Vec::from_slice(rt.alloc(), text)?;
     let mut source = MemorySource::new(bytes, piece, fails_at.0);
     let mut sink = MemorySink::with_places(rt.alloc(), places, piece, fails_at.1)?;
     let verdict = audit_stream(rt.alloc(), &mut source, &mut sink);
-    fail_as_told(rt, &verdict, &source, &sink);
-    Ok((verdict, sink))
+    assert!(rt; fail_as_told(verdict.err(), &source, &sink));
+    let ended = Box::new(rt.alloc(), Ended { verdict, sink })?;
+    Ok(Outcome { ended })
 }
 
 /// A history that comes in pieces of any size is legal, and adds up so.
@@ -192,9 +224,8 @@ fn is_legal<R: Abort + AllocGlobal>(
     name: &str,
 ) -> Result<(), Fail> {
     for piece in [1, 7, 4096] {
-        let (verdict, sink) = audited(rt, history.as_bytes(), piece, (None, None), AMPLE)?;
-        assert!(rt; verdict == Ok(Verdict::Legal), "{name}");
-        assert!(rt; sink.bytes() == expected.as_bytes(), "{name}");
+        let audited = audited(rt, history.as_bytes(), piece, (None, None), AMPLE)?;
+        assert!(rt; audited.is_judged(Verdict::Legal, expected.as_bytes()), "{name}");
     }
     Ok(())
 }
@@ -211,19 +242,25 @@ fn adds_up_the_history_of_each_example(rt: HostRuntime) -> Result<(), Fail> {
     Ok(())
 }
 
+/// Whether a history is judged not to be legal from this entry on.
+fn is_not_legal_at<R: Abort + AllocGlobal>(
+    rt: &R,
+    history: &str,
+    number: u64,
+) -> Result<bool, Fail> {
+    let audited = audited(rt, history.as_bytes(), 64, (None, None), AMPLE)?;
+    let expected = format!(in rt.alloc(); "not legal at {number}\n")?;
+    Ok(audited.is_judged(Verdict::NotLegal(number), expected.as_bytes()))
+}
+
 #[test]
 fn names_the_first_entry_that_is_not_legal(rt: HostRuntime) -> Result<(), Fail> {
     for spoiled in &SPOILED {
-        let text = spoiled.history.as_bytes();
-        let (verdict, sink) = audited(&rt, text, 64, (None, None), AMPLE)?;
-        let number = spoiled.number;
         assert!(rt;
-            verdict == Ok(Verdict::NotLegal(number)),
+            is_not_legal_at(&rt, spoiled.history, spoiled.number)?,
             "{}",
             spoiled.name
         );
-        let expected = format!(in rt.alloc(); "not legal at {number}\n")?;
-        assert!(rt; sink.bytes() == expected.as_bytes(), "{}", spoiled.name);
     }
     Ok(())
 }
@@ -266,38 +303,42 @@ const FAULTS: [(&str, &str, TextFault); 11] = [
 fn tells_the_first_fault_of_a_history(rt: HostRuntime) -> Result<(), Fail> {
     for (header, lines, fault) in &FAULTS {
         let text = format!(in rt.alloc(); "{header}{lines}")?;
-        let (verdict, sink) = audited(&rt, text.as_bytes(), 9, (None, None), AMPLE)?;
-        assert!(rt; verdict == Err(StreamFault::Text(*fault)), "{lines}");
-        assert!(rt; sink.bytes().is_empty());
+        let audited = audited(&rt, text.as_bytes(), 9, (None, None), AMPLE)?;
+        assert!(rt; audited.has_failed(StreamFault::Text(*fault), b""), "{lines}");
     }
     Ok(())
+}
+
+/// So many entries in a history with a cap of 16.
+fn entries_past_the_cap(alloc: Global) -> Result<String, AllocError> {
+    let mut text = String::from_str(
+        alloc,
+        "aqs-history 1 lock fair seats 1 conditions 0 cap 16\n",
+    )?;
+    for number in 0..17u32 {
+        let line = format!(in alloc; "{number} 0 got x 1\n")?;
+        text.push_str(line.as_str())?;
+    }
+    Ok(text)
 }
 
 /// A history has no entry at its cap.
 #[test]
 fn an_entry_at_the_cap_is_a_bad_line(rt: HostRuntime) -> Result<(), Fail> {
-    let mut text = String::from_str(
-        rt.alloc(),
-        "aqs-history 1 lock fair seats 1 conditions 0 cap 16\n",
-    )?;
-    for number in 0..17u32 {
-        let line = format!(in rt.alloc(); "{number} 0 got x 1\n")?;
-        text.push_str(line.as_str())?;
-    }
-    let (verdict, _) = audited(&rt, text.as_bytes(), 64, (None, None), AMPLE)?;
-    assert!(rt; verdict == Err(StreamFault::Text(TextFault::BadLine(18))));
+    let text = entries_past_the_cap(rt.alloc())?;
+    let audited = audited(&rt, text.as_bytes(), 64, (None, None), AMPLE)?;
+    assert!(rt; audited.has_failed(StreamFault::Text(TextFault::BadLine(18)), b""));
     Ok(())
 }
 
 /// Each text that a history begins with, but the whole of it, is cut short.
 fn is_cut_short<R: Abort + AllocGlobal>(rt: &R, text: &[u8], name: &str) -> Result<(), Fail> {
     for n in 0..text.len() {
-        let (verdict, sink) = audited(rt, &text[..n], 64, (None, None), AMPLE)?;
+        let audited = audited(rt, &text[..n], 64, (None, None), AMPLE)?;
         assert!(rt;
-            verdict == Err(StreamFault::Text(TextFault::CutShort)),
+            audited.has_failed(StreamFault::Text(TextFault::CutShort), b""),
             "{name}"
         );
-        assert!(rt; sink.bytes().is_empty(), "{name}");
     }
     Ok(())
 }
@@ -359,27 +400,29 @@ fn a_changed_history_is_refused_or_read_as_it_is(rt: HostRuntime) -> Result<(), 
 fn each_read_of_an_audit_fails_in_turn(rt: HostRuntime) -> Result<(), Fail> {
     let reads = TEXT.len().div_ceil(16) as u64 + 1;
     for call in 0..reads {
-        let (verdict, sink) = audited(&rt, TEXT, 16, (Some(call), None), AMPLE)?;
-        assert!(rt; verdict == Err(StreamFault::ReadFailed));
-        assert!(rt; sink.bytes().is_empty());
+        let audited = audited(&rt, TEXT, 16, (Some(call), None), AMPLE)?;
+        assert!(rt; audited.has_failed(StreamFault::ReadFailed, b""));
     }
-    let (verdict, sink) = audited(&rt, TEXT, 16, (Some(reads), None), AMPLE)?;
-    assert!(rt; verdict == Ok(Verdict::Legal) && sink.bytes() == ANSWER);
+    let audited = audited(&rt, TEXT, 16, (Some(reads), None), AMPLE)?;
+    assert!(rt; audited.is_judged(Verdict::Legal, ANSWER));
     Ok(())
 }
 
 #[test]
 fn each_write_of_an_audit_fails_in_turn(rt: HostRuntime) -> Result<(), Fail> {
     for call in 0..ANSWER.len().div_ceil(16) {
-        let fails_at = (None, Some(call as u64));
-        let (verdict, sink) = audited(&rt, TEXT, 16, fails_at, AMPLE)?;
-        assert!(rt; verdict == Err(StreamFault::WriteFailed));
-        assert!(rt; sink.bytes() == &ANSWER[..(16 * call).min(ANSWER.len())]);
+        let audited = audited(&rt, TEXT, 16, (None, Some(call as u64)), AMPLE)?;
+        let written = &ANSWER[..(16 * call).min(ANSWER.len())];
+        assert!(rt; audited.has_failed(StreamFault::WriteFailed, written));
     }
+    Ok(())
+}
+
+#[test]
+fn an_audit_writes_while_places_are_free(rt: HostRuntime) -> Result<(), Fail> {
     for places in 0..ANSWER.len() {
-        let (verdict, sink) = audited(&rt, TEXT, 10, (None, None), places)?;
-        assert!(rt; verdict == Err(StreamFault::WriteFailed));
-        assert!(rt; sink.bytes() == &ANSWER[..places]);
+        let audited = audited(&rt, TEXT, 10, (None, None), places)?;
+        assert!(rt; audited.has_failed(StreamFault::WriteFailed, &ANSWER[..places]));
     }
     Ok(())
 }
@@ -397,31 +440,57 @@ entries 1\n\
 calls 1\n\
 holds x 1 s 0 line 0 sleepers 0\n";
 
-/// All memory is taken and comes back block by block: nothing is written before it is enough.
-#[test]
-fn an_audit_that_lacks_memory_writes_nothing(rt: HostRuntime) -> Result<(), Fail> {
+/// A source for each audit, which are there before memory is taken.
+fn wide_sources<R: AllocGlobal>(rt: &R) -> Result<Vec<MemorySource>, Fail> {
     let mut sources = Vec::with_capacity(rt.alloc(), BLOCKS)?;
     for _ in 0..BLOCKS {
         let bytes = Vec::from_slice(rt.alloc(), WIDE)?;
         sources.push(MemorySource::new(bytes, 64, None))?;
     }
-    let mut sink = MemorySink::with_places(rt.alloc(), AMPLE, 64, None)?;
+    Ok(sources)
+}
+
+/// Whether an audit lacks memory, and then writes nothing; else it is answered.
+fn lacks_memory<R: Abort + AllocGlobal>(
+    rt: &R,
+    source: MemorySource,
+    sink: &mut MemorySink,
+) -> bool {
+    let mut source = source;
+    assert!(rt; !source.has_failed() && !sink.has_failed());
+    let verdict = audit_stream(rt.alloc(), &mut source, sink);
+    if verdict == Err(StreamFault::Memory) {
+        assert!(rt; sink.bytes().is_empty());
+        return true;
+    }
+    assert!(rt; verdict == Ok(Verdict::Legal) && sink.bytes() == WIDE_ANSWER);
+    false
+}
+
+/// How many audits lack memory where all is taken and comes back block by block.
+fn audits_without_memory<R: Abort + AllocGlobal>(
+    rt: &R,
+    sources: Vec<MemorySource>,
+    sink: &mut MemorySink,
+) -> Result<u64, Fail> {
     let mut taken = all_memory(rt.alloc(), 64)?;
     let mut refused: u64 = 0;
-    for mut source in sources {
-        assert!(rt; !source.has_failed() && !sink.has_failed());
-        match audit_stream(rt.alloc(), &mut source, &mut sink) {
-            Err(StreamFault::Memory) => {
-                assert!(rt; sink.bytes().is_empty());
-                refused = refused.saturating_add(1);
-                drop(taken.pop());
-            }
-            verdict => {
-                assert!(rt; verdict == Ok(Verdict::Legal) && sink.bytes() == WIDE_ANSWER);
-                break;
-            }
+    for source in sources {
+        if !lacks_memory(rt, source, sink) {
+            return Ok(refused);
         }
+        refused = refused.saturating_add(1);
+        drop(taken.pop());
     }
-    assert!(rt; 2 < refused && !sink.bytes().is_empty());
+    Err(Fail::from("never audited"))
+}
+
+/// Nothing is written before there is memory enough.
+#[test]
+fn an_audit_that_lacks_memory_writes_nothing(rt: HostRuntime) -> Result<(), Fail> {
+    let sources = wide_sources(&rt)?;
+    let mut sink = MemorySink::with_places(rt.alloc(), AMPLE, 64, None)?;
+    let refused = audits_without_memory(&rt, sources, &mut sink)?;
+    assert!(rt; 2 < refused);
     Ok(())
 }

@@ -1,7 +1,8 @@
 //! Each cut and each changed byte of the worked examples' texts, one byte at a time.
 
 use crate::plain::plainly_read;
-use crate::streams::{AMPLE, streamed};
+use crate::streamed::streamed;
+use crate::streams::AMPLE;
 use driver::form::Form;
 use examples::situations;
 use std::alloc::{AllocError, Global};
@@ -95,23 +96,9 @@ fn is_answered_so<R: Abort + AllocGlobal>(
     assert!(rt; is_read_as(alloc, text, said)?, "{name}");
     let header = replay_header(alloc, text)?;
     assert!(rt; answers_each_step(alloc, replay, &header, said)?, "{name}");
-    let (answer, history) = streamed(rt, text, Form::History, 1, (None, None), AMPLE)?;
-    assert!(rt; answer.is_ok(), "{name}");
     let within = history_within(alloc, replay)?;
-    assert!(rt; history.bytes() == within.as_slice(), "{name}");
-    Ok(())
-}
-
-/// A text is refused for its first fault, and nothing is written.
-fn is_refused_so<R: Abort>(
-    rt: &R,
-    answer: Result<(), StreamFault>,
-    written: &[u8],
-    fault: TextFault,
-    name: &str,
-) -> Result<(), Fail> {
-    assert!(rt; answer == Err(StreamFault::Text(fault)), "{name}");
-    assert!(rt; written.is_empty(), "{name}");
+    let history = streamed(rt, text, Form::History, 1, (None, None), AMPLE)?;
+    assert!(rt; history.is_answered(&within), "{name}");
     Ok(())
 }
 
@@ -121,12 +108,15 @@ fn is_answered_as_read<R: Abort + AllocGlobal>(
     text: &[u8],
     name: &str,
 ) -> Result<(), Fail> {
-    let (answer, sink) = streamed(rt, text, Form::Replay, 1, (None, None), AMPLE)?;
+    let outcome = streamed(rt, text, Form::Replay, 1, (None, None), AMPLE)?;
     match plainly_read(rt.alloc(), text) {
-        Err(fault) => is_refused_so(rt, answer, sink.bytes(), fault, name),
+        Err(fault) => {
+            assert!(rt; outcome.is_refused(StreamFault::Text(fault)), "{name}");
+            Ok(())
+        }
         Ok(plain) => {
-            assert!(rt; answer.is_ok(), "{name}");
-            is_answered_so(rt, text, &plain, sink.bytes(), name)
+            assert!(rt; outcome.is_ok(), "{name}");
+            is_answered_so(rt, text, &plain, outcome.bytes(), name)
         }
     }
 }
@@ -179,12 +169,8 @@ fn is_cut_short<R: Abort + AllocGlobal>(
     name: &str,
 ) -> Result<(), Fail> {
     for n in 0..text.len() {
-        let (answer, sink) = streamed(rt, &text[..n], form, 1, (None, None), AMPLE)?;
-        assert!(rt;
-            answer == Err(StreamFault::Text(TextFault::CutShort)),
-            "{name}"
-        );
-        assert!(rt; sink.bytes().is_empty(), "{name}");
+        let outcome = streamed(rt, &text[..n], form, 1, (None, None), AMPLE)?;
+        assert!(rt; outcome.is_refused(StreamFault::Text(TextFault::CutShort)), "{name}");
     }
     Ok(())
 }

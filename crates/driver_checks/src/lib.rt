@@ -16,6 +16,8 @@ mod plain;
 #[cfg(test)]
 mod spoiled;
 #[cfg(test)]
+mod streamed;
+#[cfg(test)]
 mod streams;
 #[cfg(test)]
 mod windows;

@@ -1,10 +1,9 @@
 //! Answers longer than what is written at once.
 
-use crate::streams::streamed;
+use crate::streamed::{Outcome, streamed};
 use driver::form::Form;
 use std::process::Abort;
 use std::test::Fail;
-use streams::memory_sink::MemorySink;
 use streams::stream_fault::StreamFault;
 
 /// More places than the answer takes.
@@ -26,13 +25,13 @@ fn many_steps<R: AllocGlobal>(rt: &R) -> Result<String, Fail> {
     Ok(text)
 }
 
-/// The answer to a text where the write with this number fails.
+/// What comes of a text where the write with this number fails.
 fn written<R: Abort + AllocGlobal>(
     rt: &R,
     text: &str,
     form: Form,
     fails_at: Option<u64>,
-) -> Result<(Result<(), StreamFault>, MemorySink), Fail> {
+) -> Result<Outcome, Fail> {
     streamed(
         rt,
         text.as_bytes(),
@@ -43,18 +42,31 @@ fn written<R: Abort + AllocGlobal>(
     )
 }
 
+/// How much is written where a write fails: a beginning of the answer.
+fn length_written<R: Abort + AllocGlobal>(
+    rt: &R,
+    text: &str,
+    form: Form,
+    whole: &[u8],
+    call: u64,
+) -> Result<usize, Fail> {
+    let part = written(rt, text, form, Some(call))?;
+    assert!(rt; part.has_failed(StreamFault::WriteFailed));
+    assert!(rt; whole.starts_with(part.bytes()));
+    Ok(part.bytes().len())
+}
+
 /// Each piece in turn isn't written: what was written before is a beginning of the answer, and longer each
 /// time.
 fn each_piece_fails<R: Abort + AllocGlobal>(rt: &R, form: Form) -> Result<(), Fail> {
     let text = many_steps(rt)?;
-    let (answer, whole) = written(rt, &text, form, None)?;
-    assert!(rt; answer.is_ok() && 65_536 * 3 < whole.bytes().len());
+    let whole = written(rt, &text, form, None)?;
+    assert!(rt; whole.is_ok() && 65_536 * 3 < whole.bytes().len());
     let mut least = 0;
     for call in 0..4 {
-        let (answer, sink) = written(rt, &text, form, Some(call))?;
-        assert!(rt; answer == Err(StreamFault::WriteFailed));
-        assert!(rt; least <= sink.bytes().len() && whole.bytes().starts_with(sink.bytes()));
-        least = sink.bytes().len().saturating_add(1);
+        let length = length_written(rt, &text, form, whole.bytes(), call)?;
+        assert!(rt; least <= length);
+        least = length.saturating_add(1);
     }
     Ok(())
 }

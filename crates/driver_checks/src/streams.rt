@@ -1,17 +1,12 @@
 //! Texts from end to end, over devices in memory.
 
-ghost use Rattle.std.specs.Prelude.{◌<◌};
-
+use crate::streamed::{Outcome, streamed};
 use driver::form::Form;
-use driver::replay_stream::replay_stream;
 use examples::{Example, situations};
+use std::alloc::{AllocError, Global};
 use std::process::Abort;
 use std::test::Fail;
 use steps::TextFault;
-use streams::memory_sink::MemorySink;
-use streams::memory_source::MemorySource;
-use streams::sink::Sink;
-use streams::source::Source;
 use streams::stream_fault::StreamFault;
 
 /// More places than any answer here takes.
@@ -40,42 +35,6 @@ end 3 2\n";
 /// What is written for `TEXT`.
 const FORMS: [(Form, &[u8]); 2] = [(Form::Replay, ANSWER), (Form::History, HISTORY)];
 
-/// Each device has failed exactly where the answer says so.
-pub fn fail_as_told<R: Abort, T>(
-    rt: &R,
-    answer: &Result<T, StreamFault>,
-    source: &MemorySource,
-    sink: &MemorySink,
-) {
-    assert_eq!(rt;
-        source.has_failed(),
-        matches!(answer, Err(StreamFault::ReadFailed))
-    );
-    assert_eq!(rt;
-        sink.has_failed(),
-        matches!(answer, Err(StreamFault::WriteFailed))
-    );
-}
-
-/// The answer to a text that comes and goes in pieces, and the sink afterwards.
-pub fn streamed<R: Abort + AllocGlobal>(
-    rt: &R,
-    text: &[u8],
-    form: Form,
-    piece: usize,
-    fails_at: (Option<u64>, Option<u64>),
-    places: usize,
-) -> Result<(Result<(), StreamFault>, MemorySink), Fail>
-    requires { 0 < piece }
-{
-    let bytes = Vec::from_slice(rt.alloc(), text)?;
-    let mut source = MemorySource::new(bytes, piece, fails_at.0);
-    let mut sink = MemorySink::with_places(rt.alloc(), places, piece, fails_at.1)?;
-    let answer = replay_stream(rt.alloc(), &mut source, &mut sink, form);
-    fail_as_told(rt, &answer, &source, &sink);
-    Ok((answer, sink))
-}
-
 /// A text that comes and goes in pieces of any size is answered so.
 fn is_answered<R: Abort + AllocGlobal>(
     rt: &R,
@@ -85,9 +44,8 @@ fn is_answered<R: Abort + AllocGlobal>(
     name: &str,
 ) -> Result<(), Fail> {
     for piece in [1, 7, 4096] {
-        let (answer, sink) = streamed(rt, text.as_bytes(), form, piece, (None, None), AMPLE)?;
-        assert!(rt; answer.is_ok(), "{name}");
-        assert!(rt; sink.bytes() == expected.as_bytes(), "{name}");
+        let outcome = streamed(rt, text.as_bytes(), form, piece, (None, None), AMPLE)?;
+        assert!(rt; outcome.is_answered(expected.as_bytes()), "{name}");
     }
     Ok(())
 }
@@ -111,9 +69,8 @@ fn bytes_behind_the_end_are_told(rt: HostRuntime) -> Result<(), Fail> {
     for more in [b"\n".as_slice(), b" ", b"0 look\n", b"end 4\n"] {
         let mut text = Vec::from_slice(rt.alloc(), TEXT)?;
         text.extend_from_slice(more)?;
-        let (answer, sink) = streamed(&rt, &text, Form::Replay, 64, (None, None), AMPLE)?;
-        assert!(rt; matches!(answer, Err(StreamFault::Text(TextFault::BadLine(7)))));
-        assert!(rt; sink.bytes().is_empty());
+        let outcome = streamed(&rt, &text, Form::Replay, 64, (None, None), AMPLE)?;
+        assert!(rt; outcome.is_refused(StreamFault::Text(TextFault::BadLine(7))));
     }
     Ok(())
 }
@@ -138,9 +95,8 @@ fn tells_the_first_fault(rt: HostRuntime) -> Result<(), Fail> {
     let lock = "aqs-steps 1 lock fair seats 1 conditions 0 cap 16\n";
     for (lines, fault) in &FAULTS {
         let text = format!(in rt.alloc(); "{lock}{lines}")?;
-        let (answer, sink) = streamed(&rt, text.as_bytes(), Form::History, 9, (None, None), AMPLE)?;
-        assert!(rt; answer == Err(StreamFault::Text(*fault)), "{lines}");
-        assert!(rt; sink.bytes().is_empty());
+        let outcome = streamed(&rt, text.as_bytes(), Form::History, 9, (None, None), AMPLE)?;
+        assert!(rt; outcome.is_refused(StreamFault::Text(*fault)), "{lines}");
     }
     Ok(())
 }
@@ -169,9 +125,8 @@ const NO_HEADERS: [&[u8]; 17] = [
 #[test]
 fn tells_a_bad_header(rt: HostRuntime) -> Result<(), Fail> {
     for header in &NO_HEADERS {
-        let (answer, sink) = streamed(&rt, header, Form::Replay, 8, (None, None), AMPLE)?;
-        assert!(rt; answer == Err(StreamFault::Text(TextFault::BadHeader)));
-        assert!(rt; sink.bytes().is_empty());
+        let outcome = streamed(&rt, header, Form::Replay, 8, (None, None), AMPLE)?;
+        assert!(rt; outcome.is_refused(StreamFault::Text(TextFault::BadHeader)));
     }
     Ok(())
 }
@@ -200,21 +155,55 @@ const LIMITS: [(&str, &str, &str); 4] = [
     ),
 ];
 
+/// A text with numbers at their limits is answered so.
+fn is_read_to_the_limit<R: Abort + AllocGlobal>(
+    rt: &R,
+    part: &str,
+    to_try: &str,
+    to_await: &str,
+) -> Result<bool, Fail> {
+    let text = format!(in rt.alloc();
+        "aqs-steps 1 {part}\n0 try x 4294967295\n0 await 255\nend 2\n"
+    )?;
+    let expected = format!(in rt.alloc();
+        "aqs-replay 1 {part}\n- 0 {to_try}\n- 0 {to_await}\nend 0 0\n"
+    )?;
+    let outcome = streamed(rt, text.as_bytes(), Form::Replay, 64, (None, None), AMPLE)?;
+    Ok(outcome.is_answered(expected.as_bytes()))
+}
+
 #[test]
 fn reads_numbers_up_to_their_limits(rt: HostRuntime) -> Result<(), Fail> {
     for (part, to_try, to_await) in &LIMITS {
-        let text = format!(in rt.alloc();
-            "aqs-steps 1 {part}\n0 try x 4294967295\n0 await 255\nend 2\n"
-        )?;
-        let expected = format!(in rt.alloc();
-            "aqs-replay 1 {part}\n- 0 {to_try}\n- 0 {to_await}\nend 0 0\n"
-        )?;
-        let (answer, sink) = streamed(&rt, text.as_bytes(), Form::Replay, 64, (None, None), AMPLE)?;
-        assert!(rt;
-            answer.is_ok() && sink.bytes() == expected.as_bytes(),
-            "{part}"
-        );
+        assert!(rt; is_read_to_the_limit(&rt, part, to_try, to_await)?, "{part}");
     }
+    Ok(())
+}
+
+/// `TEXT` in pieces, of which a read fails, or a write.
+fn text_streamed<R: Abort + AllocGlobal>(
+    rt: &R,
+    form: Form,
+    piece: usize,
+    fails_at: (Option<u64>, Option<u64>),
+) -> Result<Outcome, Fail> {
+    streamed(rt, TEXT, form, piece, fails_at, AMPLE)
+}
+
+/// Each of so many reads fails in turn, and there is none behind them.
+fn each_read_fails<R: Abort + AllocGlobal>(
+    rt: &R,
+    form: Form,
+    expected: &[u8],
+    piece: usize,
+    reads: u64,
+) -> Result<(), Fail> {
+    for call in 0..reads {
+        let outcome = text_streamed(rt, form, piece, (Some(call), None))?;
+        assert!(rt; outcome.is_refused(StreamFault::ReadFailed));
+    }
+    let outcome = text_streamed(rt, form, piece, (Some(reads), None))?;
+    assert!(rt; outcome.is_answered(expected));
     Ok(())
 }
 
@@ -223,15 +212,29 @@ fn each_read_fails_in_turn(rt: HostRuntime) -> Result<(), Fail> {
     for (form, expected) in FORMS {
         for piece in [1, 16] {
             let reads = TEXT.len().div_ceil(piece) as u64 + 1;
-            for call in 0..reads {
-                let (answer, sink) = streamed(&rt, TEXT, form, piece, (Some(call), None), AMPLE)?;
-                assert!(rt; answer == Err(StreamFault::ReadFailed));
-                assert!(rt; sink.bytes().is_empty());
-            }
-            let (answer, sink) = streamed(&rt, TEXT, form, piece, (Some(reads), None), AMPLE)?;
-            assert!(rt; answer.is_ok() && sink.bytes() == expected);
+            each_read_fails(&rt, form, expected, piece, reads)?;
         }
     }
+    Ok(())
+}
+
+/// Each of so many writes fails in turn, behind as many pieces, and there is none behind them.
+fn each_write_fails<R: Abort + AllocGlobal>(
+    rt: &R,
+    form: Form,
+    expected: &[u8],
+    piece: usize,
+    writes: u64,
+) -> Result<(), Fail> {
+    let mut written = 0;
+    for call in 0..writes {
+        let outcome = text_streamed(rt, form, piece, (None, Some(call)))?;
+        assert!(rt; outcome.has_failed(StreamFault::WriteFailed));
+        assert!(rt; outcome.bytes() == expected.get(..written).unwrap_or_default());
+        written = expected.len().min(written.saturating_add(piece));
+    }
+    let outcome = text_streamed(rt, form, piece, (None, Some(writes)))?;
+    assert!(rt; outcome.is_answered(expected));
     Ok(())
 }
 
@@ -240,59 +243,82 @@ fn each_write_fails_in_turn(rt: HostRuntime) -> Result<(), Fail> {
     for (form, expected) in FORMS {
         for piece in [1, 16] {
             let writes = expected.len().div_ceil(piece) as u64;
-            let mut written = 0;
-            for call in 0..writes {
-                let (answer, sink) = streamed(&rt, TEXT, form, piece, (None, Some(call)), AMPLE)?;
-                assert!(rt; answer == Err(StreamFault::WriteFailed));
-                assert!(rt; sink.bytes().len() == written && expected.starts_with(sink.bytes()));
-                written = expected.len().min(written.saturating_add(piece));
-            }
-            let (answer, sink) = streamed(&rt, TEXT, form, piece, (None, Some(writes)), AMPLE)?;
-            assert!(rt; answer.is_ok() && sink.bytes() == expected);
+            each_write_fails(&rt, form, expected, piece, writes)?;
         }
     }
+    Ok(())
+}
+
+/// `TEXT` in pieces, to a sink of so many places.
+fn text_in_places<R: Abort + AllocGlobal>(
+    rt: &R,
+    form: Form,
+    places: usize,
+) -> Result<Outcome, Fail> {
+    streamed(rt, TEXT, form, 10, (None, None), places)
+}
+
+/// What finds too few places is written so far.
+fn is_written_while_places_are_free<R: Abort + AllocGlobal>(
+    rt: &R,
+    form: Form,
+    expected: &[u8],
+) -> Result<(), Fail> {
+    for places in 0..expected.len() {
+        let outcome = text_in_places(rt, form, places)?;
+        assert!(rt; outcome.has_failed(StreamFault::WriteFailed));
+        assert!(rt; outcome.bytes() == &expected[..places]);
+    }
+    let outcome = text_in_places(rt, form, expected.len())?;
+    assert!(rt; outcome.is_answered(expected));
     Ok(())
 }
 
 #[test]
 fn writes_while_places_are_free(rt: HostRuntime) -> Result<(), Fail> {
     for (form, expected) in FORMS {
-        for places in 0..expected.len() {
-            let (answer, sink) = streamed(&rt, TEXT, form, 10, (None, None), places)?;
-            assert!(rt; answer == Err(StreamFault::WriteFailed));
-            assert!(rt; sink.bytes() == &expected[..places]);
-        }
-        let (answer, sink) = streamed(&rt, TEXT, form, 10, (None, None), expected.len())?;
-        assert!(rt; answer.is_ok() && sink.bytes() == expected);
+        is_written_while_places_are_free(&rt, form, expected)?;
     }
     Ok(())
+}
+
+/// A steps text with as many reads as there may be, and one more.
+fn too_many_reads(alloc: Global) -> Result<String, AllocError> {
+    let mut text = String::from_str(
+        alloc,
+        "aqs-steps 1 rw nonfair seats 1 conditions 0 cap 200000\n",
+    )?;
+    for _ in 0..65535u32 {
+        text.push_str("0 acquire s 1\n")?;
+    }
+    text.push_str("0 acquire s 1\nend 65536\n")?;
+    Ok(text)
+}
+
+/// What it is answered.
+fn too_many_reads_answered(alloc: Global) -> Result<String, AllocError> {
+    let mut expected = String::from_str(
+        alloc,
+        "aqs-replay 1 rw nonfair seats 1 conditions 0 cap 200000\n",
+    )?;
+    for number in 0..65535u32 {
+        let line = format!(in alloc; "{number} 0 got s 1\n")?;
+        expected.push_str(line.as_str())?;
+    }
+    expected.push_str("65535 0 refused s 1 TooManyHolds\nend 65536 65536\n")?;
+    Ok(expected)
 }
 
 /// As many read holds as there may be, and one more.
 #[test]
 fn reads_up_to_the_limit(rt: HostRuntime) -> Result<(), Fail> {
-    let mut text = String::from_str(
-        rt.alloc(),
-        "aqs-steps 1 rw nonfair seats 1 conditions 0 cap 200000\n",
-    )?;
-    let mut expected = String::from_str(
-        rt.alloc(),
-        "aqs-replay 1 rw nonfair seats 1 conditions 0 cap 200000\n",
-    )?;
-    for number in 0..65535u32 {
-        text.push_str("0 acquire s 1\n")?;
-        let line = format!(in rt.alloc(); "{number} 0 got s 1\n")?;
-        expected.push_str(line.as_str())?;
-    }
-    text.push_str("0 acquire s 1\nend 65536\n")?;
-    expected.push_str("65535 0 refused s 1 TooManyHolds\nend 65536 65536\n")?;
-    let places = expected.len();
+    let text = too_many_reads(rt.alloc())?;
+    let expected = too_many_reads_answered(rt.alloc())?;
+    let (text, expected) = (text.as_bytes(), expected.as_bytes());
     // A pipe gives at most so much at once, and a file more than a read asks for.
     for piece in [4096, 65536, 1_000_000] {
-        let text = text.as_bytes();
-        let (answer, sink) = streamed(&rt, text, Form::Replay, piece, (None, None), places)?;
-        assert!(rt; answer.is_ok());
-        assert!(rt; sink.bytes() == expected.as_bytes());
+        let outcome = streamed(&rt, text, Form::Replay, piece, (None, None), expected.len())?;
+        assert!(rt; outcome.is_answered(expected));
     }
     Ok(())
 }

@@ -1,6 +1,7 @@
 //! Texts whose lines are longer than what is read at once, and sources that fail behind a fault.
 
-use crate::streams::{AMPLE, streamed};
+use crate::streamed::{Outcome, streamed};
+use crate::streams::AMPLE;
 use driver::form::Form;
 use line_text::fault::TextFault;
 use std::process::Abort;
@@ -9,18 +10,25 @@ use streams::stream_fault::StreamFault;
 
 const HEADER: &str = "aqs-steps 1 lock fair seats 2 conditions 0 cap 64\n";
 
-/// The fault of a steps text whose second line is so long.
-fn fault_of<R: Abort + AllocGlobal>(
-    rt: &R,
-    length: usize,
-    ending: &str,
-) -> Result<StreamFault, Fail> {
+/// A steps text whose second line is so long.
+fn text_with<R: AllocGlobal>(rt: &R, length: usize, ending: &str) -> Result<String, Fail> {
     let mut text = String::from_str(rt.alloc(), HEADER)?;
     for _ in 0..length {
         text.push('7')?;
     }
     text.push_str(ending)?;
-    let (answer, sink) = streamed(
+    Ok(text)
+}
+
+/// Whether such a text is refused for this fault.
+fn is_refused<R: Abort + AllocGlobal>(
+    rt: &R,
+    length: usize,
+    ending: &str,
+    fault: TextFault,
+) -> Result<bool, Fail> {
+    let text = text_with(rt, length, ending)?;
+    let outcome = streamed(
         rt,
         text.as_bytes(),
         Form::Replay,
@@ -28,50 +36,48 @@ fn fault_of<R: Abort + AllocGlobal>(
         (None, None),
         AMPLE,
     )?;
-    assert!(rt; sink.bytes().is_empty());
-    Ok(answer.expect_err(rt, "a long line is no step"))
+    Ok(outcome.is_refused(StreamFault::Text(fault)))
 }
 
 #[test]
 fn a_line_longer_than_a_read_is_a_bad_line(rt: HostRuntime) -> Result<(), Fail> {
     for length in [65_000, 65_486, 65_536, 200_000] {
-        let whole = fault_of(&rt, length, "\n0 give x 1\nend 2\n")?;
-        assert!(rt; whole == StreamFault::Text(TextFault::BadLine(2)));
-        let cut = fault_of(&rt, length, "")?;
-        assert!(rt; cut == StreamFault::Text(TextFault::CutShort));
+        assert!(rt; is_refused(&rt, length, "\n0 give x 1\nend 2\n", TextFault::BadLine(2))?);
+        assert!(rt; is_refused(&rt, length, "", TextFault::CutShort)?);
     }
     Ok(())
 }
 
-/// A text with a fault is read to its end, so a read that fails behind the fault is told.
-#[test]
-fn a_read_that_fails_behind_a_fault_is_told(rt: HostRuntime) -> Result<(), Fail> {
+/// A text with a fault in its second line, and many lines behind it.
+fn text_behind_a_fault<R: AllocGlobal>(rt: &R) -> Result<String, Fail> {
     let mut text = String::from_str(rt.alloc(), HEADER)?;
     text.push_str("0 gives x 1\n")?;
     for _ in 0..20_000 {
         text.push_str("0 give x 1\n")?;
     }
+    Ok(text)
+}
+
+/// What comes of a text where a read fails.
+fn read_failing<R: Abort + AllocGlobal>(
+    rt: &R,
+    text: &[u8],
+    call: u64,
+) -> Result<Outcome, Fail> {
+    streamed(rt, text, Form::Replay, 4096, (Some(call), None), AMPLE)
+}
+
+/// A text with a fault is read to its end, so a read that fails behind the fault is told.
+#[test]
+fn a_read_that_fails_behind_a_fault_is_told(rt: HostRuntime) -> Result<(), Fail> {
+    let text = text_behind_a_fault(&rt)?;
+    let text = text.as_bytes();
     let reads = text.len().div_ceil(4096) as u64 + 1;
     for call in [0, 1, reads - 1] {
-        let (answer, sink) = streamed(
-            &rt,
-            text.as_bytes(),
-            Form::Replay,
-            4096,
-            (Some(call), None),
-            AMPLE,
-        )?;
-        assert!(rt; answer == Err(StreamFault::ReadFailed));
-        assert!(rt; sink.bytes().is_empty());
+        let outcome = read_failing(&rt, text, call)?;
+        assert!(rt; outcome.is_refused(StreamFault::ReadFailed));
     }
-    let (answer, _) = streamed(
-        &rt,
-        text.as_bytes(),
-        Form::Replay,
-        4096,
-        (Some(reads), None),
-        AMPLE,
-    )?;
-    assert!(rt; answer == Err(StreamFault::Text(TextFault::BadLine(2))));
+    let outcome = read_failing(&rt, text, reads)?;
+    assert!(rt; outcome.has_failed(StreamFault::Text(TextFault::BadLine(2))));
     Ok(())
 }

@@ -1,7 +1,7 @@
 //! What is found of a core's history alone: the plain program's answer to a step, and what the entries add up
 //! to.
 
-use crate::any_core::AnyCore;
+use crate::any_core::{AnyCore, ObjectCore};
 use audit::sums::Totals;
 use audit::totals::totals;
 use frame::hooks::Hooks;
@@ -40,11 +40,11 @@ pub fn answer_found(
     seat: u16,
     asked: Step,
 ) -> Result<Answer, Fault> {
-    match core {
-        AnyCore::Lock(core) => found(alloc, core, seat, asked),
-        AnyCore::ReadWrite(core) => found(alloc, core, seat, asked),
-        AnyCore::Semaphore(core) => found(alloc, core, seat, asked),
-        AnyCore::Latch(core) => found(alloc, core, seat, asked),
+    match core.object_core() {
+        ObjectCore::Lock(core) => found(alloc, core, seat, asked),
+        ObjectCore::ReadWrite(core) => found(alloc, core, seat, asked),
+        ObjectCore::Semaphore(core) => found(alloc, core, seat, asked),
+        ObjectCore::Latch(core) => found(alloc, core, seat, asked),
     }
 }
 
@@ -60,10 +60,10 @@ fn added_up<H: Hooks + Drop>(alloc: Global, core: &Core<H>) -> Result<Totals, Fa
 
 /// What the entries add up to.
 pub fn totals_found(alloc: Global, core: &AnyCore) -> Result<Totals, Fault> {
-    match core {
-        AnyCore::Lock(core) => added_up(alloc, core),
-        AnyCore::ReadWrite(core) => added_up(alloc, core),
-        AnyCore::Semaphore(core) => added_up(alloc, core),
-        AnyCore::Latch(core) => added_up(alloc, core),
+    match core.object_core() {
+        ObjectCore::Lock(core) => added_up(alloc, core),
+        ObjectCore::ReadWrite(core) => added_up(alloc, core),
+        ObjectCore::Semaphore(core) => added_up(alloc, core),
+        ObjectCore::Latch(core) => added_up(alloc, core),
     }
 }
