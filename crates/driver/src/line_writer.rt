@@ -59,7 +59,7 @@ impl LineWriter {
         })
     }
 
-    /// Writes what was gathered.
+    /// Writes what was gathered. Where that fails it stays gathered.
     #[inline(never)]
     pub fn flush<W: Sink>(&mut self, writer: &mut W) -> Result<(), DeviceFailed>
         requires { W.failed writer.old ≡ false }
@@ -67,6 +67,7 @@ impl LineWriter {
         ensures none { OnOk result (self.new.bytes ≡ []) }
         ensures room { OnOk result (136 ≤ self.new.room) }
         ensures err { OnErr result (AppendsFront (W.held writer.old) (W.held writer.new) self.old.bytes) }
+        ensures kept { OnErr result (self.new ≡ self.old) }
         ensures failing { IsTrue (W.failed writer.new) ↔ IsErr result }
     {
         write_all(writer, &self.bytes[..self.at])?;
