@@ -36,27 +36,27 @@ kept form (Some t) so_far None b items keeps were = absurd were
 kept form (Some t) so_far (Some xs) None items keeps were = absurd keeps
 kept form (Some t) so_far (Some xs) (Some ys) items keeps were = rw keeps were
 
-further : {H I : Type 0} (form : Form H I) (text : Option (List ℕ)) (so_far : SoFar H I) (known : List I → Type 0) (window after : List ℕ) (rest : Option (List ℕ)) (items : List I) (x : I)
+further : {H I : Type 0} (form : Form H I) (text : Option (List ℕ)) (so_far : SoFar H I) (known : List I → Type 0) (window after : List ℕ) (left : Option (List ℕ)) (items : List I) (x : I)
     → IsAhead form so_far window x after → (so_far.known items → known (items ++ x ∷ []))
-    → WereRead form text (reader_at so_far window rest) items → WereRead form text (reader_at (one_further so_far known) after rest) (items ++ x ∷ [])
-further form None so_far known window after rest items x ahead more were = tt
-further form (Some t) so_far known window after None items x ahead more were = absurd were
-further form (Some t) so_far known window after (Some rest) items x ahead more were =
-    let parts = ap (λ (b : List ℕ). b ++ rest) ahead.parts ∙ append_assoc (ended (form.item_line so_far.count x)) after rest in
-    read_on form t so_far known items (window ++ rest) x (after ++ rest) (record { fits = ahead.fits; parts = parts }) (more were.known) were
+    → WereRead form text (reader_at so_far window left) items → WereRead form text (reader_at (one_further so_far known) after left) (items ++ x ∷ [])
+further form None so_far known window after left items x ahead next were = tt
+further form (Some t) so_far known window after None items x ahead next were = absurd were
+further form (Some t) so_far known window after (Some more) items x ahead next were =
+    let parts = ap (λ (b : List ℕ). b ++ more) ahead.parts ∙ append_assoc (ended (form.item_line so_far.count x)) after more in
+    read_on form t so_far known items (window ++ more) x (after ++ more) (record { fits = ahead.fits; parts = parts }) (next were.known) were
 
 -- the next line is in the window, and so many bytes behind it
-pub item_ahead : {H I : Type 0} (form : Form H I) (text : Option (List ℕ)) (so_far : SoFar H I) (known : List I → Type 0) (window : List ℕ) (rest : Option (List ℕ)) (items : List I) (x : I) (left : ℕ)
-    → IsLineBehind form so_far window (Ok (Some (x, left))) → (so_far.known items → known (items ++ x ∷ []))
-    → WereRead form text (reader_at so_far window rest) items → WereRead form text (reader_at (one_further so_far known) (drop (length window - left) window) rest) (items ++ x ∷ [])
-item_ahead form text so_far known window rest items x left is more were =
+pub item_ahead : {H I : Type 0} (form : Form H I) (text : Option (List ℕ)) (so_far : SoFar H I) (known : List I → Type 0) (window : List ℕ) (left : Option (List ℕ)) (items : List I) (x : I) (n : ℕ)
+    → IsLineBehind form so_far window (Ok (Some (x, n))) → (so_far.known items → known (items ++ x ∷ []))
+    → WereRead form text (reader_at so_far window left) items → WereRead form text (reader_at (one_further so_far known) (drop (length window - n) window) left) (items ++ x ∷ [])
+item_ahead form text so_far known window left items x n is next were =
     let found = is [] in
-    rw (last_bytes window (ended (form.item_line so_far.count x)) found.0 left found.1.parts found.2) (further form text so_far known window found.0 rest items x found.1 more were)
+    rw (last_bytes window (ended (form.item_line so_far.count x)) found.0 n found.1.parts found.2) (further form text so_far known window found.0 left items x found.1 next were)
 
-pub line_within : {H I : Type 0} (form : Form H I) (so_far : SoFar H I) (window : List ℕ) (x : I) (left : ℕ) → IsLineBehind form so_far window (Ok (Some (x, left))) → left ≤ length window
-line_within form so_far window x left is =
+pub line_within : {H I : Type 0} (form : Form H I) (so_far : SoFar H I) (window : List ℕ) (x : I) (n : ℕ) → IsLineBehind form so_far window (Ok (Some (x, n))) → n ≤ length window
+line_within form so_far window x n is =
     let found = is [] in
-    omega (arith, shorter window (form.item_line so_far.count x) found.0 left found.1.parts found.2)
+    omega (arith, shorter window (form.item_line so_far.count x) found.0 n found.1.parts found.2)
 
 stays : {H I : Type 0} (form : Form H I) (front more : List ℕ) (fault : TextFault) → (fault ≡ CutShort → more ≡ []) → IsReading form front (Err fault) → IsReading form (front ++ more) (Err fault)
 stays form front more CutShort end is = rw (end refl, append-nil front) is
@@ -100,18 +100,18 @@ more_ahead form (Some t) so_far window (Some more) items is some were =
 
 -- ---- the header
 
-header_read : {H I : Type 0} (form : Form H I) (text : Option (List ℕ)) (so_far : SoFar H I) (window after : List ℕ) (rest : Option (List ℕ)) → AreRead form window so_far [] after
-    → Keeps (prepend_known [] text) (prepend_known window rest) → WereRead form text (reader_at so_far after rest) []
-header_read form None so_far window after rest read keeps = tt
+header_read : {H I : Type 0} (form : Form H I) (text : Option (List ℕ)) (so_far : SoFar H I) (window after : List ℕ) (left : Option (List ℕ)) → AreRead form window so_far [] after
+    → Keeps (prepend_known [] text) (prepend_known window left) → WereRead form text (reader_at so_far after left) []
+header_read form None so_far window after left read keeps = tt
 header_read form (Some t) so_far window after None read keeps = absurd keeps
 header_read form (Some t) so_far window after (Some more) read keeps =
     rw (sym keeps) (record { begins = begins_more form window so_far.header [] after more read.begins; count = read.count; known = read.known })
 
 -- the header's line is in the window, and so many bytes behind it
-pub header_ahead : {H I : Type 0} (form : Form H I) (text : Option (List ℕ)) (so_far : SoFar H I) (window after : List ℕ) (rest : Option (List ℕ)) → AreRead form window so_far [] after
-    → Keeps (prepend_known [] text) (prepend_known window rest) → WereRead form text (reader_at so_far (drop (length window - length after) window) rest) []
-header_ahead form text so_far window after rest read keeps =
-    rw (last_bytes window (ended (form.header_line so_far.header)) after (length after) read.begins.parts refl) (header_read form text so_far window after rest read keeps)
+pub header_ahead : {H I : Type 0} (form : Form H I) (text : Option (List ℕ)) (so_far : SoFar H I) (window after : List ℕ) (left : Option (List ℕ)) → AreRead form window so_far [] after
+    → Keeps (prepend_known [] text) (prepend_known window left) → WereRead form text (reader_at so_far (drop (length window - length after) window) left) []
+header_ahead form text so_far window after left read keeps =
+    rw (last_bytes window (ended (form.header_line so_far.header)) after (length after) read.begins.parts refl) (header_read form text so_far window after left read keeps)
 
 header_fault : {H I : Type 0} (form : Form H I) (text : Option (List ℕ)) (window : List ℕ) (left : Option (List ℕ)) (fault : TextFault) → IsReading form window (Err fault)
     → (fault ≡ CutShort → IsAtEnd left) → Keeps (prepend_known [] text) (prepend_known window left) → IsFaultOf form text (Text fault)
