@@ -6,7 +6,7 @@ use crate::spoiled::SPOILED;
 use crate::streamed::fail_as_told;
 use audit::verdict::Verdict;
 use driver::audit_stream::audit_stream;
-use examples::situations;
+use examples::{Example, situations};
 use history::fault::Fault;
 use history_text::{read_text, write_text};
 use scarce_memory::all_memory;
@@ -225,19 +225,30 @@ fn is_legal<R: Abort + AllocGlobal>(
 ) -> Result<(), Fail> {
     for piece in [1, 7, 4096] {
         let audited = audited(rt, history.as_bytes(), piece, (None, None), AMPLE)?;
-        assert!(rt; audited.is_judged(Verdict::Legal, expected.as_bytes()), "{name}");
+        assert!(rt;
+            audited.is_judged(Verdict::Legal, expected.as_bytes()),
+            "{name}"
+        );
     }
     Ok(())
 }
 
+/// The history of an example adds up so.
+fn adds_up<R: Abort + AllocGlobal>(
+    rt: &R,
+    example: &Example,
+    total: &(&str, u64, u64, &str),
+) -> Result<(), Fail> {
+    let (name, entries, calls, totals) = *total;
+    assert!(rt; example.name == name);
+    let expected = format!(in rt.alloc(); "legal\nentries {entries}\ncalls {calls}\n{totals}\n")?;
+    is_legal(rt, example.history, expected.as_str(), name)
+}
+
 #[test]
 fn adds_up_the_history_of_each_example(rt: HostRuntime) -> Result<(), Fail> {
-    for (example, (name, entries, calls, totals)) in situations().iter().zip(&TOTALS) {
-        assert!(rt; example.name == *name);
-        let expected = format!(in rt.alloc();
-            "legal\nentries {entries}\ncalls {calls}\n{totals}\n"
-        )?;
-        is_legal(&rt, example.history, expected.as_str(), name)?;
+    for (example, total) in situations().iter().zip(&TOTALS) {
+        adds_up(&rt, example, total)?;
     }
     Ok(())
 }
@@ -304,7 +315,10 @@ fn tells_the_first_fault_of_a_history(rt: HostRuntime) -> Result<(), Fail> {
     for (header, lines, fault) in &FAULTS {
         let text = format!(in rt.alloc(); "{header}{lines}")?;
         let audited = audited(&rt, text.as_bytes(), 9, (None, None), AMPLE)?;
-        assert!(rt; audited.has_failed(StreamFault::Text(*fault), b""), "{lines}");
+        assert!(rt;
+            audited.has_failed(StreamFault::Text(*fault), b""),
+            "{lines}"
+        );
     }
     Ok(())
 }

@@ -34,6 +34,38 @@ fn history_within(alloc: Global, replay: &[u8]) -> Result<Vec<u8>, AllocError> {
     Ok(history)
 }
 
+/// The entries and the ended calls that the lines of a replay text tell.
+#[derive(Clone, Copy)]
+struct Counted {
+    entries: u64,
+    calls: u64,
+}
+
+impl Counted {
+    /// The same behind one line more, which is of this seat; `None` where it isn't.
+    fn behind(self, alloc: Global, line: &[u8], seat: u16) -> Result<Option<Counted>, AllocError> {
+        let recorded = format!(in alloc; "{} {seat} ", self.entries)?;
+        if let Some(words) = line.strip_prefix(recorded.as_bytes()) {
+            return Ok(Some(Counted {
+                entries: self.entries.saturating_add(1),
+                calls: self.calls.saturating_add(u64::from(!waits(words))),
+            }));
+        }
+        let unrecorded = format!(in alloc; "- {seat} ")?;
+        Ok(line.starts_with(unrecorded.as_bytes()).then_some(self))
+    }
+
+    /// The end line.
+    fn end(self, alloc: Global) -> Result<String, AllocError> {
+        format!(in alloc; "end {} {}", self.entries, self.calls)
+    }
+}
+
+/// Whether the words of an entry end no call.
+fn waits(words: &[u8]) -> bool {
+    words.starts_with(b"queued ") || words.starts_with(b"await ") || words.starts_with(b"lapse ")
+}
+
 /// Whether a replay text has this header line, a line for each step with its seat, entries numbered from 0,
 /// and the counts at its end.
 fn answers_each_step(
@@ -46,23 +78,17 @@ fn answers_each_step(
     if lines.next() != Some(header) {
         return Ok(false);
     }
-    let mut entries: u64 = 0;
-    let mut calls: u64 = 0;
+    let mut counted = Counted {
+        entries: 0,
+        calls: 0,
+    };
     for (seat, _) in &read.steps {
-        let line = lines.next().unwrap_or_default();
-        let recorded = format!(in alloc; "{entries} {seat} ")?;
-        let unrecorded = format!(in alloc; "- {seat} ")?;
-        if let Some(words) = line.strip_prefix(recorded.as_bytes()) {
-            let waits = words.starts_with(b"queued ")
-                || words.starts_with(b"await ")
-                || words.starts_with(b"lapse ");
-            entries = entries.saturating_add(1);
-            calls = calls.saturating_add(u64::from(!waits));
-        } else if !line.starts_with(unrecorded.as_bytes()) {
-            return Ok(false);
+        match counted.behind(alloc, lines.next().unwrap_or_default(), *seat)? {
+            Some(more) => counted = more,
+            None => return Ok(false),
         }
     }
-    let end = format!(in alloc; "end {entries} {calls}")?;
+    let end = counted.end(alloc)?;
     Ok(
         lines.next() == Some(end.as_bytes())
             && lines.next() == Some(b"".as_slice())
@@ -170,7 +196,10 @@ fn is_cut_short<R: Abort + AllocGlobal>(
 ) -> Result<(), Fail> {
     for n in 0..text.len() {
         let outcome = streamed(rt, &text[..n], form, 1, (None, None), AMPLE)?;
-        assert!(rt; outcome.is_refused(StreamFault::Text(TextFault::CutShort)), "{name}");
+        assert!(rt;
+            outcome.is_refused(StreamFault::Text(TextFault::CutShort)),
+            "{name}"
+        );
     }
     Ok(())
 }

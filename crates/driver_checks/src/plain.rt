@@ -12,34 +12,52 @@ use steps::{StepsText, TextFault};
 /// What a text says, or its first fault.
 pub fn plainly_read(alloc: Global, text: &[u8]) -> Result<StepsText, TextFault> {
     let mut lines = text.split_inclusive(|byte| *byte == b'\n');
-    let first = whole(lines.next().unwrap_or_default())?;
-    let header = match good_header(alloc, first)? {
-        Some(header) => header,
-        None => return Err(TextFault::BadHeader),
+    let header = header_of(alloc, lines.next().unwrap_or_default())?;
+    let mut read = StepsText {
+        header,
+        steps: Vec::new(alloc),
     };
-    let mut steps = Vec::new(alloc);
     let mut has_ended = false;
     for line in lines {
-        let number = (steps.len() as u64).saturating_add(2);
         if has_ended {
-            return Err(TextFault::BadLine(number.saturating_add(1)));
+            return Err(TextFault::BadLine(next_number(&read).saturating_add(1)));
         }
-        let line = whole(line)?;
-        let count = steps.len();
-        let end = format!(in alloc; "end {count}")?;
-        if line == end.as_bytes() {
-            has_ended = true;
-        } else {
-            match good_step(alloc, line, header.seats)? {
-                Some(step) => steps.push(step)?,
-                None => return Err(TextFault::BadLine(number)),
-            }
-        }
+        has_ended = ends_with(alloc, &mut read, line)?;
     }
     if has_ended {
-        Ok(StepsText { header, steps })
+        Ok(read)
     } else {
         Err(TextFault::CutShort)
+    }
+}
+
+/// The header that a first line spells.
+fn header_of(alloc: Global, line: &[u8]) -> Result<Header, TextFault> {
+    match good_header(alloc, whole(line)?)? {
+        Some(header) => Ok(header),
+        None => Err(TextFault::BadHeader),
+    }
+}
+
+/// The number of the line behind those that were read.
+fn next_number(read: &StepsText) -> u64 {
+    (read.steps.len() as u64).saturating_add(2)
+}
+
+/// Reads a line more; whether it is the end line.
+fn ends_with(alloc: Global, read: &mut StepsText, line: &[u8]) -> Result<bool, TextFault> {
+    let line = whole(line)?;
+    let count = read.steps.len();
+    let end = format!(in alloc; "end {count}")?;
+    if line == end.as_bytes() {
+        return Ok(true);
+    }
+    match good_step(alloc, line, read.header.seats)? {
+        Some(step) => {
+            read.steps.push(step)?;
+            Ok(false)
+        }
+        None => Err(TextFault::BadLine(next_number(read))),
     }
 }
 
@@ -69,6 +87,28 @@ fn good_step(alloc: Global, line: &[u8], seats: u16) -> Result<Option<(u16, Step
     Ok((seat < seats && spelt.as_bytes() == line).then_some((seat, step)))
 }
 
+/// The first three numbers among a line's words, from the fourth on.
+fn loose_numbers(line: &str) -> Option<[i64; 3]> {
+    let mut numbers = line
+        .split(' ')
+        .skip(3)
+        .filter_map(|word| word.parse::<i64>().ok());
+    Some([numbers.next()?, numbers.next()?, numbers.next()?])
+}
+
+/// An object and its number of conditions.
+fn loose_object(kind: &str, policy: Policy, opening: i64) -> Option<(Object, u8)> {
+    match kind {
+        "lock" => Some((Object::Lock(policy), u8::try_from(opening).ok()?)),
+        "rw" => Some((Object::ReadWrite(policy), u8::try_from(opening).ok()?)),
+        "semaphore" => Some((Object::Semaphore(policy, i32::try_from(opening).ok()?), 0)),
+        _ => {
+            let count = i32::try_from(opening).ok()?;
+            Some((Object::Latch(u32::try_from(count).ok()?), 0))
+        }
+    }
+}
+
 /// A header of a line's third word and of the numbers among its words.
 fn loose_header(line: &[u8]) -> Option<Header> {
     let line = str::from_utf8(line).ok()?;
@@ -78,26 +118,16 @@ fn loose_header(line: &[u8]) -> Option<Header> {
     } else {
         Policy::NonFair
     };
-    let mut numbers = line
-        .split(' ')
-        .skip(3)
-        .filter_map(|word| word.parse::<i64>().ok());
-    let (seats, opening, cap) = (numbers.next()?, numbers.next()?, numbers.next()?);
-    let (object, conditions) = match kind {
-        "lock" => (Object::Lock(policy), u8::try_from(opening).ok()?),
-        "rw" => (Object::ReadWrite(policy), u8::try_from(opening).ok()?),
-        "semaphore" => (Object::Semaphore(policy, i32::try_from(opening).ok()?), 0),
-        _ => (Object::Latch(u32::try_from(opening).ok()?), 0),
-    };
+    let [seats, opening, cap] = loose_numbers(line)?;
+    let (object, conditions) = loose_object(kind, policy, opening)?;
     let in_range = 1 <= seats && seats <= 256 && conditions <= 16 && 16 <= cap;
-    let few = !matches!(object, Object::Latch(count) if count > 2_147_483_647);
     let header = Header {
         object,
         seats: u16::try_from(seats).ok()?,
         conditions,
         cap: u32::try_from(cap).ok()?,
     };
-    (in_range && few).then_some(header)
+    in_range.then_some(header)
 }
 
 /// The first line of a steps text.
@@ -142,45 +172,70 @@ fn loose_step(line: &[u8]) -> Option<(u16, Step)> {
     let seat = words.next()?.parse::<u16>().ok()?;
     let name = words.next()?;
     let first = words.next().unwrap_or("");
+    let n = words.next().unwrap_or("").parse::<u32>().unwrap_or(0);
+    Some((seat, loose_words(name, first, n)?))
+}
+
+/// The step of this name, with a mode or a condition and with an amount.
+fn loose_words(name: &str, first: &str, n: u32) -> Option<Step> {
     let mode = if first == "x" { Mode::X } else { Mode::S };
     let condition = first.parse::<u8>().unwrap_or(0);
-    let n = words.next().unwrap_or("").parse::<u32>().unwrap_or(0);
-    let step = match name {
-        "acquire" => Step::Acquire(mode, n),
-        "try" => Step::Try(mode, n),
-        "tryfair" => Step::TryFair(mode, n),
-        "entryinterrupt" => Step::EntryInterrupt(mode, n),
-        "give" => Step::Give(mode, n),
-        "look" => Step::Look,
-        "expire" => Step::Expire,
-        "interrupt" => Step::Interrupt,
-        "await" => Step::Await(condition),
-        "signal" => Step::Signal(condition),
-        "signalall" => Step::SignalAll(condition),
-        "drain" => Step::Drain,
-        _ => return None,
-    };
-    Some((seat, step))
+    match name {
+        "acquire" => Some(Step::Acquire(mode, n)),
+        "try" => Some(Step::Try(mode, n)),
+        "tryfair" => Some(Step::TryFair(mode, n)),
+        "entryinterrupt" => Some(Step::EntryInterrupt(mode, n)),
+        "give" => Some(Step::Give(mode, n)),
+        "look" => Some(Step::Look),
+        "expire" => Some(Step::Expire),
+        "interrupt" => Some(Step::Interrupt),
+        "await" => Some(Step::Await(condition)),
+        "signal" => Some(Step::Signal(condition)),
+        "signalall" => Some(Step::SignalAll(condition)),
+        "drain" => Some(Step::Drain),
+        _ => None,
+    }
 }
 
 /// The line of a step.
 fn spelt_step(alloc: Global, seat: u16, step: Step) -> Result<String, AllocError> {
     match step {
-        Step::Acquire(mode, n) => format!(in alloc; "{seat} acquire {} {n}", mode_word(mode)),
-        Step::Try(mode, n) => format!(in alloc; "{seat} try {} {n}", mode_word(mode)),
-        Step::TryFair(mode, n) => format!(in alloc; "{seat} tryfair {} {n}", mode_word(mode)),
-        Step::EntryInterrupt(mode, n) => {
-            format!(in alloc; "{seat} entryinterrupt {} {n}", mode_word(mode))
-        }
-        Step::Give(mode, n) => format!(in alloc; "{seat} give {} {n}", mode_word(mode)),
-        Step::Look => format!(in alloc; "{seat} look"),
-        Step::Expire => format!(in alloc; "{seat} expire"),
-        Step::Interrupt => format!(in alloc; "{seat} interrupt"),
-        Step::Await(condition) => format!(in alloc; "{seat} await {condition}"),
-        Step::Signal(condition) => format!(in alloc; "{seat} signal {condition}"),
-        Step::SignalAll(condition) => format!(in alloc; "{seat} signalall {condition}"),
-        Step::Drain => format!(in alloc; "{seat} drain"),
+        Step::Acquire(mode, n) => spelt_amount(alloc, seat, "acquire", mode, n),
+        Step::Try(mode, n) => spelt_amount(alloc, seat, "try", mode, n),
+        Step::TryFair(mode, n) => spelt_amount(alloc, seat, "tryfair", mode, n),
+        Step::EntryInterrupt(mode, n) => spelt_amount(alloc, seat, "entryinterrupt", mode, n),
+        Step::Give(mode, n) => spelt_amount(alloc, seat, "give", mode, n),
+        Step::Look => spelt_name(alloc, seat, "look"),
+        Step::Expire => spelt_name(alloc, seat, "expire"),
+        Step::Interrupt => spelt_name(alloc, seat, "interrupt"),
+        Step::Await(condition) => spelt_condition(alloc, seat, "await", condition),
+        Step::Signal(condition) => spelt_condition(alloc, seat, "signal", condition),
+        Step::SignalAll(condition) => spelt_condition(alloc, seat, "signalall", condition),
+        Step::Drain => spelt_name(alloc, seat, "drain"),
     }
+}
+
+fn spelt_amount(
+    alloc: Global,
+    seat: u16,
+    name: &str,
+    mode: Mode,
+    n: u32,
+) -> Result<String, AllocError> {
+    format!(in alloc; "{seat} {name} {} {n}", mode_word(mode))
+}
+
+fn spelt_name(alloc: Global, seat: u16, name: &str) -> Result<String, AllocError> {
+    format!(in alloc; "{seat} {name}")
+}
+
+fn spelt_condition(
+    alloc: Global,
+    seat: u16,
+    name: &str,
+    condition: u8,
+) -> Result<String, AllocError> {
+    format!(in alloc; "{seat} {name} {condition}")
 }
 
 fn mode_word(mode: Mode) -> &'static str {

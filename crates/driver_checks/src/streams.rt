@@ -175,7 +175,10 @@ fn is_read_to_the_limit<R: Abort + AllocGlobal>(
 #[test]
 fn reads_numbers_up_to_their_limits(rt: HostRuntime) -> Result<(), Fail> {
     for (part, to_try, to_await) in &LIMITS {
-        assert!(rt; is_read_to_the_limit(&rt, part, to_try, to_await)?, "{part}");
+        assert!(rt;
+            is_read_to_the_limit(&rt, part, to_try, to_await)?,
+            "{part}"
+        );
     }
     Ok(())
 }

@@ -59,11 +59,7 @@ fn text_behind_a_fault<R: AllocGlobal>(rt: &R) -> Result<String, Fail> {
 }
 
 /// What comes of a text where a read fails.
-fn read_failing<R: Abort + AllocGlobal>(
-    rt: &R,
-    text: &[u8],
-    call: u64,
-) -> Result<Outcome, Fail> {
+fn read_failing<R: Abort + AllocGlobal>(rt: &R, text: &[u8], call: u64) -> Result<Outcome, Fail> {
     streamed(rt, text, Form::Replay, 4096, (Some(call), None), AMPLE)
 }
 
