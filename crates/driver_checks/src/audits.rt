@@ -6,7 +6,7 @@ use crate::spoiled::SPOILED;
 use crate::streamed::fail_as_told;
 use audit::verdict::Verdict;
 use driver::audit_stream::audit_stream;
-use examples::{Example, situations};
+use examples::situations;
 use history::fault::Fault;
 use history_text::{read_text, write_text};
 use scarce_memory::all_memory;
@@ -205,50 +205,39 @@ fn audited<R: Abort + AllocGlobal>(
     piece: usize,
     fails_at: (Option<u64>, Option<u64>),
     places: usize,
-) -> Result<Outcome, Fail> {
+) -> Outcome {
     let piece = piece.max(1);
-    let bytes = Vec::from_slice(rt.alloc(), text)?;
+    let bytes = Vec::from_slice(rt.alloc(), text).expect(rt, "memory for a text");
     let mut source = MemorySource::new(bytes, piece, fails_at.0);
-    let mut sink = MemorySink::with_places(rt.alloc(), places, piece, fails_at.1)?;
+    let mut sink = MemorySink::with_places(rt.alloc(), places, piece, fails_at.1).expect(
+        rt,
+        "memory for a sink",
+    );
     let verdict = audit_stream(rt.alloc(), &mut source, &mut sink);
     assert!(rt; fail_as_told(verdict.err(), &source, &sink));
-    let ended = Box::new(rt.alloc(), Ended { verdict, sink })?;
-    Ok(Outcome { ended })
+    let ended = Box::new(rt.alloc(), Ended { verdict, sink }).expect(rt, "memory for a box");
+    Outcome { ended }
 }
 
 /// A history that comes in pieces of any size is legal, and adds up so.
-fn is_legal<R: Abort + AllocGlobal>(
-    rt: &R,
-    history: &str,
-    expected: &str,
-    name: &str,
-) -> Result<(), Fail> {
+fn is_legal<R: Abort + AllocGlobal>(rt: &R, history: &str, expected: &str, name: &str) {
     for piece in [1, 7, 4096] {
-        let audited = audited(rt, history.as_bytes(), piece, (None, None), AMPLE)?;
+        let audited = audited(rt, history.as_bytes(), piece, (None, None), AMPLE);
         assert!(rt;
             audited.is_judged(Verdict::Legal, expected.as_bytes()),
             "{name}"
         );
     }
-    Ok(())
-}
-
-/// The history of an example adds up so.
-fn adds_up<R: Abort + AllocGlobal>(
-    rt: &R,
-    example: &Example,
-    total: &(&str, u64, u64, &str),
-) -> Result<(), Fail> {
-    let (name, entries, calls, totals) = *total;
-    assert!(rt; example.name == name);
-    let expected = format!(in rt.alloc(); "legal\nentries {entries}\ncalls {calls}\n{totals}\n")?;
-    is_legal(rt, example.history, expected.as_str(), name)
 }
 
 #[test]
 fn adds_up_the_history_of_each_example(rt: HostRuntime) -> Result<(), Fail> {
-    for (example, total) in situations().iter().zip(&TOTALS) {
-        adds_up(&rt, example, total)?;
+    for (example, (name, entries, calls, totals)) in situations().iter().zip(&TOTALS) {
+        assert!(rt; example.name == *name);
+        let expected = format!(in rt.alloc();
+            "legal\nentries {entries}\ncalls {calls}\n{totals}\n"
+        )?;
+        is_legal(&rt, example.history, expected.as_str(), name);
     }
     Ok(())
 }
@@ -259,7 +248,7 @@ fn is_not_legal_at<R: Abort + AllocGlobal>(
     history: &str,
     number: u64,
 ) -> Result<bool, Fail> {
-    let audited = audited(rt, history.as_bytes(), 64, (None, None), AMPLE)?;
+    let audited = audited(rt, history.as_bytes(), 64, (None, None), AMPLE);
     let expected = format!(in rt.alloc(); "not legal at {number}\n")?;
     Ok(audited.is_judged(Verdict::NotLegal(number), expected.as_bytes()))
 }
@@ -314,7 +303,7 @@ const FAULTS: [(&str, &str, TextFault); 11] = [
 fn tells_the_first_fault_of_a_history(rt: HostRuntime) -> Result<(), Fail> {
     for (header, lines, fault) in &FAULTS {
         let text = format!(in rt.alloc(); "{header}{lines}")?;
-        let audited = audited(&rt, text.as_bytes(), 9, (None, None), AMPLE)?;
+        let audited = audited(&rt, text.as_bytes(), 9, (None, None), AMPLE);
         assert!(rt;
             audited.has_failed(StreamFault::Text(*fault), b""),
             "{lines}"
@@ -340,29 +329,27 @@ fn entries_past_the_cap(alloc: Global) -> Result<String, AllocError> {
 #[test]
 fn an_entry_at_the_cap_is_a_bad_line(rt: HostRuntime) -> Result<(), Fail> {
     let text = entries_past_the_cap(rt.alloc())?;
-    let audited = audited(&rt, text.as_bytes(), 64, (None, None), AMPLE)?;
+    let audited = audited(&rt, text.as_bytes(), 64, (None, None), AMPLE);
     assert!(rt; audited.has_failed(StreamFault::Text(TextFault::BadLine(18)), b""));
     Ok(())
 }
 
 /// Each text that a history begins with, but the whole of it, is cut short.
-fn is_cut_short<R: Abort + AllocGlobal>(rt: &R, text: &[u8], name: &str) -> Result<(), Fail> {
+fn is_cut_short<R: Abort + AllocGlobal>(rt: &R, text: &[u8], name: &str) {
     for n in 0..text.len() {
-        let audited = audited(rt, &text[..n], 64, (None, None), AMPLE)?;
+        let audited = audited(rt, &text[..n], 64, (None, None), AMPLE);
         assert!(rt;
             audited.has_failed(StreamFault::Text(TextFault::CutShort), b""),
             "{name}"
         );
     }
-    Ok(())
 }
 
 #[test]
-fn each_beginning_of_a_history_is_cut_short(rt: HostRuntime) -> Result<(), Fail> {
+fn each_beginning_of_a_history_is_cut_short(rt: HostRuntime) {
     for example in situations() {
-        is_cut_short(&rt, example.history.as_bytes(), example.name)?;
+        is_cut_short(&rt, example.history.as_bytes(), example.name);
     }
-    Ok(())
 }
 
 /// The text of the history that a text spells, if it spells one.
@@ -411,34 +398,31 @@ fn a_changed_history_is_refused_or_read_as_it_is(rt: HostRuntime) -> Result<(), 
 }
 
 #[test]
-fn each_read_of_an_audit_fails_in_turn(rt: HostRuntime) -> Result<(), Fail> {
+fn each_read_of_an_audit_fails_in_turn(rt: HostRuntime) {
     let reads = TEXT.len().div_ceil(16) as u64 + 1;
     for call in 0..reads {
-        let audited = audited(&rt, TEXT, 16, (Some(call), None), AMPLE)?;
+        let audited = audited(&rt, TEXT, 16, (Some(call), None), AMPLE);
         assert!(rt; audited.has_failed(StreamFault::ReadFailed, b""));
     }
-    let audited = audited(&rt, TEXT, 16, (Some(reads), None), AMPLE)?;
+    let audited = audited(&rt, TEXT, 16, (Some(reads), None), AMPLE);
     assert!(rt; audited.is_judged(Verdict::Legal, ANSWER));
-    Ok(())
 }
 
 #[test]
-fn each_write_of_an_audit_fails_in_turn(rt: HostRuntime) -> Result<(), Fail> {
+fn each_write_of_an_audit_fails_in_turn(rt: HostRuntime) {
     for call in 0..ANSWER.len().div_ceil(16) {
-        let audited = audited(&rt, TEXT, 16, (None, Some(call as u64)), AMPLE)?;
+        let audited = audited(&rt, TEXT, 16, (None, Some(call as u64)), AMPLE);
         let written = &ANSWER[..(16 * call).min(ANSWER.len())];
         assert!(rt; audited.has_failed(StreamFault::WriteFailed, written));
     }
-    Ok(())
 }
 
 #[test]
-fn an_audit_writes_while_places_are_free(rt: HostRuntime) -> Result<(), Fail> {
+fn an_audit_writes_while_places_are_free(rt: HostRuntime) {
     for places in 0..ANSWER.len() {
-        let audited = audited(&rt, TEXT, 10, (None, None), places)?;
+        let audited = audited(&rt, TEXT, 10, (None, None), places);
         assert!(rt; audited.has_failed(StreamFault::WriteFailed, &ANSWER[..places]));
     }
-    Ok(())
 }
 
 /// More blocks than an audit needs.

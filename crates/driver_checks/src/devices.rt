@@ -1,6 +1,6 @@
 //! The readers and writers of std.
 
-use crate::streams::{ANSWER, TEXT};
+use crate::replays::{ANSWER, TEXT};
 use driver::form::Form;
 use driver::replay_stream::replay_stream;
 use std::io;

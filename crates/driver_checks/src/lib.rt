@@ -14,10 +14,10 @@ mod pieces;
 #[cfg(test)]
 mod plain;
 #[cfg(test)]
+mod replays;
+#[cfg(test)]
 mod spoiled;
 #[cfg(test)]
 mod streamed;
-#[cfg(test)]
-mod streams;
 #[cfg(test)]
 mod windows;

@@ -31,7 +31,7 @@ fn written<R: Abort + AllocGlobal>(
     text: &str,
     form: Form,
     fails_at: Option<u64>,
-) -> Result<Outcome, Fail> {
+) -> Outcome {
     streamed(
         rt,
         text.as_bytes(),
@@ -49,22 +49,22 @@ fn length_written<R: Abort + AllocGlobal>(
     form: Form,
     whole: &[u8],
     call: u64,
-) -> Result<usize, Fail> {
-    let part = written(rt, text, form, Some(call))?;
+) -> usize {
+    let part = written(rt, text, form, Some(call));
     assert!(rt; part.has_failed(StreamFault::WriteFailed));
     assert!(rt; whole.starts_with(part.bytes()));
-    Ok(part.bytes().len())
+    part.bytes().len()
 }
 
 /// Each piece in turn isn't written: what was written before is a beginning of the answer, and longer each
 /// time.
 fn each_piece_fails<R: Abort + AllocGlobal>(rt: &R, form: Form) -> Result<(), Fail> {
     let text = many_steps(rt)?;
-    let whole = written(rt, &text, form, None)?;
+    let whole = written(rt, &text, form, None);
     assert!(rt; whole.is_ok() && 65_536 * 3 < whole.bytes().len());
     let mut least = 0;
     for call in 0..4 {
-        let length = length_written(rt, &text, form, whole.bytes(), call)?;
+        let length = length_written(rt, &text, form, whole.bytes(), call);
         assert!(rt; least <= length);
         least = length.saturating_add(1);
     }

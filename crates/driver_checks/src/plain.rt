@@ -12,52 +12,34 @@ use steps::{StepsText, TextFault};
 /// What a text says, or its first fault.
 pub fn plainly_read(alloc: Global, text: &[u8]) -> Result<StepsText, TextFault> {
     let mut lines = text.split_inclusive(|byte| *byte == b'\n');
-    let header = header_of(alloc, lines.next().unwrap_or_default())?;
-    let mut read = StepsText {
-        header,
-        steps: Vec::new(alloc),
+    let first = whole(lines.next().unwrap_or_default())?;
+    let header = match good_header(alloc, first)? {
+        Some(header) => header,
+        None => return Err(TextFault::BadHeader),
     };
+    let mut steps = Vec::new(alloc);
     let mut has_ended = false;
     for line in lines {
+        let number = (steps.len() as u64).saturating_add(2);
         if has_ended {
-            return Err(TextFault::BadLine(next_number(&read).saturating_add(1)));
+            return Err(TextFault::BadLine(number.saturating_add(1)));
         }
-        has_ended = ends_with(alloc, &mut read, line)?;
+        let line = whole(line)?;
+        let count = steps.len();
+        let end = format!(in alloc; "end {count}")?;
+        if line == end.as_bytes() {
+            has_ended = true;
+        } else {
+            match good_step(alloc, line, header.seats)? {
+                Some(step) => steps.push(step)?,
+                None => return Err(TextFault::BadLine(number)),
+            }
+        }
     }
     if has_ended {
-        Ok(read)
+        Ok(StepsText { header, steps })
     } else {
         Err(TextFault::CutShort)
-    }
-}
-
-/// The header that a first line spells.
-fn header_of(alloc: Global, line: &[u8]) -> Result<Header, TextFault> {
-    match good_header(alloc, whole(line)?)? {
-        Some(header) => Ok(header),
-        None => Err(TextFault::BadHeader),
-    }
-}
-
-/// The number of the line behind those that were read.
-fn next_number(read: &StepsText) -> u64 {
-    (read.steps.len() as u64).saturating_add(2)
-}
-
-/// Reads a line more; whether it is the end line.
-fn ends_with(alloc: Global, read: &mut StepsText, line: &[u8]) -> Result<bool, TextFault> {
-    let line = whole(line)?;
-    let count = read.steps.len();
-    let end = format!(in alloc; "end {count}")?;
-    if line == end.as_bytes() {
-        return Ok(true);
-    }
-    match good_step(alloc, line, read.header.seats)? {
-        Some(step) => {
-            read.steps.push(step)?;
-            Ok(false)
-        }
-        None => Err(TextFault::BadLine(next_number(read))),
     }
 }
 
@@ -87,28 +69,6 @@ fn good_step(alloc: Global, line: &[u8], seats: u16) -> Result<Option<(u16, Step
     Ok((seat < seats && spelt.as_bytes() == line).then_some((seat, step)))
 }
 
-/// The first three numbers among a line's words, from the fourth on.
-fn loose_numbers(line: &str) -> Option<[i64; 3]> {
-    let mut numbers = line
-        .split(' ')
-        .skip(3)
-        .filter_map(|word| word.parse::<i64>().ok());
-    Some([numbers.next()?, numbers.next()?, numbers.next()?])
-}
-
-/// An object and its number of conditions.
-fn loose_object(kind: &str, policy: Policy, opening: i64) -> Option<(Object, u8)> {
-    match kind {
-        "lock" => Some((Object::Lock(policy), u8::try_from(opening).ok()?)),
-        "rw" => Some((Object::ReadWrite(policy), u8::try_from(opening).ok()?)),
-        "semaphore" => Some((Object::Semaphore(policy, i32::try_from(opening).ok()?), 0)),
-        _ => {
-            let count = i32::try_from(opening).ok()?;
-            Some((Object::Latch(u32::try_from(count).ok()?), 0))
-        }
-    }
-}
-
 /// A header of a line's third word and of the numbers among its words.
 fn loose_header(line: &[u8]) -> Option<Header> {
     let line = str::from_utf8(line).ok()?;
@@ -118,16 +78,26 @@ fn loose_header(line: &[u8]) -> Option<Header> {
     } else {
         Policy::NonFair
     };
-    let [seats, opening, cap] = loose_numbers(line)?;
-    let (object, conditions) = loose_object(kind, policy, opening)?;
+    let mut numbers = line
+        .split(' ')
+        .skip(3)
+        .filter_map(|word| word.parse::<i64>().ok());
+    let (seats, opening, cap) = (numbers.next()?, numbers.next()?, numbers.next()?);
+    let (object, conditions) = match kind {
+        "lock" => (Object::Lock(policy), u8::try_from(opening).ok()?),
+        "rw" => (Object::ReadWrite(policy), u8::try_from(opening).ok()?),
+        "semaphore" => (Object::Semaphore(policy, i32::try_from(opening).ok()?), 0),
+        _ => (Object::Latch(u32::try_from(opening).ok()?), 0),
+    };
     let in_range = 1 <= seats && seats <= 256 && conditions <= 16 && 16 <= cap;
+    let few = !matches!(object, Object::Latch(count) if count > 2_147_483_647);
     let header = Header {
         object,
         seats: u16::try_from(seats).ok()?,
         conditions,
         cap: u32::try_from(cap).ok()?,
     };
-    in_range.then_some(header)
+    (in_range && few).then_some(header)
 }
 
 /// The first line of a steps text.

@@ -6,7 +6,6 @@ use driver::form::Form;
 use driver::replay_stream::replay_stream;
 use std::marker::Model;
 use std::process::Abort;
-use std::test::Fail;
 use streams::memory_sink::MemorySink;
 use streams::memory_source::MemorySource;
 use streams::sink::Sink;
@@ -70,13 +69,16 @@ pub fn streamed<R: Abort + AllocGlobal>(
     piece: usize,
     fails_at: (Option<u64>, Option<u64>),
     places: usize,
-) -> Result<Outcome, Fail> {
+) -> Outcome {
     let piece = piece.max(1);
-    let bytes = Vec::from_slice(rt.alloc(), text)?;
+    let bytes = Vec::from_slice(rt.alloc(), text).expect(rt, "memory for a text");
     let mut source = MemorySource::new(bytes, piece, fails_at.0);
-    let mut sink = MemorySink::with_places(rt.alloc(), places, piece, fails_at.1)?;
+    let mut sink = MemorySink::with_places(rt.alloc(), places, piece, fails_at.1).expect(
+        rt,
+        "memory for a sink",
+    );
     let answer = replay_stream(rt.alloc(), &mut source, &mut sink, form);
     assert!(rt; fail_as_told(answer.err(), &source, &sink));
-    let ended = Box::new(rt.alloc(), Ended { answer, sink })?;
-    Ok(Outcome { ended })
+    let ended = Box::new(rt.alloc(), Ended { answer, sink }).expect(rt, "memory for a box");
+    Outcome { ended }
 }

@@ -1,7 +1,7 @@
 //! Texts whose lines are longer than what is read at once, and sources that fail behind a fault.
 
+use crate::replays::AMPLE;
 use crate::streamed::{Outcome, streamed};
-use crate::streams::AMPLE;
 use driver::form::Form;
 use line_text::fault::TextFault;
 use std::process::Abort;
@@ -35,7 +35,7 @@ fn is_refused<R: Abort + AllocGlobal>(
         1_000_000,
         (None, None),
         AMPLE,
-    )?;
+    );
     Ok(outcome.is_refused(StreamFault::Text(fault)))
 }
 
@@ -59,7 +59,7 @@ fn text_behind_a_fault<R: AllocGlobal>(rt: &R) -> Result<String, Fail> {
 }
 
 /// What comes of a text where a read fails.
-fn read_failing<R: Abort + AllocGlobal>(rt: &R, text: &[u8], call: u64) -> Result<Outcome, Fail> {
+fn read_failing<R: Abort + AllocGlobal>(rt: &R, text: &[u8], call: u64) -> Outcome {
     streamed(rt, text, Form::Replay, 4096, (Some(call), None), AMPLE)
 }
 
@@ -70,10 +70,10 @@ fn a_read_that_fails_behind_a_fault_is_told(rt: HostRuntime) -> Result<(), Fail>
     let text = text.as_bytes();
     let reads = text.len().div_ceil(4096) as u64 + 1;
     for call in [0, 1, reads - 1] {
-        let outcome = read_failing(&rt, text, call)?;
+        let outcome = read_failing(&rt, text, call);
         assert!(rt; outcome.is_refused(StreamFault::ReadFailed));
     }
-    let outcome = read_failing(&rt, text, reads)?;
+    let outcome = read_failing(&rt, text, reads);
     assert!(rt; outcome.has_failed(StreamFault::Text(TextFault::BadLine(2))));
     Ok(())
 }

@@ -36,32 +36,24 @@ end 3 2\n";
 const FORMS: [(Form, &[u8]); 2] = [(Form::Replay, ANSWER), (Form::History, HISTORY)];
 
 /// A text that comes and goes in pieces of any size is answered so.
-fn is_answered<R: Abort + AllocGlobal>(
-    rt: &R,
-    text: &str,
-    form: Form,
-    expected: &str,
-    name: &str,
-) -> Result<(), Fail> {
+fn is_answered<R: Abort + AllocGlobal>(rt: &R, text: &str, form: Form, expected: &str, name: &str) {
     for piece in [1, 7, 4096] {
-        let outcome = streamed(rt, text.as_bytes(), form, piece, (None, None), AMPLE)?;
+        let outcome = streamed(rt, text.as_bytes(), form, piece, (None, None), AMPLE);
         assert!(rt; outcome.is_answered(expected.as_bytes()), "{name}");
     }
-    Ok(())
 }
 
 #[test]
-fn answers_each_example(rt: HostRuntime) -> Result<(), Fail> {
+fn answers_each_example(rt: HostRuntime) {
     for Example {
         name,
         steps,
         replay,
         history,
     } in situations() {
-        is_answered(&rt, steps, Form::Replay, replay, name)?;
-        is_answered(&rt, steps, Form::History, history, name)?;
+        is_answered(&rt, steps, Form::Replay, replay, name);
+        is_answered(&rt, steps, Form::History, history, name);
     }
-    Ok(())
 }
 
 #[test]
@@ -69,7 +61,7 @@ fn bytes_behind_the_end_are_told(rt: HostRuntime) -> Result<(), Fail> {
     for more in [b"\n".as_slice(), b" ", b"0 look\n", b"end 4\n"] {
         let mut text = Vec::from_slice(rt.alloc(), TEXT)?;
         text.extend_from_slice(more)?;
-        let outcome = streamed(&rt, &text, Form::Replay, 64, (None, None), AMPLE)?;
+        let outcome = streamed(&rt, &text, Form::Replay, 64, (None, None), AMPLE);
         assert!(rt; outcome.is_refused(StreamFault::Text(TextFault::BadLine(7))));
     }
     Ok(())
@@ -95,7 +87,7 @@ fn tells_the_first_fault(rt: HostRuntime) -> Result<(), Fail> {
     let lock = "aqs-steps 1 lock fair seats 1 conditions 0 cap 16\n";
     for (lines, fault) in &FAULTS {
         let text = format!(in rt.alloc(); "{lock}{lines}")?;
-        let outcome = streamed(&rt, text.as_bytes(), Form::History, 9, (None, None), AMPLE)?;
+        let outcome = streamed(&rt, text.as_bytes(), Form::History, 9, (None, None), AMPLE);
         assert!(rt; outcome.is_refused(StreamFault::Text(*fault)), "{lines}");
     }
     Ok(())
@@ -123,12 +115,11 @@ const NO_HEADERS: [&[u8]; 17] = [
 
 /// A first line that is no header is told before it is known whether the text has an end.
 #[test]
-fn tells_a_bad_header(rt: HostRuntime) -> Result<(), Fail> {
+fn tells_a_bad_header(rt: HostRuntime) {
     for header in &NO_HEADERS {
-        let outcome = streamed(&rt, header, Form::Replay, 8, (None, None), AMPLE)?;
+        let outcome = streamed(&rt, header, Form::Replay, 8, (None, None), AMPLE);
         assert!(rt; outcome.is_refused(StreamFault::Text(TextFault::BadHeader)));
     }
-    Ok(())
 }
 
 /// An object part with numbers at their limits, and the faults of a try of too many and of an await.
@@ -168,7 +159,7 @@ fn is_read_to_the_limit<R: Abort + AllocGlobal>(
     let expected = format!(in rt.alloc();
         "aqs-replay 1 {part}\n- 0 {to_try}\n- 0 {to_await}\nend 0 0\n"
     )?;
-    let outcome = streamed(rt, text.as_bytes(), Form::Replay, 64, (None, None), AMPLE)?;
+    let outcome = streamed(rt, text.as_bytes(), Form::Replay, 64, (None, None), AMPLE);
     Ok(outcome.is_answered(expected.as_bytes()))
 }
 
@@ -189,7 +180,7 @@ fn text_streamed<R: Abort + AllocGlobal>(
     form: Form,
     piece: usize,
     fails_at: (Option<u64>, Option<u64>),
-) -> Result<Outcome, Fail> {
+) -> Outcome {
     streamed(rt, TEXT, form, piece, fails_at, AMPLE)
 }
 
@@ -200,25 +191,23 @@ fn each_read_fails<R: Abort + AllocGlobal>(
     expected: &[u8],
     piece: usize,
     reads: u64,
-) -> Result<(), Fail> {
+) {
     for call in 0..reads {
-        let outcome = text_streamed(rt, form, piece, (Some(call), None))?;
+        let outcome = text_streamed(rt, form, piece, (Some(call), None));
         assert!(rt; outcome.is_refused(StreamFault::ReadFailed));
     }
-    let outcome = text_streamed(rt, form, piece, (Some(reads), None))?;
+    let outcome = text_streamed(rt, form, piece, (Some(reads), None));
     assert!(rt; outcome.is_answered(expected));
-    Ok(())
 }
 
 #[test]
-fn each_read_fails_in_turn(rt: HostRuntime) -> Result<(), Fail> {
+fn each_read_fails_in_turn(rt: HostRuntime) {
     for (form, expected) in FORMS {
         for piece in [1, 16] {
             let reads = TEXT.len().div_ceil(piece) as u64 + 1;
-            each_read_fails(&rt, form, expected, piece, reads)?;
+            each_read_fails(&rt, form, expected, piece, reads);
         }
     }
-    Ok(())
 }
 
 /// Each of so many writes fails in turn, behind as many pieces, and there is none behind them.
@@ -228,61 +217,49 @@ fn each_write_fails<R: Abort + AllocGlobal>(
     expected: &[u8],
     piece: usize,
     writes: u64,
-) -> Result<(), Fail> {
+) {
     let mut written = 0;
     for call in 0..writes {
-        let outcome = text_streamed(rt, form, piece, (None, Some(call)))?;
+        let outcome = text_streamed(rt, form, piece, (None, Some(call)));
         assert!(rt; outcome.has_failed(StreamFault::WriteFailed));
         assert!(rt; outcome.bytes() == expected.get(..written).unwrap_or_default());
         written = expected.len().min(written.saturating_add(piece));
     }
-    let outcome = text_streamed(rt, form, piece, (None, Some(writes)))?;
+    let outcome = text_streamed(rt, form, piece, (None, Some(writes)));
     assert!(rt; outcome.is_answered(expected));
-    Ok(())
 }
 
 #[test]
-fn each_write_fails_in_turn(rt: HostRuntime) -> Result<(), Fail> {
+fn each_write_fails_in_turn(rt: HostRuntime) {
     for (form, expected) in FORMS {
         for piece in [1, 16] {
             let writes = expected.len().div_ceil(piece) as u64;
-            each_write_fails(&rt, form, expected, piece, writes)?;
+            each_write_fails(&rt, form, expected, piece, writes);
         }
     }
-    Ok(())
 }
 
 /// `TEXT` in pieces, to a sink of so many places.
-fn text_in_places<R: Abort + AllocGlobal>(
-    rt: &R,
-    form: Form,
-    places: usize,
-) -> Result<Outcome, Fail> {
+fn text_in_places<R: Abort + AllocGlobal>(rt: &R, form: Form, places: usize) -> Outcome {
     streamed(rt, TEXT, form, 10, (None, None), places)
 }
 
 /// What finds too few places is written so far.
-fn is_written_while_places_are_free<R: Abort + AllocGlobal>(
-    rt: &R,
-    form: Form,
-    expected: &[u8],
-) -> Result<(), Fail> {
+fn is_written_while_places_are_free<R: Abort + AllocGlobal>(rt: &R, form: Form, expected: &[u8]) {
     for places in 0..expected.len() {
-        let outcome = text_in_places(rt, form, places)?;
+        let outcome = text_in_places(rt, form, places);
         assert!(rt; outcome.has_failed(StreamFault::WriteFailed));
         assert!(rt; outcome.bytes() == &expected[..places]);
     }
-    let outcome = text_in_places(rt, form, expected.len())?;
+    let outcome = text_in_places(rt, form, expected.len());
     assert!(rt; outcome.is_answered(expected));
-    Ok(())
 }
 
 #[test]
-fn writes_while_places_are_free(rt: HostRuntime) -> Result<(), Fail> {
+fn writes_while_places_are_free(rt: HostRuntime) {
     for (form, expected) in FORMS {
-        is_written_while_places_are_free(&rt, form, expected)?;
+        is_written_while_places_are_free(&rt, form, expected);
     }
-    Ok(())
 }
 
 /// A steps text with as many reads as there may be, and one more.
@@ -320,7 +297,7 @@ fn reads_up_to_the_limit(rt: HostRuntime) -> Result<(), Fail> {
     let (text, expected) = (text.as_bytes(), expected.as_bytes());
     // A pipe gives at most so much at once, and a file more than a read asks for.
     for piece in [4096, 65536, 1_000_000] {
-        let outcome = streamed(&rt, text, Form::Replay, piece, (None, None), expected.len())?;
+        let outcome = streamed(&rt, text, Form::Replay, piece, (None, None), expected.len());
         assert!(rt; outcome.is_answered(expected));
     }
     Ok(())
