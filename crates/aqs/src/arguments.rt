@@ -1,10 +1,12 @@
 //! The command line.
 
-use crate::fault::Fault;
-use clap::{Arg, ArgAction, Command};
+use clap::error::ErrorKind;
+use clap::{Arg, ArgAction, Command, Error};
 use driver::form::Form;
 use std::alloc::Global;
 use std::convert::AsStr;
+use tasks::fault::Fault;
+use tasks::task::Task;
 
 /// What a command line asks for.
 #[derive(Debug, Drop)]
@@ -14,13 +16,12 @@ pub struct Asked {
     pub file: Option<String>,
 }
 
-/// What is done with what is read.
-#[derive(Clone, Copy, Debug, PartialEq, Eq)]
-pub enum Task {
-    /// A steps text is replayed.
-    Replay(Form),
-    /// A history text is audited.
-    Audit,
+/// What the parser's error is to the program.
+fn fault_of(error: Error) -> Fault {
+    match error.kind() {
+        ErrorKind::OutOfMemory => Fault::Memory,
+        _ => Fault::Usage,
+    }
 }
 
 /// What the words of a command line ask for, the program's name first.
@@ -35,7 +36,7 @@ pub fn arguments<S: AsStr>(alloc: Global, words: &[S]) -> Result<Asked, Fault> {
     let command = Command::new(alloc, "aqs")
         .subcommand(replay)?
         .subcommand(audit)?;
-    let matches = command.try_get_matches_from(words)?;
+    let matches = command.try_get_matches_from(words).map_err(fault_of)?;
     let Some((name, asked)) = matches.subcommand() else {
         return Ok(Asked {
             task: Task::Replay(Form::Replay),

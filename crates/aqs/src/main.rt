@@ -7,19 +7,9 @@
 //! writing itself.
 #![tactic(auto)]
 
-ghost use Rattle.std.specs.Prelude.{◌≡◌, false, MatchResult};
-ghost use Rattle.aqs.specs.Fault.{status_of};
-ghost use Rattle.aqs.specs.Perform.{Performs, status_for};
-
 mod arguments;
-mod fault;
 
-use crate::arguments::{Asked, Task, arguments};
-use crate::fault::Fault;
-use audit::verdict::Verdict;
-use driver::audit_stream::audit_stream;
-use driver::replay_stream::replay_stream;
-use std::alloc::Global;
+use crate::arguments::{Asked, arguments};
 use std::convert::AsStr;
 use std::env;
 use std::fs::File;
@@ -27,42 +17,10 @@ use std::io::{self, Read, Write};
 use std::process::ExitCode;
 use std::rt::{Env, Files};
 use streams::device::Device;
-use streams::sink::Sink;
-use streams::source::Source;
 use streams::stream_fault::StreamFault;
-
-/// The exit status behind a verdict.
-fn status_for(verdict: Verdict) -> u8
-    ensures { result ≡ status_for verdict }
-{
-    match verdict {
-        Verdict::Legal => 0,
-        Verdict::NotLegal(_) => 1,
-    }
-}
-
-/// Answers what a source has to a sink, and tells the exit status.
-fn perform<R: Source, W: Sink>(
-    alloc: Global,
-    reader: &mut R,
-    writer: &mut W,
-    task: Task,
-) -> Result<u8, Fault>
-    requires reader { R.failed reader.old ≡ false }
-    requires writer { W.failed writer.old ≡ false }
-    ensures { Performs task (R.left reader.old) (W.held writer.old) (W.held writer.new) result }
-{
-    match task {
-        Task::Replay(form) => match replay_stream(alloc, reader, writer, form) {
-            Ok(()) => Ok(0),
-            Err(fault) => Err(Fault::Stream(fault)),
-        },
-        Task::Audit => match audit_stream(alloc, reader, writer) {
-            Ok(verdict) => Ok(status_for(verdict)),
-            Err(fault) => Err(Fault::Stream(fault)),
-        },
-    }
-}
+use tasks::fault::Fault;
+use tasks::perform::perform;
+use tasks::told::told;
 
 /// Does what the words ask for, with a file's text or else with the input.
 fn run<R: Files + AllocGlobal, S: AsStr, I: Read + Drop, O: Write + Drop>(
@@ -90,19 +48,6 @@ fn words<R: Env + AllocGlobal>(rt: &R) -> Result<Vec<String>, Fault> {
             io::ErrorKind::OutOfMemory => Err(Fault::Memory),
             _ => Err(Fault::Usage),
         },
-    }
-}
-
-/// The exit status, after a fault was told.
-fn told<R: Eprint>(rt: &R, done: Result<u8, Fault>) -> u8
-    ensures { MatchResult done (λ status. result ≡ status) (λ fault. result ≡ status_of fault) }
-{
-    match done {
-        Ok(status) => status,
-        Err(fault) => {
-            let _ = eprintln!(rt; "aqs: {fault}");
-            fault.status()
-        }
     }
 }
 

@@ -1,8 +1,7 @@
 //! Command lines, fault lines and statuses.
 
-use crate::arguments::{Task, arguments};
-use crate::fault::Fault;
-use crate::{run, told};
+use crate::arguments::arguments;
+use crate::run;
 use driver::form::Form;
 use std::cell::RefCell;
 use std::fmt::{Display, Write};
@@ -10,6 +9,9 @@ use std::io;
 use std::test::Fail;
 use steps::TextFault;
 use streams::stream_fault::StreamFault;
+use tasks::fault::Fault;
+use tasks::task::Task;
+use tasks::told::told;
 
 #[test]
 fn asks_for_a_file_or_standard_input(rt: HostRuntime) -> Result<(), Fail> {

@@ -3,7 +3,7 @@
 ghost use Rattle.std.specs.Prelude.{⊤};
 
 use crate::spoiled::SPOILED;
-use crate::streamed::fail_as_told;
+use crate::streamed::{devices, fail_as_told};
 use audit::verdict::Verdict;
 use driver::audit_stream::audit_stream;
 use examples::situations;
@@ -206,13 +206,7 @@ fn audited<R: Abort + AllocGlobal>(
     fails_at: (Option<u64>, Option<u64>),
     places: usize,
 ) -> Outcome {
-    let piece = piece.max(1);
-    let bytes = Vec::from_slice(rt.alloc(), text).expect(rt, "memory for a text");
-    let mut source = MemorySource::new(bytes, piece, fails_at.0);
-    let mut sink = MemorySink::with_places(rt.alloc(), places, piece, fails_at.1).expect(
-        rt,
-        "memory for a sink",
-    );
+    let (mut source, mut sink) = devices(rt, text, piece, fails_at, places);
     let verdict = audit_stream(rt.alloc(), &mut source, &mut sink);
     assert!(rt; fail_as_told(verdict.err(), &source, &sink));
     let ended = Box::new(rt.alloc(), Ended { verdict, sink }).expect(rt, "memory for a box");

@@ -1,6 +1,6 @@
 //! A replay over devices in memory, and what came of it.
 
-ghost use Rattle.std.specs.Prelude.{⊤};
+ghost use Rattle.std.specs.Prelude.{◌≡◌, ⊤, false};
 
 use driver::form::Form;
 use driver::replay_stream::replay_stream;
@@ -55,6 +55,23 @@ impl Outcome {
     }
 }
 
+/// A text that comes in such pieces, and so many places that take as much at a time; a call of each may fail.
+pub fn devices<R: Abort + AllocGlobal>(
+    rt: &R,
+    text: &[u8],
+    piece: usize,
+    fails_at: (Option<u64>, Option<u64>),
+    places: usize,
+) -> (MemorySource, MemorySink)
+    ensures well { (result.0.failed ≡ false) × (result.1.failed ≡ false) }
+{
+    let piece = piece.max(1);
+    let bytes = Vec::from_slice(rt.alloc(), text).expect(rt, "memory for a text");
+    let source = MemorySource::new(bytes, piece, fails_at.0);
+    let sink = MemorySink::with_places(rt.alloc(), places, piece, fails_at.1);
+    (source, sink.expect(rt, "memory for a sink"))
+}
+
 /// Each device has failed exactly where a fault says so.
 pub fn fail_as_told(fault: Option<StreamFault>, source: &MemorySource, sink: &MemorySink) -> bool {
     source.has_failed() == matches!(fault, Some(StreamFault::ReadFailed))
@@ -70,13 +87,7 @@ pub fn streamed<R: Abort + AllocGlobal>(
     fails_at: (Option<u64>, Option<u64>),
     places: usize,
 ) -> Outcome {
-    let piece = piece.max(1);
-    let bytes = Vec::from_slice(rt.alloc(), text).expect(rt, "memory for a text");
-    let mut source = MemorySource::new(bytes, piece, fails_at.0);
-    let mut sink = MemorySink::with_places(rt.alloc(), places, piece, fails_at.1).expect(
-        rt,
-        "memory for a sink",
-    );
+    let (mut source, mut sink) = devices(rt, text, piece, fails_at, places);
     let answer = replay_stream(rt.alloc(), &mut source, &mut sink, form);
     assert!(rt; fail_as_told(answer.err(), &source, &sink));
     let ended = Box::new(rt.alloc(), Ended { answer, sink }).expect(rt, "memory for a box");

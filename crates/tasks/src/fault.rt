@@ -1,11 +1,9 @@
 //! Why the program stopped.
 
 ghost use Rattle.std.specs.Prelude.{◌≡◌};
-ghost use Rattle.aqs.specs.Fault.{status_of};
-ghost use Rattle.aqs.specs.declared.fault.Fault.TheVariants.{Memory};
+ghost use Rattle.tasks.specs.Fault.{status_of};
+ghost use Rattle.tasks.specs.declared.fault.Fault.TheVariants.{Memory, Stream};
 
-use clap::Error;
-use clap::error::ErrorKind;
 use std::alloc::AllocError;
 use streams::stream_fault::StreamFault;
 
@@ -43,11 +41,10 @@ impl From<AllocError> for Fault {
     }
 }
 
-impl From<Error> for Fault {
-    fn from(error: Error) -> Fault {
-        match error.kind() {
-            ErrorKind::OutOfMemory => Fault::Memory,
-            _ => Fault::Usage,
-        }
+impl From<StreamFault> for Fault {
+    ghost from_gives = { λ fault e. e ≡ Stream fault };
+
+    fn from(fault: StreamFault) -> Fault {
+        Fault::Stream(fault)
     }
 }

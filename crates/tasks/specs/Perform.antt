@@ -4,10 +4,10 @@ use Rattle.audit.specs.declared.verdict.Verdict.{Verdict}
 use Rattle.audit.specs.declared.verdict.Verdict.TheVariants.{Legal, NotLegal}
 use Rattle.driver.specs.AuditStream.{Audits}
 use Rattle.driver.specs.ReplayStream.{Replays}
-use Rattle.aqs.specs.declared.arguments.Task.{Task}
-use Rattle.aqs.specs.declared.arguments.Task.TheVariants.{Replay, Audit}
-use Rattle.aqs.specs.declared.fault.Fault.{Fault}
-use Rattle.aqs.specs.declared.fault.Fault.TheVariants.{Usage, Memory, Stream}
+use Rattle.tasks.specs.declared.task.Task.{Task}
+use Rattle.tasks.specs.declared.task.Task.TheVariants.{Replay, Audit}
+use Rattle.tasks.specs.declared.fault.Fault.{Fault}
+use Rattle.tasks.specs.declared.fault.Fault.TheVariants.{Usage, Memory, Stream}
 
 -- a history that isn't legal ends the program with 1
 abbrev pub status_for : Verdict → ℕ

@@ -1,8 +1,8 @@
 -- The exit statuses of faults.
 use Rattle.std.specs.Prelude.{ℕ}
-use Rattle.aqs.specs.declared.fault.Fault.{Fault}
-use Rattle.aqs.specs.declared.fault.Fault.TheVariants.{Usage, Memory, Stream}
-use Rattle.aqs.specs.StreamFault.{stream_status}
+use Rattle.tasks.specs.declared.fault.Fault.{Fault}
+use Rattle.tasks.specs.declared.fault.Fault.TheVariants.{Usage, Memory, Stream}
+use Rattle.tasks.specs.StreamFault.{stream_status}
 
 -- 2 for the command line
 abbrev pub status_of : Fault → ℕ

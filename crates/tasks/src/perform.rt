@@ -1,0 +1,43 @@
+//! A task, from what a source has to what a sink is given.
+
+ghost use Rattle.std.specs.Prelude.{◌≡◌, false};
+ghost use Rattle.tasks.specs.Perform.{Performs, status_for};
+
+use crate::fault::Fault;
+use crate::task::Task;
+use audit::verdict::Verdict;
+use driver::audit_stream::audit_stream;
+use driver::replay_stream::replay_stream;
+use std::alloc::Global;
+use streams::sink::Sink;
+use streams::source::Source;
+
+/// The exit status behind a verdict.
+fn status_for(verdict: Verdict) -> u8
+    ensures { result ≡ status_for verdict }
+{
+    match verdict {
+        Verdict::Legal => 0,
+        Verdict::NotLegal(_) => 1,
+    }
+}
+
+/// Answers what a source has to a sink, and tells the exit status: 0, or 1 for a history that isn't legal.
+pub fn perform<R: Source, W: Sink>(
+    alloc: Global,
+    reader: &mut R,
+    writer: &mut W,
+    task: Task,
+) -> Result<u8, Fault>
+    requires reader { R.failed reader.old ≡ false }
+    requires writer { W.failed writer.old ≡ false }
+    ensures { Performs task (R.left reader.old) (W.held writer.old) (W.held writer.new) result }
+{
+    match task {
+        Task::Replay(form) => {
+            replay_stream(alloc, reader, writer, form)?;
+            Ok(0)
+        }
+        Task::Audit => Ok(status_for(audit_stream(alloc, reader, writer)?)),
+    }
+}

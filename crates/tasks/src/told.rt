@@ -1,0 +1,19 @@
+//! How the program ends.
+
+ghost use Rattle.std.specs.Prelude.{◌≡◌, MatchResult};
+ghost use Rattle.tasks.specs.Fault.{status_of};
+
+use crate::fault::Fault;
+
+/// The exit status, after a fault was told on standard error, in one line.
+pub fn told<R: Eprint>(rt: &R, done: Result<u8, Fault>) -> u8
+    ensures { MatchResult done (λ status. result ≡ status) (λ fault. result ≡ status_of fault) }
+{
+    match done {
+        Ok(status) => status,
+        Err(fault) => {
+            let _ = eprintln!(rt; "aqs: {fault}");
+            fault.status()
+        }
+    }
+}
