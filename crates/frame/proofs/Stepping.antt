@@ -55,6 +55,12 @@ next k h e legal seated is =
       counts = counts_next (opening k) h e m;
     }
 
+-- the same, where the fields stand for the history and a caller sees it
+pub next_seen : {agrees : Counts → Type 0} {queue : Line} {waiters : Sleepers} {table : List Seat} (k : Header) (kept : HistoryView) (e : Entry)
+    (seen : CoreView) → Stands agrees k kept queue waiters table →
+    (let v : CoreView = record { header = k; entries = kept.entries } in v) ≡ seen → IsNext seen e → Next k kept.entries e
+next_seen k kept e seen s q is = next k kept.entries e s.legal s.seated (subst (λ v. IsNext v e) (sym q) is)
+
 -- the table
 pub tabled : (k : Header) (h : List Entry) (table : List Seat) → length table ≡ k.seats →
     ((i : ℕ) → i < k.seats → slice_get table i ≡ Some (seat_of k.object h i)) → (i : ℕ) → i < k.seats →
@@ -103,24 +109,27 @@ shared_next k h e x range legal seated short is =
     ∙ ap (λ (y : Seat). y.shared) (sym (own_seat k h e)) ∙ seat_held k (e ∷ h) e.seat S in
     omega (arith, l, q, c, short)
 
--- The room that an entry needs, by what was owed before.
-pub record Needs (k : Header) (h : List Entry) (e : Entry) (was more less : ℕ) : Type 0 where
-  pub owed : was + more - less ≡ owed (opening k) (e ∷ h)
-  pub within : less ≤ was + more
-  pub none : was_owed k.object e ≡ true → (was + more - less + 1) - was ≡ 0
+-- no more is released than was owed and is reserved
+pub within : (k : Header) (h : List Entry) (e : Entry) (was : ℕ) → Next k h e → was ≡ owed (opening k) h →
+    releases k.object e ≤ was + reserves k.object e
+within k h e was n q = let o = n.owed in omega (arith, o, q)
 
-pub needs : (k : Header) (h : List Entry) (e : Entry) (was more less : ℕ) → Next k h e → was ≡ owed (opening k) h →
-    more ≡ reserves k.object e → less ≡ releases k.object e → Needs k h e was more less
-needs k h e was more less n p q r =
+-- The room that an entry needs, by what was owed before it and is owed behind it.
+pub record Needs (k : Header) (h : List Entry) (e : Entry) (was owes : ℕ) : Type 0 where
+  pub owed : owes ≡ owed (opening k) (e ∷ h)
+  pub none : was_owed k.object e ≡ true → (owes + 1) - was ≡ 0
+
+pub needs : (k : Header) (h : List Entry) (e : Entry) (was owes : ℕ) → Next k h e → was ≡ owed (opening k) h →
+    owes ≡ was + reserves k.object e - releases k.object e → Needs k h e was owes
+needs k h e was owes n p q =
     let o = n.owed in
     record {
-      owed = omega (arith, o, p, q, r);
-      within = omega (arith, o, p, q, r);
+      owed = omega (arith, o, p, q);
       none = λ t.
           let z = owed_releases k.object e.word e.n t in
           let x : reserves k.object e ≡ 0 = z.0 in
           let y : 1 ≤ releases k.object e = z.1 in
-          omega (arith, p, q, r, x, y);
+          omega (arith, p, q, o, x, y);
     }
 
 -- room was asked for, and refused
@@ -128,22 +137,21 @@ asks_more : (m len was places : ℕ) → len + was ≤ places → (len + was + m
 asks_more zero len was places room f = absurd (f (omega (arith, room)))
 asks_more (suc m) len was places room f = omega arith
 
-not_owed : (k : Header) (h : List Entry) (e : Entry) (was more less : ℕ) → Needs k h e was more less →
-    0 < (was + more - less + 1) - was → was_owed k.object e ≡ false
-not_owed k h e was more less n some = by (was_owed k.object e) refl
+not_owed : (k : Header) (h : List Entry) (e : Entry) (was owes : ℕ) → Needs k h e was owes → 0 < (owes + 1) - was → was_owed k.object e ≡ false
+not_owed k h e was owes n some = by (was_owed k.object e) refl
   where
     by : (b : Bool) → was_owed k.object e ≡ b → b ≡ false
     by false t = refl
     by true t = let z = n.none t in absurd (omega (arith, z, some))
 
-pub refused : (k : Header) (e : Entry) (f : Fault) (kept kept' : HistoryView) (was more less needed : ℕ) →
-    Needs k kept.entries e was more less → kept.cap ≡ k.cap → was ≡ kept.owed →
-    length kept.entries + was ≤ kept.places → needed ≡ (was + more - less + 1) - was →
+pub refused : (k : Header) (e : Entry) (f : Fault) (kept kept' : HistoryView) (was owes needed : ℕ) →
+    Needs k kept.entries e was owes → kept.cap ≡ k.cap → was ≡ kept.owed →
+    length kept.entries + was ≤ kept.places → needed ≡ (owes + 1) - was →
     ((◌≡◌ {A = Result (Unit {0}) Fault} (Err f) (Err fault.HistoryFull)) ↔ (kept.cap < length kept.entries + kept.owed + needed)) →
     (f ≡ fault.HistoryFull) ⊎ (f ≡ fault.OutOfMemory) →
     (length kept.entries + kept.owed + needed ≤ kept.places → (◌≡◌ {A = Bool} false true) × (kept' ≡ kept)) → kept' ≡ kept →
     IsAdded (record { header = k; entries = kept.entries }) e (Err f) (record { header = k; entries = kept'.entries })
-refused k e f kept kept' was more less needed n cap is room q full which reserved same = ⊎_elim no_room no_memory which
+refused k e f kept kept' was owes needed n cap is room q full which reserved same = ⊎_elim no_room no_memory which
   where
     v : CoreView
     v = record { header = k; entries = kept.entries }
@@ -154,7 +162,7 @@ refused k e f kept kept' was more less needed n cap is room q full which reserve
     unchanged : w ≡ v
     unchanged = ap (λ (y : HistoryView). (let u : CoreView = record { header = k; entries = y.entries } in u)) same
 
-    some : 0 < (was + more - less + 1) - was
+    some : 0 < (owes + 1) - was
     some =
         asks_more _ (length kept.entries) was kept.places room
         (λ l. let z = (reserved (omega (arith, l, is, q))).0 in false≢true z)
@@ -168,7 +176,7 @@ refused k e f kept kept' was more less needed n cap is room q full which reserve
         let err : Fault → Result (Unit {0}) Fault = λ x. Err x in
         let over = full.0 (ap err p) in
         let here : P fault.HistoryFull =
-        (lt-leb _ _ (omega (arith, is, room, o, over, some, q, cap)), not_owed k kept.entries e was more less n some, unchanged) in
+        (lt-leb _ _ (omega (arith, is, room, o, over, some, q, cap)), not_owed k kept.entries e was owes n some, unchanged) in
         subst P (sym p) here
 
     no_memory : f ≡ fault.OutOfMemory → P f
@@ -181,15 +189,15 @@ refused k e f kept kept' was more less needed n cap is room q full which reserve
         (λ l. l)
         (cases_lt kept.cap (length kept.entries + kept.owed + needed)) in
         let here : P fault.OutOfMemory =
-        (le-leb _ _ (omega (arith, is, room, o, fits, some, q, cap)), not_owed k kept.entries e was more less n some, unchanged) in
+        (le-leb _ _ (omega (arith, is, room, o, fits, some, q, cap)), not_owed k kept.entries e was owes n some, unchanged) in
         subst P (sym p) here
 
 -- room was asked for, and is there
-pub fitted : (k : Header) (e : Entry) (kept mid : HistoryView) (was more less needed : ℕ) →
-    Needs k kept.entries e was more less → was ≡ kept.owed → needed ≡ (was + more - less + 1) - was →
+pub fitted : (k : Header) (e : Entry) (kept mid : HistoryView) (was owes needed : ℕ) →
+    Needs k kept.entries e was owes → was ≡ kept.owed → needed ≡ (owes + 1) - was →
     length mid.entries + mid.owed + needed ≤ mid.cap → mid ≡ record kept { places = mid.places } → kept.cap ≡ k.cap →
-    length kept.entries + 1 + (was + more - less) ≤ k.cap
-fitted k e kept mid was more less needed n is q fits same cap =
+    length kept.entries + 1 + owes ≤ k.cap
+fitted k e kept mid was owes needed n is q fits same cap =
     let a : length mid.entries ≡ length kept.entries = ap (λ (y : HistoryView). length y.entries) same in
     let b : mid.owed ≡ kept.owed = ap (λ (y : HistoryView). y.owed) same in
     let c : mid.cap ≡ kept.cap = ap (λ (y : HistoryView). y.cap) same in
@@ -204,10 +212,10 @@ added kept mid new e o same is = (
   ap (λ (y : HistoryView). y.owed) is,
 )
 
-pub is_added : (k : Header) (e : Entry) (u : Unit {0}) (kept new : HistoryView) (was more less : ℕ) → Needs k kept.entries e was more less →
-    length kept.entries + 1 + (was + more - less) ≤ k.cap → new.entries ≡ e ∷ kept.entries →
+pub is_added : (k : Header) (e : Entry) (u : Unit {0}) (kept new : HistoryView) (was owes : ℕ) → Needs k kept.entries e was owes →
+    length kept.entries + 1 + owes ≤ k.cap → new.entries ≡ e ∷ kept.entries →
     IsAdded (record { header = k; entries = kept.entries }) e (Ok u) (record { header = k; entries = new.entries })
-is_added k e u kept new was more less n fits entries =
+is_added k e u kept new was owes n fits entries =
     let o = n.owed in
     (le-leb _ _ (omega (arith, fits, o)), ap (λ g. (let w : CoreView = record { header = k; entries = g } in w)) entries)
 

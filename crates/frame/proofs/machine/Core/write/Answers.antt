@@ -1,10 +1,9 @@
-use Rattle.std.proofs.Common.{refl, ◌+◌, ◌-◌, ◌≤◌, length, Ok, Err, ◌∙◌, sym, subst, arith}
+use Rattle.std.proofs.Common.{◌≤◌, length, Ok, Err, ◌∙◌, subst, arith}
 use Rattle.history.specs.Counts.{counts}
-use Rattle.history.specs.Room.{releases, reserves}
 use Rattle.history.specs.Start.{opening}
-use Rattle.frame.specs.Core.{CoreView, IsNext, IsAdded}
+use Rattle.frame.specs.Core.{CoreView, IsAdded}
 use Rattle.frame.proofs.Moving.{movable, keeps_next}
-use Rattle.frame.proofs.Stepping.{next, needs, refused, fitted, added, is_added, stands_next, tabled, exclusive_next, shared_next}
+use Rattle.frame.proofs.Stepping.{next_seen, within, needs, refused, fitted, added, is_added, stands_next, tabled, exclusive_next, shared_next}
 use Rattle.frame.proofs.machine.Core.write.Goals as goal
 
 pub owed_behind-owed-requires-clause-owed : goal.owed_behind-owed-requires-clause-owed
@@ -14,14 +13,8 @@ owed_behind-owed-requires-clause-owed g c =
     let h = a.history.entries in
     let e = c.args.entry in
     let s = c.self.invariant in
-    let is : IsNext (record { header = k; entries = h }) e =
-    let P : CoreView → Type 0 = λ w. IsNext w e in subst P (sym c.self.view_is) c.requires in
-    let n = next k h e s.legal s.seated is in
-    let was = c.owed-was_owed.result in
-    let more = reserves k.object e in
-    let less = releases k.object e in
-    let m = needs k h e was more less n (c.owed-was_owed.ensures.value ∙ s.owed) refl refl in
-    m.within
+    let n = next_seen k a.history e _ s c.self.view_is c.requires in
+    within k h e c.owed-was_owed.result n (c.owed-was_owed.ensures.value ∙ s.owed)
 
 pub returns-in-Err : goal.returns-in-Err
 returns-in-Err g c =
@@ -30,18 +23,15 @@ returns-in-Err g c =
     let h = a.history.entries in
     let e = c.args.entry in
     let s = c.self.invariant in
-    let is : IsNext (record { header = k; entries = h }) e =
-    let P : CoreView → Type 0 = λ w. IsNext w e in subst P (sym c.self.view_is) c.requires in
-    let n = next k h e s.legal s.seated is in
+    let n = next_seen k a.history e _ s c.self.view_is c.requires in
     let was = c.owed-was_owed.result in
-    let more = reserves k.object e in
-    let less = releases k.object e in
-    let m = needs k h e was more less n (c.owed-was_owed.ensures.value ∙ s.owed) refl refl in
+    let owes = c.owed_behind-owed.result in
+    let m = needs k h e was owes n (c.owed-was_owed.ensures.value ∙ s.owed) c.owed_behind-owed.ensures in
     let new = c.make_room.new.self in
     let P : CoreView → Type 0 = λ w. IsAdded w e (Err c.in-Err.fault) (record { header = k; entries = new.entries }) in
     subst P c.self.view_is
-    (refused k e c.in-Err.fault a.history new was more less c.saturating_sub-needed.result m s.cap
-    c.owed-was_owed.ensures.value c.owed-was_owed.ensures.reserved (rw c.owed_behind-owed.ensures at c.saturating_sub-needed.ensures)
+    (refused k e c.in-Err.fault a.history new was owes c.saturating_sub-needed.result m s.cap
+    c.owed-was_owed.ensures.value c.owed-was_owed.ensures.reserved c.saturating_sub-needed.ensures
     c.in-Err.ensures.full c.in-Err.ensures.faults c.in-Err.ensures.reserved c.in-Err.ensures.err)
 
 pub change-requires : goal.change-requires
@@ -51,9 +41,7 @@ change-requires g c =
     let h = a.history.entries in
     let e = c.args.entry in
     let s = c.self.invariant in
-    let is : IsNext (record { header = k; entries = h }) e =
-    let P : CoreView → Type 0 = λ w. IsNext w e in subst P (sym c.self.view_is) c.requires in
-    let n = next k h e s.legal s.seated is in
+    let n = next_seen k a.history e _ s c.self.view_is c.requires in
     (counts (opening k) h, s.hooks, n.allowed)
 
 pub move_waiters-requires : goal.move_waiters-requires
@@ -63,9 +51,7 @@ move_waiters-requires g c =
     let h = a.history.entries in
     let e = c.args.entry in
     let s = c.self.invariant in
-    let is : IsNext (record { header = k; entries = h }) e =
-    let P : CoreView → Type 0 = λ w. IsNext w e in subst P (sym c.self.view_is) c.requires in
-    let n = next k h e s.legal s.seated is in
+    let n = next_seen k a.history e _ s c.self.view_is c.requires in
     let short : length h ≤ k.cap = let r = s.room in omega (arith, r) in
     record { movable = movable k h e a.queue a.waiters s.waiting s.range s.legal s.seated short n.seat n.known }
 
@@ -76,9 +62,7 @@ update-requires-clause-exclusive g c =
     let h = a.history.entries in
     let e = c.args.entry in
     let s = c.self.invariant in
-    let is : IsNext (record { header = k; entries = h }) e =
-    let P : CoreView → Type 0 = λ w. IsNext w e in subst P (sym c.self.view_is) c.requires in
-    let n = next k h e s.legal s.seated is in
+    let n = next_seen k a.history e _ s c.self.view_is c.requires in
     exclusive_next k h e _ n.legal n.seated (tabled k h a.seats.items s.seats s.tabled e.seat n.seat)
 
 pub update-requires-clause-shared : goal.update-requires-clause-shared
@@ -88,9 +72,7 @@ update-requires-clause-shared g c =
     let h = a.history.entries in
     let e = c.args.entry in
     let s = c.self.invariant in
-    let is : IsNext (record { header = k; entries = h }) e =
-    let P : CoreView → Type 0 = λ w. IsNext w e in subst P (sym c.self.view_is) c.requires in
-    let n = next k h e s.legal s.seated is in
+    let n = next_seen k a.history e _ s c.self.view_is c.requires in
     let short : length h ≤ k.cap = let r = s.room in omega (arith, r) in
     shared_next k h e _ s.range n.legal n.seated short (tabled k h a.seats.items s.seats s.tabled e.seat n.seat)
 
@@ -101,18 +83,15 @@ invariant_of-self-2 g c =
     let h = a.history.entries in
     let e = c.args.entry in
     let s = c.self.invariant in
-    let is : IsNext (record { header = k; entries = h }) e =
-    let P : CoreView → Type 0 = λ w. IsNext w e in subst P (sym c.self.view_is) c.requires in
-    let n = next k h e s.legal s.seated is in
+    let n = next_seen k a.history e _ s c.self.view_is c.requires in
     let was = c.owed-was_owed.result in
-    let more = reserves k.object e in
-    let less = releases k.object e in
-    let m = needs k h e was more less n (c.owed-was_owed.ensures.value ∙ s.owed) refl refl in
+    let owes = c.owed_behind-owed.result in
+    let m = needs k h e was owes n (c.owed-was_owed.ensures.value ∙ s.owed) c.owed_behind-owed.ensures in
     let mid = c.make_room.new.self in
     let new = c.add.new.self in
-    let fits = fitted k e a.history mid was more less c.saturating_sub-needed.result m c.owed-was_owed.ensures.value
-    (rw c.owed_behind-owed.ensures at c.saturating_sub-needed.ensures) c.in-Ok.ensures.within_cap c.in-Ok.ensures.same s.cap in
-    let grown = added a.history mid new e (was + more - less) c.in-Ok.ensures.same (rw c.owed_behind-owed.ensures at c.add.ensures) in
+    let fits = fitted k e a.history mid was owes c.saturating_sub-needed.result m c.owed-was_owed.ensures.value
+    c.saturating_sub-needed.ensures c.in-Ok.ensures.within_cap c.in-Ok.ensures.same s.cap in
+    let grown = added a.history mid new e owes c.in-Ok.ensures.same c.add.ensures in
     let moved = c.move_waiters.ensures in
     let waiting = keeps_next k h e a.queue c.move_waiters.new.queue a.waiters c.move_waiters.new.waiters s.waiting
     moved.line moved.sleepers moved.joined moved.places moved.beds moved.conditions in
@@ -128,17 +107,14 @@ returns g c =
     let h = a.history.entries in
     let e = c.args.entry in
     let s = c.self.invariant in
-    let is : IsNext (record { header = k; entries = h }) e =
-    let P : CoreView → Type 0 = λ w. IsNext w e in subst P (sym c.self.view_is) c.requires in
-    let n = next k h e s.legal s.seated is in
+    let n = next_seen k a.history e _ s c.self.view_is c.requires in
     let was = c.owed-was_owed.result in
-    let more = reserves k.object e in
-    let less = releases k.object e in
-    let m = needs k h e was more less n (c.owed-was_owed.ensures.value ∙ s.owed) refl refl in
+    let owes = c.owed_behind-owed.result in
+    let m = needs k h e was owes n (c.owed-was_owed.ensures.value ∙ s.owed) c.owed_behind-owed.ensures in
     let mid = c.make_room.new.self in
     let new = c.add.new.self in
-    let fits = fitted k e a.history mid was more less c.saturating_sub-needed.result m c.owed-was_owed.ensures.value
-    (rw c.owed_behind-owed.ensures at c.saturating_sub-needed.ensures) c.in-Ok.ensures.within_cap c.in-Ok.ensures.same s.cap in
-    let grown = added a.history mid new e (was + more - less) c.in-Ok.ensures.same (rw c.owed_behind-owed.ensures at c.add.ensures) in
+    let fits = fitted k e a.history mid was owes c.saturating_sub-needed.result m c.owed-was_owed.ensures.value
+    c.saturating_sub-needed.ensures c.in-Ok.ensures.within_cap c.in-Ok.ensures.same s.cap in
+    let grown = added a.history mid new e owes c.in-Ok.ensures.same c.add.ensures in
     let P : CoreView → Type 0 = λ w. IsAdded w e (Ok tt) (record { header = k; entries = new.entries }) in
-    subst P c.self.view_is (is_added k e tt a.history new was more less m fits grown.0)
+    subst P c.self.view_is (is_added k e tt a.history new was owes m fits grown.0)
