@@ -17,25 +17,30 @@ pub eqb_swap : (i j : ℕ) → eqb i j ≡ eqb j i
 eqb_swap i j = grind (arith, nat_tests)
 
 -- a seat that stands neither first nor behind the first
-absent_behind : (i : ℕ) (a : Arrival) (line : List Arrival) → place_of i (a ∷ line) ≡ None → (eqb a.seat i ≡ false) × (place_of i line ≡ None)
+absent_behind : (i : ℕ) (a : Arrival) (line : List Arrival) → place_of i (a ∷ line) ≡ None →
+    (eqb a.seat i ≡ false) × (place_of i line ≡ None)
 absent_behind i a line p = by (eqb a.seat i) refl p
   where
-    by : (b : Bool) → eqb a.seat i ≡ b → cond b (Some a) (place_of i line) ≡ None → (eqb a.seat i ≡ false) × (place_of i line ≡ None)
+    by : (b : Bool) → eqb a.seat i ≡ b → cond b (Some a) (place_of i line) ≡ None → (eqb a.seat i ≡ false)
+        × (place_of i line ≡ None)
     by true e p = cc
     by false e p = (e, p)
 
 -- who stands where, once a seat stands at the end
-place_of-push_other : (i : ℕ) (a : Arrival) (line : List Arrival) → eqb a.seat i ≡ false → place_of i (line ++ a ∷ []) ≡ place_of i line
+place_of-push_other : (i : ℕ) (a : Arrival) (line : List Arrival) → eqb a.seat i ≡ false →
+    place_of i (line ++ a ∷ []) ≡ place_of i line
 place_of-push_other i a [] e = rw e refl
 place_of-push_other i a (b ∷ line) e = ap (λ r. cond (eqb b.seat i) (Some b) r) (place_of-push_other i a line e)
 
-place_of-push_same : (a : Arrival) (line : List Arrival) → place_of a.seat line ≡ None → place_of a.seat (line ++ a ∷ []) ≡ Some a
+place_of-push_same : (a : Arrival) (line : List Arrival) → place_of a.seat line ≡ None →
+    place_of a.seat (line ++ a ∷ []) ≡ Some a
 place_of-push_same a [] p = rw (eq-eqb a.seat a.seat refl) refl
 place_of-push_same a (b ∷ line) p =
     let q = absent_behind a.seat b line p in
     rw q.0 (place_of-push_same a line q.1)
 
-once-push : (a : Arrival) (line : List Arrival) → StandOnce line → place_of a.seat line ≡ None → StandOnce (line ++ a ∷ [])
+once-push : (a : Arrival) (line : List Arrival) → StandOnce line → place_of a.seat line ≡ None →
+    StandOnce (line ++ a ∷ [])
 once-push a [] once p = (refl, tt)
 once-push a (b ∷ line) once p =
     let q = absent_behind a.seat b line p in
@@ -46,20 +51,25 @@ either true o = refl
 either false o = refl
 
 -- who stands where, once a seat has left
-place_of-left : (s i : ℕ) (line : List Arrival) → place_of i (filter (λ a. not (eqb s a.seat)) line) ≡ cond (eqb s i) None (place_of i line)
+place_of-left : (s i : ℕ) (line : List Arrival) →
+    place_of i (filter (λ a. not (eqb s a.seat)) line) ≡ cond (eqb s i) None (place_of i line)
 place_of-left s i [] = sym (either (eqb s i) None)
 place_of-left s i (a ∷ line) =
-    let ih : place_of i (filter (λ a. not (eqb s a.seat)) line) ≡ cond (eqb s i) None (place_of i line) = place_of-left s i line in
+    let ih : place_of i (filter (λ a. not (eqb s a.seat)) line) ≡ cond (eqb s i) None (place_of i line) =
+    place_of-left s i line in
     ⊎_elim
     (λ e. rw (eq-eqb s a.seat e) (ih ∙ here e (cases_eq s i)))
     (λ n. rw (ne_eqb s a.seat n) (ap (λ r. cond (eqb a.seat i) (Some a) r) ih ∙ there n (cases_eq s i)))
     (cases_eq s a.seat)
   where
-    here : s ≡ a.seat → (s ≡ i) ⊎ (s ≡ i → ⊥) → cond (eqb s i) None (place_of i line) ≡ cond (eqb s i) None (place_of i (a ∷ line))
+    here : s ≡ a.seat → (s ≡ i) ⊎ (s ≡ i → ⊥) →
+        cond (eqb s i) None (place_of i line) ≡ cond (eqb s i) None (place_of i (a ∷ line))
     here e (inl f) = rw (eq-eqb s i f) refl
     here e (inr n) = rw (ne_eqb s i n) (rw (ne_eqb a.seat i (λ f. n (e ∙ f))) refl)
 
-    there : (s ≡ a.seat → ⊥) → (s ≡ i) ⊎ (s ≡ i → ⊥) → cond (eqb a.seat i) (Some a) (cond (eqb s i) None (place_of i line)) ≡ cond (eqb s i) None (place_of i (a ∷ line))
+    there : (s ≡ a.seat → ⊥) → (s ≡ i) ⊎ (s ≡ i → ⊥) →
+        cond (eqb a.seat i) (Some a) (cond (eqb s i) None (place_of i line))
+        ≡ cond (eqb s i) None (place_of i (a ∷ line))
     there m (inl f) = rw (eq-eqb s i f) (rw (ne_eqb a.seat i (λ g. m (f ∙ sym g))) refl)
     there m (inr n) = rw (ne_eqb s i n) refl
 
@@ -71,22 +81,27 @@ once-left s (a ∷ line) once = by (eqb s a.seat) (once-left s line once.1)
     still true = refl
     still false = once.0
 
-    by : (b : Bool) → StandOnce (filter (λ a. not (eqb s a.seat)) line) → StandOnce (cond (not b) (a ∷ filter (λ a. not (eqb s a.seat)) line) (filter (λ a. not (eqb s a.seat)) line))
+    by : (b : Bool) → StandOnce (filter (λ a. not (eqb s a.seat)) line) →
+        StandOnce (cond (not b) (a ∷ filter (λ a. not (eqb s a.seat)) line)
+        (filter (λ a. not (eqb s a.seat)) line))
     by true rest = rest
     by false rest = (place_of-left s a.seat line ∙ still (eqb s a.seat), rest)
 
 -- a seat that doesn't stand in line leaves nothing
-pub left_absent : (s : ℕ) (line : List Arrival) → place_of s line ≡ None → filter (λ a. not (eqb s a.seat)) line ≡ line
+pub left_absent : (s : ℕ) (line : List Arrival) → place_of s line ≡ None →
+    filter (λ a. not (eqb s a.seat)) line ≡ line
 left_absent s [] p = refl
 left_absent s (a ∷ line) p =
     let q = absent_behind s a line p in
     rw (eqb_swap s a.seat ∙ q.0) (ap (λ l. a ∷ l) (left_absent s line q.1))
 
 -- the first leaves the rest
-pub left_first : (line rest : List Arrival) (a : Arrival) → StandOnce line → line ≡ a ∷ rest → filter (λ b. not (eqb a.seat b.seat)) line ≡ rest
+pub left_first : (line rest : List Arrival) (a : Arrival) → StandOnce line → line ≡ a ∷ rest →
+    filter (λ b. not (eqb a.seat b.seat)) line ≡ rest
 left_first line rest a once e =
     let first : StandOnce (a ∷ rest) = subst StandOnce e once in
-    ap (filter (λ b. not (eqb a.seat b.seat))) e ∙ rw (eq-eqb a.seat a.seat refl) (left_absent a.seat rest first.0)
+    ap (filter (λ b. not (eqb a.seat b.seat))) e
+    ∙ rw (eq-eqb a.seat a.seat refl) (left_absent a.seat rest first.0)
 
 -- no more stand in line than there are seats
 distinct_seats : (line : List Arrival) → StandOnce line → IsDistinct eqb (map (λ a. a.seat) line)
@@ -94,39 +109,53 @@ unfolding IsDistinct
 distinct_seats [] once = tt
 distinct_seats (a ∷ line) once = (apart line once.0, distinct_seats line once.1)
   where
-    apart : (l : List Arrival) → place_of a.seat l ≡ None → AllByRecursion (λ y. eqb a.seat y ≡ false) (map (λ b. b.seat) l)
+    apart : (l : List Arrival) → place_of a.seat l ≡ None →
+        AllByRecursion (λ y. eqb a.seat y ≡ false) (map (λ b. b.seat) l)
     apart [] p = tt
     apart (b ∷ l) p = let q = absent_behind a.seat b l p in (eqb_swap a.seat b.seat ∙ q.0, apart l q.1)
 
-stands : (i : ℕ) (line : List Arrival) → list_any (eqb i) (map (λ a. a.seat) line) ≡ true → is_some (place_of i line) ≡ true
+stands : (i : ℕ) (line : List Arrival) → list_any (eqb i) (map (λ a. a.seat) line) ≡ true →
+    is_some (place_of i line) ≡ true
 stands i [] p = cc
 stands i (a ∷ line) p = by (eqb a.seat i) (eqb_swap i a.seat) p (stands i line)
   where
-    by : (b : Bool) → eqb i a.seat ≡ b → (eqb i a.seat || list_any (eqb i) (map (λ a. a.seat) line)) ≡ true → (list_any (eqb i) (map (λ a. a.seat) line) ≡ true → is_some (place_of i line) ≡ true) → is_some (cond b (Some a) (place_of i line)) ≡ true
+    by : (b : Bool) → eqb i a.seat ≡ b →
+        (eqb i a.seat || list_any (eqb i) (map (λ a. a.seat) line)) ≡ true →
+        (list_any (eqb i) (map (λ a. a.seat) line) ≡ true → is_some (place_of i line) ≡ true) →
+        is_some (cond b (Some a) (place_of i line)) ≡ true
     by true e p ih = refl
     by false e p ih = ih (rw e at p)
 
-pub below : (seats room : ℕ) (line : List Arrival) (table : List (Option Arrival)) → IsKept seats room line table → (i : ℕ) → is_some (place_of i line) ≡ true → i < seats
+pub below : (seats room : ℕ) (line : List Arrival) (table : List (Option Arrival)) →
+    IsKept seats room line table → (i : ℕ) → is_some (place_of i line) ≡ true → i < seats
 below seats room line table kept i p = by (cases_lt i seats)
   where
     by : (i < seats) ⊎ (seats ≤ i) → i < seats
     by (inl l) = l
     by (inr l) =
-        let past : place_of i line ≡ None = sym (kept.tabled i) ∙ get_or_past table i None (omega (arith, kept.one_a_seat)) in
+        let past : place_of i line ≡ None = sym (kept.tabled i)
+        ∙ get_or_past table i None (omega (arith, kept.one_a_seat)) in
         let no : is_some (place_of i line) ≡ false = ap is_some past in
         cc
 
-pub length-kept : (seats room : ℕ) (line : List Arrival) (table : List (Option Arrival)) → IsKept seats room line table → length line ≤ seats
+pub length-kept : (seats room : ℕ) (line : List Arrival) (table : List (Option Arrival)) →
+    IsKept seats room line table → length line ≤ seats
 length-kept seats room line table kept =
-    let few = length-le_from_distinct_below (map (λ a. a.seat) line) seats (distinct_seats line kept.once) (λ i p. below seats room line table kept i (stands i line p)) in
+    let few =
+    length-le_from_distinct_below (map (λ a. a.seat) line) seats (distinct_seats line kept.once)
+    (λ i p. below seats room line table kept i (stands i line p)) in
     omega (arith, few, length-map line (λ a. a.seat))
 
-pub first_below : (seats room : ℕ) (line : List Arrival) (table : List (Option Arrival)) (a : Arrival) (rest : List Arrival) → IsKept seats room line table → line ≡ a ∷ rest → a.seat < seats
+pub first_below : (seats room : ℕ) (line : List Arrival) (table : List (Option Arrival)) (a : Arrival)
+    (rest : List Arrival) → IsKept seats room line table → line ≡ a ∷ rest → a.seat < seats
 first_below seats room line table a rest kept e =
-    below seats room line table kept a.seat (ap (λ l. is_some (place_of a.seat l)) e ∙ rw (eq-eqb a.seat a.seat refl) refl)
+    below seats room line table kept a.seat (ap (λ l. is_some (place_of a.seat l)) e
+    ∙ rw (eq-eqb a.seat a.seat refl) refl)
 
 -- the table beside the line after each change
-pub kept_joined : (seats room : ℕ) (line : List Arrival) (table : List (Option Arrival)) (a : Arrival) → IsKept seats room line table → a.seat < seats → place_of a.seat line ≡ None → IsKept seats room (line ++ a ∷ []) (set table a.seat (Some a))
+pub kept_joined : (seats room : ℕ) (line : List Arrival) (table : List (Option Arrival)) (a : Arrival) →
+    IsKept seats room line table → a.seat < seats → place_of a.seat line ≡ None →
+    IsKept seats room (line ++ a ∷ []) (set table a.seat (Some a))
 kept_joined seats room line table a kept low p =
     record {
       once = once-push a line kept.once p;
@@ -136,49 +165,65 @@ kept_joined seats room line table a kept low p =
       few = kept.few;
     }
   where
-    by : (i : ℕ) → (i ≡ a.seat) ⊎ (i ≡ a.seat → ⊥) → get_or (set table a.seat (Some a)) i None ≡ place_of i (line ++ a ∷ [])
-    by i (inl e) = rw e (get_or-set_same table a.seat (Some a) None (omega (arith, kept.one_a_seat)) ∙ sym (place_of-push_same a line p))
-    by i (inr n) = get_or-set_other table a.seat i (Some a) None n ∙ kept.tabled i ∙ sym (place_of-push_other i a line (ne_eqb a.seat i (λ e. n (sym e))))
+    by : (i : ℕ) → (i ≡ a.seat) ⊎ (i ≡ a.seat → ⊥) →
+        get_or (set table a.seat (Some a)) i None ≡ place_of i (line ++ a ∷ [])
+    by i (inl e) =
+        rw e (get_or-set_same table a.seat (Some a) None (omega (arith, kept.one_a_seat))
+        ∙ sym (place_of-push_same a line p))
+    by i (inr n) = get_or-set_other table a.seat i (Some a) None n ∙ kept.tabled i
+        ∙ sym (place_of-push_other i a line (ne_eqb a.seat i (λ e. n (sym e))))
 
-table_left : (seats s i : ℕ) (line : List Arrival) (table : List (Option Arrival)) → length table ≡ seats → s < seats → ((i : ℕ) → get_or table i None ≡ place_of i line) → get_or (set table s None) i None ≡ cond (eqb s i) None (place_of i line)
+table_left : (seats s i : ℕ) (line : List Arrival) (table : List (Option Arrival)) → length table ≡ seats →
+    s < seats → ((i : ℕ) → get_or table i None ≡ place_of i line) →
+    get_or (set table s None) i None ≡ cond (eqb s i) None (place_of i line)
 table_left seats s i line table long low tabled = by (cases_eq i s)
   where
     by : (i ≡ s) ⊎ (i ≡ s → ⊥) → get_or (set table s None) i None ≡ cond (eqb s i) None (place_of i line)
     by (inl e) = rw e (rw (eq-eqb s s refl) (get_or-set_same table s None None (omega (arith, long))))
     by (inr n) = rw (ne_eqb s i (λ e. n (sym e))) (get_or-set_other table s i None None n ∙ tabled i)
 
-pub kept_left : (seats room s : ℕ) (line : List Arrival) (table : List (Option Arrival)) → IsKept seats room line table → s < seats → IsKept seats room (filter (λ a. not (eqb s a.seat)) line) (set table s None)
+pub kept_left : (seats room s : ℕ) (line : List Arrival) (table : List (Option Arrival)) →
+    IsKept seats room line table → s < seats →
+    IsKept seats room (filter (λ a. not (eqb s a.seat)) line) (set table s None)
 kept_left seats room s line table kept low =
     record {
       once = once-left s line kept.once;
-      tabled = λ i. table_left seats s i line table kept.one_a_seat low kept.tabled ∙ sym (place_of-left s i line);
+      tabled = λ i. table_left seats s i line table kept.one_a_seat low kept.tabled
+          ∙ sym (place_of-left s i line);
       one_a_seat = length-set table s None ∙ kept.one_a_seat;
       reserved = kept.reserved;
       few = kept.few;
     }
 
 -- a seat has a position exactly where it stands in line
-found_from : (s k : ℕ) (line : List Arrival) → is_some (position_from (λ a. eqb a.seat s) k line) ≡ is_some (place_of s line)
+found_from : (s k : ℕ) (line : List Arrival) →
+    is_some (position_from (λ a. eqb a.seat s) k line) ≡ is_some (place_of s line)
 found_from s k [] = refl
 found_from s k (a ∷ line) = by (eqb a.seat s) (found_from s (k + 1) line)
   where
-    by : (b : Bool) → is_some (position_from (λ a. eqb a.seat s) (k + 1) line) ≡ is_some (place_of s line) → is_some (cond b (Some k) (position_from (λ a. eqb a.seat s) (k + 1) line)) ≡ is_some (cond b (Some a) (place_of s line))
+    by : (b : Bool) → is_some (position_from (λ a. eqb a.seat s) (k + 1) line) ≡ is_some (place_of s line) →
+        is_some (cond b (Some k) (position_from (λ a. eqb a.seat s) (k + 1) line))
+        ≡ is_some (cond b (Some a) (place_of s line))
     by true ih = refl
     by false ih = ih
 
-pub found : (s : ℕ) (line : List Arrival) → is_some (position (λ a. eqb a.seat s) line) ≡ is_some (place_of s line)
+pub found : (s : ℕ) (line : List Arrival) →
+    is_some (position (λ a. eqb a.seat s) line) ≡ is_some (place_of s line)
 found s line = ap is_some (position_from-zero (λ a. eqb a.seat s) line) ∙ found_from s 0 line
 
-pub found_none : (s : ℕ) (line : List Arrival) → place_of s line ≡ None → position (λ a. eqb a.seat s) line ≡ None
+pub found_none : (s : ℕ) (line : List Arrival) → place_of s line ≡ None →
+    position (λ a. eqb a.seat s) line ≡ None
 found_none s line p = none (position (λ a. eqb a.seat s) line) (found s line ∙ ap is_some p)
   where
     none : (o : Option ℕ) → is_some o ≡ false → o ≡ None
     none None e = refl
     none (Some x) e = cc
 
-pub position_below : (s k seats room : ℕ) (line : List Arrival) (table : List (Option Arrival)) → IsKept seats room line table → position (λ a. eqb a.seat s) line ≡ Some k → k < seats
+pub position_below : (s k seats room : ℕ) (line : List Arrival) (table : List (Option Arrival)) →
+    IsKept seats room line table → position (λ a. eqb a.seat s) line ≡ Some k → k < seats
 position_below s k seats room line table kept p =
-    let first = position-Some (λ a. eqb a.seat s) line k (record { seat = 0; mode = X; n = 0; back = false }) p in
+    let first =
+    position-Some (λ a. eqb a.seat s) line k (record { seat = 0; mode = X; n = 0; back = false }) p in
     omega (arith, first.0, length-kept seats room line table kept)
 
 -- what the test of a look-up tells of the line

@@ -41,8 +41,8 @@ fn refusals<R: Abort + AllocGlobal>(rt: &R, object: Object) -> Result<u32, Fail>
     Err(Fail::from("never opened"))
 }
 
-/// A core opens four tables for its seats, a list of its conditions and a table for each; a read-write lock one more, for
-/// its readers. Each is greater than a piece, so memory ends at one after another.
+/// A core opens four tables for its seats, a list of its conditions and a table for each; a read-write lock
+/// one more, for its readers. Each is greater than a piece, so memory ends at one after another.
 #[test]
 fn a_core_is_opened_whole_or_not_at_all(rt: HostRuntime) -> Result<(), Fail> {
     for (object, tables) in [

@@ -16,7 +16,8 @@ pub has-append : (i : ℕ) (xs ys : List ℕ) → has i (xs ++ ys) ≡ (has i xs
 has-append i [] ys = refl
 has-append i (x ∷ xs) ys = by (eqb x i) (has-append i xs ys)
   where
-    by : (b : Bool) → has i (xs ++ ys) ≡ (has i xs || has i ys) → (b || has i (xs ++ ys)) ≡ ((b || has i xs) || has i ys)
+    by : (b : Bool) → has i (xs ++ ys) ≡ (has i xs || has i ys) →
+        (b || has i (xs ++ ys)) ≡ ((b || has i xs) || has i ys)
     by true ih = refl
     by false ih = ih
 
@@ -28,7 +29,9 @@ has-without s i [] = by (eqb s i)
     by false = refl
 has-without s i (x ∷ xs) = by (cases_eq x s) (cases_eq s i) (has-without s i xs)
   where
-    by : (x ≡ s) ⊎ (x ≡ s → ⊥) → (s ≡ i) ⊎ (s ≡ i → ⊥) → has i (without s xs) ≡ (not (eqb s i) && has i xs) → has i (without s (x ∷ xs)) ≡ (not (eqb s i) && (eqb x i || has i xs))
+    by : (x ≡ s) ⊎ (x ≡ s → ⊥) → (s ≡ i) ⊎ (s ≡ i → ⊥) →
+        has i (without s xs) ≡ (not (eqb s i) && has i xs) →
+        has i (without s (x ∷ xs)) ≡ (not (eqb s i) && (eqb x i || has i xs))
     by (inl e) (inl f) ih = rw (eq-eqb x s e) (ih ∙ rw (eq-eqb s i f) refl)
     by (inl e) (inr m) ih = rw (eq-eqb x s e) (ih ∙ rw (ne_eqb x i (λ f. m (sym e ∙ f))) refl)
     by (inr n) (inl f) ih = rw (ne_eqb x s n) (rw (ne_eqb x i (λ g. n (g ∙ sym f))) ih)
@@ -38,7 +41,8 @@ pub without_absent : (s : ℕ) (xs : List ℕ) → has s xs ≡ false → withou
 without_absent s [] p = refl
 without_absent s (x ∷ xs) p = by (eqb x s) p (without_absent s xs)
   where
-    by : (b : Bool) → (b || has s xs) ≡ false → (has s xs ≡ false → without s xs ≡ xs) → cond (not b) (x ∷ without s xs) (without s xs) ≡ x ∷ xs
+    by : (b : Bool) → (b || has s xs) ≡ false → (has s xs ≡ false → without s xs ≡ xs) →
+        cond (not b) (x ∷ without s xs) (without s xs) ≡ x ∷ xs
     by true p ih = cc
     by false p ih = ap (λ l. x ∷ l) (ih p)
 
@@ -47,7 +51,8 @@ pub once-push : (s : ℕ) (xs : List ℕ) → SleepOnce xs → has s xs ≡ fals
 once-push s [] once p = (refl, tt)
 once-push s (x ∷ xs) once p = by (eqb x s) refl p (once-push s xs once.1)
   where
-    by : (b : Bool) → eqb x s ≡ b → (b || has s xs) ≡ false → (has s xs ≡ false → SleepOnce (xs ++ s ∷ [])) → SleepOnce ((x ∷ xs) ++ s ∷ [])
+    by : (b : Bool) → eqb x s ≡ b → (b || has s xs) ≡ false →
+        (has s xs ≡ false → SleepOnce (xs ++ s ∷ [])) → SleepOnce ((x ∷ xs) ++ s ∷ [])
     by true e p ih = cc
     by false e p ih = (has-append x xs (s ∷ []) ∙ rw once.0 (rw (eqb_swap s x ∙ e) refl), ih p)
 
@@ -92,7 +97,9 @@ distinct_seats (x ∷ xs) once = (apart xs once.0, distinct_seats xs once.1)
     apart [] p = tt
     apart (y ∷ l) p = by (eqb y x) (eqb_swap x y) p (apart l)
       where
-        by : (b : Bool) → eqb x y ≡ b → (b || has x l) ≡ false → (has x l ≡ false → AllByRecursion (λ y. eqb x y ≡ false) l) → AllByRecursion (λ y. eqb x y ≡ false) (y ∷ l)
+        by : (b : Bool) → eqb x y ≡ b → (b || has x l) ≡ false →
+            (has x l ≡ false → AllByRecursion (λ y. eqb x y ≡ false) l) →
+            AllByRecursion (λ y. eqb x y ≡ false) (y ∷ l)
         by true e p rest = cc
         by false e p rest = (e, rest p)
 
@@ -101,32 +108,42 @@ any_has i [] = refl
 any_has i (x ∷ xs) = rw (eqb_swap i x) (ap (λ b. eqb x i || b) (any_has i xs))
 
 pub length-once : (n : ℕ) (xs : List ℕ) → SleepOnce xs → ((i : ℕ) → has i xs ≡ true → i < n) → length xs ≤ n
-length-once n xs once below = length-le_from_distinct_below xs n (distinct_seats xs once) (λ i p. below i (sym (any_has i xs) ∙ p))
+length-once n xs once below =
+    length-le_from_distinct_below xs n (distinct_seats xs once) (λ i p. below i (sym (any_has i xs) ∙ p))
 
 -- one element of a list, and the list once it changed
-pub field_at : {X Y : Type 0} (f : X → Y) (xs : List X) (c : ℕ) (x : X) (y : Y) → c < length xs → x ≡ get_or xs c x → get_or (map f xs) c y ≡ f x
+pub field_at : {X Y : Type 0} (f : X → Y) (xs : List X) (c : ℕ) (x : X) (y : Y) → c < length xs →
+    x ≡ get_or xs c x → get_or (map f xs) c y ≡ f x
 field_at f [] c x y low e = absurd (omega arith)
 field_at f (z ∷ xs) zero x y low e = ap f (sym e)
 field_at f (z ∷ xs) (suc c) x y low e = field_at f xs c x y (omega arith) e
 
-pub at_set : {X : Type 0} (xs : List X) (c d : ℕ) (x y : X) → c < length xs → get_or (set xs c x) d y ≡ cond (eqb c d) x (get_or xs d y)
+pub at_set : {X : Type 0} (xs : List X) (c d : ℕ) (x y : X) → c < length xs →
+    get_or (set xs c x) d y ≡ cond (eqb c d) x (get_or xs d y)
 at_set xs c d x y low = by (cases_eq d c)
   where
     by : (d ≡ c) ⊎ (d ≡ c → ⊥) → get_or (set xs c x) d y ≡ cond (eqb c d) x (get_or xs d y)
     by (inl e) = rw e (rw (eq-eqb c c refl) (get_or-set_same xs c x y low))
     by (inr n) = rw (ne_eqb c d (λ e. n (sym e))) (get_or-set_other xs c d x y n)
 
-pub field_set : {X Y : Type 0} (f : X → Y) (xs : List X) (c d : ℕ) (x : X) (y : Y) → c < length xs → get_or (map f (set xs c x)) d y ≡ cond (eqb c d) (f x) (get_or (map f xs) d y)
+pub field_set : {X Y : Type 0} (f : X → Y) (xs : List X) (c d : ℕ) (x : X) (y : Y) → c < length xs →
+    get_or (map f (set xs c x)) d y ≡ cond (eqb c d) (f x) (get_or (map f xs) d y)
 field_set f xs c d x y low =
     ap (λ l. get_or l d y) (map-set f xs c x) ∙ at_set (map f xs) c d (f x) y (omega (arith, length-map xs f))
 
 -- the lists as contracts see them, where f of one takes its place
 module _ {Z : Type 0} where
-  pub lists_changed : (f : List ℕ → List ℕ) (lists : List (VecDeque ℕ Z)) (seen : ℕ → List ℕ) (c : ℕ) (q p : VecDeque ℕ Z) → ((d : ℕ) → get_or (map deque_items lists) d [] ≡ seen d) → c < length lists → q ≡ get_or lists c q → p.items ≡ f q.items → (d : ℕ) → get_or (map deque_items (set lists c p)) d [] ≡ cond (eqb c d) (f (seen d)) (seen d)
-  lists_changed f lists seen c q p same low is becomes d = field_set deque_items lists c d p [] low ∙ by (cases_eq c d)
+  pub lists_changed : (f : List ℕ → List ℕ) (lists : List (VecDeque ℕ Z)) (seen : ℕ → List ℕ) (c : ℕ)
+      (q p : VecDeque ℕ Z) → ((d : ℕ) → get_or (map deque_items lists) d [] ≡ seen d) → c < length lists →
+      q ≡ get_or lists c q → p.items ≡ f q.items → (d : ℕ) →
+      get_or (map deque_items (set lists c p)) d [] ≡ cond (eqb c d) (f (seen d)) (seen d)
+  lists_changed f lists seen c q p same low is becomes d =
+      field_set deque_items lists c d p [] low ∙ by (cases_eq c d)
     where
-      by : (c ≡ d) ⊎ (c ≡ d → ⊥) → cond (eqb c d) p.items (get_or (map deque_items lists) d []) ≡ cond (eqb c d) (f (seen d)) (seen d)
+      by : (c ≡ d) ⊎ (c ≡ d → ⊥) → cond (eqb c d) p.items (get_or (map deque_items lists) d [])
+          ≡ cond (eqb c d) (f (seen d)) (seen d)
       by (inl e) =
-          let here : q.items ≡ seen d = sym (field_at deque_items lists c q [] low is) ∙ ap (λ k. get_or (map deque_items lists) k []) e ∙ same d in
+          let here : q.items ≡ seen d = sym (field_at deque_items lists c q [] low is)
+          ∙ ap (λ k. get_or (map deque_items lists) k []) e ∙ same d in
           rw (eq-eqb c d e) (becomes ∙ ap f here)
       by (inr n) = rw (ne_eqb c d n) (same d)

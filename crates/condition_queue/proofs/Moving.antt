@@ -46,7 +46,9 @@ nobody_first [] p = refl
 nobody_first (x ∷ xs) p = cc
 
 -- the table, once the first of a list is awake
-pub moved_table : (table : List (Option Sleeper)) (seen : ℕ → Option Sleeper) (s : ℕ) (xs : List ℕ) → ((i : ℕ) → get_or table i None ≡ seen i) → s < length table → s ∷ [] ≡ take 1 xs → (i : ℕ) → get_or (set table s None) i None ≡ cond (has i (take 1 xs)) None (seen i)
+pub moved_table : (table : List (Option Sleeper)) (seen : ℕ → Option Sleeper) (s : ℕ) (xs : List ℕ) →
+    ((i : ℕ) → get_or table i None ≡ seen i) → s < length table → s ∷ [] ≡ take 1 xs → (i : ℕ) →
+    get_or (set table s None) i None ≡ cond (has i (take 1 xs)) None (seen i)
 moved_table table seen s xs same low first i =
     at_set table s i None None low
     ∙ ap (λ o. cond (eqb s i) None o) (same i)
@@ -57,10 +59,12 @@ moved_table table seen s xs same low first i =
     alone false = refl
 
 -- who still sleeps on the condition
-pub left_asleep : (c k : ℕ) (old mid : Sleepers) (before after : Line) → Moves c k old mid before after → asleep_on mid c ≡ drop k (asleep_on old c)
+pub left_asleep : (c k : ℕ) (old mid : Sleepers) (before after : Line) → Moves c k old mid before after →
+    asleep_on mid c ≡ drop k (asleep_on old c)
 left_asleep c k old mid before after moves = moves.lists c ∙ rw (eq-eqb c c refl) refl
 
-one_more : (c k n : ℕ) (old mid new : Sleepers) (before line after : Line) → Moves c k old mid before line → Moves c n mid new line after → k < length (asleep_on old c) → n ≡ 1 → Moves c (k + 1) old new before after
+one_more : (c k n : ℕ) (old mid new : Sleepers) (before line after : Line) → Moves c k old mid before line →
+    Moves c n mid new line after → k < length (asleep_on old c) → n ≡ 1 → Moves c (k + 1) old new before after
 one_more c k n old mid new before line after first next low e =
     record {
       arrivals = arrivals;
@@ -82,12 +86,15 @@ one_more c k n old mid new before line after first next low e =
     arrivals =
         next.arrivals
         ∙ ap (λ l. l ++ map coming_back (take n (asleep_on mid c))) first.arrivals
-        ∙ append_assoc before.arrivals (map coming_back (take k (asleep_on old c))) (map coming_back (take n (asleep_on mid c)))
-        ∙ ap (λ l. before.arrivals ++ l) (sym (map-append coming_back (take k (asleep_on old c)) (take n (asleep_on mid c))))
+        ∙ append_assoc before.arrivals (map coming_back (take k (asleep_on old c)))
+        (map coming_back (take n (asleep_on mid c)))
+        ∙ ap (λ l. before.arrivals ++ l)
+        (sym (map-append coming_back (take k (asleep_on old c)) (take n (asleep_on mid c))))
         ∙ ap (λ l. before.arrivals ++ map coming_back (take k (asleep_on old c) ++ l)) rest
         ∙ ap (λ l. before.arrivals ++ map coming_back l) (sym parts)
 
-    lists : (d : ℕ) → (c ≡ d) ⊎ (c ≡ d → ⊥) → asleep_on new d ≡ cond (eqb c d) (drop (k + 1) (asleep_on old d)) (asleep_on old d)
+    lists : (d : ℕ) → (c ≡ d) ⊎ (c ≡ d → ⊥) →
+        asleep_on new d ≡ cond (eqb c d) (drop (k + 1) (asleep_on old d)) (asleep_on old d)
     lists d (inl f) =
         next.lists d
         ∙ ap (λ l. cond (eqb c d) (drop n l) l) (first.lists d)
@@ -102,25 +109,39 @@ one_more c k n old mid new before line after first next low e =
     two true false o = refl
     two false b o = refl
 
-    sleepers : (i : ℕ) → sleeper_of new i ≡ cond (has i (take (k + 1) (asleep_on old c))) None (sleeper_of old i)
+    sleepers : (i : ℕ) → sleeper_of new i ≡ cond (has i (take (k + 1) (asleep_on old c))) None
+        (sleeper_of old i)
     sleepers i =
         next.sleepers i
         ∙ ap (λ o. cond (has i (take n (asleep_on mid c))) None o) (first.sleepers i)
         ∙ ap (λ l. cond (has i l) None (cond (has i (take k (asleep_on old c))) None (sleeper_of old i))) rest
         ∙ two (has i (take k (asleep_on old c))) (has i (take 1 (drop k (asleep_on old c)))) (sleeper_of old i)
-        ∙ ap (λ b. cond b None (sleeper_of old i)) (sym (has-append i (take k (asleep_on old c)) (take 1 (drop k (asleep_on old c)))) ∙ ap (has i) (sym parts))
+        ∙ ap (λ b. cond b None (sleeper_of old i))
+        (sym (has-append i (take k (asleep_on old c)) (take 1 (drop k (asleep_on old c))))
+        ∙ ap (has i) (sym parts))
 
-pub moves_more : (c k n : ℕ) (old mid new : Sleepers) (before line after : Line) → Moves c k old mid before line → Moves c n mid new line after → k < length (asleep_on old c) → n ≡ at_most_one (length (asleep_on mid c)) → Moves c (k + 1) old new before after
+pub moves_more : (c k n : ℕ) (old mid new : Sleepers) (before line after : Line) →
+    Moves c k old mid before line → Moves c n mid new line after → k < length (asleep_on old c) →
+    n ≡ at_most_one (length (asleep_on mid c)) → Moves c (k + 1) old new before after
 moves_more c k n old mid new before line after first next low e =
-    let some : 0 < length (asleep_on mid c) = omega (arith, low, length-drop k (asleep_on old c), ap length (left_asleep c k old mid before line first)) in
-    one_more c k n old mid new before line after first next low (e ∙ at_most_one_is (length (asleep_on mid c)) some)
+    let some : 0 < length (asleep_on mid c) =
+    omega (
+      arith,
+      low,
+      length-drop k (asleep_on old c),
+      ap length (left_asleep c k old mid before line first),
+    ) in
+    one_more c k n old mid new before line after first next low (e
+    ∙ at_most_one_is (length (asleep_on mid c)) some)
 
 -- those who still sleep aren't in the line, for each sleeps once
-place_of-append : (i : ℕ) (xs ys : List Arrival) → place_of i xs ≡ None → place_of i ys ≡ None → place_of i (xs ++ ys) ≡ None
+place_of-append : (i : ℕ) (xs ys : List Arrival) → place_of i xs ≡ None → place_of i ys ≡ None →
+    place_of i (xs ++ ys) ≡ None
 place_of-append i [] ys p q = q
 place_of-append i (a ∷ xs) ys p q = by (eqb a.seat i) p (λ e. place_of-append i xs ys e q)
   where
-    by : (b : Bool) → cond b (Some a) (place_of i xs) ≡ None → (place_of i xs ≡ None → place_of i (xs ++ ys) ≡ None) → cond b (Some a) (place_of i (xs ++ ys)) ≡ None
+    by : (b : Bool) → cond b (Some a) (place_of i xs) ≡ None →
+        (place_of i xs ≡ None → place_of i (xs ++ ys) ≡ None) → cond b (Some a) (place_of i (xs ++ ys)) ≡ None
     by true p ih = cc
     by false p ih = ih p
 
@@ -128,7 +149,9 @@ place_of-moved : (i : ℕ) (xs : List ℕ) → has i xs ≡ false → place_of i
 place_of-moved i [] p = refl
 place_of-moved i (x ∷ xs) p = by (eqb x i) p (place_of-moved i xs)
   where
-    by : (b : Bool) → (b || has i xs) ≡ false → (has i xs ≡ false → place_of i (map coming_back xs) ≡ None) → cond b (Some (coming_back x)) (place_of i (map coming_back xs)) ≡ None
+    by : (b : Bool) → (b || has i xs) ≡ false →
+        (has i xs ≡ false → place_of i (map coming_back xs) ≡ None) →
+        cond b (Some (coming_back x)) (place_of i (map coming_back xs)) ≡ None
     by true p ih = cc
     by false p ih = ih p
 
@@ -150,8 +173,14 @@ once_apart i (suc k) (x ∷ xs) once p = by (cases_eq x i) (once_apart i k xs on
     by (inl e) ih = let no : false ≡ true = sym once.0 ∙ ap (λ j. has j xs) e ∙ drop_has i k xs p in cc
     by (inr n) ih = rw (ne_eqb x i n) ih
 
-pub still_apart : (c k : ℕ) (old mid : Sleepers) (before line : Line) → Moves c k old mid before line → SleepOnce (asleep_on old c) → ((i : ℕ) → has i (asleep_on old c) ≡ true → place_of i before.arrivals ≡ None) → (i : ℕ) → has i (asleep_on mid c) ≡ true → place_of i line.arrivals ≡ None
+pub still_apart : (c k : ℕ) (old mid : Sleepers) (before line : Line) → Moves c k old mid before line →
+    SleepOnce (asleep_on old c) →
+    ((i : ℕ) → has i (asleep_on old c) ≡ true → place_of i before.arrivals ≡ None) → (i : ℕ) →
+    has i (asleep_on mid c) ≡ true → place_of i line.arrivals ≡ None
 still_apart c k old mid before line moves once apart i p =
-    let q : has i (drop k (asleep_on old c)) ≡ true = ap (has i) (sym (left_asleep c k old mid before line moves)) ∙ p in
+    let q : has i (drop k (asleep_on old c)) ≡ true =
+    ap (has i) (sym (left_asleep c k old mid before line moves)) ∙ p in
     ap (place_of i) moves.arrivals
-    ∙ place_of-append i before.arrivals (map coming_back (take k (asleep_on old c))) (apart i (drop_has i k (asleep_on old c) q)) (place_of-moved i (take k (asleep_on old c)) (once_apart i k (asleep_on old c) once q))
+    ∙ place_of-append i before.arrivals (map coming_back (take k (asleep_on old c)))
+    (apart i (drop_has i k (asleep_on old c) q))
+    (place_of-moved i (take k (asleep_on old c)) (once_apart i k (asleep_on old c) once q))

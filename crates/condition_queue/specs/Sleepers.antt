@@ -29,7 +29,8 @@ SleepOnce [] = Unit {0}
 SleepOnce (i ∷ rest) = (has i rest ≡ false) × SleepOnce rest
 
 -- The lists and the table tell the same, and each condition has a place for each seat.
-pub record IsKept (seats : ℕ) (lists : List (List ℕ)) (rooms : List ℕ) (table : List (Option Sleeper)) : Type 0 where
+pub record IsKept (seats : ℕ) (lists : List (List ℕ)) (rooms : List ℕ)
+    (table : List (Option Sleeper)) : Type 0 where
   pub listed : (c i : ℕ) → has i (slice_index_or lists c []) ≡ sleeps_on c (slice_index_or table i None)
   pub once : (c : ℕ) → SleepOnce (slice_index_or lists c [])
   pub one_a_seat : length table ≡ seats

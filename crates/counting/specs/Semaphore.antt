@@ -22,7 +22,8 @@ semaphore_of s = Semaphore s.policy s.permits
 abbrev pub IsOpened : SemaphoreHooks → ℕ → Type 0
 IsOpened s seats = s.free ≡ s.permits
 
-pub opens_so : (s : SemaphoreHooks) (seats : ℕ) → IsOpened s seats → Stands s (opening_counts (semaphore_of s) seats)
+pub opens_so : (s : SemaphoreHooks) (seats : ℕ) → IsOpened s seats →
+    Stands s (opening_counts (semaphore_of s) seats)
 opens_so s seats opened = record { object = refl; level = sym opened }
 
 pub same_semaphore : (s : SemaphoreHooks) (k : Counts) → Stands s k → k.object ≡ semaphore_of s

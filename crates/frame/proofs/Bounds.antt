@@ -62,10 +62,12 @@ owner_is k i l one = by (owner k) refl
 
 -- what no entry of a legal history begins to hold stays nothing
 abbrev BeginsNothing : Start → Mode → Type 0
-BeginsNothing s m = (h : List Entry) (e : Entry) (w : Word) → Waits s h → KnownBy s h e w → IsAllowed w (counts s h) e →
+BeginsNothing s m = (h : List Entry) (e : Entry) (w : Word) → Waits s h → KnownBy s h e w →
+    IsAllowed w (counts s h) e →
     same_mode e.mode m ≡ true → holds_after s.header.object w e.n 0 ≡ 0
 
-held_nothing : (k : Header) (m : Mode) → BeginsNothing (opening k) m → (h : List Entry) → IsLegal (opening k) h →
+held_nothing : (k : Header) (m : Mode) → BeginsNothing (opening k) m → (h : List Entry) →
+    IsLegal (opening k) h →
     AreSeated (opening k) h → (i : ℕ) → held (opening k) h i m ≡ 0
 held_nothing k m none [] legal seated i = refl
 held_nothing k m none (e ∷ h) legal seated i =
@@ -95,14 +97,21 @@ could_exclusively (ReadWrite p) k i n t c = cc
 could_exclusively (Semaphore p a) k i n t c = cc
 could_exclusively (Latch a) k i n t c = cc
 
-in_exclusive : (k : Counts) (i n : ℕ) (m : Mode) → same_mode m X ≡ true → could k i m n ≡ true → could k i X n ≡ true
+in_exclusive : (k : Counts) (i n : ℕ) (m : Mode) → same_mode m X ≡ true → could k i m n ≡ true →
+    could k i X n ≡ true
 in_exclusive k i n X t c = c
 in_exclusive k i n S t c = cc
 
 no_exclusive : (s : Start) → is_lock s.header.object ≡ false → BeginsNothing s X
-no_exclusive s t h e word.Got v k a m = absurd (could_exclusively s.header.object (counts s h) e.seat e.n t (in_exclusive (counts s h) e.seat e.n e.mode m a.could))
-no_exclusive s t h e word.TryGot v k a m = absurd (could_exclusively s.header.object (counts s h) e.seat e.n t (in_exclusive (counts s h) e.seat e.n e.mode m a.could))
-no_exclusive s t h e word.Granted v k a m = absurd (could_exclusively s.header.object (counts s h) e.seat e.n t (in_exclusive (counts s h) e.seat e.n e.mode m a.could))
+no_exclusive s t h e word.Got v k a m =
+    absurd (could_exclusively s.header.object (counts s h) e.seat e.n t
+    (in_exclusive (counts s h) e.seat e.n e.mode m a.could))
+no_exclusive s t h e word.TryGot v k a m =
+    absurd (could_exclusively s.header.object (counts s h) e.seat e.n t
+    (in_exclusive (counts s h) e.seat e.n e.mode m a.could))
+no_exclusive s t h e word.Granted v k a m =
+    absurd (could_exclusively s.header.object (counts s h) e.seat e.n t
+    (in_exclusive (counts s h) e.seat e.n e.mode m a.could))
 no_exclusive s t h e word.Back v k a m =
     let lock : is_lock s.header.object ≡ true = (comes_back s h v e.seat k.0 k.1 k.2).0.saved.lock in cc
 no_exclusive s t h e word.Drained v k a m =
@@ -155,7 +164,8 @@ pub exclusive_fits : (k : Header) (h : List Entry) → IsLegal (opening k) h →
 exclusive_fits k h legal seated i = by (is_lock k.object) refl
   where
     by : (b : Bool) → is_lock k.object ≡ b → held (opening k) h i X ≤ 2147483647
-    by true t = let l = (owned k h t legal seated).exclusive i in let m = most_fits k.object in omega (arith, l, m)
+    by true t =
+        let l = (owned k h t legal seated).exclusive i in let m = most_fits k.object in omega (arith, l, m)
     by false t = let z = held_nothing k X (no_exclusive (opening k) t) h legal seated i in omega (arith, z)
 
 shared_most : (o : Object) → most_shared o ≤ 65535
@@ -164,7 +174,8 @@ shared_most (ReadWrite p) = omega arith
 shared_most (Semaphore p a) = omega arith
 shared_most (Latch a) = omega arith
 
-pub shared_fits : (k : Header) (h : List Entry) → IsInRange k → IsLegal (opening k) h → AreSeated (opening k) h → (i : ℕ) →
+pub shared_fits : (k : Header) (h : List Entry) → IsInRange k → IsLegal (opening k) h →
+    AreSeated (opening k) h → (i : ℕ) →
     i < k.seats → held (opening k) h i S ≤ 2147483647 * length h + 65535
 shared_fits k h range legal seated i l = by (is_lock k.object) (is_semaphore k.object) refl refl
   where
@@ -174,7 +185,8 @@ shared_fits k h range legal seated i l = by (is_lock k.object) (is_semaphore k.o
     latch (Semaphore p a) t u = cc
     latch (Latch a) t u = refl
 
-    by : (b c : Bool) → is_lock k.object ≡ b → is_semaphore k.object ≡ c → held (opening k) h i S ≤ 2147483647 * length h + 65535
+    by : (b c : Bool) → is_lock k.object ≡ b → is_semaphore k.object ≡ c →
+        held (opening k) h i S ≤ 2147483647 * length h + 65535
     by true c t u =
         let sum = (owned k h t legal seated).shared in
         let part = total_part k.seats (λ j. held (opening k) h j S) i l in
@@ -182,35 +194,42 @@ shared_fits k h range legal seated i l = by (is_lock k.object) (is_semaphore k.o
         omega (arith, sum, part, m)
     by false true t u = let m = held_at_most k h range u legal i S in omega (arith, m)
     by false false t u =
-        let z = held_nothing k S (no_shared (opening k) (latch k.object t u)) h legal seated i in omega (arith, z)
+        let z = held_nothing k S (no_shared (opening k) (latch k.object t u)) h legal seated i in
+        omega (arith, z)
 
 -- the free permits that the hooks of a semaphore count
-level_free : (k : Header) (h : List Entry) (p : Policy) (n : ℤ) → k.object ≡ Semaphore p n → level_of (counts (opening k) h) ≡ free (opening k) h
+level_free : (k : Header) (h : List Entry) (p : Policy) (n : ℤ) → k.object ≡ Semaphore p n →
+    level_of (counts (opening k) h) ≡ free (opening k) h
 level_free k h p n q = ap (λ o. level_by o (counts (opening k) h)) q
 
 wide : (z : ℤ) → FitsSigned w32 z → FitsSigned w64 z
 wide z f = let l = f.sfits in record { sfits = omega (arith, l) }
 
-pub level_most : (k : Header) (h : List Entry) (p : Policy) (n z : ℤ) → IsInRange k → IsLegal (opening k) h → k.object ≡ Semaphore p n →
+pub level_most : (k : Header) (h : List Entry) (p : Policy) (n z : ℤ) → IsInRange k →
+    IsLegal (opening k) h → k.object ≡ Semaphore p n →
     z ≡ level_of (counts (opening k) h) → to_z w64 (of_z w64 z) ≤ℤ pos max_amount
 level_most k h p n z range legal q is =
     let same : z ≡ free (opening k) h = is ∙ level_free k h p n q in
     let t : is_semaphore k.object ≡ true = ap is_semaphore q in
     let fits : FitsSigned w32 z = subst (FitsSigned w32) (sym same) (free_fits k h range t legal) in
-    let most : z ≤ℤ pos max_amount = subst (λ x. x ≤ℤ pos max_amount) (sym same) (free_at_most k h range t legal) in
+    let most : z ≤ℤ pos max_amount =
+    subst (λ x. x ≤ℤ pos max_amount) (sym same) (free_at_most k h range t legal) in
     subst (λ x. x ≤ℤ pos max_amount) (sym (to_z-of_z w64 z (wide z fits))) most
 
 -- whether a test of a table holds somewhere
-any_at : (test : Seat → Bool) (table : List Seat) (i : ℕ) (x : Seat) → slice_get table i ≡ Some x → test x ≡ true →
+any_at : (test : Seat → Bool) (table : List Seat) (i : ℕ) (x : Seat) → slice_get table i ≡ Some x →
+    test x ≡ true →
     list_any test table ≡ true
 any_at test [] i x q t = cc
 any_at test (y ∷ table) zero x q t = let same : y ≡ x = cc in or_left (test y) _ (ap test same ∙ t)
 any_at test (y ∷ table) (suc i) x q t = or_right (test y) _ (any_at test table i x q t)
 
-any_none : (test : Seat → Bool) (table : List Seat) → ((i : ℕ) (x : Seat) → slice_get table i ≡ Some x → test x ≡ false) →
+any_none : (test : Seat → Bool) (table : List Seat) →
+    ((i : ℕ) (x : Seat) → slice_get table i ≡ Some x → test x ≡ false) →
     list_any test table ≡ false
 any_none test [] none = refl
-any_none test (y ∷ table) none = or_from (test y) _ (none 0 y refl) (any_none test table (λ i x q. none (suc i) x q))
+any_none test (y ∷ table) none =
+    or_from (test y) _ (none 0 y refl) (any_none test table (λ i x q. none (suc i) x q))
 
 abbrev pub holds_exclusively : Seat → Bool
 holds_exclusively seat = ltb 0 seat.exclusive
@@ -224,7 +243,8 @@ held_by_any k h table n all = by (owner (counts (opening k) h)) refl
     by : (o : Option ℕ) → owner (counts (opening k) h) ≡ o → list_any holds_exclusively table ≡ is_some o
     by (Some o) q =
         let owns = owner_holds (counts (opening k) h) o q in
-        let l : 0 < (seat_of k.object h o).exclusive = let e = seat_held k h o X in let p = owns.1 in omega (arith, e, p) in
+        let l : 0 < (seat_of k.object h o).exclusive = let e = seat_held k h o X in let p = owns.1 in
+        omega (arith, e, p) in
         any_at holds_exclusively table o (seat_of k.object h o) (all o owns.0) (lt-ltb 0 _ l)
     by None q =
         any_none holds_exclusively table (λ i x at.

@@ -35,7 +35,8 @@ counts_with s h e w =
     record {
       object = s.header.object;
       seats = s.header.seats;
-      held = λ i m. cond (eqb e.seat i && same_mode e.mode m) (holds_after s.header.object w e.n (held s h i m)) (held s h i m);
+      held = λ i m. cond (eqb e.seat i && same_mode e.mode m)
+          (holds_after s.header.object w e.n (held s h i m)) (held s h i m);
       free = free_after w e.n (free s h);
       count = opening_count s.header.object - counted_after w (counted s h);
     }
@@ -45,19 +46,23 @@ same_counts : (s : Start) (h : List Entry) (e : Entry) (w : Word) →
     ((x : ℕ) → holds_after s.header.object w e.n x ≡ x) → free_after w e.n (free s h) ≡ free s h →
     counted_after w (counted s h) ≡ counted s h → counts_with s h e w ≡ counts s h
 same_counts s h e w holds permits count =
-    let f : (counts_with s h e w).held ≡ held s h = fun_ext (λ i. fun_ext (λ m. either_way _ _ _ (holds (held s h i m)))) in
-    let c : opening_count s.header.object - counted_after w (counted s h) ≡ opening_count s.header.object - counted s h =
+    let f : (counts_with s h e w).held ≡ held s h =
+    fun_ext (λ i. fun_ext (λ m. either_way _ _ _ (holds (held s h i m)))) in
+    let c : opening_count s.header.object - counted_after w (counted s h) ≡ opening_count s.header.object
+    - counted s h =
     ap (λ x. opening_count s.header.object - x) count in
     λ i. record { object = s.header.object; seats = s.header.seats; held = f i; free = permits i; count = c i }
 
 -- a give of anything but a latch, and of a latch
-gives_back : (o : Object) (k : Counts) (i : ℕ) (m : Mode) (n : ℕ) → gave o k i m n ≡ word.Gave → given_of o k i m n ≡ gave_back k i m n
+gives_back : (o : Object) (k : Counts) (i : ℕ) (m : Mode) (n : ℕ) → gave o k i m n ≡ word.Gave →
+    given_of o k i m n ≡ gave_back k i m n
 gives_back (Lock p) k i m n t = refl
 gives_back (ReadWrite p) k i m n t = refl
 gives_back (Semaphore p c) k i m n t = refl
 gives_back (Latch c) k i m n t = cc
 
-counts_down : (o : Object) (k : Counts) (i : ℕ) (m : Mode) (n : ℕ) → is_latch o ≡ true → given_of o k i m n ≡ counted_down k
+counts_down : (o : Object) (k : Counts) (i : ℕ) (m : Mode) (n : ℕ) → is_latch o ≡ true →
+    given_of o k i m n ≡ counted_down k
 counts_down (Lock p) k i m n t = cc
 counts_down (ReadWrite p) k i m n t = cc
 counts_down (Semaphore p c) k i m n t = cc
@@ -66,23 +71,36 @@ counts_down (Latch c) k i m n t = refl
 one_less : (a b : ℕ) → a - (b + 1) ≡ a - b - 1
 one_less a b = omega arith
 
-counted_counts : (s : Start) (h : List Entry) (e : Entry) → counts_with s h e word.Counted ≡ counted_down (counts s h)
+counted_counts : (s : Start) (h : List Entry) (e : Entry) →
+    counts_with s h e word.Counted ≡ counted_down (counts s h)
 counted_counts s h e =
-    let f : (counts_with s h e word.Counted).held ≡ held s h = fun_ext (λ i. fun_ext (λ m. either_way _ _ _ refl)) in
+    let f : (counts_with s h e word.Counted).held ≡ held s h =
+    fun_ext (λ i. fun_ext (λ m. either_way _ _ _ refl)) in
     let c = one_less (opening_count s.header.object) (counted s h) in
     λ i. record { object = s.header.object; seats = s.header.seats; held = f i; free = free s h; count = c i }
 
 -- the counts by the mode of the entry
 in_mode : (s : Start) (h : List Entry) (e : Entry) (w : Word) (m : Mode) → e.mode ≡ m →
-    counts_with s h e w ≡ counts_with s h (record { seat = e.seat; word = e.word; mode = m; n = e.n; at = e.at; end = e.end }) w
-in_mode s h e w m p = ap (λ x. counts_with s h (record { seat = e.seat; word = e.word; mode = x; n = e.n; at = e.at; end = e.end }) w) p
+    counts_with s h e w ≡ counts_with s h
+    (record { seat = e.seat; word = e.word; mode = m; n = e.n; at = e.at; end = e.end }) w
+in_mode s h e w m p =
+    ap (λ x. counts_with s h (record {
+      seat = e.seat;
+      word = e.word;
+      mode = x;
+      n = e.n;
+      at = e.at;
+      end = e.end;
+    }) w) p
 
-counts_by : (s : Start) (h : List Entry) (e : Entry) (w : Word) → KnownBy s h e w → counts_with s h e w ≡ counts_after w (counts s h) e
+counts_by : (s : Start) (h : List Entry) (e : Entry) (w : Word) → KnownBy s h e w →
+    counts_with s h e w ≡ counts_after w (counts s h) e
 counts_by s h e word.Got k = refl
 counts_by s h e word.TryGot k = refl
 counts_by s h e word.Granted k = refl
 counts_by s h e word.Gave k = sym (gives_back s.header.object (counts s h) e.seat e.mode e.n k.1)
-counts_by s h e word.Counted k = counted_counts s h e ∙ sym (counts_down s.header.object (counts s h) e.seat e.mode e.n k.1)
+counts_by s h e word.Counted k =
+    counted_counts s h e ∙ sym (counts_down s.header.object (counts s h) e.seat e.mode e.n k.1)
 counts_by s h e word.Await k = in_mode s h e word.Await X k.0.mode
 counts_by s h e word.Back k = in_mode s h e word.Back X (ap (λ (x : Entry). x.mode) k.4)
 counts_by s h e word.Drained k = in_mode s h e word.Drained S (ap (λ (x : Entry). x.mode) k.2)
@@ -94,24 +112,28 @@ counts_by s h e word.Lapse k = same_counts s h e word.Lapse (λ x. refl) refl re
 counts_by s h e word.Signal k = same_counts s h e word.Signal (λ x. refl) refl refl
 counts_by s h e word.SignalAll k = same_counts s h e word.SignalAll (λ x. refl) refl refl
 
-pub counts_next : (s : Start) (h : List Entry) (e : Entry) → Known s h e → counts s (e ∷ h) ≡ counts_after e.word (counts s h) e
+pub counts_next : (s : Start) (h : List Entry) (e : Entry) → Known s h e →
+    counts s (e ∷ h) ≡ counts_after e.word (counts s h) e
 counts_next s h e k = counts_by s h e e.word k
 
 -- that the hooks can do it
-counts_allowed : (o : Object) (k : Counts) (i : ℕ) (m : Mode) (n : ℕ) → is_latch o ≡ true → gave o k i m n ≡ word.Counted
+counts_allowed : (o : Object) (k : Counts) (i : ℕ) (m : Mode) (n : ℕ) → is_latch o ≡ true →
+    gave o k i m n ≡ word.Counted
 counts_allowed (Lock p) k i m n t = cc
 counts_allowed (ReadWrite p) k i m n t = cc
 counts_allowed (Semaphore p c) k i m n t = cc
 counts_allowed (Latch c) k i m n t = refl
 
-let_go_allowed : (k : Counts) (i n : ℕ) → is_lock k.object ≡ true → owner k ≡ Some i → k.held i S ≡ 0 → n ≡ k.held i X →
+let_go_allowed : (k : Counts) (i n : ℕ) → is_lock k.object ≡ true → owner k ≡ Some i → k.held i S ≡ 0 →
+    n ≡ k.held i X →
     let_go_answer k i ≡ Ok n
 let_go_allowed k i n lock owns reads is =
     by (is_lock k.object) (is_seat (owner k) i) (ltb 0 (k.held i S)) lock
     (ap (λ o. is_seat o i) owns ∙ eq-eqb i i refl) (ap (ltb 0) reads)
   where
     by : (a b c : Bool) → a ≡ true → b ≡ true → c ≡ false →
-        cond (not a) (Err fault.NotOwner) (cond (not b) (Err fault.NotOwner) (cond c (Err fault.HoldsRead) (Ok (k.held i X)))) ≡ Ok n
+        cond (not a) (Err fault.NotOwner)
+        (cond (not b) (Err fault.NotOwner) (cond c (Err fault.HoldsRead) (Ok (k.held i X)))) ≡ Ok n
     by true true false p q r = let ok : ℕ → Result ℕ Fault = λ x. Ok x in ap ok (sym is)
     by true true true p q r = cc
     by true false c p q r = cc
@@ -130,14 +152,16 @@ most_is (Semaphore p c) = refl
 most_is (Latch c) = refl
 
 granted_allowed : (s : Start) (h : List Entry) (e : Entry) (a : Arrival) (w : Word) → e.seat < s.header.seats →
-    place_of e.seat (line s h) ≡ Some a → e ≡ ended e.seat w a e.end → could (counts s h) e.seat a.mode a.n ≡ true →
+    place_of e.seat (line s h) ≡ Some a → e ≡ ended e.seat w a e.end →
+    could (counts s h) e.seat a.mode a.n ≡ true →
     IsTakeable (counts s h) e
 granted_allowed s h e a w seat stands is goes =
     let m : a.mode ≡ e.mode = sym (ap (λ (x : Entry). x.mode) is) in
     let n : a.n ≡ e.n = sym (ap (λ (x : Entry). x.n) is) in
     record {
       seat = seat;
-      could = subst (λ y. could (counts s h) e.seat e.mode y ≡ true) n (subst (λ y. could (counts s h) e.seat y a.n ≡ true) m goes);
+      could = subst (λ y. could (counts s h) e.seat e.mode y ≡ true) n
+          (subst (λ y. could (counts s h) e.seat y a.n ≡ true) m goes);
     }
 
 -- what a seat saved, and that it holds nothing
@@ -151,9 +175,16 @@ back_allowed : (s : Start) (h : List Entry) (e : Entry) (a : Arrival) → Waits 
     e ≡ back s h e.seat → IsRestorable (counts s h) e.seat e.n
 back_allowed s h e a v seat stands returns goes is =
     let comes = comes_back s h v e.seat a stands returns in
-    let saved = subst (λ j. Saves s h j) comes.1 (record { some = comes.0.saved.some; most = comes.0.saved.most; none_held = comes.0.saved.nothing X }) in
+    let saved =
+    subst (λ j. Saves s h j) comes.1
+    (record {
+      some = comes.0.saved.some;
+      most = comes.0.saved.most;
+      none_held = comes.0.saved.nothing X;
+    }) in
     let n : (last_sleep s h e.seat).holds ≡ e.n = sym (ap (λ (x : Entry). x.n) is) in
-    let x : could (counts s h) e.seat X a.n ≡ true = subst (λ y. could (counts s h) e.seat y a.n ≡ true) comes.0.mode goes in
+    let x : could (counts s h) e.seat X a.n ≡ true =
+    subst (λ y. could (counts s h) e.seat y a.n ≡ true) comes.0.mode goes in
     let limit = most_is s.header.object in
     record {
       seat = seat;
@@ -163,7 +194,8 @@ back_allowed s h e a v seat stands returns goes is =
       most = let l = saved.most in omega (arith, l, n, limit);
     }
 
-allowed_by : (s : Start) (h : List Entry) (e : Entry) (w : Word) → Waits s h → e.seat < s.header.seats → e.word ≡ w →
+allowed_by : (s : Start) (h : List Entry) (e : Entry) (w : Word) → Waits s h → e.seat < s.header.seats →
+    e.word ≡ w →
     KnownBy s h e w → IsAllowed w (counts s h) e
 allowed_by s h e word.Got v seat p k = record { seat = seat; could = k.1 }
 allowed_by s h e word.TryGot v seat p k = record { seat = seat; could = k.1 }

@@ -43,7 +43,8 @@ sleeps_is s h i w (Some x) v lists listed =
     let t : has i (sleepers s h x.condition) ≡ true =
     ap (has i) (sym (lists x.condition)) ∙ listed x.condition ∙ eq-eqb x.condition x.condition refl in
     let on = v.sleepers x.condition i t in
-    let below : x.condition < s.header.conditions = let l = on.saved.condition in let d = on.condition in omega (arith, l, d) in
+    let below : x.condition < s.header.conditions = let l = on.saved.condition in let d = on.condition in
+    omega (arith, l, d) in
     sym (sleeps_there s.header.conditions s h i x.condition below t)
 
 -- the entry that a step makes may be added now

@@ -29,10 +29,14 @@ use Rattle.frame.specs.Waiting.{line_behind, IsMovable, IsMovableBy, MayJoin, Ma
 -- the line
 line_by : (s : Start) (h : List Entry) (e : Entry) (w : Word) →
     filter (stays w e.seat) (line s h) ++ arrivals_by s w e h ≡ line_behind w e (line s h) (sleepers s h e.at)
-line_by s h e word.Queued = ap (λ l. l ++ arrivals_by s word.Queued e h) (all_stay word.Queued e.seat (line s h) refl)
-line_by s h e word.Lapse = ap (λ l. l ++ arrivals_by s word.Lapse e h) (all_stay word.Lapse e.seat (line s h) refl)
-line_by s h e word.Signal = ap (λ l. l ++ arrivals_by s word.Signal e h) (all_stay word.Signal e.seat (line s h) refl)
-line_by s h e word.SignalAll = ap (λ l. l ++ arrivals_by s word.SignalAll e h) (all_stay word.SignalAll e.seat (line s h) refl)
+line_by s h e word.Queued =
+    ap (λ l. l ++ arrivals_by s word.Queued e h) (all_stay word.Queued e.seat (line s h) refl)
+line_by s h e word.Lapse =
+    ap (λ l. l ++ arrivals_by s word.Lapse e h) (all_stay word.Lapse e.seat (line s h) refl)
+line_by s h e word.Signal =
+    ap (λ l. l ++ arrivals_by s word.Signal e h) (all_stay word.Signal e.seat (line s h) refl)
+line_by s h e word.SignalAll =
+    ap (λ l. l ++ arrivals_by s word.SignalAll e h) (all_stay word.SignalAll e.seat (line s h) refl)
 line_by s h e word.Granted = append-nil _
 line_by s h e word.Left = append-nil _
 line_by s h e word.Back = append-nil _
@@ -50,7 +54,8 @@ pub line_next : (s : Start) (h : List Entry) (e : Entry) →
 line_next s h e = line_after s e h ∙ line_by s h e e.word
 
 -- who waits nowhere sleeps nowhere, on no condition that there is or isn't
-awake_everywhere : (s : Start) (h : List Entry) (i : ℕ) → Waits s h → sleeps_below s.header.conditions s h i ≡ false →
+awake_everywhere : (s : Start) (h : List Entry) (i : ℕ) → Waits s h →
+    sleeps_below s.header.conditions s h i ≡ false →
     (c : ℕ) → has i (sleepers s h c) ≡ false
 awake_everywhere s h i v t c = by (has i (sleepers s h c)) refl
   where
@@ -58,12 +63,14 @@ awake_everywhere s h i v t c = by (has i (sleepers s h c)) refl
     by false p = refl
     by true p =
         let on = v.sleepers c i p in
-        let below : c < s.header.conditions = let l = on.saved.condition in let d = on.condition in omega (arith, l, d) in
+        let below : c < s.header.conditions = let l = on.saved.condition in let d = on.condition in
+        omega (arith, l, d) in
         let sleeps = sleeps_there s.header.conditions s h i c below p in
         cc
 
 -- the sleepers of a condition are among all sleepers
-asleep_part : (n : ℕ) (s : Start) (h : List Entry) (c : ℕ) → c < n → length (sleepers s h c) ≤ length (asleep n s h)
+asleep_part : (n : ℕ) (s : Start) (h : List Entry) (c : ℕ) → c < n →
+    length (sleepers s h c) ≤ length (asleep n s h)
 asleep_part zero s h c l = absurd (omega (arith, l))
 asleep_part (suc n) s h c l =
     let sum = length-append (asleep n s h) (sleepers s h n) in
@@ -88,7 +95,8 @@ few_sleepers k h legal seated c = by (cases_lt c k.conditions)
         (λ above. let none = ap length (no_sleepers_above (opening k) h v c above) in omega (arith, none))
         p
 
-joins_line : (k : Header) (h : List Entry) (e : Entry) (queue : Line) (waiters : Sleepers) → Keeps k h queue waiters →
+joins_line : (k : Header) (h : List Entry) (e : Entry) (queue : Line) (waiters : Sleepers) →
+    Keeps k h queue waiters →
     e.seat < k.seats → place_of e.seat (line (opening k) h) ≡ None → MayJoin e queue
 joins_line k h e queue waiters kept seat absent =
     record {
@@ -96,7 +104,8 @@ joins_line k h e queue waiters kept seat absent =
       absent = ap (place_of e.seat) kept.line ∙ absent;
     }
 
-moves : (k : Header) (h : List Entry) (e : Entry) (queue : Line) (waiters : Sleepers) (n : ℕ) → Keeps k h queue waiters →
+moves : (k : Header) (h : List Entry) (e : Entry) (queue : Line) (waiters : Sleepers) (n : ℕ) →
+    Keeps k h queue waiters →
     Waits (opening k) h → OnCondition (opening k) h e → e.n ≡ n → MayMove n e queue waiters
 moves k h e queue waiters n kept v on is =
     record {
@@ -104,11 +113,13 @@ moves k h e queue waiters n kept v on is =
       apart = λ i t.
           ap (place_of i) kept.line
           ∙ asleep_out_of_line (opening k) h i v.once
-          (sleeps_there k.conditions (opening k) h i e.at on.condition (ap (has i) (sym (kept.sleepers e.at)) ∙ t));
+          (sleeps_there k.conditions (opening k) h i e.at on.condition
+          (ap (has i) (sym (kept.sleepers e.at)) ∙ t));
       number = is;
     }
 
-movable_by : (k : Header) (h : List Entry) (e : Entry) (queue : Line) (waiters : Sleepers) (w : Word) → Keeps k h queue waiters →
+movable_by : (k : Header) (h : List Entry) (e : Entry) (queue : Line) (waiters : Sleepers) (w : Word) →
+    Keeps k h queue waiters →
     Waits (opening k) h → e.seat < k.seats → KnownBy (opening k) h e w → IsMovableBy w e queue waiters
 movable_by k h e queue waiters word.Queued kept v seat m =
     joins_line k h e queue waiters kept seat (idle_parts _ _ m.idle).0
@@ -116,7 +127,8 @@ movable_by k h e queue waiters word.Await kept v seat m =
     record {
       condition = let p = kept.conditions in let l = m.0.condition in omega (arith, p, l);
       seat = let p = kept.beds in omega (arith, p, seat);
-      awake = λ c. ap (has e.seat) (kept.sleepers c) ∙ awake_everywhere (opening k) h e.seat v (idle_parts _ _ m.0.idle).1 c;
+      awake = λ c. ap (has e.seat) (kept.sleepers c)
+          ∙ awake_everywhere (opening k) h e.seat v (idle_parts _ _ m.0.idle).1 c;
     }
 movable_by k h e queue waiters word.Lapse kept v seat m =
     let parts = sleeping_parts _ _ m.0 in
@@ -124,7 +136,8 @@ movable_by k h e queue waiters word.Lapse kept v seat m =
     let there = (sleeper_condition (opening k) h v e.seat parts.1).1 in
     record {
       join = joins_line k h e queue waiters kept seat parts.0;
-      asleep = ap (has e.seat) (kept.sleepers e.at) ∙ ap (λ c. has e.seat (sleepers (opening k) h c)) (sym at) ∙ there;
+      asleep = ap (has e.seat) (kept.sleepers e.at)
+          ∙ ap (λ c. has e.seat (sleepers (opening k) h c)) (sym at) ∙ there;
     }
 movable_by k h e queue waiters word.Signal kept v seat m =
     moves k h e queue waiters _ kept v m.0 (m.1 ∙ ap (λ l. at_most_one (length l)) (sym (kept.sleepers e.at)))
@@ -141,7 +154,8 @@ movable_by k h e queue waiters word.Back kept v seat m = tt
 movable_by k h e queue waiters word.Counted kept v seat m = tt
 movable_by k h e queue waiters word.Drained kept v seat m = tt
 
-pub movable : (k : Header) (h : List Entry) (e : Entry) (queue : Line) (waiters : Sleepers) → Keeps k h queue waiters →
+pub movable : (k : Header) (h : List Entry) (e : Entry) (queue : Line) (waiters : Sleepers) →
+    Keeps k h queue waiters →
     IsInRange k → IsLegal (opening k) h → AreSeated (opening k) h → length h ≤ k.cap → e.seat < k.seats →
     Known (opening k) h e → IsMovable e queue waiters
 movable k h e queue waiters kept range legal seated short seat m =
@@ -159,7 +173,8 @@ movable k h e queue waiters kept range legal seated short seat m =
 pub keeps_next : (k : Header) (h : List Entry) (e : Entry) (queue queue' : Line) (waiters waiters' : Sleepers) →
     Keeps k h queue waiters →
     queue'.arrivals ≡ line_behind e.word e queue.arrivals (asleep_on waiters e.at) →
-    ((c : ℕ) → asleep_on waiters' c ≡ cond (eqb e.at c) (sleepers_after e.word e.seat e.n (asleep_on waiters c)) (asleep_on waiters c)) →
+    ((c : ℕ) → asleep_on waiters' c ≡ cond (eqb e.at c)
+    (sleepers_after e.word e.seat e.n (asleep_on waiters c)) (asleep_on waiters c)) →
     queue'.joined ≤ queue.joined + 65536 → queue'.seats ≡ queue.seats → waiters'.seats ≡ waiters.seats →
     waiters'.conditions ≡ waiters.conditions → Keeps k (e ∷ h) queue' waiters'
 keeps_next k h e queue queue' waiters waiters' kept arrivals lists joined places beds conditions =
@@ -171,15 +186,18 @@ keeps_next k h e queue queue' waiters waiters' kept arrivals lists joined places
           ∙ sym (line_next (opening k) h e);
       places = places ∙ kept.places;
       joins = let j = kept.joins in omega (arith, j, joined);
-      sleepers = λ c. lists c ∙ ap (λ l. cond (eqb e.at c) (sleepers_after e.word e.seat e.n l) l) (kept.sleepers c);
+      sleepers =
+          λ c. lists c ∙ ap (λ l. cond (eqb e.at c) (sleepers_after e.word e.seat e.n l) l) (kept.sleepers c);
       conditions = conditions ∙ kept.conditions;
       beds = beds ∙ kept.beds;
     }
 
 -- who sleeps on no condition is awake
 pub awake_none : (w : Sleepers) (i : ℕ) (r : Option Sleeper) → r ≡ sleeper_of w i →
-    ((c : ℕ) → has i (asleep_on w c) ≡ false) → ((c : ℕ) → has i (asleep_on w c) ≡ sleeps_on c r) → sleeper_of w i ≡ None
+    ((c : ℕ) → has i (asleep_on w c) ≡ false) → ((c : ℕ) → has i (asleep_on w c) ≡ sleeps_on c r) →
+    sleeper_of w i ≡ None
 awake_none w i None is awake listed = sym is
 awake_none w i (Some x) is awake listed =
-    let t : true ≡ false = sym (eq-eqb x.condition x.condition refl) ∙ sym (listed x.condition) ∙ awake x.condition in
+    let t : true ≡ false = sym (eq-eqb x.condition x.condition refl) ∙ sym (listed x.condition)
+    ∙ awake x.condition in
     absurd (false≢true (sym t))

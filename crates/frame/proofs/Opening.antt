@@ -14,10 +14,13 @@ use Rattle.frame.specs.declared.seat.Seat.{Seat}
 use Rattle.frame.specs.Core.{Stands}
 use Rattle.frame.specs.Seat.{no_holds}
 
-pub opening_stands : (agrees : Counts → Type 0) (k : Header) (kept : HistoryView) (queue : Line) (waiters : Sleepers)
+pub opening_stands : (agrees : Counts → Type 0) (k : Header) (kept : HistoryView) (queue : Line)
+    (waiters : Sleepers)
     (table : List Seat) → IsInRange k → agrees (counts (opening k) []) →
-    kept ≡ record { cap = k.cap; entries = []; owed = 0; places = 0 } → queue.arrivals ≡ [] → queue.seats ≡ k.seats →
-    queue.joined ≡ 0 → ((c : ℕ) → asleep_on waiters c ≡ []) → waiters.conditions ≡ k.conditions → waiters.seats ≡ k.seats →
+    kept ≡ record { cap = k.cap; entries = []; owed = 0; places = 0 } → queue.arrivals ≡ [] →
+    queue.seats ≡ k.seats →
+    queue.joined ≡ 0 → ((c : ℕ) → asleep_on waiters c ≡ []) → waiters.conditions ≡ k.conditions →
+    waiters.seats ≡ k.seats →
     table ≡ replicate k.seats no_holds → Stands agrees k kept queue waiters table
 opening_stands agrees k kept queue waiters table range told is line places joined asleep conditions beds free =
     let n : length table ≡ k.seats = ap length free ∙ length-replicate k.seats no_holds in
@@ -25,7 +28,8 @@ opening_stands agrees k kept queue waiters table range told is line places joine
     let empty : kept.entries ≡ [] = ap (λ (y : HistoryView). y.entries) is in
     let owes : kept.owed ≡ 0 = ap (λ (y : HistoryView). y.owed) is in
     let cap : kept.cap ≡ k.cap = ap (λ (y : HistoryView). y.cap) is in
-    let stands : Stands agrees k (record { cap = k.cap; entries = []; owed = 0; places = 0 }) queue waiters table =
+    let stands : Stands agrees k (record { cap = k.cap; entries = []; owed = 0; places = 0 }) queue waiters
+    table =
     record {
       range = range;
       hooks = told;

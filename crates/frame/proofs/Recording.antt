@@ -26,22 +26,27 @@ no_room_for : (v : CoreView) (e : Entry) → has_room (start_of v) v.entries e �
     recorded (start_of v) v.entries e ≡ (Err HistoryFull, v.entries)
 no_room_for v e t = rw t refl
 
-pub recorded_now : (v new : CoreView) (e : Entry) (u : Unit {0}) (before after name : Option ℕ) → IsAdded v e (Ok u) new →
-    before ≡ ready (start_of v) v.entries → after ≡ ready (start_of new) new.entries → name ≡ named_by before after e.seat →
+pub recorded_now : (v new : CoreView) (e : Entry) (u : Unit {0}) (before after name : Option ℕ) →
+    IsAdded v e (Ok u) new →
+    before ≡ ready (start_of v) v.entries → after ≡ ready (start_of new) new.entries →
+    name ≡ named_by before after e.seat →
     IsRecorded v e (Ok (Recorded e name)) new
 recorded_now v new e u before after name is b a n =
     let there : ready (start_of new) new.entries ≡ ready (start_of v) (e ∷ v.entries) =
     ap (λ (w : CoreView). ready (start_of w) w.entries) is.1 in
     let names : name ≡ named (start_of v) v.entries e =
-    n ∙ ap (λ x. named_by x after e.seat) b ∙ ap (λ x. named_by (ready (start_of v) v.entries) x e.seat) (a ∙ there) in
+    n ∙ ap (λ x. named_by x after e.seat) b
+    ∙ ap (λ x. named_by (ready (start_of v) v.entries) x e.seat) (a ∙ there) in
     let made = room_for v e is.0 in
     inl (record {
-      answer = ap (λ x. (let r : Result Answer Fault = Ok (Recorded e x) in r)) names ∙ sym (ap (λ p. p.0) made);
+      answer = ap (λ x. (let r : Result Answer Fault = Ok (Recorded e x) in r)) names
+          ∙ sym (ap (λ p. p.0) made);
       entries = ap (λ (w : CoreView). w.entries) is.1 ∙ sym (ap (λ p. p.1) made);
       header = ap (λ (w : CoreView). w.header) is.1;
     })
 
-pub recorded_not : (v new : CoreView) (e : Entry) (f : Fault) → IsAdded v e (Err f) new → IsRecorded v e (Err f) new
+pub recorded_not : (v new : CoreView) (e : Entry) (f : Fault) → IsAdded v e (Err f) new →
+    IsRecorded v e (Err f) new
 recorded_not v new e HistoryFull is =
     let made = no_room_for v e is.0 in
     inl (record {
@@ -59,22 +64,26 @@ unchanged v new e HistoryFull is = is.2
 unchanged v new e OutOfMemory is = is.2
 unchanged v new e _ is = absurd is
 
-pub never_refused : (v new : CoreView) (e : Entry) (f : Fault) → IsAdded v e (Err f) new → was_owed v.header.object e ≡ false
+pub never_refused : (v new : CoreView) (e : Entry) (f : Fault) → IsAdded v e (Err f) new →
+    was_owed v.header.object e ≡ false
 never_refused v new e HistoryFull is = is.1
 never_refused v new e OutOfMemory is = is.1
 never_refused v new e _ is = absurd is
 
 -- a refusal changes no holding
-pub keeps_holds : (v new : CoreView) (e : Entry) (name : Option ℕ) → new ≡ with_entry v e → KeepsHolds v (Recorded e name) new
+pub keeps_holds : (v new : CoreView) (e : Entry) (name : Option ℕ) → new ≡ with_entry v e →
+    KeepsHolds v (Recorded e name) new
 keeps_holds v new e name is =
     let grown : new.entries ≡ e ∷ v.entries = ap (λ (w : CoreView). w.entries) is in
     λ fault word. (
       grown,
-      λ i m. ap (λ h. held (start_of v) h i m) grown ∙ held_same (start_of v) e v.entries i m (ap counts_nothing word),
+      λ i m. ap (λ h. held (start_of v) h i m) grown
+          ∙ held_same (start_of v) e v.entries i m (ap counts_nothing word),
     )
 
 -- a step's answer
-pub answered_fault : (v : CoreView) (i : ℕ) (step : Step) (f : Fault) → entry_for (start_of v) v.entries i step ≡ Err f →
+pub answered_fault : (v : CoreView) (i : ℕ) (step : Step) (f : Fault) →
+    entry_for (start_of v) v.entries i step ≡ Err f →
     IsAnswered v i step (Err f) v
 answered_fault v i step f q =
     let made = ap (answer_by (start_of v) v.entries) q in
@@ -111,7 +120,8 @@ answered_entry v new i step e r q is =
     is
 
 -- the one entry of a step
-pub owed_entry : (v : CoreView) (i : ℕ) (step : Step) (e : Entry) → entry_for (start_of v) v.entries i step ≡ Ok (Some e) →
+pub owed_entry : (v : CoreView) (i : ℕ) (step : Step) (e : Entry) →
+    entry_for (start_of v) v.entries i step ≡ Ok (Some e) →
     MakesOwed v i step → was_owed v.header.object e ≡ true
 owed_entry v i step e q m =
     let same : m.0 ≡ e = some_same (ok_same (sym m.1 ∙ q)) in

@@ -10,17 +10,21 @@ use Rattle.frame.specs.Core.{CoreView, start_of, IsAnswer, IsAnswered, LacksMemo
 use Rattle.frame.specs.Runs.{AreAnswered, AreResults, NoneLacksMemory}
 
 -- one step more
-pub answered_more : (old mid new : CoreView) (steps : List (ℕ × Step)) (answers : List (Result Answer Fault)) (s : ℕ × Step) (r : Result Answer Fault) →
-    AreAnswered old steps answers mid → IsAnswered mid s.0 s.1 r new → AreAnswered old (steps ++ s ∷ []) (answers ++ r ∷ []) new
+pub answered_more : (old mid new : CoreView) (steps : List (ℕ × Step))
+    (answers : List (Result Answer Fault)) (s : ℕ × Step) (r : Result Answer Fault) →
+    AreAnswered old steps answers mid → IsAnswered mid s.0 s.1 r new →
+    AreAnswered old (steps ++ s ∷ []) (answers ++ r ∷ []) new
 answered_more old mid new [] [] s r a is =
     let P : CoreView → Type 0 = λ v. IsAnswered v s.0 s.1 r new in
     (new, subst P a is, refl)
-answered_more old mid new (t ∷ steps) (q ∷ answers) s r a is = (a.0, a.1, answered_more a.0 mid new steps answers s r a.2 is)
+answered_more old mid new (t ∷ steps) (q ∷ answers) s r a is =
+    (a.0, a.1, answered_more a.0 mid new steps answers s r a.2 is)
 answered_more old mid new [] (q ∷ answers) s r a is = absurd a
 answered_more old mid new (t ∷ steps) [] s r a is = absurd a
 
 -- where memory is never refused, each answer is that of the definitions
-answered_so : (old new : CoreView) (i : ℕ) (step : Step) (r : Result Answer Fault) → r ≢ Err OutOfMemory → IsAnswered old i step r new →
+answered_so : (old new : CoreView) (i : ℕ) (step : Step) (r : Result Answer Fault) → r ≢ Err OutOfMemory →
+    IsAnswered old i step r new →
     IsAnswer old (answer (start_of old) old.entries i step) r new
 answered_so old new i step r ne is =
     ⊎_elim (λ a. a) (λ (l : (r ≡ Err OutOfMemory) × LacksMemory old _ new). absurd (ne l.0)) is
@@ -38,12 +42,14 @@ all_results old new (s ∷ steps) (r ∷ answers) a none =
     let rest = all_results a.0 new steps answers a.2 none.1 in
     let there : results (start_of a.0) a.0.entries steps
     ≡ results (start_of old) (answer (start_of old) old.entries s.0 s.1).1 steps =
-    ap (λ (k : Header). results (start_of (record { header = k; entries = a.0.entries })) a.0.entries steps) now.header
+    ap (λ (k : Header). results (start_of (record { header = k; entries = a.0.entries })) a.0.entries steps)
+    now.header
     ∙ ap (λ h. results (start_of old) h steps) now.entries in
     record {
       answers_are =
           ap (λ x. x ∷ answers) now.answer
-          ∙ ap (λ l. (answer (start_of old) old.entries s.0 s.1).0 ∷ l) (rest.answers_are ∙ ap (λ p. p.0) there);
+          ∙ ap (λ l. (answer (start_of old) old.entries s.0 s.1).0 ∷ l) (rest.answers_are
+          ∙ ap (λ p. p.0) there);
       entries_are = rest.entries_are ∙ ap (λ p. p.1) there;
       header_is = rest.header_is ∙ now.header;
     }

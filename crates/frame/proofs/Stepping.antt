@@ -56,9 +56,11 @@ next k h e legal seated is =
     }
 
 -- the same, where the fields stand for the history and a caller sees it
-pub next_seen : {agrees : Counts → Type 0} {queue : Line} {waiters : Sleepers} {table : List Seat} (k : Header) (kept : HistoryView) (e : Entry)
+pub next_seen : {agrees : Counts → Type 0} {queue : Line} {waiters : Sleepers} {table : List Seat}
+    (k : Header) (kept : HistoryView) (e : Entry)
     (seen : CoreView) → Stands agrees k kept queue waiters table →
-    (let v : CoreView = record { header = k; entries = kept.entries } in v) ≡ seen → IsNext seen e → Next k kept.entries e
+    (let v : CoreView = record { header = k; entries = kept.entries } in v) ≡ seen → IsNext seen e →
+    Next k kept.entries e
 next_seen k kept e seen s q is = next k kept.entries e s.legal s.seated (subst (λ v. IsNext v e) (sym q) is)
 
 -- the table
@@ -67,16 +69,19 @@ pub tabled : (k : Header) (h : List Entry) (table : List Seat) → length table 
     get_or table i no_holds ≡ seat_of k.object h i
 tabled k h table n all i l = get_or_from_slice_get table i (seat_of k.object h i) no_holds (all i l)
 
-pub tabled_next : (k : Header) (h : List Entry) (e : Entry) (table : List Seat) → length table ≡ k.seats → e.seat < k.seats →
+pub tabled_next : (k : Header) (h : List Entry) (e : Entry) (table : List Seat) → length table ≡ k.seats →
+    e.seat < k.seats →
     ((i : ℕ) → i < k.seats → slice_get table i ≡ Some (seat_of k.object h i)) → (i : ℕ) → i < k.seats →
-    slice_get (set table e.seat (seat_after k.object e (get_or table e.seat no_holds))) i ≡ Some (seat_of k.object (e ∷ h) i)
+    slice_get (set table e.seat (seat_after k.object e (get_or table e.seat no_holds))) i
+    ≡ Some (seat_of k.object (e ∷ h) i)
 tabled_next k h e table n seat all i l =
     let x = seat_after k.object e (get_or table e.seat no_holds) in
     let len : length (set table e.seat x) ≡ k.seats = length-set table e.seat x ∙ n in
     let at = slice_get-get_or (set table e.seat x) i no_holds (omega (arith, len, l)) in
     at ∙ ap Some (⊎_elim
     (λ (same : e.seat ≡ i).
-    let own : get_or (set table e.seat x) e.seat no_holds ≡ x = get_or-set_same table e.seat x no_holds (omega (arith, n, seat)) in
+    let own : get_or (set table e.seat x) e.seat no_holds ≡ x =
+    get_or-set_same table e.seat x no_holds (omega (arith, n, seat)) in
     let was : get_or table e.seat no_holds ≡ seat_of k.object h i =
     tabled k h table n all e.seat seat ∙ ap (seat_of k.object h) same in
     ap (λ j. get_or (set table e.seat x) j no_holds) (sym same) ∙ own ∙ ap (seat_after k.object e) was
@@ -87,10 +92,12 @@ tabled_next k h e table n seat all i l =
     (cases_eq e.seat i))
 
 -- the seat of the entry has room for what it will hold
-own_seat : (k : Header) (h : List Entry) (e : Entry) → seat_of k.object (e ∷ h) e.seat ≡ seat_after k.object e (seat_of k.object h e.seat)
+own_seat : (k : Header) (h : List Entry) (e : Entry) →
+    seat_of k.object (e ∷ h) e.seat ≡ seat_after k.object e (seat_of k.object h e.seat)
 own_seat k h e = rw (eq-eqb e.seat e.seat refl) refl
 
-pub exclusive_next : (k : Header) (h : List Entry) (e : Entry) (x : Seat) → IsLegal (opening k) (e ∷ h) → AreSeated (opening k) (e ∷ h) →
+pub exclusive_next : (k : Header) (h : List Entry) (e : Entry) (x : Seat) → IsLegal (opening k) (e ∷ h) →
+    AreSeated (opening k) (e ∷ h) →
     x ≡ seat_of k.object h e.seat → (seat_after k.object e x).exclusive < 2 ^ 32
 exclusive_next k h e x legal seated is =
     let l = exclusive_fits k (e ∷ h) legal seated e.seat in
@@ -99,7 +106,8 @@ exclusive_next k h e x legal seated is =
     ∙ ap (λ (y : Seat). y.exclusive) (sym (own_seat k h e)) ∙ seat_held k (e ∷ h) e.seat X in
     omega (arith, l, q)
 
-pub shared_next : (k : Header) (h : List Entry) (e : Entry) (x : Seat) → IsInRange k → IsLegal (opening k) (e ∷ h) → AreSeated (opening k) (e ∷ h) →
+pub shared_next : (k : Header) (h : List Entry) (e : Entry) (x : Seat) → IsInRange k →
+    IsLegal (opening k) (e ∷ h) → AreSeated (opening k) (e ∷ h) →
     length h ≤ k.cap → x ≡ seat_of k.object h e.seat → (seat_after k.object e x).shared < 2 ^ 64
 shared_next k h e x range legal seated short is =
     let l = shared_fits k (e ∷ h) range legal seated e.seat seated.0 in
@@ -137,7 +145,8 @@ asks_more : (m len was places : ℕ) → len + was ≤ places → (len + was + m
 asks_more zero len was places room f = absurd (f (omega (arith, room)))
 asks_more (suc m) len was places room f = omega arith
 
-not_owed : (k : Header) (h : List Entry) (e : Entry) (was owes : ℕ) → Needs k h e was owes → 0 < (owes + 1) - was → was_owed k.object e ≡ false
+not_owed : (k : Header) (h : List Entry) (e : Entry) (was owes : ℕ) → Needs k h e was owes →
+    0 < (owes + 1) - was → was_owed k.object e ≡ false
 not_owed k h e was owes n some = by (was_owed k.object e) refl
   where
     by : (b : Bool) → was_owed k.object e ≡ b → b ≡ false
@@ -147,11 +156,15 @@ not_owed k h e was owes n some = by (was_owed k.object e) refl
 pub refused : (k : Header) (e : Entry) (f : Fault) (kept kept' : HistoryView) (was owes needed : ℕ) →
     Needs k kept.entries e was owes → kept.cap ≡ k.cap → was ≡ kept.owed →
     length kept.entries + was ≤ kept.places → needed ≡ (owes + 1) - was →
-    ((◌≡◌ {A = Result (Unit {0}) Fault} (Err f) (Err fault.HistoryFull)) ↔ (kept.cap < length kept.entries + kept.owed + needed)) →
+    ((◌≡◌ {A = Result (Unit {0}) Fault} (Err f) (Err fault.HistoryFull))
+    ↔ (kept.cap < length kept.entries + kept.owed + needed)) →
     (f ≡ fault.HistoryFull) ⊎ (f ≡ fault.OutOfMemory) →
-    (length kept.entries + kept.owed + needed ≤ kept.places → (◌≡◌ {A = Bool} false true) × (kept' ≡ kept)) → kept' ≡ kept →
-    IsAdded (record { header = k; entries = kept.entries }) e (Err f) (record { header = k; entries = kept'.entries })
-refused k e f kept kept' was owes needed n cap is room q full which reserved same = ⊎_elim no_room no_memory which
+    (length kept.entries + kept.owed + needed ≤ kept.places → (◌≡◌ {A = Bool} false true)
+    × (kept' ≡ kept)) → kept' ≡ kept →
+    IsAdded (record { header = k; entries = kept.entries }) e (Err f)
+    (record { header = k; entries = kept'.entries })
+refused k e f kept kept' was owes needed n cap is room q full which reserved same =
+    ⊎_elim no_room no_memory which
   where
     v : CoreView
     v = record { header = k; entries = kept.entries }
@@ -160,7 +173,8 @@ refused k e f kept kept' was owes needed n cap is room q full which reserved sam
     w = record { header = k; entries = kept'.entries }
 
     unchanged : w ≡ v
-    unchanged = ap (λ (y : HistoryView). (let u : CoreView = record { header = k; entries = y.entries } in u)) same
+    unchanged =
+        ap (λ (y : HistoryView). (let u : CoreView = record { header = k; entries = y.entries } in u)) same
 
     some : 0 < (owes + 1) - was
     some =
@@ -175,8 +189,11 @@ refused k e f kept kept' was owes needed n cap is room q full which reserved sam
         let o = n.owed in
         let err : Fault → Result (Unit {0}) Fault = λ x. Err x in
         let over = full.0 (ap err p) in
-        let here : P fault.HistoryFull =
-        (lt-leb _ _ (omega (arith, is, room, o, over, some, q, cap)), not_owed k kept.entries e was owes n some, unchanged) in
+        let here : P fault.HistoryFull = (
+          lt-leb _ _ (omega (arith, is, room, o, over, some, q, cap)),
+          not_owed k kept.entries e was owes n some,
+          unchanged,
+        ) in
         subst P (sym p) here
 
     no_memory : f ≡ fault.OutOfMemory → P f
@@ -188,14 +205,18 @@ refused k e f kept kept' was owes needed n cap is room q full which reserved sam
         let z = full.1 over in let d : fault.OutOfMemory ≡ fault.HistoryFull = cc in absurd (cc))
         (λ l. l)
         (cases_lt kept.cap (length kept.entries + kept.owed + needed)) in
-        let here : P fault.OutOfMemory =
-        (le-leb _ _ (omega (arith, is, room, o, fits, some, q, cap)), not_owed k kept.entries e was owes n some, unchanged) in
+        let here : P fault.OutOfMemory = (
+          le-leb _ _ (omega (arith, is, room, o, fits, some, q, cap)),
+          not_owed k kept.entries e was owes n some,
+          unchanged,
+        ) in
         subst P (sym p) here
 
 -- room was asked for, and is there
 pub fitted : (k : Header) (e : Entry) (kept mid : HistoryView) (was owes needed : ℕ) →
     Needs k kept.entries e was owes → was ≡ kept.owed → needed ≡ (owes + 1) - was →
-    length mid.entries + mid.owed + needed ≤ mid.cap → mid ≡ record kept { places = mid.places } → kept.cap ≡ k.cap →
+    length mid.entries + mid.owed + needed ≤ mid.cap → mid ≡ record kept { places = mid.places } →
+    kept.cap ≡ k.cap →
     length kept.entries + 1 + owes ≤ k.cap
 fitted k e kept mid was owes needed n is q fits same cap =
     let a : length mid.entries ≡ length kept.entries = ap (λ (y : HistoryView). length y.entries) same in
@@ -205,29 +226,37 @@ fitted k e kept mid was owes needed n is q fits same cap =
 
 -- what an entry added makes of the history
 pub added : (kept mid new : HistoryView) (e : Entry) (o : ℕ) → mid ≡ record kept { places = mid.places } →
-    new ≡ record mid { entries = e ∷ mid.entries; owed = o } → (new.entries ≡ e ∷ kept.entries) × (new.cap ≡ kept.cap) × (new.owed ≡ o)
+    new ≡ record mid { entries = e ∷ mid.entries; owed = o } → (new.entries ≡ e ∷ kept.entries)
+    × (new.cap ≡ kept.cap) × (new.owed ≡ o)
 added kept mid new e o same is = (
   ap (λ (y : HistoryView). y.entries) is ∙ ap (λ (y : HistoryView). e ∷ y.entries) same,
   ap (λ (y : HistoryView). y.cap) is ∙ ap (λ (y : HistoryView). y.cap) same,
   ap (λ (y : HistoryView). y.owed) is,
 )
 
-pub is_added : (k : Header) (e : Entry) (u : Unit {0}) (kept new : HistoryView) (was owes : ℕ) → Needs k kept.entries e was owes →
+pub is_added : (k : Header) (e : Entry) (u : Unit {0}) (kept new : HistoryView) (was owes : ℕ) →
+    Needs k kept.entries e was owes →
     length kept.entries + 1 + owes ≤ k.cap → new.entries ≡ e ∷ kept.entries →
-    IsAdded (record { header = k; entries = kept.entries }) e (Ok u) (record { header = k; entries = new.entries })
+    IsAdded (record { header = k; entries = kept.entries }) e (Ok u)
+    (record { header = k; entries = new.entries })
 is_added k e u kept new was owes n fits entries =
-    let o = n.owed in
-    (le-leb _ _ (omega (arith, fits, o)), ap (λ g. (let w : CoreView = record { header = k; entries = g } in w)) entries)
+    let o = n.owed in (
+      le-leb _ _ (omega (arith, fits, o)),
+      ap (λ g. (let w : CoreView = record { header = k; entries = g } in w)) entries,
+    )
 
 -- all that is kept
-pub stands_next : (agrees agrees' : Counts → Type 0) (k : Header) (kept kept' : HistoryView) (queue queue' : Line)
+pub stands_next : (agrees agrees' : Counts → Type 0)
+    (k : Header) (kept kept' : HistoryView) (queue queue' : Line)
     (waiters waiters' : Sleepers) (table table' : List Seat) (e : Entry) →
     Stands agrees k kept queue waiters table → Next k kept.entries e →
-    agrees' (counts_after e.word (counts (opening k) kept.entries) e) → Keeps k (e ∷ kept.entries) queue' waiters' →
+    agrees' (counts_after e.word (counts (opening k) kept.entries) e) →
+    Keeps k (e ∷ kept.entries) queue' waiters' →
     table' ≡ set table e.seat (seat_after k.object e (get_or table e.seat no_holds)) →
     kept'.entries ≡ e ∷ kept.entries → kept'.cap ≡ kept.cap → kept'.owed ≡ owed (opening k) (e ∷ kept.entries) →
     length kept.entries + 1 + kept'.owed ≤ k.cap → Stands agrees' k kept' queue' waiters' table'
-stands_next agrees agrees' k kept kept' queue queue' waiters waiters' table table' e s n told waiting is entries cap owes room =
+stands_next agrees agrees' k kept kept' queue queue' waiters waiters' table table' e s n told waiting is
+    entries cap owes room =
     let h = kept.entries in
     record {
       range = s.range;

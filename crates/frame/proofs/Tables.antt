@@ -29,12 +29,15 @@ pub table_empty : (xs : List ℕ) (sum : ℕ) → sum ≡ table_total xs → sum
 table_empty xs sum e z i = omega (arith, in_total xs i)
 
 -- one number more or less
-pub table_set : (xs : List ℕ) (i x : ℕ) → i < length xs → table_total (set xs i x) + slice_index xs i ≡ table_total xs + x
+pub table_set : (xs : List ℕ) (i x : ℕ) → i < length xs →
+    table_total (set xs i x) + slice_index xs i ≡ table_total xs + x
 table_set xs i x p =
     let same : get_or (set xs i x) i 0 ≡ x = get_or-set_same xs i x 0 p in
-    let other : (j : ℕ) → j ≢ i → slice_index (set xs i x) j ≡ slice_index xs j = λ j ne. get_or-set_other xs i j x 0 ne in
+    let other : (j : ℕ) → j ≢ i → slice_index (set xs i x) j ≡ slice_index xs j =
+    λ j ne. get_or-set_other xs i j x 0 ne in
     let change = total_change (length xs) (slice_index (set xs i x)) (slice_index xs) i p other in
-    let by : total (length xs) (slice_index (set xs i x)) + slice_index xs i ≡ table_total xs + x = rw same at change in
+    let by : total (length xs) (slice_index (set xs i x)) + slice_index xs i ≡ table_total xs + x =
+    rw same at change in
     rw (length-set xs i x) by
 
 pub table_zeros : (n : ℕ) → table_total (replicate n 0) ≡ 0
@@ -48,4 +51,6 @@ table_zeros n = none (length (replicate n 0)) (slice_index (replicate n 0)) (λ 
         omega arith
 
     zeros : (i : ℕ) → slice_index (replicate n 0) i ≡ 0
-    zeros i = ⊎_elim (λ p. get_or-replicate n i 0 0 p) (λ p. get_or-eq_default (replicate n 0) 0 (omega (arith, p, length-replicate {A = ℕ}))) (cases_lt i n)
+    zeros i =
+        ⊎_elim (λ p. get_or-replicate n i 0 0 p)
+        (λ p. get_or-eq_default (replicate n 0) 0 (omega (arith, p, length-replicate {A = ℕ}))) (cases_lt i n)

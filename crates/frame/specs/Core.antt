@@ -68,7 +68,8 @@ pub record Keeps (k : Header) (h : List Entry) (queue : Line) (waiters : Sleeper
 
 -- The fields stand for the history: hooks, line, sleepers and seats are as its entries make them, and room is
 -- kept as it asks.
-pub record Stands (agrees : Counts → Type 0) (k : Header) (kept : HistoryView) (queue : Line) (waiters : Sleepers) (table : List Seat) : Type 0 where
+pub record Stands (agrees : Counts → Type 0) (k : Header) (kept : HistoryView) (queue : Line)
+    (waiters : Sleepers) (table : List Seat) : Type 0 where
   pub range : IsInRange k
   pub hooks : agrees (counts (opening k) kept.entries)
   pub waiting : Keeps k kept.entries queue waiters
@@ -105,7 +106,8 @@ pub record LacksMemory (old : CoreView) (made : Result (Option Entry) Fault) (ne
   pub unchanged : new ≡ old
 
 -- the answer and the history behind it are those that the definitions give
-pub record IsAnswer (old : CoreView) (given : Result Answer Fault × List Entry) (r : Result Answer Fault) (new : CoreView) : Type 0 where
+pub record IsAnswer (old : CoreView) (given : Result Answer Fault × List Entry) (r : Result Answer Fault)
+    (new : CoreView) : Type 0 where
   pub answer : r ≡ given.0
   pub entries : new.entries ≡ given.1
   pub header : new.header ≡ old.header

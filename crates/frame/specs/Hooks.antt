@@ -47,7 +47,8 @@ NobodyNew old new =
 -- nobody but a seat could who couldn't before
 abbrev pub NobodyElseNew : Counts → Counts → ℕ → Type 0
 NobodyElseNew old new who =
-    (j : ℕ) (m : Mode) (n : ℕ) → j < 256 → n ≤ max_amount → j ≢ who → could old j m n ≡ false → could new j m n ≡ false
+    (j : ℕ) (m : Mode) (n : ℕ) → j < 256 → n ≤ max_amount → j ≢ who → could old j m n ≡ false →
+    could new j m n ≡ false
 
 -- the word of a give that was made, and of one that was refused
 abbrev pub gives_of : Word → Result Gave Fault → Type 0

@@ -21,7 +21,8 @@ abbrev pub NoneLacksMemory : List (Result Answer Fault) → Type 0
 NoneLacksMemory answers = AllByRecursion (λ r. r ≢ Err OutOfMemory) answers
 
 -- the answers and the history are those of the definitions
-pub record AreResults (old : CoreView) (steps : List (ℕ × Step)) (answers : List (Result Answer Fault)) (new : CoreView) : Type 0 where
+pub record AreResults (old : CoreView) (steps : List (ℕ × Step)) (answers : List (Result Answer Fault))
+    (new : CoreView) : Type 0 where
   pub answers_are : answers ≡ (results (start_of old) old.entries steps).0
   pub entries_are : new.entries ≡ (results (start_of old) old.entries steps).1
   pub header_is : new.header ≡ old.header

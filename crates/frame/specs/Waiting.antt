@@ -16,7 +16,8 @@ line_without i arrivals = filter (λ a. not (i == a.seat)) arrivals
 
 -- the line behind an entry, by the line and by the sleepers of its condition
 abbrev pub line_behind : Word → Entry → List Arrival → List ℕ → List Arrival
-line_behind Queued e arrivals seats = arrivals ++ record { seat = e.seat; mode = e.mode; n = e.n; back = false } ∷ []
+line_behind Queued e arrivals seats =
+    arrivals ++ record { seat = e.seat; mode = e.mode; n = e.n; back = false } ∷ []
 line_behind Granted e arrivals seats = line_without e.seat arrivals
 line_behind Left e arrivals seats = line_without e.seat arrivals
 line_behind Back e arrivals seats = line_without e.seat arrivals
@@ -27,7 +28,8 @@ line_behind _ e arrivals seats = arrivals
 
 -- what a seat sleeps on behind an entry, by the sleepers of its condition and by what the seat slept on
 abbrev pub sleeper_behind : Word → Entry → List ℕ → ℕ → Option Sleeper → Option Sleeper
-sleeper_behind Await e seats i was = if e.seat == i then Some (record { condition = e.at; holds = e.n }) else was
+sleeper_behind Await e seats i was = if e.seat == i then Some (record { condition = e.at; holds = e.n })
+    else was
 sleeper_behind Lapse e seats i was = if e.seat == i then None else was
 sleeper_behind Signal e seats i was = if has i (take e.n seats) then None else was
 sleeper_behind SignalAll e seats i was = if has i seats then None else was

@@ -5,5 +5,6 @@ use Rattle.history.specs.declared.entry.Mode.{Mode}
 use Rattle.history.specs.declared.entry.Mode.TheVariants.{X}
 use Rattle.history.specs.EntryWords.{mode_word}
 
-pub asked_once : (name once : List ℕ) (mode : Mode) (n : ℕ) → once ≡ name ++ codes " x 1" → mode ≡ X → n ≡ 1 → name ++ 32 ∷ (mode_word mode ++ 32 ∷ decimal n) ≡ once
+pub asked_once : (name once : List ℕ) (mode : Mode) (n : ℕ) → once ≡ name ++ codes " x 1" → mode ≡ X →
+    n ≡ 1 → name ++ 32 ∷ (mode_word mode ++ 32 ∷ decimal n) ≡ once
 asked_once name once mode n is x one = rw (x, one, decimal_digit 1 (omega arith)) (sym is)

@@ -65,20 +65,27 @@ pub either_way : {A : Type 0} (b : Bool) (x y : A) → x ≡ y → cond b x y �
 either_way true x y e = e
 either_way false x y e = refl
 
-pub held_same : (s : Start) (e : Entry) (h : List Entry) (i : ℕ) (m : Mode) → counts_nothing e.word ≡ true → held s (e ∷ h) i m ≡ held s h i m
-held_same s e h i m t = either_way (eqb e.seat i && same_mode e.mode m) _ _ (held_kept s.header.object e.word e.n (held s h i m) t)
+pub held_same : (s : Start) (e : Entry) (h : List Entry) (i : ℕ) (m : Mode) → counts_nothing e.word ≡ true →
+    held s (e ∷ h) i m ≡ held s h i m
+held_same s e h i m t =
+    either_way (eqb e.seat i && same_mode e.mode m) _ _ (held_kept s.header.object e.word e.n (held s h i m) t)
 
-pub counts_same : (s : Start) (e : Entry) (h : List Entry) → counts_nothing e.word ≡ true → counts s (e ∷ h) ≡ counts s h
+pub counts_same : (s : Start) (e : Entry) (h : List Entry) → counts_nothing e.word ≡ true →
+    counts s (e ∷ h) ≡ counts s h
 counts_same s e h t =
     let f : held s (e ∷ h) ≡ held s h = fun_ext (λ i. fun_ext (λ m. held_same s e h i m t)) in
     let g : free s (e ∷ h) ≡ free s h = free_kept e.word e.n (free s h) t in
-    let c : count s (e ∷ h) ≡ count s h = ap (λ x. opening_count s.header.object - x) (counted_kept e.word (counted s h) t) in
+    let c : count s (e ∷ h) ≡ count s h =
+    ap (λ x. opening_count s.header.object - x) (counted_kept e.word (counted s h) t) in
     λ i. record { object = s.header.object; seats = s.header.seats; held = f i; free = g i; count = c i }
 
-pub counts_took : (s : Start) (e : Entry) (h : List Entry) → takes e.word ≡ true → counts s (e ∷ h) ≡ took (counts s h) e.seat e.mode e.n
+pub counts_took : (s : Start) (e : Entry) (h : List Entry) → takes e.word ≡ true →
+    counts s (e ∷ h) ≡ took (counts s h) e.seat e.mode e.n
 counts_took s e h t = by e.word t
   where
-    by : (w : Word) → takes w ≡ true → counts s (record { seat = e.seat; word = w; mode = e.mode; n = e.n; at = e.at; end = e.end } ∷ h) ≡ took (counts s h) e.seat e.mode e.n
+    by : (w : Word) → takes w ≡ true →
+        counts s (record { seat = e.seat; word = w; mode = e.mode; n = e.n; at = e.at; end = e.end } ∷ h)
+        ≡ took (counts s h) e.seat e.mode e.n
     by Got t = refl
     by TryGot t = refl
     by Granted t = refl
@@ -91,7 +98,8 @@ all_stay w i (a ∷ q) t =
     let s : stays w i a ≡ true = rw t refl in
     rw s (ap (λ l. a ∷ l) (all_stay w i q t))
 
-moves_none : (s : Start) (w : Word) (e : Entry) (h : List Entry) → moves_nobody w ≡ true → (ends_arrival w ≡ false) × (arrivals_by s w e h ≡ [])
+moves_none : (s : Start) (w : Word) (e : Entry) (h : List Entry) → moves_nobody w ≡ true →
+    (ends_arrival w ≡ false) × (arrivals_by s w e h ≡ [])
 moves_none s Got e h t = (refl, refl)
 moves_none s TryGot e h t = (refl, refl)
 moves_none s Missed e h t = (refl, refl)
@@ -99,26 +107,33 @@ moves_none s Gave e h t = (refl, refl)
 moves_none s (Refused f) e h t = (refl, refl)
 moves_none s _ e h t = cc
 
-pub line_same : (s : Start) (e : Entry) (h : List Entry) → moves_nobody e.word ≡ true → line s (e ∷ h) ≡ line s h
+pub line_same : (s : Start) (e : Entry) (h : List Entry) → moves_nobody e.word ≡ true →
+    line s (e ∷ h) ≡ line s h
 line_same s e h t =
     let n = moves_none s e.word e h t in
-    line_after s e h ∙ ap (λ l. filter (stays e.word e.seat) (line s h) ++ l) n.1 ∙ append-nil _ ∙ all_stay e.word e.seat (line s h) n.0
+    line_after s e h ∙ ap (λ l. filter (stays e.word e.seat) (line s h) ++ l) n.1 ∙ append-nil _
+    ∙ all_stay e.word e.seat (line s h) n.0
 
-pub line_queued : (s : Start) (e : Entry) (h : List Entry) → e.word ≡ Queued → line s (e ∷ h) ≡ line s h ++ record { seat = e.seat; mode = e.mode; n = e.n; back = false } ∷ []
+pub line_queued : (s : Start) (e : Entry) (h : List Entry) → e.word ≡ Queued →
+    line s (e ∷ h) ≡ line s h ++ record { seat = e.seat; mode = e.mode; n = e.n; back = false } ∷ []
 line_queued s e h t =
     line_after s e h
     ∙ ap (λ w. filter (stays w e.seat) (line s h) ++ arrivals_by s w e h) t
-    ∙ ap (λ l. l ++ record { seat = e.seat; mode = e.mode; n = e.n; back = false } ∷ []) (all_stay Queued e.seat (line s h) refl)
+    ∙ ap (λ l. l ++ record { seat = e.seat; mode = e.mode; n = e.n; back = false } ∷ [])
+    (all_stay Queued e.seat (line s h) refl)
 
 abbrev pub leaves : Word → Bool
 leaves Granted = true
 leaves Left = true
 leaves _ = false
 
-pub line_less : (s : Start) (e : Entry) (h : List Entry) → leaves e.word ≡ true → line s (e ∷ h) ≡ filter (λ a. not (eqb e.seat a.seat)) (line s h)
+pub line_less : (s : Start) (e : Entry) (h : List Entry) → leaves e.word ≡ true →
+    line s (e ∷ h) ≡ filter (λ a. not (eqb e.seat a.seat)) (line s h)
 line_less s e h t = line_after s e h ∙ by e.word t
   where
-    by : (w : Word) → leaves w ≡ true → filter (stays w e.seat) (line s h) ++ arrivals_by s w e h ≡ filter (λ a. not (eqb e.seat a.seat)) (line s h)
+    by : (w : Word) → leaves w ≡ true →
+        filter (stays w e.seat) (line s h) ++ arrivals_by s w e h
+        ≡ filter (λ a. not (eqb e.seat a.seat)) (line s h)
     by Granted t = append-nil _
     by Left t = append-nil _
     by _ t = cc

@@ -18,7 +18,8 @@ use Rattle.history.specs.Reading.{Words}
 use Rattle.history.proofs.Numbers.{number_at_again}
 use Rattle.history.proofs.Plain.{is_plain, ArePlain, words_again, decimal_plain}
 
-asked_again : (m : Mode) (n : ℕ) (ws : Words) → n ≤ 2147483647 → asked_at (mode_word m ∷ decimal n ∷ ws) ≡ Some ((m, n), ws)
+asked_again : (m : Mode) (n : ℕ) (ws : Words) → n ≤ 2147483647 →
+    asked_at (mode_word m ∷ decimal n ∷ ws) ≡ Some ((m, n), ws)
 unfolding asked_at
 asked_again X n ws le = rw (number_at_again 0 2147483647 n ws (omega arith) (omega arith) le) refl
 asked_again S n ws le = rw (number_at_again 0 2147483647 n ws (omega arith) (omega arith) le) refl
@@ -27,10 +28,14 @@ condition_again : (c : ℕ) (ws : Words) → c ≤ 15 → condition_at (decimal 
 unfolding condition_at
 condition_again c ws le = number_at_again 0 15 c ws (omega arith) (omega arith) le
 
-sleepers_again : (c n : ℕ) (ws : Words) → c ≤ 15 → n ≤ 2147483647 → sleepers_at (decimal c ∷ decimal n ∷ ws) ≡ Some ((c, n), ws)
+sleepers_again : (c n : ℕ) (ws : Words) → c ≤ 15 → n ≤ 2147483647 →
+    sleepers_at (decimal c ∷ decimal n ∷ ws) ≡ Some ((c, n), ws)
 unfolding sleepers_at
 sleepers_again c n ws c15 le =
-    rw (condition_again c (decimal n ∷ ws) c15, number_at_again 0 2147483647 n ws (omega arith) (omega arith) le) refl
+    rw (
+      condition_again c (decimal n ∷ ws) c15,
+      number_at_again 0 2147483647 n ws (omega arith) (omega arith) le,
+    ) refl
 
 given_up_again : (e : End) → GaveUp e → given_up_at (end_word e ∷ []) ≡ Some (e, [])
 given_up_again end.None gave = absurd gave
@@ -60,32 +65,42 @@ recorded_again fault.OutOfMemory low = absurd (omega (arith, low))
 abbrev made : ℕ → Word → Mode → ℕ → ℕ → End → Entry
 made seat w m n at e = record { seat = seat; word = w; mode = m; n = n; at = at; end = e }
 
-left_again : (seat : ℕ) (m : Mode) (n : ℕ) (e : End) → n ≤ 2147483647 → GaveUp e → left_at seat (mode_word m ∷ decimal n ∷ end_word e ∷ []) ≡ Some (made seat word.Left m n 0 e, [])
+left_again : (seat : ℕ) (m : Mode) (n : ℕ) (e : End) → n ≤ 2147483647 → GaveUp e →
+    left_at seat (mode_word m ∷ decimal n ∷ end_word e ∷ []) ≡ Some (made seat word.Left m n 0 e, [])
 unfolding left_at
 left_again seat m n e le gave = rw (asked_again m n (end_word e ∷ []) le, given_up_again e gave) refl
 
-refused_again : (seat : ℕ) (f : Fault) (m : Mode) (n : ℕ) → n ≤ 2147483647 → IsRecorded f → refused_at seat (mode_word m ∷ decimal n ∷ fault_name f ∷ []) ≡ Some (made seat (word.Refused f) m n 0 end.None, [])
+refused_again : (seat : ℕ) (f : Fault) (m : Mode) (n : ℕ) → n ≤ 2147483647 → IsRecorded f →
+    refused_at seat (mode_word m ∷ decimal n ∷ fault_name f ∷ [])
+    ≡ Some (made seat (word.Refused f) m n 0 end.None, [])
 unfolding refused_at
 refused_again seat f m n le low = rw (asked_again m n (fault_name f ∷ []) le, recorded_again f low) refl
 
-lapse_again : (seat c : ℕ) (e : End) → c ≤ 15 → GaveUp e → lapse_at seat (decimal c ∷ end_word e ∷ []) ≡ Some (made seat word.Lapse X 0 c e, [])
+lapse_again : (seat c : ℕ) (e : End) → c ≤ 15 → GaveUp e →
+    lapse_at seat (decimal c ∷ end_word e ∷ []) ≡ Some (made seat word.Lapse X 0 c e, [])
 unfolding lapse_at
 lapse_again seat c e le gave = rw (condition_again c (end_word e ∷ []) le, given_up_again e gave) refl
 
-back_again : (seat c n : ℕ) (e : End) → c ≤ 15 → n ≤ 2147483647 → CameBack e → back_at seat (decimal c ∷ decimal n ∷ end_word e ∷ []) ≡ Some (made seat word.Back X n c e, [])
+back_again : (seat c n : ℕ) (e : End) → c ≤ 15 → n ≤ 2147483647 → CameBack e →
+    back_at seat (decimal c ∷ decimal n ∷ end_word e ∷ []) ≡ Some (made seat word.Back X n c e, [])
 unfolding back_at
-back_again seat c n e c15 le came = rw (sleepers_again c n (end_word e ∷ []) c15 le, come_back_again e came) refl
+back_again seat c n e c15 le came =
+    rw (sleepers_again c n (end_word e ∷ []) c15 le, come_back_again e came) refl
 
-counted_again : (seat : ℕ) → shared_at seat word.Counted 1 1 (codes "s" ∷ decimal 1 ∷ []) ≡ Some (made seat word.Counted S 1 0 end.None, [])
+counted_again : (seat : ℕ) → shared_at seat word.Counted 1 1 (codes "s" ∷ decimal 1 ∷ [])
+    ≡ Some (made seat word.Counted S 1 0 end.None, [])
 unfolding shared_at
 counted_again seat = rw (number_at_again 1 1 1 [] (omega arith) (omega arith) (omega arith)) refl
 
-drained_again : (seat n : ℕ) → n ≤ 2147483647 → shared_at seat word.Drained 0 2147483647 (codes "s" ∷ decimal n ∷ []) ≡ Some (made seat word.Drained S n 0 end.None, [])
+drained_again : (seat n : ℕ) → n ≤ 2147483647 →
+    shared_at seat word.Drained 0 2147483647 (codes "s" ∷ decimal n ∷ [])
+    ≡ Some (made seat word.Drained S n 0 end.None, [])
 unfolding shared_at
 drained_again seat n le = rw (number_at_again 0 2147483647 n [] (omega arith) (omega arith) le) refl
 
 -- the words of each entry
-words_are_read : (seat : ℕ) (w : Word) (m : Mode) (n at : ℕ) (e : End) → HasWords w m n at e → n ≤ 2147483647 → at ≤ 15 → entry_at seat (spelt w m n at e) ≡ Some (made seat w m n at e, [])
+words_are_read : (seat : ℕ) (w : Word) (m : Mode) (n at : ℕ) (e : End) → HasWords w m n at e →
+    n ≤ 2147483647 → at ≤ 15 → entry_at seat (spelt w m n at e) ≡ Some (made seat w m n at e, [])
 unfolding entry_at named_entry_at
 words_are_read seat word.Got m n at e has le c15 = rw (has.0, has.1, asked_again m n [] le) refl
 words_are_read seat word.TryGot m n at e has le c15 = rw (has.0, has.1, asked_again m n [] le) refl
@@ -94,7 +109,8 @@ words_are_read seat word.Granted m n at e has le c15 = rw (has.0, has.1, asked_a
 words_are_read seat word.Missed m n at e has le c15 = rw (has.0, has.1, asked_again m n [] le) refl
 words_are_read seat word.Gave m n at e has le c15 = rw (has.0, has.1, asked_again m n [] le) refl
 words_are_read seat word.Left m n at e has le c15 = rw (has.0, left_again seat m n e le has.1) refl
-words_are_read seat (word.Refused f) m n at e has le c15 = rw (has.0, has.1, refused_again seat f m n le has.2) refl
+words_are_read seat (word.Refused f) m n at e has le c15 =
+    rw (has.0, has.1, refused_again seat f m n le has.2) refl
 words_are_read seat word.Await m n at e has le c15 = rw (has.0, has.1, sleepers_again at n [] c15 le) refl
 words_are_read seat word.Lapse m n at e has le c15 = rw (has.0, has.1, lapse_again seat at e c15 has.2) refl
 words_are_read seat word.Signal m n at e has le c15 = rw (has.0, has.1, sleepers_again at n [] c15 le) refl
@@ -139,28 +155,35 @@ asked_plain m n lt = (mode_plain m, (decimal_plain n lt, tt))
 slept_plain : (c n : ℕ) → c < 2 ^ 64 → n < 2 ^ 64 → ArePlain (decimal c ∷ decimal n ∷ [])
 slept_plain c n c64 lt = (decimal_plain c c64, (decimal_plain n lt, tt))
 
-spelt_plain : (w : Word) (m : Mode) (n at : ℕ) (e : End) → HasWords w m n at e → n < 2 ^ 64 → at < 2 ^ 64 → ArePlain (spelt w m n at e)
+spelt_plain : (w : Word) (m : Mode) (n at : ℕ) (e : End) → HasWords w m n at e → n < 2 ^ 64 → at < 2 ^ 64 →
+    ArePlain (spelt w m n at e)
 spelt_plain word.Got m n at e has lt c64 = (refl, asked_plain m n lt)
 spelt_plain word.TryGot m n at e has lt c64 = (refl, asked_plain m n lt)
 spelt_plain word.Queued m n at e has lt c64 = (refl, asked_plain m n lt)
 spelt_plain word.Granted m n at e has lt c64 = (refl, asked_plain m n lt)
 spelt_plain word.Missed m n at e has lt c64 = (refl, asked_plain m n lt)
 spelt_plain word.Gave m n at e has lt c64 = (refl, asked_plain m n lt)
-spelt_plain word.Left m n at e has lt c64 = (refl, (mode_plain m, (decimal_plain n lt, (gave_up_plain e has.1, tt))))
-spelt_plain (word.Refused f) m n at e has lt c64 = (refl, (mode_plain m, (decimal_plain n lt, (name_plain f, tt))))
+spelt_plain word.Left m n at e has lt c64 =
+    (refl, (mode_plain m, (decimal_plain n lt, (gave_up_plain e has.1, tt))))
+spelt_plain (word.Refused f) m n at e has lt c64 =
+    (refl, (mode_plain m, (decimal_plain n lt, (name_plain f, tt))))
 spelt_plain word.Await m n at e has lt c64 = (refl, slept_plain at n c64 lt)
 spelt_plain word.Lapse m n at e has lt c64 = (refl, (decimal_plain at c64, (gave_up_plain e has.2, tt)))
 spelt_plain word.Signal m n at e has lt c64 = (refl, slept_plain at n c64 lt)
 spelt_plain word.SignalAll m n at e has lt c64 = (refl, slept_plain at n c64 lt)
-spelt_plain word.Back m n at e has lt c64 = (refl, (decimal_plain at c64, (decimal_plain n lt, (came_back_plain e has.1, tt))))
+spelt_plain word.Back m n at e has lt c64 =
+    (refl, (decimal_plain at c64, (decimal_plain n lt, (came_back_plain e has.1, tt))))
 spelt_plain word.Counted m n at e has lt c64 = (refl, asked_plain m n lt)
 spelt_plain word.Drained m n at e has lt c64 = (refl, asked_plain m n lt)
 
 pub plain_entry : (e : Entry) → IsWritten e → ArePlain (entry_words e)
-plain_entry e written = spelt_plain e.word e.mode e.n e.at e.end written.words (omega (arith, written.amount)) (omega (arith, written.condition))
+plain_entry e written =
+    spelt_plain e.word e.mode e.n e.at e.end written.words (omega (arith, written.amount))
+    (omega (arith, written.condition))
 
 pub words_again_read : (e : Entry) → IsWritten e → entry_at e.seat (entry_words e) ≡ Some (e, [])
-words_again_read e written = words_are_read e.seat e.word e.mode e.n e.at e.end written.words written.amount written.condition
+words_again_read e written =
+    words_are_read e.seat e.word e.mode e.n e.at e.end written.words written.amount written.condition
 
 -- no entry is read from no words
 some_words : (seat : ℕ) (ws : Words) (x : Entry × Words) → entry_at seat ws ≡ Some x → ws ≢ []
@@ -172,7 +195,10 @@ cut_again : (ws : Words) → ArePlain ws → ws ≢ [] → words_of (line_of ws)
 cut_again [] plain some = absurd (some refl)
 cut_again (w ∷ ws) plain some = words_again w ws plain
 
-pub entry_again : (seat : ℕ) (e : Entry) → IsWritten e → e.seat ≡ seat → entry_at seat (words_of (line_of (entry_words e))) ≡ Some (e, [])
+pub entry_again : (seat : ℕ) (e : Entry) → IsWritten e → e.seat ≡ seat →
+    entry_at seat (words_of (line_of (entry_words e))) ≡ Some (e, [])
 entry_again seat e written is =
-    let read : entry_at seat (entry_words e) ≡ Some (e, []) = ap (λ (i : ℕ). entry_at i (entry_words e)) (sym is) ∙ words_again_read e written in
-    ap (entry_at seat) (cut_again (entry_words e) (plain_entry e written) (some_words seat (entry_words e) (e, []) read)) ∙ read
+    let read : entry_at seat (entry_words e) ≡ Some (e, []) =
+    ap (λ (i : ℕ). entry_at i (entry_words e)) (sym is) ∙ words_again_read e written in
+    ap (entry_at seat) (cut_again (entry_words e) (plain_entry e written)
+    (some_words seat (entry_words e) (e, []) read)) ∙ read

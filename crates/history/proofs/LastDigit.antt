@@ -21,15 +21,20 @@ appends = record {
 last_digit : (n : ℕ) → 10 ≤ n → n < 2 ^ 64 → decimal n ≡ decimal (n / 10) ++ ((48 + n % 10) ∷ [])
 last_digit n ge fits =
     let below : n / 10 < 2 ^ 64 = omega (arith, fits) in
-    let long : length (decimal n) ≤ 21 = omega (arith, length-decimal-le 20 n (omega arith) (omega (arith, fits)) fits) in
+    let long : length (decimal n) ≤ 21 =
+    omega (arith, length-decimal-le 20 n (omega arith) (omega (arith, fits)) fits) in
     sym (decimal_from_appends by_last appends 21 n fits long) ∙ appends.more 20 n ge
-    ∙ ap (λ (t : List ℕ). t ++ ((48 + n % 10) ∷ [])) (decimal_from_appends by_last appends 20 (n / 10) below (length-decimal-le 20 (n / 10) (omega arith) (omega (arith, below)) below))
+    ∙ ap (λ (t : List ℕ). t ++ ((48 + n % 10) ∷ []))
+    (decimal_from_appends by_last appends 20 (n / 10) below
+    (length-decimal-le 20 (n / 10) (omega arith) (omega (arith, below)) below))
 
 pub two_digits : (n : ℕ) → 10 ≤ n → n < 100 → decimal n ≡ (48 + n / 10) ∷ (48 + n % 10) ∷ []
 two_digits n ge lt =
-    last_digit n ge (omega (arith, lt)) ∙ ap (λ (t : List ℕ). t ++ ((48 + n % 10) ∷ [])) (decimal_digit (n / 10) (omega (arith, lt)))
+    last_digit n ge (omega (arith, lt))
+    ∙ ap (λ (t : List ℕ). t ++ ((48 + n % 10) ∷ [])) (decimal_digit (n / 10) (omega (arith, lt)))
 
-pub last_two : (n : ℕ) → 100 ≤ n → n < 2 ^ 64 → decimal n ≡ decimal (n / 100) ++ ((48 + n % 100 / 10) ∷ (48 + n % 100 % 10) ∷ [])
+pub last_two : (n : ℕ) → 100 ≤ n → n < 2 ^ 64 →
+    decimal n ≡ decimal (n / 100) ++ ((48 + n % 100 / 10) ∷ (48 + n % 100 % 10) ∷ [])
 last_two n ge fits =
     let hundreds : n / 10 / 10 ≡ n / 100 = omega arith in
     let tens : n / 10 % 10 ≡ n % 100 / 10 = omega arith in

@@ -13,11 +13,13 @@ use Rattle.history.specs.Entry.{ends_arrival}
 use Rattle.history.specs.Line.{Arrived, arrived_at, arrivals, arrivals_by, Ending, ending, first_ending, is_open, stands, line}
 
 -- the arrivals of a history came by its entries
-each_below-append : (n : ℕ) (xs ys : List Arrived) → AllByRecursion (λ a. a.place ≤ n) xs → AllByRecursion (λ a. a.place ≤ n) ys → AllByRecursion (λ a. a.place ≤ n) (xs ++ ys)
+each_below-append : (n : ℕ) (xs ys : List Arrived) → AllByRecursion (λ a. a.place ≤ n) xs →
+    AllByRecursion (λ a. a.place ≤ n) ys → AllByRecursion (λ a. a.place ≤ n) (xs ++ ys)
 each_below-append n [] ys p q = q
 each_below-append n (x ∷ xs) ys p q = (p.0, each_below-append n xs ys p.1 q)
 
-below_more : (n : ℕ) (xs : List Arrived) → AllByRecursion (λ a. a.place ≤ n) xs → AllByRecursion (λ a. a.place ≤ n + 1) xs
+below_more : (n : ℕ) (xs : List Arrived) → AllByRecursion (λ a. a.place ≤ n) xs →
+    AllByRecursion (λ a. a.place ≤ n + 1) xs
 below_more n [] p = tt
 below_more n (x ∷ xs) p = (omega (arith, p.0), below_more n xs p.1)
 
@@ -49,7 +51,8 @@ and_true : (b : Bool) → (b && true) ≡ b
 and_true true = refl
 and_true false = refl
 
-stands_more : (e : Entry) (h : List Entry) (a : Arrived) → a.place ≤ length h → stands (e ∷ h) a ≡ (stands h a && keeps e.word e.seat a)
+stands_more : (e : Entry) (h : List Entry) (a : Arrived) → a.place ≤ length h →
+    stands (e ∷ h) a ≡ (stands h a && keeps e.word e.seat a)
 stands_more e h a p =
     let t : leb a.place (length h) ≡ true = le-leb _ _ p in
     let b = ends_arrival e.word && eqb e.seat a.who.seat in
@@ -57,17 +60,21 @@ stands_more e h a p =
     ∙ ap (λ x. stands h a && not (b && x)) t
     ∙ ap (λ x. stands h a && not x) (and_true b)
 
-filter_two : (p q r : Arrived → Bool) (n : ℕ) (xs : List Arrived) → AllByRecursion (λ a. a.place ≤ n) xs → ((a : Arrived) → a.place ≤ n → p a ≡ (q a && r a)) → filter p xs ≡ filter r (filter q xs)
+filter_two : (p q r : Arrived → Bool) (n : ℕ) (xs : List Arrived) → AllByRecursion (λ a. a.place ≤ n) xs →
+    ((a : Arrived) → a.place ≤ n → p a ≡ (q a && r a)) → filter p xs ≡ filter r (filter q xs)
 filter_two p q r n [] all same = refl
 filter_two p q r n (x ∷ xs) all same =
     let ih = filter_two p q r n xs all.1 same in
     two_at (p x) (q x) (r x) x xs p q r (same x all.0) refl ih
   where
-    two_at : (b c d : Bool) (x : Arrived) (xs : List Arrived) (p q r : Arrived → Bool) → b ≡ (c && d) → r x ≡ d → filter p xs ≡ filter r (filter q xs) → cond b (x ∷ filter p xs) (filter p xs) ≡ filter r (cond c (x ∷ filter q xs) (filter q xs))
+    two_at : (b c d : Bool) (x : Arrived) (xs : List Arrived) (p q r : Arrived → Bool) → b ≡ (c && d) →
+        r x ≡ d → filter p xs ≡ filter r (filter q xs) →
+        cond b (x ∷ filter p xs) (filter p xs) ≡ filter r (cond c (x ∷ filter q xs) (filter q xs))
     two_at b true d x xs p q r e f ih = rw e (rw f (ap (λ l. cond d (x ∷ l) l) ih))
     two_at b false d x xs p q r e f ih = rw e ih
 
-filter_all : (p : Arrived → Bool) (n : ℕ) (xs : List Arrival) → ((a : Arrival) → p (arrived_at n a) ≡ true) → filter p (map (arrived_at n) xs) ≡ map (arrived_at n) xs
+filter_all : (p : Arrived → Bool) (n : ℕ) (xs : List Arrival) →
+    ((a : Arrival) → p (arrived_at n a) ≡ true) → filter p (map (arrived_at n) xs) ≡ map (arrived_at n) xs
 filter_all p n [] all = refl
 filter_all p n (x ∷ xs) all = rw (all x) (ap (λ l. arrived_at n x ∷ l) (filter_all p n xs all))
 
@@ -87,11 +94,15 @@ ending_past (e ∷ h) i from p =
 abbrev pub stays : Word → ℕ → Arrival → Bool
 stays w i a = not (ends_arrival w && eqb i a.seat)
 
-map_filter : (w : Word) (i : ℕ) (xs : List Arrived) → map (λ a. a.who) (filter (keeps w i) xs) ≡ filter (stays w i) (map (λ a. a.who) xs)
+map_filter : (w : Word) (i : ℕ) (xs : List Arrived) →
+    map (λ a. a.who) (filter (keeps w i) xs) ≡ filter (stays w i) (map (λ a. a.who) xs)
 map_filter w i [] = refl
 map_filter w i (x ∷ xs) = by (keeps w i x) x xs (map_filter w i xs)
   where
-    by : (b : Bool) (x : Arrived) (xs : List Arrived) → map (λ a. a.who) (filter (keeps w i) xs) ≡ filter (stays w i) (map (λ a. a.who) xs) → map (λ a. a.who) (cond b (x ∷ filter (keeps w i) xs) (filter (keeps w i) xs)) ≡ cond b (x.who ∷ filter (stays w i) (map (λ a. a.who) xs)) (filter (stays w i) (map (λ a. a.who) xs))
+    by : (b : Bool) (x : Arrived) (xs : List Arrived) →
+        map (λ a. a.who) (filter (keeps w i) xs) ≡ filter (stays w i) (map (λ a. a.who) xs) →
+        map (λ a. a.who) (cond b (x ∷ filter (keeps w i) xs) (filter (keeps w i) xs))
+        ≡ cond b (x.who ∷ filter (stays w i) (map (λ a. a.who) xs)) (filter (stays w i) (map (λ a. a.who) xs))
     by true x xs ih = ap (λ l. x.who ∷ l) ih
     by false x xs ih = ih
 
@@ -99,29 +110,38 @@ map_who : (n : ℕ) (xs : List Arrival) → map (λ a. a.who) (map (arrived_at n
 map_who n [] = refl
 map_who n (x ∷ xs) = ap (λ l. x ∷ l) (map_who n xs)
 
-new_stand : (s : Start) (e : Entry) (h : List Entry) (b : Bool) → ends_arrival e.word ≡ b → (b ≡ true → arrivals_by s e.word e h ≡ []) → filter (stands (e ∷ h)) (map (arrived_at (length h)) (arrivals_by s e.word e h)) ≡ map (arrived_at (length h)) (arrivals_by s e.word e h)
+new_stand : (s : Start) (e : Entry) (h : List Entry) (b : Bool) → ends_arrival e.word ≡ b →
+    (b ≡ true → arrivals_by s e.word e h ≡ []) →
+    filter (stands (e ∷ h)) (map (arrived_at (length h)) (arrivals_by s e.word e h))
+    ≡ map (arrived_at (length h)) (arrivals_by s e.word e h)
 new_stand s e h true p none = rw (none refl) refl
 new_stand s e h false p none =
     filter_all (stands (e ∷ h)) (length h) (arrivals_by s e.word e h) (λ a.
     open_then (ending h a.seat (length h)) _ _ ∙ rw (ending_past h a.seat (length h) (omega arith)) (rw p refl))
 
-pub no_arrival : (s : Start) (w : Word) (e : Entry) (h : List Entry) → ends_arrival w ≡ true → arrivals_by s w e h ≡ []
+pub no_arrival : (s : Start) (w : Word) (e : Entry) (h : List Entry) → ends_arrival w ≡ true →
+    arrivals_by s w e h ≡ []
 no_arrival s Granted e h p = refl
 no_arrival s Left e h p = refl
 no_arrival s Back e h p = refl
 no_arrival s _ e h p = cc
 
 -- the line after an entry: those whose wait it doesn't end, and then those who arrive by it
-pub line_after : (s : Start) (e : Entry) (h : List Entry) → line s (e ∷ h) ≡ filter (stays e.word e.seat) (line s h) ++ arrivals_by s e.word e h
+pub line_after : (s : Start) (e : Entry) (h : List Entry) →
+    line s (e ∷ h) ≡ filter (stays e.word e.seat) (line s h) ++ arrivals_by s e.word e h
 line_after s e h =
     let new = map (arrived_at (length h)) (arrivals_by s e.word e h) in
-    let parts : filter (stands (e ∷ h)) (arrivals s h ++ new) ≡ filter (stands (e ∷ h)) (arrivals s h) ++ filter (stands (e ∷ h)) new = filter-append (stands (e ∷ h)) (arrivals s h) new in
-    let old : filter (stands (e ∷ h)) (arrivals s h) ≡ filter (keeps e.word e.seat) (filter (stands h) (arrivals s h)) =
+    let parts : filter (stands (e ∷ h)) (arrivals s h ++ new) ≡ filter (stands (e ∷ h)) (arrivals s h)
+    ++ filter (stands (e ∷ h)) new = filter-append (stands (e ∷ h)) (arrivals s h) new in
+    let old : filter (stands (e ∷ h)) (arrivals s h) ≡ filter (keeps e.word e.seat)
+    (filter (stands h) (arrivals s h)) =
     filter_two _ _ _ (length h) (arrivals s h) (arrivals_below s h) (stands_more e h) in
-    let fresh : filter (stands (e ∷ h)) new ≡ new = new_stand s e h (ends_arrival e.word) refl (no_arrival s e.word e h) in
+    let fresh : filter (stands (e ∷ h)) new ≡ new =
+    new_stand s e h (ends_arrival e.word) refl (no_arrival s e.word e h) in
     ap (map (λ a. a.who)) parts
     ∙ map-append (λ a. a.who) _ _
     ∙ ap (λ l. map (λ a. a.who) l ++ map (λ a. a.who) (filter (stands (e ∷ h)) new)) old
-    ∙ ap (λ l. l ++ map (λ a. a.who) (filter (stands (e ∷ h)) new)) (map_filter e.word e.seat (filter (stands h) (arrivals s h)))
+    ∙ ap (λ l. l ++ map (λ a. a.who) (filter (stands (e ∷ h)) new))
+    (map_filter e.word e.seat (filter (stands h) (arrivals s h)))
     ∙ ap (λ l. filter (stays e.word e.seat) (line s h) ++ map (λ a. a.who) l) fresh
     ∙ ap (λ l. filter (stays e.word e.seat) (line s h) ++ l) (map_who (length h) (arrivals_by s e.word e h))

@@ -35,12 +35,14 @@ lacks_byte c le w e = All-from_recursion _ w (lacks c le w e)
 pub words_again : (w : List ℕ) (ws : List (List ℕ)) → ArePlain (w ∷ ws) → words_of (line_of (w ∷ ws)) ≡ w ∷ ws
 words_again w [] h = slice_split_none _ w (lacks_byte 32 (omega arith) w h.0)
 words_again w (v ∷ ws) h =
-    slice_split_at _ w 32 (line_of (v ∷ ws)) (lacks_byte 32 (omega arith) w h.0) refl ∙ ap (λ (x : List (List ℕ)). w ∷ x) (words_again v ws h.1)
+    slice_split_at _ w 32 (line_of (v ∷ ws)) (lacks_byte 32 (omega arith) w h.0) refl
+    ∙ ap (λ (x : List (List ℕ)). w ∷ x) (words_again v ws h.1)
 
 pub decimal_plain : (n : ℕ) → n < 2 ^ 64 → is_plain (decimal n) ≡ true
 decimal_plain n lt = decimal_by_steps (λ n ds. is_plain ds ≡ true)
     (λ n small. rw (lt-ltb 32 (48 + n) (omega arith)) refl)
-    (λ n ds large front. list_all-append _ ds ((48 + n % 10) ∷ []) ∙ rw (front, lt-ltb 32 (48 + n % 10) (omega arith)) refl)
+    (λ n ds large front. list_all-append _ ds ((48 + n % 10) ∷ [])
+    ∙ rw (front, lt-ltb 32 (48 + n % 10) (omega arith)) refl)
     n lt
 
 pub signed_plain : (z : ℤ) → FitsSigned w32 z → is_plain (signed_decimal z) ≡ true

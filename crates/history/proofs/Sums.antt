@@ -10,10 +10,14 @@ use Rattle.history.specs.Changes.{took, gave_back}
 use Rattle.history.specs.Counts.{counts, total}
 use Rattle.history.specs.Counts.{seat_with}
 
-pub counts_got : (s : Start) (h : List Entry) (i : ℕ) (m : Mode) (n at : ℕ) (how : End) → counts s (record { seat = i; word = Got; mode = m; n = n; at = at; end = how } ∷ h) ≡ took (counts s h) i m n
+pub counts_got : (s : Start) (h : List Entry) (i : ℕ) (m : Mode) (n at : ℕ) (how : End) →
+    counts s (record { seat = i; word = Got; mode = m; n = n; at = at; end = how } ∷ h)
+    ≡ took (counts s h) i m n
 counts_got s h i m n at how = refl
 
-pub counts_gave : (s : Start) (h : List Entry) (i : ℕ) (m : Mode) (n at : ℕ) (how : End) → counts s (record { seat = i; word = Gave; mode = m; n = n; at = at; end = how } ∷ h) ≡ gave_back (counts s h) i m n
+pub counts_gave : (s : Start) (h : List Entry) (i : ℕ) (m : Mode) (n at : ℕ) (how : End) →
+    counts s (record { seat = i; word = Gave; mode = m; n = n; at = at; end = how } ∷ h)
+    ≡ gave_back (counts s h) i m n
 counts_gave s h i m n at how = refl
 
 -- the seat that has something, where one has or none
@@ -21,7 +25,8 @@ pub seat_with_none : (n : ℕ) (f : ℕ → ℕ) → ((i : ℕ) → f i ≡ 0) �
 seat_with_none zero f h = refl
 seat_with_none (suc n) f h = rw (h n) (seat_with_none n f h)
 
-pub seat_with_one : (n : ℕ) (f : ℕ → ℕ) (j : ℕ) → j < n → 0 < f j → ((i : ℕ) → i ≢ j → f i ≡ 0) → seat_with n f ≡ Some j
+pub seat_with_one : (n : ℕ) (f : ℕ → ℕ) (j : ℕ) → j < n → 0 < f j → ((i : ℕ) → i ≢ j → f i ≡ 0) →
+    seat_with n f ≡ Some j
 seat_with_one zero f j l p h = absurd (omega arith)
 seat_with_one (suc n) f j l p h =
     ⊎_elim same (λ ne. other ne (λ l'. seat_with_one n f j l' p h)) (cases_eq n j)
@@ -46,7 +51,8 @@ pub total_same : (n : ℕ) (f g : ℕ → ℕ) → ((i : ℕ) → f i ≡ g i) �
 total_same zero f g h = refl
 total_same (suc n) f g h = let e = total_same n f g h in let d = h n in omega (arith, e, d)
 
-pub total_change : (n : ℕ) (f g : ℕ → ℕ) (j : ℕ) → j < n → ((i : ℕ) → i ≢ j → f i ≡ g i) → total n f + g j ≡ total n g + f j
+pub total_change : (n : ℕ) (f g : ℕ → ℕ) (j : ℕ) → j < n → ((i : ℕ) → i ≢ j → f i ≡ g i) →
+    total n f + g j ≡ total n g + f j
 total_change zero f g j l h = absurd (omega arith)
 total_change (suc n) f g j l h =
     ⊎_elim same (λ ne. other ne (λ l'. total_change n f g j l' h)) (cases_eq n j)
@@ -66,7 +72,8 @@ total_change (suc n) f g j l h =
         let y : g n ≡ g j = ap g e in
         omega (arith, b, x, y)
 
-    other : (n ≡ j → ⊥) → (j < n → total n f + g j ≡ total n g + f j) → total (suc n) f + g j ≡ total (suc n) g + f j
+    other : (n ≡ j → ⊥) → (j < n → total n f + g j ≡ total n g + f j) →
+        total (suc n) f + g j ≡ total (suc n) g + f j
     other ne ih =
         let r : total n f + g j ≡ total n g + f j = ih (omega (arith, ne, l)) in
         let d : f n ≡ g n = h n ne in

@@ -130,7 +130,8 @@ pub line_seated_next : (s : Start) (h : List Entry) (e : Entry) → Waits s h �
     LineSeated s.header.seats (line s h) → LineSeated s.header.seats (line s (e ∷ h))
 line_seated_next s h e v k l all =
     subst (LineSeated s.header.seats) (sym (line_after s e h))
-    (each-append (λ a. a.seat < s.header.seats) _ _ (each-filter (λ a. a.seat < s.header.seats) (stays e.word e.seat) (line s h) all)
+    (each-append (λ a. a.seat < s.header.seats) _ _
+    (each-filter (λ a. a.seat < s.header.seats) (stays e.word e.seat) (line s h) all)
     (by e.word k))
   where
     sleeper : (i : ℕ) → has i (sleepers s h e.at) ≡ true → i < s.header.seats

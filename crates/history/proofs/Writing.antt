@@ -4,5 +4,8 @@ use Rattle.std.specs.Prelude.{Result, OnOk}
 use Rattle.std.proofs.lemmas.Result.{on_ok_weaker}
 
 -- two names, each with what follows it
-pub two_parts : {T E : Type 0} (r : Result T E) (old between new a b xs ys : List ℕ) → between ≡ old ++ a ++ xs → OnOk r (new ≡ between ++ b ++ ys) → OnOk r (new ≡ old ++ (a ++ (xs ++ (b ++ ys))))
-two_parts r old between new a b xs ys first second = on_ok_weaker r (λ e. e ∙ rw first (simp append_assoc)) second
+pub two_parts : {T E : Type 0} (r : Result T E) (old between new a b xs ys : List ℕ) →
+    between ≡ old ++ a ++ xs → OnOk r (new ≡ between ++ b ++ ys) →
+    OnOk r (new ≡ old ++ (a ++ (xs ++ (b ++ ys))))
+two_parts r old between new a b xs ys first second =
+    on_ok_weaker r (λ e. e ∙ rw first (simp append_assoc)) second

@@ -36,7 +36,8 @@ gave_back k i m n =
 
 -- a latch was counted down
 abbrev pub counted_down : Counts → Counts
-counted_down k = record { object = k.object; seats = k.seats; held = k.held; free = k.free; count = k.count - 1 }
+counted_down k =
+    record { object = k.object; seats = k.seats; held = k.held; free = k.free; count = k.count - 1 }
 
 -- a give of each object
 abbrev pub given_of : Object → Counts → ℕ → Mode → ℕ → Counts
@@ -49,12 +50,24 @@ given k i m n = given_of k.object k i m n
 -- a seat gave up all its exclusive holds to sleep
 abbrev pub let_go : Counts → ℕ → Counts
 let_go k i =
-    record { object = k.object; seats = k.seats; held = holds_with i X (λ had. 0) k.held; free = k.free; count = k.count }
+    record {
+      object = k.object;
+      seats = k.seats;
+      held = holds_with i X (λ had. 0) k.held;
+      free = k.free;
+      count = k.count;
+    }
 
 -- a seat that slept has its exclusive holds again
 abbrev pub restored : Counts → ℕ → ℕ → Counts
 restored k i n =
-    record { object = k.object; seats = k.seats; held = holds_with i X (λ had. had + n) k.held; free = k.free; count = k.count }
+    record {
+      object = k.object;
+      seats = k.seats;
+      held = holds_with i X (λ had. had + n) k.held;
+      free = k.free;
+      count = k.count;
+    }
 
 -- a seat took n, all the free permits that there are
 abbrev pub drained : Counts → ℕ → ℕ → Counts

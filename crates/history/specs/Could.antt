@@ -55,7 +55,8 @@ limit k i m = limit_of k.object k i m
 -- A call of the owner, and a read by a seat that reads, is reentrant. Permits are no holds of this kind.
 abbrev pub is_reentrant_of : Object → Counts → ℕ → Mode → Bool
 is_reentrant_of (Lock policy) k i m = is_seat (owner k) i
-is_reentrant_of (ReadWrite policy) k i m = is_seat (owner k) i || (not (is_exclusive m) && nat_lt 0 (k.held i S))
+is_reentrant_of (ReadWrite policy) k i m =
+    is_seat (owner k) i || (not (is_exclusive m) && nat_lt 0 (k.held i S))
 is_reentrant_of _ k i m = false
 
 abbrev pub is_reentrant : Counts → ℕ → Mode → Bool
@@ -66,7 +67,8 @@ is_reentrant k i m = is_reentrant_of k.object k i m
 abbrev pub line_blocks : Object → Mode → Option Mode → Bool
 line_blocks o m None = false
 line_blocks (Lock policy) m (Some first) = is_fair_policy policy
-line_blocks (ReadWrite policy) m (Some first) = is_fair_policy policy || (not (is_exclusive m) && is_exclusive first)
+line_blocks (ReadWrite policy) m (Some first) =
+    is_fair_policy policy || (not (is_exclusive m) && is_exclusive first)
 line_blocks (Semaphore policy permits) m (Some first) = is_fair_policy policy
 line_blocks (Latch opening) m (Some first) = false
 

@@ -28,7 +28,8 @@ holds_after o _ n had = had
 abbrev pub held : Start → List Entry → ℕ → Mode → ℕ
 held s [] i m = s.held i m
 held s (e ∷ h) i m =
-    if (e.seat == i) && same_mode e.mode m then holds_after s.header.object e.word e.n (held s h i m) else held s h i m
+    if (e.seat == i) && same_mode e.mode m then holds_after s.header.object e.word e.n (held s h i m)
+    else held s h i m
 
 -- the part of a give that is above what its seat held
 abbrev pub beyond : Word → ℕ → ℕ → ℕ
@@ -38,7 +39,8 @@ beyond _ n had = 0
 -- the permits of a semaphore that were released by seats which didn't hold them
 abbrev pub unheld : Start → List Entry → ℕ
 unheld s [] = s.unheld
-unheld s (e ∷ h) = unheld s h + (if is_semaphore s.header.object then beyond e.word e.n (held s h e.seat e.mode) else 0)
+unheld s (e ∷ h) =
+    unheld s h + (if is_semaphore s.header.object then beyond e.word e.n (held s h e.seat e.mode) else 0)
 
 -- the free permits: those at the start, less what was taken, and what was given
 abbrev pub free_after : Word → ℕ → ℤ → ℤ

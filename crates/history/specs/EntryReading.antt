@@ -55,10 +55,12 @@ sleepers_at words = do
 
 -- the entries that spell a mode and an amount, and those that spell a condition and an amount
 abbrev pub in_mode : ℕ → Word → Mode × ℕ → Entry
-in_mode seat word asked = record { seat = seat; word = word; mode = asked.0; n = asked.1; at = 0; end = end.None }
+in_mode seat word asked =
+    record { seat = seat; word = word; mode = asked.0; n = asked.1; at = 0; end = end.None }
 
 abbrev pub on_condition : ℕ → Word → ℕ × ℕ → Entry
-on_condition seat word slept = record { seat = seat; word = word; mode = X; n = slept.1; at = slept.0; end = end.None }
+on_condition seat word slept =
+    record { seat = seat; word = word; mode = X; n = slept.1; at = slept.0; end = end.None }
 
 abbrev pub asking : ℕ → Word → Words → Option (Entry × Words)
 asking seat word words = asked_at words >>= λ a. Some (in_mode seat word a.0, a.1)

@@ -49,7 +49,8 @@ first_ending None b y = if b then Some y else None
 abbrev pub ending : List Entry → ℕ → ℕ → Option Ending
 ending [] i from = None
 ending (e ∷ h) i from =
-    first_ending (ending h i from) ((ends_arrival e.word && (e.seat == i)) && nat_le from (length h)) (record { place = length h; word = e.word })
+    first_ending (ending h i from) ((ends_arrival e.word && (e.seat == i)) && nat_le from (length h))
+    (record { place = length h; word = e.word })
 
 abbrev pub is_open : Option Ending → Bool
 is_open None = true

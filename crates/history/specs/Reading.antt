@@ -34,7 +34,9 @@ keyword_at word (w ∷ ws) = if bytes_eq w word then Some (tt, ws) else None
 
 -- the number that a word spells
 unfoldable pub number_from : List ℕ → Option ℕ
-number_from w = if bytes_eq w (decimal (digits_value 10 w)) && nat_lt (digits_value 10 w) (2 ^ 64) then Some (digits_value 10 w) else None
+number_from w =
+    if bytes_eq w (decimal (digits_value 10 w)) && nat_lt (digits_value 10 w) (2 ^ 64)
+    then Some (digits_value 10 w) else None
 
 abbrev pub number_at : ℕ → ℕ → Words → Option (ℕ × Words)
 number_at least most words = do
@@ -44,11 +46,13 @@ number_at least most words = do
 
 abbrev pub policy_at : Words → Option (Policy × Words)
 policy_at [] = None
-policy_at (w ∷ ws) = if bytes_eq w (codes "fair") then Some (Fair, ws) else if bytes_eq w (codes "nonfair") then Some (NonFair, ws) else None
+policy_at (w ∷ ws) = if bytes_eq w (codes "fair") then Some (Fair, ws)
+    else if bytes_eq w (codes "nonfair") then Some (NonFair, ws) else None
 
 abbrev pub mode_at : Words → Option (Mode × Words)
 mode_at [] = None
-mode_at (w ∷ ws) = if bytes_eq w (codes "x") then Some (X, ws) else if bytes_eq w (codes "s") then Some (S, ws) else None
+mode_at (w ∷ ws) = if bytes_eq w (codes "x") then Some (X, ws)
+    else if bytes_eq w (codes "s") then Some (S, ws) else None
 
 -- a name and a number
 abbrev pub named_at : List ℕ → ℕ → ℕ → Words → Option (ℕ × Words)

@@ -15,13 +15,17 @@ policy_word NonFair = codes "nonfair"
 -- an object with its seats, conditions and cap
 abbrev pub object_words : Object → ℕ → ℕ → ℕ → List (List ℕ)
 object_words (Lock policy) seats conditions cap =
-    codes "lock" ∷ policy_word policy ∷ codes "seats" ∷ decimal seats ∷ codes "conditions" ∷ decimal conditions ∷ codes "cap" ∷ decimal cap ∷ []
+    codes "lock" ∷ policy_word policy ∷ codes "seats" ∷ decimal seats
+    ∷ codes "conditions" ∷ decimal conditions ∷ codes "cap" ∷ decimal cap ∷ []
 object_words (ReadWrite policy) seats conditions cap =
-    codes "rw" ∷ policy_word policy ∷ codes "seats" ∷ decimal seats ∷ codes "conditions" ∷ decimal conditions ∷ codes "cap" ∷ decimal cap ∷ []
+    codes "rw" ∷ policy_word policy ∷ codes "seats" ∷ decimal seats
+    ∷ codes "conditions" ∷ decimal conditions ∷ codes "cap" ∷ decimal cap ∷ []
 object_words (Semaphore policy permits) seats conditions cap =
-    codes "semaphore" ∷ policy_word policy ∷ codes "seats" ∷ decimal seats ∷ codes "permits" ∷ signed_decimal permits ∷ codes "cap" ∷ decimal cap ∷ []
+    codes "semaphore" ∷ policy_word policy ∷ codes "seats" ∷ decimal seats
+    ∷ codes "permits" ∷ signed_decimal permits ∷ codes "cap" ∷ decimal cap ∷ []
 object_words (Latch count) seats conditions cap =
-    codes "latch" ∷ codes "seats" ∷ decimal seats ∷ codes "count" ∷ decimal count ∷ codes "cap" ∷ decimal cap ∷ []
+    codes "latch" ∷ codes "seats" ∷ decimal seats ∷ codes "count" ∷ decimal count
+    ∷ codes "cap" ∷ decimal cap ∷ []
 
 abbrev pub part_words : Header → List (List ℕ)
 part_words h = object_words h.object h.seats h.conditions h.cap

@@ -110,7 +110,8 @@ back s h i =
     }
 
 abbrev pub lapse : Start → List Entry → ℕ → End → Entry
-lapse s h i how = record { seat = i; word = word.Lapse; mode = X; n = 0; at = (last_sleep s h i).condition; end = how }
+lapse s h i how =
+    record { seat = i; word = word.Lapse; mode = X; n = 0; at = (last_sleep s h i).condition; end = how }
 
 -- what an acquire in line makes of a step, whether it may go or not; None is sleep
 abbrev pub queued_entry : Bool → ℕ → Arrival → Step → Option Entry

@@ -32,9 +32,15 @@ impl Model for History {
 
     ghost Value = { HistoryView };
 
-    ghost view = { λ a. record { cap = a.cap; entries = reverse a.entries.items; owed = a.owed; places = vec_capacity a.entries } };
+    ghost view = { λ a. record {
+      cap = a.cap;
+      entries = reverse a.entries.items;
+      owed = a.owed;
+      places = vec_capacity a.entries;
+    } };
 
-    ghost invariant = { λ a. (vec_len a.entries + a.owed ≤ vec_capacity a.entries) × (vec_capacity a.entries ≤ a.cap) × (a.calls ≡ ended_calls (reverse a.entries.items)) × (a.cap < 2 ^ 32) };
+    ghost invariant = { λ a. (vec_len a.entries + a.owed ≤ vec_capacity a.entries)
+        × (vec_capacity a.entries ≤ a.cap) × (a.calls ≡ ended_calls (reverse a.entries.items)) × (a.cap < 2 ^ 32) };
 }
 
 impl History {
@@ -107,9 +113,11 @@ impl History {
     /// What is reserved already takes no memory, and so does 0. The places at least double where they grow,
     /// up to the cap, so that n entries cost O(n) in all.
     pub fn make_room(&mut self, needed: u64) -> Result<(), Fault>
-        ensures full { IsErrOf result HistoryFull ↔ (self.old.cap < length self.old.entries + self.old.owed + needed) }
+        ensures full { IsErrOf result HistoryFull
+            ↔ (self.old.cap < length self.old.entries + self.old.owed + needed) }
         ensures faults { IfErr result (λ fault. (fault ≡ HistoryFull) ⊎ (fault ≡ OutOfMemory)) }
-        ensures reserved { length self.old.entries + self.old.owed + needed ≤ self.old.places → IsOk result × (self.new ≡ self.old) }
+        ensures reserved { length self.old.entries + self.old.owed + needed ≤ self.old.places → IsOk result
+            × (self.new ≡ self.old) }
 
         ensures ok { OnOk result (length self.new.entries + self.new.owed + needed ≤ self.new.places) }
         ensures within_cap { OnOk result (length self.new.entries + self.new.owed + needed ≤ self.new.cap) }
@@ -117,7 +125,8 @@ impl History {
 
         // Nothing but the places changes, and they only grow.
         ensures same { self.new ≡ record self.old { places = self.new.places } }
-        ensures grows { (self.new.places ≡ self.old.places) ⊎ (2 * self.old.places ≤ self.new.places) ⊎ (self.new.places ≡ self.old.cap) }
+        ensures grows { (self.new.places ≡ self.old.places) ⊎ (2 * self.old.places ≤ self.new.places)
+            ⊎ (self.new.places ≡ self.old.cap) }
     {
         let cap = u64::from(self.cap);
         let places = self.entries.capacity() as u64;

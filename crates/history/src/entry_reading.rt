@@ -77,7 +77,8 @@ fn recorded(words: &mut Words<'_>) -> Option<Fault>
 #[inline(always)]
 fn asked(words: &mut Words<'_>) -> Option<(Mode, u32)>
     ensures is { with_rest result words.new ≡ asked_at words.old }
-    ensures found { IfSome result (λ a. (words.old ≡ mode_word a.0 ∷ decimal a.1 ∷ words.new) × (a.1 ≤ 2147483647)) }
+    ensures found { IfSome result (λ a. (words.old ≡ mode_word a.0 ∷ decimal a.1 ∷ words.new)
+        × (a.1 ≤ 2147483647)) }
 {
     let mode = words.mode()?;
     let n = words.number(0, MOST)?;
@@ -98,7 +99,8 @@ fn condition(words: &mut Words<'_>) -> Option<u8>
 #[inline(always)]
 fn sleepers(words: &mut Words<'_>) -> Option<(u8, u32)>
     ensures is { with_rest result words.new ≡ sleepers_at words.old }
-    ensures found { IfSome result (λ s. (words.old ≡ decimal s.0 ∷ decimal s.1 ∷ words.new) × (s.0 ≤ 15) × (s.1 ≤ 2147483647)) }
+    ensures found { IfSome result (λ s. (words.old ≡ decimal s.0 ∷ decimal s.1 ∷ words.new) × (s.0 ≤ 15)
+        × (s.1 ≤ 2147483647)) }
 {
     let at = condition(words)?;
     let n = words.number(0, MOST)?;
@@ -140,7 +142,8 @@ fn on_condition(seat: u16, word: Word, slept: (u8, u32)) -> Entry
 #[tactic(auto, unfolding(crate::specs::EntryReading::left_at))]
 fn left(words: &mut Words<'_>, seat: u16) -> Option<Entry>
     ensures is { with_rest result words.new ≡ left_at seat words.old }
-    ensures found { IfSome result (λ e. IsWritten e × (e.seat ≡ seat) × (codes "left" ∷ words.old ≡ entry_words e ++ words.new)) }
+    ensures found { IfSome result (λ e. IsWritten e × (e.seat ≡ seat)
+        × (codes "left" ∷ words.old ≡ entry_words e ++ words.new)) }
 {
     let (mode, n) = asked(words)?;
     let end = given_up(words)?;
@@ -157,7 +160,8 @@ fn left(words: &mut Words<'_>, seat: u16) -> Option<Entry>
 #[tactic(auto, unfolding(crate::specs::EntryReading::refused_at))]
 fn refused(words: &mut Words<'_>, seat: u16) -> Option<Entry>
     ensures is { with_rest result words.new ≡ refused_at seat words.old }
-    ensures found { IfSome result (λ e. IsWritten e × (e.seat ≡ seat) × (codes "refused" ∷ words.old ≡ entry_words e ++ words.new)) }
+    ensures found { IfSome result (λ e. IsWritten e × (e.seat ≡ seat)
+        × (codes "refused" ∷ words.old ≡ entry_words e ++ words.new)) }
 {
     let asked = asked(words)?;
     let fault = recorded(words)?;
@@ -167,7 +171,8 @@ fn refused(words: &mut Words<'_>, seat: u16) -> Option<Entry>
 #[tactic(auto, unfolding(crate::specs::EntryReading::lapse_at))]
 fn lapse(words: &mut Words<'_>, seat: u16) -> Option<Entry>
     ensures is { with_rest result words.new ≡ lapse_at seat words.old }
-    ensures found { IfSome result (λ e. IsWritten e × (e.seat ≡ seat) × (codes "lapse" ∷ words.old ≡ entry_words e ++ words.new)) }
+    ensures found { IfSome result (λ e. IsWritten e × (e.seat ≡ seat)
+        × (codes "lapse" ∷ words.old ≡ entry_words e ++ words.new)) }
 {
     let at = condition(words)?;
     let end = given_up(words)?;
@@ -184,7 +189,8 @@ fn lapse(words: &mut Words<'_>, seat: u16) -> Option<Entry>
 #[tactic(auto, unfolding(crate::specs::EntryReading::back_at))]
 fn back(words: &mut Words<'_>, seat: u16) -> Option<Entry>
     ensures is { with_rest result words.new ≡ back_at seat words.old }
-    ensures found { IfSome result (λ e. IsWritten e × (e.seat ≡ seat) × (codes "back" ∷ words.old ≡ entry_words e ++ words.new)) }
+    ensures found { IfSome result (λ e. IsWritten e × (e.seat ≡ seat)
+        × (codes "back" ∷ words.old ≡ entry_words e ++ words.new)) }
 {
     let (at, n) = sleepers(words)?;
     let end = come_back(words)?;
@@ -203,7 +209,8 @@ fn back(words: &mut Words<'_>, seat: u16) -> Option<Entry>
 fn shared(words: &mut Words<'_>, seat: u16, word: Word, least: u64, most: u64) -> Option<Entry>
     requires { most ≤ 2147483647 }
     ensures is { with_rest result words.new ≡ shared_at seat word least most words.old }
-    ensures found { IfSome result (λ e. (e ≡ in_mode seat word (S, e.n)) × (least ≤ e.n) × (e.n ≤ most) × (words.old ≡ mode_word S ∷ decimal e.n ∷ words.new)) }
+    ensures found { IfSome result (λ e. (e ≡ in_mode seat word (S, e.n)) × (least ≤ e.n) × (e.n ≤ most)
+        × (words.old ≡ mode_word S ∷ decimal e.n ∷ words.new)) }
 {
     words.expect(b"s")?;
     let n = words.number(least, most)?;
@@ -214,7 +221,8 @@ fn shared(words: &mut Words<'_>, seat: u16, word: Word, least: u64, most: u64) -
 #[tactic(auto, unfolding(crate::specs::EntryReading::named_entry_at))]
 fn named_entry(words: &mut Words<'_>, seat: u16, name: &[u8]) -> Option<Entry>
     ensures is { with_rest result words.new ≡ named_entry_at seat name.now words.old }
-    ensures found { IfSome result (λ e. IsWritten e × (e.seat ≡ seat) × (name.now ∷ words.old ≡ entry_words e ++ words.new)) }
+    ensures found { IfSome result (λ e. IsWritten e × (e.seat ≡ seat)
+        × (name.now ∷ words.old ≡ entry_words e ++ words.new)) }
 {
     if name == b"left".as_slice() {
         left(words, seat)
@@ -249,7 +257,8 @@ impl<'a> Words<'a> {
     #[tactic(auto, unfolding(crate::specs::EntryReading::entry_at))]
     pub fn entry(&mut self, seat: u16) -> Option<Entry>
         ensures is { with_rest result self.new ≡ entry_at seat self.old }
-        ensures found { IfSome result (λ e. IsWritten e × (e.seat ≡ seat) × (self.old ≡ entry_words e ++ self.new)) }
+        ensures found { IfSome result (λ e. IsWritten e × (e.seat ≡ seat)
+            × (self.old ≡ entry_words e ++ self.new)) }
     {
         let name = self.next()?;
         if name == b"got".as_slice() {
@@ -278,8 +287,10 @@ impl Entry {
 
     /// The entry of this seat whose words the bytes are.
     pub fn read_words(seat: u16, bytes: &[u8]) -> Option<Entry>
-        ensures found { IfSome result (λ e. IsWritten e × (e.seat ≡ seat) × (bytes.now ≡ line_of (entry_words e))) }
-        ensures none { IfNone result ((e : Entry) → IsWritten e → e.seat ≡ seat → bytes.now ≢ line_of (entry_words e)) }
+        ensures found { IfSome result (λ e. IsWritten e × (e.seat ≡ seat)
+            × (bytes.now ≡ line_of (entry_words e))) }
+        ensures none { IfNone result ((e : Entry) → IsWritten e → e.seat ≡ seat →
+            bytes.now ≢ line_of (entry_words e)) }
     {
         let mut words = Words::of(bytes);
         let entry = words.entry(seat)?;

@@ -190,7 +190,8 @@ fn put_asked(line: &mut [u8], at: usize, name: &[u8], once: &[u8], mode: Mode, n
     requires once { once.now ≡ name.now ++ codes " x 1" }
     requires room { at + length name.now + 23 ≤ length line.old }
     ensures end { result ≤ at + length name.now + 23 }
-    ensures words { take result line.new ≡ take at line.old ++ line_of (name.now ∷ mode_word mode ∷ decimal n ∷ []) }
+    ensures words { take result line.new ≡ take at line.old
+        ++ line_of (name.now ∷ mode_word mode ∷ decimal n ∷ []) }
     ensures rest { drop (at + length name.now + 23) line.new ≡ drop (at + length name.now + 23) line.old }
 {
     if n == 1 && mode.is_exclusive() {
@@ -205,7 +206,8 @@ fn put_asked(line: &mut [u8], at: usize, name: &[u8], once: &[u8], mode: Mode, n
 fn put_amount(line: &mut [u8], at: usize, name: &[u8], mode: Mode, n: u32) -> usize
     requires { at + length name.now + 23 ≤ length line.old }
     ensures end { result ≤ at + length name.now + 23 }
-    ensures words { take result line.new ≡ take at line.old ++ line_of (name.now ∷ mode_word mode ∷ decimal n ∷ []) }
+    ensures words { take result line.new ≡ take at line.old
+        ++ line_of (name.now ∷ mode_word mode ∷ decimal n ∷ []) }
     ensures rest { drop (at + length name.now + 23) line.new ≡ drop (at + length name.now + 23) line.old }
 {
     let mode_at = put_bytes(line, at, name);
@@ -219,7 +221,8 @@ fn put_amount(line: &mut [u8], at: usize, name: &[u8], mode: Mode, n: u32) -> us
 fn put_at(line: &mut [u8], at: usize, name: &[u8], condition: u8, n: u32) -> usize
     requires { at + length name.now + 41 ≤ length line.old }
     ensures end { result ≤ at + length name.now + 41 }
-    ensures words { take result line.new ≡ take at line.old ++ name.now ++ line_of (decimal condition ∷ decimal n ∷ []) }
+    ensures words { take result line.new ≡ take at line.old ++ name.now
+        ++ line_of (decimal condition ∷ decimal n ∷ []) }
     ensures rest { drop (at + length name.now + 41) line.new ≡ drop (at + length name.now + 41) line.old }
 {
     let condition_at = put_bytes(line, at, name);

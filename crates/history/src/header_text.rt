@@ -21,7 +21,8 @@ const LARGEST_CAP: u64 = 4_294_967_295;
 #[tactic(auto, unfolding(crate::specs::Reading::lock_at))]
 fn lock(words: &mut Words<'_>, read_write: bool) -> Option<Header>
     ensures is { with_rest result words.new ≡ lock_at (if read_write then ReadWrite else Lock) words.old }
-    ensures found { IfSome result (λ h. IsInRange h × ((if read_write then codes "rw" else codes "lock") ∷ words.old ≡ part_words h ++ words.new)) }
+    ensures found { IfSome result (λ h. IsInRange h
+        × ((if read_write then codes "rw" else codes "lock") ∷ words.old ≡ part_words h ++ words.new)) }
 {
     let policy = words.policy()?;
     let seats = words.named(b"seats", 1, 256)?;
@@ -43,7 +44,8 @@ fn lock(words: &mut Words<'_>, read_write: bool) -> Option<Header>
 #[tactic(auto, unfolding(crate::specs::Reading::semaphore_at))]
 fn semaphore(words: &mut Words<'_>) -> Option<Header>
     ensures is { with_rest result words.new ≡ semaphore_at words.old }
-    ensures found { IfSome result (λ h. IsInRange h × (codes "semaphore" ∷ words.old ≡ part_words h ++ words.new)) }
+    ensures found { IfSome result (λ h. IsInRange h
+        × (codes "semaphore" ∷ words.old ≡ part_words h ++ words.new)) }
 {
     let policy = words.policy()?;
     let seats = words.named(b"seats", 1, 256)?;
@@ -173,7 +175,8 @@ fn put_named(out: &mut Vec<u8>, name: &[u8], number: u64) -> Result<(), AllocErr
 
 /// Appends the conditions and the cap, or a front of them.
 fn put_conditions(out: &mut Vec<u8>, conditions: u8, cap: u32) -> Result<(), AllocError>
-    ensures ok { OnOk result (out.new.items ≡ out.old.items ++ 32 ∷ line_of (codes "conditions" ∷ decimal conditions ∷ codes "cap" ∷ decimal cap ∷ [])) }
+    ensures ok { OnOk result (out.new.items ≡ out.old.items ++ 32
+        ∷ line_of (codes "conditions" ∷ decimal conditions ∷ codes "cap" ∷ decimal cap ∷ [])) }
     ensures err { OnErr result (take (length out.old.items) out.new.items ≡ out.old.items) }
 {
     put_named(out, b" conditions ", u64::from(conditions))?;
@@ -182,7 +185,8 @@ fn put_conditions(out: &mut Vec<u8>, conditions: u8, cap: u32) -> Result<(), All
 
 /// Appends a semaphore's permits and the cap, or a front of them.
 fn put_opening_permits(out: &mut Vec<u8>, permits: i32, cap: u32) -> Result<(), AllocError>
-    ensures ok { OnOk result (out.new.items ≡ out.old.items ++ 32 ∷ line_of (codes "permits" ∷ signed_decimal permits ∷ codes "cap" ∷ decimal cap ∷ [])) }
+    ensures ok { OnOk result (out.new.items ≡ out.old.items ++ 32
+        ∷ line_of (codes "permits" ∷ signed_decimal permits ∷ codes "cap" ∷ decimal cap ∷ [])) }
     ensures err { OnErr result (take (length out.old.items) out.new.items ≡ out.old.items) }
 {
     out.extend_from_slice(b" permits ")?;
@@ -192,7 +196,8 @@ fn put_opening_permits(out: &mut Vec<u8>, permits: i32, cap: u32) -> Result<(), 
 
 /// Appends a latch's count and the cap, or a front of them.
 fn put_count(out: &mut Vec<u8>, count: u32, cap: u32) -> Result<(), AllocError>
-    ensures ok { OnOk result (out.new.items ≡ out.old.items ++ 32 ∷ line_of (codes "count" ∷ decimal count ∷ codes "cap" ∷ decimal cap ∷ [])) }
+    ensures ok { OnOk result (out.new.items ≡ out.old.items ++ 32
+        ∷ line_of (codes "count" ∷ decimal count ∷ codes "cap" ∷ decimal cap ∷ [])) }
     ensures err { OnErr result (take (length out.old.items) out.new.items ≡ out.old.items) }
 {
     put_named(out, b" count ", u64::from(count))?;
@@ -202,7 +207,8 @@ fn put_count(out: &mut Vec<u8>, count: u32, cap: u32) -> Result<(), AllocError>
 /// Appends an object's name with its space, a policy and the seats, or a front of them.
 #[inline(always)]
 fn put_kind(out: &mut Vec<u8>, name: &[u8], policy: Policy, seats: u16) -> Result<(), AllocError>
-    ensures ok { OnOk result (out.new.items ≡ out.old.items ++ name.now ++ line_of (policy_word policy ∷ codes "seats" ∷ decimal seats ∷ [])) }
+    ensures ok { OnOk result (out.new.items ≡ out.old.items ++ name.now
+        ++ line_of (policy_word policy ∷ codes "seats" ∷ decimal seats ∷ [])) }
     ensures err { OnErr result (take (length out.old.items) out.new.items ≡ out.old.items) }
 {
     out.extend_from_slice(name)?;

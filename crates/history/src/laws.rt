@@ -17,5 +17,6 @@ pub fn one_header()
 
 /// No two entries of a seat have the same words.
 pub fn one_entry()
-    ensures { (e f : Entry) → IsWritten e → IsWritten f → e.seat ≡ f.seat → line_of (entry_words e) ≡ line_of (entry_words f) → e ≡ f }
+    ensures { (e f : Entry) → IsWritten e → IsWritten f → e.seat ≡ f.seat →
+        line_of (entry_words e) ≡ line_of (entry_words f) → e ≡ f }
 {}

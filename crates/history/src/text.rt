@@ -16,7 +16,8 @@ pub fn place_of(byte: u8, bytes: &[u8]) -> Option<usize>
 /// The first line, without its break, and what follows the break. None where the text has no break.
 #[inline(always)]
 pub fn first_line(text: &[u8]) -> Option<(&[u8], &[u8])>
-    ensures { MatchOption result (IsLine text.now) (λ r. (text.now ≡ r.0.now ++ 10 ∷ r.1.now) × IsLine r.0.now) }
+    ensures { MatchOption result (IsLine text.now) (λ r. (text.now ≡ r.0.now ++ 10 ∷ r.1.now)
+        × IsLine r.0.now) }
 {
     let at = memchr(b'\n', text)?;
     Some((&text[..at], &text[at + 1..]))
@@ -25,7 +26,8 @@ pub fn first_line(text: &[u8]) -> Option<(&[u8], &[u8])>
 /// What stands behind this beginning. None where the line begins otherwise.
 #[inline(always)]
 pub fn behind<'a>(beginning: &[u8], line: &'a [u8]) -> Option<&'a [u8]>
-    ensures { MatchOption result ((more : List ℕ) → line.entry.now ≢ beginning.now ++ more) (λ rest. line.entry.now ≡ beginning.now ++ rest.now) }
+    ensures { MatchOption result ((more : List ℕ) → line.entry.now ≢ beginning.now ++ more)
+        (λ rest. line.entry.now ≡ beginning.now ++ rest.now) }
 {
     line.strip_prefix(beginning)
 }

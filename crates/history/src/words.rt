@@ -115,7 +115,8 @@ impl<'a> Words<'a> {
     /// Takes this name and a number, if they come next.
     pub(crate) fn named(&mut self, name: &[u8], least: u64, most: u64) -> Option<u64>
         ensures is { with_rest result self.new ≡ named_at name.now least most self.old }
-        ensures found { IfSome result (λ n. (self.old ≡ name.now ∷ decimal n ∷ self.new) × (least ≤ n) × (n ≤ most)) }
+        ensures found { IfSome result (λ n. (self.old ≡ name.now ∷ decimal n ∷ self.new) × (least ≤ n)
+            × (n ≤ most)) }
     {
         self.expect(name)?;
         self.number(least, most)

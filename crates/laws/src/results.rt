@@ -12,8 +12,10 @@ ghost use Rattle.laws.specs.OutOfTurn.{fair_lock, gave_first};
 /// A list of steps of any seats leaves a legal history: of an object as opened, and of one with a legal
 /// history, whatever stood before that.
 pub fn results_are_legal()
-    ensures opened { (k : Header) (steps : List (ℕ × Step)) → IsLegal (opening k) (results (opening k) [] steps).1 }
-    ensures kept { (s : Start) (h : List Entry) (steps : List (ℕ × Step)) → IsLegal s h → IsLegal s (results s h steps).1 }
+    ensures opened { (k : Header) (steps : List (ℕ × Step)) →
+        IsLegal (opening k) (results (opening k) [] steps).1 }
+    ensures kept { (s : Start) (h : List Entry) (steps : List (ℕ × Step)) → IsLegal s h →
+        IsLegal s (results s h steps).1 }
 {}
 
 /// A history that begins with a give isn't legal.

@@ -13,16 +13,20 @@ line_from xs h = All-from_recursion _ xs h
 
 -- the front ends within the first line, or behind its break
 abbrev Cut : List ℕ → List ℕ → List ℕ → List ℕ → Type 0
-Cut line rest front more = Lacks front ⊎ ((after : List ℕ) × (front ≡ line ++ 10 ∷ after) × (after ++ more ≡ rest))
+Cut line rest front more =
+    Lacks front ⊎ ((after : List ℕ) × (front ≡ line ++ 10 ∷ after) × (after ++ more ≡ rest))
 
-cut_more : (y x : ℕ) (l rest f more : List ℕ) → y ≢ 10 → x ≡ y → Cut l rest f more → Cut (y ∷ l) rest (x ∷ f) more
+cut_more : (y x : ℕ) (l rest f more : List ℕ) → y ≢ 10 → x ≡ y → Cut l rest f more →
+    Cut (y ∷ l) rest (x ∷ f) more
 cut_more y x l rest f more other same (inl p) = inl ((λ e. other (sym same ∙ e)), p)
 cut_more y x l rest f more other same (inr p) = inr (p.0, rw (same, p.1) refl, p.2)
 
-cut_at : (line rest front more : List ℕ) → Lacks line → front ++ more ≡ line ++ 10 ∷ rest → Cut line rest front more
+cut_at : (line rest front more : List ℕ) → Lacks line → front ++ more ≡ line ++ 10 ∷ rest →
+    Cut line rest front more
 cut_at line rest [] more q e = inl tt
 cut_at [] rest (x ∷ f) more q e = inr (f, ap (λ (b : ℕ). b ∷ f) (head_is _ _ _ _ e), tail_is _ _ _ _ e)
-cut_at (y ∷ l) rest (x ∷ f) more q e = cut_more y x l rest f more q.0 (head_is _ _ _ _ e) (cut_at l rest f more q.1 (tail_is _ _ _ _ e))
+cut_at (y ∷ l) rest (x ∷ f) more q e =
+    cut_more y x l rest f more q.0 (head_is _ _ _ _ e) (cut_at l rest f more q.1 (tail_is _ _ _ _ e))
 
 none_left : (after more : List ℕ) → after ++ more ≡ [] → more ≡ []
 none_left [] more e = e
@@ -36,38 +40,49 @@ record Items {H I : Type 0} (form : Form H I) (h : H) (k : ℕ) (front : List �
   parts : front ≡ lines_of form k before ++ rest
   whole : Lacks rest
 
-none_whole : {H I : Type 0} (form : Form H I) (h : H) (k : ℕ) (front : List ℕ) → Lacks front → Items form h k front
+none_whole : {H I : Type 0} (form : Form H I) (h : H) (k : ℕ) (front : List ℕ) → Lacks front →
+    Items form h k front
 none_whole form h k front p = record { before = []; rest = front; are = tt; parts = refl; whole = p }
 
-at_last : {H I : Type 0} (form : Form H I) (h : H) (k : ℕ) (end front more : List ℕ) → more ≢ [] → Cut end [] front more → Items form h k front
+at_last : {H I : Type 0} (form : Form H I) (h : H) (k : ℕ) (end front more : List ℕ) → more ≢ [] →
+    Cut end [] front more → Items form h k front
 at_last form h k end front more some (inl p) = none_whole form h k front p
 at_last form h k end front more some (inr p) = absurd (some (none_left p.0 more p.2))
 
-one_before : {H I : Type 0} (form : Form H I) (h : H) (k : ℕ) (x : I) (front after : List ℕ) → form.IsItem h k x → front ≡ form.item_line k x ++ 10 ∷ after → Items form h (k + 1) after → Items form h k front
+one_before : {H I : Type 0} (form : Form H I) (h : H) (k : ℕ) (x : I) (front after : List ℕ) →
+    form.IsItem h k x → front ≡ form.item_line k x ++ 10 ∷ after → Items form h (k + 1) after →
+    Items form h k front
 one_before form h k x front after fits e more =
     record {
       before = x ∷ more.before;
       rest = more.rest;
       are = (fits, more.are);
-      parts = e ∙ ap (λ (t : List ℕ). form.item_line k x ++ 10 ∷ t) more.parts ∙ sym (first_line form k x more.before more.rest);
+      parts = e ∙ ap (λ (t : List ℕ). form.item_line k x ++ 10 ∷ t) more.parts
+          ∙ sym (first_line form k x more.before more.rest);
       whole = more.whole;
     }
 
-cut_further : {H I : Type 0} (form : Form H I) (h : H) (k : ℕ) (x : I) (rest front more : List ℕ) → form.IsItem h k x → Cut (form.item_line k x) rest front more
+cut_further : {H I : Type 0} (form : Form H I) (h : H) (k : ℕ) (x : I) (rest front more : List ℕ) →
+    form.IsItem h k x → Cut (form.item_line k x) rest front more
     → ((after : List ℕ) → after ++ more ≡ rest → Items form h (k + 1) after) → Items form h k front
 cut_further form h k x rest front more fits (inl p) further = none_whole form h k front p
-cut_further form h k x rest front more fits (inr p) further = one_before form h k x front p.0 fits p.1 (further p.0 p.2)
+cut_further form h k x rest front more fits (inr p) further =
+    one_before form h k x front p.0 fits p.1 (further p.0 p.2)
 
-cut_items : {H I : Type 0} (form : Form H I) (h : H) (k : ℕ) (items : List I) (end front more : List ℕ) → IsLawful form → form.IsHeader h → AreItems form h k items → Lacks end → more ≢ []
+cut_items : {H I : Type 0} (form : Form H I) (h : H) (k : ℕ) (items : List I) (end front more : List ℕ) →
+    IsLawful form → form.IsHeader h → AreItems form h k items → Lacks end → more ≢ []
     → front ++ more ≡ lines_of form k items ++ ended end → Items form h k front
-cut_items form h k [] end front more lawful header all whole some e = at_last form h k end front more some (cut_at end [] front more whole e)
+cut_items form h k [] end front more lawful header all whole some e =
+    at_last form h k end front more some (cut_at end [] front more whole e)
 cut_items form h k (x ∷ xs) end front more lawful header all whole some e =
     let rest = lines_of form (k + 1) xs ++ ended end in
     cut_further form h k x rest front more all.0
-    (cut_at (form.item_line k x) rest front more (lawful.item_whole h k x header all.0) (e ∙ first_line form k x xs (ended end)))
+    (cut_at (form.item_line k x) rest front more (lawful.item_whole h k x header all.0) (e
+    ∙ first_line form k x xs (ended end)))
     (λ after f. cut_items form h (k + 1) xs end after more lawful header all.1 whole some f)
 
-cut_header : {H I : Type 0} (form : Form H I) (h : H) (rest front more : List ℕ) → form.IsHeader h → Cut (form.header_line h) rest front more
+cut_header : {H I : Type 0} (form : Form H I) (h : H) (rest front more : List ℕ) → form.IsHeader h →
+    Cut (form.header_line h) rest front more
     → ((after : List ℕ) → after ++ more ≡ rest → Items form h 0 after) → IsCutShort form front
 cut_header form h rest front more header (inl p) further = inl (line_from front p)
 cut_header form h rest front more header (inr p) further =
@@ -79,15 +94,19 @@ cut_header form h rest front more header (inr p) further =
       record {
         header = header;
         each = it.are;
-        parts = p.1 ∙ ap (λ (t : List ℕ). form.header_line h ++ 10 ∷ t) it.parts ∙ sym (broken (form.header_line h) (lines_of form 0 it.before ++ it.rest));
+        parts = p.1 ∙ ap (λ (t : List ℕ). form.header_line h ++ 10 ∷ t) it.parts
+            ∙ sym (broken (form.header_line h) (lines_of form 0 it.before ++ it.rest));
       },
       line_from it.rest it.whole,
     )
 
-pub cut_short : {H I : Type 0} (form : Form H I) → IsLawful form → (text : List ℕ) (h : H) (items : List I) → IsText form text h items
+pub cut_short : {H I : Type 0} (form : Form H I) → IsLawful form →
+    (text : List ℕ) (h : H) (items : List I) → IsText form text h items
     → (front more : List ℕ) → front ++ more ≡ text → more ≢ [] → IsCutShort form front
 cut_short form lawful text h items is front more e some =
     let rest = lines_of form 0 items ++ ended (form.end_line items) in
     cut_header form h rest front more is.begins.header
-    (cut_at (form.header_line h) rest front more (lawful.header_whole h is.begins.header) (e ∙ is.begins.parts ∙ broken (form.header_line h) rest))
-    (λ after f. cut_items form h 0 items (form.end_line items) after more lawful is.begins.header is.begins.each (lawful.end_whole items is.count) some f)
+    (cut_at (form.header_line h) rest front more (lawful.header_whole h is.begins.header) (e
+    ∙ is.begins.parts ∙ broken (form.header_line h) rest))
+    (λ after f. cut_items form h 0 items (form.end_line items) after more lawful is.begins.header
+    is.begins.each (lawful.end_whole items is.count) some f)

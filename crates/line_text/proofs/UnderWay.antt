@@ -12,17 +12,22 @@ use Rattle.line_text.proofs.Growing.{one_more, at_end, broken}
 -- ---- the bytes that are left
 
 -- the last bytes, by their number
-pub last_bytes : (text front rest : List ℕ) (left : ℕ) → text ≡ front ++ rest → length rest ≡ left → drop (length text - left) text ≡ rest
+pub last_bytes : (text front rest : List ℕ) (left : ℕ) → text ≡ front ++ rest → length rest ≡ left →
+    drop (length text - left) text ≡ rest
 last_bytes text front rest left parts long =
-    let start : length text - left ≡ length front = omega (arith, long, ap length parts, length-append front rest) in
+    let start : length text - left ≡ length front =
+    omega (arith, long, ap length parts, length-append front rest) in
     ap (λ (i : ℕ). drop i text) start ∙ ap (drop (length front)) parts ∙ drop-append_seam front rest
 
-pub left_over : (text front rest : List ℕ) (left : ℕ) → text ≡ front ++ rest → length rest ≡ left → take (length text - (length text - left)) (drop (length text - left) text) ≡ rest
+pub left_over : (text front rest : List ℕ) (left : ℕ) → text ≡ front ++ rest → length rest ≡ left →
+    take (length text - (length text - left)) (drop (length text - left) text) ≡ rest
 left_over text front rest left parts long = rw take_rest (last_bytes text front rest left parts long)
 
 -- what follows a line is shorter
-pub shorter : (text line rest : List ℕ) (left : ℕ) → text ≡ ended line ++ rest → length rest ≡ left → left < length text
-shorter text line rest left parts long = omega (arith, long, ap length parts, length-append (line ++ 10 ∷ []) rest, length-append line (10 ∷ []))
+pub shorter : (text line rest : List ℕ) (left : ℕ) → text ≡ ended line ++ rest → length rest ≡ left →
+    left < length text
+shorter text line rest left parts long =
+    omega (arith, long, ap length parts, length-append (line ++ 10 ∷ []) rest, length-append line (10 ∷ []))
 
 -- ---- one more item
 
@@ -30,13 +35,16 @@ shorter text line rest left parts long = omega (arith, long, ap length parts, le
 abbrev pub one_further : {H I : Type 0} → SoFar H I → (List I → Type 0) → SoFar H I
 one_further so_far known = record { header = so_far.header; count = so_far.count + 1; known = known }
 
-pub read_on : {H I : Type 0} (form : Form H I) (text : List ℕ) (so_far : SoFar H I) (known : List I → Type 0) (items : List I) (rest : List ℕ) (x : I) (after : List ℕ)
-    → IsAhead form so_far rest x after → known (items ++ x ∷ []) → AreRead form text so_far items rest → AreRead form text (one_further so_far known) (items ++ x ∷ []) after
+pub read_on : {H I : Type 0} (form : Form H I) (text : List ℕ) (so_far : SoFar H I)
+    (known : List I → Type 0) (items : List I) (rest : List ℕ) (x : I) (after : List ℕ)
+    → IsAhead form so_far rest x after → known (items ++ x ∷ []) → AreRead form text so_far items rest →
+    AreRead form text (one_further so_far known) (items ++ x ∷ []) after
 read_on form text so_far known items rest x after ahead more read =
     let line = form.item_line so_far.count x in
     let here = read.count in
     record {
-      begins = one_more form text so_far.header items rest line after x read.begins (ahead.parts ∙ broken line after) (rw here at ahead.fits) (ap (λ (n : ℕ). form.item_line n x) here);
+      begins = one_more form text so_far.header items rest line after x read.begins (ahead.parts
+          ∙ broken line after) (rw here at ahead.fits) (ap (λ (n : ℕ). form.item_line n x) here);
       count = omega (arith, here, length-append items (x ∷ []));
       known = more;
     }
@@ -46,21 +54,41 @@ read_on form text so_far known items rest x after ahead more read =
 -- behind whatever items were read, this is the end line
 abbrev pub IsEnd : {H I : Type 0} → Form H I → SoFar H I → List ℕ → List ℕ → Type 0
 IsEnd {H} {I} form so_far rest line =
-    (text : List ℕ) (items : List I) → AreRead form text so_far items rest → (length items < 2 ^ 32) × (line ≡ form.end_line items)
+    (text : List ℕ) (items : List I) → AreRead form text so_far items rest → (length items < 2 ^ 32)
+    × (line ≡ form.end_line items)
 
 empty : (xs : List ℕ) → length xs ≡ 0 → xs ≡ []
 empty [] p = cc
 empty (x ∷ xs) p = absurd (omega arith)
 
-pub all_read : {H I : Type 0} (form : Form H I) (text : List ℕ) (so_far : SoFar H I) (rest line after : List ℕ) → rest ≡ line ++ 10 ∷ after → IsEnd form so_far rest line → length after ≡ 0
+pub all_read : {H I : Type 0} (form : Form H I) (text : List ℕ)
+    (so_far : SoFar H I) (rest line after : List ℕ) → rest ≡ line ++ 10 ∷ after →
+    IsEnd form so_far rest line → length after ≡ 0
     → AllRead form text so_far rest
 all_read form text so_far rest line after parts end none items read =
     let is = end text items read in
-    let last : ended (form.end_line items) ++ after ≡ ended (form.end_line items) = ap (λ (t : List ℕ). ended (form.end_line items) ++ t) (empty after none) ∙ append-nil (ended (form.end_line items)) in
-    record { begins = rw last at (at_end form text so_far.header items rest line after read.begins parts is.1); count = is.0 }
+    let last : ended (form.end_line items) ++ after ≡ ended (form.end_line items) =
+    ap (λ (t : List ℕ). ended (form.end_line items) ++ t) (empty after none)
+    ∙ append-nil (ended (form.end_line items)) in
+    record {
+      begins = rw last at (at_end form text so_far.header items rest line after read.begins parts
+          is.1);
+      count = is.0;
+    }
 
-pub more_behind : {H I : Type 0} (form : Form H I) (text : List ℕ) (so_far : SoFar H I) (rest line after : List ℕ) → rest ≡ line ++ 10 ∷ after → IsEnd form so_far rest line → eqb (length after) 0 ≡ false
+pub more_behind : {H I : Type 0} (form : Form H I) (text : List ℕ)
+    (so_far : SoFar H I) (rest line after : List ℕ) → rest ≡ line ++ 10 ∷ after →
+    IsEnd form so_far rest line → eqb (length after) 0 ≡ false
     → HasFault form text so_far rest (BadLine (so_far.count + 3))
 more_behind form text so_far rest line after parts end some items read =
     let is = end text items read in
-    inr (so_far.header, items, after, at_end form text so_far.header items rest line after read.begins parts is.1, is.0, (λ e. eqb-false _ _ some (ap length e)), omega (arith, read.count))
+    inr (
+      so_far.header,
+      items,
+      after,
+      at_end form text so_far.header items rest line after read.begins parts
+          is.1,
+      is.0,
+      (λ e. eqb-false _ _ some (ap length e)),
+      omega (arith, read.count),
+    )

@@ -21,12 +21,18 @@ both false b e = absurd cc
 
 plain_lacks : (w : List ℕ) → is_plain w ≡ true → Lacks w
 plain_lacks [] e = tt
-plain_lacks (b ∷ bs) e = let t = both (ltb 32 b) (is_plain bs) e in ((λ same. omega (arith, ltb-true 32 b t.0, same)), plain_lacks bs t.1)
+plain_lacks (b ∷ bs) e =
+    let t = both (ltb 32 b) (is_plain bs) e in
+    ((λ same. omega (arith, ltb-true 32 b t.0, same)), plain_lacks bs t.1)
 
 pub line_lacks : (ws : List (List ℕ)) → ArePlain ws → Lacks (line_of ws)
 line_lacks [] h = tt
 line_lacks (w ∷ []) h = plain_lacks w h.0
-line_lacks (w ∷ v ∷ ws) h = lacks_append w (32 ∷ line_of (v ∷ ws)) (plain_lacks w h.0) ((λ same. omega (arith, same)), line_lacks (v ∷ ws) h.1)
+line_lacks (w ∷ v ∷ ws) h =
+    lacks_append w (32 ∷ line_of (v ∷ ws)) (plain_lacks w h.0) (
+      (λ same. omega (arith, same)),
+      line_lacks (v ∷ ws) h.1,
+    )
 
 -- a literal, whose bytes can be looked through
 abbrev pub has_no_break : List ℕ → Bool
@@ -34,12 +40,15 @@ has_no_break w = list_all (λ b. not (eqb b 10)) w
 
 pub literal_lacks : (w : List ℕ) → has_no_break w ≡ true → Lacks w
 literal_lacks [] e = tt
-literal_lacks (b ∷ bs) e = let t = both (not (eqb b 10)) (has_no_break bs) e in (eqb-false b 10 (not-true _ t.0), literal_lacks bs t.1)
+literal_lacks (b ∷ bs) e =
+    let t = both (not (eqb b 10)) (has_no_break bs) e in (eqb-false b 10 (not-true _ t.0), literal_lacks bs t.1)
 
 -- ---- header lines
 
-pub header_whole : (name : List ℕ) (h : Header) → has_no_break name ≡ true → IsInRange h → Lacks (name ++ part_of h)
-header_whole name h whole fits = lacks_append name (part_of h) (literal_lacks name whole) (line_lacks (part_words h) (plain_part h fits))
+pub header_whole : (name : List ℕ) (h : Header) → has_no_break name ≡ true → IsInRange h →
+    Lacks (name ++ part_of h)
+header_whole name h whole fits =
+    lacks_append name (part_of h) (literal_lacks name whole) (line_lacks (part_words h) (plain_part h fits))
 
 tail_is : (x y : ℕ) (xs ys : List ℕ) → x ∷ xs ≡ y ∷ ys → xs ≡ ys
 tail_is x y xs ys e = cc
@@ -54,10 +63,12 @@ Found = Header × List (List ℕ)
 
 same_part : (h g : Header) → IsInRange h → IsInRange g → part_of h ≡ part_of g → h ≡ g
 same_part h g p q e =
-    ap (λ (x : Found). x.0) (inside (h, []) (g, []) (sym (part_again h p) ∙ ap (λ (t : List ℕ). header_at (words_of t)) e ∙ part_again g q))
+    ap (λ (x : Found). x.0) (inside (h, []) (g, []) (sym (part_again h p)
+    ∙ ap (λ (t : List ℕ). header_at (words_of t)) e ∙ part_again g q))
   where
     inside : (x y : Found) → Some x ≡ Some y → x ≡ y
     inside x y e = cc
 
-pub header_one : (name : List ℕ) (h g : Header) → IsInRange h → IsInRange g → name ++ part_of h ≡ name ++ part_of g → h ≡ g
+pub header_one : (name : List ℕ) (h g : Header) → IsInRange h → IsInRange g →
+    name ++ part_of h ≡ name ++ part_of g → h ≡ g
 header_one name h g p q e = same_part h g p q (same_behind name (part_of h) (part_of g) e)

@@ -16,6 +16,7 @@ BeginsWithHeader name text found = IsInRange found.0 × (text ≡ ended (name ++
 abbrev pub LacksHeader : List ℕ → List ℕ → TextFault → Type 0
 LacksHeader name text CutShort = IsLine text
 LacksHeader name text BadHeader =
-    (line : List ℕ) × (rest : List ℕ) × (text ≡ line ++ 10 ∷ rest) × IsLine line × ((h : Header) → IsInRange h → line ≢ name ++ part_of h)
+    (line : List ℕ) × (rest : List ℕ) × (text ≡ line ++ 10 ∷ rest) × IsLine line
+    × ((h : Header) → IsInRange h → line ≢ name ++ part_of h)
 LacksHeader name text (BadLine number) = ⊥
 LacksHeader name text OutOfMemory = ⊥

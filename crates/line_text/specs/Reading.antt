@@ -6,7 +6,8 @@ use Rattle.history.specs.Text.{IsLine, ended}
 use Rattle.line_text.specs.Form.{Form, lines_of, AreItems}
 
 -- The text begins with a header and these items, and the rest follows.
-pub record Begins {H I : Type 0} (form : Form H I) (text : List ℕ) (h : H) (items : List I) (rest : List ℕ) : Type 0 where
+pub record Begins {H I : Type 0} (form : Form H I) (text : List ℕ) (h : H) (items : List I)
+    (rest : List ℕ) : Type 0 where
   pub header : form.IsHeader h
   pub each : AreItems form h 0 items
   pub parts : text ≡ ended (form.header_line h) ++ (lines_of form 0 items ++ rest)
@@ -18,15 +19,18 @@ pub record IsText {H I : Type 0} (form : Form H I) (text : List ℕ) (h : H) (it
 
 -- Its last line is not whole, and no end line came before.
 abbrev pub IsCutShort : {H I : Type 0} → Form H I → List ℕ → Type 0
-IsCutShort {H} {I} form text = IsLine text ⊎ ((h : H) × (items : List I) × (rest : List ℕ) × Begins form text h items rest × IsLine rest)
+IsCutShort {H} {I} form text =
+    IsLine text ⊎ ((h : H) × (items : List I) × (rest : List ℕ) × Begins form text h items rest × IsLine rest)
 
 -- Its first line is no header line.
 abbrev pub HasBadHeader : {H I : Type 0} → Form H I → List ℕ → Type 0
 HasBadHeader {H} form text =
-    (line : List ℕ) × (rest : List ℕ) × (text ≡ line ++ 10 ∷ rest) × IsLine line × ((h : H) → form.IsHeader h → line ≢ form.header_line h)
+    (line : List ℕ) × (rest : List ℕ) × (text ≡ line ++ 10 ∷ rest) × IsLine line
+    × ((h : H) → form.IsHeader h → line ≢ form.header_line h)
 
 -- Behind so many items this line is neither an item nor the right end line.
-pub record IsBadLine {H I : Type 0} (form : Form H I) (h : H) (count : ℕ) (end_line line : List ℕ) : Type 0 where
+pub record IsBadLine {H I : Type 0} (form : Form H I) (h : H)
+    (count : ℕ) (end_line line : List ℕ) : Type 0 where
   pub whole : IsLine line
   pub no_item : (x : I) → form.IsItem h count x → line ≢ form.item_line count x
   pub no_end : count < 2 ^ 32 → line ≢ end_line
@@ -34,8 +38,12 @@ pub record IsBadLine {H I : Type 0} (form : Form H I) (h : H) (count : ℕ) (end
 -- The lines before this number, counted from 1, are good, and this one isn't, or follows the end line.
 abbrev pub HasBadLine : {H I : Type 0} → Form H I → List ℕ → ℕ → Type 0
 HasBadLine {H} {I} form text number =
-    ((h : H) × (items : List I) × (line : List ℕ) × (rest : List ℕ) × Begins form text h items (line ++ 10 ∷ rest) × IsBadLine form h (length items) (form.end_line items) line × (number ≡ length items + 2))
-    ⊎ ((h : H) × (items : List I) × (rest : List ℕ) × Begins form text h items (ended (form.end_line items) ++ rest) × (length items < 2 ^ 32) × (rest ≢ []) × (number ≡ length items + 3))
+    ((h : H) × (items : List I) × (line : List ℕ) × (rest : List ℕ)
+    × Begins form text h items (line ++ 10 ∷ rest)
+    × IsBadLine form h (length items) (form.end_line items) line × (number ≡ length items + 2))
+    ⊎ ((h : H) × (items : List I) × (rest : List ℕ)
+    × Begins form text h items (ended (form.end_line items) ++ rest) × (length items < 2 ^ 32)
+    × (rest ≢ []) × (number ≡ length items + 3))
 
 -- what a text says, or its first fault
 abbrev pub Reading : Type 0 → Type 0 → Type 0
@@ -48,8 +56,8 @@ IsReading form text (Err BadHeader) = HasBadHeader form text
 IsReading form text (Err (BadLine number)) = HasBadLine form text number
 IsReading form text (Err OutOfMemory) = ⊥
 
--- what a call answers that keeps what it reads: what it keeps is as it is to be, or this is the first fault of the
--- text, or memory was refused
+-- what a call answers that keeps what it reads: what it keeps is as it is to be, or this is the first fault
+-- of the text, or memory was refused
 abbrev pub Reads : {H I T : Type 0} → Form H I → (T → Type 0) → List ℕ → Result T TextFault → Type 0
 Reads form Keeps text (Ok kept) = Keeps kept
 Reads form Keeps text (Err CutShort) = IsReading form text (Err CutShort)

@@ -13,19 +13,22 @@ pub record SoFar (H I : Type 0) : Type 1 where
   pub known : List I → Type 0
 
 -- these items of the text were read, the oldest first, and this follows them
-pub record AreRead {H I : Type 0} (form : Form H I) (text : List ℕ) (so_far : SoFar H I) (items : List I) (rest : List ℕ) : Type 0 where
+pub record AreRead {H I : Type 0} (form : Form H I) (text : List ℕ) (so_far : SoFar H I) (items : List I)
+    (rest : List ℕ) : Type 0 where
   pub begins : Begins form text so_far.header items rest
   pub count : so_far.count ≡ length items
   pub known : so_far.known items
 
 -- what follows the items that were read begins with the line of the next, and goes on with this
-pub record IsAhead {H I : Type 0} (form : Form H I) (so_far : SoFar H I) (rest : List ℕ) (item : I) (after : List ℕ) : Type 0 where
+pub record IsAhead {H I : Type 0} (form : Form H I) (so_far : SoFar H I) (rest : List ℕ) (item : I)
+    (after : List ℕ) : Type 0 where
   pub fits : form.IsItem so_far.header so_far.count item
   pub parts : rest ≡ ended (form.item_line so_far.count item) ++ after
 
 -- whatever items were read, they are all
 abbrev pub AllRead : {H I : Type 0} → Form H I → List ℕ → SoFar H I → List ℕ → Type 0
-AllRead {H} {I} form text so_far rest = (items : List I) → AreRead form text so_far items rest → IsText form text so_far.header items
+AllRead {H} {I} form text so_far rest =
+    (items : List I) → AreRead form text so_far items rest → IsText form text so_far.header items
 
 -- whatever items were read, the text has this fault
 abbrev pub HasFault : {H I : Type 0} → Form H I → List ℕ → SoFar H I → List ℕ → TextFault → Type 0
@@ -33,13 +36,16 @@ HasFault {H} {I} form text so_far rest fault =
     (items : List I) → AreRead form text so_far items rest → IsReading form text (Err fault)
 
 -- what the next line says: an item, behind whose line so many bytes are left, or that there is none, or a fault
-abbrev pub IsLineOf : {H I : Type 0} → Form H I → List ℕ → SoFar H I → List ℕ → Result (Option (I × ℕ)) TextFault → Type 0
-IsLineOf form text so_far rest (Ok (Some line)) = (after : List ℕ) × IsAhead form so_far rest line.0 after × (length after ≡ line.1)
+abbrev pub IsLineOf : {H I : Type 0} → Form H I → List ℕ → SoFar H I → List ℕ →
+    Result (Option (I × ℕ)) TextFault → Type 0
+IsLineOf form text so_far rest (Ok (Some line)) =
+    (after : List ℕ) × IsAhead form so_far rest line.0 after × (length after ≡ line.1)
 IsLineOf form text so_far rest (Ok None) = AllRead form text so_far rest
 IsLineOf form text so_far rest (Err fault) = HasFault form text so_far rest fault
 
 -- the same of these bytes, whatever stands before them
-abbrev pub IsLineBehind : {H I : Type 0} → Form H I → SoFar H I → List ℕ → Result (Option (I × ℕ)) TextFault → Type 0
+abbrev pub IsLineBehind : {H I : Type 0} → Form H I → SoFar H I → List ℕ →
+    Result (Option (I × ℕ)) TextFault → Type 0
 IsLineBehind form so_far rest result = (text : List ℕ) → IsLineOf form text so_far rest result
 
 -- this is the header of the text, and this follows its line

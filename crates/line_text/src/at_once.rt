@@ -26,7 +26,8 @@ pub(crate) fn first_four(text: &[u8]) -> Option<(u32, &[u8])>
 /// What stands behind these four bytes. None where the text begins otherwise.
 #[inline(always)]
 pub fn behind_four(beginning: [u8; 4], text: &[u8]) -> Option<&[u8]>
-    ensures { MatchOption result (BeginsOtherwise beginning text.now) (λ rest. text.now ≡ beginning ++ rest.now) }
+    ensures { MatchOption result (BeginsOtherwise beginning text.now)
+        (λ rest. text.now ≡ beginning ++ rest.now) }
 {
     let (bytes, rest) = first_four(text)?;
     if bytes == four(beginning) {
@@ -50,7 +51,8 @@ pub fn behind_byte(byte: u8, text: &[u8]) -> Option<&[u8]>
 /// What stands behind these three bytes. None where the text begins otherwise.
 #[inline(always)]
 pub fn behind_three(beginning: [u8; 3], text: &[u8]) -> Option<&[u8]>
-    ensures { MatchOption result (BeginsOtherwise beginning text.now) (λ rest. text.now ≡ beginning ++ rest.now) }
+    ensures { MatchOption result (BeginsOtherwise beginning text.now)
+        (λ rest. text.now ≡ beginning ++ rest.now) }
 {
     let [first, second, third] = beginning;
     let behind_first = behind_byte(first, text)?;

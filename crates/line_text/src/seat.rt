@@ -64,7 +64,8 @@ fn number_of_two(first: u8, second: u8) -> Option<u64>
 pub fn seat_of(text: &[u8]) -> Option<(u64, usize)>
     ensures seat { IfSome result (λ r. text.now ≡ decimal r.0 ++ 32 ∷ drop r.1 text.now) }
     ensures inside { IfSome result (λ r. r.1 ≤ length text.now) }
-    ensures none { IfNone result ((seat : ℕ) (rest : List ℕ) → seat < 2 ^ 64 → text.now ≢ decimal seat ++ 32 ∷ rest) }
+    ensures none { IfNone result ((seat : ℕ) (rest : List ℕ) → seat < 2 ^ 64 →
+        text.now ≢ decimal seat ++ 32 ∷ rest) }
 {
     if let Some(byte) = one_byte(text) {
         return Some((digit_of(byte)?, 2));

@@ -13,7 +13,8 @@ use Rattle.history.specs.Start.{Start}
 use Rattle.history.proofs.WhoWaits.{LineSeated, line_seated}
 use Rattle.audit.specs.declared.ledger.Ledger.{Ledger}
 
-first_seated : (k : Counts) (q : List Arrival) (n j : ℕ) → LineSeated n q → ready_by k (first_of q) ≡ Some j → j < n
+first_seated : (k : Counts) (q : List Arrival) (n j : ℕ) → LineSeated n q →
+    ready_by k (first_of q) ≡ Some j → j < n
 first_seated k [] n j all r = cc
 first_seated k (a ∷ q) n j all r = by (could k a.seat a.mode a.n) r
   where
@@ -25,7 +26,8 @@ first_seated k (a ∷ q) n j all r = by (could k a.seat a.mode a.n) r
     by false r = cc
 
 -- it is one of the object's seats
-ready_seated : (s : Start) (h : List Entry) (l : Ledger) (j : ℕ) → LedgerStand s h l → ready s h ≡ Some j → j < s.header.seats
+ready_seated : (s : Start) (h : List Entry) (l : Ledger) (j : ℕ) → LedgerStand s h l → ready s h ≡ Some j →
+    j < s.header.seats
 ready_seated s h l j st r =
     let P : Start → Type 0 = λ x. IsLegal x h → AreSeated x h → LineSeated x.header.seats (line x h) in
     first_seated (counts s h) (line s h) s.header.seats j

@@ -12,7 +12,8 @@ use Rattle.history.specs.Room.{has_room, owed}
 use Rattle.history.specs.Start.{opening}
 use Rattle.plain.specs.Owing.{IsOwed}
 
-pub named_so : (k : Header) (h : List Entry) (e : Entry) (n : ℕ) (before after name : Option ℕ) → IsOwed k (e ∷ h) n →
+pub named_so : (k : Header) (h : List Entry) (e : Entry) (n : ℕ) (before after name : Option ℕ) →
+    IsOwed k (e ∷ h) n →
     length h + 1 + n ≤ k.cap → before ≡ ready (opening k) h → after ≡ ready (opening k) (e ∷ h) →
     name ≡ named_by before after e.seat → Ok (Recorded e name) ≡ (recorded (opening k) h e).0
 named_so k h e n before after name o l b a q =

@@ -21,19 +21,24 @@ abbrev pub could_by : Option ℕ → ℕ → ℕ → Mode → Bool
 could_by o n i X = is_none_or o i && ltb (holds_of o n i) max_holds
 could_by o n i S = false
 
-pub could_is : (p : Policy) (o : Option ℕ) (n : ℕ) (k : Counts) → is_owned max_holds o n ≡ true → StandsBy p o n k → (i : ℕ) (m : Mode) (a : ℕ) → could k i m a ≡ could_by o n i m
+pub could_is : (p : Policy) (o : Option ℕ) (n : ℕ) (k : Counts) → is_owned max_holds o n ≡ true →
+    StandsBy p o n k → (i : ℕ) (m : Mode) (a : ℕ) → could k i m a ≡ could_by o n i m
 could_is p o n k t h i X a =
     let w : owner k ≡ o = owner_is max_holds o n k t h.owns in
     let d : k.held i X ≡ holds_of o n i = h.owns.held i in
     rw h.object (rw w (rw d refl))
 could_is p o n k t h i S a = rw h.object refl
 
-pub held_back_is : (p : Policy) (o : Option ℕ) (n : ℕ) (k : Counts) → is_owned max_holds o n ≡ true → StandsBy p o n k → (first : Option Mode) (i : ℕ) (m : Mode) → held_back k first i m ≡ (not (is_seat o i) && line_blocks (Lock p) m first)
+pub held_back_is : (p : Policy) (o : Option ℕ) (n : ℕ) (k : Counts) → is_owned max_holds o n ≡ true →
+    StandsBy p o n k → (first : Option Mode) (i : ℕ) (m : Mode) →
+    held_back k first i m ≡ (not (is_seat o i) && line_blocks (Lock p) m first)
 held_back_is p o n k t h first i m =
     let w : owner k ≡ o = owner_is max_holds o n k t h.owns in
     rw h.object (rw w refl)
 
-pub let_go_is : (p : Policy) (o : Option ℕ) (n : ℕ) (k : Counts) → is_owned max_holds o n ≡ true → StandsBy p o n k → (i : ℕ) → let_go_answer k i ≡ cond (not (is_seat o i)) (Err fault.NotOwner) (Ok (holds_of o n i))
+pub let_go_is : (p : Policy) (o : Option ℕ) (n : ℕ) (k : Counts) → is_owned max_holds o n ≡ true →
+    StandsBy p o n k → (i : ℕ) →
+    let_go_answer k i ≡ cond (not (is_seat o i)) (Err fault.NotOwner) (Ok (holds_of o n i))
 let_go_is p o n k t h i =
     let w : owner k ≡ o = owner_is max_holds o n k t h.owns in
     let d : k.held i X ≡ holds_of o n i = h.owns.held i in
@@ -45,7 +50,8 @@ pub record MayTake (o : Option ℕ) (n i : ℕ) (m : Mode) : Type 0 where
   pub admitted : is_none_or o i ≡ true
   pub below : n < max_holds
 
-by_fields : (o : Option ℕ) (n i : ℕ) (m : Mode) → is_owned max_holds o n ≡ true → could_by o n i m ≡ true → MayTake o n i m
+by_fields : (o : Option ℕ) (n i : ℕ) (m : Mode) → is_owned max_holds o n ≡ true → could_by o n i m ≡ true →
+    MayTake o n i m
 by_fields o n i X t c =
     let parts = and_parts (is_none_or o i) (ltb (holds_of o n i) max_holds) c in
     let own : holds_of o n i ≡ n = all_its_own max_holds o n i t parts.0 in
@@ -53,13 +59,17 @@ by_fields o n i X t c =
     record { exclusive = refl; admitted = parts.0; below = rw own at below }
 by_fields o n i S t c = cc
 
-pub may_take : (p : Policy) (o : Option ℕ) (n : ℕ) (k : Counts) → is_owned max_holds o n ≡ true → StandsBy p o n k → (i : ℕ) (m : Mode) (a : ℕ) → could k i m a ≡ true → MayTake o n i m
+pub may_take : (p : Policy) (o : Option ℕ) (n : ℕ) (k : Counts) → is_owned max_holds o n ≡ true →
+    StandsBy p o n k → (i : ℕ) (m : Mode) (a : ℕ) → could k i m a ≡ true → MayTake o n i m
 may_take p o n k t h i m a c = by_fields o n i m t (sym (could_is p o n k t h i m a) ∙ c)
 
-pub owned_more : (o : Option ℕ) (n i : ℕ) (m : Mode) → MayTake o n i m → is_owned max_holds (Some i) (n + 1) ≡ true
+pub owned_more : (o : Option ℕ) (n i : ℕ) (m : Mode) → MayTake o n i m →
+    is_owned max_holds (Some i) (n + 1) ≡ true
 owned_more o n i m may = some_owned max_holds i (n + 1) (omega arith) (omega (arith, may.below))
 
-pub stands_took : (p : Policy) (o : Option ℕ) (n : ℕ) (k : Counts) → is_owned max_holds o n ≡ true → StandsBy p o n k → (i : ℕ) (m : Mode) (a : ℕ) → MayTake o n i m → i < k.seats → StandsBy p (Some i) (n + 1) (took k i m a)
+pub stands_took : (p : Policy) (o : Option ℕ) (n : ℕ) (k : Counts) → is_owned max_holds o n ≡ true →
+    StandsBy p o n k → (i : ℕ) (m : Mode) (a : ℕ) → MayTake o n i m → i < k.seats →
+    StandsBy p (Some i) (n + 1) (took k i m a)
 stands_took p o n k t h i X a may seat =
     record {
       object = h.object;
@@ -69,7 +79,8 @@ stands_took p o n k t h i X a may seat =
 stands_took p o n k t h i S a may seat = let e : S ≡ X = may.exclusive in cc
 
 -- nobody but the owner could
-pub alone : (p : Policy) (i n : ℕ) (k : Counts) → is_owned max_holds (Some i) n ≡ true → StandsBy p (Some i) n k → (j : ℕ) (m : Mode) (a : ℕ) → j ≢ i → could k j m a ≡ false
+pub alone : (p : Policy) (i n : ℕ) (k : Counts) → is_owned max_holds (Some i) n ≡ true →
+    StandsBy p (Some i) n k → (j : ℕ) (m : Mode) (a : ℕ) → j ≢ i → could k j m a ≡ false
 alone p i n k t h j m a ne = could_is p (Some i) n k t h j m a ∙ by m
   where
     by : (m : Mode) → could_by (Some i) n j m ≡ false
@@ -77,7 +88,9 @@ alone p i n k t h j m a ne = could_is p (Some i) n k t h j m a ∙ by m
     by S = refl
 
 -- so nobody else could after a give that leaves the giver a hold
-pub kept : (p : Policy) (o : Option ℕ) (n : ℕ) (k : Counts) → is_owned max_holds o n ≡ true → StandsBy p o n k → (i : ℕ) → is_seat o i ≡ true → 0 < n - 1 → (a j : ℕ) (m : Mode) (b : ℕ) → j ≢ i → could (given k i X a) j m b ≡ false
+pub kept : (p : Policy) (o : Option ℕ) (n : ℕ) (k : Counts) → is_owned max_holds o n ≡ true →
+    StandsBy p o n k → (i : ℕ) → is_seat o i ≡ true → 0 < n - 1 → (a j : ℕ) (m : Mode) (b : ℕ) → j ≢ i →
+    could (given k i X a) j m b ≡ false
 kept p o n k t h i u some a j m b ne =
     let e : o ≡ Some i = seat_is o i u in
     let t' : is_owned max_holds (Some i) n ≡ true = rw e at t in
@@ -93,7 +106,9 @@ kept p o n k t h i u some a j m b ne =
     rw g (alone p i (n - 1) (gave_back k i X a) (some_owned max_holds i (n - 1) some less) then j m b ne)
 
 -- and who takes could before
-pub nobody_new : (p : Policy) (o : Option ℕ) (n : ℕ) (k : Counts) → is_owned max_holds o n ≡ true → StandsBy p o n k → (i : ℕ) (m : Mode) (a : ℕ) → MayTake o n i m → i < k.seats → (j : ℕ) (m' : Mode) (b : ℕ) → could k j m' b ≡ false → could (took k i m a) j m' b ≡ false
+pub nobody_new : (p : Policy) (o : Option ℕ) (n : ℕ) (k : Counts) → is_owned max_holds o n ≡ true →
+    StandsBy p o n k → (i : ℕ) (m : Mode) (a : ℕ) → MayTake o n i m → i < k.seats →
+    (j : ℕ) (m' : Mode) (b : ℕ) → could k j m' b ≡ false → could (took k i m a) j m' b ≡ false
 nobody_new p o n k t h i m a may seat j m' b f = ⊎_elim same other (cases_eq j i)
   where
     now : StandsBy p (Some i) (n + 1) (took k i m a)
@@ -116,10 +131,12 @@ nobody_new p o n k t h i m a may seat j m' b f = ⊎_elim same other (cases_eq j
     by S e g = refl
 
     same : j ≡ i → could (took k i m a) j m' b ≡ false
-    same e = could_is p (Some i) (n + 1) (took k i m a) then now j m' b ∙ by m' e (sym (could_is p o n k t h j m' b) ∙ f)
+    same e = could_is p (Some i) (n + 1) (took k i m a) then now j m' b
+        ∙ by m' e (sym (could_is p o n k t h j m' b) ∙ f)
 
 -- Where a seat may have its holds back, nobody owns.
-pub stands_restored : (p : Policy) (o : Option ℕ) (n : ℕ) (k : Counts) → is_owned max_holds o n ≡ true → StandsBy p o n k → (i holds : ℕ) → IsRestorable k i holds → StandsBy p (Some i) holds (restored k i holds)
+pub stands_restored : (p : Policy) (o : Option ℕ) (n : ℕ) (k : Counts) → is_owned max_holds o n ≡ true →
+    StandsBy p o n k → (i holds : ℕ) → IsRestorable k i holds → StandsBy p (Some i) holds (restored k i holds)
 stands_restored p o n k t h i holds r =
     let may : MayTake o n i X = may_take p o n k t h i X 1 r.could in
     let none : o ≡ None = no_owner max_holds o n i t may.admitted (sym (h.owns.held i) ∙ r.none_held) in
@@ -132,7 +149,10 @@ stands_restored p o n k t h i holds r =
       none_shared = λ j. shared_kept i (λ had. had + holds) k.held j ∙ h.none_shared j;
     }
 
-pub restored_alone : (p : Policy) (o : Option ℕ) (n : ℕ) (k : Counts) → is_owned max_holds o n ≡ true → StandsBy p o n k → (i holds : ℕ) → IsRestorable k i holds → (j : ℕ) (m : Mode) (a : ℕ) → j ≢ i → could (restored k i holds) j m a ≡ false
+pub restored_alone : (p : Policy) (o : Option ℕ) (n : ℕ) (k : Counts) → is_owned max_holds o n ≡ true →
+    StandsBy p o n k → (i holds : ℕ) → IsRestorable k i holds → (j : ℕ) (m : Mode) (a : ℕ) → j ≢ i →
+    could (restored k i holds) j m a ≡ false
 restored_alone p o n k t h i holds r j m a ne =
     let most : holds ≤ max_holds = rw h.object at r.most in
-    alone p i holds (restored k i holds) (some_owned max_holds i holds r.some most) (stands_restored p o n k t h i holds r) j m a ne
+    alone p i holds (restored k i holds) (some_owned max_holds i holds r.some most)
+    (stands_restored p o n k t h i holds r) j m a ne

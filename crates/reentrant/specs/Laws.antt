@@ -11,7 +11,11 @@ use Rattle.reentrant.specs.declared.lock.LockHooks.{LockHooks}
 
 pub opens_so : (s : LockHooks) (seats : ℕ) → IsOpened s seats → Stands s (opening_counts (lock_of s) seats)
 opens_so s seats opened =
-    record { object = refl; owns = owns_opening s.owner s.holds (lock_of s) seats opened; none_shared = λ i. refl }
+    record {
+      object = refl;
+      owns = owns_opening s.owner s.holds (lock_of s) seats opened;
+      none_shared = λ i. refl;
+    }
 
 pub same_policy : (s : LockHooks) (k : Counts) → Stands s k → k.object ≡ lock_of s
 same_policy s k h = h.object
@@ -22,9 +26,16 @@ held_by o holds i S = 0
 
 abbrev some_counts_of : LockHooks → Counts
 some_counts_of s =
-    record { object = lock_of s; seats = seats_for s.owner; held = held_by s.owner s.holds; free = pos 0; count = 0 }
+    record {
+      object = lock_of s;
+      seats = seats_for s.owner;
+      held = held_by s.owner s.holds;
+      free = pos 0;
+      count = 0;
+    }
 
 pub some_counts : (s : LockHooks) → (k : Counts) × Stands s k
 some_counts s =
-    let owns : Owns s.owner s.holds (some_counts_of s) = record { held = λ i. refl; seat = owner_below s.owner } in
+    let owns : Owns s.owner s.holds (some_counts_of s) =
+    record { held = λ i. refl; seat = owner_below s.owner } in
     (some_counts_of s, record { object = refl; owns = owns; none_shared = λ i. refl })

@@ -20,7 +20,8 @@ Performs (Replay form) left old new (Ok status) = (status ≡ 0) × Replays form
 Performs (Replay form) left old new (Err (Stream fault)) = Replays form left old new (Err fault)
 Performs (Replay form) left old new (Err Usage) = ⊥
 Performs (Replay form) left old new (Err Memory) = ⊥
-Performs Audit left old new (Ok status) = (verdict : Verdict) × (status ≡ status_for verdict) × Audits left old new (Ok verdict)
+Performs Audit left old new (Ok status) =
+    (verdict : Verdict) × (status ≡ status_for verdict) × Audits left old new (Ok verdict)
 Performs Audit left old new (Err (Stream fault)) = Audits left old new (Err fault)
 Performs Audit left old new (Err Usage) = ⊥
 Performs Audit left old new (Err Memory) = ⊥

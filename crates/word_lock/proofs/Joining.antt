@@ -31,7 +31,8 @@ all_before p ps q a b zero x e = subst (λ (z : Point). Before z q) (some-inject
 all_before p ps q a b (suc k) x e = b k x e
 
 module _ {T : Type 0} (point : T → Point) (fact : T → Type 0) (sound : Point → Type 0) (start : Point) where
-  pub joins : (id : ℕ) (v : View) (other : ℕ) (w : View) → v.holds ≡ false → w.holds ≡ false → v.live ≡ true → w.live ≡ true
+  pub joins : (id : ℕ) (v : View) (other : ℕ) (w : View) → v.holds ≡ false → w.holds ≡ false →
+      v.live ≡ true → w.live ≡ true
       → Joins {S = Maybe T} (RuleHolds point fact sound start) id v other w (joined_view v w) spent_view
   joins id v other w free free' live live' s r at apart set_at =
       let n : ℕ = length v.logs in let b : View = joined_view v w in
@@ -45,7 +46,13 @@ module _ {T : Type 0} (point : T → Point) (fact : T → Type 0) (sound : Point
         begun = r.begun;
         is_sound = r.is_sound;
         known = stays_set K vs other spent_view
-            record { seen = λ l. absurd cc; joined = λ l. absurd cc; placed = λ q m e. absurd (some-ne-none m (sym e)); agrees = λ q m e. absurd (some-ne-none m (sym e)) }
+            record {
+              seen = λ l. absurd cc;
+              joined = λ l. absurd cc;
+              placed = λ q m e. absurd (some-ne-none m (sym e));
+              agrees =
+                  λ q m e. absurd (some-ne-none m (sym e));
+            }
             (λ j u not_other e. stays_set (λ i z. i ≢ other → K i z) s.views id b
             (λ ne. record {
               seen = mine.seen;
@@ -55,9 +62,11 @@ module _ {T : Type 0} (point : T → Point) (fact : T → Type 0) (sound : Point
                   (at_join v.joined (w.seen ∷ w.joined) k p e);
               placed = λ q m e. ⊎_elim
                   (λ t. ap (place_after other id n) (mine.placed q m t) ∙ place_else other id n id q ne)
-                  (λ t. ap (place_after other id n) (theirs.placed t.0 m t.2) ∙ (place_there other id n t.0 ∙ ap (λ (z : ℕ). (id, z)) t.1))
+                  (λ t. ap (place_after other id n) (theirs.placed t.0 m t.2)
+                  ∙ (place_there other id n t.0 ∙ ap (λ (z : ℕ). (id, z)) t.1))
                   (at_join v.logs w.logs q m e);
-              agrees = λ q m e. ⊎_elim (λ t. mine.agrees q m t) (λ t. theirs.agrees t.0 m t.2) (at_join v.logs w.logs q m e);
+              agrees = λ q m e. ⊎_elim (λ t. mine.agrees q m t) (λ t. theirs.agrees t.0 m t.2)
+                  (at_join v.logs w.logs q m e);
             })
             (λ i z _ f ne. let old = r.known i z f in record {
               seen = old.seen;
@@ -66,9 +75,15 @@ module _ {T : Type 0} (point : T → Point) (fact : T → Type 0) (sound : Point
               agrees = old.agrees;
             }) j u e not_other);
         word = word_stays point fact r.now s (set vs other spent_view)
-            (stays_set (λ j u. u.holds ≡ true → get_elem? s.views j ≡ some u) vs other spent_view (λ t. absurd cc)
-            (λ j u _ e. stays_set (λ j u. u.holds ≡ true → get_elem? s.views j ≡ some u) s.views id b (λ t. absurd cc) (λ j u _ e _. e) j u e))
-            (λ j u e t. set_else vs other j spent_view (λ is. let same : u ≡ w = one_at s.views other u w (subst (λ (z : ℕ). get_elem? s.views z ≡ some u) is e) there in absurd cc)
-            ∙ (set_else s.views id j b (λ is. let same : u ≡ v = one_at s.views id u v (subst (λ (z : ℕ). get_elem? s.views z ≡ some u) is e) at in absurd cc) ∙ e))
+            (stays_set (λ j u. u.holds ≡ true → get_elem? s.views j ≡ some u) vs other spent_view
+            (λ t. absurd cc)
+            (λ j u _ e. stays_set (λ j u. u.holds ≡ true →
+            get_elem? s.views j ≡ some u) s.views id b (λ t. absurd cc) (λ j u _ e _. e) j u e))
+            (λ j u e t. set_else vs other j spent_view
+            (λ is. let same : u ≡ w = one_at s.views other u w
+            (subst (λ (z : ℕ). get_elem? s.views z ≡ some u) is e) there in absurd cc)
+            ∙ (set_else s.views id j b
+            (λ is. let same : u ≡ v = one_at s.views id u v
+            (subst (λ (z : ℕ). get_elem? s.views z ≡ some u) is e) at in absurd cc) ∙ e))
             r.word;
       }

@@ -18,9 +18,11 @@ set_found (x ∷ xs) = refl
 
 module _ {T : Type 0} (point : T → Point) (fact : T → Type 0) (sound : Point → Type 0) (start : Point) where
   pub looks : (slots id : ℕ) (me : Me (Maybe T) View) → me.0.holds ≡ false → me.0.live ≡ true
-      → Allows (RuleHolds point fact sound start) slots id me 0 (λ n. n) (TellsLook sound (step slots 0 0 0 none) me)
+      → Allows (RuleHolds point fact sound start) slots id me 0 (λ n. n)
+      (TellsLook sound (step slots 0 0 0 none) me)
   looks slots id me free live s r _ at _ =
-      let w : View = view_after_look me.0 r.now in let mine = r.known id me.0 at in let vs : List View = set s.views id w in (
+      let w : View = view_after_look me.0 r.now in let mine = r.known id me.0 at in
+      let vs : List View = set s.views id w in (
         w,
         keeps,
         tt,
@@ -30,13 +32,34 @@ module _ {T : Type 0} (point : T → Point) (fact : T → Type 0) (sound : Point
           begun = r.begun;
           is_sound = r.is_sound;
           known = stays_set (λ j v. IsKnownBy r.place r.now j v) s.views id w
-              record { seen = λ _. before_refl r.now; joined = λ _ k p e. absurd (some-ne-none p (sym e)); placed = mine.placed; agrees = mine.agrees }
+              record {
+                seen = λ _. before_refl r.now;
+                joined = λ _ k p e. absurd (some-ne-none p (sym e));
+                placed = mine.placed;
+                agrees = mine.agrees;
+              }
               (λ j v _ e. r.known j v e);
-          word = subst (λ (ws : List ℕ). IsWord point fact r.now record { words = ws; homes = s.homes; views = vs }) (sym (set_found s.words))
+          word = subst (λ (ws : List ℕ). IsWord point fact r.now record {
+            words = ws;
+            homes = s.homes;
+            views = vs;
+          }) (sym (set_found s.words))
               (word_stays point fact r.now s vs
-              (stays_set (λ j u. u.holds ≡ true → get_elem? s.views j ≡ some u) s.views id w (λ t. absurd cc) (λ j u _ e _. e))
-              (λ j u e t. set_else s.views id j w (λ is. let one : u ≡ me.0 = one_at s.views id u me.0 (subst (λ (z : ℕ). get_elem? s.views z ≡ some u) is e) at in absurd cc) ∙ e)
+              (stays_set (λ j u. u.holds ≡ true → get_elem? s.views j ≡ some u) s.views id w
+              (λ t. absurd cc) (λ j u _ e _. e))
+              (λ j u e t. set_else s.views id j w
+              (λ is. let one : u ≡ me.0 = one_at s.views id u me.0
+              (subst (λ (z : ℕ). get_elem? s.views z ≡ some u) is e) at in absurd cc) ∙ e)
               r.word);
         },
-        (r.now, refl, record { is_sound = r.is_sound; seen = mine.seen live; joined = mine.joined live; agrees = mine.agrees }),
+        (
+          r.now,
+          refl,
+          record {
+            is_sound = r.is_sound;
+            seen = mine.seen live;
+            joined = mine.joined live;
+            agrees = mine.agrees;
+          },
+        ),
       )

@@ -16,10 +16,14 @@ pub record IsTied (sound : Point → Type 0) (v w : View) (p : Point) : Type 0 w
   pub all : AllAgree p (v.logs ++ w.logs)
   pub each : AllAgree p v.logs × AllAgree p w.logs
 
-pub tied : (sound : Point → Type 0) (v w u : View) (p q : Point) → u ≡ joined_view v w → v.joined ≡ [] → p ≡ q → IsLookedAt sound u p → IsTied sound v w q
+pub tied : (sound : Point → Type 0) (v w u : View) (p q : Point) → u ≡ joined_view v w → v.joined ≡ [] →
+    p ≡ q → IsLookedAt sound u p → IsTied sound v w q
 tied sound v w u p q is none same looked =
-    let at : IsLookedAt sound (joined_view v w) q = subst (λ (z : Point). IsLookedAt sound (joined_view v w) z) same (subst (λ (z : View). IsLookedAt sound z p) is looked) in
-    let front : get_elem? (v.joined ++ w.seen ∷ w.joined) 0 ≡ get_elem? (w.seen ∷ w.joined) 0 = ap (λ (l : List Point). get_elem? (l ++ w.seen ∷ w.joined) 0) none in
+    let at : IsLookedAt sound (joined_view v w) q =
+    subst (λ (z : Point). IsLookedAt sound (joined_view v w) z) same
+    (subst (λ (z : View). IsLookedAt sound z p) is looked) in
+    let front : get_elem? (v.joined ++ w.seen ∷ w.joined) 0 ≡ get_elem? (w.seen ∷ w.joined) 0 =
+    ap (λ (l : List Point). get_elem? (l ++ w.seen ∷ w.joined) 0) none in
     let theirs : Before w.seen q = at.joined 0 w.seen front in record {
       is_sound = at.is_sound;
       begins = (at.seen, theirs);

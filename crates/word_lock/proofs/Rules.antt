@@ -17,7 +17,8 @@ module _ {T : Type 0} (point : T → Point) (fact : T → Type 0) (now : Point) 
   abbrev pub IsWord : State (Maybe T) View → Type 0
   IsWord s = IsFree point fact now s ⊎ IsTaken now s
 
-  pub word_stays : (s : State (Maybe T) View) (views : List View) → HoldersIn views s.views → HoldersIn s.views views → IsWord s
+  pub word_stays : (s : State (Maybe T) View) (views : List View) → HoldersIn views s.views →
+      HoldersIn s.views views → IsWord s
       → IsWord record { words = s.words; homes = s.homes; views = views }
   word_stays s views back on (inl h) = inl record {
     word = h.word;
@@ -30,5 +31,12 @@ module _ {T : Type 0} (point : T → Point) (fact : T → Type 0) (now : Point) 
   word_stays s views back on (inr o) = let h = o.held in inr record {
     word = o.word;
     home = o.home;
-    held = record { id = h.id; view = h.view; is = on h.id h.view h.is h.holds; holds = h.holds; took = h.took; alone = λ j u e t. h.alone j u (back j u e t) t };
+    held = record {
+      id = h.id;
+      view = h.view;
+      is = on h.id h.view h.is h.holds;
+      holds = h.holds;
+      took = h.took;
+      alone = λ j u e t. h.alone j u (back j u e t) t;
+    };
   }

@@ -21,11 +21,16 @@ pub record IsSection (t n : Ticket) (p q : Point) (seat : ℕ) : Type 0 where
   pub agrees : Agrees n.seen seat (first_entries n.logs)
   pub grown : first_entries n.logs ≡ added p q ++ first_entries t.logs
 
-pub section : (t o n : Ticket) (p q : Point) (seat : ℕ) → o ≡ after_lock t p → n ≡ after_unlock o q → length t.logs ≡ 1 → first_seat t.logs ≡ seat
+pub section : (t o n : Ticket) (p q : Point) (seat : ℕ) → o ≡ after_lock t p → n ≡ after_unlock o q →
+    length t.logs ≡ 1 → first_seat t.logs ≡ seat
     → Before t.seen p → AllAgree p t.logs → Follows seat p q → IsSection t n p q seat
 section t o n p q seat out back one own begins agree follows =
-    let first : get_elem? t.logs 0 ≡ some record { seat = first_seat t.logs; entries = first_entries t.logs } = ap (λ (l : List SeatLog). get_elem? l 0) (one_log t.logs one) in
-    let had : Agrees p seat (first_entries t.logs) = subst (λ (k : ℕ). Agrees p k (first_entries t.logs)) own (agree 0 _ first) in
+    let first : get_elem? t.logs 0 ≡ some record {
+      seat = first_seat t.logs;
+      entries = first_entries t.logs;
+    } = ap (λ (l : List SeatLog). get_elem? l 0) (one_log t.logs one) in
+    let had : Agrees p seat (first_entries t.logs) =
+    subst (λ (k : ℕ). Agrees p k (first_entries t.logs)) own (agree 0 _ first) in
     let is : n ≡ after_unlock (after_lock t p) q = back ∙ ap (λ (z : Ticket). after_unlock z q) out in
     subst (λ (z : Ticket). IsSection t z p q seat) (sym is) record {
       lock = refl;
@@ -39,5 +44,8 @@ section t o n p q seat out back one own begins agree follows =
     }
 
 -- what the token of the seat took at p, as the ticket o says, it may give back at q
-pub follows_taken : (o t : Ticket) (p q : Point) (seat : ℕ) → o ≡ after_lock t p → first_seat t.logs ≡ seat → Follows seat p q → Follows (first_seat o.logs) o.seen q
-follows_taken o t p q seat is own f = subst (λ (z : Ticket). Follows (first_seat z.logs) z.seen q) (sym is) (subst (λ (k : ℕ). Follows k p q) (sym own) f)
+pub follows_taken : (o t : Ticket) (p q : Point) (seat : ℕ) → o ≡ after_lock t p →
+    first_seat t.logs ≡ seat → Follows seat p q → Follows (first_seat o.logs) o.seen q
+follows_taken o t p q seat is own f =
+    subst (λ (z : Ticket). Follows (first_seat z.logs) z.seen q) (sym is)
+    (subst (λ (k : ℕ). Follows k p q) (sym own) f)

@@ -17,7 +17,8 @@ pub record LockId : Type 0 where
 abbrev pub lock_id : TableId → Point → LockId
 lock_id table p = record { table = table; header = header_of p }
 
--- the lock that a token is of, whether it has nothing out, the entries that each of its seats has added, and what it has seen
+-- the lock that a token is of, whether it has nothing out, the entries that each of its seats has added,
+-- and what it has seen
 pub record Ticket : Type 0 where
   pub lock : LockId
   pub free : Bool
@@ -36,7 +37,8 @@ abbrev pub badge_when : Bool → View → List View
 badge_when true v = v ∷ []
 badge_when false v = []
 
--- a token that is free has a view, which holds nothing and has looked since it was joined; one that isn't has none
+-- a token that is free has a view, which holds nothing and has looked since it was joined; one that isn't
+-- has none
 pub record IsTokenInside (views : List View) (free : Bool) : Type 0 where
   pub has_view : views ≡ badge_when free (view_of_badge views)
   pub holds : (view_of_badge views).holds ≡ false
@@ -65,7 +67,8 @@ first_entries (l ∷ ls) = l.entries
 
 -- the token of the seat k, before any step
 abbrev pub opening_ticket : LockId → ℕ → Point → Ticket
-opening_ticket lock k p = record { lock = lock; free = true; logs = record { seat = k; entries = [] } ∷ []; seen = p }
+opening_ticket lock k p =
+    record { lock = lock; free = true; logs = record { seat = k; entries = [] } ∷ []; seen = p }
 
 -- the tokens of the n seats from k on, in order
 abbrev pub opening_tickets : LockId → Point → ℕ → ℕ → List Ticket
@@ -79,7 +82,12 @@ after_lock t p = record { lock = t.lock; free = false; logs = t.logs; seen = p }
 -- after an unlock, of a token with one seat, that gave back the point p
 abbrev pub after_unlock : Ticket → Point → Ticket
 after_unlock t p =
-    record { lock = t.lock; free = true; logs = record { seat = first_seat t.logs; entries = added t.seen p ++ first_entries t.logs } ∷ []; seen = p }
+    record {
+      lock = t.lock;
+      free = true;
+      logs = record { seat = first_seat t.logs; entries = added t.seen p ++ first_entries t.logs } ∷ [];
+      seen = p;
+    }
 
 -- after a meeting at which p was seen
 abbrev pub after_meet : Ticket → Point → Ticket

@@ -71,7 +71,8 @@ impl<T: Chronicle> WordLock<T> {
     pub fn lock<R: Wait>(&self, rt: &R, token: &mut Token) -> Held<T>
         requires own { token.old.lock ≡ self.now }
         requires free { token.old.free ≡ true }
-        ensures taken { (token.new.free ≡ false) × (held_ticket result ≡ after_lock token.old (T.point result.value)) }
+        ensures taken { (token.new.free ≡ false)
+            × (held_ticket result ≡ after_lock token.old (T.point result.value)) }
         ensures fact { T.fact result.value }
         ensures header { header_of (T.point result.value) ≡ self.now.header }
         ensures begins { Before token.old.seen (T.point result.value) }
@@ -95,7 +96,8 @@ impl<T: Chronicle> WordLock<T> {
         requires own { token.old.lock ≡ self.now }
         requires free { token.old.free ≡ true }
         ensures none { IfNone result (token.new ≡ token.old) }
-        ensures taken { IfSome result (λ h. (token.new.free ≡ false) × (held_ticket h ≡ after_lock token.old (T.point h.value))) }
+        ensures taken { IfSome result (λ h. (token.new.free ≡ false)
+            × (held_ticket h ≡ after_lock token.old (T.point h.value))) }
         ensures fact { IfSome result (λ h. T.fact h.value) }
         ensures header { IfSome result (λ h. header_of (T.point h.value) ≡ self.now.header) }
         ensures begins { IfSome result (λ h. Before token.old.seen (T.point h.value)) }
@@ -120,7 +122,8 @@ impl<T: Chronicle> WordLock<T> {
         requires holds { token.old.free ≡ false }
         requires one { length (held_ticket held).logs ≡ 1 }
         requires fact { T.fact held.value }
-        requires follows { Follows (first_seat (held_ticket held).logs) (held_ticket held).seen (T.point held.value) }
+        requires follows { Follows (first_seat (held_ticket held).logs) (held_ticket held).seen
+            (T.point held.value) }
         ensures { token.new ≡ after_unlock (held_ticket held) (T.point held.value) }
     {
         let Held { value, mut seat } = held;
@@ -178,7 +181,8 @@ impl<T: Chronicle> WordLock<T> {
         requires idle { (seat.old.me.1 ≡ []) × IsIdle seat.old.me.0 }
         ensures own { seat.new.table_id ≡ self.now.table }
         ensures none { IfNone result (seat.new.me ≡ seat.old.me) }
-        ensures some { IfSome result (λ x. seat.new.me ≡ (view_after_take seat.old.me.0 (T.point x), (0, None) ∷ [])) }
+        ensures some { IfSome result (λ x.
+            seat.new.me ≡ (view_after_take seat.old.me.0 (T.point x), (0, None) ∷ [])) }
         ensures found { IfSome result (λ x. IsFound T.point T.fact seat.old.me.0 x) }
     {
         let found = self.table.shared.compare_exchange::<Take>(seat, 0, 0, 1);
@@ -196,7 +200,8 @@ impl<T: Chronicle> WordLock<T> {
     #[inline(always)]
     fn put_value(&self, seat: &mut Seat<Option<T>, View>, value: T)
         requires own { seat.old.table_id ≡ self.now.table }
-        requires holds { (seat.old.me.1 ≡ (0, None) ∷ []) × (seat.old.me.0.holds ≡ true) × (seat.old.me.0.live ≡ true) }
+        requires holds { (seat.old.me.1 ≡ (0, None) ∷ []) × (seat.old.me.0.holds ≡ true)
+            × (seat.old.me.0.live ≡ true) }
         requires one { length seat.old.me.0.logs ≡ 1 }
         requires fact { T.fact value }
         requires follows { Follows (first_seat seat.old.me.0.logs) seat.old.me.0.seen (T.point value) }
@@ -217,9 +222,11 @@ impl<T: Chronicle> WordLock<T> {
         requires idle { (one.me.1 ≡ []) × (two.me.1 ≡ []) × IsIdle one.me.0 × IsIdle two.me.0 }
         ensures own { result.table_id ≡ self.now.table }
         ensures idle { (result.me.1 ≡ []) × IsIdle result.me.0 }
-        ensures both { (result.me.0.logs ≡ one.me.0.logs ++ two.me.0.logs) × (result.me.0.split_at ≡ length one.me.0.logs) }
+        ensures both { (result.me.0.logs ≡ one.me.0.logs ++ two.me.0.logs)
+            × (result.me.0.split_at ≡ length one.me.0.logs) }
         ensures begins { Before one.me.0.seen result.me.0.seen × Before two.me.0.seen result.me.0.seen }
-        ensures header { (header_of result.me.0.seen ≡ header_of one.me.0.seen) × (header_of result.me.0.seen ≡ header_of two.me.0.seen) }
+        ensures header { (header_of result.me.0.seen ≡ header_of one.me.0.seen)
+            × (header_of result.me.0.seen ≡ header_of two.me.0.seen) }
         ensures sound { T.sound result.me.0.seen }
         ensures entries { AllAgree result.me.0.seen (one.me.0.logs ++ two.me.0.logs) }
         ensures each { AllAgree result.me.0.seen one.me.0.logs × AllAgree result.me.0.seen two.me.0.logs }

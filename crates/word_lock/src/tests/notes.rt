@@ -56,7 +56,9 @@ impl Notes {
     }
 
     pub(super) fn add(&mut self, entry: Entry) -> Result<(), AllocError>
-        ensures { Follows entry.seat (record { header = self.old.header; list = reverse self.old.list.items }) (record { header = self.new.header; list = reverse self.new.list.items }) }
+        ensures { Follows entry.seat
+            (record { header = self.old.header; list = reverse self.old.list.items })
+            (record { header = self.new.header; list = reverse self.new.list.items }) }
     {
         self.list.push(entry)?;
         Ok(())

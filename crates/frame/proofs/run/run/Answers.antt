@@ -16,7 +16,9 @@ loop-seat-preserved g c =
     let items = c.push_reserved.ensures.items in
     let len = c.push_reserved.ensures.len in
     let taken : take (i + 1) xs ≡ take i xs ++ get_or xs i d ∷ [] = take_more xs i d c.loop-seat-test.true in
-    let more = answered_more c.args.core.now c.loop-seat.core c.step-answer.new.self (take i xs) c.loop-seat.answers.items
+    let more =
+    answered_more c.args.core.now c.loop-seat.core c.step-answer.new.self (take i xs)
+    c.loop-seat.answers.items
     (get_or xs i d) c.step-answer.result inv.answered c.step-answer.ensures.answered in
     record {
       answered = rw taken (rw items more);
@@ -29,6 +31,8 @@ pub returns-clause-results : goal.returns-clause-results
 returns-clause-results g c =
     let xs = c.args.steps.now in
     let inv = c.loop-seat.invariant in
-    let all : take c.loop-seat.seat-index xs ≡ xs = take_all _ xs (let l = c.loop-seat-test.false in omega (arith, l)) in
-    let answered : AreAnswered c.args.core.now xs c.loop-seat.answers.items c.loop-seat.core = rw all at inv.answered in
+    let all : take c.loop-seat.seat-index xs ≡ xs =
+    take_all _ xs (let l = c.loop-seat-test.false in omega (arith, l)) in
+    let answered : AreAnswered c.args.core.now xs c.loop-seat.answers.items c.loop-seat.core =
+    rw all at inv.answered in
     λ none. all_results c.args.core.now c.loop-seat.core xs c.loop-seat.answers.items answered none

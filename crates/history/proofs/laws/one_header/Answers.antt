@@ -5,4 +5,5 @@ use Rattle.history.proofs.Readers.{same_value}
 use Rattle.history.proofs.laws.one_header.Goals as goal
 
 pub returns : goal.returns
-returns c g h fits_g fits_h same = same_value header_at (part_of g) (part_of h) g h (part_again g fits_g) (part_again h fits_h) same
+returns c g h fits_g fits_h same =
+    same_value header_at (part_of g) (part_of h) g h (part_again g fits_g) (part_again h fits_h) same

@@ -4,7 +4,8 @@ use Rattle.history.proofs.LastDigit.{two_digits}
 use Rattle.history.proofs.number.spell.Goals as goal
 
 pub returns-then-number-lt10-clause-bytes : goal.returns-then-number-lt10-clause-bytes
-returns-then-number-lt10-clause-bytes c = rw (decimal_digit c.args.number c.if-number-lt10.true) c.put_byte.ensures.bytes
+returns-then-number-lt10-clause-bytes c =
+    rw (decimal_digit c.args.number c.if-number-lt10.true) c.put_byte.ensures.bytes
 
 pub returns-then-number-lt100-clause-bytes : goal.returns-then-number-lt100-clause-bytes
 returns-then-number-lt100-clause-bytes c =

@@ -4,4 +4,8 @@ use Rattle.hook_checks.proofs.plays.drain.Goals as goal
 pub returns : goal.returns
 returns g c =
     let r = c.requires in
-    record { counts = drained r.counts 0 c.drain.result; agree = c.drain.ensures.drained r.counts 0 r.agree; same = r.same }
+    record {
+      counts = drained r.counts 0 c.drain.result;
+      agree = c.drain.ensures.drained r.counts 0 r.agree;
+      same = r.same;
+    }

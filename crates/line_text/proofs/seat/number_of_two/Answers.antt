@@ -25,4 +25,5 @@ returns-in_err-ones-clause-none c = rw c.from_residual-in_err-ones.ensures (λ n
 
 pub returns-then-tens-eq0-clause-none : goal.returns-then-tens-eq0-clause-none
 returns-then-tens-eq0-clause-none c = λ number lt is.
-    no_leading_zero (c.args.first ∷ c.args.second ∷ []) number lt (omega arith) (omega (arith, c.in_ok-tens.ensures.found.1, c.if-tens-eq0.true)) is
+    no_leading_zero (c.args.first ∷ c.args.second ∷ []) number lt (omega arith)
+    (omega (arith, c.in_ok-tens.ensures.found.1, c.if-tens-eq0.true)) is

@@ -13,19 +13,23 @@ IsReadyOf lock t = IsReady lock (first_seat t.logs) t
 front_and_last : {A : Type 0} (P : A → Type 0) (xs : List A) (x : A) → All P (xs ++ x ∷ []) → All P xs × P x
 front_and_last P [] x a = (All-nil P, All-head P x [] a)
 front_and_last P (y ∷ ys) x a =
-    let t = front_and_last P ys x (All-tail P y (ys ++ x ∷ []) a) in (All-cons P y ys (All-head P y (ys ++ x ∷ []) a) t.0, t.1)
+    let t = front_and_last P ys x (All-tail P y (ys ++ x ∷ []) a) in
+    (All-cons P y ys (All-head P y (ys ++ x ∷ []) a) t.0, t.1)
 
 pub make_workers-requires : goal.make_workers-requires
 make_workers-requires g c = let lock : LockId = c.in-Ok.lock in let ready = IsReadyOf lock in
     (front_and_last ready c.pop.new.self.items c.in-Some.last
-    (subst (All ready) (sym c.in-Ok.ensures.tokens ∙ c.in-Some.ensures.items) (opening_tickets_ready lock blank_point 0 (c.args.threads + 1)))).0
+    (subst (All ready) (sym c.in-Ok.ensures.tokens ∙ c.in-Some.ensures.items)
+    (opening_tickets_ready lock blank_point 0 (c.args.threads + 1)))).0
 
 pub close-requires-clause-own : goal.close-requires-clause-own
 close-requires-clause-own g c = let lock : LockId = c.in-Ok.lock in let ready = IsReadyOf lock in
     (front_and_last ready c.pop.new.self.items c.in-Some.last
-    (subst (All ready) (sym c.in-Ok.ensures.tokens ∙ c.in-Some.ensures.items) (opening_tickets_ready lock blank_point 0 (c.args.threads + 1)))).1.own
+    (subst (All ready) (sym c.in-Ok.ensures.tokens ∙ c.in-Some.ensures.items)
+    (opening_tickets_ready lock blank_point 0 (c.args.threads + 1)))).1.own
 
 pub close-requires-clause-free : goal.close-requires-clause-free
 close-requires-clause-free g c = let lock : LockId = c.in-Ok.lock in let ready = IsReadyOf lock in
     (front_and_last ready c.pop.new.self.items c.in-Some.last
-    (subst (All ready) (sym c.in-Ok.ensures.tokens ∙ c.in-Some.ensures.items) (opening_tickets_ready lock blank_point 0 (c.args.threads + 1)))).1.free
+    (subst (All ready) (sym c.in-Ok.ensures.tokens ∙ c.in-Some.ensures.items)
+    (opening_tickets_ready lock blank_point 0 (c.args.threads + 1)))).1.free

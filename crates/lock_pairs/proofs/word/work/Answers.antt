@@ -7,4 +7,5 @@ use Rattle.lock_pairs.proofs.word.work.Goals as goal
 
 pub unlock-requires-clause-follows : goal.unlock-requires-clause-follows
 unlock-requires-clause-follows g c =
-    follows_taken _ c.loop.token _ _ (first_seat c.loop.token.logs) c.lock-held.ensures.taken.1 refl (follows_same (first_seat c.loop.token.logs) blank_point)
+    follows_taken _ c.loop.token _ _ (first_seat c.loop.token.logs) c.lock-held.ensures.taken.1 refl
+    (follows_same (first_seat c.loop.token.logs) blank_point)

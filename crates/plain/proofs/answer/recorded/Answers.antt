@@ -15,9 +15,11 @@ returns c =
     let e = c.args.entry in
     let next = c.requires.next in
     let stand = c.in-Ok.ensures.stand (opening k) h c.requires.stand next.seat next.legal.0 in
-    let owed = c.owed_behind-behind.ensures.is h c.owed_of-owed.ensures.is next.legal (next.seat, next.seated) in
+    let owed =
+    c.owed_behind-behind.ensures.is h c.owed_of-owed.ensures.is next.legal (next.seat, next.seated) in
     let long = c.len.ensures.value in
     let room = c.if-from-len.false in
-    inl (named_so k h e c.owed_behind-behind.result c.ready-before.result c.ready-after.result c.named.result owed
+    inl (named_so k h e c.owed_behind-behind.result c.ready-before.result c.ready-after.result
+    c.named.result owed
     (omega (arith, long, room)) (c.ready-before.ensures (opening k) h c.requires.stand refl)
     (c.ready-after.ensures (opening k) (e ∷ h) stand refl) c.named.ensures)

@@ -12,8 +12,10 @@ pub note-requires-clause-seat : goal.note-requires-clause-seat
 note-requires-clause-seat c =
     let is = c.len-end.ensures.value in
     let few = c.requires.few in
-    has_seat_next c.args.header.now c.args.history.now.entries c.loop-number.number c.len-end.result c.in-Some.entry
-    c.loop-number.ledger c.loop-number.invariant c.requires.seated c.loop-number-test.true c.len-end.ensures.value (omega (arith, is, few))
+    has_seat_next c.args.header.now c.args.history.now.entries c.loop-number.number c.len-end.result
+    c.in-Some.entry
+    c.loop-number.ledger c.loop-number.invariant c.requires.seated c.loop-number-test.true
+    c.len-end.ensures.value (omega (arith, is, few))
     (sym c.get.ensures ∙ c.in-Some.is)
 
 pub note-requires-clause-signal : goal.note-requires-clause-signal
@@ -37,7 +39,8 @@ loop-number-preserved c =
     let q = sym c.get.ensures ∙ c.in-Some.is in
     let L : List Entry → Type 0 = λ x. LedgerStand s x c.note.new.self in
     subst L (sym (front_next h n e less q))
-    (c.in-Ok-note.ensures.stand s (front n h) c.loop-number.invariant (next_seat s h n e c.requires.seated less q)
+    (c.in-Ok-note.ensures.stand s (front n h) c.loop-number.invariant
+    (next_seat s h n e c.requires.seated less q)
     (next_legal s h n e c.requires.legal less q).0)
 
 pub returns-clause-stand : goal.returns-clause-stand

@@ -35,9 +35,11 @@ loop-number-preserved c =
     let O : List Entry → Type 0 = λ x. IsOwed c.args.header.now x c.owed_behind-owed.result in
     record {
       owes = subst O (sym (front_next h n e less q))
-          (c.owed_behind-owed.ensures.is (front n h) c.loop-number.invariant.owes (next_legal s h n e c.requires.legal less q)
+          (c.owed_behind-owed.ensures.is (front n h) c.loop-number.invariant.owes
+          (next_legal s h n e c.requires.legal less q)
           (next_seated s h n e c.requires.seated less q));
-      few = let few = c.loop-number.invariant.few in let more = c.owed_behind-owed.ensures.few in omega (arith, few, more);
+      few = let few = c.loop-number.invariant.few in let more = c.owed_behind-owed.ensures.few in
+          omega (arith, few, more);
     }
 
 pub loop-number-init : goal.loop-number-init

@@ -12,7 +12,8 @@ is_ready-requires c =
     omega (arith, seats, same, c.loop-seat-test.true)
 
 pub returns-then-is_ready : goal.returns-then-is_ready
-returns-then-is_ready c s h st same = ready_is (ready s h) c.loop-seat.seat (sym (c.is_ready.ensures s h st) ∙ c.if-is_ready.true)
+returns-then-is_ready c s h st same =
+    ready_is (ready s h) c.loop-seat.seat (sym (c.is_ready.ensures s h st) ∙ c.if-is_ready.true)
 
 pub loop-seat-preserved : goal.loop-seat-preserved
 loop-seat-preserved c s h st =
@@ -21,4 +22,5 @@ loop-seat-preserved c s h st =
 
 pub returns : goal.returns
 returns c s h st same =
-    none_ready s h c.args.ledger.now st (λ i l. c.loop-seat.invariant s h st i (omega (arith, same, l, c.loop-seat-test.false)))
+    none_ready s h c.args.ledger.now st
+    (λ i l. c.loop-seat.invariant s h st i (omega (arith, same, l, c.loop-seat-test.false)))

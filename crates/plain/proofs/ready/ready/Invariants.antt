@@ -9,4 +9,5 @@ use Rattle.plain.proofs.ready.ready.Given as goal
 -- none of the seats passed is ready
 abbrev pub invariant-loop-seat : goal.invariant-loop-seat
 invariant-loop-seat l =
-    (s : Start) (h : List Entry) → LedgerStand s h l.ledger → (i : ℕ) → i < l.seat → is_seat (ready s h) i ≡ false
+    (s : Start) (h : List Entry) → LedgerStand s h l.ledger → (i : ℕ) → i < l.seat →
+    is_seat (ready s h) i ≡ false

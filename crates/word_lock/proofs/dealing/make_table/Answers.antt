@@ -12,5 +12,7 @@ new-requires g c = let t = g.T.Chronicle in
     let start : Point = t.point c.of.result.value in
     let shows : start ≡ t.point c.args.value = ap t.point c.of.ensures in
     let items : c.push_reserved.new.self.items ≡ Some c.args.value ∷ [] = search rules in
-    subst (λ (l : List (Maybe g.row.T.Denot)). RuleHolds t.point t.fact t.sound start (opening (0 ∷ []) l (first_view start c.args.seats))) (sym items)
-    (opens t.point t.fact t.sound t.is_sound start c.args.value c.args.seats c.requires.fact shows (λ seat. agrees_empty seat start (ap (λ (p : Point). p.list) shows ∙ c.requires.empty)))
+    subst (λ (l : List (Maybe g.row.T.Denot)). RuleHolds t.point t.fact t.sound start
+    (opening (0 ∷ []) l (first_view start c.args.seats))) (sym items)
+    (opens t.point t.fact t.sound t.is_sound start c.args.value c.args.seats c.requires.fact shows
+    (λ seat. agrees_empty seat start (ap (λ (p : Point). p.list) shows ∙ c.requires.empty)))

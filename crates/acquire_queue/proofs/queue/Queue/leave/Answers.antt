@@ -12,6 +12,7 @@ returns-then-is_none-clause-line c =
 pub invariant_of-self : goal.invariant_of-self
 invariant_of-self c =
     let stands : is_some (place_of c.args.seat c.self.inside.line.items) ≡ true =
-    ap (λ (v : Line). is_some (place_of c.args.seat v.arrivals)) c.self.view_is ∙ present _ _ _ c.arrival_of.ensures c.is_none.ensures c.if-is_none.false in
+    ap (λ (v : Line). is_some (place_of c.args.seat v.arrivals)) c.self.view_is
+    ∙ present _ _ _ c.arrival_of.ensures c.is_none.ensures c.if-is_none.false in
     let low = below _ _ _ _ c.self.invariant c.args.seat stands in
     rw (c.remove_seat.ensures.line, c.remove_seat.ensures.room) (kept_left _ _ _ _ _ c.self.invariant low)

@@ -7,7 +7,8 @@ use Rattle.acquire_queue.proofs.queue.Queue.position.Goals as goal
 
 pub returns-then-is_none-clause-position : goal.returns-then-is_none-clause-position
 returns-then-is_none-clause-position c =
-    sym (found_none c.args.seat c.args.self.now.arrivals (absent _ _ _ c.arrival_of.ensures c.is_none.ensures c.if-is_none.true))
+    sym (found_none c.args.seat c.args.self.now.arrivals
+    (absent _ _ _ c.arrival_of.ensures c.is_none.ensures c.if-is_none.true))
 
 pub overflow_cast-result : goal.overflow_cast-result
 overflow_cast-result c =

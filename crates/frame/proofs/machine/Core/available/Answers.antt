@@ -10,5 +10,6 @@ returns-in-Semaphore-clause-most g c =
     let a = c.self.inside in
     let s = c.self.invariant in
     let P : CoreView → Type 0 = λ v. c.level.result ≡ level_of (counts (start_of v) v.entries) in
-    level_most a.header a.history.entries c.in-Semaphore.field-0 c.in-Semaphore.field-1 c.level.result s.range s.legal
+    level_most a.header a.history.entries c.in-Semaphore.field-0 c.in-Semaphore.field-1 c.level.result
+    s.range s.legal
     c.in-Semaphore.is (subst P (sym c.self.view_is) c.level.ensures)

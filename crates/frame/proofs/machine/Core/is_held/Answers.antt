@@ -14,6 +14,7 @@ returns g c =
     let s = c.self.invariant in
     let any : c.any.result ≡ list_any holds_exclusively a.seats.items =
     any_from_yields_List holds_exclusively _ _ _ c.any.ensures.ran
-    (YieldsList-from_slice a.seats.items (c.iter.ensures.rest ∙ c.deref.ensures.value)) (λ x b q k. search (rules, tests)) in
+    (YieldsList-from_slice a.seats.items (c.iter.ensures.rest ∙ c.deref.ensures.value))
+    (λ x b q k. search (rules, tests)) in
     let P : CoreView → Type 0 = λ v. c.any.result ≡ is_some (owner (counts (start_of v) v.entries)) in
     subst P c.self.view_is (any ∙ held_by_any a.header a.history.entries a.seats.items s.seats s.tabled)

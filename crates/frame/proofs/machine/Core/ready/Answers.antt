@@ -8,4 +8,5 @@ returns-then-could g c =
 
 pub returns-else-could : goal.returns-else-could
 returns-else-could g c =
-    ready_waits _ _ c.in-Some.first (sym c.first.ensures ∙ c.in-Some.is) (sym c.could.ensures ∙ c.if-could.false)
+    ready_waits _ _ c.in-Some.first (sym c.first.ensures ∙ c.in-Some.is) (sym c.could.ensures
+    ∙ c.if-could.false)

@@ -10,7 +10,8 @@ pub returns : goal.returns
 returns g c =
     let a = c.self.inside in
     let s = c.self.invariant in
-    let P : CoreView → Type 0 = λ v. c.is_some.result ≡ sleeps_below v.header.conditions (start_of v) v.entries c.args.seat in
+    let P : CoreView → Type 0 =
+    λ v. c.is_some.result ≡ sleeps_below v.header.conditions (start_of v) v.entries c.args.seat in
     subst P c.self.view_is
     (c.is_some.ensures
     ∙ sleeps_is (opening a.header) a.history.entries c.args.seat a.waiters c.sleeper_of.result

@@ -28,7 +28,8 @@ returns-in-Err g c =
     let owes = c.owed_behind-owed.result in
     let m = needs k h e was owes n (c.owed-was_owed.ensures.value ∙ s.owed) c.owed_behind-owed.ensures in
     let new = c.make_room.new.self in
-    let P : CoreView → Type 0 = λ w. IsAdded w e (Err c.in-Err.fault) (record { header = k; entries = new.entries }) in
+    let P : CoreView → Type 0 =
+    λ w. IsAdded w e (Err c.in-Err.fault) (record { header = k; entries = new.entries }) in
     subst P c.self.view_is
     (refused k e c.in-Err.fault a.history new was owes c.saturating_sub-needed.result m s.cap
     c.owed-was_owed.ensures.value c.owed-was_owed.ensures.reserved c.saturating_sub-needed.ensures
@@ -93,9 +94,11 @@ invariant_of-self-2 g c =
     c.saturating_sub-needed.ensures c.in-Ok.ensures.within_cap c.in-Ok.ensures.same s.cap in
     let grown = added a.history mid new e owes c.in-Ok.ensures.same c.add.ensures in
     let moved = c.move_waiters.ensures in
-    let waiting = keeps_next k h e a.queue c.move_waiters.new.queue a.waiters c.move_waiters.new.waiters s.waiting
+    let waiting =
+    keeps_next k h e a.queue c.move_waiters.new.queue a.waiters c.move_waiters.new.waiters s.waiting
     moved.line moved.sleepers moved.joined moved.places moved.beds moved.conditions in
-    stands_next (g.H.Hooks.agrees a.hooks) (g.H.Hooks.agrees c.change.new.hooks) k a.history new a.queue c.move_waiters.new.queue
+    stands_next (g.H.Hooks.agrees a.hooks) (g.H.Hooks.agrees c.change.new.hooks) k a.history new a.queue
+    c.move_waiters.new.queue
     a.waiters c.move_waiters.new.waiters a.seats.items c.update.new.seats.items e s n
     (c.change.ensures.changed (counts (opening k) h) s.hooks n.allowed) waiting c.update.ensures
     grown.0 grown.1 (grown.2 ∙ m.owed) (let o = grown.2 in omega (arith, o, fits))

@@ -6,4 +6,5 @@ pub returns-then-self-gt0-clause-kept : goal.returns-then-self-gt0-clause-kept
 returns-then-self-gt0-clause-kept c _ k h j m a _ _ ne _ =
     let s = c.args.self.now in
     let owns = sym c.owns.ensures ∙ c.if-owns.true in
-    rw c.in-X.is (kept s.policy s.owner s.holds k s.owned h c.args.who owns c.if-self-gt0.true c.args._n j m a ne)
+    rw c.in-X.is (kept s.policy s.owner s.holds k s.owned h c.args.who owns c.if-self-gt0.true c.args._n j m
+    a ne)

@@ -13,4 +13,5 @@ returns-in-Fair c k h =
     let e = held_back_is s.policy s.owner s.holds k s.owned h (line_mode c.args.line) c.args.who c.args._mode in
     let blocked = and_true (not c.owns.result) in
     let by = rw c.owns.ensures at blocked in
-    ap not c.owns.ensures ∙ sym (e ∙ ⊎_elim (λ x. rw x (rw c.in-Fair.is by)) (λ x. rw x (rw c.in-Fair.is by)) c.in-FirstX.is)
+    ap not c.owns.ensures
+    ∙ sym (e ∙ ⊎_elim (λ x. rw x (rw c.in-Fair.is by)) (λ x. rw x (rw c.in-Fair.is by)) c.in-FirstX.is)

@@ -22,7 +22,8 @@ returns-clause-alone c _ k h seat m j a _ _ ne =
     let r = c.requires in
     let may = may_take s.policy s.owner s.holds r.0 s.owned r.1 c.args.who c.args._mode c.args._n r.3 in
     let now = stands_took s.policy s.owner s.holds k s.owned h c.args.who c.args._mode c.args._n may seat in
-    alone s.policy c.args.who (s.holds + 1) _ (owned_more s.owner s.holds c.args.who c.args._mode may) now j m a ne
+    alone s.policy c.args.who (s.holds + 1) _ (owned_more s.owner s.holds c.args.who c.args._mode may) now j
+    m a ne
 
 pub returns-clause-nobody : goal.returns-clause-nobody
 returns-clause-nobody c k h seat j m a _ _ f =

@@ -15,5 +15,11 @@ compare_exchange-found-requires g c = let t = g.T.Chronicle in (
 pub exchange-requires : goal.exchange-requires
 exchange-requires g c = let won = c.compare_exchange-found.ensures.2.0 c.if-is_taken.false in
     let M : Type 0 = Me (Maybe g.row.T.Denot) View in
-    let carries = ap (λ (m : M). m.1) won.1 in
-    (search rules, (Some won.0, carries ∙ ap (λ (l : List (ℕ × Maybe g.row.T.Denot)). (0, Some won.0) ∷ l) (sym (ap rest carries))))
+    let carries = ap (λ (m : M). m.1) won.1 in (
+      search rules,
+      (
+        Some won.0,
+        carries
+            ∙ ap (λ (l : List (ℕ × Maybe g.row.T.Denot)). (0, Some won.0) ∷ l) (sym (ap rest carries)),
+      ),
+    )

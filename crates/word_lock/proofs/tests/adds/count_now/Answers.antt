@@ -4,4 +4,5 @@ use Rattle.word_lock.proofs.tests.adds.count_now.Goals as goal
 
 pub unlock-requires-clause-follows : goal.unlock-requires-clause-follows
 unlock-requires-clause-follows c =
-    follows_taken _ c.args.token.now _ _ c.args.seat c.in_ok-held.ensures.taken.1 c.requires.seat_is (follows_same c.args.seat _)
+    follows_taken _ c.args.token.now _ _ c.args.seat c.in_ok-held.ensures.taken.1 c.requires.seat_is
+    (follows_same c.args.seat _)
