@@ -21,7 +21,7 @@ use Rattle.history.proofs.Changes.{all_stay, either_way}
 use Rattle.deciding.specs.Sleep.{sleep_of}
 use Rattle.deciding.specs.declared.sleep.LastSleep.{LastSleep}
 use Rattle.audit.specs.declared.waiting.Waiting.{Waiting}
-use Rattle.audit.specs.Waiting.{seats_on, ended_by, never_slept, WaitingStand}
+use Rattle.audit.specs.Waiting.{seats_on, ended_by, never_slept, AreSameLists, WaitingStand}
 
 -- the line behind an entry: nobody leaves, or its seat does
 line_more : (s : Start) (e : Entry) (h : List Entry) → ends_arrival e.word ≡ false →
@@ -87,6 +87,18 @@ length_filter p (x ∷ xs) = by (p x) (length_filter p xs)
 -- an entry by which somebody joins or leaves the line, and no sleeper is moved
 abbrev pub joining : Entry → Arrival
 joining e = record { seat = e.seat; mode = e.mode; n = e.n; back = false }
+
+pub stands_still : (s : Start) (h : List Entry) (old new : Waiting) → AreSameLists old new →
+    WaitingStand s h old → WaitingStand s h new
+stands_still s h old new same st =
+    record {
+      in_line = same.0 ∙ st.in_line;
+      sleeping = λ c. ap (seats_on c) same.1 ∙ st.sleeping c;
+      seats = ap length same.2 ∙ st.seats;
+      slept = λ i. ap (λ l. sleep_of (get_or l i never_slept)) same.2 ∙ st.slept i;
+      few = let n : length new.asleep.items ≡ length old.asleep.items = ap length same.1 in
+          omega (arith, n, st.few);
+    }
 
 pub follows_queued : (s : Start) (e : Entry) (h : List Entry) (old new : Waiting) → WaitingStand s h old →
     e.word ≡ word.Queued → new.line.items ≡ old.line.items ++ joining e ∷ [] →

@@ -30,6 +30,11 @@ ended_by how was = record { condition = was.condition; holds = was.holds; how = 
 abbrev pub never_slept : LastSleep
 never_slept = record { condition = 0; holds = 0; how = end.None }
 
+-- the same line, sleepers and last sleeps
+abbrev pub AreSameLists : Waiting → Waiting → Type 0
+AreSameLists a b =
+    (b.line.items ≡ a.line.items) × (b.asleep.items ≡ a.asleep.items) × (b.last_sleep.items ≡ a.last_sleep.items)
+
 pub record WaitingStand (s : Start) (h : List Entry) (w : Waiting) : Type 0 where
   pub in_line : w.line.items ≡ line s h
   pub sleeping : (c : ℕ) → seats_on c w.asleep.items ≡ sleepers s h c

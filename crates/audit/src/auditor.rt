@@ -43,7 +43,7 @@ impl Auditor {
     }
 
     /// Follows one more entry of one of the seats. Where memory is refused the answer is `OutOfMemory`, and
-    /// nothing is judged any more: the entry isn't counted. No memory is wanted behind a wrong entry.
+    /// the entry isn't followed: it may be tried again. No memory is wanted behind a wrong entry.
     #[inline(always)]
     pub fn follow(&mut self, entry: Entry) -> Result<(), Fault>
         requires { CanFollow self.old entry }
@@ -51,6 +51,8 @@ impl Auditor {
             entry.seat < k.seats → HasJudged k (entry ∷ h) self.new) }
         ensures memory { IsOkUnless result Fault.OutOfMemory }
         ensures uncounted { OnErr result ((self.new.count ≡ self.old.count) × (self.new.wrong ≡ self.old.wrong)) }
+        ensures err { OnErr result ((k : Header) (h : List Entry) → HasJudged k h self.old →
+            HasJudged k h self.new) }
         ensures wanted { IsErr result → self.old.wrong ≡ None }
     {
         match self.wrong {

@@ -1,7 +1,7 @@
 //! All that a front of a history says, kept so that each question about the next entry is one step, but for
 //! searches in the line and among the sleepers.
 
-ghost use Rattle.std.specs.Prelude.{◌≡◌, ◌<◌, ◌≤◌, ◌∷◌, ◌+◌, ◌^◌, [], List, ℕ, IfOk, OnOk, IsOkUnless, IsTrue, Some, None, length, Ok, nat_lt, ◌&&◌, ◌==◌};
+ghost use Rattle.std.specs.Prelude.{◌≡◌, ◌<◌, ◌≤◌, ◌∷◌, ◌+◌, ◌^◌, [], List, ℕ, IfOk, OnOk, OnErr, IsOkUnless, IsTrue, Some, None, length, Ok, nat_lt, ◌&&◌, ◌==◌};
 ghost use Rattle.history.specs.Object.{is_fair_policy};
 ghost use Rattle.std.specs.List.{list_any};
 ghost use Rattle.history.specs.Could.{could, limit, held_back, is_seat, is_none_or, is_reentrant, line_blocks};
@@ -69,12 +69,14 @@ impl Ledger {
     }
 
     /// Follows one more entry, one that a step of its seat makes. Where memory is refused the answer is
-    /// `OutOfMemory`, and the ledger stands for nothing any more.
+    /// `OutOfMemory`, and the ledger stands for the entries before.
     pub fn note(&mut self, entry: Entry) -> Result<(), Fault>
         requires seat { HasSeat self.old entry.seat }
         requires signal { entry.word ≡ Signal → entry.n ≤ 1 }
         ensures stand { OnOk result ((s : Start) (h : List Entry) → LedgerStand s h self.old →
             entry.seat < s.header.seats → IsNext s h entry → LedgerStand s (entry ∷ h) self.new) }
+        ensures err { OnErr result ((s : Start) (h : List Entry) → LedgerStand s h self.old →
+            LedgerStand s h self.new) }
         ensures memory { IsOkUnless result Fault.OutOfMemory }
     {
         let object = self.header.object;

@@ -1,13 +1,13 @@
 //! Who stands in line, who sleeps on which condition, and what each sleeper gave up.
 
-ghost use Rattle.std.specs.Prelude.{◌≡◌, ◌≢◌, ℕ, ◌+◌, ◌<◌, ◌≤◌, ◌∷◌, ◌++◌, [], List, OnOk, IfNone, IfOk, IfErr, IsOkUnless, length, filter, not, ◌==◌, ◌&&◌, map, option_to_list, position, take, drop, slice_set, slice_index_or};
+ghost use Rattle.std.specs.Prelude.{◌≡◌, ◌≢◌, ℕ, ◌+◌, ◌<◌, ◌≤◌, ◌∷◌, ◌++◌, [], List, OnOk, OnErr, IfNone, IfOk, IfErr, IsOkUnless, length, filter, not, ◌==◌, ◌&&◌, map, option_to_list, position, take, drop, slice_set, slice_index_or, vec_capacity};
 ghost use Rattle.history.specs.declared.entry.End.TheVariants.{Signalled};
 ghost use Rattle.history.specs.Line.{coming_back};
 ghost use Rattle.history.specs.Start.{Start, opening};
 ghost use Rattle.history.specs.declared.entry.Entry.{Entry};
 ghost use Rattle.history.specs.declared.entry.Word.TheVariants.{Signal};
 ghost use Rattle.history.specs.declared.header.Header.{Header};
-ghost use Rattle.audit.specs.Waiting.{seats_on, sleeper_by, sleep_by, ended_by, never_slept, WaitingStand};
+ghost use Rattle.audit.specs.Waiting.{seats_on, sleeper_by, sleep_by, ended_by, never_slept, AreSameLists, WaitingStand};
 
 use deciding::arrivals::{coming_back, queued};
 use deciding::sleep::LastSleep;
@@ -55,12 +55,13 @@ impl Waiting {
     }
 
     /// Follows one more entry of one of the seats. A signal moves one sleeper at most. Where memory is
-    /// refused the lists stand for nothing any more.
+    /// refused nothing changes.
     pub(crate) fn note(&mut self, entry: Entry) -> Result<(), Fault>
         requires seat { entry.seat < length self.old.last_sleep.items }
         requires signal { entry.word ≡ Signal → entry.n ≤ 1 }
         ensures stand { OnOk result ((s : Start) (h : List Entry) → WaitingStand s h self.old →
             WaitingStand s (entry ∷ h) self.new) }
+        ensures err { OnErr result (AreSameLists self.old self.new) }
         ensures memory { IsOkUnless result Fault.OutOfMemory }
     {
         match entry.word {
@@ -85,6 +86,7 @@ impl Waiting {
 
     fn join(&mut self, arrival: Arrival) -> Result<(), Fault>
         ensures line { OnOk result (self.new.line.items ≡ self.old.line.items ++ arrival ∷ []) }
+        ensures err { OnErr result (self.new.line.items ≡ self.old.line.items) }
         ensures asleep { self.new.asleep ≡ self.old.asleep }
         ensures last_sleep { self.new.last_sleep ≡ self.old.last_sleep }
         ensures memory { IsOkUnless result Fault.OutOfMemory }
@@ -110,6 +112,7 @@ impl Waiting {
         ensures last_sleep { OnOk result (self.new.last_sleep.items
             ≡ slice_set self.old.last_sleep.items entry.seat (sleep_by entry)) }
         ensures line { self.new.line ≡ self.old.line }
+        ensures err { OnErr result (AreSameLists self.old self.new) }
         ensures memory { IsOkUnless result Fault.OutOfMemory }
     {
         let sleeper = Sleeper {
@@ -137,6 +140,7 @@ impl Waiting {
         ensures last_sleep { OnOk result (self.new.last_sleep.items
             ≡ slice_set self.old.last_sleep.items entry.seat
             (ended_by entry.end (slice_index_or self.old.last_sleep.items entry.seat never_slept))) }
+        ensures err { OnErr result (AreSameLists self.old self.new) }
         ensures memory { IsOkUnless result Fault.OutOfMemory }
     {
         self.join(coming_back(entry.seat))?;
@@ -171,15 +175,17 @@ impl Waiting {
             seats_on c self.new.asleep.items ≡ seats_on c self.old.asleep.items) }
         ensures fewer { OnOk result (length self.new.asleep.items ≤ length self.old.asleep.items) }
         ensures last_sleep { self.new.last_sleep ≡ self.old.last_sleep }
+        ensures err { OnErr result (AreSameLists self.old self.new) }
         ensures memory { IsOkUnless result Fault.OutOfMemory }
     {
         if entry.n == 0 {
             return Ok(());
         }
-        match self.wake_first(entry.at) {
-            None => Ok(()),
-            Some(seat) => self.join(coming_back(seat)),
+        self.make_room(1)?;
+        if let Some(seat) = self.wake_first(entry.at) {
+            self.line.push_reserved(coming_back(seat));
         }
+        Ok(())
     }
 
     fn signal_all(&mut self, condition: u8) -> Result<(), Fault>
@@ -190,15 +196,32 @@ impl Waiting {
             seats_on c self.new.asleep.items ≡ seats_on c self.old.asleep.items) }
         ensures fewer { OnOk result (length self.new.asleep.items ≤ length self.old.asleep.items) }
         ensures last_sleep { self.new.last_sleep ≡ self.old.last_sleep }
+        ensures err { OnErr result (AreSameLists self.old self.new) }
         ensures memory { IsOkUnless result Fault.OutOfMemory }
     {
-        for _ in 0..self.asleep.len() {
+        let sleepers = self.asleep.len();
+        self.make_room(sleepers)?;
+        for _ in 0..sleepers {
             match self.wake_first(condition) {
                 None => break,
-                Some(seat) => self.join(coming_back(seat))?,
+                Some(seat) => self.line.push_reserved(coming_back(seat)),
             }
         }
         Ok(())
+    }
+
+    /// Room in line for so many more, before anybody is woken.
+    fn make_room(&mut self, more: usize) -> Result<(), Fault>
+        ensures room { OnOk result (length self.new.line.items + more ≤ vec_capacity self.new.line) }
+        ensures line { self.new.line.items ≡ self.old.line.items }
+        ensures asleep { self.new.asleep ≡ self.old.asleep }
+        ensures last_sleep { self.new.last_sleep ≡ self.old.last_sleep }
+        ensures memory { IsOkUnless result Fault.OutOfMemory }
+    {
+        match self.line.reserve(more) {
+            Ok(()) => Ok(()),
+            Err(_) => Err(Fault::OutOfMemory),
+        }
     }
 
     /// The longest sleeper of a condition leaves the sleepers.

@@ -2,6 +2,7 @@ use Rattle.std.proofs.Common.{◌≡◌, ◌∷◌, ap, sym, ◌∙◌, true}
 use Rattle.history.specs.declared.header.Header.{Header}
 use Rattle.history.specs.Object.{is_lock}
 use Rattle.audit.proofs.Limits.{only_owner}
+use Rattle.audit.proofs.WaitingFollow.{stands_still}
 use Rattle.audit.proofs.ledger.Ledger.note.Goals as goal
 
 pub returns-clause-stand : goal.returns-clause-stand
@@ -22,4 +23,17 @@ returns-clause-stand c s h st seat next =
       range = st.range;
       legal = (next, st.legal);
       seated = (seat, st.seated);
+    }
+
+pub returns-in-Err-clause-err : goal.returns-in-Err-clause-err
+returns-in-Err-clause-err c s h st =
+    record {
+      header = st.header;
+      holding = st.holding;
+      waits = stands_still s h _ _ c.in-Err.ensures.err st.waits;
+      numbers = st.numbers;
+      opened = st.opened;
+      range = st.range;
+      legal = st.legal;
+      seated = st.seated;
     }
