@@ -93,6 +93,7 @@ impl StepReader {
         requires { R.failed reader.old ≡ false }
         ensures header { self.new.header ≡ self.old.header }
         ensures few { self.new.count < 2 ^ 64 }
+        ensures count { self.new.count ≡ self.old.count }
         ensures behind { IsBehindEnd self.old.count (R.left reader.old) result }
         ensures ended { result ≡ Ok None → IsAtEnd (R.left reader.new) }
         ensures failing { IsErrOf result StreamFault.ReadFailed ↔ IsTrue (R.failed reader.new) }
@@ -115,6 +116,7 @@ impl StepReader {
         ensures seated { IfOk result (λ next. IfSome next (λ step. step.0 < self.old.header.seats)) }
         ensures few { self.new.count < 2 ^ 64 }
         ensures counted { IfOk result (λ next. IfSome next (λ _. self.new.count ≡ self.old.count + 1)) }
+        ensures stays { result ≡ Ok None → self.new.count ≡ self.old.count }
         ensures ready { (IsLine self.old.bytes → ⊥) → IfOk result (λ next. IfSome next (λ _. reader.new ≡ reader.old)) }
         ensures ended { result ≡ Ok None → IsAtEnd (R.left reader.new) }
         ensures failing { IsErrOf result StreamFault.ReadFailed ↔ IsTrue (R.failed reader.new) }
@@ -136,6 +138,7 @@ impl StepReader {
         ensures seated { IfOk result (λ next. IfSome next (λ step. step.0 < self.old.header.seats)) }
         ensures few { self.new.count < 2 ^ 64 }
         ensures counted { IfOk result (λ next. IfSome next (λ _. self.new.count ≡ self.old.count + 1)) }
+        ensures stays { result ≡ Ok None → self.new.count ≡ self.old.count }
         ensures ready { (IsLine self.old.bytes → ⊥) → IfOk result (λ next. IfSome next (λ _. reader.new ≡ reader.old)) }
         ensures ended { result ≡ Ok None → IsAtEnd (R.left reader.new) }
         ensures failing { IsErrOf result StreamFault.ReadFailed ↔ IsTrue (R.failed reader.new) }
