@@ -1,6 +1,7 @@
 //! A history text is answered by an audit text.
 
-ghost use Rattle.std.specs.Prelude.{◌≡◌, ◌↔◌, false, IsTrue, IfErr, IfOk, IfSome, IsErrOf};
+ghost use Rattle.std.specs.Prelude.{◌≡◌, ◌↔◌, false, IsTrue, IfErr, IfOk, IfSome, IsErrOf, OnOk};
+ghost use Rattle.std.specs.Io.KnownBytes.{IsAtEnd};
 ghost use Rattle.driver.specs.AuditStream.{Audited, Audits, IsJudged};
 ghost use Rattle.driver.specs.HistoryReader.{entries_read};
 ghost use Rattle.driver.specs.TextReader.{IsFaultBehind, IsFaultOf};
@@ -22,8 +23,8 @@ use streams::whole::{told_at_the_end, write_all};
 ///
 /// Each entry is judged as its line is read, and none is kept. As in
 /// [`replay_stream`](crate::replay_stream::replay_stream) all is read before anything is written, and nothing
-/// is written where the text has a fault, where reading fails or where memory is refused. A text with a fault
-/// is read to its end too.
+/// is written where the text has a fault, where reading fails or where memory is refused. A text is read to
+/// its end where it is answered, and where it has a fault.
 pub fn audit_stream<R: Source, W: Sink>(
     alloc: Global,
     reader: &mut R,
@@ -58,6 +59,7 @@ fn audit_of<R: Source>(alloc: Global, reader: &mut R) -> Result<Audit, StreamFau
     ensures ok { IfOk result (λ audit. IfSome (R.left reader.old) (λ text.
         Audited text audit.verdict (λ written. audit.text.items ≡ written))) }
     ensures err { IfErr result (IsFaultOf history_form (R.left reader.old)) }
+    ensures ended { OnOk result (IsAtEnd (R.left reader.new)) }
     ensures failing { IsErrOf result StreamFault.ReadFailed ↔ IsTrue (R.failed reader.new) }
 {
     let mut entries = HistoryReader::open(alloc, reader)?;
@@ -80,6 +82,7 @@ fn judgement_of<R: Source>(
     requires fresh { (entries.old.count ≡ 0) × (entries.old.calls ≡ 0) }
     ensures ok { IfOk result (IsJudged (entries_read entries.old (R.left reader.old)) entries.new) }
     ensures err { IfErr result (IsFaultBehind history_form (entries_read entries.old (R.left reader.old))) }
+    ensures ended { OnOk result (IsAtEnd (R.left reader.new)) }
     ensures failing { IsErrOf result StreamFault.ReadFailed ↔ IsTrue (R.failed reader.new) }
 {
     let Ok(mut auditor) = Auditor::open(alloc, entries.header()) else {

@@ -1,7 +1,9 @@
 //! The entries of a history text, read from its source as they are asked for.
 
-ghost use Rattle.std.specs.Prelude.{◌≡◌, ◌<◌, ◌≤◌, ◌↔◌, [], false, length, IsTrue, IsErrOf, IfOk, IfErr};
+ghost use Rattle.std.specs.Prelude.{◌≡◌, ◌<◌, ◌≤◌, ◌↔◌, [], false, length, None, Ok, IsTrue, IsErrOf, IfOk, IfErr, IfSome};
+ghost use Rattle.std.specs.Io.KnownBytes.{IsAtEnd};
 ghost use Rattle.history.specs.Header.{IsInRange};
+ghost use Rattle.history.specs.Text.{IsLine};
 ghost use Rattle.driver.specs.HistoryReader.{AreCounted, entries_read, entry_passed};
 ghost use Rattle.driver.specs.TextReader.{IsBehindEnd, IsFaultOf, IsNext, WereRead};
 ghost use Rattle.history_text.specs.HistoryText.{history_form};
@@ -104,6 +106,7 @@ impl HistoryReader {
         ensures header { self.new.header ≡ self.old.header }
         ensures counts { (self.new.count ≡ self.old.count) × (self.new.calls ≡ self.old.calls) }
         ensures behind { IsBehindEnd self.old.count (R.left reader.old) result }
+        ensures ended { result ≡ Ok None → IsAtEnd (R.left reader.new) }
         ensures failing { IsErrOf result StreamFault.ReadFailed ↔ IsTrue (R.failed reader.new) }
     {
         if self.window.read_more(reader)? > 0 {
@@ -122,6 +125,8 @@ impl HistoryReader {
         ensures header { self.new.header ≡ self.old.header }
         ensures next { IsNext history_form (entries_read self.old (R.left reader.old)) result (entries_read self.new (R.left reader.new)) }
         ensures counted { IfOk result (λ next. AreCounted self.old next self.new) }
+        ensures ready { (IsLine self.old.bytes → ⊥) → IfOk result (λ next. IfSome next (λ _. reader.new ≡ reader.old)) }
+        ensures ended { result ≡ Ok None → IsAtEnd (R.left reader.new) }
         ensures failing { IsErrOf result StreamFault.ReadFailed ↔ IsTrue (R.failed reader.new) }
     {
         self.window.read_line(reader)?;
@@ -148,6 +153,8 @@ impl HistoryReader {
         ensures header { self.new.header ≡ self.old.header }
         ensures next { IsNext history_form (entries_read self.old (R.left reader.old)) result (entries_read self.new (R.left reader.new)) }
         ensures counted { IfOk result (λ next. AreCounted self.old next self.new) }
+        ensures ready { (IsLine self.old.bytes → ⊥) → IfOk result (λ next. IfSome next (λ _. reader.new ≡ reader.old)) }
+        ensures ended { result ≡ Ok None → IsAtEnd (R.left reader.new) }
         ensures failing { IsErrOf result StreamFault.ReadFailed ↔ IsTrue (R.failed reader.new) }
     {
         match next_entry(

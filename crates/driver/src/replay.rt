@@ -1,6 +1,7 @@
 //! The answers to the steps of a text.
 
 ghost use Rattle.std.specs.Prelude.{◌≡◌, ◌↔◌, [], false, IfErr, IfOk, IsErrOf, IsTrue, OnOk, Err, length};
+ghost use Rattle.std.specs.Io.KnownBytes.{IsAtEnd};
 ghost use Rattle.history.specs.Legal.{IsLegal};
 ghost use Rattle.history.specs.Start.{opening};
 ghost use Rattle.streams.specs.declared.stream_fault.StreamFault.TheVariants.{Memory};
@@ -57,6 +58,7 @@ pub fn replay<O: Answering, R: Source>(
     ensures ok { IfOk result (λ remarks. AreAnswersBehind (progress steps.old (R.left reader.old)) (record { header = steps.old.header; entries = (O.view_of object.new).entries; remarks = remarks.items })) }
     ensures legal { OnOk result (IsLegal (opening steps.old.header) (O.view_of object.new).entries) }
     ensures err { IfErr result (IsFaultBehind steps_form (progress steps.old (R.left reader.old))) }
+    ensures ended { OnOk result (IsAtEnd (R.left reader.new)) }
     ensures failing { IsErrOf result StreamFault.ReadFailed ↔ IsTrue (R.failed reader.new) }
 {
     let mut remarks = Vec::new(alloc);

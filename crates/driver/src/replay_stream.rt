@@ -1,6 +1,7 @@
 //! A steps text is answered by a replay text, or by a history text.
 
-ghost use Rattle.std.specs.Prelude.{◌≡◌, ◌↔◌, [], false, IsTrue, IfErr, IfOk, IsErrOf};
+ghost use Rattle.std.specs.Prelude.{◌≡◌, ◌↔◌, [], false, IsTrue, IfErr, IfOk, IsErrOf, OnOk};
+ghost use Rattle.std.specs.Io.KnownBytes.{IsAtEnd};
 ghost use Rattle.driver.specs.ReplayStream.{AreAnswersBehind, AreAnswersTo, Replays};
 ghost use Rattle.streams.specs.Streams.{IsReadOut};
 ghost use Rattle.driver.specs.StepReader.{progress};
@@ -29,7 +30,7 @@ use streams::whole::told_at_the_end;
 ///
 /// Each line is answered as it is read, and nothing is written before all was answered and all memory was
 /// found: nothing at all where the text has a fault, where reading fails or where memory is refused, to a step
-/// too. A text with a fault is read to its end too.
+/// too. A text is read to its end where it is answered, and where it has a fault.
 pub fn replay_stream<R: Source, W: Sink>(
     alloc: Global,
     reader: &mut R,
@@ -54,6 +55,7 @@ fn answers_to<R: Source>(alloc: Global, reader: &mut R) -> Result<Answers, Strea
     requires { R.failed reader.old ≡ false }
     ensures ok { IfOk result (AreAnswersTo (R.left reader.old)) }
     ensures err { IfErr result (IsFaultOf steps_form (R.left reader.old)) }
+    ensures ended { OnOk result (IsAtEnd (R.left reader.new)) }
     ensures failing { IsErrOf result StreamFault.ReadFailed ↔ IsTrue (R.failed reader.new) }
 {
     let mut steps = StepReader::open(alloc, reader)?;
@@ -72,6 +74,7 @@ fn answered<O: Answering + Drop, R: Source>(
     requires fresh { (O.view_of object).entries ≡ [] }
     ensures ok { IfOk result (AreAnswersBehind (progress steps.old (R.left reader.old))) }
     ensures err { IfErr result (IsFaultBehind steps_form (progress steps.old (R.left reader.old))) }
+    ensures ended { OnOk result (IsAtEnd (R.left reader.new)) }
     ensures failing { IsErrOf result StreamFault.ReadFailed ↔ IsTrue (R.failed reader.new) }
 {
     let mut object = object;
@@ -92,6 +95,7 @@ fn opened<H: Hooks + Drop, R: Source>(
     requires object { H.object_of hooks ≡ steps.old.header.object }
     ensures ok { IfOk result (AreAnswersBehind (progress steps.old (R.left reader.old))) }
     ensures err { IfErr result (IsFaultBehind steps_form (progress steps.old (R.left reader.old))) }
+    ensures ended { OnOk result (IsAtEnd (R.left reader.new)) }
     ensures failing { IsErrOf result StreamFault.ReadFailed ↔ IsTrue (R.failed reader.new) }
 {
     let header = steps.header();
@@ -110,6 +114,7 @@ fn answers_behind<R: Source>(
     requires reader { R.failed reader.old ≡ false }
     ensures ok { IfOk result (AreAnswersBehind (progress steps.old (R.left reader.old))) }
     ensures err { IfErr result (IsFaultBehind steps_form (progress steps.old (R.left reader.old))) }
+    ensures ended { OnOk result (IsAtEnd (R.left reader.new)) }
     ensures failing { IsErrOf result StreamFault.ReadFailed ↔ IsTrue (R.failed reader.new) }
 {
     let header = steps.header();

@@ -1,7 +1,9 @@
 //! The steps of a text, read from its source as they are asked for.
 
-ghost use Rattle.std.specs.Prelude.{◌≡◌, ◌+◌, ◌^◌, ◌<◌, ◌≤◌, ◌∷◌, ◌++◌, ◌↔◌, ◌-◌, [], false, drop, length, IsTrue, IsErrOf, IfOk, IfErr, IfSome, OnOk};
+ghost use Rattle.std.specs.Prelude.{◌≡◌, ◌+◌, ◌^◌, ◌<◌, ◌≤◌, ◌∷◌, ◌++◌, ◌↔◌, ◌-◌, [], false, drop, length, None, Ok, IsTrue, IsErrOf, IfOk, IfErr, IfSome, OnOk};
+ghost use Rattle.std.specs.Io.KnownBytes.{IsAtEnd};
 ghost use Rattle.history.specs.Header.{IsInRange};
+ghost use Rattle.history.specs.Text.{IsLine};
 ghost use Rattle.driver.specs.StepReader.{passed, progress};
 ghost use Rattle.driver.specs.TextReader.{IsBehindEnd, IsFaultOf, IsNext, WereRead};
 ghost use Rattle.steps.specs.StepsText.{steps_form};
@@ -47,6 +49,7 @@ impl StepReader {
         ensures ok { IfOk result (λ steps. WereRead steps_form (R.left reader.old) (progress steps (R.left reader.new)) []) }
         ensures err { IfErr result (IsFaultOf steps_form (R.left reader.old)) }
         ensures failing { IsErrOf result StreamFault.ReadFailed ↔ IsTrue (R.failed reader.new) }
+        ensures none { IfOk result (λ steps. steps.count ≡ 0) }
     {
         let mut window = Window::open(alloc);
         window.read_line(reader)?;
@@ -90,7 +93,9 @@ impl StepReader {
         requires { R.failed reader.old ≡ false }
         ensures header { self.new.header ≡ self.old.header }
         ensures few { self.new.count < 2 ^ 64 }
+        ensures count { self.new.count ≡ self.old.count }
         ensures behind { IsBehindEnd self.old.count (R.left reader.old) result }
+        ensures ended { result ≡ Ok None → IsAtEnd (R.left reader.new) }
         ensures failing { IsErrOf result StreamFault.ReadFailed ↔ IsTrue (R.failed reader.new) }
     {
         if self.window.read_more(reader)? > 0 {
@@ -111,6 +116,9 @@ impl StepReader {
         ensures seated { IfOk result (λ next. IfSome next (λ step. step.0 < self.old.header.seats)) }
         ensures few { self.new.count < 2 ^ 64 }
         ensures counted { IfOk result (λ next. IfSome next (λ _. self.new.count ≡ self.old.count + 1)) }
+        ensures stays { result ≡ Ok None → self.new.count ≡ self.old.count }
+        ensures ready { (IsLine self.old.bytes → ⊥) → IfOk result (λ next. IfSome next (λ _. reader.new ≡ reader.old)) }
+        ensures ended { result ≡ Ok None → IsAtEnd (R.left reader.new) }
         ensures failing { IsErrOf result StreamFault.ReadFailed ↔ IsTrue (R.failed reader.new) }
     {
         self.window.read_line(reader)?;
@@ -130,6 +138,9 @@ impl StepReader {
         ensures seated { IfOk result (λ next. IfSome next (λ step. step.0 < self.old.header.seats)) }
         ensures few { self.new.count < 2 ^ 64 }
         ensures counted { IfOk result (λ next. IfSome next (λ _. self.new.count ≡ self.old.count + 1)) }
+        ensures stays { result ≡ Ok None → self.new.count ≡ self.old.count }
+        ensures ready { (IsLine self.old.bytes → ⊥) → IfOk result (λ next. IfSome next (λ _. reader.new ≡ reader.old)) }
+        ensures ended { result ≡ Ok None → IsAtEnd (R.left reader.new) }
         ensures failing { IsErrOf result StreamFault.ReadFailed ↔ IsTrue (R.failed reader.new) }
     {
         match next_line(self.window.bytes(), &self.header, self.count) {

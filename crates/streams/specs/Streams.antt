@@ -23,7 +23,8 @@ IsReadTo ReadFailed left = Unit {0}
 IsReadTo WriteFailed left = Unit {0}
 IsReadTo Memory left = Unit {0}
 
--- a text with a fault was read to its end
+-- a text was read to its end where it is answered or has a fault, and before anything is written
 abbrev pub IsReadOut : {T : Type 0} → Result T StreamFault → Option (List ℕ) → Type 0
-IsReadOut {T} (Ok answer) left = Unit {0}
+IsReadOut {T} (Ok answer) left = IsAtEnd left
+IsReadOut {T} (Err WriteFailed) left = IsAtEnd left
 IsReadOut {T} (Err fault) left = IsReadTo fault left
