@@ -89,7 +89,8 @@ front_same : (h : List Entry) → front (length h) h ≡ h
 front_same h = front_all h (length h) (omega arith)
 
 -- it is the first that isn't legal
-pub wrong_now : (k : Header) (h : List Entry) (e : Entry) → IsLegal (opening k) h → (IsNext (opening k) h e → ⊥) →
+pub wrong_now : (k : Header) (h : List Entry) (e : Entry) → IsLegal (opening k) h →
+    (IsNext (opening k) h e → ⊥) →
     IsFirstWrong k (e ∷ h) (length h) × (IsLegal (opening k) (e ∷ h) → ⊥)
 wrong_now k h e legal wrong =
     let L : List Entry → Type 0 = λ x. IsLegal (opening k) x in
@@ -103,7 +104,8 @@ wrong_now k h e legal wrong =
     )
 
 -- or the first one stays the first
-pub wrong_still : (k : Header) (h : List Entry) (e : Entry) (number : ℕ) → IsFirstWrong k h number → (IsLegal (opening k) h → ⊥) →
+pub wrong_still : (k : Header) (h : List Entry) (e : Entry) (number : ℕ) → IsFirstWrong k h number →
+    (IsLegal (opening k) h → ⊥) →
     IsFirstWrong k (e ∷ h) number × (IsLegal (opening k) (e ∷ h) → ⊥)
 wrong_still k h e number first wrong =
     let L : List Entry → Type 0 = λ x. IsLegal (opening k) x in

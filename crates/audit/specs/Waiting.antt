@@ -33,7 +33,8 @@ never_slept = record { condition = 0; holds = 0; how = end.None }
 -- the same line, sleepers and last sleeps
 abbrev pub AreSameLists : Waiting → Waiting → Type 0
 AreSameLists a b =
-    (b.line.items ≡ a.line.items) × (b.asleep.items ≡ a.asleep.items) × (b.last_sleep.items ≡ a.last_sleep.items)
+    (b.line.items ≡ a.line.items) × (b.asleep.items ≡ a.asleep.items)
+    × (b.last_sleep.items ≡ a.last_sleep.items)
 
 pub record WaitingStand (s : Start) (h : List Entry) (w : Waiting) : Type 0 where
   pub in_line : w.line.items ≡ line s h

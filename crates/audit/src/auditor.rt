@@ -50,7 +50,8 @@ impl Auditor {
         ensures judged { OnOk result ((k : Header) (h : List Entry) → HasJudged k h self.old →
             entry.seat < k.seats → HasJudged k (entry ∷ h) self.new) }
         ensures memory { IsOkUnless result Fault.OutOfMemory }
-        ensures uncounted { OnErr result ((self.new.count ≡ self.old.count) × (self.new.wrong ≡ self.old.wrong)) }
+        ensures uncounted { OnErr result ((self.new.count ≡ self.old.count)
+            × (self.new.wrong ≡ self.old.wrong)) }
         ensures err { OnErr result ((k : Header) (h : List Entry) → HasJudged k h self.old →
             HasJudged k h self.new) }
         ensures wanted { IsErr result → self.old.wrong ≡ None }

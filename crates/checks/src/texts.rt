@@ -46,7 +46,8 @@ fn put_entry(alloc: Global, out: &mut Vec<u8>, number: u64, entry: &Entry) -> Re
     Ok(())
 }
 
-/// Appends the line of an answer, where the history had so many entries before it, and says how many it has then.
+/// Appends the line of an answer, where the history had so many entries before it, and says how many it
+/// has then.
 fn put_answer(
     alloc: Global,
     out: &mut Vec<u8>,

@@ -17,7 +17,8 @@ use Rattle.driver.specs.TextReader.{Progress, IsNext}
 use Rattle.driver.proofs.ReadingAhead.{ReadOn}
 
 -- these entries were read from the header on, and followed
-pub record Judging (first : Progress Header Entry) (now : EntriesHeld) (left : Option (List ℕ)) (a : Auditor) : Type 0 where
+pub record Judging (first : Progress Header Entry) (now : EntriesHeld) (left : Option (List ℕ))
+    (a : Auditor) : Type 0 where
   pub entries : List Entry
   pub read : ReadOn history_form first (reverse entries) (entries_read now left)
   pub judged : HasJudged first.so_far.header entries a
@@ -27,15 +28,19 @@ pub record Judging (first : Progress Header Entry) (now : EntriesHeld) (left : O
   pub few : length entries < 2 ^ 32
   pub range : IsInRange first.so_far.header
 
-pub judging_on : (first : Progress Header Entry) (old new : EntriesHeld) (left left' : Option (List ℕ)) (a b : Auditor) (e : Entry) →
-    IsNext history_form (entries_read old left) (Ok (Some e)) (entries_read new left') → new.header ≡ old.header → AreCounted old (Some e) new →
-    ((k : Header) (h : List Entry) → HasJudged k h a → e.seat < k.seats → HasJudged k (e ∷ h) b) → Judging first old left a → Judging first new left' b
+pub judging_on : (first : Progress Header Entry) (old new : EntriesHeld) (left left' : Option (List ℕ))
+    (a b : Auditor) (e : Entry) →
+    IsNext history_form (entries_read old left) (Ok (Some e)) (entries_read new left') →
+    new.header ≡ old.header → AreCounted old (Some e) new →
+    ((k : Header) (h : List Entry) → HasJudged k h a → e.seat < k.seats → HasJudged k (e ∷ h) b) →
+    Judging first old left a → Judging first new left' b
 judging_on first old new left left' a b e next same counted follow j =
     let seat = subst (λ (k : Header). e.seat < k.seats) j.header counted.3 in
     let within = subst (λ (k : Header). new.count ≤ k.cap) j.header counted.2 in
     record {
       entries = e ∷ j.entries;
-      read = rw (reverse-append (e ∷ []) j.entries) (λ text were. next text (reverse j.entries) (j.read text were));
+      read = rw (reverse-append (e ∷ []) j.entries)
+          (λ text were. next text (reverse j.entries) (j.read text were));
       judged = follow first.so_far.header j.entries j.judged seat;
       header = same ∙ j.header;
       count = omega (arith, counted.0, j.count);
@@ -44,13 +49,18 @@ judging_on first old new left left' a b e next same counted follow j =
       range = j.range;
     }
 
-pub all_judged : (first : Progress Header Entry) (now new : EntriesHeld) (left left' : Option (List ℕ)) (a : Auditor) (judgement : Judgement) →
-    IsNext history_form (entries_read now left) (Ok None) (entries_read new left') → new.header ≡ now.header → AreCounted now None new →
-    ((k : Header) (h : List Entry) → HasJudged k h a → IsJudgement k h judgement) → Judging first now left a → IsJudged first new judgement
+pub all_judged : (first : Progress Header Entry) (now new : EntriesHeld) (left left' : Option (List ℕ))
+    (a : Auditor) (judgement : Judgement) →
+    IsNext history_form (entries_read now left) (Ok None) (entries_read new left') →
+    new.header ≡ now.header → AreCounted now None new →
+    ((k : Header) (h : List Entry) → HasJudged k h a → IsJudgement k h judgement) →
+    Judging first now left a → IsJudged first new judgement
 all_judged first now new left left' a judgement all same counted judges j =
     record {
       entries = j.entries;
-      is = λ text were. subst (λ (k : Header). IfSome text (λ t. IsText history_form t k (reverse j.entries))) j.header (all text (reverse j.entries) (j.read text were));
+      is = λ text were.
+          subst (λ (k : Header). IfSome text (λ t. IsText history_form t k (reverse j.entries))) j.header
+          (all text (reverse j.entries) (j.read text were));
       judged = judges first.so_far.header j.entries j.judged;
       header = same ∙ j.header;
       count = counted.0 ∙ j.count;

@@ -11,41 +11,60 @@ use Rattle.driver.specs.LineWriter.{Gathers, IsGathered}
 use Rattle.streams.specs.Whole.{AppendsFront}
 
 -- a front of some bytes is a front of those and more
-front_by : (a b : Option (List ℕ)) (bytes more : List ℕ) (n : ℕ) → (n < length bytes) ⊎ (length bytes ≤ n) → Appends a b (take n bytes) → AppendsFront a b (bytes ++ more)
-front_by a b bytes more n (inl few) p = (n, subst (Appends a b) (sym (take-append-le n bytes more (omega (arith, few)))) p)
-front_by a b bytes more n (inr all) p = (length bytes, subst (Appends a b) (take_all n bytes all ∙ sym (take-append_seam bytes more)) p)
+front_by : (a b : Option (List ℕ)) (bytes more : List ℕ) (n : ℕ) → (n < length bytes) ⊎ (length bytes ≤ n) →
+    Appends a b (take n bytes) → AppendsFront a b (bytes ++ more)
+front_by a b bytes more n (inl few) p =
+    (n, subst (Appends a b) (sym (take-append-le n bytes more (omega (arith, few)))) p)
+front_by a b bytes more n (inr all) p =
+    (length bytes, subst (Appends a b) (take_all n bytes all ∙ sym (take-append_seam bytes more)) p)
 
-pub front_longer : (a b : Option (List ℕ)) (bytes more : List ℕ) → AppendsFront a b bytes → AppendsFront a b (bytes ++ more)
+pub front_longer : (a b : Option (List ℕ)) (bytes more : List ℕ) → AppendsFront a b bytes →
+    AppendsFront a b (bytes ++ more)
 front_longer a b bytes more p = front_by a b bytes more p.0 (cases_lt p.0 (length bytes)) p.1
 
 pub gathered_none : (a : Option (List ℕ)) (bytes : List ℕ) → IsGathered a bytes a bytes []
 gathered_none a bytes = record { written = []; appends = Appends-nil a; parts = append-nil bytes }
 
-pub gathered_more : (a b c : Option (List ℕ)) (old mid new x y : List ℕ) → IsGathered a old b mid x → IsGathered b mid c new y → IsGathered a old c new (x ++ y)
+pub gathered_more : (a b c : Option (List ℕ)) (old mid new x y : List ℕ) → IsGathered a old b mid x →
+    IsGathered b mid c new y → IsGathered a old c new (x ++ y)
 gathered_more a b c old mid new x y p q =
     record {
       written = p.written ++ q.written;
       appends = Appends-trans a b c p.written q.written p.appends q.appends;
-      parts = sym (append_assoc old x y) ∙ ap (λ (t : List ℕ). t ++ y) p.parts ∙ append_assoc p.written mid y ∙ ap (λ (t : List ℕ). p.written ++ t) q.parts ∙ sym (append_assoc p.written q.written new);
+      parts = sym (append_assoc old x y) ∙ ap (λ (t : List ℕ). t ++ y) p.parts
+          ∙ append_assoc p.written mid y ∙ ap (λ (t : List ℕ). p.written ++ t) q.parts
+          ∙ sym (append_assoc p.written q.written new);
     }
 
 -- what was gathered is written too
-pub front_more : (a b c : Option (List ℕ)) (old mid x y : List ℕ) → IsGathered a old b mid x → AppendsFront b c (mid ++ y) → AppendsFront a c (old ++ (x ++ y))
+pub front_more : (a b c : Option (List ℕ)) (old mid x y : List ℕ) → IsGathered a old b mid x →
+    AppendsFront b c (mid ++ y) → AppendsFront a c (old ++ (x ++ y))
 front_more a b c old mid x y p q =
     let n = q.0 in
-    let all : old ++ (x ++ y) ≡ p.written ++ (mid ++ y) = sym (append_assoc old x y) ∙ ap (λ (t : List ℕ). t ++ y) p.parts ∙ append_assoc p.written mid y in
-    (length p.written + n, subst (Appends a c) (sym (ap (take (length p.written + n)) all ∙ take-append-add p.written (mid ++ y) n)) (Appends-trans a b c p.written (take n (mid ++ y)) p.appends q.1))
+    let all : old ++ (x ++ y) ≡ p.written ++ (mid ++ y) = sym (append_assoc old x y)
+    ∙ ap (λ (t : List ℕ). t ++ y) p.parts ∙ append_assoc p.written mid y in (
+      length p.written + n,
+      subst (Appends a c) (sym (ap (take (length p.written + n)) all
+          ∙ take-append-add p.written (mid ++ y) n))
+          (Appends-trans a b c p.written (take n (mid ++ y)) p.appends q.1),
+    )
 
 -- all that was gathered is written
-pub written_all : (a b c : Option (List ℕ)) (old mid x : List ℕ) → IsGathered a old b mid x → Appends b c mid → Appends a c (old ++ x)
-written_all a b c old mid x p q = subst (Appends a c) (sym p.parts) (Appends-trans a b c p.written mid p.appends q)
+pub written_all : (a b c : Option (List ℕ)) (old mid x : List ℕ) → IsGathered a old b mid x →
+    Appends b c mid → Appends a c (old ++ x)
+written_all a b c old mid x p q =
+    subst (Appends a c) (sym p.parts) (Appends-trans a b c p.written mid p.appends q)
 
 -- or a front of it
-pub written_front : (a b c : Option (List ℕ)) (old mid x : List ℕ) → IsGathered a old b mid x → AppendsFront b c mid → AppendsFront a c (old ++ x)
+pub written_front : (a b c : Option (List ℕ)) (old mid x : List ℕ) → IsGathered a old b mid x →
+    AppendsFront b c mid → AppendsFront a c (old ++ x)
 written_front a b c old mid x p q =
-    subst (AppendsFront a c) (ap (λ (t : List ℕ). old ++ t) (append-nil x)) (front_more a b c old mid x [] p (subst (AppendsFront b c) (sym (append-nil mid)) q))
+    subst (AppendsFront a c) (ap (λ (t : List ℕ). old ++ t) (append-nil x))
+    (front_more a b c old mid x [] p (subst (AppendsFront b c) (sym (append-nil mid)) q))
 
-pub gathers_failed : (held after : Option (List ℕ)) (old new added : List ℕ) (r : Result (Unit {0}) DeviceFailed) → IsErr r → AppendsFront held after (old ++ added) → Gathers held old r after new added
+pub gathers_failed : (held after : Option (List ℕ)) (old new added : List ℕ)
+    (r : Result (Unit {0}) DeviceFailed) → IsErr r → AppendsFront held after (old ++ added) →
+    Gathers held old r after new added
 gathers_failed held after old new added (Ok done) is front = absurd (false≢true is)
 gathers_failed held after old new added (Err e) is front = front
 

@@ -29,16 +29,20 @@ added (Ok (Recorded e whom)) h = e ∷ h
 added (Ok Sleep) h = h
 added (Err fault) h = h
 
-recorded_adds : (h : List Entry) (e : Entry) (whom : Option ℕ) (room : Bool) (r : Result Answer Fault × List Entry) → r ≡ cond room (Ok (Recorded e whom), e ∷ h) (Err HistoryFull, h) → r.1 ≡ added r.0 h
+recorded_adds : (h : List Entry) (e : Entry) (whom : Option ℕ) (room : Bool)
+    (r : Result Answer Fault × List Entry) →
+    r ≡ cond room (Ok (Recorded e whom), e ∷ h) (Err HistoryFull, h) → r.1 ≡ added r.0 h
 recorded_adds h e whom true r is = rw is refl
 recorded_adds h e whom false r is = rw is refl
 
-adds_by : (s : Start) (h : List Entry) (o : Result (Option Entry) Fault) → (answer_by s h o).1 ≡ added (answer_by s h o).0 h
+adds_by : (s : Start) (h : List Entry) (o : Result (Option Entry) Fault) →
+    (answer_by s h o).1 ≡ added (answer_by s h o).0 h
 adds_by s h (Err fault) = refl
 adds_by s h (Ok None) = refl
 adds_by s h (Ok (Some e)) = recorded_adds h e (named s h e) (has_room s h e) (recorded s h e) refl
 
-answer_adds : (s : Start) (h : List Entry) (i : ℕ) (step : Step) → (answer s h i step).1 ≡ added (answer s h i step).0 h
+answer_adds : (s : Start) (h : List Entry) (i : ℕ) (step : Step) →
+    (answer s h i step).1 ≡ added (answer s h i step).0 h
 answer_adds s h i step = adds_by s h (entry_for s h i step)
 
 -- These lines are told by these entries, the newest first, and these remarks, whatever follows.
@@ -46,7 +50,8 @@ pub record Remarked (h : List Entry) (remarks : List Remark) (out : List ℕ) : 
   pub number : ℕ
   pub front : List ℕ
   pub within : number ≤ length h
-  pub lines : (left : List Remark) (more : List Entry) → told_lines (reverse h ++ more) 0 (remarks ++ left) ≡ front ++ told_lines (reverse h ++ more) number left
+  pub lines : (left : List Remark) (more : List Entry) →
+      told_lines (reverse h ++ more) 0 (remarks ++ left) ≡ front ++ told_lines (reverse h ++ more) number left
   pub rest : out ≡ front ++ lines_of history_form number (drop number (reverse h))
 
 pub remarked_none : Remarked [] [] []
@@ -56,26 +61,37 @@ newest_last : (e : Entry) (h : List Entry) → reverse (e ∷ h) ≡ reverse h +
 newest_last e h = reverse-append (e ∷ []) h
 
 -- nothing was remarked of the newest entry
-pub remarked_plain : (h : List Entry) (remarks : List Remark) (out : List ℕ) (e : Entry) → Remarked h remarks out → Remarked (e ∷ h) remarks (out ++ ended (entry_line (length h) e))
+pub remarked_plain : (h : List Entry) (remarks : List Remark) (out : List ℕ) (e : Entry) →
+    Remarked h remarks out → Remarked (e ∷ h) remarks (out ++ ended (entry_line (length h) e))
 remarked_plain h remarks out e was =
     let n = was.number in
     let old = drop n (reverse h) in
     let within : n ≤ length (reverse h) = omega (arith, was.within, length-reverse h) in
     let last : n + length old ≡ length h = omega (arith, within, length-drop n (reverse h), length-reverse h) in
-    let lines : lines_of history_form n (drop n (reverse h ++ e ∷ [])) ≡ lines_of history_form n old ++ ended (entry_line (length h) e) =
-    ap (lines_of history_form n) (drop-append-le n (reverse h) (e ∷ []) within) ∙ lines_of-push history_form n old e ∙ ap (λ (k : ℕ). lines_of history_form n old ++ ended (entry_line k e)) last in
+    let lines : lines_of history_form n (drop n (reverse h ++ e ∷ [])) ≡ lines_of history_form n old
+    ++ ended (entry_line (length h) e) =
+    ap (lines_of history_form n) (drop-append-le n (reverse h) (e ∷ []) within)
+    ∙ lines_of-push history_form n old e
+    ∙ ap (λ (k : ℕ). lines_of history_form n old ++ ended (entry_line k e)) last in
     record {
       number = n;
       front = was.front;
       within = omega (arith, was.within);
-      lines = λ left more. subst (λ (es : List Entry). told_lines es 0 (remarks ++ left) ≡ was.front ++ told_lines es n left) (sym (ap (λ (es : List Entry). es ++ more) (newest_last e h) ∙ append_assoc (reverse h) (e ∷ []) more)) (was.lines left (e ∷ more));
-      rest = ap (λ (t : List ℕ). t ++ ended (entry_line (length h) e)) was.rest ∙ append_assoc was.front (lines_of history_form n old) (ended (entry_line (length h) e)) ∙ ap (λ (t : List ℕ). was.front ++ t) (sym lines) ∙ ap (λ (es : List Entry). was.front ++ lines_of history_form n (drop n es)) (sym (newest_last e h));
+      lines = λ left more. subst (λ (es : List Entry). told_lines es 0 (remarks ++ left) ≡ was.front
+          ++ told_lines es n left) (sym (ap (λ (es : List Entry). es ++ more) (newest_last e h)
+          ∙ append_assoc (reverse h) (e ∷ []) more)) (was.lines left (e ∷ more));
+      rest = ap (λ (t : List ℕ). t ++ ended (entry_line (length h) e)) was.rest
+          ∙ append_assoc was.front (lines_of history_form n old) (ended (entry_line (length h) e))
+          ∙ ap (λ (t : List ℕ). was.front ++ t) (sym lines)
+          ∙ ap (λ (es : List Entry). was.front ++ lines_of history_form n (drop n es)) (sym (newest_last e h));
     }
 
 -- a remark behind all entries so far
-told_behind : (h : List Entry) (remarks : List Remark) (out : List ℕ) (r : Remark) → r.before ≡ length h → (was : Remarked h remarks out) (left : List Remark) (more : List Entry)
+told_behind : (h : List Entry) (remarks : List Remark) (out : List ℕ) (r : Remark) → r.before ≡ length h →
+    (was : Remarked h remarks out) (left : List Remark) (more : List Entry)
     → told_lines (reverse h ++ more) 0 ((remarks ++ r ∷ []) ++ left)
-    ≡ (out ++ said_line r.said r.before r.seat (slice_get (reverse h ++ more) r.before)) ++ told_lines (reverse h ++ more) (r.before + entries_said r.said) left
+    ≡ (out ++ said_line r.said r.before r.seat (slice_get (reverse h ++ more) r.before))
+    ++ told_lines (reverse h ++ more) (r.before + entries_said r.said) left
 told_behind h remarks out r here was left more =
     let all = reverse h ++ more in
     let n = was.number in
@@ -84,7 +100,9 @@ told_behind h remarks out r here was left more =
     let after = told_lines all (r.before + entries_said r.said) left in
     let within : n ≤ length (reverse h) = omega (arith, was.within, length-reverse h) in
     let count : length old ≡ r.before - n = omega (arith, here, length-drop n (reverse h), length-reverse h) in
-    let since : take (r.before - n) (drop n all) ≡ old = ap (take (r.before - n)) (drop-append-le n (reverse h) more within) ∙ take_at old more (r.before - n) count in
+    let since : take (r.before - n) (drop n all) ≡ old =
+    ap (take (r.before - n)) (drop-append-le n (reverse h) more within)
+    ∙ take_at old more (r.before - n) count in
     ap (told_lines all 0) (append_assoc remarks (r ∷ []) left) ∙ was.lines (r ∷ left) more
     ∙ ap (λ (t : List Entry). was.front ++ (lines_of history_form n t ++ (line ++ after))) since
     ∙ sym (append_assoc was.front (lines_of history_form n old) (line ++ after))
@@ -95,22 +113,29 @@ nothing_behind : (xs : List Entry) (n : ℕ) → n ≡ length xs → lines_of hi
 nothing_behind xs n all = ap (lines_of history_form n) (drop_all n xs (omega (arith, all)))
 
 -- the step was answered by no entry
-pub remarked_aside : (h : List Entry) (remarks : List Remark) (out : List ℕ) (r : Remark) (line : List ℕ) → r.before ≡ length h → entries_said r.said ≡ 0
-    → ((e : Option Entry) → said_line r.said r.before r.seat e ≡ line) → Remarked h remarks out → Remarked h (remarks ++ r ∷ []) (out ++ line)
+pub remarked_aside : (h : List Entry) (remarks : List Remark) (out : List ℕ) (r : Remark) (line : List ℕ) →
+    r.before ≡ length h → entries_said r.said ≡ 0
+    → ((e : Option Entry) → said_line r.said r.before r.seat e ≡ line) → Remarked h remarks out →
+    Remarked h (remarks ++ r ∷ []) (out ++ line)
 remarked_aside h remarks out r line here none says was =
     record {
       number = length h;
       front = out ++ line;
       within = omega arith;
       lines = λ left more. told_behind h remarks out r here was left more
-          ∙ ap (λ (t : List ℕ). (out ++ t) ++ told_lines (reverse h ++ more) (r.before + entries_said r.said) left) (says (slice_get (reverse h ++ more) r.before))
+          ∙ ap (λ (t : List ℕ). (out ++ t) ++ told_lines (reverse h ++ more)
+          (r.before + entries_said r.said) left) (says (slice_get (reverse h ++ more) r.before))
           ∙ ap (λ (n : ℕ). (out ++ line) ++ told_lines (reverse h ++ more) n left) (omega (arith, here, none));
-      rest = sym (append-nil (out ++ line)) ∙ ap (λ (t : List ℕ). (out ++ line) ++ t) (sym (nothing_behind (reverse h) (length h) (sym (length-reverse h))));
+      rest = sym (append-nil (out ++ line))
+          ∙ ap (λ (t : List ℕ). (out ++ line) ++ t)
+          (sym (nothing_behind (reverse h) (length h) (sym (length-reverse h))));
     }
 
 -- the newest entry names a seat
-pub remarked_named : (h : List Entry) (remarks : List Remark) (out : List ℕ) (e : Entry) (r : Remark) → r.before ≡ length h → r.said ≡ IsNamed → Remarked h remarks out
-    → Remarked (e ∷ h) (remarks ++ r ∷ []) (out ++ ended (answer_line (length h) r.seat (Ok (Recorded e (Some r.seat)))))
+pub remarked_named : (h : List Entry) (remarks : List Remark) (out : List ℕ) (e : Entry) (r : Remark) →
+    r.before ≡ length h → r.said ≡ IsNamed → Remarked h remarks out
+    → Remarked (e ∷ h) (remarks ++ r ∷ [])
+    (out ++ ended (answer_line (length h) r.seat (Ok (Recorded e (Some r.seat)))))
 remarked_named h remarks out e r here said was =
     let line = ended (answer_line (length h) r.seat (Ok (Recorded e (Some r.seat)))) in
     record {
@@ -119,30 +144,49 @@ remarked_named h remarks out e r here said was =
       within = omega arith;
       lines = λ left more.
           let all = reverse h ++ e ∷ more in
-          let at : slice_get all r.before ≡ Some e = ap (slice_get all) (here ∙ sym (length-reverse h)) ∙ get_behind (reverse h) e more in
-          subst (λ (es : List Entry). told_lines es 0 ((remarks ++ r ∷ []) ++ left) ≡ (out ++ line) ++ told_lines es (length h + 1) left) (sym (ap (λ (es : List Entry). es ++ more) (newest_last e h) ∙ append_assoc (reverse h) (e ∷ []) more))
+          let at : slice_get all r.before ≡ Some e = ap (slice_get all) (here ∙ sym (length-reverse h))
+          ∙ get_behind (reverse h) e more in
+          subst (λ (es : List Entry). told_lines es 0 ((remarks ++ r ∷ []) ++ left) ≡ (out ++ line)
+          ++ told_lines es (length h + 1) left)
+          (sym (ap (λ (es : List Entry). es ++ more) (newest_last e h)
+          ∙ append_assoc (reverse h) (e ∷ []) more))
           (told_behind h remarks out r here was left (e ∷ more) ∙ (rw (at, said, here) refl));
-      rest = sym (append-nil (out ++ line)) ∙ ap (λ (t : List ℕ). (out ++ line) ++ t) (sym (nothing_behind (reverse (e ∷ h)) (length h + 1) (omega (arith, length-reverse (e ∷ h)))));
+      rest = sym (append-nil (out ++ line))
+          ∙ ap (λ (t : List ℕ). (out ++ line) ++ t)
+          (sym (nothing_behind (reverse (e ∷ h)) (length h + 1) (omega (arith, length-reverse (e ∷ h)))));
     }
   where
-    get_behind : (xs : List Entry) (x : Entry) (more : List Entry) → slice_get (xs ++ x ∷ more) (length xs) ≡ Some x
+    get_behind : (xs : List Entry) (x : Entry) (more : List Entry) →
+        slice_get (xs ++ x ∷ more) (length xs) ≡ Some x
     get_behind [] x more = refl
     get_behind (y ∷ xs) x more = get_behind xs x more
 
-pub remarked_all : (h : List Entry) (remarks : List Remark) (out : List ℕ) → Remarked h remarks out → told_lines (reverse h) 0 remarks ≡ out
+pub remarked_all : (h : List Entry) (remarks : List Remark) (out : List ℕ) → Remarked h remarks out →
+    told_lines (reverse h) 0 remarks ≡ out
 remarked_all h remarks out was =
-    sym (ap (λ (rs : List Remark). told_lines (reverse h) 0 rs) (append-nil remarks)) ∙ sym (ap (λ (es : List Entry). told_lines es 0 (remarks ++ [])) (append-nil (reverse h)))
-    ∙ was.lines [] [] ∙ ap (λ (es : List Entry). was.front ++ told_lines es was.number []) (append-nil (reverse h)) ∙ sym was.rest
+    sym (ap (λ (rs : List Remark). told_lines (reverse h) 0 rs) (append-nil remarks))
+    ∙ sym (ap (λ (es : List Entry). told_lines es 0 (remarks ++ [])) (append-nil (reverse h)))
+    ∙ was.lines [] [] ∙ ap (λ (es : List Entry). was.front ++ told_lines es was.number [])
+    (append-nil (reverse h)) ∙ sym was.rest
 
-step_remarked : (h : List Entry) (seat : ℕ) (r : Result Answer Fault) (remarks remarks' : List Remark) (out : List ℕ) → IsKept remarks (remark_of (length h) seat r) remarks'
+step_remarked : (h : List Entry) (seat : ℕ) (r : Result Answer Fault) (remarks remarks' : List Remark)
+    (out : List ℕ) → IsKept remarks (remark_of (length h) seat r) remarks'
     → Remarked h remarks out → Remarked (added r h) remarks' (out ++ ended (answer_line (length h) seat r))
-step_remarked h seat (Ok (Recorded e None)) remarks remarks' out is was = rw is (remarked_plain h remarks out e was)
-step_remarked h seat (Ok (Recorded e (Some whom))) remarks remarks' out is was = rw is (remarked_named h remarks out e _ refl refl was)
-step_remarked h seat (Ok Sleep) remarks remarks' out is was = rw is (remarked_aside h remarks out _ _ refl refl (λ e. refl) was)
-step_remarked h seat (Err fault) remarks remarks' out is was = rw is (remarked_aside h remarks out _ _ refl refl (λ e. refl) was)
+step_remarked h seat (Ok (Recorded e None)) remarks remarks' out is was =
+    rw is (remarked_plain h remarks out e was)
+step_remarked h seat (Ok (Recorded e (Some whom))) remarks remarks' out is was =
+    rw is (remarked_named h remarks out e _ refl refl was)
+step_remarked h seat (Ok Sleep) remarks remarks' out is was =
+    rw is (remarked_aside h remarks out _ _ refl refl (λ e. refl) was)
+step_remarked h seat (Err fault) remarks remarks' out is was =
+    rw is (remarked_aside h remarks out _ _ refl refl (λ e. refl) was)
 
-pub remarked_on : (s : Start) (h : List Entry) (i : ℕ) (step : Step) (r : Result Answer Fault) (h' : List Entry) (remarks remarks' : List Remark) (out : List ℕ) → r ≡ (answer s h i step).0 → h' ≡ (answer s h i step).1
-    → IsKept remarks (remark_of (length h) i r) remarks' → Remarked h remarks out → Remarked h' remarks' (out ++ ended (answer_line (length h) i r))
+pub remarked_on : (s : Start) (h : List Entry) (i : ℕ) (step : Step) (r : Result Answer Fault)
+    (h' : List Entry) (remarks remarks' : List Remark) (out : List ℕ) → r ≡ (answer s h i step).0 →
+    h' ≡ (answer s h i step).1
+    → IsKept remarks (remark_of (length h) i r) remarks' → Remarked h remarks out →
+    Remarked h' remarks' (out ++ ended (answer_line (length h) i r))
 remarked_on s h i step r h' remarks remarks' out p q more was =
-    let same : h' ≡ added r h = q ∙ answer_adds s h i step ∙ ap (λ (a : Result Answer Fault). added a h) (sym p) in
+    let same : h' ≡ added r h = q ∙ answer_adds s h i step
+    ∙ ap (λ (a : Result Answer Fault). added a h) (sym p) in
     rw same (step_remarked h i r remarks remarks' out more was)

@@ -16,17 +16,21 @@ use Rattle.driver.specs.LineWriter.{Gathers, IsGathered}
 use Rattle.streams.specs.Whole.{AppendsFront}
 use Rattle.driver.proofs.Gathering.{gathered_more, front_more, front_longer}
 
-lines_of-append : (k : ℕ) (xs ys : List Entry) → lines_of history_form k (xs ++ ys) ≡ lines_of history_form k xs ++ lines_of history_form (k + length xs) ys
+lines_of-append : (k : ℕ) (xs ys : List Entry) →
+    lines_of history_form k (xs ++ ys) ≡ lines_of history_form k xs ++ lines_of history_form (k + length xs) ys
 lines_of-append k [] ys = ap (λ (n : ℕ). lines_of history_form n ys) (omega arith)
 lines_of-append k (x ∷ xs) ys =
     let line = ended (entry_line k x) in
     let here : (k + 1) + length xs ≡ k + length (x ∷ xs) = omega arith in
-    ap (λ (t : List ℕ). line ++ t) (lines_of-append (k + 1) xs ys ∙ ap (λ (n : ℕ). lines_of history_form (k + 1) xs ++ lines_of history_form n ys) here)
-    ∙ sym (append_assoc line (lines_of history_form (k + 1) xs) (lines_of history_form (k + length (x ∷ xs)) ys))
+    ap (λ (t : List ℕ). line ++ t) (lines_of-append (k + 1) xs ys
+    ∙ ap (λ (n : ℕ). lines_of history_form (k + 1) xs ++ lines_of history_form n ys) here)
+    ∙ sym (append_assoc line (lines_of history_form (k + 1) xs)
+    (lines_of history_form (k + length (x ∷ xs)) ys))
 
 -- the lines of more entries begin with those of fewer
 pub lines_longer : (xs : List Entry) (k few many : ℕ) → few ≤ many
-    → lines_of history_form k (take many xs) ≡ lines_of history_form k (take few xs) ++ lines_of history_form (k + length (take few xs)) (drop few (take many xs))
+    → lines_of history_form k (take many xs) ≡ lines_of history_form k (take few xs)
+    ++ lines_of history_form (k + length (take few xs)) (drop few (take many xs))
 lines_longer xs k few many less =
     let front : take few (take many xs) ≡ take few xs = take-take few many xs less in
     ap (lines_of history_form k) (sym (take-append-drop few (take many xs)))
@@ -35,7 +39,8 @@ lines_longer xs k few many less =
 
 -- one more entry
 pub entry_more : (xs : List Entry) (from number : ℕ) (e : Entry) → from ≤ number → slice_get xs number ≡ Some e
-    → lines_of history_form from (take ((number + 1) - from) (drop from xs)) ≡ lines_of history_form from (take (number - from) (drop from xs)) ++ ended (entry_line number e)
+    → lines_of history_form from (take ((number + 1) - from) (drop from xs))
+    ≡ lines_of history_form from (take (number - from) (drop from xs)) ++ ended (entry_line number e)
 entry_more xs from number e since at =
     let k = number - from in
     let ys = drop from xs in
@@ -43,57 +48,82 @@ entry_more xs from number e since at =
     let within : k < length ys = omega (arith, since, lt, length-drop from xs) in
     let next : (number + 1) - from ≡ k + 1 = omega (arith, since) in
     let place : from + k ≡ number = omega (arith, since) in
-    let last : get_or ys k e ≡ e = get_or-drop from xs k e ∙ ap (λ (n : ℕ). get_or xs n e) place ∙ get_or_from_slice_get xs number e e at in
-    let counted : from + length (take k ys) ≡ number = omega (arith, place, within, length-take-le k ys (omega (arith, within))) in
-    ap (λ (n : ℕ). lines_of history_form from (take n ys)) next ∙ ap (lines_of history_form from) (take_more ys k e within ∙ ap (λ (x : Entry). take k ys ++ x ∷ []) last)
-    ∙ lines_of-push history_form from (take k ys) e ∙ ap (λ (n : ℕ). lines_of history_form from (take k ys) ++ ended (entry_line n e)) counted
+    let last : get_or ys k e ≡ e = get_or-drop from xs k e ∙ ap (λ (n : ℕ). get_or xs n e) place
+    ∙ get_or_from_slice_get xs number e e at in
+    let counted : from + length (take k ys) ≡ number =
+    omega (arith, place, within, length-take-le k ys (omega (arith, within))) in
+    ap (λ (n : ℕ). lines_of history_form from (take n ys)) next
+    ∙ ap (lines_of history_form from) (take_more ys k e within
+    ∙ ap (λ (x : Entry). take k ys ++ x ∷ []) last)
+    ∙ lines_of-push history_form from (take k ys) e
+    ∙ ap (λ (n : ℕ). lines_of history_form from (take k ys) ++ ended (entry_line n e)) counted
 
 some_is_none : {X : Type 0} (x : X) → Some x ≡ None → ⊥
 some_is_none x e = cc
 
 -- behind the last entry there is none
-pub no_more : (xs : List Entry) (from number to : ℕ) → from ≤ number → number ≤ to → slice_get xs number ≡ None → take (number - from) (drop from xs) ≡ take (to - from) (drop from xs)
+pub no_more : (xs : List Entry) (from number to : ℕ) → from ≤ number → number ≤ to →
+    slice_get xs number ≡ None → take (number - from) (drop from xs) ≡ take (to - from) (drop from xs)
 no_more xs from number to since upto none = by (slice_get_cases xs number).1
   where
     by : ((x : Entry) × (number < length xs) × (slice_get xs number ≡ Some x) × (get_or xs number x ≡ x))
-        ⊎ ((length xs ≤ number) × (slice_get xs number ≡ None)) → take (number - from) (drop from xs) ≡ take (to - from) (drop from xs)
+        ⊎ ((length xs ≤ number) × (slice_get xs number ≡ None)) →
+        take (number - from) (drop from xs) ≡ take (to - from) (drop from xs)
     by (inl p) = absurd (some_is_none p.0 (sym p.2 ∙ none))
-    by (inr p) = take_all (number - from) (drop from xs) (omega (arith, p.0, length-drop from xs)) ∙ sym (take_all (to - from) (drop from xs) (omega (arith, p.0, upto, length-drop from xs)))
+    by (inr p) = take_all (number - from) (drop from xs) (omega (arith, p.0, length-drop from xs))
+        ∙ sym (take_all (to - from) (drop from xs) (omega (arith, p.0, upto, length-drop from xs)))
 
 -- one more remark
-pub told_on : (es : List Entry) (remarks : List Remark) (index number : ℕ) (d : Remark) (all told : List ℕ) → index < length remarks → all ≡ told ++ told_lines es number (drop index remarks)
-    → all ≡ (told ++ lines_of history_form number (take ((get_or remarks index d).before - number) (drop number es)))
-    ++ (said_line (get_or remarks index d).said (get_or remarks index d).before (get_or remarks index d).seat (slice_get es (get_or remarks index d).before)
-    ++ told_lines es ((get_or remarks index d).before + entries_said (get_or remarks index d).said) (drop (index + 1) remarks))
+pub told_on : (es : List Entry) (remarks : List Remark) (index number : ℕ) (d : Remark)
+    (all told : List ℕ) → index < length remarks → all ≡ told ++ told_lines es number (drop index remarks)
+    → all ≡ (told ++ lines_of history_form number
+    (take ((get_or remarks index d).before - number) (drop number es)))
+    ++ (said_line (get_or remarks index d).said (get_or remarks index d).before
+    (get_or remarks index d).seat (slice_get es (get_or remarks index d).before)
+    ++ told_lines es ((get_or remarks index d).before + entries_said (get_or remarks index d).said)
+    (drop (index + 1) remarks))
 told_on es remarks index number d all told lt is =
     let r = get_or remarks index d in
     is ∙ ap (λ (rs : List Remark). told ++ told_lines es number rs) (drop_more remarks index d lt)
     ∙ sym (append_assoc told (lines_of history_form number (take (r.before - number) (drop number es)))
-    (said_line r.said r.before r.seat (slice_get es r.before) ++ told_lines es (r.before + entries_said r.said) (drop (index + 1) remarks)))
+    (said_line r.said r.before r.seat (slice_get es r.before)
+    ++ told_lines es (r.before + entries_said r.said) (drop (index + 1) remarks)))
 
-pub told_further : (es : List Entry) (remarks : List Remark) (index number : ℕ) (d : Remark) (all told : List ℕ) → index < length remarks → all ≡ told ++ told_lines es number (drop index remarks)
-    → all ≡ ((told ++ lines_of history_form number (take ((get_or remarks index d).before - number) (drop number es)))
-    ++ said_line (get_or remarks index d).said (get_or remarks index d).before (get_or remarks index d).seat (slice_get es (get_or remarks index d).before))
-    ++ told_lines es ((get_or remarks index d).before + entries_said (get_or remarks index d).said) (drop (index + 1) remarks)
+pub told_further : (es : List Entry) (remarks : List Remark) (index number : ℕ) (d : Remark)
+    (all told : List ℕ) → index < length remarks → all ≡ told ++ told_lines es number (drop index remarks)
+    → all ≡ ((told ++ lines_of history_form number
+    (take ((get_or remarks index d).before - number) (drop number es)))
+    ++ said_line (get_or remarks index d).said (get_or remarks index d).before (get_or remarks index d).seat
+    (slice_get es (get_or remarks index d).before))
+    ++ told_lines es ((get_or remarks index d).before + entries_said (get_or remarks index d).said)
+    (drop (index + 1) remarks)
 told_further es remarks index number d all told lt is =
     let r = get_or remarks index d in
     told_on es remarks index number d all told lt is
-    ∙ sym (append_assoc (told ++ lines_of history_form number (take (r.before - number) (drop number es))) (said_line r.said r.before r.seat (slice_get es r.before))
+    ∙ sym (append_assoc (told ++ lines_of history_form number (take (r.before - number) (drop number es)))
+    (said_line r.said r.before r.seat (slice_get es r.before))
     (told_lines es (r.before + entries_said r.said) (drop (index + 1) remarks)))
 
 -- no further remark
-pub told_last : (es : List Entry) (remarks : List Remark) (index number count : ℕ) (all told : List ℕ) → length remarks ≤ index → count ≡ length es → all ≡ told ++ told_lines es number (drop index remarks)
+pub told_last : (es : List Entry) (remarks : List Remark) (index number count : ℕ) (all told : List ℕ) →
+    length remarks ≤ index → count ≡ length es → all ≡ told ++ told_lines es number (drop index remarks)
     → all ≡ told ++ lines_of history_form number (take (count - number) (drop number es))
 told_last es remarks index number count all told past counted is =
     is ∙ ap (λ (rs : List Remark). told ++ told_lines es number rs) (drop_all index remarks past)
-    ∙ ap (λ (xs : List Entry). told ++ lines_of history_form number xs) (sym (take_all (count - number) (drop number es) (omega (arith, counted, length-drop number es))))
+    ∙ ap (λ (xs : List Entry). told ++ lines_of history_form number xs)
+    (sym (take_all (count - number) (drop number es) (omega (arith, counted, length-drop number es))))
 
 -- adding goes on
-pub gathers_more : (a b c : Option (List ℕ)) (old mid new x y : List ℕ) (r : Result (Unit {0}) DeviceFailed) → IsGathered a old b mid x → Gathers b mid r c new y → Gathers a old r c new (x ++ y)
+pub gathers_more : (a b c : Option (List ℕ)) (old mid new x y : List ℕ)
+    (r : Result (Unit {0}) DeviceFailed) → IsGathered a old b mid x → Gathers b mid r c new y →
+    Gathers a old r c new (x ++ y)
 gathers_more a b c old mid new x y (Ok done) p q = gathered_more a b c old mid new x y p q
 gathers_more a b c old mid new x y (Err e) p q = front_more a b c old mid x y p q
 
 -- where writing fails, a front of all that was to come was written
-pub front_of_all : (a b c : Option (List ℕ)) (old mid x y rest all : List ℕ) → IsGathered a old b mid x → AppendsFront b c (mid ++ y) → all ≡ (x ++ y) ++ rest → AppendsFront a c (old ++ all)
+pub front_of_all : (a b c : Option (List ℕ)) (old mid x y rest all : List ℕ) → IsGathered a old b mid x →
+    AppendsFront b c (mid ++ y) → all ≡ (x ++ y) ++ rest → AppendsFront a c (old ++ all)
 front_of_all a b c old mid x y rest all p q is =
-    subst (AppendsFront a c) (append_assoc old (x ++ y) rest ∙ ap (λ (t : List ℕ). old ++ t) (sym is)) (front_longer a c (old ++ (x ++ y)) rest (front_more a b c old mid x y p q))
+    subst (AppendsFront a c) (append_assoc old (x ++ y) rest
+    ∙ ap (λ (t : List ℕ). old ++ t) (sym is))
+    (front_longer a c (old ++ (x ++ y)) rest (front_more a b c old mid x y p q))

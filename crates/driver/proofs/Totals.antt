@@ -1,11 +1,14 @@
 -- Names and numbers that are written one after the other.
 use Rattle.std.proofs.Common.{◌≡◌, ℕ, List, ◌++◌, append_assoc, ◌∙◌}
 
-pub four : (o p q r s a w b x c y d z : List ℕ) → p ≡ o ++ a ++ w → q ≡ p ++ b ++ x → r ≡ q ++ c ++ y → s ≡ r ++ d ++ z
+pub four : (o p q r s a w b x c y d z : List ℕ) → p ≡ o ++ a ++ w → q ≡ p ++ b ++ x → r ≡ q ++ c ++ y →
+    s ≡ r ++ d ++ z
     → s ≡ o ++ (a ++ w ++ b ++ x ++ c ++ y ++ d ++ z)
-four o p q r s a w b x c y d z first second third fourth = fourth ∙ rw (third, second, first) (simp append_assoc)
+four o p q r s a w b x c y d z first second third fourth =
+    fourth ∙ rw (third, second, first) (simp append_assoc)
 
-pub five : (o p q r s t a w b x c y d z e v : List ℕ) → p ≡ o ++ a ++ w → q ≡ p ++ b ++ x → r ≡ q ++ c ++ y → s ≡ r ++ d ++ z → t ≡ s ++ e ++ v
+pub five : (o p q r s t a w b x c y d z e v : List ℕ) → p ≡ o ++ a ++ w → q ≡ p ++ b ++ x →
+    r ≡ q ++ c ++ y → s ≡ r ++ d ++ z → t ≡ s ++ e ++ v
     → t ≡ o ++ (a ++ w ++ b ++ x ++ c ++ y ++ d ++ z ++ e ++ v)
 five o p q r s t a w b x c y d z e v first second third fourth fifth =
     fifth ∙ rw (four o p q r s a w b x c y d z first second third fourth) (simp append_assoc)

@@ -15,7 +15,8 @@ pub record Answered : Type 0 where
   pub entries : List Entry
 
 -- the answer and the history behind it are those that the definitions give
-pub record IsAnswer (old : Answered) (given : Result Answer Fault × List Entry) (r : Result Answer Fault) (new : Answered) : Type 0 where
+pub record IsAnswer (old : Answered) (given : Result Answer Fault × List Entry) (r : Result Answer Fault)
+    (new : Answered) : Type 0 where
   pub answer : r ≡ given.0
   pub entries : new.entries ≡ given.1
   pub header : new.header ≡ old.header

@@ -33,7 +33,8 @@ remarks_in History remarks = []
 -- what follows the first line
 abbrev pub text_behind : Form → AllAnswers → List ℕ
 text_behind form a =
-    told_lines (reverse a.entries) 0 (remarks_in form a.remarks) ++ ended (counts_line (length a.entries) (ended_calls a.entries))
+    told_lines (reverse a.entries) 0 (remarks_in form a.remarks)
+    ++ ended (counts_line (length a.entries) (ended_calls a.entries))
 
 abbrev pub answers_text : Form → AllAnswers → List ℕ
 answers_text form a = ended (first_line form a.header) ++ text_behind form a

@@ -48,5 +48,6 @@ legal_text object entries calls totals =
 
 -- what is said of a history, whose entries stand newest first
 abbrev pub audit_text : Header → List Entry → Verdict → List ℕ
-audit_text h entries Legal = legal_text h.object (length entries) (calls (opening h) entries) (totals_of (opening h) entries)
+audit_text h entries Legal =
+    legal_text h.object (length entries) (calls (opening h) entries) (totals_of (opening h) entries)
 audit_text h entries (NotLegal number) = ended (number_line (codes "not legal at ") number)

@@ -10,12 +10,14 @@ pub record Gathered : Type 0 where
   pub room : ℕ
 
 -- Bytes were added to those that were gathered, and a front of all of them was written.
-pub record IsGathered (held : Option (List ℕ)) (old : List ℕ) (after : Option (List ℕ)) (new added : List ℕ) : Type 0 where
+pub record IsGathered (held : Option (List ℕ)) (old : List ℕ)
+    (after : Option (List ℕ)) (new added : List ℕ) : Type 0 where
   pub written : List ℕ
   pub appends : Appends held after written
   pub parts : old ++ added ≡ written ++ new
 
 -- what adding bytes leaves: where writing fails, a front of all was written
-abbrev pub Gathers : Option (List ℕ) → List ℕ → Result (Unit {0}) DeviceFailed → Option (List ℕ) → List ℕ → List ℕ → Type 0
+abbrev pub Gathers : Option (List ℕ) → List ℕ → Result (Unit {0}) DeviceFailed → Option (List ℕ) → List ℕ →
+    List ℕ → Type 0
 Gathers held old (Ok done) after new added = IsGathered held old after new added
 Gathers held old (Err failed) after new added = AppendsFront held after (old ++ added)

@@ -15,7 +15,8 @@ use Rattle.driver.specs.ReplayText.{answer_line}
 -- what there is to remark of an answer
 abbrev pub remark_of : ℕ → ℕ → Result Answer Fault → Option Remark
 remark_of before seat (Ok (Recorded e None)) = None
-remark_of before seat (Ok (Recorded e (Some named))) = Some (record { before = before; seat = named; said = IsNamed })
+remark_of before seat (Ok (Recorded e (Some named))) =
+    Some (record { before = before; seat = named; said = IsNamed })
 remark_of before seat (Ok Sleep) = Some (record { before = before; seat = seat; said = Sleeps })
 remark_of before seat (Err fault) = Some (record { before = before; seat = seat; said = Fails fault })
 
@@ -42,4 +43,5 @@ abbrev pub told_lines : List Entry → ℕ → List Remark → List ℕ
 told_lines entries number [] = lines_of history_form number (drop number entries)
 told_lines entries number (r ∷ remarks) =
     lines_of history_form number (take (r.before - number) (drop number entries))
-    ++ (said_line r.said r.before r.seat (slice_get entries r.before) ++ told_lines entries (r.before + entries_said r.said) remarks)
+    ++ (said_line r.said r.before r.seat (slice_get entries r.before)
+    ++ told_lines entries (r.before + entries_said r.said) remarks)

@@ -48,5 +48,6 @@ abbrev pub AreAnswersBehind : Progress Header (ℕ × Step) → AllAnswers → T
 AreAnswersBehind p answers = (form : Form) → IsAnswerBehind form p (answers_text form answers)
 
 -- what a replay leaves
-abbrev pub Replays : Form → Option (List ℕ) → Option (List ℕ) → Option (List ℕ) → Result (Unit {0}) StreamFault → Type 0
+abbrev pub Replays : Form → Option (List ℕ) → Option (List ℕ) → Option (List ℕ) →
+    Result (Unit {0}) StreamFault → Type 0
 Replays form = Streams steps_form (λ text done Written. Replayed form text Written)

@@ -8,7 +8,8 @@ use Rattle.line_text.specs.UnderWay.{SoFar, AreRead}
 use Rattle.streams.specs.declared.stream_fault.StreamFault.{StreamFault}
 use Rattle.streams.specs.declared.stream_fault.StreamFault.TheVariants.{Text, ReadFailed, WriteFailed, Memory}
 
--- A text under way: what is known of it so far, and all that follows the items that were read, where it is known.
+-- A text under way: what is known of it so far, and all that follows the items that were read, where it is
+-- known.
 pub record Progress (H I : Type 0) : Type 1 where
   pub so_far : SoFar H I
   pub ahead : Option (List ℕ)
@@ -46,10 +47,13 @@ IsBehindEnd count left (Err Memory) = Unit {0}
 IsBehindEnd count left (Err WriteFailed) = ⊥
 
 -- Whatever items were read: one more was, or they are all, or this is the fault of the text or of its source.
-abbrev pub IsNext : {H I : Type 0} → Form H I → Progress H I → Result (Option I) StreamFault → Progress H I → Type 0
+abbrev pub IsNext : {H I : Type 0} → Form H I → Progress H I → Result (Option I) StreamFault →
+    Progress H I → Type 0
 IsNext {H} {I} form old (Ok (Some item)) new =
-    (text : Option (List ℕ)) (items : List I) → WereRead form text old items → WereRead form text new (items ++ item ∷ [])
+    (text : Option (List ℕ)) (items : List I) → WereRead form text old items →
+    WereRead form text new (items ++ item ∷ [])
 IsNext {H} {I} form old (Ok None) new =
-    (text : Option (List ℕ)) (items : List I) → WereRead form text old items → IfSome text (λ t. IsText form t old.so_far.header items)
+    (text : Option (List ℕ)) (items : List I) → WereRead form text old items →
+    IfSome text (λ t. IsText form t old.so_far.header items)
 IsNext {H} {I} form old (Err fault) new =
     (text : Option (List ℕ)) (items : List I) → WereRead form text old items → IsFaultOf form text fault

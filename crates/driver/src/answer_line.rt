@@ -53,7 +53,8 @@ fn put_waking(line: &mut [u8], at: usize, named: Option<u16>) -> usize
     requires { at + 27 ≤ length line.old }
     ensures end { result ≤ at + 27 }
     ensures nobody { named ≡ None → take result line.new ≡ take at line.old }
-    ensures named { IfSome named (λ seat. take result line.new ≡ take at line.old ++ codes " wakes " ++ decimal seat) }
+    ensures named { IfSome named (λ seat.
+        take result line.new ≡ take at line.old ++ codes " wakes " ++ decimal seat) }
 {
     match named {
         None => at,

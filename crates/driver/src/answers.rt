@@ -101,8 +101,10 @@ impl Answers {
         form: Form,
     ) -> Result<(), DeviceFailed>
         requires { W.failed writer.old ≡ false }
-        ensures ok { OnOk result (Appends (W.held writer.old) (W.held writer.new) (lines.old.bytes ++ text_behind form self.now)) }
-        ensures err { OnErr result (AppendsFront (W.held writer.old) (W.held writer.new) (lines.old.bytes ++ text_behind form self.now)) }
+        ensures ok { OnOk result (Appends (W.held writer.old) (W.held writer.new)
+            (lines.old.bytes ++ text_behind form self.now)) }
+        ensures err { OnErr result (AppendsFront (W.held writer.old) (W.held writer.new)
+            (lines.old.bytes ++ text_behind form self.now)) }
         ensures failing { IsTrue (W.failed writer.new) ↔ IsErr result }
     {
         let history = &self.history;
@@ -139,7 +141,8 @@ fn put_lines<W: Sink>(
 ) -> Result<(), DeviceFailed>
     requires writer { W.failed writer.old ≡ false }
     requires spelt { All IsSpelt (reverse history.now.entries) }
-    ensures adds { Gathers (W.held writer.old) lines.old.bytes result (W.held writer.new) lines.new.bytes (told_lines (reverse history.now.entries) 0 remarks.now) }
+    ensures adds { Gathers (W.held writer.old) lines.old.bytes result (W.held writer.new) lines.new.bytes
+        (told_lines (reverse history.now.entries) 0 remarks.now) }
     ensures failing { IsTrue (W.failed writer.new) ↔ IsErr result }
 {
     let mut number = 0;
@@ -162,7 +165,8 @@ fn put_entries<W: Sink>(
 ) -> Result<(), DeviceFailed>
     requires writer { W.failed writer.old ≡ false }
     requires spelt { All IsSpelt (reverse history.now.entries) }
-    ensures adds { Gathers (W.held writer.old) lines.old.bytes result (W.held writer.new) lines.new.bytes (lines_of history_form from (take (to - from) (drop from (reverse history.now.entries)))) }
+    ensures adds { Gathers (W.held writer.old) lines.old.bytes result (W.held writer.new) lines.new.bytes
+        (lines_of history_form from (take (to - from) (drop from (reverse history.now.entries)))) }
     ensures failing { IsTrue (W.failed writer.new) ↔ IsErr result }
 {
     let mut number = from;
@@ -186,7 +190,9 @@ fn put_remark<W: Sink>(
 ) -> Result<(), DeviceFailed>
     requires writer { W.failed writer.old ≡ false }
     requires spelt { All IsSpelt (reverse history.now.entries) }
-    ensures adds { Gathers (W.held writer.old) lines.old.bytes result (W.held writer.new) lines.new.bytes (said_line remark.now.said remark.now.before remark.now.seat (slice_get (reverse history.now.entries) remark.now.before)) }
+    ensures adds { Gathers (W.held writer.old) lines.old.bytes result (W.held writer.new) lines.new.bytes
+        (said_line remark.now.said remark.now.before remark.now.seat
+        (slice_get (reverse history.now.entries) remark.now.before)) }
     ensures failing { IsTrue (W.failed writer.new) ↔ IsErr result }
 {
     let number = u64::from(remark.before);

@@ -26,7 +26,8 @@ pub fn audit_text(
     judgement: &Judgement,
 ) -> Result<Vec<u8>, AllocError>
     ensures { (k : Header) (h : List Entry) → k.object ≡ object → entries ≡ length h → calls ≡ ended_calls h →
-        IsJudgement k h judgement.now → IfOk result (λ text. text.items ≡ audit_text k h (verdict_of judgement.now)) }
+        IsJudgement k h judgement.now →
+        IfOk result (λ text. text.items ≡ audit_text k h (verdict_of judgement.now)) }
 {
     match judgement {
         Judgement::Legal(totals) => legal_text(alloc, object, entries, calls, totals),

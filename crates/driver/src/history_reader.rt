@@ -46,7 +46,8 @@ impl HistoryReader {
     /// Reads the header of a text.
     pub fn open<R: Source>(alloc: Global, reader: &mut R) -> Result<Self, StreamFault>
         requires { R.failed reader.old ≡ false }
-        ensures ok { IfOk result (λ entries. WereRead history_form (R.left reader.old) (entries_read entries (R.left reader.new)) []) }
+        ensures ok { IfOk result (λ entries. WereRead history_form (R.left reader.old)
+            (entries_read entries (R.left reader.new)) []) }
         ensures err { IfErr result (IsFaultOf history_form (R.left reader.old)) }
         ensures failing { IsErrOf result StreamFault.ReadFailed ↔ IsTrue (R.failed reader.new) }
         ensures none { IfOk result (λ entries. (entries.count ≡ 0) × (entries.calls ≡ 0)) }
@@ -123,9 +124,11 @@ impl HistoryReader {
     ) -> Result<Option<Entry>, StreamFault>
         requires { R.failed reader.old ≡ false }
         ensures header { self.new.header ≡ self.old.header }
-        ensures next { IsNext history_form (entries_read self.old (R.left reader.old)) result (entries_read self.new (R.left reader.new)) }
+        ensures next { IsNext history_form (entries_read self.old (R.left reader.old)) result
+            (entries_read self.new (R.left reader.new)) }
         ensures counted { IfOk result (λ next. AreCounted self.old next self.new) }
-        ensures ready { (IsLine self.old.bytes → ⊥) → IfOk result (λ next. IfSome next (λ _. reader.new ≡ reader.old)) }
+        ensures ready { (IsLine self.old.bytes → ⊥) →
+            IfOk result (λ next. IfSome next (λ _. reader.new ≡ reader.old)) }
         ensures ended { result ≡ Ok None → IsAtEnd (R.left reader.new) }
         ensures failing { IsErrOf result StreamFault.ReadFailed ↔ IsTrue (R.failed reader.new) }
     {
@@ -151,9 +154,11 @@ impl HistoryReader {
     pub fn next<R: Source>(&mut self, reader: &mut R) -> Result<Option<Entry>, StreamFault>
         requires { R.failed reader.old ≡ false }
         ensures header { self.new.header ≡ self.old.header }
-        ensures next { IsNext history_form (entries_read self.old (R.left reader.old)) result (entries_read self.new (R.left reader.new)) }
+        ensures next { IsNext history_form (entries_read self.old (R.left reader.old)) result
+            (entries_read self.new (R.left reader.new)) }
         ensures counted { IfOk result (λ next. AreCounted self.old next self.new) }
-        ensures ready { (IsLine self.old.bytes → ⊥) → IfOk result (λ next. IfSome next (λ _. reader.new ≡ reader.old)) }
+        ensures ready { (IsLine self.old.bytes → ⊥) →
+            IfOk result (λ next. IfSome next (λ _. reader.new ≡ reader.old)) }
         ensures ended { result ≡ Ok None → IsAtEnd (R.left reader.new) }
         ensures failing { IsErrOf result StreamFault.ReadFailed ↔ IsTrue (R.failed reader.new) }
     {

@@ -100,7 +100,8 @@ impl LineWriter {
     ) -> Result<(), DeviceFailed>
         requires writer { W.failed writer.old ≡ false }
         requires spelt { HasLine answer.now }
-        ensures adds { Gathers (W.held writer.old) self.old.bytes result (W.held writer.new) self.new.bytes (ended (answer_line number seat answer.now)) }
+        ensures adds { Gathers (W.held writer.old) self.old.bytes result (W.held writer.new) self.new.bytes
+            (ended (answer_line number seat answer.now)) }
         ensures failing { IsTrue (W.failed writer.new) ↔ IsErr result }
     {
         self.make_room(writer)?;
@@ -116,7 +117,8 @@ impl LineWriter {
         calls: u64,
     ) -> Result<(), DeviceFailed>
         requires { W.failed writer.old ≡ false }
-        ensures adds { Gathers (W.held writer.old) self.old.bytes result (W.held writer.new) self.new.bytes (ended (counts_line entries calls)) }
+        ensures adds { Gathers (W.held writer.old) self.old.bytes result (W.held writer.new) self.new.bytes
+            (ended (counts_line entries calls)) }
         ensures failing { IsTrue (W.failed writer.new) ↔ IsErr result }
     {
         self.make_room(writer)?;

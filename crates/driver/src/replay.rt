@@ -55,7 +55,12 @@ pub fn replay<O: Answering, R: Source>(
     requires reader { R.failed reader.old ≡ false }
     requires header { (O.view_of object.old).header ≡ steps.old.header }
     requires fresh { (O.view_of object.old).entries ≡ [] }
-    ensures ok { IfOk result (λ remarks. AreAnswersBehind (progress steps.old (R.left reader.old)) (record { header = steps.old.header; entries = (O.view_of object.new).entries; remarks = remarks.items })) }
+    ensures ok { IfOk result (λ remarks. AreAnswersBehind (progress steps.old (R.left reader.old))
+        (record {
+          header = steps.old.header;
+          entries = (O.view_of object.new).entries;
+          remarks = remarks.items;
+        })) }
     ensures legal { OnOk result (IsLegal (opening steps.old.header) (O.view_of object.new).entries) }
     ensures err { IfErr result (IsFaultBehind steps_form (progress steps.old (R.left reader.old))) }
     ensures ended { OnOk result (IsAtEnd (R.left reader.new)) }

@@ -46,7 +46,8 @@ impl StepReader {
     /// Reads the header of a text.
     pub fn open<R: Source>(alloc: Global, reader: &mut R) -> Result<Self, StreamFault>
         requires { R.failed reader.old ≡ false }
-        ensures ok { IfOk result (λ steps. WereRead steps_form (R.left reader.old) (progress steps (R.left reader.new)) []) }
+        ensures ok { IfOk result (λ steps. WereRead steps_form (R.left reader.old)
+            (progress steps (R.left reader.new)) []) }
         ensures err { IfErr result (IsFaultOf steps_form (R.left reader.old)) }
         ensures failing { IsErrOf result StreamFault.ReadFailed ↔ IsTrue (R.failed reader.new) }
         ensures none { IfOk result (λ steps. steps.count ≡ 0) }
@@ -112,12 +113,14 @@ impl StepReader {
     ) -> Result<Option<(u16, Step)>, StreamFault>
         requires { R.failed reader.old ≡ false }
         ensures header { self.new.header ≡ self.old.header }
-        ensures next { IsNext steps_form (progress self.old (R.left reader.old)) result (progress self.new (R.left reader.new)) }
+        ensures next { IsNext steps_form (progress self.old (R.left reader.old)) result
+            (progress self.new (R.left reader.new)) }
         ensures seated { IfOk result (λ next. IfSome next (λ step. step.0 < self.old.header.seats)) }
         ensures few { self.new.count < 2 ^ 64 }
         ensures counted { IfOk result (λ next. IfSome next (λ _. self.new.count ≡ self.old.count + 1)) }
         ensures stays { result ≡ Ok None → self.new.count ≡ self.old.count }
-        ensures ready { (IsLine self.old.bytes → ⊥) → IfOk result (λ next. IfSome next (λ _. reader.new ≡ reader.old)) }
+        ensures ready { (IsLine self.old.bytes → ⊥) →
+            IfOk result (λ next. IfSome next (λ _. reader.new ≡ reader.old)) }
         ensures ended { result ≡ Ok None → IsAtEnd (R.left reader.new) }
         ensures failing { IsErrOf result StreamFault.ReadFailed ↔ IsTrue (R.failed reader.new) }
     {
@@ -134,12 +137,14 @@ impl StepReader {
     pub fn next<R: Source>(&mut self, reader: &mut R) -> Result<Option<(u16, Step)>, StreamFault>
         requires { R.failed reader.old ≡ false }
         ensures header { self.new.header ≡ self.old.header }
-        ensures next { IsNext steps_form (progress self.old (R.left reader.old)) result (progress self.new (R.left reader.new)) }
+        ensures next { IsNext steps_form (progress self.old (R.left reader.old)) result
+            (progress self.new (R.left reader.new)) }
         ensures seated { IfOk result (λ next. IfSome next (λ step. step.0 < self.old.header.seats)) }
         ensures few { self.new.count < 2 ^ 64 }
         ensures counted { IfOk result (λ next. IfSome next (λ _. self.new.count ≡ self.old.count + 1)) }
         ensures stays { result ≡ Ok None → self.new.count ≡ self.old.count }
-        ensures ready { (IsLine self.old.bytes → ⊥) → IfOk result (λ next. IfSome next (λ _. reader.new ≡ reader.old)) }
+        ensures ready { (IsLine self.old.bytes → ⊥) →
+            IfOk result (λ next. IfSome next (λ _. reader.new ≡ reader.old)) }
         ensures ended { result ≡ Ok None → IsAtEnd (R.left reader.new) }
         ensures failing { IsErrOf result StreamFault.ReadFailed ↔ IsTrue (R.failed reader.new) }
     {

@@ -40,7 +40,8 @@ impl Model for History {
     } };
 
     ghost invariant = { λ a. (vec_len a.entries + a.owed ≤ vec_capacity a.entries)
-        × (vec_capacity a.entries ≤ a.cap) × (a.calls ≡ ended_calls (reverse a.entries.items)) × (a.cap < 2 ^ 32) };
+        × (vec_capacity a.entries ≤ a.cap) × (a.calls ≡ ended_calls (reverse a.entries.items))
+        × (a.cap < 2 ^ 32) };
 }
 
 impl History {

@@ -12,24 +12,47 @@ use Rattle.line_text.specs.Once.{AsksOnce}
 use Rattle.line_text.proofs.AskingOnce.{asked_behind}
 use Rattle.history_text.specs.CommonEntry.{BeginsWith, IsAsked, asked_name, once}
 
-pub written_once : (seat : ℕ) (w : Word) (m : Mode) (how : End) → HasWords w m 1 0 how → IsWritten (once seat w m how)
+pub written_once : (seat : ℕ) (w : Word) (m : Mode) (how : End) → HasWords w m 1 0 how →
+    IsWritten (once seat w m how)
 written_once seat w m how words = record { words = words; amount = omega arith; condition = omega arith }
 
-pub asked_begins : (text after : List ℕ) (seat : ℕ) (w : Word) (found : Mode × ℕ) → IsAsked w → text ≡ asked_name w ++ 32 ∷ after → AsksOnce after found
+pub asked_begins : (text after : List ℕ) (seat : ℕ) (w : Word) (found : Mode × ℕ) → IsAsked w →
+    text ≡ asked_name w ++ 32 ∷ after → AsksOnce after found
     → BeginsWith text (once seat w found.0 end.None, found.1)
-asked_begins text after seat word.Got found is named asks = (written_once seat word.Got found.0 end.None (refl, refl), asked_behind (codes "got") text after found named asks)
-asked_begins text after seat word.TryGot found is named asks = (written_once seat word.TryGot found.0 end.None (refl, refl), asked_behind (codes "trygot") text after found named asks)
-asked_begins text after seat word.Queued found is named asks = (written_once seat word.Queued found.0 end.None (refl, refl), asked_behind (codes "queued") text after found named asks)
-asked_begins text after seat word.Granted found is named asks = (written_once seat word.Granted found.0 end.None (refl, refl), asked_behind (codes "granted") text after found named asks)
-asked_begins text after seat word.Missed found is named asks = (written_once seat word.Missed found.0 end.None (refl, refl), asked_behind (codes "missed") text after found named asks)
-asked_begins text after seat word.Gave found is named asks = (written_once seat word.Gave found.0 end.None (refl, refl), asked_behind (codes "gave") text after found named asks)
+asked_begins text after seat word.Got found is named asks = (
+  written_once seat word.Got found.0 end.None (refl, refl),
+  asked_behind (codes "got") text after found named asks,
+)
+asked_begins text after seat word.TryGot found is named asks = (
+  written_once seat word.TryGot found.0 end.None (refl, refl),
+  asked_behind (codes "trygot") text after found named asks,
+)
+asked_begins text after seat word.Queued found is named asks = (
+  written_once seat word.Queued found.0 end.None (refl, refl),
+  asked_behind (codes "queued") text after found named asks,
+)
+asked_begins text after seat word.Granted found is named asks = (
+  written_once seat word.Granted found.0 end.None (refl, refl),
+  asked_behind (codes "granted") text after found named asks,
+)
+asked_begins text after seat word.Missed found is named asks = (
+  written_once seat word.Missed found.0 end.None (refl, refl),
+  asked_behind (codes "missed") text after found named asks,
+)
+asked_begins text after seat word.Gave found is named asks = (
+  written_once seat word.Gave found.0 end.None (refl, refl),
+  asked_behind (codes "gave") text after found named asks,
+)
 asked_begins text after seat w found is named asks = absurd is
 
 -- a number, a seat and words begin a text
-pub line_begins : (number seat words text behind tail rest : List ℕ) → text ≡ number ++ 32 ∷ behind → behind ≡ seat ++ 32 ∷ tail
+pub line_begins : (number seat words text behind tail rest : List ℕ) → text ≡ number ++ 32 ∷ behind →
+    behind ≡ seat ++ 32 ∷ tail
     → tail ≡ ended words ++ rest → text ≡ ended (number ++ codes " " ++ seat ++ codes " " ++ words) ++ rest
 line_begins number seat words text behind tail rest p q r =
-    p ∙ ap (λ (t : List ℕ). number ++ 32 ∷ t) (q ∙ ap (λ (t : List ℕ). seat ++ 32 ∷ t) r) ∙ grouped number seat words rest
+    p ∙ ap (λ (t : List ℕ). number ++ 32 ∷ t) (q ∙ ap (λ (t : List ℕ). seat ++ 32 ∷ t) r)
+    ∙ grouped number seat words rest
   where
-    grouped : (a b c d : List ℕ) → a ++ 32 ∷ (b ++ 32 ∷ (ended c ++ d)) ≡ ended (a ++ codes " " ++ b ++ codes " " ++ c) ++ d
+    grouped : (a b c d : List ℕ) →
+        a ++ 32 ∷ (b ++ 32 ∷ (ended c ++ d)) ≡ ended (a ++ codes " " ++ b ++ codes " " ++ c) ++ d
     grouped a b c d = simp append_assoc

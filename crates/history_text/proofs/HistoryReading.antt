@@ -23,7 +23,8 @@ ended_calls-reverse (e ∷ xs) =
     ∙ ended_calls-append (reverse xs) (e ∷ []) ∙ omega (arith, ended_calls-reverse xs)
 
 -- one more entry is counted
-pub more_calls : (entries : List Entry) (e : Entry) (calls : ℕ) → calls ≡ ended_calls entries → calls + (if ends_call e.word then 1 else 0) ≡ ended_calls (entries ++ e ∷ [])
+pub more_calls : (entries : List Entry) (e : Entry) (calls : ℕ) → calls ≡ ended_calls entries →
+    calls + (if ends_call e.word then 1 else 0) ≡ ended_calls (entries ++ e ∷ [])
 more_calls entries e calls is = omega (arith, is, ended_calls-append entries (e ∷ []))
 
 -- so many entries have their numbers below the cap
@@ -32,7 +33,8 @@ below_cap : (h : Header) (k : ℕ) (xs : List Entry) → k ≤ h.cap → AreItem
 below_cap h k [] le p = omega arith
 below_cap h k (x ∷ xs) le p = omega (arith, below_cap h (k + 1) xs (omega (arith, p.0.0)) p.1)
 
-few : (text : List ℕ) (h : Header) (entries : List Entry) (rest : List ℕ) → Begins history_form text h entries rest → length entries < 2 ^ 32
+few : (text : List ℕ) (h : Header) (entries : List Entry) (rest : List ℕ) →
+    Begins history_form text h entries rest → length entries < 2 ^ 32
 few text h entries rest begun = omega (arith, below_cap h 0 entries (omega arith) begun.each, begun.header.cap)
 
 -- the end line of a list that stands newest first
@@ -43,16 +45,24 @@ end_of xs count calls p q =
     ∙ ap (counts_line (length (reverse xs))) (q ∙ sym (ended_calls-reverse xs))
 
 -- behind so many entries, of which so many end a call, the line of these counts is the end line
-pub counts_end : (h : Header) (count calls : ℕ) (rest line : List ℕ) → line ≡ counts_line count calls → IsEnd history_form (entries_so_far h count calls) rest line
-counts_end h count calls rest line is text entries read =
-    (few text h entries rest read.begins, is ∙ ap (λ (n : ℕ). counts_line n calls) read.count ∙ ap (counts_line (length entries)) read.known)
+pub counts_end : (h : Header) (count calls : ℕ) (rest line : List ℕ) → line ≡ counts_line count calls →
+    IsEnd history_form (entries_so_far h count calls) rest line
+counts_end h count calls rest line is text entries read = (
+  few text h entries rest read.begins,
+  is ∙ ap (λ (n : ℕ). counts_line n calls) read.count
+      ∙ ap (counts_line (length entries)) read.known,
+)
 
 -- one more entry was read of a history, which stands newest first
-pub entry_read : (text : List ℕ) (h : Header) (entries : List Entry) (e : Entry) (rest after : List ℕ) → IsAhead history_form (entries_so_far h (length entries) (ended_calls entries)) rest e after
+pub entry_read : (text : List ℕ) (h : Header) (entries : List Entry) (e : Entry) (rest after : List ℕ) →
+    IsAhead history_form (entries_so_far h (length entries) (ended_calls entries)) rest e after
     → AreRead history_form text (entries_so_far h (length entries) (ended_calls entries)) (reverse entries) rest
-    → AreRead history_form text (entries_so_far h (length (e ∷ entries)) (ended_calls (e ∷ entries))) (reverse (e ∷ entries)) after
+    → AreRead history_form text (entries_so_far h (length (e ∷ entries)) (ended_calls (e ∷ entries)))
+    (reverse (e ∷ entries)) after
 entry_read text h entries e rest after ahead read =
-    let grown = read_on history_form text (entries_so_far h (length entries) (ended_calls entries)) (λ all. Unit {0}) (reverse entries) rest e after ahead tt read in
+    let grown =
+    read_on history_form text (entries_so_far h (length entries) (ended_calls entries))
+    (λ all. Unit {0}) (reverse entries) rest e after ahead tt read in
     record {
       begins = rw (reverse-append (e ∷ []) entries) grown.begins;
       count = sym (length-reverse (e ∷ entries));

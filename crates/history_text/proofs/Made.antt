@@ -98,7 +98,8 @@ idle_made s h i (TryFair m n) = made_plain i _ m n (tried_fairly_by _ _ _)
 idle_made s h i (EntryInterrupt m n) = made_plain i _ m n (omega arith)
 idle_made s h i (Give m n) = made_plain i _ m n (gave_by s.header.object (counts s h) i m n)
 idle_made s h i (Await c) = awaits_by (counts s h) i c _ _
-idle_made s h i (Signal c) = signals_made (counts s h) word.Signal (at_most_one (length (sleepers s h c))) i c tt
+idle_made s h i (Signal c) =
+    signals_made (counts s h) word.Signal (at_most_one (length (sleepers s h c))) i c tt
 idle_made s h i (SignalAll c) = signals_made (counts s h) word.SignalAll (length (sleepers s h c)) i c tt
 idle_made s h i Drain = made_plain i _ S _ tt
 idle_made s h i Look = made_plain i _ X 1 tt

@@ -35,7 +35,8 @@ once seat w m how = record { seat = seat; word = w; mode = m; n = 1; at = 0; end
 -- the words of an entry and a break begin the text, and so many bytes follow
 abbrev pub BeginsWith : List ℕ → Entry × ℕ → Type 0
 BeginsWith text found =
-    IsWritten found.0 × ((rest : List ℕ) × (text ≡ ended (line_of (entry_words found.0)) ++ rest) × (length rest ≡ found.1))
+    IsWritten found.0 × ((rest : List ℕ) × (text ≡ ended (line_of (entry_words found.0)) ++ rest)
+    × (length rest ≡ found.1))
 
 -- the line of an entry with this number, of one of so many seats, begins the text, and so many bytes follow
 abbrev pub IsLineAhead : ℕ → ℕ → List ℕ → Entry × ℕ → Type 0

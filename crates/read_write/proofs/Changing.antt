@@ -25,10 +25,17 @@ owned_by s o writes =
 
 abbrev pub with_reads : State → ℕ → ℕ → ℕ → State
 with_reads s i reads readers =
-    record { policy = s.policy; owner = s.owner; writes = s.writes; reads = set s.reads i reads; readers = readers }
+    record {
+      policy = s.policy;
+      owner = s.owner;
+      writes = s.writes;
+      reads = set s.reads i reads;
+      readers = readers;
+    }
 
 -- a write hold more
-pub sound_wrote : (s : State) (i : ℕ) → IsSound s → MayWrite s i → i < length s.reads → IsSound (owned_by s (Some i) (s.writes + 1))
+pub sound_wrote : (s : State) (i : ℕ) → IsSound s → MayWrite s i → i < length s.reads →
+    IsSound (owned_by s (Some i) (s.writes + 1))
 sound_wrote s i t may seat =
     let below = may.below in
     record {
@@ -37,7 +44,8 @@ sound_wrote s i t may seat =
       summed = t.summed;
     }
 
-pub stands_wrote : (s : State) (k : Counts) → IsSound s → StandsFor s k → (i n : ℕ) → MayWrite s i → i < k.seats → StandsFor (owned_by s (Some i) (s.writes + 1)) (took k i X n)
+pub stands_wrote : (s : State) (k : Counts) → IsSound s → StandsFor s k → (i n : ℕ) → MayWrite s i →
+    i < k.seats → StandsFor (owned_by s (Some i) (s.writes + 1)) (took k i X n)
 stands_wrote s k t h i n may seat =
     record {
       object = h.object;
@@ -47,13 +55,16 @@ stands_wrote s k t h i n may seat =
     }
 
 -- a change of the read holds of one seat
-shared_changed : (reads : List ℕ) (i x : ℕ) (change : ℕ → ℕ) (was : ℕ → Mode → ℕ) → i < length reads → ((j : ℕ) → was j S ≡ slice_index reads j) → x ≡ change (slice_index reads i) → (j : ℕ) → holds_with i S change was j S ≡ slice_index (set reads i x) j
+shared_changed : (reads : List ℕ) (i x : ℕ) (change : ℕ → ℕ) (was : ℕ → Mode → ℕ) → i < length reads →
+    ((j : ℕ) → was j S ≡ slice_index reads j) → x ≡ change (slice_index reads i) → (j : ℕ) →
+    holds_with i S change was j S ≡ slice_index (set reads i x) j
 shared_changed reads i x change was p h e j = ⊎_elim same other (cases_eq i j)
   where
     same : i ≡ j → holds_with i S change was j S ≡ slice_index (set reads i x) j
     same q =
         let now : slice_index (set reads i x) j ≡ x = get_or-set_at reads i j x 0 (sym q) p in
-        let moved : change (slice_index reads j) ≡ change (slice_index reads i) = ap (λ z. change (slice_index reads z)) (sym q) in
+        let moved : change (slice_index reads j) ≡ change (slice_index reads i) =
+        ap (λ z. change (slice_index reads z)) (sym q) in
         changed_own i S change was j q ∙ ap change (h j) ∙ moved ∙ sym e ∙ sym now
 
     other : (i ≡ j → ⊥) → holds_with i S change was j S ≡ slice_index (set reads i x) j
@@ -61,10 +72,12 @@ shared_changed reads i x change was p h e j = ⊎_elim same other (cases_eq i j)
         let ne : j ≢ i = λ q. n (sym q) in
         changed_other i S change was j ne ∙ h j ∙ sym (get_or-set_other reads i j x 0 ne)
 
-sound_reads : (s : State) (i reads readers : ℕ) → IsSound s → i < length s.reads → readers + slice_index s.reads i ≡ s.readers + reads → IsSound (with_reads s i reads readers)
+sound_reads : (s : State) (i reads readers : ℕ) → IsSound s → i < length s.reads →
+    readers + slice_index s.reads i ≡ s.readers + reads → IsSound (with_reads s i reads readers)
 sound_reads s i reads readers t seat e =
     let all = t.summed in
-    let now : table_total (set s.reads i reads) + slice_index s.reads i ≡ table_total s.reads + reads = table_set s.reads i reads seat in
+    let now : table_total (set s.reads i reads) + slice_index s.reads i ≡ table_total s.reads + reads =
+    table_set s.reads i reads seat in
     let P : ℕ → Type 0 = λ n. is_owner_in n s.owner ≡ true in
     record {
       owned = t.owned;
@@ -73,14 +86,18 @@ sound_reads s i reads readers t seat e =
     }
 
 -- the same by the place and the number that the code reads
-pub same_place : (s : State) (i at had : ℕ) → at ≡ i → had ≡ get_or s.reads at had → i < length s.reads → (f : ℕ → ℕ) (readers : ℕ) → with_reads s i (f (slice_index s.reads i)) readers ≡ with_reads s at (f had) readers
+pub same_place : (s : State) (i at had : ℕ) → at ≡ i → had ≡ get_or s.reads at had → i < length s.reads →
+    (f : ℕ → ℕ) (readers : ℕ) → with_reads s i (f (slice_index s.reads i)) readers
+    ≡ with_reads s at (f had) readers
 same_place s i at had q e p f readers =
     let within : at < length s.reads = omega (arith, q, p) in
     let read : had ≡ slice_index s.reads at = e ∙ get_or_default_zero s.reads at had within in
     let now : slice_index s.reads i ≡ had = sym (read ∙ ap (slice_index s.reads) q) in
-    ap (λ a. with_reads s a (f (slice_index s.reads i)) readers) (sym q) ∙ ap (λ x. with_reads s at (f x) readers) now
+    ap (λ a. with_reads s a (f (slice_index s.reads i)) readers) (sym q)
+    ∙ ap (λ x. with_reads s at (f x) readers) now
 
-pub room_for_read : (s : State) (i at had : ℕ) → IsSound s → at ≡ i → had ≡ get_or s.reads at had → i < length s.reads → s.readers < max_shared → had + 1 ≤ max_shared
+pub room_for_read : (s : State) (i at had : ℕ) → IsSound s → at ≡ i → had ≡ get_or s.reads at had →
+    i < length s.reads → s.readers < max_shared → had + 1 ≤ max_shared
 room_for_read s i at had t q e p below =
     let within : at < length s.reads = omega (arith, q, p) in
     let read : had ≡ slice_index s.reads at = e ∙ get_or_default_zero s.reads at had within in
@@ -89,10 +106,12 @@ room_for_read s i at had t q e p below =
     omega (arith, read, part, all, below)
 
 -- a read hold more
-pub sound_read : (s : State) (i : ℕ) → IsSound s → i < length s.reads → IsSound (with_reads s i (slice_index s.reads i + 1) (s.readers + 1))
+pub sound_read : (s : State) (i : ℕ) → IsSound s → i < length s.reads →
+    IsSound (with_reads s i (slice_index s.reads i + 1) (s.readers + 1))
 sound_read s i t seat = sound_reads s i (slice_index s.reads i + 1) (s.readers + 1) t seat (omega arith)
 
-pub stands_read : (s : State) (k : Counts) → StandsFor s k → (i n : ℕ) → i < length s.reads → StandsFor (with_reads s i (slice_index s.reads i + 1) (s.readers + 1)) (took k i S n)
+pub stands_read : (s : State) (k : Counts) → StandsFor s k → (i n : ℕ) → i < length s.reads →
+    StandsFor (with_reads s i (slice_index s.reads i + 1) (s.readers + 1)) (took k i S n)
 stands_read s k h i n seat =
     let one : in_holds k.object n ≡ 1 = rw h.object refl in
     let more : ℕ → ℕ = λ had. had + in_holds k.object n in
@@ -105,17 +124,20 @@ stands_read s k h i n seat =
     }
 
 -- a read hold less
-pub sound_read_less : (s : State) (i : ℕ) → IsSound s → i < length s.reads → 0 < slice_index s.reads i → IsSound (with_reads s i (slice_index s.reads i - 1) (s.readers - 1))
+pub sound_read_less : (s : State) (i : ℕ) → IsSound s → i < length s.reads → 0 < slice_index s.reads i →
+    IsSound (with_reads s i (slice_index s.reads i - 1) (s.readers - 1))
 sound_read_less s i t seat some =
     let all = t.summed in
     let part : slice_index s.reads i ≤ table_total s.reads = in_total s.reads i in
     sound_reads s i (slice_index s.reads i - 1) (s.readers - 1) t seat (omega arith)
 
-pub stands_read_less : (s : State) (k : Counts) → StandsFor s k → (i n : ℕ) → i < length s.reads → StandsFor (with_reads s i (slice_index s.reads i - 1) (s.readers - 1)) (gave_back k i S n)
+pub stands_read_less : (s : State) (k : Counts) → StandsFor s k → (i n : ℕ) → i < length s.reads →
+    StandsFor (with_reads s i (slice_index s.reads i - 1) (s.readers - 1)) (gave_back k i S n)
 stands_read_less s k h i n seat =
     let one : in_holds k.object n ≡ 1 = rw h.object refl in
     let less : ℕ → ℕ = λ had. had - in_holds k.object n in
-    let now : slice_index s.reads i - 1 ≡ less (slice_index s.reads i) = ap (λ x. slice_index s.reads i - x) (sym one) in
+    let now : slice_index s.reads i - 1 ≡ less (slice_index s.reads i) =
+    ap (λ x. slice_index s.reads i - x) (sym one) in
     record {
       object = h.object;
       seats = h.seats ∙ sym (length-set s.reads i (slice_index s.reads i - 1));
@@ -139,22 +161,27 @@ readers_some s i t some =
     omega arith
 
 -- a write hold less
-owner_known : (s : State) (k : Counts) → StandsFor s k → (i : ℕ) → is_seat s.owner i ≡ true → Owns (Some i) s.writes k
+owner_known : (s : State) (k : Counts) → StandsFor s k → (i : ℕ) → is_seat s.owner i ≡ true →
+    Owns (Some i) s.writes k
 owner_known s k h i u =
     let P : Option ℕ → Type 0 = λ o. Owns o s.writes k in
     subst P (seat_is s.owner i u) h.owns
 
-pub sound_write_less : (s : State) (i : ℕ) → IsSound s → is_seat s.owner i ≡ true → 0 < s.writes - 1 → IsSound (owned_by s s.owner (s.writes - 1))
+pub sound_write_less : (s : State) (i : ℕ) → IsSound s → is_seat s.owner i ≡ true → 0 < s.writes - 1 →
+    IsSound (owned_by s s.owner (s.writes - 1))
 sound_write_less s i t u some =
     let most : s.writes ≤ max_shared = owned_most max_shared s.owner s.writes t.owned in
     let P : Option ℕ → Type 0 = λ o. is_owned max_shared o (s.writes - 1) ≡ true in
-    let owned : is_owned max_shared (Some i) (s.writes - 1) ≡ true = some_owned max_shared i (s.writes - 1) some (omega arith) in
+    let owned : is_owned max_shared (Some i) (s.writes - 1) ≡ true =
+    some_owned max_shared i (s.writes - 1) some (omega arith) in
     record { owned = subst P (sym (seat_is s.owner i u)) owned; seated = t.seated; summed = t.summed }
 
-pub stands_write_less : (s : State) (k : Counts) → StandsFor s k → (i n : ℕ) → is_seat s.owner i ≡ true → StandsFor (owned_by s s.owner (s.writes - 1)) (gave_back k i X n)
+pub stands_write_less : (s : State) (k : Counts) → StandsFor s k → (i n : ℕ) → is_seat s.owner i ≡ true →
+    StandsFor (owned_by s s.owner (s.writes - 1)) (gave_back k i X n)
 stands_write_less s k h i n u =
     let P : Option ℕ → Type 0 = λ o. Owns o (s.writes - 1) (gave_back k i X n) in
-    let owns : Owns (Some i) (s.writes - 1) (gave_back k i X n) = owns_gave s.writes k i n (owner_known s k h i u) (rw h.object refl) in
+    let owns : Owns (Some i) (s.writes - 1) (gave_back k i X n) =
+    owns_gave s.writes k i n (owner_known s k h i u) (rw h.object refl) in
     record {
       object = h.object;
       seats = h.seats;
@@ -166,7 +193,8 @@ stands_write_less s k h i n u =
 pub sound_freed : (s : State) (writes : ℕ) → IsSound s → writes ≡ 0 → IsSound (owned_by s None writes)
 sound_freed s writes t none = record { owned = eq-eqb writes 0 none; seated = refl; summed = t.summed }
 
-pub stands_gave_last : (s : State) (k : Counts) → IsSound s → StandsFor s k → (i n : ℕ) → is_seat s.owner i ≡ true → s.writes - 1 ≡ 0 → StandsFor (owned_by s None (s.writes - 1)) (gave_back k i X n)
+pub stands_gave_last : (s : State) (k : Counts) → IsSound s → StandsFor s k → (i n : ℕ) →
+    is_seat s.owner i ≡ true → s.writes - 1 ≡ 0 → StandsFor (owned_by s None (s.writes - 1)) (gave_back k i X n)
 stands_gave_last s k t h i n u last =
     let Q : Option ℕ → Type 0 = λ o. is_owned max_shared o s.writes ≡ true in
     let some : 0 < s.writes = owned_some max_shared i s.writes (subst Q (seat_is s.owner i u) t.owned) in
@@ -179,7 +207,8 @@ stands_gave_last s k t h i n u last =
       shared = λ j. shared_kept i (λ had. had - in_holds k.object n) k.held j ∙ h.shared j;
     }
 
-pub stands_let_go : (s : State) (k : Counts) → StandsFor s k → (i : ℕ) → is_seat s.owner i ≡ true → StandsFor (owned_by s None 0) (let_go k i)
+pub stands_let_go : (s : State) (k : Counts) → StandsFor s k → (i : ℕ) → is_seat s.owner i ≡ true →
+    StandsFor (owned_by s None 0) (let_go k i)
 stands_let_go s k h i u =
     record {
       object = h.object;
@@ -189,10 +218,12 @@ stands_let_go s k h i u =
     }
 
 -- all write holds again
-pub most_restored : (s : State) (k : Counts) → StandsFor s k → (i holds : ℕ) → IsRestorable k i holds → holds ≤ max_shared
+pub most_restored : (s : State) (k : Counts) → StandsFor s k → (i holds : ℕ) → IsRestorable k i holds →
+    holds ≤ max_shared
 most_restored s k h i holds r = rw h.object at r.most
 
-pub sound_restored : (s : State) (k : Counts) → IsSound s → StandsFor s k → (i holds : ℕ) → IsRestorable k i holds → IsSound (owned_by s (Some i) holds)
+pub sound_restored : (s : State) (k : Counts) → IsSound s → StandsFor s k → (i holds : ℕ) →
+    IsRestorable k i holds → IsSound (owned_by s (Some i) holds)
 sound_restored s k t h i holds r =
     let P : ℕ → Type 0 = λ n. i < n in
     record {
@@ -201,10 +232,12 @@ sound_restored s k t h i holds r =
       summed = t.summed;
     }
 
-pub stands_restored : (s : State) (k : Counts) → IsSound s → StandsFor s k → (i holds : ℕ) → IsRestorable k i holds → StandsFor (owned_by s (Some i) holds) (restored k i holds)
+pub stands_restored : (s : State) (k : Counts) → IsSound s → StandsFor s k → (i holds : ℕ) →
+    IsRestorable k i holds → StandsFor (owned_by s (Some i) holds) (restored k i holds)
 stands_restored s k t h i holds r =
     let may : MayWrite s i = may_write s i t (sym (could_is s k t h i X 1) ∙ r.could) in
-    let none : s.owner ≡ None = no_owner max_shared s.owner s.writes i t.owned may.admitted (sym (h.owns.held i) ∙ r.none_held) in
+    let none : s.owner ≡ None =
+    no_owner max_shared s.owner s.writes i t.owned may.admitted (sym (h.owns.held i) ∙ r.none_held) in
     let Q : Option ℕ → Type 0 = λ o. is_owned max_shared o s.writes ≡ true in
     let zero : s.writes ≡ 0 = eqb-true s.writes 0 (subst Q none t.owned) in
     let P : Option ℕ → Type 0 = λ o. Owns o s.writes k in

@@ -35,7 +35,8 @@ none_other (Some q) i j t ne =
     rw e (others_not i j ne)
 
 -- who takes a write hold could before, and its reads are as many
-writer_as_before : (o : Option ℕ) (w r i j : ℕ) (m : Mode) → could_by o w r i X ≡ true → is_none_or o i ≡ true → could_by o w r j m ≡ false → could_by (Some i) (w + 1) r j m ≡ false
+writer_as_before : (o : Option ℕ) (w r i j : ℕ) (m : Mode) → could_by o w r i X ≡ true →
+    is_none_or o i ≡ true → could_by o w r j m ≡ false → could_by (Some i) (w + 1) r j m ≡ false
 writer_as_before o w r i j m c t f = ⊎_elim (λ e. same m e f) (λ ne. alone_by i (w + 1) r j m ne) (cases_eq j i)
   where
     same : (m : Mode) → j ≡ i → could_by o w r j m ≡ false → could_by (Some i) (w + 1) r j m ≡ false
@@ -61,10 +62,12 @@ full_alone o w r j e =
     rw full (and-false (is_none_or o j))
 
 -- a read hold more makes nobody able
-reader_as_before : (o : Option ℕ) (w r j : ℕ) (m : Mode) → could_by o w r j m ≡ false → could_by o w (r + 1) j m ≡ false
+reader_as_before : (o : Option ℕ) (w r j : ℕ) (m : Mode) → could_by o w r j m ≡ false →
+    could_by o w (r + 1) j m ≡ false
 reader_as_before o w r j X f = by (is_seat o j) (ltb (holds_of o w j) max_shared) f
   where
-    by : (b a : Bool) → cond b a (is_none_or o j && eqb r 0) ≡ false → cond b a (is_none_or o j && eqb (r + 1) 0) ≡ false
+    by : (b a : Bool) → cond b a (is_none_or o j && eqb r 0) ≡ false →
+        cond b a (is_none_or o j && eqb (r + 1) 0) ≡ false
     by true a g = g
     by false a g =
         let some : eqb (r + 1) 0 ≡ false = ne_eqb (r + 1) 0 (λ e. omega (arith, e)) in
@@ -78,10 +81,12 @@ reader_as_before o w r j S f = by (is_none_or o j) f
     by false g = refl
 
 -- a read hold less makes somebody able at the last one and at the limit alone
-reader_less : (o : Option ℕ) (w r j : ℕ) (m : Mode) → (r ≡ 1 → ⊥) → (r ≡ max_shared → ⊥) → 0 < r → r ≤ max_shared → could_by o w r j m ≡ false → could_by o w (r - 1) j m ≡ false
+reader_less : (o : Option ℕ) (w r j : ℕ) (m : Mode) → (r ≡ 1 → ⊥) → (r ≡ max_shared → ⊥) → 0 < r →
+    r ≤ max_shared → could_by o w r j m ≡ false → could_by o w (r - 1) j m ≡ false
 reader_less o w r j X last full some most f = by (is_seat o j) (ltb (holds_of o w j) max_shared) f
   where
-    by : (b a : Bool) → cond b a (is_none_or o j && eqb r 0) ≡ false → cond b a (is_none_or o j && eqb (r - 1) 0) ≡ false
+    by : (b a : Bool) → cond b a (is_none_or o j && eqb r 0) ≡ false →
+        cond b a (is_none_or o j && eqb (r - 1) 0) ≡ false
     by true a g = g
     by false a g =
         let left : eqb (r - 1) 0 ≡ false = ne_eqb (r - 1) 0 (λ e. last (omega (arith, e, some))) in
@@ -99,14 +104,17 @@ either true b e = inl refl
 either false b e = inr e
 
 -- After a take of X.
-pub wrote_alone : (s : State) (k : Counts) → IsSound s → StandsFor s k → (i n : ℕ) → MayWrite s i → i < k.seats → (j : ℕ) (m : Mode) (b : ℕ) → j ≢ i → could (took k i X n) j m b ≡ false
+pub wrote_alone : (s : State) (k : Counts) → IsSound s → StandsFor s k → (i n : ℕ) → MayWrite s i →
+    i < k.seats → (j : ℕ) (m : Mode) (b : ℕ) → j ≢ i → could (took k i X n) j m b ≡ false
 wrote_alone s k t h i n may seat j m b ne =
     let P : ℕ → Type 0 = λ seats. i < seats in
     let sound = sound_wrote s i t may (subst P h.seats seat) in
     could_is (owned_by s (Some i) (s.writes + 1)) (took k i X n) sound (stands_wrote s k t h i n may seat) j m b
     ∙ alone_by i (s.writes + 1) s.readers j m ne
 
-pub wrote_nobody : (s : State) (k : Counts) → IsSound s → StandsFor s k → (i n : ℕ) → MayWrite s i → could_by s.owner s.writes s.readers i X ≡ true → i < k.seats → (j : ℕ) (m : Mode) (b : ℕ) → could k j m b ≡ false → could (took k i X n) j m b ≡ false
+pub wrote_nobody : (s : State) (k : Counts) → IsSound s → StandsFor s k → (i n : ℕ) → MayWrite s i →
+    could_by s.owner s.writes s.readers i X ≡ true → i < k.seats → (j : ℕ) (m : Mode) (b : ℕ) →
+    could k j m b ≡ false → could (took k i X n) j m b ≡ false
 wrote_nobody s k t h i n may c seat j m b f =
     let P : ℕ → Type 0 = λ seats. i < seats in
     let sound = sound_wrote s i t may (subst P h.seats seat) in
@@ -115,22 +123,28 @@ wrote_nobody s k t h i n may c seat j m b f =
     ∙ writer_as_before s.owner s.writes s.readers i j m c may.admitted before
 
 -- After a take of S.
-could_read : (s : State) (k : Counts) → IsSound s → StandsFor s k → (i n : ℕ) → i < k.seats → (j : ℕ) (m : Mode) (b : ℕ) → could (took k i S n) j m b ≡ could_by s.owner s.writes (s.readers + 1) j m
+could_read : (s : State) (k : Counts) → IsSound s → StandsFor s k → (i n : ℕ) → i < k.seats →
+    (j : ℕ) (m : Mode) (b : ℕ) → could (took k i S n) j m b ≡ could_by s.owner s.writes (s.readers + 1) j m
 could_read s k t h i n seat j m b =
     let P : ℕ → Type 0 = λ seats. i < seats in
     let within : i < length s.reads = subst P h.seats seat in
-    could_is (with_reads s i (slice_index s.reads i + 1) (s.readers + 1)) (took k i S n) (sound_read s i t within) (stands_read s k h i n within) j m b
+    could_is (with_reads s i (slice_index s.reads i + 1) (s.readers + 1)) (took k i S n)
+    (sound_read s i t within) (stands_read s k h i n within) j m b
 
-pub read_nobody : (s : State) (k : Counts) → IsSound s → StandsFor s k → (i n : ℕ) → i < k.seats → (j : ℕ) (m : Mode) (b : ℕ) → could k j m b ≡ false → could (took k i S n) j m b ≡ false
+pub read_nobody : (s : State) (k : Counts) → IsSound s → StandsFor s k → (i n : ℕ) → i < k.seats →
+    (j : ℕ) (m : Mode) (b : ℕ) → could k j m b ≡ false → could (took k i S n) j m b ≡ false
 read_nobody s k t h i n seat j m b f =
     let before : could_by s.owner s.writes s.readers j m ≡ false = sym (could_is s k t h j m b) ∙ f in
     could_read s k t h i n seat j m b ∙ reader_as_before s.owner s.writes s.readers j m before
 
-pub read_shared : (s : State) (k : Counts) → IsSound s → StandsFor s k → (i n : ℕ) → MayRead s i → i < k.seats → (j b : ℕ) → j ≢ i → could (took k i S n) j X b ≡ false
+pub read_shared : (s : State) (k : Counts) → IsSound s → StandsFor s k → (i n : ℕ) → MayRead s i →
+    i < k.seats → (j b : ℕ) → j ≢ i → could (took k i S n) j X b ≡ false
 read_shared s k t h i n may seat j b ne =
     could_read s k t h i n seat j X b ∙ reader_alone s.owner s.writes s.readers i j may.admitted ne
 
-pub read_last : (s : State) (k : Counts) → IsSound s → StandsFor s k → (i n : ℕ) → (eqb (s.readers + 1) max_shared || is_seat s.owner i) ≡ true → i < k.seats → (j b : ℕ) → j ≢ i → could (took k i S n) j S b ≡ false
+pub read_last : (s : State) (k : Counts) → IsSound s → StandsFor s k → (i n : ℕ) →
+    (eqb (s.readers + 1) max_shared || is_seat s.owner i) ≡ true → i < k.seats → (j b : ℕ) → j ≢ i →
+    could (took k i S n) j S b ≡ false
 read_last s k t h i n last seat j b ne = could_read s k t h i n seat j S b ∙ ⊎_elim full owned (either _ _ last)
   where
     full : eqb (s.readers + 1) max_shared ≡ true → could_by s.owner s.writes (s.readers + 1) j S ≡ false
@@ -139,7 +153,9 @@ read_last s k t h i n last seat j b ne = could_read s k t h i n seat j S b ∙ �
     owned : is_seat s.owner i ≡ true → could_by s.owner s.writes (s.readers + 1) j S ≡ false
     owned u = owned_alone s.owner i s.writes (s.readers + 1) j S u ne
 
-pub read_answer : (s : State) (k : Counts) → IsSound s → StandsFor s k → (i n : ℕ) → i < k.seats → take_answer (took k i S n) i S ≡ cond (eqb (s.readers + 1) max_shared || is_seat s.owner i) take_answers.Last take_answers.More
+pub read_answer : (s : State) (k : Counts) → IsSound s → StandsFor s k → (i n : ℕ) → i < k.seats →
+    take_answer (took k i S n) i S ≡ cond (eqb (s.readers + 1) max_shared || is_seat s.owner i)
+    take_answers.Last take_answers.More
 read_answer s k t h i n seat =
     let P : ℕ → Type 0 = λ seats. i < seats in
     let within : i < length s.reads = subst P h.seats seat in
@@ -148,41 +164,52 @@ read_answer s k t h i n seat =
     let stands : StandsFor now (took k i S n) = stands_read s k h i n within in
     let own = owner_of now (took k i S n) sound stands in
     let all = readers_of now (took k i S n) sound stands in
-    let last : Taken = cond (eqb (s.readers + 1) max_shared || is_seat s.owner i) take_answers.Last take_answers.More in
+    let last : Taken =
+    cond (eqb (s.readers + 1) max_shared || is_seat s.owner i) take_answers.Last take_answers.More in
     let Q : Object → Type 0 = λ o. take_answer_of o (took k i S n) i S ≡ last in
     subst Q (sym h.object) (rw own (rw all refl))
 
 -- After a give.
-pub write_answer : (s : State) (k : Counts) → StandsFor s k → (i n : ℕ) → is_seat s.owner i ≡ true → give_answer k i X n ≡ open_where (eqb s.writes 1)
+pub write_answer : (s : State) (k : Counts) → StandsFor s k → (i n : ℕ) → is_seat s.owner i ≡ true →
+    give_answer k i X n ≡ open_where (eqb s.writes 1)
 write_answer s k h i n u =
     let had : k.held i X ≡ s.writes = h.owns.held i ∙ rw u refl in
     rw h.object (rw had refl)
 
-pub read_less_answer : (s : State) (k : Counts) → IsSound s → StandsFor s k → (i n : ℕ) → give_answer k i S n ≡ open_where (eqb s.readers 1 || eqb s.readers max_shared)
+pub read_less_answer : (s : State) (k : Counts) → IsSound s → StandsFor s k → (i n : ℕ) →
+    give_answer k i S n ≡ open_where (eqb s.readers 1 || eqb s.readers max_shared)
 read_less_answer s k t h i n =
     let all = readers_of s k t h in
     rw h.object (rw all refl)
 
-pub write_less_kept : (s : State) (k : Counts) → IsSound s → StandsFor s k → (i n : ℕ) → is_seat s.owner i ≡ true → 0 < s.writes - 1 → (j : ℕ) (m : Mode) (b : ℕ) → j ≢ i → could (given k i X n) j m b ≡ false
+pub write_less_kept : (s : State) (k : Counts) → IsSound s → StandsFor s k → (i n : ℕ) →
+    is_seat s.owner i ≡ true → 0 < s.writes - 1 → (j : ℕ) (m : Mode) (b : ℕ) → j ≢ i →
+    could (given k i X n) j m b ≡ false
 write_less_kept s k t h i n u some j m b ne =
     let g : given k i X n ≡ gave_back k i X n = rw h.object refl in
     let now : State = owned_by s s.owner (s.writes - 1) in
     rw g (could_is now (gave_back k i X n) (sound_write_less s i t u some) (stands_write_less s k h i n u) j m b
     ∙ owned_alone s.owner i (s.writes - 1) s.readers j m u ne)
 
-pub read_less_kept : (s : State) (k : Counts) → IsSound s → StandsFor s k → (i n : ℕ) → 0 < slice_index s.reads i → (s.readers ≡ 1 → ⊥) → (s.readers ≡ max_shared → ⊥) → s.readers ≤ max_shared → (j : ℕ) (m : Mode) (b : ℕ) → could k j m b ≡ false → could (given k i S n) j m b ≡ false
+pub read_less_kept : (s : State) (k : Counts) → IsSound s → StandsFor s k → (i n : ℕ) →
+    0 < slice_index s.reads i → (s.readers ≡ 1 → ⊥) → (s.readers ≡ max_shared → ⊥) →
+    s.readers ≤ max_shared → (j : ℕ) (m : Mode) (b : ℕ) → could k j m b ≡ false →
+    could (given k i S n) j m b ≡ false
 read_less_kept s k t h i n some last full most j m b f =
     let g : given k i S n ≡ gave_back k i S n = rw h.object refl in
     let within : i < length s.reads = reader_seated s i some in
     let now : State = with_reads s i (slice_index s.reads i - 1) (s.readers - 1) in
     let before : could_by s.owner s.writes s.readers j m ≡ false = sym (could_is s k t h j m b) ∙ f in
-    rw g (could_is now (gave_back k i S n) (sound_read_less s i t within some) (stands_read_less s k h i n within) j m b
+    rw g (could_is now (gave_back k i S n) (sound_read_less s i t within some)
+    (stands_read_less s k h i n within) j m b
     ∙ reader_less s.owner s.writes s.readers j m last full (readers_some s i t some) most before)
 
 -- After a restore.
-pub restored_alone : (s : State) (k : Counts) → IsSound s → StandsFor s k → (i holds : ℕ) → IsRestorable k i holds → (j : ℕ) (m : Mode) (b : ℕ) → j ≢ i → could (restored k i holds) j m b ≡ false
+pub restored_alone : (s : State) (k : Counts) → IsSound s → StandsFor s k → (i holds : ℕ) →
+    IsRestorable k i holds → (j : ℕ) (m : Mode) (b : ℕ) → j ≢ i → could (restored k i holds) j m b ≡ false
 restored_alone s k t h i holds r j m b ne =
-    could_is (owned_by s (Some i) holds) (restored k i holds) (sound_restored s k t h i holds r) (stands_restored s k t h i holds r) j m b
+    could_is (owned_by s (Some i) holds) (restored k i holds) (sound_restored s k t h i holds r)
+    (stands_restored s k t h i holds r) j m b
     ∙ alone_by i holds s.readers j m ne
 
 true_or : (a b : Bool) → a ≡ true → (a || b) ≡ false → ⊥
@@ -201,4 +228,5 @@ not_either r f = (λ e. no_first e, λ e. no_second e)
     no_first e = let t : eqb r 1 ≡ true = eq-eqb r 1 e in true_or (eqb r 1) (eqb r max_shared) t f
 
     no_second : r ≡ max_shared → ⊥
-    no_second e = let t : eqb r max_shared ≡ true = eq-eqb r max_shared e in or_true (eqb r 1) (eqb r max_shared) t f
+    no_second e =
+        let t : eqb r max_shared ≡ true = eq-eqb r max_shared e in or_true (eqb r 1) (eqb r max_shared) t f

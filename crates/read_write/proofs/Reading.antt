@@ -28,7 +28,8 @@ readers_of s k t h =
     let here = total_same k.seats (λ i. k.held i S) (slice_index s.reads) h.shared in
     here ∙ ap (λ n. total n (slice_index s.reads)) h.seats ∙ sym t.summed
 
-pub could_is : (s : State) (k : Counts) → IsSound s → StandsFor s k → (i : ℕ) (m : Mode) (n : ℕ) → could k i m n ≡ could_by s.owner s.writes s.readers i m
+pub could_is : (s : State) (k : Counts) → IsSound s → StandsFor s k → (i : ℕ) (m : Mode) (n : ℕ) →
+    could k i m n ≡ could_by s.owner s.writes s.readers i m
 could_is s k t h i X n =
     let own = owner_of s k t h in
     let all = readers_of s k t h in
@@ -39,7 +40,8 @@ could_is s k t h i S n =
     let all = readers_of s k t h in
     rw h.object (rw own (rw all refl))
 
-pub limit_is : (s : State) (k : Counts) → IsSound s → StandsFor s k → (i : ℕ) (m : Mode) → limit k i m ≡ limit_by s i m
+pub limit_is : (s : State) (k : Counts) → IsSound s → StandsFor s k → (i : ℕ) (m : Mode) →
+    limit k i m ≡ limit_by s i m
 limit_is s k t h i X = let had = h.owns.held i in rw h.object (rw had refl)
 limit_is s k t h i S =
     let own = owner_of s k t h in
@@ -50,23 +52,29 @@ or_false : (b : Bool) → (b || false) ≡ b
 or_false true = refl
 or_false false = refl
 
-pub held_back_is : (s : State) (k : Counts) → IsSound s → StandsFor s k → (first : Option Mode) (i : ℕ) (m : Mode) → held_back k first i m ≡ (not (reentrant_by s i m) && line_blocks (ReadWrite s.policy) m first)
+pub held_back_is : (s : State) (k : Counts) → IsSound s → StandsFor s k →
+    (first : Option Mode) (i : ℕ) (m : Mode) →
+    held_back k first i m ≡ (not (reentrant_by s i m) && line_blocks (ReadWrite s.policy) m first)
 held_back_is s k t h first i X =
     let own = owner_of s k t h in
-    rw h.object (rw own (ap (λ b. not b && line_blocks (ReadWrite s.policy) X first) (or_false (is_seat s.owner i))))
+    rw h.object
+    (rw own (ap (λ b. not b && line_blocks (ReadWrite s.policy) X first) (or_false (is_seat s.owner i))))
 held_back_is s k t h first i S =
     let own = owner_of s k t h in
     let had = h.shared i in
     rw h.object (rw own (rw had refl))
 
-pub let_go_is : (s : State) (k : Counts) → IsSound s → StandsFor s k → (i : ℕ) → let_go_answer k i ≡ cond (not (is_seat s.owner i)) (Err fault.NotOwner) (cond (ltb 0 (slice_index s.reads i)) (Err fault.HoldsRead) (Ok (holds_of s.owner s.writes i)))
+pub let_go_is : (s : State) (k : Counts) → IsSound s → StandsFor s k → (i : ℕ) →
+    let_go_answer k i ≡ cond (not (is_seat s.owner i)) (Err fault.NotOwner)
+    (cond (ltb 0 (slice_index s.reads i)) (Err fault.HoldsRead) (Ok (holds_of s.owner s.writes i)))
 let_go_is s k t h i =
     let own = owner_of s k t h in
     let reads = h.shared i in
     let writes = h.owns.held i in
     rw h.object (rw own (rw reads (rw writes refl)))
 
-pub gave_is : (s : State) (k : Counts) → StandsFor s k → (i : ℕ) (m : Mode) (n : ℕ) → gave k.object k i m n ≡ cond (ltb 0 (holds_by s i m)) word.Gave (word.Refused fault.NotOwner)
+pub gave_is : (s : State) (k : Counts) → StandsFor s k → (i : ℕ) (m : Mode) (n : ℕ) →
+    gave k.object k i m n ≡ cond (ltb 0 (holds_by s i m)) word.Gave (word.Refused fault.NotOwner)
 gave_is s k h i X n = let had = h.owns.held i in rw h.object (rw had refl)
 gave_is s k h i S n = let had = h.shared i in rw h.object (rw had refl)
 
@@ -75,11 +83,14 @@ pub record MayWrite (s : State) (i : ℕ) : Type 0 where
   pub admitted : is_none_or s.owner i ≡ true
   pub below : s.writes < max_shared
 
-by_some : (b : Bool) (w r : ℕ) → cond b (ltb (cond b w 0) max_shared) (b && eqb r 0) ≡ true → (b ≡ true) × (w < max_shared)
+by_some : (b : Bool) (w r : ℕ) → cond b (ltb (cond b w 0) max_shared) (b && eqb r 0) ≡ true → (b ≡ true)
+    × (w < max_shared)
 by_some true w r c = (refl, ltb-true _ _ c)
 by_some false w r c = cc
 
-by_owner : (o : Option ℕ) (w r i : ℕ) → is_owned max_shared o w ≡ true → cond (is_seat o i) (ltb (holds_of o w i) max_shared) (is_none_or o i && eqb r 0) ≡ true → (is_none_or o i ≡ true) × (w < max_shared)
+by_owner : (o : Option ℕ) (w r i : ℕ) → is_owned max_shared o w ≡ true →
+    cond (is_seat o i) (ltb (holds_of o w i) max_shared) (is_none_or o i && eqb r 0) ≡ true →
+    (is_none_or o i ≡ true) × (w < max_shared)
 by_owner None w r i t c =
     let none : w ≡ 0 = eqb-true w 0 t in
     (refl, omega (arith, none))
@@ -100,12 +111,14 @@ may_read s i c =
     let both = and_parts (is_none_or s.owner i) (ltb s.readers max_shared) c in
     record { admitted = both.0; below = ltb-true _ _ both.1 }
 
-pub takes_write : (s : State) (k : Counts) → IsSound s → StandsFor s k → (i : ℕ) (m : Mode) (n : ℕ) → m ≡ X → could k i m n ≡ true → could_by s.owner s.writes s.readers i X ≡ true
+pub takes_write : (s : State) (k : Counts) → IsSound s → StandsFor s k → (i : ℕ) (m : Mode) (n : ℕ) →
+    m ≡ X → could k i m n ≡ true → could_by s.owner s.writes s.readers i X ≡ true
 takes_write s k t h i m n e c =
     let P : Mode → Type 0 = λ z. could k i z n ≡ true in
     sym (could_is s k t h i X n) ∙ subst P e c
 
-pub takes_read : (s : State) (k : Counts) → IsSound s → StandsFor s k → (i : ℕ) (m : Mode) (n : ℕ) → m ≡ S → could k i m n ≡ true → could_by s.owner s.writes s.readers i S ≡ true
+pub takes_read : (s : State) (k : Counts) → IsSound s → StandsFor s k → (i : ℕ) (m : Mode) (n : ℕ) → m ≡ S →
+    could k i m n ≡ true → could_by s.owner s.writes s.readers i S ≡ true
 takes_read s k t h i m n e c =
     let P : Mode → Type 0 = λ z. could k i z n ≡ true in
     sym (could_is s k t h i S n) ∙ subst P e c
@@ -115,13 +128,15 @@ owner_by : (b : Bool) (w : ℕ) → (cond b w 0 ≡ 0 → ⊥) → b ≡ true
 owner_by true w some = refl
 owner_by false w some = absurd (some refl)
 
-pub gives_write : (s : State) (i : ℕ) (m : Mode) (x : ℕ) → x ≡ holds_by s i m → (x ≡ 0 → ⊥) → m ≡ X → is_seat s.owner i ≡ true
+pub gives_write : (s : State) (i : ℕ) (m : Mode) (x : ℕ) → x ≡ holds_by s i m → (x ≡ 0 → ⊥) → m ≡ X →
+    is_seat s.owner i ≡ true
 gives_write s i m x e some q =
     let P : Mode → Type 0 = λ z. x ≡ holds_by s i z in
     let had : x ≡ holds_of s.owner s.writes i = subst P q e in
     owner_by (is_seat s.owner i) s.writes (λ none. some (had ∙ none))
 
-pub gives_read : (s : State) (i : ℕ) (m : Mode) (x : ℕ) → x ≡ holds_by s i m → (x ≡ 0 → ⊥) → m ≡ S → 0 < slice_index s.reads i
+pub gives_read : (s : State) (i : ℕ) (m : Mode) (x : ℕ) → x ≡ holds_by s i m → (x ≡ 0 → ⊥) → m ≡ S →
+    0 < slice_index s.reads i
 gives_read s i m x e some q =
     let P : Mode → Type 0 = λ z. x ≡ holds_by s i z in
     let had : x ≡ slice_index s.reads i = subst P q e in

@@ -17,12 +17,15 @@ use Rattle.steps.specs.StepReading.{asked_at, condition_at, step_at, line_at}
 
 asked_again : (m : Mode) (n : ℕ) → n < 2 ^ 32 → asked_at (mode_word m ∷ decimal n ∷ []) ≡ Some ((m, n), [])
 unfolding asked_at
-asked_again X n lt = rw (number_again n (omega arith), le-leb 0 n (omega arith), le-leb n 4294967295 (omega arith)) refl
-asked_again S n lt = rw (number_again n (omega arith), le-leb 0 n (omega arith), le-leb n 4294967295 (omega arith)) refl
+asked_again X n lt =
+    rw (number_again n (omega arith), le-leb 0 n (omega arith), le-leb n 4294967295 (omega arith)) refl
+asked_again S n lt =
+    rw (number_again n (omega arith), le-leb 0 n (omega arith), le-leb n 4294967295 (omega arith)) refl
 
 condition_again : (c : ℕ) → c < 2 ^ 8 → condition_at (decimal c ∷ []) ≡ Some (c, [])
 unfolding condition_at
-condition_again c lt = rw (number_again c (omega arith), le-leb 0 c (omega arith), le-leb c 255 (omega arith)) refl
+condition_again c lt =
+    rw (number_again c (omega arith), le-leb 0 c (omega arith), le-leb c 255 (omega arith)) refl
 
 step_again : (s : Step) → HasAmounts s → step_at (step_words s) ≡ Some (s, [])
 unfolding step_at
@@ -39,9 +42,15 @@ step_again (Signal c) lt = rw (condition_again c lt) refl
 step_again (SignalAll c) lt = rw (condition_again c lt) refl
 step_again Drain lt = refl
 
-line_again : (seats : ℕ) (s : ℕ × Step) → seats < 2 ^ 32 → IsStep seats s → line_at seats (decimal s.0 ∷ step_words s.1) ≡ Some (s, [])
+line_again : (seats : ℕ) (s : ℕ × Step) → seats < 2 ^ 32 → IsStep seats s →
+    line_at seats (decimal s.0 ∷ step_words s.1) ≡ Some (s, [])
 line_again seats s small fits =
-    rw (number_again s.0 (omega (arith, fits.0)), le-leb 0 s.0 (omega arith), le-leb s.0 (seats - 1) (omega (arith, fits.0)), step_again s.1 fits.1) refl
+    rw (
+      number_again s.0 (omega (arith, fits.0)),
+      le-leb 0 s.0 (omega arith),
+      le-leb s.0 (seats - 1) (omega (arith, fits.0)),
+      step_again s.1 fits.1,
+    ) refl
 
 mode_plain : (m : Mode) → is_plain (mode_word m) ≡ true
 mode_plain X = refl
@@ -61,7 +70,8 @@ step_plain (Signal c) lt = (refl, (decimal_plain c (omega (arith, lt)), tt))
 step_plain (SignalAll c) lt = (refl, (decimal_plain c (omega (arith, lt)), tt))
 step_plain Drain lt = (refl, tt)
 
-pub line_plain : (seats : ℕ) (s : ℕ × Step) → seats < 2 ^ 32 → IsStep seats s → ArePlain (decimal s.0 ∷ step_words s.1)
+pub line_plain : (seats : ℕ) (s : ℕ × Step) → seats < 2 ^ 32 → IsStep seats s →
+    ArePlain (decimal s.0 ∷ step_words s.1)
 line_plain seats s small fits = (decimal_plain s.0 (omega (arith, fits.0)), step_plain s.1 fits.1)
 
 abbrev Found : Type 0
@@ -76,16 +86,26 @@ rest_is x y e = ap (λ (p : Found). p.1) (inside x y e)
 none_is : (x : Found) → None ≡ Some x → ⊥
 none_is x e = cc
 
-pub whole_line : (seats : ℕ) (s : ℕ × Step) → seats < 2 ^ 32 → IsStep seats s → line_at seats (words_of (step_line s)) ≡ Some (s, [])
+pub whole_line : (seats : ℕ) (s : ℕ × Step) → seats < 2 ^ 32 → IsStep seats s →
+    line_at seats (words_of (step_line s)) ≡ Some (s, [])
 whole_line seats s small fits =
-    ap (line_at seats) (words_again (decimal s.0) (step_words s.1) (line_plain seats s small fits)) ∙ line_again seats s small fits
+    ap (line_at seats) (words_again (decimal s.0) (step_words s.1) (line_plain seats s small fits))
+    ∙ line_again seats s small fits
 
-pub unread : (seats : ℕ) (line : List ℕ) → seats < 2 ^ 32 → None ≡ line_at seats (words_of line) → (s : ℕ × Step) → IsStep seats s → line ≡ step_line s → ⊥
-unread seats line small none s fits is = none_is (s, []) (none ∙ ap (λ (p : List ℕ). line_at seats (words_of p)) is ∙ whole_line seats s small fits)
+pub unread : (seats : ℕ) (line : List ℕ) → seats < 2 ^ 32 → None ≡ line_at seats (words_of line) →
+    (s : ℕ × Step) → IsStep seats s → line ≡ step_line s → ⊥
+unread seats line small none s fits is =
+    none_is (s, []) (none ∙ ap (λ (p : List ℕ). line_at seats (words_of p)) is ∙ whole_line seats s small fits)
 
-pub not_all_read : (seats : ℕ) (line : List ℕ) (found : ℕ × Step) (w : List ℕ) (ws : Words) → seats < 2 ^ 32 → Some (found, w ∷ ws) ≡ line_at seats (words_of line) → (s : ℕ × Step) → IsStep seats s → line ≡ step_line s → ⊥
+pub not_all_read : (seats : ℕ) (line : List ℕ) (found : ℕ × Step) (w : List ℕ) (ws : Words) →
+    seats < 2 ^ 32 → Some (found, w ∷ ws) ≡ line_at seats (words_of line) → (s : ℕ × Step) →
+    IsStep seats s → line ≡ step_line s → ⊥
 not_all_read seats line found w ws small some s fits is =
-    let e : w ∷ ws ≡ [] = rest_is (found, w ∷ ws) (s, []) (some ∙ ap (λ (p : List ℕ). line_at seats (words_of p)) is ∙ whole_line seats s small fits) in cc
+    let e : w ∷ ws ≡ [] =
+    rest_is (found, w ∷ ws) (s, []) (some ∙ ap (λ (p : List ℕ). line_at seats (words_of p)) is
+    ∙ whole_line seats s small fits) in cc
 
-pub is_step_line : (line : List ℕ) (s : ℕ × Step) → words_of line ≡ (decimal s.0 ∷ step_words s.1) ++ [] → line ≡ step_line s
-is_step_line line s e = sym (join_with_byte-slice_split 32 line) ∙ ap line_of (e ∙ append-nil (decimal s.0 ∷ step_words s.1))
+pub is_step_line : (line : List ℕ) (s : ℕ × Step) → words_of line ≡ (decimal s.0 ∷ step_words s.1) ++ [] →
+    line ≡ step_line s
+is_step_line line s e = sym (join_with_byte-slice_split 32 line)
+    ∙ ap line_of (e ∙ append-nil (decimal s.0 ∷ step_words s.1))

@@ -43,7 +43,8 @@ IsStep seats s = (s.0 < seats) × HasAmounts s.1
 -- the words of a step and a break begin the text, and so many bytes follow
 abbrev pub BeginsWith : List ℕ → Step × ℕ → Type 0
 BeginsWith text found =
-    HasAmounts found.0 × ((rest : List ℕ) × (text ≡ ended (line_of (step_words found.0)) ++ rest) × (length rest ≡ found.1))
+    HasAmounts found.0 × ((rest : List ℕ) × (text ≡ ended (line_of (step_words found.0)) ++ rest)
+    × (length rest ≡ found.1))
 
 -- the seat, a space and the step
 abbrev pub step_line : ℕ × Step → List ℕ

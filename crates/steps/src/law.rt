@@ -8,10 +8,12 @@ ghost use Rattle.steps.specs.StepsText.{steps_form};
 
 /// A text has one reading: it spells one header and one list of steps, or it has one first fault.
 pub fn one_reading()
-    ensures { (text : List ℕ) (a b : Reading Header (ℕ × Step)) → IsReading steps_form text a → IsReading steps_form text b → a ≡ b }
+    ensures { (text : List ℕ) (a b : Reading Header (ℕ × Step)) → IsReading steps_form text a →
+        IsReading steps_form text b → a ≡ b }
 {}
 
 /// Each proper beginning of a steps text is cut short.
 pub fn cut_short()
-    ensures { (text : List ℕ) (h : Header) (steps : List (ℕ × Step)) → IsText steps_form text h steps → (front more : List ℕ) → front ++ more ≡ text → more ≢ [] → IsCutShort steps_form front }
+    ensures { (text : List ℕ) (h : Header) (steps : List (ℕ × Step)) → IsText steps_form text h steps →
+        (front more : List ℕ) → front ++ more ≡ text → more ≢ [] → IsCutShort steps_form front }
 {}

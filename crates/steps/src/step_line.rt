@@ -16,7 +16,8 @@ use history::words::Words;
 #[inline(always)]
 fn asked(words: &mut Words<'_>) -> Option<(Mode, u32)>
     ensures is { with_rest result words.new ≡ asked_at words.old }
-    ensures found { IfSome result (λ a. (words.old ≡ mode_word a.0 ∷ decimal a.1 ∷ words.new) × (a.1 < 2 ^ 32)) }
+    ensures found { IfSome result (λ a. (words.old ≡ mode_word a.0 ∷ decimal a.1 ∷ words.new)
+        × (a.1 < 2 ^ 32)) }
 {
     let mode = words.mode()?;
     let n = words.number(0, 4_294_967_295)?;
@@ -78,7 +79,8 @@ fn step(words: &mut Words<'_>) -> Option<Step>
 fn seat_and_step(words: &mut Words<'_>, seats: u16) -> Option<(u16, Step)>
     requires { 1 ≤ seats }
     ensures is { with_rest result words.new ≡ line_at seats words.old }
-    ensures found { IfSome result (λ s. IsStep seats s × (words.old ≡ (decimal s.0 ∷ step_words s.1) ++ words.new)) }
+    ensures found { IfSome result (λ s. IsStep seats s
+        × (words.old ≡ (decimal s.0 ∷ step_words s.1) ++ words.new)) }
 {
     let seat = words.number(0, u64::from(seats - 1))?;
     let step = step(words)?;

@@ -8,25 +8,31 @@ ranged xs at end ordered =
     let parts : end ≡ at + (end - at) = omega (arith, ordered) in
     sym (ap (λ (j : ℕ). drop at (take j xs)) parts ∙ drop-take at (end - at) xs)
 
-pub grown : (xs read post rest : List ℕ) (at end n most : ℕ) → at ≤ end → end ≤ length xs → n ≤ length read → end + n ≤ most
-    → slice_range (take most ((take end xs ++ (read ++ post)) ++ rest)) at (end + n) ≡ slice_range xs at end ++ take n read
+pub grown : (xs read post rest : List ℕ) (at end n most : ℕ) → at ≤ end → end ≤ length xs →
+    n ≤ length read → end + n ≤ most
+    → slice_range (take most ((take end xs ++ (read ++ post)) ++ rest)) at (end + n) ≡ slice_range xs at end
+    ++ take n read
 grown xs read post rest at end n most ordered within fits room =
     let front = take end xs in
     let len : length front ≡ end = length-take-le end xs within in
     let behind = (read ++ post) ++ rest in
     let all : take (end + n) (front ++ behind) ≡ front ++ take n read =
     ap (λ (j : ℕ). take (j + n) (front ++ behind)) (sym len) ∙ take-append-add front behind n
-    ∙ ap (λ (t : List ℕ). front ++ take n t) (append_assoc read post rest) ∙ ap (λ (t : List ℕ). front ++ t) (take-append-le n read (post ++ rest) fits) in
+    ∙ ap (λ (t : List ℕ). front ++ take n t) (append_assoc read post rest)
+    ∙ ap (λ (t : List ℕ). front ++ t) (take-append-le n read (post ++ rest) fits) in
     ranged (take most ((front ++ (read ++ post)) ++ rest)) at (end + n) (omega (arith, ordered))
-    ∙ ap (drop at) (take-take (end + n) most ((front ++ (read ++ post)) ++ rest) room ∙ ap (take (end + n)) (append_assoc front (read ++ post) rest) ∙ all)
+    ∙ ap (drop at) (take-take (end + n) most ((front ++ (read ++ post)) ++ rest) room
+    ∙ ap (take (end + n)) (append_assoc front (read ++ post) rest) ∙ all)
     ∙ drop-append-le at front (take n read) (omega (arith, len, ordered))
     ∙ ap (λ (t : List ℕ). t ++ take n read) (sym (ranged xs at end ordered))
 
 -- so many bytes are kept
-pub kept_last : (xs : List ℕ) (at end left : ℕ) → at ≤ end → end ≤ length xs → left ≤ length (slice_range xs at end)
+pub kept_last : (xs : List ℕ) (at end left : ℕ) → at ≤ end → end ≤ length xs →
+    left ≤ length (slice_range xs at end)
     → slice_range xs (end - left) end ≡ drop (length (slice_range xs at end) - left) (slice_range xs at end)
 kept_last xs at end left ordered within few =
-    let len : length (slice_range xs at end) ≡ end - at = length-take-le (end - at) (drop at xs) (omega (arith, length-drop at xs, ordered, within)) in
+    let len : length (slice_range xs at end) ≡ end - at =
+    length-take-le (end - at) (drop at xs) (omega (arith, length-drop at xs, ordered, within)) in
     let gone = length (slice_range xs at end) - left in
     let from : end - left ≡ at + gone = omega (arith, len, few, ordered) in
     let all : end - at ≡ gone + (end - (end - left)) = omega (arith, len, few, ordered) in

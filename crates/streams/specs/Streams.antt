@@ -9,11 +9,15 @@ use Rattle.streams.specs.Whole.{AppendsFront}
 
 -- From the bytes that a source has, and what a sink held before and holds after. A text of the form is
 -- answered by a value, and by what is written.
-abbrev pub Streams : {H I T : Type 0} → Form H I → (List ℕ → T → (List ℕ → Type 0) → Type 0) → Option (List ℕ) → Option (List ℕ) → Option (List ℕ) → Result T StreamFault → Type 0
-Streams {H} {I} {T} form Answers left old new (Ok answer) = IfSome left (λ text. Answers text answer (Appends old new))
-Streams {H} {I} {T} form Answers left old new (Err (Text fault)) = IfSome left (λ text. IsReading form text (Err fault)) × Keeps old new
+abbrev pub Streams : {H I T : Type 0} → Form H I → (List ℕ → T → (List ℕ → Type 0) → Type 0) →
+    Option (List ℕ) → Option (List ℕ) → Option (List ℕ) → Result T StreamFault → Type 0
+Streams {H} {I} {T} form Answers left old new (Ok answer) =
+    IfSome left (λ text. Answers text answer (Appends old new))
+Streams {H} {I} {T} form Answers left old new (Err (Text fault)) =
+    IfSome left (λ text. IsReading form text (Err fault)) × Keeps old new
 Streams {H} {I} {T} form Answers left old new (Err ReadFailed) = Keeps old new
-Streams {H} {I} {T} form Answers left old new (Err WriteFailed) = IfSome left (λ text. (answer : T) × Answers text answer (AppendsFront old new))
+Streams {H} {I} {T} form Answers left old new (Err WriteFailed) =
+    IfSome left (λ text. (answer : T) × Answers text answer (AppendsFront old new))
 Streams {H} {I} {T} form Answers left old new (Err Memory) = Keeps old new
 
 -- of a text with a fault nothing is left

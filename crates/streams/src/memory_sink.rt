@@ -27,9 +27,16 @@ impl Model for MemorySink {
 
     ghost Value = { Store };
 
-    ghost view = { λ s. record { held = s.bytes.items; free = s.places - length s.bytes.items; piece = s.piece; fails_at = s.fails_at; failed = s.failed } };
+    ghost view = { λ s. record {
+      held = s.bytes.items;
+      free = s.places - length s.bytes.items;
+      piece = s.piece;
+      fails_at = s.fails_at;
+      failed = s.failed;
+    } };
 
-    ghost invariant = { λ s. (0 < s.piece) × (length s.bytes.items ≤ s.places) × (s.places ≤ vec_capacity s.bytes) };
+    ghost invariant = { λ s. (0 < s.piece) × (length s.bytes.items ≤ s.places)
+        × (s.places ≤ vec_capacity s.bytes) };
 }
 
 impl MemorySink {
@@ -44,7 +51,13 @@ impl MemorySink {
         fails_at: Option<u64>,
     ) -> Result<Self, AllocError>
         requires { 0 < piece }
-        ensures { IfOk result (λ s. s ≡ record { held = []; free = places; piece = piece; fails_at = fails_at; failed = false }) }
+        ensures { IfOk result (λ s. s ≡ record {
+          held = [];
+          free = places;
+          piece = piece;
+          fails_at = fails_at;
+          failed = false;
+        }) }
     {
         Ok(MemorySink {
             bytes: Vec::with_capacity(alloc, places)?,
@@ -76,7 +89,8 @@ impl Sink for MemorySink {
         ensures failing { IsTrue self.new.failed ↔ IsErr result }
 
         ensures takes { IfOk result (λ n. n ≡ min self.old.piece (min (length piece.now) self.old.free)) }
-        ensures fails { IsErr result ↔ ((self.old.fails_at ≡ Some 0) ⊎ ((self.old.free ≡ 0) × (0 < length piece.now))) }
+        ensures fails { IsErr result ↔ ((self.old.fails_at ≡ Some 0)
+            ⊎ ((self.old.free ≡ 0) × (0 < length piece.now))) }
         ensures turn { OnOk result (self.new.fails_at ≡ one_fewer self.old.fails_at) }
         ensures piece { self.new.piece ≡ self.old.piece }
         ensures free { IfOk result (λ n. self.new.free ≡ self.old.free - n) }

@@ -30,7 +30,11 @@ impl Model for Window {
 
     ghost Value = { Seen };
 
-    ghost view = { λ w. record { bytes = slice_range w.bytes.items w.at w.end; passed = w.at; places = length w.bytes.items } };
+    ghost view = { λ w. record {
+      bytes = slice_range w.bytes.items w.at w.end;
+      passed = w.at;
+      places = length w.bytes.items;
+    } };
 
     ghost invariant = { λ w. (w.at ≤ w.end) × (w.end ≤ length w.bytes.items) };
 }
@@ -92,10 +96,12 @@ impl Window {
     /// nothing, and the same bytes stand in the window.
     pub fn read_more<R: Source>(&mut self, reader: &mut R) -> Result<usize, StreamFault>
         requires { R.failed reader.old ≡ false }
-        ensures grows { IfOk result (Grows self.old.bytes self.new.bytes (R.left reader.old) (R.left reader.new)) }
+        ensures grows { IfOk result (Grows self.old.bytes self.new.bytes
+            (R.left reader.old) (R.left reader.new)) }
         ensures end { IfOk result (λ n. n ≡ 0 → IsAtEnd (R.left reader.new)) }
         ensures few { OnOk result (length self.new.bytes < 2 ^ 64) }
-        ensures kept { OnErr result ((self.new.bytes ≡ self.old.bytes) × Keeps (R.left reader.old) (R.left reader.new)) }
+        ensures kept { OnErr result ((self.new.bytes ≡ self.old.bytes)
+            × Keeps (R.left reader.old) (R.left reader.new)) }
         ensures passed { self.new.passed ≡ 0 }
         ensures room { self.new.places ≤ max self.old.places (length self.old.bytes + 65536) }
         ensures failing { IsErrOf result StreamFault.ReadFailed ↔ IsTrue (R.failed reader.new) }

@@ -18,7 +18,8 @@ follow-requires c =
       header = k;
       entries = front n h;
       judged = c.loop-number.invariant;
-      seat = next_seat (opening k) h n c.in-Some.entry c.requires.seated less (sym c.get.ensures ∙ c.in-Some.is);
+      seat = next_seat (opening k) h n c.in-Some.entry c.requires.seated less (sym c.get.ensures
+          ∙ c.in-Some.is);
       room = omega (arith, long, less, end.value, end.few);
     }
 

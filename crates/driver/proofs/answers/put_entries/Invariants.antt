@@ -9,7 +9,9 @@ invariant-loop-number g l = record {
   going : g.W.Sink.failed l.writer ≡ false;
   since : l.fn.from ≤ l.number;
   upto : l.number - l.fn.from ≤ l.fn.to - l.fn.from;
-  added : IsGathered (g.W.Sink.held l.fn.writer) l.fn.lines.bytes (g.W.Sink.held l.writer) l.lines.bytes (lines_of history_form l.fn.from (take (l.number - l.fn.from) (drop l.fn.from (reverse l.fn.history.entries))));
+  added : IsGathered (g.W.Sink.held l.fn.writer) l.fn.lines.bytes (g.W.Sink.held l.writer) l.lines.bytes
+      (lines_of history_form l.fn.from
+      (take (l.number - l.fn.from) (drop l.fn.from (reverse l.fn.history.entries))));
 }
 
 abbrev pub decreases-loop-number : goal.decreases-loop-number

@@ -15,30 +15,44 @@ pub returns-in_err-put_entries-clause-adds : goal.returns-in_err-put_entries-cla
 returns-in_err-put_entries-clause-adds g c =
     let es = reverse c.args.history.now.entries in
     let told = c.loop-remark.invariant.added in
-    let all = told_on es c.args.remarks.now c.loop-remark.remark-index c.loop-remark.number no_remark _ told.0 c.loop-remark-test.true told.2 in
+    let all =
+    told_on es c.args.remarks.now c.loop-remark.remark-index c.loop-remark.number no_remark _ told.0
+    c.loop-remark-test.true told.2 in
     gathers_failed _ _ c.args.lines.now.bytes _ _ c.from_residual.result c.from_residual.ensures.0
-    (front_of_all _ _ _ c.args.lines.now.bytes c.loop-remark.lines.bytes told.0 _ _ _ told.1 (rw c.from-before.ensures at c.in_err-put_entries.ensures.adds) all)
+    (front_of_all _ _ _ c.args.lines.now.bytes c.loop-remark.lines.bytes told.0 _ _ _ told.1
+    (rw c.from-before.ensures at c.in_err-put_entries.ensures.adds) all)
 
 pub returns-in_err-put_remark-clause-adds : goal.returns-in_err-put_remark-clause-adds
 returns-in_err-put_remark-clause-adds g c =
     let es = reverse c.args.history.now.entries in
     let told = c.loop-remark.invariant.added in
-    let all = told_further es c.args.remarks.now c.loop-remark.remark-index c.loop-remark.number no_remark _ told.0 c.loop-remark-test.true told.2 in
-    let entries = gathered_more _ _ _ c.args.lines.now.bytes c.loop-remark.lines.bytes c.put_entries.new.lines.bytes told.0 _ told.1 (rw c.from-before.ensures at c.in_ok-put_entries.ensures.adds) in
-    gathers_failed _ _ c.args.lines.now.bytes _ _ c.from_residual-in_err-put_remark.result c.from_residual-in_err-put_remark.ensures.0
-    (front_of_all _ _ _ c.args.lines.now.bytes c.put_entries.new.lines.bytes _ _ _ _ entries c.in_err-put_remark.ensures.adds all)
+    let all =
+    told_further es c.args.remarks.now c.loop-remark.remark-index c.loop-remark.number no_remark _
+    told.0 c.loop-remark-test.true told.2 in
+    let entries =
+    gathered_more _ _ _ c.args.lines.now.bytes c.loop-remark.lines.bytes c.put_entries.new.lines.bytes
+    told.0 _ told.1 (rw c.from-before.ensures at c.in_ok-put_entries.ensures.adds) in
+    gathers_failed _ _ c.args.lines.now.bytes _ _ c.from_residual-in_err-put_remark.result
+    c.from_residual-in_err-put_remark.ensures.0
+    (front_of_all _ _ _ c.args.lines.now.bytes c.put_entries.new.lines.bytes _ _ _ _ entries
+    c.in_err-put_remark.ensures.adds all)
 
 pub loop-remark-preserved : goal.loop-remark-preserved
 loop-remark-preserved g c =
     let es = reverse c.args.history.now.entries in
     let told = c.loop-remark.invariant.added in
-    let all = told_further es c.args.remarks.now c.loop-remark.remark-index c.loop-remark.number no_remark _ told.0 c.loop-remark-test.true told.2 in
-    let entries = gathered_more _ _ _ c.args.lines.now.bytes c.loop-remark.lines.bytes c.put_entries.new.lines.bytes told.0 _ told.1 (rw c.from-before.ensures at c.in_ok-put_entries.ensures.adds) in
+    let all =
+    told_further es c.args.remarks.now c.loop-remark.remark-index c.loop-remark.number no_remark _
+    told.0 c.loop-remark-test.true told.2 in
+    let entries =
+    gathered_more _ _ _ c.args.lines.now.bytes c.loop-remark.lines.bytes c.put_entries.new.lines.bytes
+    told.0 _ told.1 (rw c.from-before.ensures at c.in_ok-put_entries.ensures.adds) in
     record {
       going = not_true (g.W.Sink.failed c.put_remark.new.writer) (λ t. c.in_ok-put_remark.ensures.failing.0 t);
       added = (
         _,
-        gathered_more _ _ _ c.args.lines.now.bytes c.put_entries.new.lines.bytes c.put_remark.new.lines.bytes _ _ entries c.in_ok-put_remark.ensures.adds,
+        gathered_more _ _ _ c.args.lines.now.bytes c.put_entries.new.lines.bytes
+            c.put_remark.new.lines.bytes _ _ entries c.in_ok-put_remark.ensures.adds,
         rw (c.from-before.ensures, c.entries.ensures) all,
       );
     }
@@ -47,6 +61,11 @@ pub returns-clause-adds : goal.returns-clause-adds
 returns-clause-adds g c =
     let es = reverse c.args.history.now.entries in
     let told = c.loop-remark.invariant.added in
-    let all = told_last es c.args.remarks.now c.loop-remark.remark-index c.loop-remark.number c.len.result _ told.0 c.loop-remark-test.false (c.len.ensures.value ∙ sym (length-reverse c.args.history.now.entries)) told.2 in
-    subst (Gathers (g.W.Sink.held c.args.writer.now) c.args.lines.now.bytes c.put_entries-2.result (g.W.Sink.held c.put_entries-2.new.writer) c.put_entries-2.new.lines.bytes) (sym all)
-    (gathers_more _ _ _ c.args.lines.now.bytes c.loop-remark.lines.bytes c.put_entries-2.new.lines.bytes told.0 _ c.put_entries-2.result told.1 c.put_entries-2.ensures.adds)
+    let all =
+    told_last es c.args.remarks.now c.loop-remark.remark-index c.loop-remark.number c.len.result _
+    told.0 c.loop-remark-test.false (c.len.ensures.value
+    ∙ sym (length-reverse c.args.history.now.entries)) told.2 in
+    subst (Gathers (g.W.Sink.held c.args.writer.now) c.args.lines.now.bytes c.put_entries-2.result
+    (g.W.Sink.held c.put_entries-2.new.writer) c.put_entries-2.new.lines.bytes) (sym all)
+    (gathers_more _ _ _ c.args.lines.now.bytes c.loop-remark.lines.bytes c.put_entries-2.new.lines.bytes
+    told.0 _ c.put_entries-2.result told.1 c.put_entries-2.ensures.adds)

@@ -6,6 +6,8 @@ use Rattle.driver.proofs.answers.put_lines.Given as goal
 abbrev pub invariant-loop-remark : goal.invariant-loop-remark
 invariant-loop-remark g l = record {
   going : g.W.Sink.failed l.writer ≡ false;
-  added : (told : List ℕ) × IsGathered (g.W.Sink.held l.fn.writer) l.fn.lines.bytes (g.W.Sink.held l.writer) l.lines.bytes told
-      × (told_lines (reverse l.fn.history.entries) 0 l.fn.remarks ≡ told ++ told_lines (reverse l.fn.history.entries) l.number (drop l.remark-index l.fn.remarks));
+  added : (told : List ℕ) × IsGathered (g.W.Sink.held l.fn.writer) l.fn.lines.bytes (g.W.Sink.held l.writer)
+      l.lines.bytes told
+      × (told_lines (reverse l.fn.history.entries) 0 l.fn.remarks ≡ told
+      ++ told_lines (reverse l.fn.history.entries) l.number (drop l.remark-index l.fn.remarks));
 }

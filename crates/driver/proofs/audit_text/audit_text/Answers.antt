@@ -18,7 +18,8 @@ weaker (Ok x) more p = more x p
 weaker (Err e) more p = p
 
 -- the calls of a history are counted as its list counts them
-legal_said : (k : Header) (h : List Entry) (object : Object) (entries counted : ℕ) (t : Totals) → k.object ≡ object → entries ≡ length h → counted ≡ ended_calls h
+legal_said : (k : Header) (h : List Entry) (object : Object) (entries counted : ℕ) (t : Totals) →
+    k.object ≡ object → entries ≡ length h → counted ≡ ended_calls h
     → t ≡ totals_of (opening k) h → legal_text object entries counted t ≡ audit_text k h Legal
 legal_said k h object entries counted t same long ended sums =
     let ends : ended_calls h ≡ calls (opening k) h = omega (arith, calls-ended (opening k) h) in
@@ -27,5 +28,6 @@ legal_said k h object entries counted t same long ended sums =
 pub returns-in-Legal : goal.returns-in-Legal
 returns-in-Legal c = λ k h same long ended judged.
     let is = rw c.in-Legal.is at judged in
-    let said = legal_said k h c.args.object c.args.entries c.args.calls c.in-Legal.totals same long ended is.1 in
+    let said =
+    legal_said k h c.args.object c.args.entries c.args.calls c.in-Legal.totals same long ended is.1 in
     rw c.in-Legal.is (weaker c.legal_text.result (λ text is. is ∙ said) c.legal_text.ensures)

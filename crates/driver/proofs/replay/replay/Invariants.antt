@@ -8,7 +8,8 @@ invariant-loop-remarks g l = record {
   going : g.R.Source.failed l.reader ≡ false;
   same : l.steps.header ≡ l.initial.steps.header;
   header : (g.O.Answering.view_of l.object).header ≡ l.steps.header;
-  answering : Answering (progress l.initial.steps (g.R.Source.left l.initial.reader)) (progress l.steps (g.R.Source.left l.reader)) (g.O.Answering.view_of l.object).entries l.remarks.items;
+  answering : Answering (progress l.initial.steps (g.R.Source.left l.initial.reader))
+      (progress l.steps (g.R.Source.left l.reader)) (g.O.Answering.view_of l.object).entries l.remarks.items;
 }
 
 abbrev pub decreases-loop-remarks : goal.decreases-loop-remarks

@@ -2,4 +2,5 @@ use Rattle.driver.proofs.Behind.{replays}
 use Rattle.driver.proofs.replay_stream.replay_stream.Goals as goal
 
 pub returns-in-Ok-clause-replays : goal.returns-in-Ok-clause-replays
-returns-in-Ok-clause-replays g c = replays c.args.form _ _ _ c.in-Ok.answers c.write.result c.in-Ok.ensures.ok c.write.ensures.writes
+returns-in-Ok-clause-replays g c =
+    replays c.args.form _ _ _ c.in-Ok.answers c.write.result c.in-Ok.ensures.ok c.write.ensures.writes

@@ -21,7 +21,8 @@ returns c =
         words.1.0,
         line_begins (decimal c.args.number) (decimal entry.seat) (line_of (entry_words entry)) text
             (drop seat_at text) (drop words_at from_seat) words.1.0 c.in_ok-seat_at.ensures.number
-            (sym (take_rest text seat_at) ∙ rw seat c.in_ok-seat.ensures.seat) (sym (take_rest from_seat words_at) ∙ words.1.1),
+            (sym (take_rest text seat_at) ∙ rw seat c.in_ok-seat.ensures.seat)
+            (sym (take_rest from_seat words_at) ∙ words.1.1),
         words.1.2,
       ),
     )

@@ -6,7 +6,10 @@ pub returns-clause-rest : goal.returns-clause-rest
 returns-clause-rest c =
     let m = c.args.at + 108 in
     let space : drop m c.put_byte-seat_at.new.line ≡ drop m c.args.line.now = grind (arith, rest_behind) in
-    let seat : drop m c.spell-gap_at.new.line ≡ drop m c.put_byte-seat_at.new.line = grind (arith, rest_behind) in
-    let gap : drop m c.put_byte-words_at.new.line ≡ drop m c.spell-gap_at.new.line = grind (arith, rest_behind) in
-    let words : drop m c.spell_words.new.line ≡ drop m c.put_byte-words_at.new.line = grind (arith, rest_behind) in
+    let seat : drop m c.spell-gap_at.new.line ≡ drop m c.put_byte-seat_at.new.line =
+    grind (arith, rest_behind) in
+    let gap : drop m c.put_byte-words_at.new.line ≡ drop m c.spell-gap_at.new.line =
+    grind (arith, rest_behind) in
+    let words : drop m c.spell_words.new.line ≡ drop m c.put_byte-words_at.new.line =
+    grind (arith, rest_behind) in
     words ∙ gap ∙ seat ∙ space

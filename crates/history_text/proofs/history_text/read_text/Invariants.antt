@@ -6,7 +6,9 @@ use Rattle.history_text.proofs.history_text.read_text.Given as goal
 
 abbrev pub invariant-loop-history : goal.invariant-loop-history
 invariant-loop-history l = record {
-  read : AreRead history_form l.text (entries_so_far l.header (length l.history.entries) (ended_calls l.history.entries)) (reverse l.history.entries) l.rest;
+  read : AreRead history_form l.text
+      (entries_so_far l.header (length l.history.entries) (ended_calls l.history.entries))
+      (reverse l.history.entries) l.rest;
   cap : l.history.cap ≡ l.header.cap;
   owed : l.history.owed ≡ 0;
 }

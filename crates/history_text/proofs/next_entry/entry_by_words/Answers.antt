@@ -7,12 +7,18 @@ use Rattle.history_text.proofs.next_entry.entry_by_words.Goals as goal
 
 pub returns-then-is_empty-clause-line : goal.returns-then-is_empty-clause-line
 returns-then-is_empty-clause-line c = λ text.
-    let end = counts_end c.args.header.now c.args.count c.args.calls c.args.rest.now c.in-Some.line.now (c.is_end.ensures.0 c.if-is_end.true) in
-    all_read history_form text (entries_so_far c.args.header.now c.args.count c.args.calls) c.args.rest.now c.in-Some.line.now c.in-Some.after.now c.in-Some.ensures.0
+    let end =
+    counts_end c.args.header.now c.args.count c.args.calls c.args.rest.now c.in-Some.line.now
+    (c.is_end.ensures.0 c.if-is_end.true) in
+    all_read history_form text (entries_so_far c.args.header.now c.args.count c.args.calls) c.args.rest.now
+    c.in-Some.line.now c.in-Some.after.now c.in-Some.ensures.0
     end (eqb-true _ _ (sym c.is_empty.ensures ∙ c.if-is_empty.true))
 
 pub returns-then-is_end-clause-line : goal.returns-then-is_end-clause-line
 returns-then-is_end-clause-line c = λ text.
-    let end = counts_end c.args.header.now c.args.count c.args.calls c.args.rest.now c.in-Some.line.now (c.is_end.ensures.0 c.if-is_end.true) in
-    more_behind history_form text (entries_so_far c.args.header.now c.args.count c.args.calls) c.args.rest.now c.in-Some.line.now c.in-Some.after.now c.in-Some.ensures.0
+    let end =
+    counts_end c.args.header.now c.args.count c.args.calls c.args.rest.now c.in-Some.line.now
+    (c.is_end.ensures.0 c.if-is_end.true) in
+    more_behind history_form text (entries_so_far c.args.header.now c.args.count c.args.calls)
+    c.args.rest.now c.in-Some.line.now c.in-Some.after.now c.in-Some.ensures.0
     end (sym c.is_empty.ensures ∙ c.if-is_empty.false)

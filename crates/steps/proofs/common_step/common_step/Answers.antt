@@ -5,5 +5,12 @@ use Rattle.steps.proofs.common_step.common_step.Goals as goal
 
 pub returns : goal.returns
 returns c =
-    let ahead = c.in_ok-step.ensures in
-    ((search (rules, arith), ahead.0), (ahead.1.0, behind_seat c.args.text.now _ _ ahead.1.0 (c.in_ok-seat.seat, c.in_ok-step.step) c.in_ok-seat.ensures.seat refl (sym (take_rest c.args.text.now c.in_ok-seat.at) ∙ ahead.1.1), ahead.1.2))
+    let ahead = c.in_ok-step.ensures in (
+      (search (rules, arith), ahead.0),
+      (
+        ahead.1.0,
+        behind_seat c.args.text.now _ _ ahead.1.0 (c.in_ok-seat.seat, c.in_ok-step.step)
+            c.in_ok-seat.ensures.seat refl (sym (take_rest c.args.text.now c.in_ok-seat.at) ∙ ahead.1.1),
+        ahead.1.2,
+      ),
+    )

@@ -3,10 +3,14 @@ use Rattle.steps.proofs.StepLemmas.{unread, not_all_read, is_step_line}
 use Rattle.steps.proofs.step_line.step_of.Goals as goal
 
 pub returns-in_err-asked-clause-none : goal.returns-in_err-asked-clause-none
-returns-in_err-asked-clause-none c = rw c.from_residual.ensures (unread c.args.seats c.args.line.now (omega arith) (rw c.of-words.ensures at c.in_err-asked.ensures.is))
+returns-in_err-asked-clause-none c =
+    rw c.from_residual.ensures (unread c.args.seats c.args.line.now (omega arith)
+    (rw c.of-words.ensures at c.in_err-asked.ensures.is))
 
 pub returns-in-Some-clause-none : goal.returns-in-Some-clause-none
-returns-in-Some-clause-none c = not_all_read c.args.seats c.args.line.now c.in_ok-asked.asked _ _ (omega arith) (rw (c.of-words.ensures, c.in-Some.ensures) at c.in_ok-asked.ensures.is)
+returns-in-Some-clause-none c =
+    not_all_read c.args.seats c.args.line.now c.in_ok-asked.asked _ _ (omega arith)
+    (rw (c.of-words.ensures, c.in-Some.ensures) at c.in_ok-asked.ensures.is)
 
 pub returns-in-None-clause-found : goal.returns-in-None-clause-found
 returns-in-None-clause-found c =

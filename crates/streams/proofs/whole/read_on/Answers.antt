@@ -9,10 +9,12 @@ loop-init g c = record { going = c.requires; read = none_read (g.R.Source.left c
 pub loop-preserved : goal.loop-preserved
 loop-preserved g c = record {
   going = not_true (g.R.Source.failed c.read.new.self) (λ t. c.in-Ok.ensures.failing.0 t);
-  read = one_read (g.R.Source.left c.args.reader.now) (g.R.Source.left c.loop.reader) (g.R.Source.left c.read.new.self) c.read.new.buf c.in-Ok.field-0 c.loop.counter c.loop.invariant.read
+  read = one_read (g.R.Source.left c.args.reader.now) (g.R.Source.left c.loop.reader)
+      (g.R.Source.left c.read.new.self) c.read.new.buf c.in-Ok.field-0 c.loop.counter c.loop.invariant.read
       c.in-Ok.ensures.bytes.0 c.in-Ok.ensures.bound c.in-Ok.field-0-test.1;
 }
 
 pub returns-clause-memory : goal.returns-clause-memory
 returns-clause-memory g c = λ is.
-    many_read (g.R.Source.left c.args.reader.now) (g.R.Source.left c.loop.reader) c.loop.counter c.loop.invariant.read (omega (arith, c.loop-test.false))
+    many_read (g.R.Source.left c.args.reader.now) (g.R.Source.left c.loop.reader) c.loop.counter
+    c.loop.invariant.read (omega (arith, c.loop-test.false))

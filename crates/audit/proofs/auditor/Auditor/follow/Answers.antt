@@ -9,7 +9,8 @@ use Rattle.audit.proofs.auditor.Auditor.follow.Goals.{in-Some, in-None+then-admi
 pub admits-requires : goal.admits-requires
 admits-requires c =
     let r = c.requires in
-    has_seat (opening r.header) r.entries c.args.self.now.ledger c.args.entry.seat (rw c.in-None.is at r.judged.so_far) r.seat r.room
+    has_seat (opening r.header) r.entries c.args.self.now.ledger c.args.entry.seat
+    (rw c.in-None.is at r.judged.so_far) r.seat r.room
 
 pub note-requires-clause-signal : goal.note-requires-clause-signal
 note-requires-clause-signal c =
@@ -24,13 +25,21 @@ returns-clause-judged c = λ k h was seat.
     elim c.match-self.branch [
       | in-Some w ↦
           let so_far = rw w.in-Some.is at was.so_far in
-          rw w.self-is (record { count = omega (arith, was.count); so_far = rw w.in-Some.is (wrong_still k h e _ so_far.0 so_far.1) })
+          rw w.self-is (record {
+            count = omega (arith, was.count);
+            so_far = rw w.in-Some.is (wrong_still k h e _ so_far.0 so_far.1);
+          })
       | in-None+then-admits+in-Ok w ↦
           let stands = rw w.in-None.is at was.so_far in
           let next = (w.admits.ensures s h stands).0 w.if-admits.true in
-          rw w.self-is (record { count = omega (arith, was.count); so_far = rw w.in-None.is (w.in-Ok.ensures.stand s h stands seat next) })
+          rw w.self-is (record {
+            count = omega (arith, was.count);
+            so_far = rw w.in-None.is (w.in-Ok.ensures.stand s h stands seat next);
+          })
       | in-None+else-admits w ↦
           let stands = rw w.in-None.is at was.so_far in
-          let wrong = wrong_now k h e stands.legal (λ next. false≢true (sym w.if-admits.false ∙ (w.admits.ensures s h stands).1 next)) in
+          let wrong =
+          wrong_now k h e stands.legal (λ next. false≢true (sym w.if-admits.false
+          ∙ (w.admits.ensures s h stands).1 next)) in
           rw w.self-is (record { count = omega (arith, was.count); so_far = rw was.count wrong })
     ]

@@ -9,4 +9,8 @@ shown v = record { header = v.header; entries = v.entries }
 
 pub returns : goal.returns
 returns g c =
-    elim c.step.ensures.answered [ inl a ↦ inl (record { answer = a.answer; entries = a.entries; header = a.header }) | inr b ↦ inr (b.0, ap shown b.1.unchanged) ]
+    elim c.step.ensures.answered [
+      | inl a ↦ inl (record { answer = a.answer; entries = a.entries; header = a.header })
+      | inr b ↦ inr
+          (b.0, ap shown b.1.unchanged)
+    ]

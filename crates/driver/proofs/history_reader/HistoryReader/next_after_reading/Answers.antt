@@ -13,7 +13,8 @@ returns-in_err-entry-clause-next g c =
     let cut = rw c.bytes.ensures at c.in_err-entry.ensures.cut in
     let passed = c.from_residual-in_err-entry in
     rw (← c.self.view_is) (next_kept history_form so_far _ _ passed.result _ c.in_ok-read_line.ensures.kept
-    (next_failed history_form so_far c.read_line.new.self.bytes (g.R.Source.left c.read_line.new.reader) passed.result _ c.in_err-entry.field-0.0 passed.ensures is
+    (next_failed history_form so_far c.read_line.new.self.bytes (g.R.Source.left c.read_line.new.reader)
+    passed.result _ c.in_err-entry.field-0.0 passed.ensures is
     (λ e. c.in_ok-read_line.ensures.whole (cut (ap (λ (f : TextFault). Err f) e)))))
 
 pub returns-in_default-clause-next : goal.returns-in_default-clause-next
@@ -22,13 +23,17 @@ returns-in_default-clause-next g c =
     let so_far = entries_so_far held.header held.count held.calls in
     let is = rw (c.in_default.is, c.bytes.ensures) at c.in_ok-entry.ensures.line in
     rw (← c.self.view_is) (next_kept history_form so_far _ _ c.end.result _ c.in_ok-read_line.ensures.kept
-    (ended_here history_form so_far c.read_line.new.self.bytes (g.R.Source.left c.read_line.new.reader) c.end.result _ is c.end.ensures.behind))
+    (ended_here history_form so_far c.read_line.new.self.bytes (g.R.Source.left c.read_line.new.reader)
+    c.end.result _ is c.end.ensures.behind))
 
 pub pass-requires : goal.pass-requires
 pass-requires g c =
     let held = c.self.inside in
-    let is = rw (c.in-Some.is, c.bytes.ensures) at c.in_ok-entry.ensures.line in
-    (line_within history_form (entries_so_far held.header held.count held.calls) c.read_line.new.self.bytes c.in-Some.entry c.in-Some.left is, (is []).1.fits.0)
+    let is = rw (c.in-Some.is, c.bytes.ensures) at c.in_ok-entry.ensures.line in (
+      line_within history_form (entries_so_far held.header held.count held.calls) c.read_line.new.self.bytes
+          c.in-Some.entry c.in-Some.left is,
+      (is []).1.fits.0,
+    )
 
 pub returns-clause-next : goal.returns-clause-next
 returns-clause-next g c = rw (← c.self.view_is) (λ text entries were.
@@ -38,7 +43,9 @@ returns-clause-next g c = rw (← c.self.view_is) (λ text entries were.
     let is = rw (c.in-Some.is, c.bytes.ensures) at c.in_ok-entry.ensures.line in
     let here = kept history_form text so_far _ _ entries c.in_ok-read_line.ensures.kept were in
     rw c.pass.ensures
-    (item_ahead history_form text so_far _ c.read_line.new.self.bytes (g.R.Source.left c.read_line.new.reader) entries e c.in-Some.left is (λ known. more_calls entries e held.calls known) here))
+    (item_ahead history_form text so_far _ c.read_line.new.self.bytes
+    (g.R.Source.left c.read_line.new.reader) entries e c.in-Some.left is
+    (λ known. more_calls entries e held.calls known) here))
 
 pub returns-clause-counted : goal.returns-clause-counted
 returns-clause-counted g c =

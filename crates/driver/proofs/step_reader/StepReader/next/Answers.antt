@@ -7,7 +7,8 @@ pub pass-requires : goal.pass-requires
 pass-requires g c =
     let held = c.self.inside in
     let is = rw (c.in-Ok-Some.field-0-is, c.bytes.ensures) at c.in-Ok-Some.ensures.line in
-    rw (← c.self.view_is) (line_within steps_form (steps_so_far held.header held.count) held.window.bytes c.in-Ok-Some.step c.in-Ok-Some.left is)
+    rw (← c.self.view_is) (line_within steps_form (steps_so_far held.header held.count) held.window.bytes
+    c.in-Ok-Some.step c.in-Ok-Some.left is)
 
 pub returns-in_ok-pass-in-Ok-Some-clause-next : goal.returns-in_ok-pass-in-Ok-Some-clause-next
 returns-in_ok-pass-in-Ok-Some-clause-next g c = λ text steps were.
@@ -16,7 +17,9 @@ returns-in_ok-pass-in-Ok-Some-clause-next g c = λ text steps were.
     let is = rw (c.in-Ok-Some.field-0-is, c.bytes.ensures) at c.in-Ok-Some.ensures.line in
     let here = rw (← c.self.view_is) at were in
     rw (c.in_ok-pass-in-Ok-Some.ensures.ok, ← c.self.view_is)
-    (item_ahead steps_form text so_far so_far.known held.window.bytes (g.R.Source.left c.args.reader.now) steps c.in-Ok-Some.step c.in-Ok-Some.left is (λ known. tt) here)
+    (item_ahead steps_form text so_far so_far.known held.window.bytes (g.R.Source.left c.args.reader.now)
+    steps c.in-Ok-Some.step c.in-Ok-Some.left is (λ known. tt) here)
 
 pub returns-in_ok-pass-in-Ok-Some-clause-seated : goal.returns-in_ok-pass-in-Ok-Some-clause-seated
-returns-in_ok-pass-in-Ok-Some-clause-seated g c = rw (← c.self.view_is) ((rw c.in-Ok-Some.field-0-is at c.in-Ok-Some.ensures.line) []).1.fits.0
+returns-in_ok-pass-in-Ok-Some-clause-seated g c =
+    rw (← c.self.view_is) ((rw c.in-Ok-Some.field-0-is at c.in-Ok-Some.ensures.line) []).1.fits.0

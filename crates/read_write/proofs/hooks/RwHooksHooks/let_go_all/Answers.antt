@@ -15,7 +15,8 @@ returns-then-holds-gt0-clause-answer c k h =
     let s = c.args.self.now in
     let e = let_go_is (state_of s) k (sound_of s) h c.args.who in
     let had : c.holds.result ≡ slice_index s.reads.items c.args.who = c.holds.ensures in
-    let reads : ltb 0 (slice_index s.reads.items c.args.who) ≡ true = lt-ltb _ _ (omega (arith, had, c.if-holds-gt0.true)) in
+    let reads : ltb 0 (slice_index s.reads.items c.args.who) ≡ true =
+    lt-ltb _ _ (omega (arith, had, c.if-holds-gt0.true)) in
     sym (e ∙ rw (← c.owns.ensures, c.if-not-owns.false) (rw reads refl))
 
 pub returns-clause-answer : goal.returns-clause-answer
@@ -23,5 +24,6 @@ returns-clause-answer c k h =
     let s = c.args.self.now in
     let e = let_go_is (state_of s) k (sound_of s) h c.args.who in
     let had : c.holds.result ≡ slice_index s.reads.items c.args.who = c.holds.ensures in
-    let reads : ltb 0 (slice_index s.reads.items c.args.who) ≡ false = le-ltb _ _ (omega (arith, had, c.if-holds-gt0.false)) in
+    let reads : ltb 0 (slice_index s.reads.items c.args.who) ≡ false =
+    le-ltb _ _ (omega (arith, had, c.if-holds-gt0.false)) in
     sym (e ∙ rw (← c.owns.ensures, c.if-not-owns.false) (rw reads (rw c.from.ensures refl)))

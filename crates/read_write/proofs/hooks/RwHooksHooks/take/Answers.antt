@@ -11,7 +11,8 @@ pub overflow_add-self : goal.overflow_add-self
 overflow_add-self c =
     let s = c.args.self.now in
     let r = c.requires in
-    let now_could = takes_write (state_of s) r.0 (sound_of s) r.1 c.args.who c.args.mode c.args._n c.in-X.is r.3 in
+    let now_could =
+    takes_write (state_of s) r.0 (sound_of s) r.1 c.args.who c.args.mode c.args._n c.in-X.is r.3 in
     let may = may_write (state_of s) c.args.who (sound_of s) now_could in
     omega (arith, may.below)
 
@@ -19,7 +20,8 @@ pub invariant_of-self : goal.invariant_of-self
 invariant_of-self c =
     let s = c.args.self.now in
     let r = c.requires in
-    let now_could = takes_write (state_of s) r.0 (sound_of s) r.1 c.args.who c.args.mode c.args._n c.in-X.is r.3 in
+    let now_could =
+    takes_write (state_of s) r.0 (sound_of s) r.1 c.args.who c.args.mode c.args._n c.in-X.is r.3 in
     let may = may_write (state_of s) c.args.who (sound_of s) now_could in
     let P : ℕ → Type 0 = λ seats. c.args.who < seats in
     let seat = subst P r.1.seats r.2 in
@@ -30,18 +32,22 @@ pub overflow_add-index_mut : goal.overflow_add-index_mut
 overflow_add-index_mut c =
     let s = c.args.self.now in
     let r = c.requires in
-    let now_could = takes_read (state_of s) r.0 (sound_of s) r.1 c.args.who c.args.mode c.args._n c.in-S.is r.3 in
+    let now_could =
+    takes_read (state_of s) r.0 (sound_of s) r.1 c.args.who c.args.mode c.args._n c.in-S.is r.3 in
     let may = may_read (state_of s) c.args.who now_could in
     let P : ℕ → Type 0 = λ seats. c.args.who < seats in
     let seat = subst P r.1.seats r.2 in
-    let room = room_for_read (state_of s) c.args.who c.from.result c.index_mut.result.now (sound_of s) c.from.ensures c.index_mut.ensures.value seat may.below in
+    let room =
+    room_for_read (state_of s) c.args.who c.from.result c.index_mut.result.now (sound_of s)
+    c.from.ensures c.index_mut.ensures.value seat may.below in
     omega (arith, room)
 
 pub overflow_add-self-in-S : goal.overflow_add-self-in-S
 overflow_add-self-in-S c =
     let s = c.args.self.now in
     let r = c.requires in
-    let now_could = takes_read (state_of s) r.0 (sound_of s) r.1 c.args.who c.args.mode c.args._n c.in-S.is r.3 in
+    let now_could =
+    takes_read (state_of s) r.0 (sound_of s) r.1 c.args.who c.args.mode c.args._n c.in-S.is r.3 in
     let may = may_read (state_of s) c.args.who now_could in
     omega (arith, may.below)
 
@@ -49,12 +55,15 @@ pub invariant_of-self-in-S : goal.invariant_of-self-in-S
 invariant_of-self-in-S c =
     let s = c.args.self.now in
     let r = c.requires in
-    let now_could = takes_read (state_of s) r.0 (sound_of s) r.1 c.args.who c.args.mode c.args._n c.in-S.is r.3 in
+    let now_could =
+    takes_read (state_of s) r.0 (sound_of s) r.1 c.args.who c.args.mode c.args._n c.in-S.is r.3 in
     let may = may_read (state_of s) c.args.who now_could in
     let P : ℕ → Type 0 = λ seats. c.args.who < seats in
     let seat = subst P r.1.seats r.2 in
     let more : ℕ → ℕ = λ had. had + 1 in
-    let same = same_place (state_of s) c.args.who c.from.result c.index_mut.result.now c.from.ensures c.index_mut.ensures.value seat more (s.readers + 1) in
+    let same =
+    same_place (state_of s) c.args.who c.from.result c.index_mut.result.now c.from.ensures
+    c.index_mut.ensures.value seat more (s.readers + 1) in
     let now = subst IsSound same (sound_read (state_of s) c.args.who (sound_of s) seat) in
     record { owned = now.owned; seated = now.seated; summed = now.summed }
 
@@ -62,7 +71,8 @@ pub returns-in-X-clause-taken : goal.returns-in-X-clause-taken
 returns-in-X-clause-taken c k h seat =
     let s = c.args.self.now in
     let r = c.requires in
-    let now_could = takes_write (state_of s) r.0 (sound_of s) r.1 c.args.who c.args.mode c.args._n c.in-X.is r.3 in
+    let now_could =
+    takes_write (state_of s) r.0 (sound_of s) r.1 c.args.who c.args.mode c.args._n c.in-X.is r.3 in
     let may = may_write (state_of s) c.args.who (sound_of s) now_could in
     rw c.in-X.is (stands_wrote (state_of s) k (sound_of s) h c.args.who c.args._n may seat)
 
@@ -70,7 +80,8 @@ pub returns-in-X-clause-alone : goal.returns-in-X-clause-alone
 returns-in-X-clause-alone c _ k h seat m j b _ _ ne =
     let s = c.args.self.now in
     let r = c.requires in
-    let now_could = takes_write (state_of s) r.0 (sound_of s) r.1 c.args.who c.args.mode c.args._n c.in-X.is r.3 in
+    let now_could =
+    takes_write (state_of s) r.0 (sound_of s) r.1 c.args.who c.args.mode c.args._n c.in-X.is r.3 in
     let may = may_write (state_of s) c.args.who (sound_of s) now_could in
     rw c.in-X.is (wrote_alone (state_of s) k (sound_of s) h c.args.who c.args._n may seat j m b ne)
 
@@ -78,7 +89,8 @@ pub returns-in-X-clause-nobody : goal.returns-in-X-clause-nobody
 returns-in-X-clause-nobody c k h seat j m b _ _ f =
     let s = c.args.self.now in
     let r = c.requires in
-    let now_could = takes_write (state_of s) r.0 (sound_of s) r.1 c.args.who c.args.mode c.args._n c.in-X.is r.3 in
+    let now_could =
+    takes_write (state_of s) r.0 (sound_of s) r.1 c.args.who c.args.mode c.args._n c.in-X.is r.3 in
     let may = may_write (state_of s) c.args.who (sound_of s) now_could in
     rw c.in-X.is (wrote_nobody (state_of s) k (sound_of s) h c.args.who c.args._n may now_could seat j m b f)
 
@@ -86,7 +98,8 @@ pub returns-in-X-clause-last : goal.returns-in-X-clause-last
 returns-in-X-clause-last c _ k h seat j b _ _ ne =
     let s = c.args.self.now in
     let r = c.requires in
-    let now_could = takes_write (state_of s) r.0 (sound_of s) r.1 c.args.who c.args.mode c.args._n c.in-X.is r.3 in
+    let now_could =
+    takes_write (state_of s) r.0 (sound_of s) r.1 c.args.who c.args.mode c.args._n c.in-X.is r.3 in
     let may = may_write (state_of s) c.args.who (sound_of s) now_could in
     rw c.in-X.is (wrote_alone (state_of s) k (sound_of s) h c.args.who c.args._n may seat j S b ne)
 
@@ -111,7 +124,8 @@ pub returns-then-is_last_read-clause-shared : goal.returns-then-is_last_read-cla
 returns-then-is_last_read-clause-shared c _ k h seat j b _ _ ne =
     let s = c.args.self.now in
     let r = c.requires in
-    let now_could = takes_read (state_of s) r.0 (sound_of s) r.1 c.args.who c.args.mode c.args._n c.in-S.is r.3 in
+    let now_could =
+    takes_read (state_of s) r.0 (sound_of s) r.1 c.args.who c.args.mode c.args._n c.in-S.is r.3 in
     let may = may_read (state_of s) c.args.who now_could in
     rw c.in-S.is (read_shared (state_of s) k (sound_of s) h c.args.who c.args._n may seat j b ne)
 
@@ -124,7 +138,8 @@ pub returns-else-is_last_read-clause-shared : goal.returns-else-is_last_read-cla
 returns-else-is_last_read-clause-shared c _ k h seat j b _ _ ne =
     let s = c.args.self.now in
     let r = c.requires in
-    let now_could = takes_read (state_of s) r.0 (sound_of s) r.1 c.args.who c.args.mode c.args._n c.in-S.is r.3 in
+    let now_could =
+    takes_read (state_of s) r.0 (sound_of s) r.1 c.args.who c.args.mode c.args._n c.in-S.is r.3 in
     let may = may_read (state_of s) c.args.who now_could in
     rw c.in-S.is (read_shared (state_of s) k (sound_of s) h c.args.who c.args._n may seat j b ne)
 

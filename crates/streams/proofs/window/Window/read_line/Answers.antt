@@ -6,7 +6,14 @@ use Rattle.streams.proofs.window.Window.read_line.Goals as goal
 pub loop-wanted-smaller : goal.loop-wanted-smaller
 loop-wanted-smaller g c =
     let grown = c.in_ok-n.ensures.grows in
-    omega (arith, ap length grown.behind, length-append c.loop-wanted.self.bytes grown.more, grown.count, c.in_ok-n.ensures.few, c.if-n-eq0.false)
+    omega (
+      arith,
+      ap length grown.behind,
+      length-append c.loop-wanted.self.bytes grown.more,
+      grown.count,
+      c.in_ok-n.ensures.few,
+      c.if-n-eq0.false,
+    )
 
 pub loop-wanted-preserved : goal.loop-wanted-preserved
 loop-wanted-preserved g c =
@@ -15,6 +22,12 @@ loop-wanted-preserved g c =
       kept = grind (arith, common_steps);
       going = search rules;
       ready = λ whole. absurd (false≢true (sym (before.ready whole).0 ∙ c.loop-wanted-test.true));
-      room = omega (arith, before.room, c.in_ok-n.ensures.room, ap length grown.behind, length-append c.loop-wanted.self.bytes grown.more);
+      room = omega (
+        arith,
+        before.room,
+        c.in_ok-n.ensures.room,
+        ap length grown.behind,
+        length-append c.loop-wanted.self.bytes grown.more,
+      );
       whole = grind (arith, common_steps);
     }
