@@ -43,14 +43,8 @@ impl Queue {
         ensures refused { IfErr result (λ fault. fault ≡ Fault.OutOfMemory) }
     {
         let places = seats as usize;
-        let line = match VecDeque::with_capacity(alloc, places) {
-            Err(_) => return Err(Fault::OutOfMemory),
-            Ok(line) => line,
-        };
-        let table = match vec![in alloc; None; places] {
-            Err(_) => return Err(Fault::OutOfMemory),
-            Ok(table) => table,
-        };
+        let line = VecDeque::with_capacity(alloc, places)?;
+        let table = vec![in alloc; None; places]?;
         Ok(Queue {
             seats,
             joined: 0,
