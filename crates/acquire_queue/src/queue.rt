@@ -92,13 +92,9 @@ impl Queue {
         ensures joined { self.new.joined ≡ self.old.joined }
         ensures seats { self.new.seats ≡ self.old.seats }
     {
-        match self.line.pop_front() {
-            None => None,
-            Some(first) => {
-                self.table[first.seat as usize] = None;
-                Some(first)
-            }
-        }
+        let first = self.line.pop_front()?;
+        self.table[first.seat as usize] = None;
+        Some(first)
     }
 
     /// Takes a seat out of the line, wherever it stands, and tells whether it stood there.
@@ -143,10 +139,7 @@ impl Queue {
     pub fn arrival_of(&self, seat: u16) -> Option<Arrival>
         ensures { result ≡ place_of seat self.now.arrivals }
     {
-        match self.table.get(seat as usize) {
-            None => None,
-            Some(asks) => *asks,
-        }
+        *self.table.get(seat as usize)?
     }
 
     /// How many stand in line.

@@ -5,13 +5,13 @@ use Rattle.acquire_queue.proofs.queue.Queue.take_first.Goals as goal
 pub index_mut-requires : goal.index_mut-requires
 index_mut-requires c =
     let low =
-    first_below _ _ _ _ c.in-Some.first c.pop_front.new.self.items c.self.invariant
-    c.in-Some.ensures.items in
+    first_below _ _ _ _ c.in_ok-first.first c.pop_front.new.self.items c.self.invariant
+    c.in_ok-first.ensures.items in
     let table = c.self.inside.table.ok.0 in
     omega (arith, low, table, c.self.invariant.one_a_seat)
 
-pub returns-in-Some-clause-left : goal.returns-in-Some-clause-left
-returns-in-Some-clause-left c =
+pub returns-clause-left : goal.returns-clause-left
+returns-clause-left c =
     rw (← c.self.view_is)
-    (sym (left_first c.self.inside.line.items c.pop_front.new.self.items c.in-Some.first
-    c.self.invariant.once c.in-Some.ensures.items))
+    (sym (left_first c.self.inside.line.items c.pop_front.new.self.items c.in_ok-first.first
+    c.self.invariant.once c.in_ok-first.ensures.items))
