@@ -55,14 +55,8 @@ impl Waiters {
         ensures seats { IfOk result (λ waiters. waiters.seats ≡ seats) }
         ensures refused { IfErr result (λ fault. fault ≡ Fault.OutOfMemory) }
     {
-        let lists = match reserve_lists(alloc, conditions, seats) {
-            Err(_) => return Err(Fault::OutOfMemory),
-            Ok(lists) => lists,
-        };
-        let table = match vec![in alloc; None; seats as usize] {
-            Err(_) => return Err(Fault::OutOfMemory),
-            Ok(table) => table,
-        };
+        let lists = reserve_lists(alloc, conditions, seats)?;
+        let table = vec![in alloc; None; seats as usize]?;
         Ok(Waiters {
             seats,
             lists,
@@ -171,20 +165,14 @@ impl Waiters {
         ensures listed { (c : ℕ) → has seat (asleep_on self.now c) ≡ sleeps_on c result }
         ensures condition { IfSome result (λ sleeper. sleeper.condition < self.now.conditions) }
     {
-        match self.table.get(seat as usize) {
-            None => None,
-            Some(sleeper) => *sleeper,
-        }
+        *self.table.get(seat as usize)?
     }
 
     /// The longest sleeper of a condition.
     fn first_on(&self, c: u8) -> Option<u16>
         ensures { result ≡ slice_get (asleep_on self.now c) 0 }
     {
-        match self.lists.get(c as usize) {
-            None => None,
-            Some(list) => list.front().copied(),
-        }
+        self.lists.get(c as usize)?.front().copied()
     }
 }
 
