@@ -59,18 +59,9 @@ impl<H: Hooks + Drop> Core<H> {
         ensures empty { IfOk result (λ core. core.entries ≡ []) }
         ensures err { IfErr result (λ fault. fault ≡ OutOfMemory) }
     {
-        let queue = match Queue::open(alloc, seats) {
-            Err(_) => return Err(Fault::OutOfMemory),
-            Ok(queue) => queue,
-        };
-        let waiters = match Waiters::open(alloc, conditions, seats) {
-            Err(_) => return Err(Fault::OutOfMemory),
-            Ok(waiters) => waiters,
-        };
-        let table = match vec![in alloc; Seat::free(); seats as usize] {
-            Err(_) => return Err(Fault::OutOfMemory),
-            Ok(table) => table,
-        };
+        let queue = Queue::open(alloc, seats)?;
+        let waiters = Waiters::open(alloc, conditions, seats)?;
+        let table = vec![in alloc; Seat::free(); seats as usize]?;
         let header = Header {
             object: hooks.object(),
             seats,

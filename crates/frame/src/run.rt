@@ -28,10 +28,7 @@ pub fn run<H: Hooks + Drop>(
     ensures header { core.new.header ≡ core.old.header }
     ensures err { IfErr result (λ fault. (fault ≡ OutOfMemory) × (core.new ≡ core.old)) }
 {
-    let mut answers = match Vec::with_capacity(alloc, steps.len()) {
-        Err(_) => return Err(Fault::OutOfMemory),
-        Ok(answers) => answers,
-    };
+    let mut answers = Vec::with_capacity(alloc, steps.len())?;
     for (seat, step) in steps {
         let answer = core.step(*seat, *step);
         answers.push_reserved(answer);

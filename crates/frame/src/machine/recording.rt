@@ -28,10 +28,7 @@ impl<H: Hooks + Drop> Core<H> {
         let was_owed = self.history.owed();
         let owed = owed_behind(object, entry, was_owed);
         let needed = (owed + 1).saturating_sub(was_owed);
-        match self.history.make_room(needed) {
-            Err(fault) => return Err(fault),
-            Ok(()) => {}
-        }
+        self.history.make_room(needed)?;
         change(&mut self.hooks, entry);
         move_waiters(&mut self.queue, &mut self.waiters, entry);
         update(&mut self.seats, object, entry);
@@ -50,10 +47,7 @@ impl<H: Hooks + Drop> Core<H> {
         ensures owed { was_owed self.old.header.object entry ≡ true → IsOk result }
     {
         let before = self.ready();
-        match self.write(entry) {
-            Err(fault) => return Err(fault),
-            Ok(()) => {}
-        }
+        self.write(entry)?;
         let after = self.ready();
         Ok(Answer::Recorded(entry, named(before, after, entry.seat)))
     }

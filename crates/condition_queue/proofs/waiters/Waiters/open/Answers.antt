@@ -7,8 +7,8 @@ pub invariant_of-result : goal.invariant_of-result
 invariant_of-result c =
     let none : (i : ℕ) → get_or c.in_ok-table.table.items i None ≡ None = λ i. grind (arith, common_steps) in
     let table = c.in_ok-table.table.ok.0 in
-    kept_opened c.args.seats c.in_ok-lists.lists.items c.in_ok-table.table.items c.in_ok-lists.ensures.reserved
-    none
+    kept_opened c.args.seats c.in_ok-lists.lists.items c.in_ok-table.table.items
+    c.in_ok-lists.ensures.reserved none
     (omega (arith, c.in_ok-table.ensures.len, table)) (omega (arith, c.ranges.seats.fits))
 
 pub returns-clause-empty : goal.returns-clause-empty

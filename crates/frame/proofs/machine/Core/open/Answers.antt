@@ -13,14 +13,14 @@ invariant_of-result g c =
       conditions = c.args.conditions;
       cap = c.args.cap;
     } in
-    let queue = c.in-Ok.queue in
-    let waiters = c.in-Ok-open.waiters in
-    let table = c.in-Ok-vec.table.items in
+    let queue = c.in_ok-queue.queue in
+    let waiters = c.in_ok-waiters.waiters in
+    let table = c.in_ok-table.table.items in
     let filled : table ≡ replicate c.args.seats c.free.result =
-    c.in-Ok-vec.ensures.items_if_clones_equal (λ y q. search rules) in
+    c.in_ok-table.ensures.items_if_clones_equal (λ y q. search rules) in
     let free : table ≡ replicate c.args.seats no_holds = filled ∙ ap (replicate c.args.seats) c.free.ensures in
     rw c.object.ensures
     (opening_stands (g.H.Hooks.agrees c.args.hooks) k c.open-3.result queue waiters table c.requires.range
-    (g.met.H.Hooks.opens c.args.hooks c.args.seats c.requires.opened) c.open-3.ensures c.in-Ok.ensures.empty
-    c.in-Ok.ensures.seats c.in-Ok.ensures.joined c.in-Ok-open.ensures.empty c.in-Ok-open.ensures.conditions
-    c.in-Ok-open.ensures.seats free)
+    (g.met.H.Hooks.opens c.args.hooks c.args.seats c.requires.opened) c.open-3.ensures
+    c.in_ok-queue.ensures.empty c.in_ok-queue.ensures.seats c.in_ok-queue.ensures.joined
+    c.in_ok-waiters.ensures.empty c.in_ok-waiters.ensures.conditions c.in_ok-waiters.ensures.seats free)

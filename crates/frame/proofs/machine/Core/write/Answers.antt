@@ -1,5 +1,6 @@
-use Rattle.std.proofs.Common.{◌≤◌, length, Ok, Err, ◌∙◌, subst, arith}
+use Rattle.std.proofs.Common.{◌≡◌, ◌≤◌, length, Result, Ok, Err, ◌∙◌, subst, arith, rules}
 use Rattle.history.specs.Counts.{counts}
+use Rattle.history.specs.declared.fault.Fault.{Fault}
 use Rattle.history.specs.Start.{opening}
 use Rattle.frame.specs.Core.{CoreView, IsAdded}
 use Rattle.frame.proofs.Moving.{movable, keeps_next}
@@ -16,8 +17,8 @@ owed_behind-owed-requires-clause-owed g c =
     let n = next_seen k a.history e _ s c.self.view_is c.requires in
     within k h e c.owed-was_owed.result n (c.owed-was_owed.ensures.value ∙ s.owed)
 
-pub returns-in-Err : goal.returns-in-Err
-returns-in-Err g c =
+pub returns-in_err-make_room : goal.returns-in_err-make_room
+returns-in_err-make_room g c =
     let a = c.self.inside in
     let k = a.header in
     let h = a.history.entries in
@@ -28,12 +29,16 @@ returns-in-Err g c =
     let owes = c.owed_behind-owed.result in
     let m = needs k h e was owes n (c.owed-was_owed.ensures.value ∙ s.owed) c.owed_behind-owed.ensures in
     let new = c.make_room.new.self in
-    let P : CoreView → Type 0 =
-    λ w. IsAdded w e (Err c.in-Err.fault) (record { header = k; entries = new.entries }) in
-    subst P c.self.view_is
-    (refused k e c.in-Err.fault a.history new was owes c.saturating_sub-needed.result m s.cap
+    let full = c.in_err-make_room.ensures in
+    let fault = c.in_err-make_room.field-0.0 in
+    let err : Fault → Result Unit Fault = λ f. Err f in
+    let after : CoreView = record { header = k; entries = new.entries } in
+    let told : err fault ≡ c.from_residual.result = search rules in
+    subst (λ r. IsAdded c.args.self.now e r after) told
+    (subst (λ w. IsAdded w e (err fault) after) c.self.view_is
+    (refused k e fault a.history new was owes c.saturating_sub-needed.result m s.cap
     c.owed-was_owed.ensures.value c.owed-was_owed.ensures.reserved c.saturating_sub-needed.ensures
-    c.in-Err.ensures.full c.in-Err.ensures.faults c.in-Err.ensures.reserved c.in-Err.ensures.err)
+    full.full full.faults full.reserved full.err))
 
 pub change-requires : goal.change-requires
 change-requires g c =
@@ -90,9 +95,10 @@ invariant_of-self-2 g c =
     let m = needs k h e was owes n (c.owed-was_owed.ensures.value ∙ s.owed) c.owed_behind-owed.ensures in
     let mid = c.make_room.new.self in
     let new = c.add.new.self in
+    let roomy = c.in_ok-make_room.ensures in
     let fits = fitted k e a.history mid was owes c.saturating_sub-needed.result m c.owed-was_owed.ensures.value
-    c.saturating_sub-needed.ensures c.in-Ok.ensures.within_cap c.in-Ok.ensures.same s.cap in
-    let grown = added a.history mid new e owes c.in-Ok.ensures.same c.add.ensures in
+    c.saturating_sub-needed.ensures roomy.within_cap roomy.same s.cap in
+    let grown = added a.history mid new e owes roomy.same c.add.ensures in
     let moved = c.move_waiters.ensures in
     let waiting =
     keeps_next k h e a.queue c.move_waiters.new.queue a.waiters c.move_waiters.new.waiters s.waiting
@@ -116,8 +122,9 @@ returns g c =
     let m = needs k h e was owes n (c.owed-was_owed.ensures.value ∙ s.owed) c.owed_behind-owed.ensures in
     let mid = c.make_room.new.self in
     let new = c.add.new.self in
+    let roomy = c.in_ok-make_room.ensures in
     let fits = fitted k e a.history mid was owes c.saturating_sub-needed.result m c.owed-was_owed.ensures.value
-    c.saturating_sub-needed.ensures c.in-Ok.ensures.within_cap c.in-Ok.ensures.same s.cap in
-    let grown = added a.history mid new e owes c.in-Ok.ensures.same c.add.ensures in
+    c.saturating_sub-needed.ensures roomy.within_cap roomy.same s.cap in
+    let grown = added a.history mid new e owes roomy.same c.add.ensures in
     let P : CoreView → Type 0 = λ w. IsAdded w e (Ok tt) (record { header = k; entries = new.entries }) in
     subst P c.self.view_is (is_added k e tt a.history new was owes m fits grown.0)
