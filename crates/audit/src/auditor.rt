@@ -59,10 +59,7 @@ impl Auditor {
         match self.wrong {
             Some(_) => {}
             None => if self.ledger.admits(entry) {
-                match self.ledger.note(entry) {
-                    Err(fault) => return Err(fault),
-                    Ok(()) => {}
-                }
+                self.ledger.note(entry)?;
             } else {
                 self.wrong = Some(self.count);
             }

@@ -30,14 +30,8 @@ impl Holds {
             HoldsStand (opening k) [] holds) }
         ensures memory { IsOkUnless result Fault.OutOfMemory }
     {
-        let exclusive = match vec![in alloc; 0; seats as usize] {
-            Err(_) => return Err(Fault::OutOfMemory),
-            Ok(exclusive) => exclusive,
-        };
-        let shared = match vec![in alloc; 0; seats as usize] {
-            Err(_) => return Err(Fault::OutOfMemory),
-            Ok(shared) => shared,
-        };
+        let exclusive = vec![in alloc; 0; seats as usize]?;
+        let shared = vec![in alloc; 0; seats as usize]?;
         Ok(Holds {
             exclusive,
             shared,
@@ -80,8 +74,5 @@ fn owner_after(owner: Option<u16>, seat: u16, has: u64) -> Option<u16>
     if has > 0 {
         return Some(seat);
     }
-    match owner {
-        None => None,
-        Some(other) => if other == seat { None } else { Some(other) },
-    }
+    owner.filter(|other| *other != seat)
 }

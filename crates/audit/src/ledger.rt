@@ -52,14 +52,8 @@ impl Ledger {
         ensures stand { IfOk result (λ ledger. LedgerStand (opening header) [] ledger) }
         ensures memory { IsOkUnless result Fault.OutOfMemory }
     {
-        let holds = match Holds::open(alloc, header.seats) {
-            Err(fault) => return Err(fault),
-            Ok(holds) => holds,
-        };
-        let waiting = match Waiting::open(alloc, header.seats) {
-            Err(fault) => return Err(fault),
-            Ok(waiting) => waiting,
-        };
+        let holds = Holds::open(alloc, header.seats)?;
+        let waiting = Waiting::open(alloc, header.seats)?;
         Ok(Ledger {
             header,
             holds,
@@ -81,10 +75,7 @@ impl Ledger {
     {
         let object = self.header.object;
         let had = self.holds_in(entry.seat, entry.mode);
-        match self.waiting.note(entry) {
-            Err(fault) => return Err(fault),
-            Ok(()) => {}
-        }
+        self.waiting.note(entry)?;
         self.holds.note(object, entry);
         self.permits.note(object, entry, had);
         Ok(())
@@ -93,19 +84,13 @@ impl Ledger {
     pub(crate) fn owns(&self, seat: u16) -> bool
         ensures { result ≡ is_seat self.now.holds.owner seat }
     {
-        match self.holds.owner {
-            None => false,
-            Some(owner) => owner == seat,
-        }
+        self.holds.owner == Some(seat)
     }
 
     fn is_free_for(&self, seat: u16) -> bool
         ensures { result ≡ is_none_or self.now.holds.owner seat }
     {
-        match self.holds.owner {
-            None => true,
-            Some(owner) => owner == seat,
-        }
+        self.holds.owner.is_none_or(|owner| owner == seat)
     }
 
     /// Whether a seat could take.

@@ -56,19 +56,12 @@ pub fn judge(alloc: Global, header: &Header, history: &History) -> Result<Judgem
     ensures judged { IfOk result (IsJudgement header.now history.now.entries) }
     ensures memory { IsOkUnless result Fault.OutOfMemory }
 {
-    let mut auditor = match Auditor::open(alloc, *header) {
-        Err(fault) => return Err(fault),
-        Ok(auditor) => auditor,
-    };
+    let mut auditor = Auditor::open(alloc, *header)?;
     for number in 0..history.len() {
-        let entry = match history.get(number) {
-            None => unreachable!(),
-            Some(entry) => entry,
+        let Some(entry) = history.get(number) else {
+            unreachable!()
         };
-        match auditor.follow(entry) {
-            Err(fault) => return Err(fault),
-            Ok(()) => {}
-        }
+        auditor.follow(entry)?;
     }
     Ok(auditor.judgement())
 }

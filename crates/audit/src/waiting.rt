@@ -43,10 +43,7 @@ impl Waiting {
             holds: 0,
             how: End::None,
         };
-        let last_sleep = match vec![in alloc; awake; seats as usize] {
-            Err(_) => return Err(Fault::OutOfMemory),
-            Ok(last_sleep) => last_sleep,
-        };
+        let last_sleep = vec![in alloc; awake; seats as usize]?;
         Ok(Waiting {
             line: Vec::new(alloc),
             asleep: Vec::new(alloc),

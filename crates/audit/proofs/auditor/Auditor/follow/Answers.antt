@@ -4,7 +4,7 @@ use Rattle.history.specs.Start.{opening}
 use Rattle.audit.proofs.Fronts.{has_seat, wrong_now, wrong_still}
 use Rattle.audit.proofs.Limits.{one_signalled}
 use Rattle.audit.proofs.auditor.Auditor.follow.Goals as goal
-use Rattle.audit.proofs.auditor.Auditor.follow.Goals.{in-Some, in-None+then-admits+in-Ok, in-None+else-admits}
+use Rattle.audit.proofs.auditor.Auditor.follow.Goals.{in-Some, in-None+then-admits+in_ok-note-in-None, in-None+else-admits}
 
 pub admits-requires : goal.admits-requires
 admits-requires c =
@@ -29,12 +29,12 @@ returns-clause-judged c = λ k h was seat.
             count = omega (arith, was.count);
             so_far = rw w.in-Some.is (wrong_still k h e _ so_far.0 so_far.1);
           })
-      | in-None+then-admits+in-Ok w ↦
+      | in-None+then-admits+in_ok-note-in-None w ↦
           let stands = rw w.in-None.is at was.so_far in
           let next = (w.admits.ensures s h stands).0 w.if-admits.true in
           rw w.self-is (record {
             count = omega (arith, was.count);
-            so_far = rw w.in-None.is (w.in-Ok.ensures.stand s h stands seat next);
+            so_far = rw w.in-None.is (w.in_ok-note-in-None.ensures.stand s h stands seat next);
           })
       | in-None+else-admits w ↦
           let stands = rw w.in-None.is at was.so_far in

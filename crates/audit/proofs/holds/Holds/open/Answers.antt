@@ -5,10 +5,10 @@ use Rattle.audit.proofs.holds.Holds.open.Goals as goal
 
 pub returns-clause-stand : goal.returns-clause-stand
 returns-clause-stand c k seats =
-    let x : c.in-Ok.exclusive.items ≡ replicate c.args.seats 0 =
-    c.in-Ok.ensures.items_if_clones_equal (λ y q. search rules) in
-    let s : c.in-Ok-vec.shared.items ≡ replicate c.args.seats 0 =
-    c.in-Ok-vec.ensures.items_if_clones_equal (λ y q. search rules) in
+    let x : c.in_ok-exclusive.exclusive.items ≡ replicate c.args.seats 0 =
+    c.in_ok-exclusive.ensures.items_if_clones_equal (λ y q. search rules) in
+    let s : c.in_ok-shared.shared.items ≡ replicate c.args.seats 0 =
+    c.in_ok-shared.ensures.items_if_clones_equal (λ y q. search rules) in
     stands_opened k _ (ap length x ∙ length-replicate c.args.seats 0 ∙ sym seats)
     (ap length s ∙ length-replicate c.args.seats 0 ∙ sym seats)
     (λ i. ap (λ l. get_or l i 0) x ∙ zeros c.args.seats i)

@@ -2,6 +2,7 @@ use Rattle.std.proofs.Common.{◌≡◌, ◌∷◌, ap, sym, ◌∙◌, true}
 use Rattle.history.specs.declared.header.Header.{Header}
 use Rattle.history.specs.Object.{is_lock}
 use Rattle.audit.proofs.Limits.{only_owner}
+use Rattle.audit.proofs.Outcomes.{on_err}
 use Rattle.audit.proofs.WaitingFollow.{stands_still}
 use Rattle.audit.proofs.ledger.Ledger.note.Goals as goal
 
@@ -17,7 +18,7 @@ returns-clause-stand c s h st seat next =
             only_owner s h old.header st.opened owned st.legal st.seated,
             only_owner s (e ∷ h) old.header st.opened owned (next, st.legal) (seat, st.seated),
           ));
-      waits = c.in-Ok.ensures.stand s h st.waits;
+      waits = c.in_ok-note.ensures.stand s h st.waits;
       numbers = c.note-3.ensures s h st.numbers object (sym (c.holds_in-had.ensures s h st));
       opened = st.opened;
       range = st.range;
@@ -25,15 +26,16 @@ returns-clause-stand c s h st seat next =
       seated = (seat, st.seated);
     }
 
-pub returns-in-Err-clause-err : goal.returns-in-Err-clause-err
-returns-in-Err-clause-err c s h st =
+pub returns-in_err-note-clause-err : goal.returns-in_err-note-clause-err
+returns-in_err-note-clause-err c =
+    on_err c.from_residual.result _ (λ s h st.
     record {
       header = st.header;
       holding = st.holding;
-      waits = stands_still s h _ _ c.in-Err.ensures.err st.waits;
+      waits = stands_still s h _ _ c.in_err-note.ensures.err st.waits;
       numbers = st.numbers;
       opened = st.opened;
       range = st.range;
       legal = st.legal;
       seated = st.seated;
-    }
+    })

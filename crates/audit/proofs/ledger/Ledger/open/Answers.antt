@@ -5,8 +5,8 @@ pub returns-clause-stand : goal.returns-clause-stand
 returns-clause-stand c =
     record {
       header = refl;
-      holding = c.in-Ok.ensures.stand c.args.header refl;
-      waits = c.in-Ok-open.ensures.stand c.args.header refl;
+      holding = c.in_ok-holds.ensures.stand c.args.header refl;
+      waits = c.in_ok-waiting.ensures.stand c.args.header refl;
       numbers = c.open-3.ensures c.args.header refl;
       opened = refl;
       range = c.requires;
