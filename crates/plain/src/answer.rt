@@ -39,10 +39,7 @@ fn recorded(
         return Err(Fault::HistoryFull);
     }
     let before = ready(&ledger, header.seats);
-    match ledger.note(entry) {
-        Err(fault) => return Err(fault),
-        Ok(()) => {}
-    }
+    ledger.note(entry)?;
     let after = ready(&ledger, header.seats);
     Ok(Answer::Recorded(entry, named(before, after, entry.seat)))
 }
@@ -65,10 +62,7 @@ pub fn answer(
     requires legal { IsLegal (opening header.now) history.now.entries }
     ensures { IsAnswer (answer (opening header.now) history.now.entries seat step) result }
 {
-    let ledger = match ledger_of(alloc, header, history) {
-        Err(fault) => return Err(fault),
-        Ok(ledger) => ledger,
-    };
+    let ledger = ledger_of(alloc, header, history)?;
     match ledger.entry_for(seat, step) {
         Err(fault) => Err(fault),
         Ok(None) => Ok(Answer::Sleep),

@@ -21,20 +21,13 @@ pub fn ledger_of(alloc: Global, header: &Header, history: &History) -> Result<Le
     ensures stand { IfOk result (λ ledger. LedgerStand (opening header.now) history.now.entries ledger) }
     ensures memory { IsOkUnless result Fault.OutOfMemory }
 {
-    let mut ledger = match Ledger::open(alloc, *header) {
-        Err(fault) => return Err(fault),
-        Ok(ledger) => ledger,
-    };
+    let mut ledger = Ledger::open(alloc, *header)?;
     let end = history.len();
     for number in 0..end {
-        let entry = match history.get(number) {
-            None => unreachable!(),
-            Some(entry) => entry,
+        let Some(entry) = history.get(number) else {
+            unreachable!()
         };
-        match ledger.note(entry) {
-            Err(fault) => return Err(fault),
-            Ok(()) => {}
-        }
+        ledger.note(entry)?;
     }
     Ok(ledger)
 }

@@ -35,9 +35,8 @@ pub fn owed_of(header: &Header, history: &History) -> u64
     let mut owed = 0;
     let end = history.len();
     for number in 0..end {
-        let entry = match history.get(number) {
-            None => unreachable!(),
-            Some(entry) => entry,
+        let Some(entry) = history.get(number) else {
+            unreachable!()
         };
         owed = owed_behind(header, owed, entry);
     }

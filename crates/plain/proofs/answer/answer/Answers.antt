@@ -12,7 +12,7 @@ recorded-requires-clause-next c =
     let h = c.args.history.now.entries in
     let e = c.in-Ok-Some.entry in
     let made : entry_for s h c.args.seat c.args.step ≡ Ok (Some e) =
-    sym (c.in-Ok-Some.ensures s h c.in-Ok.ensures.stand)
+    sym (c.in-Ok-Some.ensures s h c.in_ok-ledger.ensures.stand)
     ∙ ap (λ (o : Option Entry). (let r : Result (Option Entry) Fault = Ok o in r)) c.in-Ok-Some.field-0-is in
     let I : ℕ → Type 0 = λ i. i < c.args.header.now.seats in
     record {

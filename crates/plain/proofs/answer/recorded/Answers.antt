@@ -14,7 +14,7 @@ returns c =
     let h = c.args.history.now.entries in
     let e = c.args.entry in
     let next = c.requires.next in
-    let stand = c.in-Ok.ensures.stand (opening k) h c.requires.stand next.seat next.legal.0 in
+    let stand = c.in_ok-note.ensures.stand (opening k) h c.requires.stand next.seat next.legal.0 in
     let owed =
     c.owed_behind-behind.ensures.is h c.owed_of-owed.ensures.is next.legal (next.seat, next.seated) in
     let long = c.len.ensures.value in

@@ -39,7 +39,7 @@ loop-number-preserved c =
     let q = sym c.get.ensures ∙ c.in-Some.is in
     let L : List Entry → Type 0 = λ x. LedgerStand s x c.note.new.self in
     subst L (sym (front_next h n e less q))
-    (c.in-Ok-note.ensures.stand s (front n h) c.loop-number.invariant
+    (c.in_ok-note.ensures.stand s (front n h) c.loop-number.invariant
     (next_seat s h n e c.requires.seated less q)
     (next_legal s h n e c.requires.legal less q).0)
 
