@@ -16,10 +16,7 @@ pub fn history_of(alloc: Global, header: &Header, entries: &[Entry]) -> Result<H
 {
     let mut history = History::open(alloc, header.cap);
     for entry in entries {
-        match history.make_room(1) {
-            Err(fault) => return Err(fault),
-            Ok(()) => {}
-        }
+        history.make_room(1)?;
         history.add(*entry, 0);
     }
     Ok(history)
