@@ -42,11 +42,8 @@ returns-in-Some-clause-lists c =
 
 pub returns-in-Some-clause-left : goal.returns-in-Some-clause-left
 returns-in-Some-clause-left c =
-    let low : c.in-Some.sleeper.condition < length c.self.inside.lists.items =
-    omega (arith, c.in-Some.ensures.condition, ap (λ (v : Sleepers). v.conditions) c.self.view_is) in
-    λ d. lists_changed (without c.args.seat) c.self.inside.lists.items (asleep_on c.args.self.now)
-    c.in-Some.sleeper.condition c.index_mut-in-Some.result.now c.remove_seat.new.list
-    (λ d. ap (λ (v : Sleepers). asleep_on v d) c.self.view_is) low c.index_mut-in-Some.ensures.value
-    c.remove_seat.ensures.list d
-    ∙ without_either (eqb c.in-Some.sleeper.condition d) c.args.seat (asleep_on c.args.self.now d)
-    (c.in-Some.ensures.listed d)
+    let seat = c.args.seat in
+    let asleep = asleep_on c.args.self.now in
+    λ d. returns-in-Some-clause-lists c d
+    ∙ ap (λ o. cond (sleeps_on d o) (without seat (asleep d)) (asleep d)) (sym c.in-Some.ensures.sleeper)
+    ∙ without_either (eqb c.in-Some.sleeper.condition d) seat (asleep d) (c.in-Some.ensures.listed d)
