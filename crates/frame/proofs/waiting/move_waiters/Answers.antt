@@ -1,4 +1,4 @@
-use Rattle.std.proofs.Common.{subst}
+use Rattle.std.proofs.Common.{rules, subst}
 use Rattle.history.specs.declared.entry.Word.{Word}
 use Rattle.frame.specs.Waiting.{IsMovableBy, MaySleep}
 use Rattle.frame.proofs.Moving.{awake_none}
@@ -11,3 +11,6 @@ join-requires-in-Await-clause-awake c =
     let sleep : MaySleep c.args.entry w = subst P c.in-Await.is c.requires.movable.by_word in
     awake_none w c.args.entry.seat c.sleeper_of-sleeper.result c.sleeper_of-sleeper.ensures.sleeper sleep.awake
     c.sleeper_of-sleeper.ensures.listed
+
+pub returns-in-Signal-clause-line : goal.returns-in-Signal-clause-line
+returns-in-Signal-clause-line c = search rules

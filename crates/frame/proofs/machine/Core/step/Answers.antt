@@ -1,4 +1,4 @@
-use Rattle.std.proofs.Common.{◌∙◌, sym, ap, Option, Result, Ok}
+use Rattle.std.proofs.Common.{rules, ◌∙◌, sym, ap, Option, Result, Ok}
 use Rattle.history.specs.declared.entry.Entry.{Entry}
 use Rattle.history.specs.declared.fault.Fault.{Fault}
 use Rattle.history.specs.Steps.{entry_for}
@@ -13,3 +13,6 @@ record-requires g c =
     let ok : Option Entry → Result (Option Entry) Fault = λ x. Ok x in
     step_next v c.args.seat c.args.step c.in-Ok-Some.entry c.requires
     (sym {b = made} c.decide.ensures ∙ c.in-Ok-Some.is ∙ ap ok c.in-Ok-Some.field-0-is)
+
+pub returns-in-Ok-None-clause-answered : goal.returns-in-Ok-None-clause-answered
+returns-in-Ok-None-clause-answered g c = search rules
