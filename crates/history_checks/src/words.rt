@@ -219,7 +219,7 @@ const OTHERS: [&str; 54] = [
 #[test]
 fn other_words_are_refused(rt: HostRuntime) {
     for text in &OTHERS {
-        assert_eq!(rt; Entry::read_words(0, text.as_bytes()), None, "{text}");
+        assert!(rt; Entry::read_words(0, text.as_bytes()).is_none(), "{text}");
     }
 }
 
