@@ -213,25 +213,25 @@ fn audited<R: Abort + AllocGlobal>(
     Outcome { ended }
 }
 
-/// A history that comes in pieces of any size is legal, and adds up so.
-fn is_legal<R: Abort + AllocGlobal>(rt: &R, history: &str, expected: &str, name: &str) {
-    for piece in [1, 7, 4096] {
-        let audited = audited(rt, history.as_bytes(), piece, (None, None), AMPLE);
-        assert!(rt;
-            audited.is_judged(Verdict::Legal, expected.as_bytes()),
-            "{name}"
-        );
-    }
+/// Whether a history that comes in such pieces is legal, and adds up so.
+fn is_legal<R: Abort + AllocGlobal>(rt: &R, history: &str, piece: usize, expected: &str) -> bool {
+    let audited = audited(rt, history.as_bytes(), piece, (None, None), AMPLE);
+    audited.is_judged(Verdict::Legal, expected.as_bytes())
+}
+
+/// What is said of a legal history.
+fn legal(alloc: Global, entries: u64, calls: u64, totals: &str) -> Result<String, AllocError> {
+    format!(in alloc; "legal\nentries {entries}\ncalls {calls}\n{totals}\n")
 }
 
 #[test]
 fn adds_up_the_history_of_each_example(rt: HostRuntime) -> Result<(), Fail> {
     for (example, (name, entries, calls, totals)) in situations().iter().zip(&TOTALS) {
         assert!(rt; example.name == *name);
-        let expected = format!(in rt.alloc();
-            "legal\nentries {entries}\ncalls {calls}\n{totals}\n"
-        )?;
-        is_legal(&rt, example.history, expected.as_str(), name);
+        let expected = legal(rt.alloc(), *entries, *calls, totals)?;
+        for piece in [1, 7, 4096] {
+            assert!(rt; is_legal(&rt, example.history, piece, &expected), "{name}");
+        }
     }
     Ok(())
 }
@@ -432,12 +432,16 @@ entries 1\n\
 calls 1\n\
 holds x 1 s 0 line 0 sleepers 0\n";
 
+fn wide_source(alloc: Global) -> Result<MemorySource, AllocError> {
+    let bytes = Vec::from_slice(alloc, WIDE)?;
+    Ok(MemorySource::new(bytes, 64, None))
+}
+
 /// A source for each audit, which are there before memory is taken.
-fn wide_sources<R: AllocGlobal>(rt: &R) -> Result<Vec<MemorySource>, Fail> {
-    let mut sources = Vec::with_capacity(rt.alloc(), BLOCKS)?;
+fn wide_sources(alloc: Global) -> Result<Vec<MemorySource>, AllocError> {
+    let mut sources = Vec::with_capacity(alloc, BLOCKS)?;
     for _ in 0..BLOCKS {
-        let bytes = Vec::from_slice(rt.alloc(), WIDE)?;
-        sources.push(MemorySource::new(bytes, 64, None))?;
+        sources.push(wide_source(alloc)?)?;
     }
     Ok(sources)
 }
@@ -480,7 +484,7 @@ fn audits_without_memory<R: Abort + AllocGlobal>(
 /// Nothing is written before there is memory enough.
 #[test]
 fn an_audit_that_lacks_memory_writes_nothing(rt: HostRuntime) -> Result<(), Fail> {
-    let sources = wide_sources(&rt)?;
+    let sources = wide_sources(rt.alloc())?;
     let mut sink = MemorySink::with_places(rt.alloc(), AMPLE, 64, None)?;
     let refused = audits_without_memory(&rt, sources, &mut sink)?;
     assert!(rt; 2 < refused);

@@ -25,9 +25,7 @@ pub fn plainly_read(alloc: Global, text: &[u8]) -> Result<StepsText, TextFault> 
             return Err(TextFault::BadLine(number.saturating_add(1)));
         }
         let line = whole(line)?;
-        let count = steps.len();
-        let end = format!(in alloc; "end {count}")?;
-        if line == end.as_bytes() {
+        if is_end(alloc, line, steps.len())? {
             has_ended = true;
         } else {
             match good_step(alloc, line, header.seats)? {
@@ -41,6 +39,12 @@ pub fn plainly_read(alloc: Global, text: &[u8]) -> Result<StepsText, TextFault> 
     } else {
         Err(TextFault::CutShort)
     }
+}
+
+/// Whether a line is the end behind so many steps.
+fn is_end(alloc: Global, line: &[u8], count: usize) -> Result<bool, AllocError> {
+    let end = format!(in alloc; "end {count}")?;
+    Ok(line == end.as_bytes())
 }
 
 /// A line without its break.

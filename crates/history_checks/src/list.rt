@@ -3,6 +3,7 @@
 use history::entries::History;
 use history::entry::{End, Entry, Mode, Word};
 use history::fault::Fault;
+use std::alloc::Global;
 use std::process::Abort;
 use std::test::Fail;
 
@@ -27,12 +28,28 @@ fn told(history: &History) -> (u64, u64, u64, u64) {
     )
 }
 
+/// A list tells so much. It stands apart from what its caller knows of the list, as does all that is only
+/// compared: the proofs stay small.
+pub fn tells<R: Abort>(rt: &R, history: &History, wanted: (u64, u64, u64, u64)) {
+    assert_eq!(rt; told(history), wanted);
+}
+
+/// Whether the cap leaves no room for so many.
+fn is_full(history: &mut History, count: u64) -> bool {
+    history.make_room(count) == Err(Fault::HistoryFull)
+}
+
+/// A list has this entry with the number.
+pub fn has<R: Abort>(rt: &R, history: &History, number: u64, entry: Entry) {
+    assert_eq!(rt; history.get(number), Some(entry));
+}
+
 /// Adds three entries, of which the second was owed.
 fn add_three<R: Abort>(rt: &R, history: &mut History) -> Result<(), Fail> {
     history.make_room(3)?;
     assert!(rt; 3 <= history.places());
     history.add(of(0, Word::Got), 1);
-    assert_eq!(rt; history.owed(), 1);
+    assert!(rt; history.owed() == 1);
     history.add(of(1, Word::Queued), 0);
     history.make_room(1)?;
     history.add(of(0, Word::Gave), 0);
@@ -42,8 +59,8 @@ fn add_three<R: Abort>(rt: &R, history: &mut History) -> Result<(), Fail> {
 #[test]
 fn entries_are_kept_in_their_order(rt: HostRuntime) -> Result<(), Fail> {
     let mut history = History::open(rt.alloc(), 16);
-    assert!(rt; history.is_empty());
-    assert_eq!(rt; (history.cap(), told(&history)), (16, (0, 0, 0, 0)));
+    assert!(rt; history.is_empty() && history.cap() == 16);
+    tells(&rt, &history, (0, 0, 0, 0));
     add_three(&rt, &mut history)?;
     has_three(&rt, &history);
     Ok(())
@@ -51,14 +68,10 @@ fn entries_are_kept_in_their_order(rt: HostRuntime) -> Result<(), Fail> {
 
 /// Those three, and no others.
 fn has_three<R: Abort>(rt: &R, history: &History) {
-    assert_eq!(rt;
-        (history.is_empty(), history.len(), history.calls()),
-        (false, 3, 2)
-    );
-    let entries = [of(0, Word::Got), of(1, Word::Queued), of(0, Word::Gave)];
-    for (number, entry) in entries.iter().enumerate() {
-        assert_eq!(rt; history.get(number as u64), Some(*entry));
-    }
+    assert!(rt; !history.is_empty() && history.len() == 3 && history.calls() == 2);
+    has(rt, history, 0, of(0, Word::Got));
+    has(rt, history, 1, of(1, Word::Queued));
+    has(rt, history, 2, of(0, Word::Gave));
     assert!(rt; history.get(3).is_none() && history.get(18_446_744_073_709_551_615).is_none());
 }
 
@@ -81,44 +94,44 @@ const ENDS: [(Word, u64); 15] = [
     (Word::Drained, 1),
 ];
 
+/// How many calls an entry of this word ends.
+fn ended_by(alloc: Global, word: Word) -> Result<u64, Fault> {
+    let mut history = History::open(alloc, 16);
+    history.make_room(1)?;
+    history.add(of(0, word), 0);
+    Ok(history.calls())
+}
+
 #[test]
 fn each_word_ends_a_call_but_three(rt: HostRuntime) -> Result<(), Fail> {
     for (word, ended) in &ENDS {
-        let mut history = History::open(rt.alloc(), 16);
-        history.make_room(1)?;
-        history.add(of(0, *word), 0);
-        assert_eq!(rt; history.calls(), *ended, "{word:?}");
+        assert_eq!(rt; ended_by(rt.alloc(), *word)?, *ended, "{word:?}");
     }
     Ok(())
 }
 
 /// Asks an empty list with a cap of 16 for more than its room, and for all.
 fn reserve_all<R: Abort>(rt: &R, history: &mut History) -> Result<(), Fail> {
-    assert_eq!(rt; history.make_room(17), Err(Fault::HistoryFull));
-    assert_eq!(rt;
-        history.make_room(18_446_744_073_709_551_615),
-        Err(Fault::HistoryFull)
-    );
-    assert_eq!(rt; history.places(), 0);
+    assert!(rt; is_full(history, 17));
+    assert!(rt; is_full(history, 18_446_744_073_709_551_615));
+    tells(rt, history, (0, 0, 0, 0));
     history.make_room(0)?;
-    assert_eq!(rt; history.places(), 0);
+    tells(rt, history, (0, 0, 0, 0));
     history.make_room(16)?;
-    assert_eq!(rt; history.places(), 16);
+    tells(rt, history, (0, 0, 16, 0));
     history.add(of(0, Word::Got), 14);
     Ok(())
 }
 
 /// Asks for the place that is left where 14 are owed, and for more.
 fn fill<R: Abort>(rt: &R, history: &mut History) -> Result<(), Fail> {
-    assert_eq!(rt; history.make_room(2), Err(Fault::HistoryFull));
-    assert_eq!(rt;
-        (history.len(), history.owed(), history.places()),
-        (1, 14, 16)
-    );
+    assert!(rt; is_full(history, 2));
+    tells(rt, history, (1, 14, 16, 1));
     history.make_room(1)?;
-    assert_eq!(rt; history.places(), 16);
+    tells(rt, history, (1, 14, 16, 1));
+    assert!(rt; history.owed() == 14);
     history.add(of(0, Word::Got), 14);
-    assert_eq!(rt; history.make_room(1), Err(Fault::HistoryFull));
+    assert!(rt; is_full(history, 1));
     history.make_room(0)?;
     Ok(())
 }
@@ -130,21 +143,26 @@ fn room_ends_at_the_cap(rt: HostRuntime) -> Result<(), Fail> {
     fill(&rt, &mut history)
 }
 
+/// Adds an entry; whether the list has grown for it.
+fn grows(history: &mut History) -> Result<bool, Fault> {
+    let before = history.places();
+    history.make_room(1)?;
+    let has_grown = history.places() != before;
+    history.add(of(0, Word::Got), 0);
+    Ok(has_grown)
+}
+
 /// The places double: 100,000 entries that ask for room one by one move a few times, not each time.
 #[test]
 fn many_entries_grow_the_list_seldom(rt: HostRuntime) -> Result<(), Fail> {
     let mut history = History::open(rt.alloc(), 100_000);
     let mut grown: u64 = 0;
     for _ in 0..100_000 {
-        let before = history.places();
-        history.make_room(1)?;
-        if history.places() != before {
+        if grows(&mut history)? {
             grown = grown.saturating_add(1);
         }
-        history.add(of(0, Word::Got), 0);
     }
-    assert_eq!(rt; history.len(), 100_000);
-    assert_eq!(rt; history.places(), 100_000);
+    tells(&rt, &history, (100_000, 0, 100_000, 100_000));
     assert!(rt; grown <= 18, "grown {grown} times");
     Ok(())
 }

@@ -2,6 +2,7 @@
 
 ghost use Rattle.std.specs.Prelude.{◌≡◌};
 
+use crate::list::{has, tells};
 use history::entries::History;
 use history::entry::{End, Entry, Mode, Word};
 use history::fault::Fault;
@@ -43,13 +44,13 @@ fn writers_leave_the_bytes_as_they_were(rt: HostRuntime) -> Result<(), Fail> {
     assert!(rt; entry.is_spelt());
     let mut out = full_bytes(rt.alloc())?;
     let taken = all_memory(rt.alloc(), SMALL)?;
-    assert_eq!(rt; header.write_part(&mut out), Err(Fault::OutOfMemory));
-    assert_eq!(rt; entry.write_words(&mut out), Err(Fault::OutOfMemory));
-    assert_eq!(rt; out.len(), SMALL);
+    assert!(rt; header.write_part(&mut out) == Err(Fault::OutOfMemory));
+    assert!(rt; entry.write_words(&mut out) == Err(Fault::OutOfMemory));
+    assert!(rt; out.len() == SMALL);
     drop(taken);
     header.write_part(&mut out)?;
     entry.write_words(&mut out)?;
-    assert_eq!(rt; out.len(), SMALL + 37 + 7);
+    assert!(rt; out.len() == SMALL + 37 + 7);
     Ok(())
 }
 
@@ -58,16 +59,13 @@ fn refuse_growth<R: Abort>(rt: &R, history: &mut History, entry: Entry) -> Resul
     requires { history.old.owed ≡ 1 }
 {
     let places = history.places();
-    assert_eq!(rt; history.make_room(100_000), Err(Fault::OutOfMemory));
-    assert_eq!(rt; history.make_room(1_000_000), Err(Fault::HistoryFull));
-    assert_eq!(rt;
-        (history.len(), history.owed(), history.places()),
-        (1, 1, places)
-    );
-    assert_eq!(rt; history.get(0), Some(entry));
+    assert!(rt; history.make_room(100_000) == Err(Fault::OutOfMemory));
+    assert!(rt; history.make_room(1_000_000) == Err(Fault::HistoryFull));
+    tells(rt, history, (1, 1, places, 1));
+    has(rt, history, 0, entry);
     history.make_room(0)?;
     history.add(entry, 0);
-    assert_eq!(rt; history.len(), 2);
+    assert!(rt; history.len() == 2);
     Ok(())
 }
 
@@ -76,10 +74,10 @@ fn a_number_is_written_whole_or_not_at_all(rt: HostRuntime) -> Result<(), Fail> 
     let mut out = full_bytes(rt.alloc())?;
     let taken = all_memory(rt.alloc(), SMALL)?;
     assert!(rt; put_number(&mut out, 10).is_err());
-    assert_eq!(rt; out.len(), SMALL);
+    assert!(rt; out.len() == SMALL);
     drop(taken);
     put_number(&mut out, 10)?;
-    assert_eq!(rt; out.len(), SMALL + 2);
+    assert!(rt; out.len() == SMALL + 2);
     Ok(())
 }
 

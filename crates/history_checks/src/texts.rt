@@ -2,6 +2,7 @@
 
 ghost use Rattle.history.specs.Header.{IsInRange};
 
+use crate::list::has;
 use history::entries::History;
 use history::entry::{End, Entry, Mode, Word};
 use history::fault::Fault;
@@ -41,8 +42,8 @@ fn written(alloc: Global, header: &Header, history: &History) -> Result<Option<V
 #[test]
 fn a_text_is_read_and_written_again(rt: HostRuntime) -> Result<(), Fail> {
     let (header, history) = read_text(rt.alloc(), TEXT)?;
-    assert_eq!(rt; header, HEADER);
-    assert_eq!(rt; (history.len(), history.calls(), history.owed()), (4, 2, 0));
+    assert!(rt; header == HEADER);
+    assert!(rt; history.len() == 4 && history.calls() == 2 && history.owed() == 0);
     let awaits = Entry {
         seat: 0,
         word: Word::Await,
@@ -51,7 +52,7 @@ fn a_text_is_read_and_written_again(rt: HostRuntime) -> Result<(), Fail> {
         at: 0,
         end: End::None,
     };
-    assert_eq!(rt; history.get(2), Some(awaits));
+    has(&rt, &history, 2, awaits);
     match written(rt.alloc(), &header, &history)? {
         None => assert!(rt; false, "what was read fits"),
         Some(text) => assert!(rt; text.as_slice() == TEXT, "the same bytes"),
@@ -93,7 +94,7 @@ fn a_call_without_memory_says_so(rt: HostRuntime) -> Result<(), Fail> {
     let read = read_text(rt.alloc(), TEXT).err();
     let wrote = written(rt.alloc(), &header, &history).err();
     drop(taken);
-    assert_eq!(rt; read, Some(TextFault::OutOfMemory));
-    assert_eq!(rt; wrote, Some(Fault::OutOfMemory));
+    assert!(rt; read == Some(TextFault::OutOfMemory));
+    assert!(rt; wrote == Some(Fault::OutOfMemory));
     Ok(())
 }
