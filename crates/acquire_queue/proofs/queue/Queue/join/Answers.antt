@@ -1,4 +1,4 @@
-use Rattle.std.proofs.Common.{◌≡◌, ◌<◌, None, ap, ◌∙◌, arith}
+use Rattle.std.proofs.Common.{rules, ◌≡◌, ◌<◌, None, ap, ◌∙◌, arith}
 use Rattle.std.proofs.lemmas.List.{length_push}
 use Rattle.history.specs.Line.{place_of}
 use Rattle.acquire_queue.specs.Line.{Line}
@@ -28,3 +28,6 @@ invariant_of-self c =
     ap (λ (v : Line). place_of c.args.arrival.seat v.arrivals) c.self.view_is ∙ c.requires.absent in
     rw (c.push_back_reserved.ensures.items, c.push_back_reserved.ensures.capacity)
     (kept_joined _ _ _ _ c.args.arrival c.self.invariant low absent)
+
+pub returns-clause-line : goal.returns-clause-line
+returns-clause-line c = search rules

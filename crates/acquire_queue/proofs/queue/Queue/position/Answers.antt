@@ -1,4 +1,4 @@
-use Rattle.std.proofs.Common.{sym, ap, ◌∙◌, arith}
+use Rattle.std.proofs.Common.{rules, sym, ap, ◌∙◌, arith}
 use Rattle.std.specs.Prelude.{is_some}
 use Rattle.history.specs.Line.{place_of}
 use Rattle.acquire_queue.specs.Line.{Line}
@@ -20,3 +20,6 @@ returns-in-None-clause-stands c =
     ap is_some c.in-None.ensures
     ∙ found c.args.seat c.self.inside.line.items
     ∙ ap (λ (v : Line). is_some (place_of c.args.seat v.arrivals)) c.self.view_is
+
+pub returns-in-Some-clause-position : goal.returns-in-Some-clause-position
+returns-in-Some-clause-position c = search rules

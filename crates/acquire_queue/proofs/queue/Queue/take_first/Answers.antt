@@ -1,4 +1,4 @@
-use Rattle.std.proofs.Common.{sym, arith}
+use Rattle.std.proofs.Common.{rules, sym, arith}
 use Rattle.acquire_queue.proofs.Kept.{first_below, left_first}
 use Rattle.acquire_queue.proofs.queue.Queue.take_first.Goals as goal
 
@@ -15,3 +15,9 @@ returns-clause-left c =
     rw (← c.self.view_is)
     (sym (left_first c.self.inside.line.items c.pop_front.new.self.items c.in_ok-first.first
     c.self.invariant.once c.in_ok-first.ensures.items))
+
+pub returns-clause-first : goal.returns-clause-first
+returns-clause-first c = search rules
+
+pub returns-clause-line : goal.returns-clause-line
+returns-clause-line c = search rules

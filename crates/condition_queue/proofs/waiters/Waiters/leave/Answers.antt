@@ -1,4 +1,4 @@
-use Rattle.std.proofs.Common.{◌<◌, length, ap, ◌∙◌, sym, cond, eqb, arith}
+use Rattle.std.proofs.Common.{rules, ◌<◌, length, ap, ◌∙◌, sym, cond, eqb, arith}
 use Rattle.std.specs.VecDeque.{deque_items}
 use Rattle.std.proofs.lemmas.List.{length-map}
 use Rattle.history.specs.Sleepers.{without}
@@ -47,3 +47,6 @@ returns-in-Some-clause-left c =
     λ d. returns-in-Some-clause-lists c d
     ∙ ap (λ o. cond (sleeps_on d o) (without seat (asleep d)) (asleep d)) (sym c.in-Some.ensures.sleeper)
     ∙ without_either (eqb c.in-Some.sleeper.condition d) seat (asleep d) (c.in-Some.ensures.listed d)
+
+pub returns-in-None-clause-slept : goal.returns-in-None-clause-slept
+returns-in-None-clause-slept c = search rules

@@ -1,4 +1,4 @@
-use Rattle.std.proofs.Common.{◌<◌, length, arith}
+use Rattle.std.proofs.Common.{rules, ◌<◌, length, arith}
 use Rattle.condition_queue.specs.Sleepers.{asleep_on}
 use Rattle.condition_queue.proofs.Moving.{moves_more, still_apart}
 use Rattle.condition_queue.proofs.waiters.Waiters.move_all.Goals as goal
@@ -15,3 +15,6 @@ loop-preserved c =
     moves_more c.args.c c.loop.counter c.move_first.result c.args.self.now c.loop.self c.move_first.new.self
     c.args.queue.now c.loop.queue c.move_first.new.queue c.loop.invariant c.move_first.ensures.moves low
     c.move_first.ensures.moved
+
+pub loop-init : goal.loop-init
+loop-init c = search rules

@@ -1,4 +1,4 @@
-use Rattle.std.proofs.Common.{◌≡◌, ℕ, get_or, None, arith}
+use Rattle.std.proofs.Common.{rules, ◌≡◌, ℕ, get_or, None, arith}
 use Rattle.std.proofs.lemmas.Grind.{common_steps}
 use Rattle.condition_queue.proofs.Kept.{nobody, kept_opened}
 use Rattle.condition_queue.proofs.waiters.Waiters.open.Goals as goal
@@ -13,3 +13,6 @@ invariant_of-result c =
 
 pub returns-clause-empty : goal.returns-clause-empty
 returns-clause-empty c = nobody c.args.seats c.in_ok-lists.lists.items c.in_ok-lists.ensures.reserved
+
+pub returns-clause-conditions : goal.returns-clause-conditions
+returns-clause-conditions c = search rules

@@ -1,4 +1,4 @@
-use Rattle.std.proofs.Common.{◌≡◌, ◌<◌, length, get_or, None, ap, ◌∙◌, sym, arith}
+use Rattle.std.proofs.Common.{rules, ◌≡◌, ◌<◌, length, get_or, None, ap, ◌∙◌, sym, arith}
 use Rattle.std.specs.VecDeque.{deque_items}
 use Rattle.std.proofs.lemmas.Bool.{ltb-true}
 use Rattle.std.proofs.lemmas.List.{get_or_read, length-map}
@@ -16,3 +16,6 @@ returns-clause-condition c =
     ∙ ap (λ l. get_or l c.args.seat found) c.deref.ensures.value) None in
     condition_known _ _ _ _ _ c.self.invariant (length-map c.self.inside.lists.items deque_items
     ∙ ap (λ (v : Sleepers). v.conditions) c.self.view_is) c.args.seat found (sym told)
+
+pub returns-clause-sleeper : goal.returns-clause-sleeper
+returns-clause-sleeper c = search rules
