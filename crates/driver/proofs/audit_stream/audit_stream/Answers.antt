@@ -1,3 +1,4 @@
+use Rattle.std.proofs.Common.{refl}
 use Rattle.driver.proofs.Audits.{some_told, told_of}
 use Rattle.streams.specs.Whole.{AppendsFront}
 use Rattle.std.specs.Io.KnownBytes.{Appends}
@@ -17,3 +18,6 @@ returns-in-Ok-clause-audits g c =
     some_told _ c.in-Ok.audit.verdict _ (told_of _ c.in-Ok.audit.verdict _
     (AppendsFront (g.W.Sink.held c.args.writer.now) (g.W.Sink.held c.write_all.new.writer)) c.in-Ok.ensures.ok
     (rw c.deref.ensures.value at c.in-Err-write_all.ensures.err))
+
+pub returns-in-Ok-clause-write : goal.returns-in-Ok-clause-write
+returns-in-Ok-clause-write g c = (λ e. c.in-Err-write_all.ensures.failing.1 refl, λ t. refl)
