@@ -23,9 +23,3 @@ returns-in_ok-pass-in-Ok-Some-clause-next g c = λ text steps were.
 pub returns-in_ok-pass-in-Ok-Some-clause-seated : goal.returns-in_ok-pass-in-Ok-Some-clause-seated
 returns-in_ok-pass-in-Ok-Some-clause-seated g c =
     rw (← c.self.view_is) ((rw c.in-Ok-Some.field-0-is at c.in-Ok-Some.ensures.line) []).1.fits.0
-
-pub returns-in_default-clause-next : goal.returns-in_default-clause-next
-returns-in_default-clause-next g c = c.next_after_reading.ensures.next
-
-pub returns-in_default-clause-ready : goal.returns-in_default-clause-ready
-returns-in_default-clause-ready g c = c.next_after_reading.ensures.ready
