@@ -9,9 +9,10 @@ use Rattle.line_text.specs.Reading.{IsText}
 use Rattle.history_text.specs.HistoryText.{history_form}
 use Rattle.audit.specs.declared.auditor.Auditor.{Auditor}
 use Rattle.audit.specs.declared.verdict.Judgement.{Judgement}
+use Rattle.audit.specs.declared.verdict.Verdict.{Verdict}
 use Rattle.audit.specs.Auditor.{HasJudged}
 use Rattle.audit.specs.Verdict.{IsJudgement}
-use Rattle.driver.specs.AuditStream.{IsJudged}
+use Rattle.driver.specs.AuditStream.{Audited, IsJudged}
 use Rattle.driver.specs.HistoryReader.{AreCounted, EntriesHeld, entries_read}
 use Rattle.driver.specs.TextReader.{Progress, IsNext}
 use Rattle.driver.proofs.ReadingAhead.{ReadOn}
@@ -66,3 +67,23 @@ all_judged first now new left left' a judgement all same counted judges j =
       count = counted.0 ∙ j.count;
       calls = counted.1 ∙ j.calls;
     }
+
+-- what is written is told of another way
+pub told_of : (left : Option (List ℕ)) (verdict : Verdict) (all : List ℕ) (Written : List ℕ → Type 0) →
+    IfSome left (λ text. Audited text verdict (λ written. all ≡ written)) → Written all →
+    IfSome left (λ text. Audited text verdict Written)
+told_of None verdict all Written a w = tt
+told_of (Some text) verdict all Written a w =
+    record {
+      header = a.header;
+      entries = a.entries;
+      is = a.is;
+      judged = a.judged;
+      written = subst Written a.written w;
+    }
+
+pub some_told : (left : Option (List ℕ)) (verdict : Verdict) (Written : List ℕ → Type 0) →
+    IfSome left (λ text. Audited text verdict Written) →
+    IfSome left (λ text. (v : Verdict) × Audited text v Written)
+some_told None verdict Written a = tt
+some_told (Some text) verdict Written a = (verdict, a)

@@ -36,6 +36,17 @@ gathered_more a b c old mid new x y p q =
           ∙ sym (append_assoc p.written q.written new);
     }
 
+-- bytes are added behind those that stayed gathered
+pub gathered_added : (a b : Option (List ℕ)) (old mid new x : List ℕ) → IsGathered a old b mid [] →
+    new ≡ mid ++ x → IsGathered a old b new x
+gathered_added a b old mid new x p same =
+    record {
+      written = p.written;
+      appends = p.appends;
+      parts = ap (λ (t : List ℕ). t ++ x) (sym (append-nil old) ∙ p.parts)
+          ∙ append_assoc p.written mid x ∙ ap (λ (t : List ℕ). p.written ++ t) (sym same);
+    }
+
 -- what was gathered is written too
 pub front_more : (a b c : Option (List ℕ)) (old mid x y : List ℕ) → IsGathered a old b mid x →
     AppendsFront b c (mid ++ y) → AppendsFront a c (old ++ (x ++ y))

@@ -1,5 +1,5 @@
 -- Names and numbers that are written one after the other.
-use Rattle.std.proofs.Common.{◌≡◌, ℕ, List, ◌++◌, append_assoc, ◌∙◌}
+use Rattle.std.proofs.Common.{◌≡◌, ℕ, List, [], ◌∷◌, ◌++◌, append_assoc, ◌∙◌}
 
 pub four : (o p q r s a w b x c y d z : List ℕ) → p ≡ o ++ a ++ w → q ≡ p ++ b ++ x → r ≡ q ++ c ++ y →
     s ≡ r ++ d ++ z
@@ -12,3 +12,9 @@ pub five : (o p q r s t a w b x c y d z e v : List ℕ) → p ≡ o ++ a ++ w �
     → t ≡ o ++ (a ++ w ++ b ++ x ++ c ++ y ++ d ++ z ++ e ++ v)
 five o p q r s t a w b x c y d z e v first second third fourth fifth =
     fifth ∙ rw (four o p q r s a w b x c y d z first second third fourth) (simp append_assoc)
+
+-- lines, of which the last is ended behind its words
+pub lines : (p q r s t a b c d : List ℕ) → p ≡ a → q ≡ p ++ b → r ≡ q ++ c → s ≡ r ++ d → t ≡ s ++ 10 ∷ [] →
+    t ≡ a ++ b ++ c ++ (d ++ 10 ∷ [])
+lines p q r s t a b c d first second third fourth fifth =
+    fifth ∙ rw (fourth, third, second, first) (append_assoc (a ++ b ++ c) d (10 ∷ []))

@@ -1,4 +1,4 @@
-use Rattle.std.proofs.Common.{◌≡◌, ℕ, List, length, arith, refl, ◌∙◌}
+use Rattle.std.proofs.Common.{◌≡◌, ℕ, List, length, arith, refl, rules, ◌∙◌}
 use Rattle.std.specs.Prelude.{Result, Ok, Err, IfOk}
 use Rattle.audit.specs.declared.sums.Totals.{Totals}
 use Rattle.audit.specs.declared.verdict.Verdict.TheVariants.{Legal}
@@ -31,3 +31,6 @@ returns-in-Legal c = λ k h same long ended judged.
     let said =
     legal_said k h c.args.object c.args.entries c.args.calls c.in-Legal.totals same long ended is.1 in
     rw c.in-Legal.is (weaker c.legal_text.result (λ text is. is ∙ said) c.legal_text.ensures)
+
+pub returns-in_ok-put_line-in-NotLegal : goal.returns-in_ok-put_line-in-NotLegal
+returns-in_ok-put_line-in-NotLegal c = search rules

@@ -1,0 +1,5 @@
+use Rattle.std.proofs.Common.{rules}
+use Rattle.driver.proofs.replay_stream.answers_to.Goals as goal
+
+pub returns-in_err-steps-clause-err : goal.returns-in_err-steps-clause-err
+returns-in_err-steps-clause-err g c = search rules
