@@ -1,13 +1,14 @@
 //! Entries read from the words of a line.
 
-ghost use Rattle.std.specs.Prelude.{◌≡◌, ◌≤◌, ◌∷◌, ◌++◌, [], ℕ, List, codes, decimal, IfSome};
+ghost use Rattle.std.specs.Prelude.{◌≡◌, ◌≤◌, ◌∷◌, ◌++◌, [], ℕ, List, codes, decimal, IfSome, MatchOption};
 ghost use Rattle.history.specs.declared.entry.End.TheVariants as end;
 ghost use Rattle.history.specs.declared.entry.Entry.{Entry};
+ghost use Rattle.history.specs.declared.entry.Mode.{Mode};
 ghost use Rattle.history.specs.declared.entry.Mode.TheVariants.{X, S};
-ghost use Rattle.history.specs.EntryReading.{given_up_at, come_back_at, recorded_at, asked_at, condition_at, sleepers_at, left_at, refused_at, lapse_at, back_at, shared_at, named_entry_at, entry_at, in_mode, on_condition};
-ghost use Rattle.history.specs.EntryWords.{mode_word, end_word, entry_words, GaveUp, CameBack, IsWritten};
+ghost use Rattle.history.specs.EntryReading.{given_up_at, come_back_at, recorded_at, asked_at, condition_at, sleepers_at, left_at, refused_at, lapse_at, back_at, shared_at, named_entry_at, entry_at, in_mode, on_condition, asking};
+ghost use Rattle.history.specs.EntryWords.{mode_word, end_word, entry_words, spelt, GaveUp, CameBack, HasWords, IsWritten};
 ghost use Rattle.history.specs.Fault.{fault_name, IsRecorded};
-ghost use Rattle.history.specs.Reading.{with_rest};
+ghost use Rattle.history.specs.Reading.{Words, with_rest};
 
 use crate::entry::{End, Entry, Mode, Word};
 use crate::fault::Fault;
@@ -247,6 +248,33 @@ fn named_entry(words: &mut Words<'_>, seat: u16, name: &[u8]) -> Option<Entry>
     }
 }
 
+/// What an entry says that spells a mode and an amount alone, by its name.
+#[tactic(auto, unfolding(crate::specs::EntryReading::entry_at))]
+#[inline(always)]
+fn asking(name: &[u8]) -> Option<Word>
+    ensures is { MatchOption result
+        ((seat : ℕ) (ws : Words) → entry_at seat (name.now ∷ ws) ≡ named_entry_at seat name.now ws)
+        (λ word. (seat : ℕ) (ws : Words) → entry_at seat (name.now ∷ ws) ≡ asking seat word ws) }
+    ensures found { IfSome result (λ word. (m : Mode) (n : ℕ) → HasWords word m n 0 end.None
+        × (spelt word m n 0 end.None ≡ name.now ∷ mode_word m ∷ decimal n ∷ [])) }
+{
+    if name == b"got".as_slice() {
+        Some(Word::Got)
+    } else if name == b"trygot".as_slice() {
+        Some(Word::TryGot)
+    } else if name == b"queued".as_slice() {
+        Some(Word::Queued)
+    } else if name == b"granted".as_slice() {
+        Some(Word::Granted)
+    } else if name == b"missed".as_slice() {
+        Some(Word::Missed)
+    } else if name == b"gave".as_slice() {
+        Some(Word::Gave)
+    } else {
+        None
+    }
+}
+
 impl<'a> Words<'a> {
     ghost use Rattle.std.specs.Prelude.{◌≡◌, ◌++◌, IfSome};
     ghost use Rattle.history.specs.EntryReading.{entry_at};
@@ -261,20 +289,9 @@ impl<'a> Words<'a> {
             × (self.old ≡ entry_words e ++ self.new)) }
     {
         let name = self.next()?;
-        if name == b"got".as_slice() {
-            Some(in_mode(seat, Word::Got, asked(self)?))
-        } else if name == b"trygot".as_slice() {
-            Some(in_mode(seat, Word::TryGot, asked(self)?))
-        } else if name == b"queued".as_slice() {
-            Some(in_mode(seat, Word::Queued, asked(self)?))
-        } else if name == b"granted".as_slice() {
-            Some(in_mode(seat, Word::Granted, asked(self)?))
-        } else if name == b"missed".as_slice() {
-            Some(in_mode(seat, Word::Missed, asked(self)?))
-        } else if name == b"gave".as_slice() {
-            Some(in_mode(seat, Word::Gave, asked(self)?))
-        } else {
-            named_entry(self, seat, name)
+        match asking(name) {
+            Some(word) => Some(in_mode(seat, word, asked(self)?)),
+            None => named_entry(self, seat, name),
         }
     }
 }
