@@ -1,13 +1,14 @@
 //! Entries read from the words of a line.
 
-ghost use Rattle.std.specs.Prelude.{◌≡◌, ◌≤◌, ◌∷◌, ◌++◌, [], ℕ, List, codes, decimal, IfSome};
+ghost use Rattle.std.specs.Prelude.{◌≡◌, ◌≤◌, ◌∷◌, ◌++◌, [], ℕ, List, codes, decimal, bytes_eq, false, IfSome, IfNone, MatchOption};
 ghost use Rattle.history.specs.declared.entry.End.TheVariants as end;
 ghost use Rattle.history.specs.declared.entry.Entry.{Entry};
+ghost use Rattle.history.specs.declared.entry.Mode.{Mode};
 ghost use Rattle.history.specs.declared.entry.Mode.TheVariants.{X, S};
-ghost use Rattle.history.specs.EntryReading.{given_up_at, come_back_at, recorded_at, asked_at, condition_at, sleepers_at, left_at, refused_at, lapse_at, back_at, shared_at, named_entry_at, entry_at, in_mode, on_condition};
-ghost use Rattle.history.specs.EntryWords.{mode_word, end_word, entry_words, GaveUp, CameBack, IsWritten};
+ghost use Rattle.history.specs.EntryReading.{given_up_at, come_back_at, recorded_at, asked_at, condition_at, sleepers_at, left_at, refused_at, lapse_at, back_at, shared_at, named_entry_at, entry_at, in_mode, on_condition, asking, waking};
+ghost use Rattle.history.specs.EntryWords.{mode_word, end_word, entry_words, spelt, GaveUp, CameBack, HasWords, IsWritten};
 ghost use Rattle.history.specs.Fault.{fault_name, IsRecorded};
-ghost use Rattle.history.specs.Reading.{with_rest};
+ghost use Rattle.history.specs.Reading.{Words, with_rest};
 
 use crate::entry::{End, Entry, Mode, Word};
 use crate::fault::Fault;
@@ -217,6 +218,28 @@ fn shared(words: &mut Words<'_>, seat: u16, word: Word, least: u64, most: u64) -
     Some(in_mode(seat, word, (Mode::S, n as u32)))
 }
 
+/// What an entry says that spells a condition and an amount alone, by its name.
+#[tactic(auto, unfolding(crate::specs::EntryReading::named_entry_at))]
+#[inline(always)]
+fn waking(name: &[u8]) -> Option<Word>
+    ensures is { IfSome result (λ word. (seat : ℕ) (ws : Words) →
+        named_entry_at seat name.now ws ≡ waking seat word ws) }
+    ensures found { IfSome result (λ word. (n at : ℕ) → HasWords word X n at end.None
+        × (spelt word X n at end.None ≡ name.now ∷ decimal at ∷ decimal n ∷ [])) }
+    ensures none { IfNone result ((bytes_eq name.now (codes "await") ≡ false)
+        × (bytes_eq name.now (codes "signal") ≡ false) × (bytes_eq name.now (codes "signalall") ≡ false)) }
+{
+    if name == b"await".as_slice() {
+        Some(Word::Await)
+    } else if name == b"signal".as_slice() {
+        Some(Word::Signal)
+    } else if name == b"signalall".as_slice() {
+        Some(Word::SignalAll)
+    } else {
+        None
+    }
+}
+
 /// An entry of this seat, behind its name: those with words of their own.
 #[tactic(auto, unfolding(crate::specs::EntryReading::named_entry_at))]
 fn named_entry(words: &mut Words<'_>, seat: u16, name: &[u8]) -> Option<Entry>
@@ -224,24 +247,48 @@ fn named_entry(words: &mut Words<'_>, seat: u16, name: &[u8]) -> Option<Entry>
     ensures found { IfSome result (λ e. IsWritten e × (e.seat ≡ seat)
         × (name.now ∷ words.old ≡ entry_words e ++ words.new)) }
 {
+    if let Some(word) = waking(name) {
+        return Some(on_condition(seat, word, sleepers(words)?));
+    }
     if name == b"left".as_slice() {
         left(words, seat)
     } else if name == b"refused".as_slice() {
         refused(words, seat)
-    } else if name == b"await".as_slice() {
-        Some(on_condition(seat, Word::Await, sleepers(words)?))
     } else if name == b"lapse".as_slice() {
         lapse(words, seat)
-    } else if name == b"signal".as_slice() {
-        Some(on_condition(seat, Word::Signal, sleepers(words)?))
-    } else if name == b"signalall".as_slice() {
-        Some(on_condition(seat, Word::SignalAll, sleepers(words)?))
     } else if name == b"back".as_slice() {
         back(words, seat)
     } else if name == b"counted".as_slice() {
         shared(words, seat, Word::Counted, 1, 1)
     } else if name == b"drained".as_slice() {
         shared(words, seat, Word::Drained, 0, MOST)
+    } else {
+        None
+    }
+}
+
+/// What an entry says that spells a mode and an amount alone, by its name.
+#[tactic(auto, unfolding(crate::specs::EntryReading::entry_at))]
+#[inline(always)]
+fn asking(name: &[u8]) -> Option<Word>
+    ensures is { MatchOption result
+        ((seat : ℕ) (ws : Words) → entry_at seat (name.now ∷ ws) ≡ named_entry_at seat name.now ws)
+        (λ word. (seat : ℕ) (ws : Words) → entry_at seat (name.now ∷ ws) ≡ asking seat word ws) }
+    ensures found { IfSome result (λ word. (m : Mode) (n : ℕ) → HasWords word m n 0 end.None
+        × (spelt word m n 0 end.None ≡ name.now ∷ mode_word m ∷ decimal n ∷ [])) }
+{
+    if name == b"got".as_slice() {
+        Some(Word::Got)
+    } else if name == b"trygot".as_slice() {
+        Some(Word::TryGot)
+    } else if name == b"queued".as_slice() {
+        Some(Word::Queued)
+    } else if name == b"granted".as_slice() {
+        Some(Word::Granted)
+    } else if name == b"missed".as_slice() {
+        Some(Word::Missed)
+    } else if name == b"gave".as_slice() {
+        Some(Word::Gave)
     } else {
         None
     }
@@ -261,20 +308,9 @@ impl<'a> Words<'a> {
             × (self.old ≡ entry_words e ++ self.new)) }
     {
         let name = self.next()?;
-        if name == b"got".as_slice() {
-            Some(in_mode(seat, Word::Got, asked(self)?))
-        } else if name == b"trygot".as_slice() {
-            Some(in_mode(seat, Word::TryGot, asked(self)?))
-        } else if name == b"queued".as_slice() {
-            Some(in_mode(seat, Word::Queued, asked(self)?))
-        } else if name == b"granted".as_slice() {
-            Some(in_mode(seat, Word::Granted, asked(self)?))
-        } else if name == b"missed".as_slice() {
-            Some(in_mode(seat, Word::Missed, asked(self)?))
-        } else if name == b"gave".as_slice() {
-            Some(in_mode(seat, Word::Gave, asked(self)?))
-        } else {
-            named_entry(self, seat, name)
+        match asking(name) {
+            Some(word) => Some(in_mode(seat, word, asked(self)?)),
+            None => named_entry(self, seat, name),
         }
     }
 }
