@@ -1,4 +1,4 @@
-use Rattle.std.proofs.Common.{arith}
+use Rattle.std.proofs.Common.{rules, arith}
 use Rattle.streams.proofs.Pieces.{none_read, one_read, many_read}
 use Rattle.streams.proofs.Written.{not_true}
 use Rattle.streams.proofs.whole.read_on.Goals as goal
@@ -18,3 +18,9 @@ pub returns-clause-memory : goal.returns-clause-memory
 returns-clause-memory g c = λ is.
     many_read (g.R.Source.left c.args.reader.now) (g.R.Source.left c.loop.reader) c.loop.counter
     c.loop.invariant.read (omega (arith, c.loop-test.false))
+
+pub returns-in-Ok-eq0-clause-end : goal.returns-in-Ok-eq0-clause-end
+returns-in-Ok-eq0-clause-end g c = search rules
+
+pub returns-in-Err-clause-failing : goal.returns-in-Err-clause-failing
+returns-in-Err-clause-failing g c = search rules

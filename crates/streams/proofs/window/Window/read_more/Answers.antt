@@ -1,4 +1,4 @@
-use Rattle.std.proofs.Common.{◌≡◌, ℕ, ◌++◌, List, slice_range, take, arith, ap, ◌∙◌}
+use Rattle.std.proofs.Common.{rules, ◌≡◌, ℕ, ◌++◌, List, slice_range, take, arith, ap, ◌∙◌}
 use Rattle.std.proofs.lemmas.List.{length-take-le}
 use Rattle.streams.specs.Window.{Seen}
 use Rattle.streams.proofs.Sliding.{grown}
@@ -23,3 +23,6 @@ returns-clause-grows g c =
           ∙ ap (λ (t : List ℕ). t ++ take n read) stood;
       count = length-take-le n read c.in-Ok.ensures.bound;
     }
+
+pub make_room-requires : goal.make_room-requires
+make_room-requires g c = search rules
