@@ -1,4 +1,4 @@
-use Rattle.std.proofs.Common.{sym, ap, ◌∙◌}
+use Rattle.std.proofs.Common.{rules, sym, ap, ◌∙◌}
 use Rattle.line_text.proofs.UnderWay.{more_behind}
 use Rattle.steps.specs.StepLines.{end_line}
 use Rattle.steps.specs.StepsText.{steps_form, steps_so_far}
@@ -11,3 +11,6 @@ returns-then-is_end-clause-line c = λ text.
     c.in-Some.line.now c.in-Some.after.now c.in-Some.ensures.0
     (λ text steps read. (rw read.count at end.0, end.1 ∙ ap end_line read.count)) (sym c.is_empty.ensures
     ∙ c.if-is_empty.false)
+
+pub returns-in-None-clause-line : goal.returns-in-None-clause-line
+returns-in-None-clause-line c = search rules

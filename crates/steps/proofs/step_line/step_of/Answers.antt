@@ -1,4 +1,4 @@
-use Rattle.std.proofs.Common.{arith}
+use Rattle.std.proofs.Common.{rules, arith}
 use Rattle.steps.proofs.StepLemmas.{unread, not_all_read, is_step_line}
 use Rattle.steps.proofs.step_line.step_of.Goals as goal
 
@@ -16,3 +16,6 @@ pub returns-in-None-clause-found : goal.returns-in-None-clause-found
 returns-in-None-clause-found c =
     let words = rw (c.of-words.ensures, c.in-None.ensures.0) at c.in_ok-asked.ensures.found in
     (words.0, is_step_line c.args.line.now c.in_ok-asked.asked words.1)
+
+pub returns-in-Some-clause-found : goal.returns-in-Some-clause-found
+returns-in-Some-clause-found c = search rules

@@ -1,4 +1,4 @@
-use Rattle.std.proofs.Common.{arith, sym, ◌∙◌}
+use Rattle.std.proofs.Common.{rules, arith, sym, ◌∙◌}
 use Rattle.std.proofs.lemmas.Bool.{false≢true}
 use Rattle.history.specs.Start.{opening}
 use Rattle.audit.proofs.Fronts.{has_seat, wrong_now, wrong_still}
@@ -43,3 +43,9 @@ returns-clause-judged c = λ k h was seat.
           ∙ (w.admits.ensures s h stands).1 next)) in
           rw w.self-is (record { count = omega (arith, was.count); so_far = rw was.count wrong })
     ]
+
+pub returns-in_err-note-in-None-clause-uncounted : goal.returns-in_err-note-in-None-clause-uncounted
+returns-in_err-note-in-None-clause-uncounted c = search rules
+
+pub returns-in_err-note-in-None-clause-err : goal.returns-in_err-note-in-None-clause-err
+returns-in_err-note-in-None-clause-err c = search rules

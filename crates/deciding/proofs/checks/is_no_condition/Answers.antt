@@ -1,0 +1,5 @@
+use Rattle.std.proofs.Common.{rules}
+use Rattle.deciding.proofs.checks.is_no_condition.Goals as goal
+
+pub returns-in-Await : goal.returns-in-Await
+returns-in-Await c = search rules
