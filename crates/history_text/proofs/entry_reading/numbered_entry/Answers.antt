@@ -2,10 +2,6 @@ use Rattle.std.proofs.Common.{rules}
 use Rattle.history_text.specs.EntryReading.{line_at}
 use Rattle.history_text.proofs.entry_reading.numbered_entry.Goals as goal
 
-pub returns-in_err-seat-clause-is : goal.returns-in_err-seat-clause-is
-unfolding line_at
-returns-in_err-seat-clause-is c = search rules
-
 pub returns-clause-is : goal.returns-clause-is
 unfolding line_at
 returns-clause-is c = search rules
