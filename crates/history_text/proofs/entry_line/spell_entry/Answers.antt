@@ -1,4 +1,5 @@
 use Rattle.std.proofs.Common.{◌≡◌, ◌+◌, drop, ◌∙◌, arith}
+use Rattle.std.proofs.lemmas.Grind.{common_steps}
 use Rattle.history.proofs.PieceFronts.{rest_behind}
 use Rattle.history_text.proofs.entry_line.spell_entry.Goals as goal
 
@@ -13,3 +14,6 @@ returns-clause-rest c =
     let words : drop m c.spell_words.new.line ≡ drop m c.put_byte-words_at.new.line =
     grind (arith, rest_behind) in
     words ∙ gap ∙ seat ∙ space
+
+pub returns-clause-line : goal.returns-clause-line
+returns-clause-line c = grind (arith, common_steps)

@@ -1,4 +1,4 @@
-use Rattle.std.proofs.Common.{arith}
+use Rattle.std.proofs.Common.{arith, rules}
 use Rattle.history_text.proofs.EntryLemmas.{unread, not_all_read, is_entry_line}
 use Rattle.history_text.proofs.entry_reading.entry_of.Goals as goal
 
@@ -16,3 +16,6 @@ pub returns-in-None-clause-found : goal.returns-in-None-clause-found
 returns-in-None-clause-found c =
     let words = rw (c.of-words.ensures, c.in-None.ensures.0) at c.in_ok-entry.ensures.found in
     (words.0, is_entry_line c.args.line.now c.args.number c.in_ok-entry.entry words.1)
+
+pub returns-in-Some-clause-found : goal.returns-in-Some-clause-found
+returns-in-Some-clause-found c = search rules

@@ -1,4 +1,4 @@
-use Rattle.std.proofs.Common.{◌≡◌, ℕ, ◌+◌, ◌<◌, List, Some, reverse, get_or, refl, subst, ◌∙◌, arith, below_more}
+use Rattle.std.proofs.Common.{◌≡◌, ℕ, ◌+◌, ◌<◌, List, Some, reverse, get_or, refl, subst, ◌∙◌, arith, below_more, rules}
 use Rattle.std.specs.List.{slice_get}
 use Rattle.std.proofs.lemmas.List.{length-reverse}
 use Rattle.std.proofs.lemmas.Option.{slice_get-get_or}
@@ -40,3 +40,6 @@ returns c =
       }),
       (λ f. refl),
     )
+
+pub loop-number-init : goal.loop-number-init
+loop-number-init c = search rules

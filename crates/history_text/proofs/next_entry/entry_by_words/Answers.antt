@@ -1,4 +1,5 @@
-use Rattle.std.proofs.Common.{sym, ◌∙◌}
+use Rattle.std.proofs.Common.{sym, ◌∙◌, rules, arith}
+use Rattle.std.proofs.lemmas.Grind.{common_steps}
 use Rattle.std.proofs.lemmas.Bool.{eqb-true}
 use Rattle.line_text.proofs.UnderWay.{all_read, more_behind}
 use Rattle.history_text.specs.HistoryText.{entries_so_far, history_form}
@@ -22,3 +23,12 @@ returns-then-is_end-clause-line c = λ text.
     more_behind history_form text (entries_so_far c.args.header.now c.args.count c.args.calls)
     c.args.rest.now c.in-Some.line.now c.in-Some.after.now c.in-Some.ensures.0
     end (sym c.is_empty.ensures ∙ c.if-is_empty.false)
+
+pub returns-in-Some-entry_of-clause-line : goal.returns-in-Some-entry_of-clause-line
+returns-in-Some-entry_of-clause-line c = grind (arith, common_steps)
+
+pub returns-in-None-clause-line : goal.returns-in-None-clause-line
+returns-in-None-clause-line c = search rules
+
+pub returns-then-count-from-clause-line : goal.returns-then-count-from-clause-line
+returns-then-count-from-clause-line c = search rules

@@ -1,4 +1,4 @@
-use Rattle.std.proofs.Common.{ℕ, ◌≤◌, ◌-◌, ◌∙◌, sym, subst, refl, arith}
+use Rattle.std.proofs.Common.{ℕ, ◌≤◌, ◌-◌, ◌∙◌, sym, subst, refl, arith, rules}
 use Rattle.history.specs.Could.{max_shared}
 use Rattle.read_write.specs.State.{state_of}
 use Rattle.read_write.specs.State.{IsSound}
@@ -60,3 +60,6 @@ returns-else-opens-clause-kept c _ k h j m b _ _ ne f =
     let most : s.readers ≤ max_shared = omega arith in
     rw c.in-S.is (read_less_kept (state_of s) k (sound_of s) h c.args.who c.args._n some neither.0 neither.1
     most j m b f)
+
+pub returns-then-holds-eq0-clause-word : goal.returns-then-holds-eq0-clause-word
+returns-then-holds-eq0-clause-word c = search rules

@@ -1,4 +1,4 @@
-use Rattle.std.proofs.Common.{ℕ, ◌+◌, ◌<◌, ◌∙◌, sym, subst, refl, arith}
+use Rattle.std.proofs.Common.{ℕ, ◌+◌, ◌<◌, ◌∙◌, sym, subst, refl, arith, rules}
 use Rattle.history.specs.declared.entry.Mode.TheVariants.{S}
 use Rattle.read_write.specs.State.{state_of}
 use Rattle.read_write.specs.State.{IsSound}
@@ -148,3 +148,6 @@ returns-then-is_last_read-clause-last c _ k h seat j b _ _ ne =
     let s = c.args.self.now in
     let last = sym c.is_last_read.ensures ∙ c.if-is_last_read.true in
     rw c.in-S.is (read_last (state_of s) k (sound_of s) h c.args.who c.args._n last seat j b ne)
+
+pub returns-else-is_last_read-clause-last : goal.returns-else-is_last_read-clause-last
+returns-else-is_last_read-clause-last c = search rules

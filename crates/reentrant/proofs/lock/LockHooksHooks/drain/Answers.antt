@@ -1,0 +1,5 @@
+use Rattle.std.proofs.Common.{rules}
+use Rattle.reentrant.proofs.lock.LockHooksHooks.drain.Goals as goal
+
+pub returns-clause-drained : goal.returns-clause-drained
+returns-clause-drained c = search rules
