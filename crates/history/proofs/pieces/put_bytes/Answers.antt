@@ -1,4 +1,4 @@
-use Rattle.std.proofs.Common.{arith}
+use Rattle.std.proofs.Common.{rules, arith}
 use Rattle.std.proofs.lemmas.Grind.{common_steps}
 use Rattle.std.proofs.lemmas.List.{drop-set-lt}
 use Rattle.history.proofs.PieceFronts.{rest_behind}
@@ -9,3 +9,6 @@ loop-i-preserved c = record {
   put = grind (arith, common_steps);
   rest = grind (arith, common_steps, drop-set-lt, rest_behind);
 }
+
+pub returns-clause-end : goal.returns-clause-end
+returns-clause-end c = search rules

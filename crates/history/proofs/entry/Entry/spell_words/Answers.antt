@@ -13,3 +13,9 @@ returns-in-Refused-clause-rest c =
     ∙ rest_behind c.put_asked-space_at.new.line c.put_byte-name_at.new.line _ _
     c.put_byte-name_at.ensures.rest space
     ∙ rest_behind c.args.line.now c.put_asked-space_at.new.line _ _ c.put_asked-space_at.ensures.rest asked
+
+pub returns-in-Drained-clause-words : goal.returns-in-Drained-clause-words
+returns-in-Drained-clause-words c = search rules
+
+pub returns-in-Granted-clause-words : goal.returns-in-Granted-clause-words
+returns-in-Granted-clause-words c = search rules

@@ -1,0 +1,5 @@
+use Rattle.std.proofs.Common.{rules}
+use Rattle.history.proofs.entries.History.cap.Goals as goal
+
+pub returns : goal.returns
+returns c = search rules
