@@ -60,6 +60,3 @@ pub use lock::WordLock;
 pub use point::Point;
 pub use token::Token;
 pub use view::SeatLog;
-
-#[cfg(test)]
-mod tests;

@@ -5,7 +5,7 @@ use Rattle.history.specs.declared.entry.Entry.{Entry}
 use Rattle.word_lock.specs.declared.point.Point.{Point}
 use Rattle.word_lock.specs.Point.{Follows}
 use Rattle.word_lock.proofs.PointLaws.{follows_same, follows_push}
-use Rattle.word_lock.proofs.tests.notes.Notes.add.Goals as goal
+use Rattle.lock_checks.proofs.notes.Notes.add.Goals as goal
 
 pub returns : goal.returns
 returns c =

@@ -4,16 +4,16 @@ ghost use Rattle.word_lock.specs.declared.point.Point.{Point};
 ghost use Rattle.word_lock.specs.Ticket.{opening_tickets};
 ghost use Rattle.word_lock.specs.Ready.{IsReady};
 
-use super::notes::{Notes, got};
-use crate::{Token, WordLock};
+use crate::notes::{Notes, got};
 use std::alloc::AllocError;
 use std::rt::Clock;
 use std::sync::Wait;
 use std::thread::{Threads, join, sleep};
 use std::time::Duration;
+use word_lock::{Token, WordLock};
 
 /// The last of the tokens that `open` gave.
-pub(super) fn last(lock: &WordLock<Notes>, tokens: &mut Vec<Token>, left: u16) -> Token
+pub fn last(lock: &WordLock<Notes>, tokens: &mut Vec<Token>, left: u16) -> Token
     requires few { left < 100 }
     requires tokens { (p : Point) × (tokens.old.items ≡ opening_tickets lock.now p 0 (left + 1)) }
     ensures rest { (p : Point) × (tokens.new.items ≡ opening_tickets lock.now p 0 left) }
@@ -26,7 +26,7 @@ pub(super) fn last(lock: &WordLock<Notes>, tokens: &mut Vec<Token>, left: u16) -
 }
 
 /// Adds one entry, waiting for the lock.
-pub(super) fn add<R: Wait>(
+pub fn add<R: Wait>(
     rt: &R,
     lock: &WordLock<Notes>,
     token: &mut Token,
@@ -42,7 +42,7 @@ pub(super) fn add<R: Wait>(
 }
 
 /// Adds one entry `before` milliseconds from now, and has the lock for `within` milliseconds.
-pub(super) fn add_slowly<R: Wait + Clock>(
+pub fn add_slowly<R: Wait + Clock>(
     rt: &R,
     lock: &WordLock<Notes>,
     token: Token,
@@ -64,12 +64,7 @@ pub(super) fn add_slowly<R: Wait + Clock>(
 }
 
 /// How many entries the seat `of` has, if nobody has the value.
-pub(super) fn count_now(
-    lock: &WordLock<Notes>,
-    token: &mut Token,
-    seat: u16,
-    of: u16,
-) -> Option<usize>
+pub fn count_now(lock: &WordLock<Notes>, token: &mut Token, seat: u16, of: u16) -> Option<usize>
     requires { IsReady lock.now seat token.old }
     ensures { IsReady lock.now seat token.new }
 {
@@ -97,7 +92,7 @@ fn add_all<R: Wait>(
 }
 
 /// Two threads add `count` entries each, and their tokens are joined.
-pub(super) fn two_add<R: Threads + Wait + Sync>(
+pub fn two_add<R: Threads + Wait + Sync>(
     rt: &R,
     lock: &WordLock<Notes>,
     a: Token,

@@ -1,6 +1,6 @@
 use Rattle.word_lock.proofs.PointLaws.{follows_same}
 use Rattle.word_lock.proofs.Sections.{follows_taken}
-use Rattle.word_lock.proofs.tests.adds.count_now.Goals as goal
+use Rattle.lock_checks.proofs.adds.count_now.Goals as goal
 
 pub unlock-requires-clause-follows : goal.unlock-requires-clause-follows
 unlock-requires-clause-follows c =

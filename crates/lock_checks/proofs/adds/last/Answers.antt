@@ -3,7 +3,7 @@ use Rattle.word_lock.specs.declared.point.Point.{Point}
 use Rattle.word_lock.specs.Ready.{IsReady}
 use Rattle.word_lock.specs.Ticket.{LockId, Ticket, opening_ticket, opening_tickets}
 use Rattle.word_lock.proofs.Tokens.{last_opening_ticket}
-use Rattle.word_lock.proofs.tests.adds.last.Goals as goal
+use Rattle.lock_checks.proofs.adds.last.Goals as goal
 
 parts : (lock : LockId) (p : Point) (n m : ℕ) (all l : List Ticket) (t : Ticket) → m ≡ suc n →
     all ≡ opening_tickets lock p 0 m → all ≡ l ++ t ∷ []

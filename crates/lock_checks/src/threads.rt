@@ -1,71 +1,17 @@
+//! Threads that add entries under one lock.
 ghost use Rattle.std.specs.Prelude.{◌≡◌, true, IfOk};
 ghost use Rattle.std.specs.Thread.{IsSync};
 ghost use Rattle.word_lock.specs.Ready.{IsReady};
 
-use super::*;
-use crate::dealing::make_table;
-use linked_list_allocator::LocalHeap;
+use crate::adds::{add_slowly, last, two_add};
+use crate::notes::Notes;
 use std::alloc::AllocError;
 use std::process::Abort;
 use std::rt::Clock;
 use std::sync::Wait;
 use std::test::Fail;
 use std::thread::{Threads, join};
-
-mod adds;
-mod notes;
-
-use adds::{add, add_slowly, count_now, last, two_add};
-use notes::{HEADER, Notes, got};
-
-// Whether one token finds the value out while the other, whose seat is 0, adds an entry.
-fn is_refused_meanwhile<R: Wait>(
-    rt: &R,
-    lock: &WordLock<Notes>,
-    zero: &mut Token,
-    one: &mut Token,
-) -> bool
-    requires zero { IsReady lock.now 0 zero.old }
-    requires one { IsReady lock.now 1 one.old }
-    ensures zero { IsReady lock.now 0 zero.new }
-    ensures one { IsReady lock.now 1 one.new }
-{
-    let mut held = lock.lock(rt, zero);
-    let holds = !zero.is_free();
-    let count = count_now(lock, one, 1, 0);
-    let added = held.value.add(got(0));
-    lock.unlock(zero, held);
-    holds && zero.is_free() && count.is_none() && added.is_ok()
-}
-
-#[test]
-fn one_finds_what_the_other_gave_back(rt: HostRuntime) -> Result<(), Fail> {
-    let Ok((lock, mut tokens)) = WordLock::open(rt.alloc(), Notes::new(rt.alloc()), 2) else {
-        panic!(rt; "memory")
-    };
-    let mut one = last(&lock, &mut tokens, 1);
-    let mut zero = last(&lock, &mut tokens, 0);
-    assert!(rt; is_refused_meanwhile(&rt, &lock, &mut zero, &mut one));
-    assert_eq!(rt; count_now(&lock, &mut one, 1, 0), Some(1));
-    Ok(())
-}
-
-#[test]
-fn tokens_meet_and_join(rt: HostRuntime) -> Result<(), Fail> {
-    let Ok((lock, mut tokens)) = WordLock::open(rt.alloc(), Notes::new(rt.alloc()), 2) else {
-        panic!(rt; "memory")
-    };
-    let one = last(&lock, &mut tokens, 1);
-    let mut zero = last(&lock, &mut tokens, 0);
-    add(&rt, &lock, &mut zero, 0)?;
-    let (mut zero, mut one) = lock.meet(zero, one);
-    add(&rt, &lock, &mut one, 1)?;
-    assert_eq!(rt; count_now(&lock, &mut zero, 0, 1), Some(1));
-    let token = lock.join(zero, one);
-    let notes = lock.close(&rt, token);
-    assert_eq!(rt; (notes.count_of(0), notes.count_of(1)), (1, 1));
-    Ok(())
-}
+use word_lock::{Token, WordLock};
 
 #[test]
 fn four_threads_add_500_entries_each(rt: HostRuntime) -> Result<(), Fail> {
@@ -153,25 +99,4 @@ fn two_add_slowly<R: Threads + Wait + Clock + Sync>(
     let x = x?;
     let y = y?;
     Ok(lock.join(x, y))
-}
-
-// Heaps that are larger and larger refuse each of the requests in turn, and then none.
-#[test]
-fn the_value_comes_back_where_memory_is_refused(rt: HostRuntime) -> Result<(), Fail> {
-    let mut enough = 64usize;
-    for size in 0..64usize {
-        let heap = LocalHeap::new(rt.alloc(), 16 * size)?;
-        match make_table(&heap, Notes::new(rt.alloc()), 4) {
-            Ok((_table, tokens)) => {
-                assert_eq!(rt; tokens.len(), 4);
-                enough = enough.min(size);
-            }
-            Err(notes) => {
-                assert!(rt; notes.header == HEADER && heap.used() == 0, "at {size}");
-                assert!(rt; size < enough, "at {size}");
-            }
-        }
-    }
-    assert!(rt; 4 <= enough && enough < 64, "at {enough}");
-    Ok(())
 }

@@ -1,6 +1,6 @@
 use Rattle.std.proofs.Common.{sym, ◌∙◌}
 use Rattle.word_lock.proofs.Sections.{follows_taken}
-use Rattle.word_lock.proofs.tests.is_refused_meanwhile.Goals as goal
+use Rattle.lock_checks.proofs.turns.is_refused_meanwhile.Goals as goal
 
 pub unlock-requires-clause-follows : goal.unlock-requires-clause-follows
 unlock-requires-clause-follows g c =

@@ -2,10 +2,10 @@
 ghost use Rattle.std.specs.Prelude.{◌≡◌, [], reverse};
 ghost use Rattle.word_lock.specs.Point.{Follows};
 
-use crate::Chronicle;
 use history::entry::{End, Entry, Mode, Word};
 use history::header::{Header, Object, Policy};
 use std::alloc::{AllocError, Global};
+use word_lock::Chronicle;
 
 pub const HEADER: Header = Header {
     object: Object::Lock(Policy::Fair),
@@ -14,7 +14,7 @@ pub const HEADER: Header = Header {
     cap: 4000,
 };
 
-pub(super) fn got(seat: u16) -> Entry
+pub fn got(seat: u16) -> Entry
     ensures { result.seat ≡ seat }
 {
     Entry {
@@ -46,7 +46,7 @@ impl Chronicle for Notes {
 }
 
 impl Notes {
-    pub(super) fn new(alloc: Global) -> Notes
+    pub fn new(alloc: Global) -> Notes
         ensures { result.list.items ≡ [] }
     {
         Notes {
@@ -55,7 +55,7 @@ impl Notes {
         }
     }
 
-    pub(super) fn add(&mut self, entry: Entry) -> Result<(), AllocError>
+    pub fn add(&mut self, entry: Entry) -> Result<(), AllocError>
         ensures { Follows entry.seat
             (record { header = self.old.header; list = reverse self.old.list.items })
             (record { header = self.new.header; list = reverse self.new.list.items }) }
@@ -65,7 +65,7 @@ impl Notes {
     }
 
     /// How many entries the seat has.
-    pub(super) fn count_of(&self, seat: u16) -> usize {
+    pub fn count_of(&self, seat: u16) -> usize {
         self.list.iter().filter(|entry| entry.seat == seat).count()
     }
 }
