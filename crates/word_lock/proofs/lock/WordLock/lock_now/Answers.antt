@@ -9,3 +9,6 @@ returns-in-Some-clause-taken g c = search rules
 
 pub returns-in-Some-clause-fact : goal.returns-in-Some-clause-fact
 returns-in-Some-clause-fact g c = search rules
+
+pub returns-in-Some-clause-none : goal.returns-in-Some-clause-none
+returns-in-Some-clause-none g c = search rules
