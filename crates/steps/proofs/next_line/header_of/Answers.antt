@@ -1,4 +1,4 @@
-use Rattle.std.proofs.Common.{ℕ, List, Result, Ok, Err, codes}
+use Rattle.std.proofs.Common.{ℕ, List, Result, Ok, Err, codes, rules}
 use Rattle.std.specs.Borrow.{Bor}
 use Rattle.std.specs.Prelude.{IfOk}
 use Rattle.history.specs.declared.header.Header.{Header}
@@ -15,3 +15,6 @@ begun (Err fault) text e = tt
 
 pub returns-clause-ok : goal.returns-clause-ok
 returns-clause-ok c = begun c.first_header.result c.args.text.now c.first_header.ensures.ok
+
+pub returns-clause-err : goal.returns-clause-err
+returns-clause-err c = search rules
