@@ -78,7 +78,7 @@ impl End {
 impl Entry {
     ghost use Rattle.std.specs.Prelude.{◌≡◌, ◌+◌, ◌≤◌, ◌++◌, ◌↔◌, IsTrue, OnOk, OnErr, IsOkUnless, take, drop, length};
     ghost use Rattle.history.specs.Text.{line_of};
-    ghost use Rattle.history.specs.EntryWords.{entry_words, IsSpelt, IsWritten};
+    ghost use Rattle.history.specs.EntryWords.{entry_words, IsAsked, IsOfCondition, IsSpelt, IsWritten};
 
     /// Whether words spell it: the fields that the words of its kind leave out are as they take them to be.
     pub fn is_spelt(&self) -> bool
@@ -146,39 +146,79 @@ impl Entry {
             word,
             mode,
             n,
-            at: condition,
+            at: _,
             end,
         } = *self;
         match word {
-            Word::Got => put_asked(line, at, b"got", b"got x 1", mode, n),
-            Word::TryGot => put_asked(line, at, b"trygot", b"trygot x 1", mode, n),
-            Word::Queued => put_asked(line, at, b"queued", b"queued x 1", mode, n),
-            Word::Granted => put_asked(line, at, b"granted", b"granted x 1", mode, n),
-            Word::Missed => put_asked(line, at, b"missed", b"missed x 1", mode, n),
+            Word::Got | Word::TryGot | Word::Queued | Word::Granted | Word::Missed | Word::Gave => {
+                self.spell_asked(line, at)
+            }
             Word::Left => {
                 let end_at = put_asked(line, at, b"left", b"left x 1", mode, n);
                 put_bytes(line, end_at, end.behind_space())
             }
-            Word::Gave => put_asked(line, at, b"gave", b"gave x 1", mode, n),
             Word::Refused(fault) => {
                 let space_at = put_asked(line, at, b"refused", b"refused x 1", mode, n);
                 let name_at = put_byte(line, space_at, b' ');
                 put_bytes(line, name_at, fault.name().as_bytes())
             }
-            Word::Await => put_at(line, at, b"await ", condition, n),
-            Word::Lapse => {
-                let condition_at = put_bytes(line, at, b"lapse ");
-                let end_at = spell(line, condition_at, u64::from(condition));
-                put_bytes(line, end_at, end.behind_space())
+            Word::Await | Word::Lapse | Word::Signal | Word::SignalAll | Word::Back => {
+                self.spell_slept(line, at)
             }
+            Word::Counted => put_amount(line, at, b"counted", mode, n),
+            Word::Drained => put_amount(line, at, b"drained", mode, n),
+        }
+    }
+
+    /// The same of the words that a mode and an amount spell alone.
+    #[tactic(auto, using(crate::proofs::PieceFronts::rest_behind))]
+    #[inline(always)]
+    fn spell_asked(&self, line: &mut [u8], at: usize) -> usize
+        requires asked { IsAsked self.now.word }
+        requires room { at + 64 ≤ length line.old }
+        ensures end { result ≤ at + 64 }
+        ensures words { take result line.new ≡ take at line.old ++ line_of (entry_words self.now) }
+        ensures rest { drop (at + 64) line.new ≡ drop (at + 64) line.old }
+    {
+        let mode = self.mode;
+        let n = self.n;
+        match self.word {
+            Word::Got => put_asked(line, at, b"got", b"got x 1", mode, n),
+            Word::TryGot => put_asked(line, at, b"trygot", b"trygot x 1", mode, n),
+            Word::Queued => put_asked(line, at, b"queued", b"queued x 1", mode, n),
+            Word::Granted => put_asked(line, at, b"granted", b"granted x 1", mode, n),
+            Word::Missed => put_asked(line, at, b"missed", b"missed x 1", mode, n),
+            Word::Gave => put_asked(line, at, b"gave", b"gave x 1", mode, n),
+            _ => unreachable!(),
+        }
+    }
+
+    /// The same of the words of conditions.
+    #[tactic(auto, using(crate::proofs::PieceFronts::rest_behind))]
+    #[inline(always)]
+    fn spell_slept(&self, line: &mut [u8], at: usize) -> usize
+        requires slept { IsOfCondition self.now.word }
+        requires room { at + 64 ≤ length line.old }
+        ensures end { result ≤ at + 64 }
+        ensures words { take result line.new ≡ take at line.old ++ line_of (entry_words self.now) }
+        ensures rest { drop (at + 64) line.new ≡ drop (at + 64) line.old }
+    {
+        let condition = self.at;
+        let n = self.n;
+        match self.word {
+            Word::Await => put_at(line, at, b"await ", condition, n),
             Word::Signal => put_at(line, at, b"signal ", condition, n),
             Word::SignalAll => put_at(line, at, b"signalall ", condition, n),
             Word::Back => {
                 let end_at = put_at(line, at, b"back ", condition, n);
-                put_bytes(line, end_at, end.behind_space())
+                put_bytes(line, end_at, self.end.behind_space())
             }
-            Word::Counted => put_amount(line, at, b"counted", mode, n),
-            Word::Drained => put_amount(line, at, b"drained", mode, n),
+            Word::Lapse => {
+                let condition_at = put_bytes(line, at, b"lapse ");
+                let end_at = spell(line, condition_at, u64::from(condition));
+                put_bytes(line, end_at, self.end.behind_space())
+            }
+            _ => unreachable!(),
         }
     }
 }

@@ -16,6 +16,3 @@ returns-in-Refused-clause-rest c =
 
 pub returns-in-Drained-clause-words : goal.returns-in-Drained-clause-words
 returns-in-Drained-clause-words c = search rules
-
-pub returns-in-Granted-clause-words : goal.returns-in-Granted-clause-words
-returns-in-Granted-clause-words c = search rules
