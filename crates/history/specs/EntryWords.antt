@@ -37,7 +37,7 @@ spelt word.Back m n at e = codes "back" ∷ decimal at ∷ decimal n ∷ end_wor
 spelt word.Counted m n at e = codes "counted" ∷ mode_word m ∷ decimal n ∷ []
 spelt word.Drained m n at e = codes "drained" ∷ mode_word m ∷ decimal n ∷ []
 
--- the words that a mode and an amount spell alone, of an object held in either mode
+-- the words of asking and giving: a mode and an amount follow, and nothing else
 abbrev pub IsAsked : Word → Type 0
 IsAsked word.Got = Unit {0}
 IsAsked word.TryGot = Unit {0}
@@ -47,7 +47,7 @@ IsAsked word.Missed = Unit {0}
 IsAsked word.Gave = Unit {0}
 IsAsked _ = ⊥
 
--- the words of conditions
+-- the words of sleeping on a condition and of being woken there
 abbrev pub IsOfCondition : Word → Type 0
 IsOfCondition word.Await = Unit {0}
 IsOfCondition word.Lapse = Unit {0}

@@ -170,7 +170,7 @@ impl Entry {
         }
     }
 
-    /// The same of the words that a mode and an amount spell alone.
+    /// The same of asking and giving: a mode and an amount follow the word.
     #[tactic(auto, using(crate::proofs::PieceFronts::rest_behind))]
     #[inline(always)]
     fn spell_asked(&self, line: &mut [u8], at: usize) -> usize
@@ -193,7 +193,7 @@ impl Entry {
         }
     }
 
-    /// The same of the words of conditions.
+    /// The same of sleeping on a condition and of being woken there.
     #[tactic(auto, using(crate::proofs::PieceFronts::rest_behind))]
     #[inline(always)]
     fn spell_slept(&self, line: &mut [u8], at: usize) -> usize
