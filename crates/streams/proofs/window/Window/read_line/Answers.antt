@@ -1,18 +1,7 @@
-use Rattle.std.proofs.Common.{Bool, true, false, ◌≡◌, ◌≢◌, ℕ, Option, None, Some, rules, arith, length, length-append, ap, sym, subst, refl, ◌∙◌}
-use Rattle.std.specs.Prelude.{MatchOption, not, ◌==◌}
-use Rattle.std.specs.Option.{is_some}
+use Rattle.std.proofs.Common.{rules, arith, length, length-append, ap, sym, ◌∙◌}
 use Rattle.std.proofs.lemmas.Bool.{false≢true}
-use Rattle.std.proofs.lemmas.List.Elements.{All-from_get_or}
 use Rattle.std.proofs.lemmas.Grind.{common_steps}
-use Rattle.history.specs.Text.{IsLine}
 use Rattle.streams.proofs.window.Window.read_line.Goals as goal
-
--- what isn't nowhere was found
-found : (P : Type 0) (Q : ℕ → Type 0) (r : Option ℕ) (none : Bool) → MatchOption r P Q
-    → is_some r ≡ not none → (P → ⊥) → none ≡ false
-found P Q None none p e somewhere = absurd (somewhere p)
-found P Q (Some i) true q e somewhere = absurd (false≢true (sym e))
-found P Q (Some i) false q e somewhere = refl
 
 pub loop-wanted-smaller : goal.loop-wanted-smaller
 loop-wanted-smaller g c =
@@ -42,18 +31,3 @@ loop-wanted-preserved g c =
       );
       whole = grind (arith, common_steps);
     }
-
-pub loop-wanted-init : goal.loop-wanted-init
-loop-wanted-init g c = record {
-  kept = search rules;
-  going = c.requires;
-  ready = λ whole. (
-    found _ _ c.memchr.result c.is_none-wanted.result c.memchr.ensures c.is_none-wanted.ensures
-        (λ nowhere. whole (subst IsLine c.bytes.ensures (All-from_get_or (λ (b : ℕ). b ≢ 10) _ 0
-        (λ i below is. nowhere i (omega arith) below (ap (λ (b : ℕ). b == 10) is))))),
-    search rules,
-    search rules,
-  );
-  room = grind (arith, common_steps);
-  whole = grind (arith, common_steps);
-}
