@@ -1,4 +1,4 @@
-use Rattle.std.proofs.Common.{refl}
+use Rattle.std.proofs.Common.{refl, rules}
 use Rattle.driver.proofs.Audits.{some_told, told_of}
 use Rattle.streams.specs.Whole.{AppendsFront}
 use Rattle.std.specs.Io.KnownBytes.{Appends}
@@ -21,3 +21,9 @@ returns-in-Ok-clause-audits g c =
 
 pub returns-in-Ok-clause-write : goal.returns-in-Ok-clause-write
 returns-in-Ok-clause-write g c = (λ e. c.in-Err-write_all.ensures.failing.1 refl, λ t. refl)
+
+pub returns-clause-audits : goal.returns-clause-audits
+returns-clause-audits g c = search rules
+
+pub returns-clause-write : goal.returns-clause-write
+returns-clause-write g c = search rules

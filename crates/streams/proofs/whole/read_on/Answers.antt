@@ -24,3 +24,6 @@ returns-in-Ok-eq0-clause-end g c = search rules
 
 pub returns-in-Err-clause-failing : goal.returns-in-Err-clause-failing
 returns-in-Err-clause-failing g c = search rules
+
+pub returns-in-Err-clause-end : goal.returns-in-Err-clause-end
+returns-in-Err-clause-end g c = search rules

@@ -1,5 +1,6 @@
 use Rattle.std.proofs.Common.{◌-◌, length, drop, arith}
 use Rattle.std.proofs.lemmas.List.{length-take, length-drop}
+use Rattle.std.proofs.lemmas.Grind.{common_steps}
 use Rattle.streams.proofs.Written.{one_more, not_true}
 use Rattle.streams.proofs.whole.write_all.Goals as goal
 
@@ -17,3 +18,6 @@ loop-at-preserved g c = record {
   );
   going = not_true (g.W.Sink.failed c.write.new.self) (λ t. c.in_ok-at.ensures.failing.0 t);
 }
+
+pub returns-clause-ok : goal.returns-clause-ok
+returns-clause-ok g c = grind (arith, common_steps)

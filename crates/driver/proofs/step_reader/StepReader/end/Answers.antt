@@ -1,4 +1,4 @@
-use Rattle.std.proofs.Common.{refl}
+use Rattle.std.proofs.Common.{refl, rules}
 use Rattle.driver.proofs.ReadingAhead.{more_left}
 use Rattle.driver.proofs.step_reader.StepReader.end.Goals as goal
 
@@ -10,3 +10,12 @@ returns-then-branch-gt0-clause-behind g c =
           (g.R.Source.left c.args.reader.now) (g.R.Source.left c.read_more.new.reader)
           c.in_ok-read_more.field-0 c.in_ok-read_more.ensures.grows c.if-branch-gt0.true,
     )
+
+pub returns-clause-ended : goal.returns-clause-ended
+returns-clause-ended g c = search rules
+
+pub returns-clause-count : goal.returns-clause-count
+returns-clause-count g c = search rules
+
+pub returns-then-branch-gt0-clause-ended : goal.returns-then-branch-gt0-clause-ended
+returns-then-branch-gt0-clause-ended g c = search rules

@@ -1,5 +1,6 @@
 use Rattle.std.proofs.Common.{rules, ◌≡◌, ℕ, ◌++◌, List, slice_range, take, arith, ap, ◌∙◌}
 use Rattle.std.proofs.lemmas.List.{length-take-le}
+use Rattle.std.proofs.lemmas.Grind.{common_steps}
 use Rattle.streams.specs.Window.{Seen}
 use Rattle.streams.proofs.Sliding.{grown}
 use Rattle.streams.proofs.window.Window.read_more.Goals as goal
@@ -26,3 +27,6 @@ returns-clause-grows g c =
 
 pub make_room-requires : goal.make_room-requires
 make_room-requires g c = search rules
+
+pub returns-in_default-clause-kept : goal.returns-in_default-clause-kept
+returns-in_default-clause-kept g c = grind (arith, common_steps)
