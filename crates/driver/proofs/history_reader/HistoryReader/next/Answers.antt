@@ -1,4 +1,4 @@
-use Rattle.std.proofs.Common.{[], arith, refl}
+use Rattle.std.proofs.Common.{[], arith, refl, rules}
 use Rattle.history_text.specs.HistoryText.{entries_so_far, history_form}
 use Rattle.history_text.proofs.HistoryReading.{more_calls}
 use Rattle.driver.proofs.ReadingAhead.{item_ahead, line_within}
@@ -27,3 +27,6 @@ pub returns-in-Ok-Some-clause-counted : goal.returns-in-Ok-Some-clause-counted
 returns-in-Ok-Some-clause-counted g c =
     let found = (rw (c.in-Ok-Some.field-0-is, c.bytes.ensures) at c.in-Ok-Some.ensures.line) [] in
     rw (← c.self.view_is, c.pass.ensures) (refl, refl, omega (arith, found.1.fits.0), found.1.fits.1.seat)
+
+pub returns-in_default-clause-next : goal.returns-in_default-clause-next
+returns-in_default-clause-next g c = search rules
