@@ -212,37 +212,38 @@ refused k e f kept kept' was owes needed n cap is room q full which reserved sam
         ) in
         subst P (sym p) here
 
--- room was asked for, and is there
-pub fitted : (k : Header) (e : Entry) (kept mid : HistoryView) (was owes needed : ℕ) →
-    Needs k kept.entries e was owes → was ≡ kept.owed → needed ≡ (owes + 1) - was →
+-- What is known of the history that the entry was added to, room being there.
+pub record Grown (k : Header) (e : Entry) (kept new : HistoryView) : Type 0 where
+  pub entries : new.entries ≡ e ∷ kept.entries
+  pub cap : new.cap ≡ kept.cap
+  pub owed : new.owed ≡ owed (opening k) (e ∷ kept.entries)
+  pub room : length kept.entries + 1 + new.owed ≤ k.cap
+
+pub grown : (k : Header) (e : Entry) (kept mid new : HistoryView) (was owes needed : ℕ) →
+    owes ≡ owed (opening k) (e ∷ kept.entries) → was ≡ kept.owed → needed ≡ (owes + 1) - was →
     length mid.entries + mid.owed + needed ≤ mid.cap → mid ≡ record kept { places = mid.places } →
-    kept.cap ≡ k.cap →
-    length kept.entries + 1 + owes ≤ k.cap
-fitted k e kept mid was owes needed n is q fits same cap =
+    kept.cap ≡ k.cap → new ≡ record mid { entries = e ∷ mid.entries; owed = owes } → Grown k e kept new
+grown k e kept mid new was owes needed now is q fits same cap added =
     let a : length mid.entries ≡ length kept.entries = ap (λ (y : HistoryView). length y.entries) same in
     let b : mid.owed ≡ kept.owed = ap (λ (y : HistoryView). y.owed) same in
     let c : mid.cap ≡ kept.cap = ap (λ (y : HistoryView). y.cap) same in
-    omega (arith, is, q, fits, cap, a, b, c)
+    let o : new.owed ≡ owes = ap (λ (y : HistoryView). y.owed) added in
+    record {
+      entries = ap (λ (y : HistoryView). y.entries) added
+          ∙ ap (λ (y : HistoryView). e ∷ y.entries) same;
+      cap = ap (λ (y : HistoryView). y.cap) added ∙ c;
+      owed = o ∙ now;
+      room = omega (arith, is, q, fits, cap, a, b, c, o);
+    }
 
--- what an entry added makes of the history
-pub added : (kept mid new : HistoryView) (e : Entry) (o : ℕ) → mid ≡ record kept { places = mid.places } →
-    new ≡ record mid { entries = e ∷ mid.entries; owed = o } → (new.entries ≡ e ∷ kept.entries)
-    × (new.cap ≡ kept.cap) × (new.owed ≡ o)
-added kept mid new e o same is = (
-  ap (λ (y : HistoryView). y.entries) is ∙ ap (λ (y : HistoryView). e ∷ y.entries) same,
-  ap (λ (y : HistoryView). y.cap) is ∙ ap (λ (y : HistoryView). y.cap) same,
-  ap (λ (y : HistoryView). y.owed) is,
-)
-
-pub is_added : (k : Header) (e : Entry) (u : Unit {0}) (kept new : HistoryView) (was owes : ℕ) →
-    Needs k kept.entries e was owes →
-    length kept.entries + 1 + owes ≤ k.cap → new.entries ≡ e ∷ kept.entries →
+pub is_added : (k : Header) (e : Entry) (u : Unit {0}) (kept new : HistoryView) → Grown k e kept new →
     IsAdded (record { header = k; entries = kept.entries }) e (Ok u)
     (record { header = k; entries = new.entries })
-is_added k e u kept new was owes n fits entries =
-    let o = n.owed in (
+is_added k e u kept new n =
+    let o = n.owed in
+    let fits = n.room in (
       le-leb _ _ (omega (arith, fits, o)),
-      ap (λ g. (let w : CoreView = record { header = k; entries = g } in w)) entries,
+      ap (λ g. (let w : CoreView = record { header = k; entries = g } in w)) n.entries,
     )
 
 -- all that is kept
@@ -253,11 +254,10 @@ pub stands_next : (agrees agrees' : Counts → Type 0)
     agrees' (counts_after e.word (counts (opening k) kept.entries) e) →
     Keeps k (e ∷ kept.entries) queue' waiters' →
     table' ≡ set table e.seat (seat_after k.object e (get_or table e.seat no_holds)) →
-    kept'.entries ≡ e ∷ kept.entries → kept'.cap ≡ kept.cap → kept'.owed ≡ owed (opening k) (e ∷ kept.entries) →
-    length kept.entries + 1 + kept'.owed ≤ k.cap → Stands agrees' k kept' queue' waiters' table'
-stands_next agrees agrees' k kept kept' queue queue' waiters waiters' table table' e s n told waiting is
-    entries cap owes room =
+    Grown k e kept kept' → Stands agrees' k kept' queue' waiters' table'
+stands_next agrees agrees' k kept kept' queue queue' waiters waiters' table table' e s n told waiting is new =
     let h = kept.entries in
+    let entries = new.entries in
     record {
       range = s.range;
       hooks = subst agrees' (sym n.counts ∙ ap (counts (opening k)) (sym entries)) told;
@@ -266,9 +266,9 @@ stands_next agrees agrees' k kept kept' queue queue' waiters waiters' table tabl
       tabled = λ i l.
           ap (λ t. slice_get t i) is ∙ tabled_next k h e table s.seats n.seat s.tabled i l
           ∙ ap (λ g. Some (seat_of k.object g i)) (sym entries);
-      cap = cap ∙ s.cap;
-      owed = owes ∙ ap (owed (opening k)) (sym entries);
-      room = let l = ap length entries in omega (arith, l, room);
+      cap = new.cap ∙ s.cap;
+      owed = new.owed ∙ ap (owed (opening k)) (sym entries);
+      room = let l = ap length entries in let r = new.room in omega (arith, l, r);
       legal = subst (IsLegal (opening k)) (sym entries) n.legal;
       seated = subst (AreSeated (opening k)) (sym entries) n.seated;
     }

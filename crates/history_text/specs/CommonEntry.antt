@@ -9,16 +9,7 @@ use Rattle.history.specs.EntryWords.{IsWritten, entry_words}
 use Rattle.history.specs.Text.{ended, line_of}
 use Rattle.history_text.specs.EntryLines.{entry_line}
 
--- the words that a mode and an amount follow, and nothing else
-abbrev pub IsAsked : Word → Type 0
-IsAsked word.Got = Unit {0}
-IsAsked word.TryGot = Unit {0}
-IsAsked word.Queued = Unit {0}
-IsAsked word.Granted = Unit {0}
-IsAsked word.Missed = Unit {0}
-IsAsked word.Gave = Unit {0}
-IsAsked _ = ⊥
-
+-- the name of a word that a mode and an amount follow, and nothing else
 abbrev pub asked_name : Word → List ℕ
 asked_name word.Got = codes "got"
 asked_name word.TryGot = codes "trygot"

@@ -1,7 +1,8 @@
 //! The commonest lines of entries, read without cutting them into words.
 
 ghost use Rattle.std.specs.Prelude.{◌≡◌, ◌≤◌, ◌∷◌, ◌++◌, drop, length, IfSome, decimal};
-ghost use Rattle.history_text.specs.CommonEntry.{BeginsWith, IsAsked, IsLineAhead, asked_name, once};
+ghost use Rattle.history.specs.EntryWords.{IsAsked};
+ghost use Rattle.history_text.specs.CommonEntry.{BeginsWith, IsLineAhead, asked_name, once};
 
 use history::entry::{End, Entry, Mode, Word};
 use history::fault::Fault;

@@ -8,19 +8,19 @@ use crate::steps::{LockRule, Opening, SplitToken};
 use crate::token::Token;
 use crate::view::View;
 use atomic_table::{Refused, Seat, Shared, Table};
-use std::alloc::Allocator;
+use std::alloc::Global;
 use std::snapshot::Snapshot;
 
-pub(crate) type LockTable<T, A> = Table<Option<T>, View, Opening<T>, LockRule, A>;
+pub(crate) type LockTable<T> = Table<Option<T>, View, Opening<T>, LockRule, Global>;
 
 pub(crate) type LockShared<T> = Shared<Option<T>, View, Opening<T>, LockRule>;
 
 // A table with the value at home, and a token for each seat, in order. All memory of a lock is taken here.
-pub(crate) fn make_table<T: Chronicle, A: Allocator + Copy>(
-    alloc: A,
+pub(crate) fn make_table<T: Chronicle>(
+    alloc: Global,
     value: T,
     seats: u16,
-) -> Result<(LockTable<T, A>, Vec<Token, A>), T>
+) -> Result<(LockTable<T>, Vec<Token>), T>
     requires fact { T.fact value }
     requires empty { (T.point value).list ≡ [] }
     requires some_seat { 0 < seats }
@@ -54,10 +54,10 @@ pub(crate) fn make_table<T: Chronicle, A: Allocator + Copy>(
 }
 
 // Gives each seat a token of its own.
-fn deal<T: Chronicle, A: Allocator>(
+fn deal<T: Chronicle>(
     shared: &LockShared<T>,
     first: Seat<Option<T>, View>,
-    tokens: &mut Vec<Token, A>,
+    tokens: &mut Vec<Token>,
     seats: u16,
 )
     requires own { (first.table_id ≡ shared.now.table_id) × (shared.now.table_id.words ≡ 1) }

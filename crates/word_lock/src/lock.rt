@@ -26,7 +26,7 @@ const LOOKS: u32 = 1000;
 /// value that it was opened with.
 #[derive(Drop)]
 pub struct WordLock<T: Chronicle> {
-    table: LockTable<T, Global>,
+    table: LockTable<T>,
     // How many threads park on the word, or are about to.
     sleepers: AtomicU64,
 }

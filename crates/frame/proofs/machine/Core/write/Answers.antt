@@ -4,7 +4,7 @@ use Rattle.history.specs.declared.fault.Fault.{Fault}
 use Rattle.history.specs.Start.{opening}
 use Rattle.frame.specs.Core.{CoreView, IsAdded}
 use Rattle.frame.proofs.Moving.{movable, keeps_next}
-use Rattle.frame.proofs.Stepping.{next_seen, within, needs, refused, fitted, added, is_added, stands_next, tabled, exclusive_next, shared_next}
+use Rattle.frame.proofs.Stepping.{next_seen, within, needs, refused, grown, is_added, stands_next, tabled, exclusive_next, shared_next}
 use Rattle.frame.proofs.machine.Core.write.Goals as goal
 
 pub owed_behind-owed-requires-clause-owed : goal.owed_behind-owed-requires-clause-owed
@@ -90,15 +90,10 @@ invariant_of-self-2 g c =
     let e = c.args.entry in
     let s = c.self.invariant in
     let n = next_seen k a.history e _ s c.self.view_is c.requires in
-    let was = c.owed-was_owed.result in
-    let owes = c.owed_behind-owed.result in
-    let m = needs k h e was owes n (c.owed-was_owed.ensures.value ∙ s.owed) c.owed_behind-owed.ensures in
-    let mid = c.make_room.new.self in
     let new = c.add.new.self in
+    let was = c.owed-was_owed.ensures.value in
+    let m = needs k h e _ _ n (was ∙ s.owed) c.owed_behind-owed.ensures in
     let roomy = c.in_ok-make_room.ensures in
-    let fits = fitted k e a.history mid was owes c.saturating_sub-needed.result m c.owed-was_owed.ensures.value
-    c.saturating_sub-needed.ensures roomy.within_cap roomy.same s.cap in
-    let grown = added a.history mid new e owes roomy.same c.add.ensures in
     let moved = c.move_waiters.ensures in
     let waiting =
     keeps_next k h e a.queue c.move_waiters.new.queue a.waiters c.move_waiters.new.waiters s.waiting
@@ -107,24 +102,21 @@ invariant_of-self-2 g c =
     c.move_waiters.new.queue
     a.waiters c.move_waiters.new.waiters a.seats.items c.update.new.seats.items e s n
     (c.change.ensures.changed (counts (opening k) h) s.hooks n.allowed) waiting c.update.ensures
-    grown.0 grown.1 (grown.2 ∙ m.owed) (let o = grown.2 in omega (arith, o, fits))
+    (grown k e a.history c.make_room.new.self new _ _ _ m.owed was c.saturating_sub-needed.ensures
+    roomy.within_cap roomy.same s.cap c.add.ensures)
 
 pub returns : goal.returns
 returns g c =
     let a = c.self.inside in
     let k = a.header in
-    let h = a.history.entries in
     let e = c.args.entry in
     let s = c.self.invariant in
     let n = next_seen k a.history e _ s c.self.view_is c.requires in
-    let was = c.owed-was_owed.result in
-    let owes = c.owed_behind-owed.result in
-    let m = needs k h e was owes n (c.owed-was_owed.ensures.value ∙ s.owed) c.owed_behind-owed.ensures in
-    let mid = c.make_room.new.self in
     let new = c.add.new.self in
+    let was = c.owed-was_owed.ensures.value in
+    let m = needs k a.history.entries e _ _ n (was ∙ s.owed) c.owed_behind-owed.ensures in
     let roomy = c.in_ok-make_room.ensures in
-    let fits = fitted k e a.history mid was owes c.saturating_sub-needed.result m c.owed-was_owed.ensures.value
-    c.saturating_sub-needed.ensures roomy.within_cap roomy.same s.cap in
-    let grown = added a.history mid new e owes roomy.same c.add.ensures in
     let P : CoreView → Type 0 = λ w. IsAdded w e (Ok tt) (record { header = k; entries = new.entries }) in
-    subst P c.self.view_is (is_added k e tt a.history new was owes m fits grown.0)
+    subst P c.self.view_is (is_added k e tt a.history new
+    (grown k e a.history c.make_room.new.self new _ _ _ m.owed was c.saturating_sub-needed.ensures
+    roomy.within_cap roomy.same s.cap c.add.ensures))
