@@ -2,7 +2,7 @@
 //!
 //! A test takes all memory first, a part of it as small blocks side by side, and lets these go one by one. Each
 //! request of a lock for four tokens takes a small block or more: so each is refused for true, one after the
-//! other.
+//! other. And since a turn gives back one block, an opening that kept some when refused would never be granted.
 
 ghost use Rattle.std.specs.Prelude.{◌≡◌, []};
 
@@ -16,13 +16,13 @@ use word_lock::WordLock;
 /// A request takes a piece of this size or more.
 const PIECE: usize = 16;
 
-/// More pieces than a lock needs.
-const MOST: usize = 4096;
+/// More pieces than a lock needs, and far fewer than there are: so many turns, and no more, may be refused.
+const MOST: usize = 64;
 
 /// What a lock asks memory for: its tokens, its slot and its word.
 const REQUESTS: usize = 3;
 
-/// How often memory was refused before a lock was opened. Each time the value came back.
+/// How often memory was refused before a lock was opened. Each time the value came back, and what had been taken.
 fn refusals<R: Abort + AllocGlobal>(rt: &R, notes: Notes) -> Result<usize, Fail>
     requires { notes.list.items ≡ [] }
 {
@@ -45,7 +45,7 @@ fn refusals<R: Abort + AllocGlobal>(rt: &R, notes: Notes) -> Result<usize, Fail>
 }
 
 #[test]
-fn the_value_comes_back_where_memory_is_refused(rt: HostRuntime) -> Result<(), Fail> {
+fn a_refused_opening_gives_back_its_value_and_its_memory(rt: HostRuntime) -> Result<(), Fail> {
     let refused = refusals(&rt, Notes::new(rt.alloc()))?;
     assert!(rt; REQUESTS <= refused, "refused {refused} times");
     Ok(())
