@@ -22,7 +22,7 @@ const MOST: usize = 64;
 /// What a lock asks memory for: its tokens, its slot and its word.
 const REQUESTS: usize = 3;
 
-/// How often memory was refused before a lock was opened. Each time the value came back, and what had been taken.
+/// How often memory was refused before a lock was opened. Each time the value came back, and its memory.
 fn refusals<R: Abort + AllocGlobal>(rt: &R, notes: Notes) -> Result<usize, Fail>
     requires { notes.list.items ≡ [] }
 {
