@@ -13,7 +13,7 @@ use Rattle.history.proofs.Plain.{is_plain, ArePlain, words_again, decimal_plain}
 use Rattle.history.specs.declared.step.Step.{Step}
 use Rattle.history.specs.declared.step.Step.TheVariants.{Acquire, Try, TryFair, EntryInterrupt, Give, Look, Expire, Interrupt, Await, Signal, SignalAll, Drain}
 use Rattle.steps.specs.StepLines.{step_words, step_line, IsStep, HasAmounts}
-use Rattle.steps.specs.StepReading.{asked_at, condition_at, step_at, line_at}
+use Rattle.steps.specs.StepReading.{asked_at, condition_at, alone_at, unasked_at, step_at, line_at}
 
 asked_again : (m : Mode) (n : ℕ) → n < 2 ^ 32 → asked_at (mode_word m ∷ decimal n ∷ []) ≡ Some ((m, n), [])
 unfolding asked_at
@@ -28,7 +28,7 @@ condition_again c lt =
     rw (number_again c (omega arith), le-leb 0 c (omega arith), le-leb c 255 (omega arith)) refl
 
 step_again : (s : Step) → HasAmounts s → step_at (step_words s) ≡ Some (s, [])
-unfolding step_at
+unfolding step_at unasked_at alone_at
 step_again (Acquire m n) lt = rw (asked_again m n lt) refl
 step_again (Try m n) lt = rw (asked_again m n lt) refl
 step_again (TryFair m n) lt = rw (asked_again m n lt) refl

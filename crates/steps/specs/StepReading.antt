@@ -1,5 +1,5 @@
 -- What the readers of steps answer, from the words that are left to the words after.
-use Rattle.std.specs.Prelude.{ℕ, ◌-◌, [], ◌∷◌, Option, None, Some, codes, bytes_eq, if◌then◌else◌}
+use Rattle.std.specs.Prelude.{ℕ, ◌-◌, List, [], ◌∷◌, Option, None, Some, codes, bytes_eq, if◌then◌else◌}
 use Rattle.history.specs.Reading.{Words, ◌>>=◌, number_at, mode_at}
 use Rattle.history.specs.declared.entry.Mode.{Mode}
 use Rattle.history.specs.declared.step.Step.{Step}
@@ -21,6 +21,20 @@ asking made words = asked_at words >>= λ a. Some (made a.0.0 a.0.1, a.1)
 abbrev pub on_condition : (ℕ → Step) → Words → Option (Step × Words)
 on_condition made words = condition_at words >>= λ c. Some (made c.0, c.1)
 
+-- a step that stands alone
+unfoldable pub alone_at : List ℕ → Words → Option (Step × Words)
+alone_at w ws = if bytes_eq w (codes "look") then Some (Look, ws)
+    else if bytes_eq w (codes "expire") then Some (Expire, ws)
+    else if bytes_eq w (codes "interrupt") then Some (Interrupt, ws)
+    else if bytes_eq w (codes "drain") then Some (Drain, ws)
+    else None
+
+unfoldable pub unasked_at : List ℕ → Words → Option (Step × Words)
+unasked_at w ws = if bytes_eq w (codes "await") then on_condition Await ws
+    else if bytes_eq w (codes "signal") then on_condition Signal ws
+    else if bytes_eq w (codes "signalall") then on_condition SignalAll ws
+    else alone_at w ws
+
 unfoldable pub step_at : Words → Option (Step × Words)
 step_at [] = None
 step_at (w ∷ ws) = if bytes_eq w (codes "acquire") then asking Acquire ws
@@ -28,14 +42,7 @@ step_at (w ∷ ws) = if bytes_eq w (codes "acquire") then asking Acquire ws
     else if bytes_eq w (codes "tryfair") then asking TryFair ws
     else if bytes_eq w (codes "entryinterrupt") then asking EntryInterrupt ws
     else if bytes_eq w (codes "give") then asking Give ws
-    else if bytes_eq w (codes "look") then Some (Look, ws)
-    else if bytes_eq w (codes "expire") then Some (Expire, ws)
-    else if bytes_eq w (codes "interrupt") then Some (Interrupt, ws)
-    else if bytes_eq w (codes "await") then on_condition Await ws
-    else if bytes_eq w (codes "signal") then on_condition Signal ws
-    else if bytes_eq w (codes "signalall") then on_condition SignalAll ws
-    else if bytes_eq w (codes "drain") then Some (Drain, ws)
-    else None
+    else unasked_at w ws
 
 abbrev pub line_at : ℕ → Words → Option ((ℕ × Step) × Words)
 line_at seats words = do

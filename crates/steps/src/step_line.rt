@@ -1,11 +1,11 @@
 //! A line of a steps text.
 
-ghost use Rattle.std.specs.Prelude.{◌≡◌, ◌≢◌, ◌∷◌, ◌<◌, ◌≤◌, ◌^◌, ◌++◌, ℕ, decimal, IfSome, IfNone};
+ghost use Rattle.std.specs.Prelude.{◌≡◌, ◌≢◌, [], ◌∷◌, ◌<◌, ◌≤◌, ◌^◌, ◌++◌, ℕ, decimal, IfSome, IfNone};
 ghost use Rattle.history.specs.EntryWords.{mode_word};
-ghost use Rattle.history.specs.Reading.{with_rest};
+ghost use Rattle.history.specs.Reading.{with_rest, Words};
 ghost use Rattle.history.specs.declared.step.Step.{Step};
 ghost use Rattle.steps.specs.StepLines.{step_words, step_line, IsStep, HasAmounts};
-ghost use Rattle.steps.specs.StepReading.{asked_at, condition_at, step_at, line_at};
+ghost use Rattle.steps.specs.StepReading.{asked_at, condition_at, alone_at, unasked_at, step_at, line_at};
 
 use history::entry::Mode;
 use history::step::Step;
@@ -33,6 +33,44 @@ fn condition(words: &mut Words<'_>) -> Option<u8>
     Some(words.number(0, 255)? as u8)
 }
 
+/// A step that stands alone.
+#[tactic(auto, unfolding(crate::specs::StepReading::alone_at))]
+#[inline(always)]
+fn alone(name: &[u8]) -> Option<Step>
+    ensures is { (ws : Words) → with_rest result ws ≡ alone_at name.now ws }
+    ensures found { IfSome result (λ s. HasAmounts s × (step_words s ≡ name.now ∷ [])) }
+{
+    if name == b"look".as_slice() {
+        Some(Step::Look)
+    } else if name == b"expire".as_slice() {
+        Some(Step::Expire)
+    } else if name == b"interrupt".as_slice() {
+        Some(Step::Interrupt)
+    } else if name == b"drain".as_slice() {
+        Some(Step::Drain)
+    } else {
+        None
+    }
+}
+
+/// A step that asks for no amount: one of a condition, or one that stands alone.
+#[tactic(auto, unfolding(crate::specs::StepReading::unasked_at))]
+#[inline(always)]
+fn unasked(name: &[u8], words: &mut Words<'_>) -> Option<Step>
+    ensures is { with_rest result words.new ≡ unasked_at name.now words.old }
+    ensures found { IfSome result (λ s. HasAmounts s × (name.now ∷ words.old ≡ step_words s ++ words.new)) }
+{
+    if name == b"await".as_slice() {
+        Some(Step::Await(condition(words)?))
+    } else if name == b"signal".as_slice() {
+        Some(Step::Signal(condition(words)?))
+    } else if name == b"signalall".as_slice() {
+        Some(Step::SignalAll(condition(words)?))
+    } else {
+        alone(name)
+    }
+}
+
 /// A step.
 #[tactic(auto, unfolding(crate::specs::StepReading::step_at))]
 #[inline(always)]
@@ -56,22 +94,8 @@ fn step(words: &mut Words<'_>) -> Option<Step>
     } else if name == b"give".as_slice() {
         let (mode, n) = asked(words)?;
         Some(Step::Give(mode, n))
-    } else if name == b"look".as_slice() {
-        Some(Step::Look)
-    } else if name == b"expire".as_slice() {
-        Some(Step::Expire)
-    } else if name == b"interrupt".as_slice() {
-        Some(Step::Interrupt)
-    } else if name == b"await".as_slice() {
-        Some(Step::Await(condition(words)?))
-    } else if name == b"signal".as_slice() {
-        Some(Step::Signal(condition(words)?))
-    } else if name == b"signalall".as_slice() {
-        Some(Step::SignalAll(condition(words)?))
-    } else if name == b"drain".as_slice() {
-        Some(Step::Drain)
     } else {
-        None
+        unasked(name, words)
     }
 }
 
