@@ -156,6 +156,7 @@ fn put_lines<W: Sink>(
 }
 
 /// Adds the lines of the entries from a number up to another, of which nothing is remarked.
+#[inline(always)]
 fn put_entries<W: Sink>(
     lines: &mut LineWriter,
     writer: &mut W,

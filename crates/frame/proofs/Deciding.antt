@@ -1,8 +1,9 @@
 -- Who is ready, who sleeps, and the entry that a step makes.
 use Rattle.std.proofs.Common.{◌≡◌, ℕ, ◌<◌, arith, Bool, true, false, List, Option, Some, None, Ok, refl, ap, ◌∙◌, sym, subst}
-use Rattle.std.specs.Prelude.{is_some}
+use Rattle.std.specs.Prelude.{is_some, Result, Err, IfOk, IfSome}
 use Rattle.history.specs.declared.arrival.Arrival.{Arrival}
 use Rattle.history.specs.declared.entry.Entry.{Entry}
+use Rattle.history.specs.declared.fault.Fault.{Fault}
 use Rattle.history.specs.declared.step.Step.{Step}
 use Rattle.history.specs.Could.{could}
 use Rattle.history.specs.Counts.{Counts}
@@ -57,3 +58,9 @@ step_next v i step e l q =
       step = step;
       made = subst (λ j. entry_for (start_of v) v.entries j step ≡ Ok (Some e)) same q;
     }
+
+pub made_next : (v : CoreView) (i : ℕ) (step : Step) (made : Result (Option Entry) Fault) → i < v.header.seats →
+    made ≡ entry_for (start_of v) v.entries i step → IfOk made (λ entry. IfSome entry (λ e. IsNext v e))
+made_next v i step (Ok (Some e)) l q = step_next v i step e l (sym q)
+made_next v i step (Ok None) l q = tt
+made_next v i step (Err f) l q = tt

@@ -132,11 +132,12 @@ impl History {
         let cap = u64::from(self.cap);
         let places = self.entries.capacity() as u64;
         let taken = self.entries.len() as u64 + self.owed;
-        if cap - taken < needed {
-            return Err(Fault::HistoryFull);
-        }
+        // What is reserved is within the cap: the commonest case takes one test.
         if needed <= places - taken {
             return Ok(());
+        }
+        if cap - taken < needed {
+            return Err(Fault::HistoryFull);
         }
         let wanted = (taken + needed).max((2 * places).min(cap));
         let more = wanted as usize - self.entries.len();

@@ -29,12 +29,14 @@ alone_at w ws = if bytes_eq w (codes "look") then Some (Look, ws)
     else if bytes_eq w (codes "drain") then Some (Drain, ws)
     else None
 
+-- a step that names no amount: one of a condition, or one that stands alone
 unfoldable pub unasked_at : List ℕ → Words → Option (Step × Words)
 unasked_at w ws = if bytes_eq w (codes "await") then on_condition Await ws
     else if bytes_eq w (codes "signal") then on_condition Signal ws
     else if bytes_eq w (codes "signalall") then on_condition SignalAll ws
     else alone_at w ws
 
+-- a step, by its first word
 unfoldable pub step_at : Words → Option (Step × Words)
 step_at [] = None
 step_at (w ∷ ws) = if bytes_eq w (codes "acquire") then asking Acquire ws

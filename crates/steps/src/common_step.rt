@@ -92,8 +92,10 @@ fn common_words(text: &[u8]) -> Option<(Step, usize)>
     if let Some(found) = give(text) {
         return Some(found);
     }
+    if let Some(found) = look(text) {
+        return Some(found);
+    }
     match text.first()? {
-        b'l' => look(text),
         b't' => tries(text),
         b'e' | b'i' => ends_wait(text),
         _ => None,

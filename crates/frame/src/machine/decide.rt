@@ -1,13 +1,13 @@
 //! Which entry a step makes.
 
-ghost use Rattle.std.specs.Prelude.{◌≡◌, ◌<◌, ◌≤◌, ◌+◌, length, Some, None, false, true};
+ghost use Rattle.std.specs.Prelude.{◌≡◌, ◌<◌, ◌≤◌, ◌+◌, length, Some, None, false, true, IfOk, IfSome};
 ghost use Rattle.history.specs.Could.{is_seat, limit, held_back};
 ghost use Rattle.history.specs.Phase.{waits};
 ghost use Rattle.history.specs.Object.{is_lock};
 ghost use Rattle.history.specs.Steps.{acquired, awaits, entry_for, gave, idle_entry, line_entry, signals};
 ghost use Rattle.history.specs.Steps.{tried, tried_fairly};
 ghost use Rattle.deciding.specs.Checks.{refused_as, in_phase};
-ghost use Rattle.frame.specs.Core.{start_of, counts_of, first_mode_of, phase_of, ready_of};
+ghost use Rattle.frame.specs.Core.{start_of, counts_of, first_mode_of, phase_of, ready_of, IsNext};
 ghost use Rattle.frame.specs.Hooks.{line_mode};
 
 use super::Core;
@@ -243,13 +243,30 @@ impl<H: Hooks + Drop> Core<H> {
 
     /// The one entry of a step, or sleep, or a fault that isn't recorded.
     #[inline(always)]
-    pub(super) fn decide(&self, seat: u16, step: Step) -> Result<Option<Entry>, Fault>
+    fn entry_for(&self, seat: u16, step: Step) -> Result<Option<Entry>, Fault>
         requires { seat < self.now.header.seats }
-        ensures { result ≡ entry_for (start_of self.now) self.now.entries seat step }
+        ensures made { result ≡ entry_for (start_of self.now) self.now.entries seat step }
+        ensures next { IfOk result (λ made. IfSome made (λ entry. IsNext self.now entry)) }
     {
         match refused_as(&self.header, step) {
             Some(fault) => Err(fault),
             None => self.decide_in_phase(seat, step),
+        }
+    }
+
+    /// [`entry_for`](Core::entry_for), with a copy for each of the commonest steps: in each it is known which
+    /// step it is.
+    #[inline(always)]
+    pub(super) fn decide(&self, seat: u16, step: Step) -> Result<Option<Entry>, Fault>
+        requires { seat < self.now.header.seats }
+        ensures made { result ≡ entry_for (start_of self.now) self.now.entries seat step }
+        ensures next { IfOk result (λ made. IfSome made (λ entry. IsNext self.now entry)) }
+    {
+        match step {
+            Step::Acquire(mode, n) => self.entry_for(seat, Step::Acquire(mode, n)),
+            Step::Give(mode, n) => self.entry_for(seat, Step::Give(mode, n)),
+            Step::Look => self.entry_for(seat, Step::Look),
+            _ => self.entry_for(seat, step),
         }
     }
 }

@@ -13,7 +13,7 @@ use crate::seat::update;
 use crate::waiting::move_waiters;
 use deciding::entries::named;
 use deciding::room::owed_behind;
-use history::entry::Entry;
+use history::entry::{Entry, Word};
 use history::fault::Fault;
 use history::step::{Answer, Step};
 
@@ -75,7 +75,15 @@ impl<H: Hooks + Drop> Core<H> {
         match self.decide(seat, step) {
             Err(fault) => Err(fault),
             Ok(None) => Ok(Answer::Sleep),
-            Ok(Some(entry)) => self.record(entry),
+            // A copy for each of the commonest words: in each the word is known, and what it leaves as it was
+            // isn't asked.
+            Ok(Some(entry)) => match entry.word {
+                Word::Got => self.record(entry),
+                Word::Gave => self.record(entry),
+                Word::Queued => self.record(entry),
+                Word::Granted => self.record(entry),
+                _ => self.record(entry),
+            },
         }
     }
 }
