@@ -1,8 +1,0 @@
-use Rattle.history.specs.Legal.{AreSeated}
-use Rattle.history.specs.Start.{opening}
-use Rattle.audit.specs.Verdict.{front}
-use Rattle.audit_checks.proofs.histories.are_seated.Given as goal
-
--- those passed are of the object's seats
-abbrev pub invariant-loop-number : goal.invariant-loop-number
-invariant-loop-number l = AreSeated (opening l.header) (front l.number l.history.entries)

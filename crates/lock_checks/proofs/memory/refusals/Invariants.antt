@@ -1,5 +1,0 @@
-use Rattle.std.proofs.Common.{◌≡◌, []}
-use Rattle.lock_checks.proofs.memory.refusals.Given as goal
-
-abbrev pub invariant-loop-refused : goal.invariant-loop-refused
-invariant-loop-refused g l = l.notes.list.items ≡ []

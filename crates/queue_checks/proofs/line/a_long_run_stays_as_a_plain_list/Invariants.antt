@@ -1,5 +1,0 @@
-use Rattle.std.proofs.Common.{◌≡◌}
-use Rattle.queue_checks.proofs.line.a_long_run_stays_as_a_plain_list.Given as goal
-
-abbrev pub invariant-loop : goal.invariant-loop
-invariant-loop g l = l.queue.seats ≡ 8

@@ -1,0 +1,13 @@
+//! Cores of all four objects: by the known situations, beside the plain program, at the limits of holds, and
+//! where memory is refused to an open, to a step and to a run.
+
+mod answers;
+mod any_core;
+mod beside;
+mod calls;
+mod limits;
+mod refused_runs;
+mod refused_steps;
+mod runs;
+mod scarce;
+mod texts;

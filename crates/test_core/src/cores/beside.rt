@@ -1,0 +1,238 @@
+//! Cores beside the plain program: by chance and in the known situations each step is answered by both alike,
+//! and in the end a core tells what its history adds up to.
+
+mod chance;
+mod found;
+mod sums;
+
+use crate::cores::any_core::AnyCore;
+use crate::cores::texts::steps_of;
+use chance::Chance;
+use found::{answer_found, totals_found};
+use history::entry::Word;
+use history::fault::Fault;
+use history::header::{Header, Object, Policy};
+use history::step::{Answer, Step};
+use std::process::Abort;
+use std::test::Fail;
+use sums::totals_told;
+use test_support::examples::{Example, situations};
+
+/// A step, answered by the core as by the plain program.
+fn step_beside<R: Abort + AllocGlobal>(
+    rt: &R,
+    core: &mut AnyCore,
+    seat: u16,
+    asked: Step,
+) -> Result<Answer, Fault> {
+    let wanted = answer_found(rt.alloc(), core, seat, asked);
+    let answer = core.step(seat, asked);
+    assert_eq!(rt; answer, wanted, "{:?} {seat} {asked:?}", *core.header());
+    assert!(rt; !matches!(answer, Err(Fault::OutOfMemory)));
+    answer
+}
+
+/// A core of at most four seats and two conditions tells what its history adds up to.
+fn compare_totals<R: Abort + AllocGlobal>(rt: &R, core: &AnyCore) -> Result<(), Fail> {
+    let told = core.told();
+    let totals = totals_found(rt.alloc(), core)?;
+    assert_eq!(rt; totals_told(core.header().object, &told), totals);
+    assert_eq!(rt; told.is_held, 0 < totals.x);
+    Ok(())
+}
+
+/// What came up in the lists of an object.
+#[derive(Drop)]
+struct Seen {
+    words: Vec<Word>,
+    sleep: bool,
+    full: bool,
+    named: bool,
+}
+
+impl Seen {
+    fn note(&mut self, answer: &Result<Answer, Fault>) -> Result<(), Fail> {
+        match answer {
+            Ok(Answer::Recorded(entry, named)) => {
+                self.named = self.named || named.is_some();
+                if !self.words.contains(&entry.word) {
+                    self.words.push(entry.word)?;
+                }
+            }
+            Ok(Answer::Sleep) => self.sleep = true,
+            Err(Fault::HistoryFull) => self.full = true,
+            Err(_) => {}
+        }
+        Ok(())
+    }
+}
+
+/// Steps of a list: more than a small history has room for.
+const STEPS: u32 = 100;
+
+/// Steps by chance.
+fn play<R: Abort + AllocGlobal>(
+    rt: &R,
+    core: &mut AnyCore,
+    mut chance: Chance,
+    seen: &mut Seen,
+) -> Result<(), Fail> {
+    for _ in 0..STEPS {
+        let (seat, asked) = chance.step(core);
+        let answer = step_beside(rt, core, seat, asked);
+        seen.note(&answer)?;
+    }
+    compare_totals(rt, core)
+}
+
+/// Steps by chance of a fresh core.
+fn play_list<R: Abort + AllocGlobal>(
+    rt: &R,
+    header: &Header,
+    seed: u64,
+    seen: &mut Seen,
+) -> Result<(), Fail> {
+    let mut core = AnyCore::open(rt.alloc(), header)?;
+    play(rt, &mut core, Chance::from_seed(seed), seen)
+}
+
+/// Lists of an object: each number of seats with each of conditions and each cap, eight times.
+const LISTS: u16 = 288;
+
+const CAPS: [u32; 3] = [16, 24, 96];
+
+/// The header of a list by its number.
+fn header_of(object: Object, number: u16) -> Header {
+    let conditions = match object {
+        Object::Lock(_) | Object::ReadWrite(_) => (number / 12 % 3) as u8,
+        Object::Semaphore(_, _) | Object::Latch(_) => 0,
+    };
+    Header {
+        object,
+        seats: 1 + number % 4,
+        conditions,
+        cap: CAPS[usize::from(number / 4 % 3)],
+    }
+}
+
+/// What comes up in the lists of an object.
+fn play_lists<R: Abort + AllocGlobal>(rt: &R, object: Object) -> Result<Seen, Fail> {
+    let mut seen = Seen {
+        words: Vec::new(rt.alloc()),
+        sleep: false,
+        full: false,
+        named: false,
+    };
+    for number in 0..LISTS {
+        play_list(rt, &header_of(object, number), u64::from(number), &mut seen)?;
+    }
+    Ok(seen)
+}
+
+/// All of these words came up, and there were sleeps, full histories and names.
+fn assert_seen<R: Abort>(rt: &R, seen: &Seen, words: &[Word]) {
+    for word in words {
+        assert!(rt; seen.words.contains(word), "{word:?}");
+    }
+    assert!(rt; seen.sleep && seen.full && seen.named);
+}
+
+const TAKEN: [Word; 8] = [
+    Word::Got,
+    Word::TryGot,
+    Word::Queued,
+    Word::Granted,
+    Word::Missed,
+    Word::Left,
+    Word::Gave,
+    Word::Refused(Fault::Interrupted),
+];
+
+const OWNED: [Word; 6] = [
+    Word::Await,
+    Word::Lapse,
+    Word::Signal,
+    Word::SignalAll,
+    Word::Back,
+    Word::Refused(Fault::NotOwner),
+];
+
+const PERMITTED: [Word; 2] = [Word::Drained, Word::Refused(Fault::TooManyPermits)];
+
+const COUNTED: [Word; 7] = [
+    Word::Got,
+    Word::Queued,
+    Word::Granted,
+    Word::Missed,
+    Word::Left,
+    Word::Counted,
+    Word::Refused(Fault::Interrupted),
+];
+
+#[test]
+fn locks_answer_like_the_plain_program(rt: HostRuntime) -> Result<(), Fail> {
+    for policy in [Policy::Fair, Policy::NonFair] {
+        let seen = play_lists(&rt, Object::Lock(policy))?;
+        assert_seen(&rt, &seen, &TAKEN);
+        assert_seen(&rt, &seen, &OWNED);
+    }
+    Ok(())
+}
+
+#[test]
+fn read_write_locks_answer_like_the_plain_program(rt: HostRuntime) -> Result<(), Fail> {
+    for policy in [Policy::Fair, Policy::NonFair] {
+        let seen = play_lists(&rt, Object::ReadWrite(policy))?;
+        assert_seen(&rt, &seen, &TAKEN);
+        assert_seen(&rt, &seen, &OWNED);
+        assert_seen(&rt, &seen, &[Word::Refused(Fault::HoldsRead)]);
+    }
+    Ok(())
+}
+
+#[test]
+fn semaphores_answer_like_the_plain_program(rt: HostRuntime) -> Result<(), Fail> {
+    for policy in [Policy::Fair, Policy::NonFair] {
+        for permits in [-1, 3] {
+            let seen = play_lists(&rt, Object::Semaphore(policy, permits))?;
+            assert_seen(&rt, &seen, &TAKEN);
+            assert_seen(&rt, &seen, &PERMITTED);
+        }
+    }
+    Ok(())
+}
+
+#[test]
+fn latches_answer_like_the_plain_program(rt: HostRuntime) -> Result<(), Fail> {
+    let seen = play_lists(&rt, Object::Latch(3))?;
+    assert_seen(&rt, &seen, &COUNTED);
+    play_lists(&rt, Object::Latch(0))?;
+    Ok(())
+}
+
+/// Each of these steps in turn.
+fn play_steps<R: Abort + AllocGlobal>(
+    rt: &R,
+    core: &mut AnyCore,
+    steps: &[(u16, Step)],
+) -> Result<(), Fail> {
+    for step in steps {
+        let _answer = step_beside(rt, core, step.0, step.1);
+    }
+    compare_totals(rt, core)
+}
+
+/// The steps of a known situation.
+fn play_example<R: Abort + AllocGlobal>(rt: &R, example: &Example) -> Result<(), Fail> {
+    let said = steps_of(rt.alloc(), example.steps)?;
+    let mut core = AnyCore::open(rt.alloc(), &said.header)?;
+    play_steps(rt, &mut core, &said.steps)
+}
+
+#[test]
+fn known_situations_are_answered_like_the_plain_program(rt: HostRuntime) -> Result<(), Fail> {
+    for example in situations() {
+        play_example(&rt, example)?;
+    }
+    Ok(())
+}

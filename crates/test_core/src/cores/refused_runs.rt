@@ -1,0 +1,261 @@
+//! Memory that is refused to a run: to its list of answers, and to the steps in it.
+//!
+//! What a core is to answer is told by one that lacks no memory.
+
+use crate::cores::answers::{are_same, is_recorded, is_same, lacks_memory};
+use crate::cores::any_core::{AnyCore, PIECE, assert_tells};
+use crate::cores::texts::{long_situation, steps_of};
+use history::fault::Fault;
+use history::header::Header;
+use history::step::{Answer, Step};
+use std::alloc::Global;
+use std::process::Abort;
+use std::test::Fail;
+use steps::StepsText;
+use test_support::examples::{Example, situations};
+use test_support::memory::Memory;
+
+/// A core that lacks memory at times, beside one that never does.
+#[derive(Drop)]
+struct Pair {
+    scarce: AnyCore,
+    rich: AnyCore,
+}
+
+impl Pair {
+    fn open(alloc: Global, header: &Header) -> Result<Pair, Fault> {
+        let scarce = AnyCore::open(alloc, header)?;
+        let rich = AnyCore::open(alloc, header)?;
+        Ok(Pair { scarce, rich })
+    }
+
+    /// Has both run the steps; whether they answer and tell the same.
+    fn run(&mut self, alloc: Global, steps: &[(u16, Step)]) -> Result<bool, Fault> {
+        let answers = self.scarce.run(alloc, steps)?;
+        let wanted = self.rich.run(alloc, steps)?;
+        Ok(are_same(&answers, &wanted) && self.scarce.told() == self.rich.told())
+    }
+}
+
+/// Whether a run is refused where there is no memory.
+fn is_run_refused(alloc: Global, core: &mut AnyCore, steps: &[(u16, Step)]) -> Result<bool, Fail> {
+    let _memory = Memory::take_all(alloc, PIECE)?;
+    match core.run(alloc, steps) {
+        Ok(_answers) => Ok(false),
+        Err(fault) => Ok(fault == Fault::OutOfMemory),
+    }
+}
+
+/// A run that lacks memory for its list of answers makes no step, and answers afterwards as if it came first.
+fn refuse_run<R: Abort + AllocGlobal>(
+    rt: &R,
+    pair: &mut Pair,
+    steps: &[(u16, Step)],
+) -> Result<(), Fail> {
+    let before = pair.scarce.told();
+    assert!(rt; is_run_refused(rt.alloc(), &mut pair.scarce, steps)?);
+    assert_tells(rt, &pair.scarce, &before);
+    assert!(rt; pair.run(rt.alloc(), steps)?);
+    Ok(())
+}
+
+/// Behind what was recorded before, and again behind the steps.
+fn refuse_two_runs<R: Abort + AllocGlobal>(
+    rt: &R,
+    pair: &mut Pair,
+    steps: &[(u16, Step)],
+) -> Result<(), Fail> {
+    refuse_run(rt, pair, steps)?;
+    refuse_run(rt, pair, steps)
+}
+
+fn refuse_from_open<R: Abort + AllocGlobal>(rt: &R, said: &StepsText) -> Result<(), Fail> {
+    let mut pair = Pair::open(rt.alloc(), &said.header)?;
+    refuse_two_runs(rt, &mut pair, &said.steps)
+}
+
+/// A run of no steps asks for no memory, so it is left out.
+fn refuse_runs<R: Abort + AllocGlobal>(rt: &R, example: &Example) -> Result<(), Fail> {
+    let said = steps_of(rt.alloc(), example.steps)?;
+    if said.steps.is_empty() {
+        return Ok(());
+    }
+    refuse_from_open(rt, &said)
+}
+
+#[test]
+fn a_refused_run_makes_no_step(rt: HostRuntime) -> Result<(), Fail> {
+    for example in situations() {
+        refuse_runs(&rt, example)?;
+    }
+    Ok(())
+}
+
+/// Places of a history that take more memory to grow than there is for the answers of a situation.
+const MANY_PLACES: u64 = 256;
+
+/// More steps than such a history has places.
+const MANY_STEPS: usize = 4096;
+
+/// Runs the steps over and over until the history has so many places.
+fn grow(alloc: Global, core: &mut AnyCore, steps: &[(u16, Step)]) -> Result<(), Fail> {
+    for _ in 0..MANY_STEPS {
+        if MANY_PLACES <= core.told().places {
+            return Ok(());
+        }
+        core.run(alloc, steps)?;
+    }
+    Err(Fail::from("too few places"))
+}
+
+/// Steps that were made where there was no memory, with their answers, and those that are asked for again.
+#[derive(Drop)]
+struct Log {
+    steps: Vec<(u16, Step)>,
+    answers: Vec<Result<Answer, Fault>>,
+    again: Vec<(u16, Step)>,
+}
+
+impl Log {
+    fn open(alloc: Global) -> Result<Log, Fail> {
+        Ok(Log {
+            steps: Vec::with_capacity(alloc, MANY_STEPS)?,
+            answers: Vec::with_capacity(alloc, MANY_STEPS)?,
+            again: Vec::with_capacity(alloc, MANY_STEPS)?,
+        })
+    }
+
+    fn add(&mut self, step: (u16, Step), answer: Result<Answer, Fault>) -> Result<(), Fail> {
+        self.steps.push(step)?;
+        self.answers.push(answer)?;
+        Ok(())
+    }
+}
+
+/// Makes the steps over and over until one is refused, which is then the first to be asked for again.
+fn starve(core: &mut AnyCore, steps: &[(u16, Step)], log: &mut Log) -> Result<(), Fail> {
+    for step in steps.iter().cycle().take(MANY_STEPS) {
+        let answer = core.step(step.0, step.1);
+        log.add(*step, answer)?;
+        if lacks_memory(&answer) {
+            log.again.push(*step)?;
+            log.again.extend_from_slice(steps)?;
+            return Ok(());
+        }
+    }
+    Err(Fail::from("never refused"))
+}
+
+/// A run while memory is given back piece by piece, until there is enough for its list of answers.
+fn run_starved<R: Abort + AllocGlobal>(
+    rt: &R,
+    core: &mut AnyCore,
+    memory: &mut Memory,
+    steps: &[(u16, Step)],
+) -> Result<Vec<Result<Answer, Fault>>, Fail> {
+    let before = core.told();
+    for _ in 0..65_536 {
+        match core.run(rt.alloc(), steps) {
+            Ok(answers) => return Ok(answers),
+            Err(fault) => {
+                assert!(rt; fault == Fault::OutOfMemory);
+                assert_tells(rt, core, &before);
+                assert!(rt; memory.give_piece());
+            }
+        }
+    }
+    Err(Fail::from("never run"))
+}
+
+/// Plays until a step is refused, and then runs it and the situation, with memory for the answers alone.
+fn play_starved<R: Abort + AllocGlobal>(
+    rt: &R,
+    core: &mut AnyCore,
+    steps: &[(u16, Step)],
+    log: &mut Log,
+) -> Result<Vec<Result<Answer, Fault>>, Fail> {
+    let mut memory = Memory::take_all(rt.alloc(), PIECE)?;
+    starve(core, steps, log)?;
+    run_starved(rt, core, &mut memory, &log.again)
+}
+
+/// Has a core that lacks no memory make the steps that weren't refused, which it answers alike.
+///
+/// How many it records.
+fn follow<R: Abort>(
+    rt: &R,
+    rich: &mut AnyCore,
+    steps: &[(u16, Step)],
+    answers: &[Result<Answer, Fault>],
+) -> u32 {
+    let mut recorded: u32 = 0;
+    for (step, answer) in steps.iter().zip(answers.iter()) {
+        if !lacks_memory(answer) {
+            let other = rich.step(step.0, step.1);
+            assert!(rt; is_same(&other, answer));
+            recorded = recorded.saturating_add(u32::from(is_recorded(answer)));
+        }
+    }
+    recorded
+}
+
+/// What a core made where there was no memory is what another makes that lacks none.
+fn follow_log<R: Abort + AllocGlobal>(
+    rt: &R,
+    pair: &mut Pair,
+    log: &Log,
+    answers: &[Result<Answer, Fault>],
+) -> Result<u32, Fail> {
+    assert!(rt; answers.first().is_some_and(lacks_memory));
+    follow(rt, &mut pair.rich, &log.steps, &log.answers);
+    let recorded = follow(rt, &mut pair.rich, &log.again, answers);
+    assert_tells(rt, &pair.scarce, &pair.rich.told());
+    assert!(rt; pair.run(rt.alloc(), &log.again)?);
+    Ok(recorded)
+}
+
+/// A run whose first step is refused goes on with the others; how many it records.
+fn run_past_refusals<R: Abort + AllocGlobal>(
+    rt: &R,
+    pair: &mut Pair,
+    steps: &[(u16, Step)],
+) -> Result<u32, Fail> {
+    let mut log = Log::open(rt.alloc())?;
+    let answers = play_starved(rt, &mut pair.scarce, steps, &mut log)?;
+    follow_log(rt, pair, &log, &answers)
+}
+
+/// The same behind a history of many places.
+fn refuse_behind_growth<R: Abort + AllocGlobal>(
+    rt: &R,
+    pair: &mut Pair,
+    steps: &[(u16, Step)],
+) -> Result<u32, Fail> {
+    grow(rt.alloc(), &mut pair.scarce, steps)?;
+    grow(rt.alloc(), &mut pair.rich, steps)?;
+    run_past_refusals(rt, pair, steps)
+}
+
+fn grow_from_open<R: Abort + AllocGlobal>(rt: &R, said: &StepsText) -> Result<u32, Fail> {
+    let mut pair = Pair::open(rt.alloc(), &said.header)?;
+    refuse_behind_growth(rt, &mut pair, &said.steps)
+}
+
+fn refuse_within_run<R: Abort + AllocGlobal>(rt: &R, example: &Example) -> Result<u32, Fail> {
+    let said = long_situation(rt.alloc(), example)?;
+    if said.steps.is_empty() {
+        return Ok(0);
+    }
+    grow_from_open(rt, &said)
+}
+
+/// Some of the runs record what is owed to those who hold or wait.
+#[test]
+fn a_run_goes_on_past_a_refused_step(rt: HostRuntime) -> Result<(), Fail> {
+    let mut recorded: u32 = 0;
+    for example in situations() {
+        recorded = recorded.saturating_add(refuse_within_run(&rt, example)?);
+    }
+    assert!(rt; 10 < recorded, "{recorded}");
+    Ok(())
+}

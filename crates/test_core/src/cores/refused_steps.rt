@@ -1,0 +1,194 @@
+//! Memory that is refused to a step.
+//!
+//! What a core is to answer is told by one that lacks no memory.
+
+use crate::cores::answers::{is_same, lacks_memory};
+use crate::cores::any_core::{AnyCore, PIECE, Told, assert_tells};
+use crate::cores::texts::{long_situation, steps_of};
+use history::entry::{Entry, Word};
+use history::fault::Fault;
+use history::header::{Header, Object};
+use history::step::{Answer, Step};
+use std::alloc::Global;
+use std::process::Abort;
+use std::test::Fail;
+use steps::StepsText;
+use test_support::examples::{Example, situations};
+use test_support::memory::Memory;
+
+/// How often the steps of a situation are made in one history, so that it grows some times.
+const ROUNDS: u32 = 24;
+
+/// A step of a core that lacks no memory: what it was answered, and what the core told behind it.
+#[derive(Clone, Copy, Drop)]
+struct Played {
+    seat: u16,
+    asked: Step,
+    answer: Result<Answer, Fault>,
+    told: Told,
+}
+
+/// Makes the steps once more, and adds what came of them.
+fn play(core: &mut AnyCore, steps: &[(u16, Step)], played: &mut Vec<Played>) -> Result<(), Fail> {
+    for (seat, asked) in steps {
+        let answer = core.step(*seat, *asked);
+        played.push(Played {
+            seat: *seat,
+            asked: *asked,
+            answer,
+            told: core.told(),
+        })?;
+    }
+    Ok(())
+}
+
+/// The steps, over and over.
+fn play_rounds(
+    alloc: Global,
+    core: &mut AnyCore,
+    steps: &[(u16, Step)],
+) -> Result<Vec<Played>, Fail> {
+    let mut played = Vec::new(alloc);
+    for _ in 0..ROUNDS {
+        play(core, steps, &mut played)?;
+    }
+    Ok(played)
+}
+
+/// The steps of a situation, over and over.
+fn play_situation(alloc: Global, said: &StepsText) -> Result<Vec<Played>, Fail> {
+    let mut core = AnyCore::open(alloc, &said.header)?;
+    play_rounds(alloc, &mut core, &said.steps)
+}
+
+/// Whether room and memory for an entry were reserved before it came.
+fn was_owed(object: Object, entry: &Entry) -> bool {
+    match entry.word {
+        Word::Granted | Word::Left | Word::Lapse | Word::Back => true,
+        Word::Gave => matches!(object, Object::Lock(_) | Object::ReadWrite(_)),
+        Word::Signal | Word::SignalAll => 0 < entry.n,
+        _ => false,
+    }
+}
+
+/// Whether a step may be refused memory that is answered so where there is some.
+fn may_lack_memory(object: Object, answer: &Result<Answer, Fault>) -> bool {
+    match answer {
+        Ok(Answer::Recorded(entry, _)) => !was_owed(object, entry),
+        Ok(Answer::Sleep) | Err(_) => false,
+    }
+}
+
+/// A core, with all memory that it doesn't have.
+#[derive(Drop)]
+struct Starved {
+    core: AnyCore,
+    memory: Memory,
+}
+
+impl Starved {
+    fn open(alloc: Global, header: &Header) -> Result<Starved, Fail> {
+        let core = AnyCore::open(alloc, header)?;
+        let memory = Memory::take_all(alloc, PIECE)?;
+        Ok(Starved { core, memory })
+    }
+
+    /// Asks for a step while memory is given back piece by piece, until it is enough. Each refusal leaves all
+    /// as it was.
+    fn step<R: Abort>(&mut self, rt: &R, seat: u16, asked: Step) -> Result<Answer, Fault> {
+        let before = self.core.told();
+        let mut answer = self.core.step(seat, asked);
+        for _ in 0..65_536 {
+            if !lacks_memory(&answer) {
+                break;
+            }
+            assert_tells(rt, &self.core, &before);
+            assert!(rt; self.memory.give_piece());
+            answer = self.core.step(seat, asked);
+        }
+        answer
+    }
+}
+
+/// A step that was refused changed nothing, and is answered in the end as if it came first.
+fn compare_refused<R: Abort>(
+    rt: &R,
+    starved: &mut Starved,
+    played: &Played,
+    before: &Told,
+) -> Result<(), Fail> {
+    assert_tells(rt, &starved.core, before);
+    assert!(rt; may_lack_memory(starved.core.header().object, &played.answer));
+    let answer = starved.step(rt, played.seat, played.asked);
+    assert!(rt; is_same(&answer, &played.answer));
+    assert_tells(rt, &starved.core, &played.told);
+    assert!(rt; before.places < played.told.places);
+    starved.memory.take_rest()?;
+    Ok(())
+}
+
+/// A step where there is no memory is refused exactly where its history wants a larger block, and is answered in
+/// the end as if it came first. Whether it was refused.
+fn compare_step<R: Abort>(rt: &R, starved: &mut Starved, played: &Played) -> Result<bool, Fail> {
+    let before = starved.core.told();
+    let first = starved.core.step(played.seat, played.asked);
+    if lacks_memory(&first) {
+        compare_refused(rt, starved, played, &before)?;
+        return Ok(true);
+    }
+    assert!(rt; is_same(&first, &played.answer));
+    assert_tells(rt, &starved.core, &played.told);
+    // The smallest block of a heap has a second place.
+    assert!(rt; before.places == played.told.places || before.places == 1);
+    Ok(false)
+}
+
+/// How many steps were refused.
+fn compare_steps<R: Abort>(rt: &R, starved: &mut Starved, played: &[Played]) -> Result<u32, Fail> {
+    let mut refused: u32 = 0;
+    for step in played {
+        if compare_step(rt, starved, step)? {
+            refused = refused.saturating_add(1);
+        }
+    }
+    Ok(refused)
+}
+
+/// Plays the steps over and over where each growth of the history is refused before it is met; how many were.
+fn refuse_growth<R: Abort + AllocGlobal>(rt: &R, said: &StepsText) -> Result<u32, Fail> {
+    let played = play_situation(rt.alloc(), said)?;
+    let mut starved = Starved::open(rt.alloc(), &said.header)?;
+    compare_steps(rt, &mut starved, &played)
+}
+
+/// A situation within its cap. A history without steps doesn't grow.
+fn refuse_within_cap<R: Abort + AllocGlobal>(rt: &R, example: &Example) -> Result<(), Fail> {
+    let said = steps_of(rt.alloc(), example.steps)?;
+    let refused = refuse_growth(rt, &said)?;
+    assert!(rt; (refused == 0) == said.steps.is_empty(), "{}", example.name);
+    Ok(())
+}
+
+/// A situation in a long history, which grows several times.
+fn refuse_beyond_cap<R: Abort + AllocGlobal>(rt: &R, example: &Example) -> Result<(), Fail> {
+    let said = long_situation(rt.alloc(), example)?;
+    let refused = refuse_growth(rt, &said)?;
+    assert!(rt; (refused < 4) == said.steps.is_empty(), "{}", example.name);
+    Ok(())
+}
+
+#[test]
+fn a_refused_step_changes_nothing(rt: HostRuntime) -> Result<(), Fail> {
+    for example in situations() {
+        refuse_within_cap(&rt, example)?;
+    }
+    Ok(())
+}
+
+#[test]
+fn each_growth_of_a_long_history_is_refused(rt: HostRuntime) -> Result<(), Fail> {
+    for example in situations() {
+        refuse_beyond_cap(&rt, example)?;
+    }
+    Ok(())
+}

@@ -1,0 +1,4 @@
+//! Those who wait: in line, and on conditions.
+
+mod line;
+mod sleepers;

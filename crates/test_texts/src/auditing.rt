@@ -1,0 +1,6 @@
+//! Verdicts and totals.
+
+mod histories;
+mod memory;
+mod sums;
+mod verdicts;

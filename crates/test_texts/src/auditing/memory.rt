@@ -1,0 +1,142 @@
+//! Memory that is refused.
+//!
+//! A test takes all memory first, a part of it as small blocks side by side, and lets these go one by one.
+//! Each request of an audit of two seats takes a small block or more: so each is refused for true, one after
+//! the other.
+
+ghost use Rattle.std.specs.Prelude.{◌≡◌, IfOk};
+ghost use Rattle.history.specs.Header.{IsInRange};
+ghost use Rattle.history.specs.Legal.{AreSeated};
+ghost use Rattle.history.specs.Start.{opening};
+
+use crate::auditing::histories::{are_seated, history_of};
+use audit::sums::Totals;
+use audit::totals::totals;
+use audit::verdict::{Verdict, check};
+use deciding::entries::plain;
+use history::entries::History;
+use history::entry::{End, Entry, Mode, Word};
+use history::fault::Fault;
+use history::header::{Header, Object, Policy};
+use std::alloc::Global;
+use std::test::Fail;
+use test_support::memory::Memory;
+
+/// A request takes a piece of this size or more.
+const PIECE: usize = 16;
+
+/// More pieces than an audit needs.
+const MOST: usize = 4096;
+
+/// What an audit of the history below asks memory for: two tables of holds, one of last sleeps, a list of
+/// sleepers and a line.
+const REQUESTS: usize = 5;
+
+/// The verdict, once there is memory for it, and how often memory was refused before.
+fn fed_check(alloc: Global, header: &Header, history: &History) -> Result<(Verdict, usize), Fail>
+    requires range { IsInRange header.now }
+    requires cap { history.now.cap ≡ header.now.cap }
+    requires seated { AreSeated (opening header.now) history.now.entries }
+{
+    let mut memory = Memory::take_all(alloc, PIECE)?;
+    for refused in 0..MOST {
+        match check(alloc, header, history) {
+            Ok(verdict) => return Ok((verdict, refused)),
+            Err(_) => {
+                let _was_left = memory.give_piece();
+            }
+        }
+    }
+    Err(Fail::new("memory was refused to the end"))
+}
+
+/// The totals of a legal history, once there is memory for them, and how often memory was refused before.
+fn fed_totals(alloc: Global, header: &Header, history: &History) -> Result<(Totals, usize), Fail>
+    requires range { IsInRange header.now }
+    requires cap { history.now.cap ≡ header.now.cap }
+    requires seated { AreSeated (opening header.now) history.now.entries }
+{
+    match check(alloc, header, history)? {
+        Verdict::NotLegal(_) => return Err(Fail::new("the history is not legal")),
+        Verdict::Legal => {}
+    }
+    let mut memory = Memory::take_all(alloc, PIECE)?;
+    for refused in 0..MOST {
+        match totals(alloc, header, history) {
+            Ok(totals) => return Ok((totals, refused)),
+            Err(_) => {
+                let _was_left = memory.give_piece();
+            }
+        }
+    }
+    Err(Fail::new("memory was refused to the end"))
+}
+
+const HEADER: Header = Header {
+    object: Object::Lock(Policy::Fair),
+    seats: 2,
+    conditions: 1,
+    cap: 64,
+};
+
+fn on_condition(seat: u16, word: Word) -> Entry {
+    Entry {
+        seat,
+        word,
+        mode: Mode::X,
+        n: 1,
+        at: 0,
+        end: End::None,
+    }
+}
+
+/// Seat 0 sleeps, and seat 1, who owns, signals it.
+fn signalled(alloc: Global) -> Result<History, Fault>
+    ensures { IfOk result (λ history. history.cap ≡ 64) }
+{
+    let entries = [
+        plain(0, Word::Got, Mode::X, 1),
+        on_condition(0, Word::Await),
+        plain(1, Word::Got, Mode::X, 1),
+        on_condition(1, Word::Signal),
+    ];
+    history_of(alloc, &HEADER, &entries)
+}
+
+#[test]
+fn each_request_of_a_check_is_refused(rt: HostRuntime) -> Result<(), Fail> {
+    let history = signalled(rt.alloc())?;
+    assert!(rt; HEADER.in_range());
+    assert!(rt; are_seated(&HEADER, &history));
+    let (verdict, refused) = fed_check(rt.alloc(), &HEADER, &history)?;
+    assert_eq!(rt; verdict, Verdict::Legal);
+    assert!(rt; REQUESTS <= refused);
+    Ok(())
+}
+
+/// One in line takes the lock without a look.
+#[test]
+fn each_request_of_a_check_that_finds_a_wrong_entry_is_refused(
+    rt: HostRuntime,
+) -> Result<(), Fail> {
+    let mut history = signalled(rt.alloc())?;
+    history.make_room(1)?;
+    history.add(plain(0, Word::TryGot, Mode::X, 1), 0);
+    assert!(rt; HEADER.in_range());
+    assert!(rt; are_seated(&HEADER, &history));
+    let (verdict, refused) = fed_check(rt.alloc(), &HEADER, &history)?;
+    assert_eq!(rt; verdict, Verdict::NotLegal(4));
+    assert!(rt; REQUESTS <= refused);
+    Ok(())
+}
+
+#[test]
+fn each_request_of_totals_is_refused(rt: HostRuntime) -> Result<(), Fail> {
+    let history = signalled(rt.alloc())?;
+    assert!(rt; HEADER.in_range());
+    assert!(rt; are_seated(&HEADER, &history));
+    let (totals, refused) = fed_totals(rt.alloc(), &HEADER, &history)?;
+    assert_eq!(rt; (totals.x, totals.line, totals.sleepers), (1, 1, 0));
+    assert!(rt; REQUESTS <= refused);
+    Ok(())
+}

@@ -1,0 +1,9 @@
+//! The list of entries, and its texts.
+
+mod headers;
+mod list;
+mod memory;
+mod numbers;
+mod pieces;
+mod texts;
+mod words;

@@ -1,0 +1,12 @@
+//! Whole streams: texts from bytes to bytes, over devices in memory.
+
+mod audits;
+mod changes;
+mod devices;
+mod memory;
+mod pieces;
+mod plain;
+mod replays;
+mod spoiled;
+mod streamed;
+mod windows;

@@ -1,0 +1,210 @@
+//! Each cut and each changed byte of the worked examples' texts, one byte at a time.
+
+use crate::streaming::plain::plainly_read;
+use crate::streaming::replays::AMPLE;
+use crate::streaming::streamed::streamed;
+use driver::form::Form;
+use std::alloc::{AllocError, Global};
+use std::process::Abort;
+use std::test::Fail;
+use steps::{StepsText, TextFault, read_steps};
+use streams::stream_fault::StreamFault;
+use test_support::examples::situations;
+
+/// The history text of a replay text: its lines for entries, without those whom they name.
+fn history_within(alloc: Global, replay: &[u8]) -> Result<Vec<u8>, AllocError> {
+    let mut history = Vec::new(alloc);
+    for line in replay.split_inclusive(|byte| *byte == b'\n') {
+        if let Some(part) = line.strip_prefix(b"aqs-replay 1 ") {
+            history.extend_from_slice(b"aqs-history 1 ")?;
+            history.extend_from_slice(part)?;
+        } else if !line.starts_with(b"- ") {
+            let named = line
+                .windows(7)
+                .position(|bytes| bytes == b" wakes ".as_slice());
+            match named {
+                Some(at) => {
+                    history.extend_from_slice(&line[..at])?;
+                    history.push(b'\n')?;
+                }
+                None => history.extend_from_slice(line)?,
+            }
+        }
+    }
+    Ok(history)
+}
+
+/// The entries and the ended calls that the lines of a replay text tell.
+#[derive(Clone, Copy)]
+struct Counted {
+    entries: u64,
+    calls: u64,
+}
+
+impl Counted {
+    /// The same behind one line more, which is of this seat; `None` where it isn't.
+    fn behind(self, alloc: Global, line: &[u8], seat: u16) -> Result<Option<Counted>, AllocError> {
+        let recorded = format!(in alloc; "{} {seat} ", self.entries)?;
+        if let Some(words) = line.strip_prefix(recorded.as_bytes()) {
+            return Ok(Some(Counted {
+                entries: self.entries.saturating_add(1),
+                calls: self.calls.saturating_add(u64::from(!waits(words))),
+            }));
+        }
+        let unrecorded = format!(in alloc; "- {seat} ")?;
+        Ok(line.starts_with(unrecorded.as_bytes()).then_some(self))
+    }
+
+    /// The end line.
+    fn end(self, alloc: Global) -> Result<String, AllocError> {
+        format!(in alloc; "end {} {}", self.entries, self.calls)
+    }
+}
+
+/// Whether the words of an entry end no call.
+fn waits(words: &[u8]) -> bool {
+    words.starts_with(b"queued ") || words.starts_with(b"await ") || words.starts_with(b"lapse ")
+}
+
+/// Whether a replay text has this header line, a line for each step with its seat, entries numbered from 0,
+/// and the counts at its end.
+fn answers_each_step(
+    alloc: Global,
+    replay: &[u8],
+    header: &[u8],
+    read: &StepsText,
+) -> Result<bool, AllocError> {
+    let mut lines = replay.split(|byte| *byte == b'\n');
+    if lines.next() != Some(header) {
+        return Ok(false);
+    }
+    let mut counted = Counted {
+        entries: 0,
+        calls: 0,
+    };
+    for (seat, _) in &read.steps {
+        match counted.behind(alloc, lines.next().unwrap_or_default(), *seat)? {
+            Some(more) => counted = more,
+            None => return Ok(false),
+        }
+    }
+    let end = counted.end(alloc)?;
+    Ok(
+        lines.next() == Some(end.as_bytes())
+            && lines.next() == Some(b"".as_slice())
+            && lines.next().is_none(),
+    )
+}
+
+/// Whether a text is read as what it says.
+fn is_read_as(alloc: Global, text: &[u8], said: &StepsText) -> Result<bool, TextFault> {
+    let read = read_steps(alloc, text)?;
+    Ok(read.header == said.header && read.steps.as_slice() == said.steps.as_slice())
+}
+
+/// The first line of the replay text that answers a steps text.
+fn replay_header(alloc: Global, text: &[u8]) -> Result<Vec<u8>, AllocError> {
+    let mut header = Vec::from_slice(alloc, b"aqs-replay 1 ")?;
+    let first = text.split(|byte| *byte == b'\n').next().unwrap_or_default();
+    header.extend_from_slice(first.strip_prefix(b"aqs-steps 1 ").unwrap_or_default())?;
+    Ok(header)
+}
+
+/// What a text says is answered, in both forms alike.
+fn is_answered_so<R: Abort + AllocGlobal>(
+    rt: &R,
+    text: &[u8],
+    said: &StepsText,
+    replay: &[u8],
+    name: &str,
+) -> Result<(), Fail> {
+    let alloc = rt.alloc();
+    assert!(rt; is_read_as(alloc, text, said)?, "{name}");
+    let header = replay_header(alloc, text)?;
+    assert!(rt; answers_each_step(alloc, replay, &header, said)?, "{name}");
+    let within = history_within(alloc, replay)?;
+    let history = streamed(rt, text, Form::History, 1, (None, None), AMPLE);
+    assert!(rt; history.is_answered(&within), "{name}");
+    Ok(())
+}
+
+/// A text is answered as the plain reader says.
+fn is_answered_as_read<R: Abort + AllocGlobal>(
+    rt: &R,
+    text: &[u8],
+    name: &str,
+) -> Result<(), Fail> {
+    let outcome = streamed(rt, text, Form::Replay, 1, (None, None), AMPLE);
+    match plainly_read(rt.alloc(), text) {
+        Err(fault) => {
+            assert!(rt; outcome.is_refused(StreamFault::Text(fault)), "{name}");
+            Ok(())
+        }
+        Ok(plain) => {
+            assert!(rt; outcome.is_ok(), "{name}");
+            is_answered_so(rt, text, &plain, outcome.bytes(), name)
+        }
+    }
+}
+
+/// Each byte of a text is changed to each other.
+fn each_change_is_answered_as_read<R: Abort + AllocGlobal>(
+    rt: &R,
+    text: &[u8],
+    name: &str,
+) -> Result<(), Fail> {
+    for at in 0..text.len() {
+        for other in 0..=u8::MAX {
+            if other != text[at] {
+                let mut changed = Vec::from_slice(rt.alloc(), text)?;
+                changed[at] = other;
+                is_answered_as_read(rt, &changed, name)?;
+            }
+        }
+    }
+    Ok(())
+}
+
+/// The texts of so many examples, with each change.
+fn changes_are_answered_as_read<R: Abort + AllocGlobal>(
+    rt: &R,
+    first: usize,
+    count: usize,
+) -> Result<(), Fail> {
+    for example in situations().iter().skip(first).take(count) {
+        each_change_is_answered_as_read(rt, example.steps.as_bytes(), example.name)?;
+    }
+    Ok(())
+}
+
+#[test]
+fn each_change_of_the_first_examples(rt: HostRuntime) -> Result<(), Fail> {
+    changes_are_answered_as_read(&rt, 0, 13)
+}
+
+#[test]
+fn each_change_of_the_other_examples(rt: HostRuntime) -> Result<(), Fail> {
+    changes_are_answered_as_read(&rt, 13, usize::MAX)
+}
+
+/// Each text that a text begins with, but the whole of it, is cut short.
+fn is_cut_short<R: Abort + AllocGlobal>(rt: &R, text: &[u8], form: Form, name: &str) {
+    for n in 0..text.len() {
+        let outcome = streamed(rt, &text[..n], form, 1, (None, None), AMPLE);
+        assert!(rt;
+            outcome.is_refused(StreamFault::Text(TextFault::CutShort)),
+            "{name}"
+        );
+    }
+}
+
+#[test]
+fn each_beginning_is_cut_short(rt: HostRuntime) -> Result<(), Fail> {
+    for example in situations() {
+        let text = example.steps.as_bytes();
+        is_answered_as_read(&rt, text, example.name)?;
+        is_cut_short(&rt, text, Form::Replay, example.name);
+        is_cut_short(&rt, text, Form::History, example.name);
+    }
+    Ok(())
+}
