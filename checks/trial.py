@@ -1,0 +1,127 @@
+"""The trial of one crate's wrong bodies: many in one check, and what isn't settled so alone, by rt's own rules."""
+import os
+import resource
+import shutil
+import tempfile
+from dataclasses import dataclass
+
+from bodies import body_of, composed, symbol_of
+from kit import rt
+from said import Said
+
+ONE_JOB = ["--jobs", "1"]
+MOST = 60  # wrong bodies in one check: a crate has seldom more, and a check of so many still takes some 1.5 GB
+
+
+@dataclass
+class Result:
+    """What came of an edit."""
+
+    is_refused: bool
+    is_alone: bool
+    text: str
+
+
+def seconds():
+    """Returns the processor time of all checks so far."""
+    used = resource.getrusage(resource.RUSAGE_CHILDREN)
+    return used.ru_utime + used.ru_stime
+
+
+def below(symbol, calls):
+    found, left = set(), [symbol]
+    while left:
+        more = calls.get(left.pop(), set()) - found
+        found |= more
+        left += more
+    return found
+
+
+def picked(left, calls):
+    """Returns bodies of different functions, first those tried before, with none of what stood in their way then."""
+    chosen, free = {}, set()
+    for it in sorted(left, key=lambda it: -it.times):
+        under = below(it.symbol, calls) if it.times else set()
+        if it.symbol not in chosen and it.symbol not in free and not under & {*chosen} and len(chosen) < MOST:
+            chosen[it.symbol] = it
+            free |= under
+    return [*chosen.values()]
+
+
+class Trial:
+    def __init__(self, crate, edits, room, tell):
+        self.crate, self.edits, self.room, self.tell = crate, edits, room, tell
+        self.results, self.calls = {}, {}
+
+    def check(self, texts, kept):
+        at = seconds()
+        ran = rt.checked(self.crate, texts, ONE_JOB, kept)
+        return Said(ran.stdout, ran.returncode), seconds() - at
+
+    def over_a_copy(self, work):
+        """Gives a call a copy of what the crate's own check kept, so that no wrong body's work is found again."""
+        copy = f"{self.room}/copy"
+        shutil.copytree(f"{self.room}/kept", copy)
+        try:
+            return work(copy)
+        finally:
+            shutil.rmtree(copy)
+
+    def together(self, group):
+        """Tries bodies of different functions in one check, and returns those that are to be tried so once more."""
+        said, took = self.over_a_copy(lambda copy: self.check(composed(self.crate, group), copy))
+        for symbol, callees in said.calls.items():
+            self.calls.setdefault(symbol, set()).update(callees)
+        refused, strays = said.refused(group), said.strays(group)
+        for body, why in refused.items():
+            self.results[body.edit] = Result(True, False, why)
+        again = []
+        for body in group:
+            body.times += 1
+            waits = said.is_judged() and said.calls.get(body.symbol)
+            if body not in refused and body.times == 1 and waits:
+                again.append(body)
+        if strays:
+            self.tell(f"a function that no wrong body changes fails too, so each goes alone: {strays[0][:150]}")
+        self.tell(f"{len(group)} in one check, {len(refused)} refused, {len(again)} once more, {took:.0f} s")
+        return again
+
+    def alone(self, edit):
+        at = seconds()
+        well, text = self.over_a_copy(lambda copy: rt.must_fail(self.crate, edit, ONE_JOB, copy))
+        if not well:
+            well, text = rt.must_fail(self.crate, edit, ONE_JOB)
+        is_by_name = "only because a proof file names" in text
+        text = text.partition(": ")[2] + f" (alone, {seconds() - at:.0f} s)"
+        return Result(well and not is_by_name, True, text)
+
+    def run(self, all_alone):
+        """Tries all, and returns what came of each edit, in their order."""
+        at = seconds()
+        whole, _ = self.check({}, f"{self.room}/kept")
+        self.tell(f"as it stands: {seconds() - at:.0f} s")
+        if whole.status:
+            return [Result(False, True, "NOT TRIED: the crate is not proved as it stands") for _ in self.edits]
+        bodies = [] if all_alone else [it for it in (body_of(self.crate, edit) for edit in self.edits) if it]
+        known = whole.proved()
+        for body in bodies:
+            body.symbol = symbol_of(body, known)
+        left = [it for it in bodies if it.symbol]
+        while left:
+            group = picked(left, self.calls)
+            left = [it for it in left if it not in group] + self.together(group)
+        for edit in self.edits:
+            if edit not in self.results:
+                self.results[edit] = self.alone(edit)
+        return [self.results[it] for it in self.edits]
+
+
+def tried(crate, edits, tell, all_alone=False, begin_with=None):
+    """Tries a crate's edits, and returns what came of each.
+
+    `begin_with` is a folder of earlier checks' work, which spares the crate's own proof.
+    """
+    with tempfile.TemporaryDirectory(prefix="wrong-bodies-") as room:
+        if begin_with and os.path.isdir(begin_with):
+            shutil.copytree(begin_with, f"{room}/kept")
+        return Trial(crate, edits, room, tell).run(all_alone)

@@ -1,0 +1,114 @@
+#!/usr/bin/env python3
+"""Tries the wrong bodies crates/NAME/must-fail/*.edit, as rt must-fail does, but many in one check.
+
+usage: checks/wrong_bodies.py [--built] [--alone] [NAME..]      at the top of the repository, of all crates or of these
+
+A check reports each function by itself, so one copy of a crate takes a wrong body of each of many functions. A wrong
+body is refused where its own function is not proved, and one of that function's own goals fails. What is not so
+refused, since a callee's wrong body stood in the way, is tried once more without that one, and then alone, by rt's
+own rules. Alone from the start go edits that change more than one function's body. An edit that is refused only
+because a proof names what it took away counts as not refused: it says nothing of the contract.
+
+Each crate is a process of its own, the largest first, as many at once as there are processors and memory.
+
+--built   the libraries stand as rt ci has just left them, and nothing else that earlier checks kept is taken
+--alone   tries each edit alone
+The last line is 'N refused, M not refused', and the status is 1 where any is not.
+"""
+import os
+import subprocess
+import sys
+import tempfile
+import time
+
+sys.dont_write_bytecode = True
+
+import selftest
+from kit import rt
+from trial import ONE_JOB, seconds, tried
+
+MEMORY = 2_000_000_000  # of a crate's checks, one at a time
+
+
+def tell(text):
+    print(f"checks: {text}", flush=True)
+
+
+def try_one(name, flags):
+    """Tries one crate's edits, and prints what came of each."""
+    [crate] = [it for it in rt.rtlib.crates_below(os.getcwd()) if it.name == name]
+    edits, bad = rt.edits_of(crate)
+    lacking = [it.name for it in crate.below() if not os.path.isfile(it.rlib)]
+    kept = None if "--built" in flags else f"{crate.folder}/out/incremental"
+    results = []
+    if lacking:
+        tell(f"{name}: NOT TRIED: its library {lacking[0]} is not built")
+    else:
+        results = tried(crate, edits, lambda text: tell(f"{name}: {text}"), "--alone" in flags, kept)
+    for edit, it in zip(edits, results):
+        tell(f"{name}/{os.path.basename(edit)}: {'refused' if it.is_refused else 'NOT REFUSED'}: {it.text}")
+    for it in bad:
+        tell(f"{name}/{os.path.basename(it)}: BAD EDIT: not a file NAME.edit right in must-fail/")
+    refused = sum(it.is_refused for it in results)
+    tell(f"{name}: {seconds():.0f} processor seconds")
+    print(f"{refused} refused, {len(edits) + len(bad) - refused} not refused")
+    return 0
+
+
+def size(crate):
+    """Returns a number that grows with the time that a crate's trial takes."""
+    return crate.count(b"\n") + 50 * len(rt.edits_of(crate)[0]) + sum(it.count(b"\n") for it in crate.below()) // 10
+
+
+def in_processes(crates, flags):
+    """Tries crates side by side, prints what each says once it has ended, and returns what all of it counts."""
+    at_once = max(1, min(rt.processors(), rt.free() // MEMORY))
+    left, running, counts = sorted(crates, key=size), {}, [0, 0]
+    while left or running:
+        while left and len(running) < at_once:
+            crate = left.pop()
+            out = tempfile.TemporaryFile("w+", errors="replace")
+            words = [sys.executable, os.path.realpath(__file__), "--crate", *flags, crate.name]
+            running[subprocess.Popen(words, stdin=subprocess.DEVNULL, stdout=out, stderr=subprocess.STDOUT)] = crate, out
+        time.sleep(0.2)
+        for ended in [it for it in running if it.poll() is not None]:
+            crate, out = running.pop(ended)
+            out.seek(0)
+            *lines, last = out.read().rstrip("\n").split("\n")
+            words = last.split()
+            print("\n".join(lines), flush=True)
+            if ended.returncode or len(words) != 5 or words[1] != "refused,":
+                tell(f"{crate.name}: its trial stopped: {last}")
+                words = ["0", "", str(max(1, len(rt.edits_of(crate)[0])))]
+            counts = [counts[0] + int(words[0]), counts[1] + int(words[2])]
+    return counts
+
+
+def main(words):
+    flags = [it for it in words if it.startswith("--")]
+    names = [it for it in words if it not in flags]
+    unknown = {*flags} - {"--built", "--alone", "--crate"}
+    if unknown:
+        sys.exit(__doc__)
+    rt.rtlib.guarded()
+    if "--crate" in flags:
+        return try_one(names[0], flags)
+    at = time.monotonic()
+    why = selftest.failure(lambda text: tell(f"self-test: {text}"))
+    if why:
+        tell(f"the self-test FAILED, so nothing is tried: {why}")
+        return 2
+    crates = [it for it in rt.rtlib.crates_below(os.getcwd()) if any(rt.edits_of(it))]
+    crates = [it for it in crates if not names or it.name in names]
+    if "--built" not in flags:
+        libraries = {it.name: it for crate in crates for it in crate.below()}
+        if any(it.build_rlib(ONE_JOB, anew=False) for it in sorted(libraries.values(), key=lambda it: len(it.below()))):
+            return 1
+    refused, others = in_processes(crates, [it for it in flags if it != "--crate"])
+    tell(f"{(time.monotonic() - at) / 60:.0f} minutes, {seconds() / 60:.0f} processor minutes")
+    print(f"{refused} refused, {others} not refused", flush=True)
+    return 1 if others else 0
+
+
+if __name__ == "__main__":
+    sys.exit(main(sys.argv[1:]))
