@@ -9,7 +9,8 @@ refused, since a callee's wrong body stood in the way, is tried once more withou
 own rules. Alone from the start go edits that change more than one function's body. An edit that is refused only
 because a proof names what it took away counts as not refused: it says nothing of the contract.
 
-Each crate is a process of its own, the largest first, as many at once as there are processors and memory.
+Each crate is a process of its own, the largest first, as many at once as there are processors and memory, or as
+RT_JOBS says.
 
 --built   the libraries stand as rt ci has just left them, and nothing else that earlier checks kept is taken
 --alone   tries each edit alone
@@ -38,7 +39,7 @@ def try_one(name, flags):
     """Tries one crate's edits, and prints what came of each."""
     [crate] = [it for it in rt.rtlib.crates_below(os.getcwd()) if it.name == name]
     edits, bad = rt.edits_of(crate)
-    lacking = [it.name for it in crate.below() if not os.path.isfile(it.rlib)]
+    lacking = [it.name for it in crate.below() if not os.path.exists(it.rlib)]
     kept = None if "--built" in flags else f"{crate.folder}/out/incremental"
     results = []
     if lacking:
@@ -62,7 +63,8 @@ def size(crate):
 
 def in_processes(crates, flags):
     """Tries crates side by side, prints what each says once it has ended, and returns what all of it counts."""
-    at_once = max(1, min(rt.processors(), rt.free() // MEMORY))
+    fixed = os.environ.get("RT_JOBS", "")  # as rt ci reads it
+    at_once = int(fixed) if fixed.isdigit() else max(1, min(rt.processors(), rt.free() // MEMORY))
     left, running, counts = sorted(crates, key=size), {}, [0, 0]
     while left or running:
         while left and len(running) < at_once:
