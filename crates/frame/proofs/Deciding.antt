@@ -1,15 +1,19 @@
 -- Who is ready, who sleeps, and the entry that a step makes.
-use Rattle.std.proofs.Common.{◌≡◌, ℕ, ◌<◌, arith, Bool, true, false, List, Option, Some, None, Ok, refl, ap, ◌∙◌, sym, subst}
+use Rattle.std.proofs.Common.{◌≡◌, ℕ, ◌<◌, arith, Bool, true, false, List, [], ◌∷◌, Option, Some, None, Ok, refl, ap, ◌∙◌, sym, subst}
 use Rattle.std.specs.Prelude.{is_some, Result, Err, IfOk, IfSome}
 use Rattle.history.specs.declared.arrival.Arrival.{Arrival}
 use Rattle.history.specs.declared.entry.Entry.{Entry}
 use Rattle.history.specs.declared.fault.Fault.{Fault}
 use Rattle.history.specs.declared.step.Step.{Step}
+use Rattle.history.specs.declared.header.Header.{Header}
+use Rattle.history.specs.Legal.{IsLegal, AreSeated}
+use Rattle.history.specs.Line.{line, first_of}
+use Rattle.history.proofs.WhoWaits.{LineSeated, line_seated}
 use Rattle.history.specs.Could.{could}
 use Rattle.history.specs.Counts.{Counts}
 use Rattle.history.specs.Naming.{ready_by}
 use Rattle.history.specs.Sleepers.{sleepers, has, sleeps_below}
-use Rattle.history.specs.Start.{Start}
+use Rattle.history.specs.Start.{Start, opening}
 use Rattle.condition_queue.specs.declared.sleeper.Sleeper.{Sleeper}
 use Rattle.condition_queue.specs.Sleepers.{Sleepers, asleep_on, sleeps_on}
 use Rattle.history.proofs.Answering.{entry_seat}
@@ -64,3 +68,12 @@ pub made_next : (v : CoreView) (i : ℕ) (step : Step) (made : Result (Option En
 made_next v i step (Ok (Some e)) l q = step_next v i step e l (sym q)
 made_next v i step (Ok None) l q = tt
 made_next v i step (Err f) l q = tt
+
+-- the first in line has one of the seats
+pub first_below : (k : Header) (h : List Entry) (a : Arrival) → IsLegal (opening k) h → AreSeated (opening k) h →
+    Some a ≡ first_of (line (opening k) h) → a.seat < k.seats
+first_below k h a legal seated q = by (line (opening k) h) (line_seated k h legal seated) q
+  where
+    by : (q : List Arrival) → LineSeated k.seats q → Some a ≡ first_of q → a.seat < k.seats
+    by [] all p = cc
+    by (b ∷ rest) all p = let same : b ≡ a = cc in subst (λ (x : Arrival). x.seat < k.seats) same all.0

@@ -1,5 +1,11 @@
 -- What is answered where an entry was added, or not.
-use Rattle.std.proofs.Common.{◌≡◌, inl, inr, ⊎_elim, ℕ, true, false, ◌∷◌, Option, Some, None, Result, Ok, Err, refl, ap, ◌∙◌, sym, subst}
+use Rattle.std.proofs.Common.{◌≡◌, inl, inr, ⊎_elim, ℕ, ◌<◌, eqb, true, false, not, ◌&&◌, List, [], ◌∷◌, ◌++◌, Option, Some, None, Result, Ok, Err, refl, ap, ◌∙◌, sym, subst}
+use Rattle.std.specs.Prelude.{IfOk, IfSome}
+use Rattle.std.specs.List.{All}
+use Rattle.std.proofs.lemmas.Bool.{cond_both}
+use Rattle.std.proofs.lemmas.List.Elements.{All-nil, All-cons}
+use Rattle.history.specs.Could.{is_seat}
+use Rattle.history.proofs.Answering.{entry_seat}
 use Rattle.history.specs.declared.entry.Entry.{Entry}
 use Rattle.history.specs.declared.fault.Fault.{Fault}
 use Rattle.history.specs.declared.fault.Fault.TheVariants.{HistoryFull, OutOfMemory}
@@ -12,7 +18,7 @@ use Rattle.history.specs.Naming.{ready, named, named_by}
 use Rattle.history.specs.Room.{has_room, was_owed}
 use Rattle.history.specs.Steps.{entry_for}
 use Rattle.history.proofs.Changes.{counts_nothing, held_same}
-use Rattle.frame.specs.Core.{CoreView, start_of, IsAdded, IsAnswer, IsAnswered, IsRecorded, KeepsHolds, LacksMemory, MakesOwed}
+use Rattle.frame.specs.Core.{CoreView, start_of, IsAdded, IsAnswer, IsAnswered, IsRecorded, KeepsHolds, LacksMemory, MakesOwed, made_by, IsOf, NamesBelow}
 
 abbrev with_entry : CoreView → Entry → CoreView
 with_entry v e = record v { entries = e ∷ v.entries }
@@ -132,3 +138,33 @@ owed_entry v i step e q m =
 
     some_same : {x y : Entry} → Some x ≡ Some y → x ≡ y
     some_same p = cc
+
+-- what an answer recorded, whose it is, and whom it names
+pub grown_not : (v new : CoreView) (f : Fault) → new ≡ v → new.entries ≡ made_by (Err f) ++ v.entries
+grown_not v new f is = ap (λ (w : CoreView). w.entries) is
+
+pub grown_now : (v new : CoreView) (e : Entry) (u : Unit {0}) (name : Option ℕ) → IsAdded v e (Ok u) new →
+    new.entries ≡ made_by (Ok (Recorded e name)) ++ v.entries
+grown_now v new e u name is = ap (λ (w : CoreView). w.entries) is.1
+
+pub own_entry : (v : CoreView) (i : ℕ) (step : Step) (made : Option Entry) (e : Entry) (r : Result Answer Fault) →
+    Ok made ≡ entry_for (start_of v) v.entries i step → made ≡ Some e → IfOk r (λ a. IsOf e.seat a) →
+    IfOk r (λ a. IsOf i a)
+own_entry v i step made e r q some is =
+    subst (λ j. IfOk r (λ a. IsOf j a))
+    (entry_seat (start_of v) v.entries i step e (sym q ∙ ap (λ x. (let y : Result (Option Entry) Fault = Ok x in y)) some)) is
+
+pub own_made : (i : ℕ) (r : Result Answer Fault) → IfOk r (λ a. IsOf i a) → All (λ e. e.seat ≡ i) (made_by r)
+own_made i (Ok (Recorded e name)) is = All-cons (λ x. x.seat ≡ i) e [] is (All-nil (λ x. x.seat ≡ i))
+own_made i (Ok Sleep) is = All-nil (λ e. e.seat ≡ i)
+own_made i (Err f) is = All-nil (λ e. e.seat ≡ i)
+
+pub names_below : (seats : ℕ) (e : Entry) (before after name : Option ℕ) → IfSome after (λ j. j < seats) →
+    name ≡ named_by before after e.seat → NamesBelow seats (Recorded e name)
+names_below seats e before after name below is =
+    subst (λ x. NamesBelow seats (Recorded e x)) (sym is) (by after below)
+  where
+    by : (o : Option ℕ) → IfSome o (λ j. j < seats) → IfSome (named_by before o e.seat) (λ j. j < seats)
+    by None l = tt
+    by (Some j) l = cond_both (not (eqb j e.seat) && not (is_seat before j)) (Some j) None
+        (λ x. IfSome x (λ k. k < seats)) (λ t. l) (λ t. tt)

@@ -1,5 +1,5 @@
 -- What a core is to its callers, and how its fields stand for it.
-use Rattle.std.specs.Prelude.{◌≡◌, ◌⊎◌, ◌≤◌, ◌<◌, ℕ, ◌+◌, ◌*◌, Bool, true, false, List, ◌∷◌, length, slice_get, Result, Ok, Err, Option, Some}
+use Rattle.std.specs.Prelude.{◌≡◌, ◌⊎◌, ◌≤◌, ◌<◌, ℕ, ◌+◌, ◌*◌, Bool, true, false, List, [], ◌∷◌, length, slice_get, Result, Ok, Err, Option, Some, IfSome}
 use Rattle.acquire_queue.specs.Line.{Line}
 use Rattle.condition_queue.specs.Sleepers.{Sleepers, asleep_on}
 use Rattle.history.specs.declared.entry.Entry.{Entry}
@@ -125,6 +125,21 @@ KeepsHolds old (Recorded e named) new =
     (new.entries ≡ e ∷ old.entries)
     × ((i : ℕ) (m : Mode) → held (start_of old) new.entries i m ≡ held (start_of old) old.entries i m)
 KeepsHolds old Sleep new = new ≡ old
+
+-- what an answer recorded
+abbrev pub made_by : Result Answer Fault → List Entry
+made_by (Ok (Recorded e named)) = e ∷ []
+made_by (Ok Sleep) = []
+made_by (Err fault) = []
+
+-- an answer's entry is of a seat, and it names one of so many seats
+abbrev pub IsOf : ℕ → Answer → Type 0
+IsOf i (Recorded e named) = e.seat ≡ i
+IsOf i Sleep = Unit {0}
+
+abbrev pub NamesBelow : ℕ → Answer → Type 0
+NamesBelow seats (Recorded e named) = IfSome named (λ j. j < seats)
+NamesBelow seats Sleep = Unit {0}
 
 -- the entry of a step was owed before it came
 abbrev pub MakesOwed : CoreView → ℕ → Step → Type 0

@@ -26,3 +26,5 @@ pub mod OneOwner
 pub mod WhoWaits
 pub mod Passing
 pub mod Answering
+pub mod Staying
+pub mod Awaiting

@@ -26,3 +26,4 @@ pub mod Conservation
 pub mod Ownership
 pub mod Waiting
 pub mod Numbering
+pub mod Awaiting

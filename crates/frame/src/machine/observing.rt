@@ -1,6 +1,6 @@
 //! What a core tells of itself. No observer takes memory.
 
-ghost use Rattle.std.specs.Prelude.{◌≡◌, ◌<◌, ◌≤◌, ◌+◌, ◌≤ℤ◌, pos, length, nat_lt, true, is_some};
+ghost use Rattle.std.specs.Prelude.{◌≡◌, ◌<◌, ◌≤◌, ◌+◌, ◌^◌, ◌≤ℤ◌, pos, length, nat_lt, true, is_some, IfSome};
 ghost use Rattle.history.specs.declared.entry.Mode.TheVariants.{X, S};
 ghost use Rattle.history.specs.Counts.{count, held, owner};
 ghost use Rattle.history.specs.Faults.{max_amount};
@@ -64,7 +64,7 @@ impl<H: Hooks + Drop> Core<H> {
         self.seats.iter().any(|seat| seat.exclusive > 0)
     }
 
-    /// The history is legal, nobody in line is passed, and what is owed has room.
+    /// The history is legal, nobody in line is passed, what is owed has room, and its length fits in 32 bits.
     pub fn is_lawful(&self)
         ensures legal { IsLegal (start_of self.now) self.now.entries }
         ensures seated { AreSeated (start_of self.now) self.now.entries }
@@ -72,6 +72,7 @@ impl<H: Hooks + Drop> Core<H> {
         ensures fair { IsFairOrder (start_of self.now) self.now.entries }
         ensures room { length self.now.entries + owed (start_of self.now) self.now.entries
             ≤ self.now.header.cap }
+        ensures short { length self.now.entries < 2 ^ 32 }
     {
         let _header = &self.header;
     }
@@ -170,8 +171,10 @@ impl<H: Hooks + Drop> Core<H> {
 
     /// The seat of the first in line, where that could take what it asks for.
     pub(super) fn ready(&self) -> Option<u16>
-        ensures { result ≡ ready_of self.now }
+        ensures ready { result ≡ ready_of self.now }
+        ensures below { IfSome result (λ seat. seat < self.now.header.seats) }
     {
+        let _header = &self.header;
         match self.first() {
             None => None,
             Some(first) => {

@@ -1,8 +1,9 @@
 //! Recording the entry of a step.
 
-ghost use Rattle.std.specs.Prelude.{◌≡◌, ◌<◌, IsOk, IfOk, OnErr};
+ghost use Rattle.std.specs.Prelude.{◌≡◌, ◌<◌, ◌++◌, IsOk, IfOk, OnErr};
 ghost use Rattle.history.specs.declared.entry.Entry.{Entry};
 ghost use Rattle.frame.specs.Core.{start_of, IsAdded, IsAnswered, IsNext, IsRecorded, KeepsHolds, MakesOwed};
+ghost use Rattle.frame.specs.Core.{made_by, IsOf, NamesBelow};
 ghost use Rattle.history.specs.Room.{was_owed};
 ghost use Rattle.std.specs.Prelude.{true};
 
@@ -45,6 +46,9 @@ impl<H: Hooks + Drop> Core<H> {
         ensures fault { OnErr result (self.new ≡ self.old) }
         ensures refused { IfOk result (λ answer. KeepsHolds self.old answer self.new) }
         ensures owed { was_owed self.old.header.object entry ≡ true → IsOk result }
+        ensures grown { self.new.entries ≡ made_by result ++ self.old.entries }
+        ensures own { IfOk result (λ answer. IsOf entry.seat answer) }
+        ensures names { IfOk result (λ answer. NamesBelow self.old.header.seats answer) }
     {
         let before = self.ready();
         self.write(entry)?;
@@ -70,6 +74,10 @@ impl<H: Hooks + Drop> Core<H> {
         ensures fault { OnErr result (self.new ≡ self.old) }
         ensures refused { IfOk result (λ answer. KeepsHolds self.old answer self.new) }
         ensures owed { MakesOwed self.old seat step → IsOk result }
+        // What was recorded stands in front of what was there. It is of the seat, and names one of the seats.
+        ensures grown { self.new.entries ≡ made_by result ++ self.old.entries }
+        ensures own { IfOk result (λ answer. IsOf seat answer) }
+        ensures names { IfOk result (λ answer. NamesBelow self.old.header.seats answer) }
     {
         let _header = &self.header;
         match self.decide(seat, step) {

@@ -1,4 +1,4 @@
-use Rattle.std.proofs.Common.{◌+◌, ◌≤◌, length, subst, arith}
+use Rattle.std.proofs.Common.{◌+◌, ◌^◌, ◌<◌, ◌≤◌, length, subst, arith}
 use Rattle.history.specs.Legal.{IsLegal, AreSeated}
 use Rattle.history.specs.Order.{IsInOrder, IsFairOrder}
 use Rattle.history.specs.Room.{owed}
@@ -18,6 +18,7 @@ returns g c =
       order : IsInOrder (start_of v) v.entries;
       fair : IsFairOrder (start_of v) v.entries;
       room : length v.entries + owed (start_of v) v.entries ≤ v.header.cap;
+      short : length v.entries < 2 ^ 32;
     } in
     subst P c.self.view_is (record {
       legal = s.legal;
@@ -25,4 +26,5 @@ returns g c =
       order = in_order a.header h s.legal;
       fair = fair_order (opening a.header) h s.legal;
       room = let o = s.owed in let r = s.room in omega (arith, o, r);
+      short = let r = s.room in let k = s.range.cap in omega (arith, r, k);
     })

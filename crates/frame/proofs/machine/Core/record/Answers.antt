@@ -5,4 +5,4 @@ pub returns-clause-recorded : goal.returns-clause-recorded
 returns-clause-recorded g c =
     recorded_now c.args.self.now c.write.new.self c.args.entry c.in_ok-write.field-0 c.ready-before.result
     c.ready-after.result c.named.result
-    c.in_ok-write.ensures c.ready-before.ensures c.ready-after.ensures c.named.ensures
+    c.in_ok-write.ensures c.ready-before.ensures.ready c.ready-after.ensures.ready c.named.ensures
