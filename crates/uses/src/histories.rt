@@ -16,8 +16,11 @@ pub fn add_acquire(history: &mut History, entry: Entry) -> Result<(), Fault>
         ↔ (history.old.cap < length history.old.entries + history.old.owed + 2) }
     ensures err { OnErr result (history.new ≡ history.old) }
 {
-    let owed = history.owed() + 1;
+    let owed = history.owed();
+    if u64::from(history.cap()) <= owed {
+        return Err(Fault::HistoryFull);
+    }
     history.make_room(2)?;
-    history.add(entry, owed);
+    history.add(entry, owed + 1);
     Ok(())
 }
