@@ -23,7 +23,10 @@ def pairs(folder):
     """The words, and what the program is to answer, for each file of the folder."""
     inputs = sorted(folder.glob("*.steps")) + sorted(folder.glob("*.history"))
     for file in inputs:
-        answers = file.with_suffix(".answers").read_bytes()
+        told = file.with_suffix(".answers")
+        if not told.exists():
+            continue
+        answers = told.read_bytes()
         if file.suffix == ".steps":
             yield ["replay", file], (0, answers, b"")
         else:
