@@ -35,6 +35,7 @@ pub fn fair_lock(alloc: Global, seats: u16, cap: u32) -> Result<Core<LockHooks>,
 pub fn acquire<H: Hooks + Drop>(core: &mut Core<H>, seat: u16) -> Result<u64, Fault>
     requires { seat < core.old.header.seats }
     ensures holds { IfOk result (λ holds. holds ≡ held (start_of core.new) core.new.entries seat X) }
+    ensures header { core.new.header ≡ core.old.header }
     ensures order { IsInOrder (start_of core.new) core.new.entries }
     ensures fair { IsFairOrder (start_of core.new) core.new.entries }
     ensures err { OnErr result (core.new ≡ core.old) }

@@ -5,3 +5,5 @@ pub mod audits;
 pub mod cores;
 pub mod histories;
 pub mod replays;
+#[cfg(test)]
+mod tests;
