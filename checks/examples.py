@@ -1,0 +1,105 @@
+#!/usr/bin/env python3
+"""Runs every example through the program: checks/examples.py PROGRAM [FOLDER].
+
+Each pair NAME.steps and NAME.answers is replayed, and each pair NAME.history and NAME.answers audited. Then
+faults of each kind are tried. Compared are the exit status, standard output and standard error. The last line
+is 'N passed, M failed', and the status is 0 only if nothing failed and something passed.
+"""
+
+import pathlib
+import subprocess
+import sys
+import tempfile
+
+SECONDS = 60
+
+
+def run(program, words):
+    done = subprocess.run([program, *map(str, words)], stdin=subprocess.DEVNULL, capture_output=True, timeout=SECONDS)
+    return done.returncode, done.stdout, done.stderr
+
+
+def pairs(folder):
+    """The words, and what the program is to answer, for each file of the folder."""
+    inputs = sorted(folder.glob("*.steps")) + sorted(folder.glob("*.history"))
+    for file in inputs:
+        told = file.with_suffix(".answers")
+        if not told.exists():
+            continue
+        answers = told.read_bytes()
+        if file.suffix == ".steps":
+            yield ["replay", file], (0, answers, b"")
+        else:
+            status = 1 if answers.startswith(b"not legal at ") else 0
+            yield ["audit", file], (status, answers, b"")
+
+
+def unpaired(folder):
+    """Files that no run reads."""
+    for file in sorted(folder.iterdir()):
+        read = file.suffix in (".steps", ".history") and file.with_suffix(".answers").exists()
+        told = file.suffix == ".answers" and any(file.with_suffix(s).exists() for s in (".steps", ".history"))
+        if not (read or told):
+            yield file
+
+
+def round_trips(program, folder, scratch):
+    """The history text of each steps text is legal."""
+    for file in sorted(folder.glob("*.steps")):
+        status, history, error = run(program, ["replay", file, "--history"])
+        kept = scratch / (file.stem + ".history")
+        kept.write_bytes(history)
+        verdict = run(program, ["audit", kept])
+        good = (status, error) == (0, b"") and verdict[0] == 0 and verdict[1].startswith(b"legal\nentries ")
+        yield f"replay {file.name} --history, audit", good and verdict[2] == b""
+
+
+def faults(scratch):
+    header = b"aqs-steps 1 lock fair seats 2 conditions 0 cap 16\n"
+    texts = {
+        "bad_header": b"aqs-steps 2 lock fair seats 2 conditions 0 cap 16\nend 0\n",
+        "bad_line": header + b"0 acquire x 1\n2 acquire x 1\nend 2\n",
+        "cut_short": header + b"0 acquire x 1\n",
+        "not_legal": b"aqs-history 1 lock fair seats 2 conditions 0 cap 16\n0 0 got x 1\n1 1 got x 1\nend 2 2\n",
+    }
+    for name, text in texts.items():
+        (scratch / name).write_bytes(text)
+    yield ["replay", scratch / "bad_header"], (3, b"", b"aqs: bad header\n")
+    yield ["replay", scratch / "bad_line"], (3, b"", b"aqs: bad line 3\n")
+    yield ["replay", scratch / "cut_short"], (3, b"", b"aqs: cut short\n")
+    yield ["audit", scratch / "bad_line"], (3, b"", b"aqs: bad header\n")
+    yield ["audit", scratch / "not_legal"], (1, b"not legal at 1\n", b"")
+    yield ["replay", scratch / "missing"], (4, b"", b"aqs: read failed\n")
+    yield ["audit", scratch / "missing"], (4, b"", b"aqs: read failed\n")
+    yield ["replay", scratch], (4, b"", b"aqs: read failed\n")
+    yield ["replay", "--unknown"], (2, b"", b"aqs: usage\n")
+    yield ["audit", "--history"], (2, b"", b"aqs: usage\n")
+    yield ["--help"], (2, b"", b"aqs: usage\n")
+
+
+def results(program, folder, scratch):
+    for words, wanted in [*pairs(folder), *faults(scratch)]:
+        yield " ".join(pathlib.Path(w).name for w in map(str, words)), run(program, words) == wanted
+    yield from round_trips(program, folder, scratch)
+    for file in unpaired(folder):
+        yield f"{file.name} has its pair", False
+
+
+def main(words):
+    program = str(pathlib.Path(words[0]).resolve())
+    top = pathlib.Path(__file__).resolve().parent.parent
+    folder = pathlib.Path(words[1]) if len(words) > 1 else top / "examples"
+    passed = failed = 0
+    with tempfile.TemporaryDirectory() as scratch:
+        for name, good in results(program, folder, pathlib.Path(scratch)):
+            passed, failed = passed + good, failed + (not good)
+            if not good:
+                print(f"failed: {name}")
+    print(f"{passed} passed, {failed} failed")
+    return 0 if passed and not failed else 1
+
+
+if __name__ == "__main__":
+    if len(sys.argv) not in (2, 3):
+        sys.exit(__doc__)
+    sys.exit(main(sys.argv[1:]))

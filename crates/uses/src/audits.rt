@@ -1,0 +1,35 @@
+//! Callers of `audit`.
+
+ghost use Rattle.std.specs.Prelude.{◌≡◌, ◌↔◌, IfOk, IfSome, IfNone, IsTrue, IsOkUnless};
+ghost use Rattle.history.specs.Header.{IsInRange};
+ghost use Rattle.history.specs.Legal.{AreSeated, IsLegal};
+ghost use Rattle.history.specs.Start.{opening};
+ghost use Rattle.audit.specs.Totals.{totals_of};
+
+use audit::sums::Totals;
+use audit::verdict::{Judgement, judge};
+use history::entries::History;
+use history::fault::Fault;
+use history::header::Header;
+use std::alloc::Global;
+
+/// The totals of a history if it is legal.
+pub fn totals_if_legal(
+    alloc: Global,
+    header: &Header,
+    history: &History,
+) -> Result<Option<Totals>, Fault>
+    requires range { IsInRange header.now }
+    requires seated { AreSeated (opening header.now) history.now.entries }
+    ensures legal { IfOk result (λ sums. IfSome sums (λ totals.
+        IsLegal (opening header.now) history.now.entries
+        × (totals ≡ totals_of (opening header.now) history.now.entries))) }
+    ensures not_legal { IfOk result (λ sums. IfNone sums (IsLegal (opening header.now) history.now.entries → ⊥)) }
+    ensures memory { IsOkUnless result Fault.OutOfMemory }
+{
+    match judge(alloc, header, history) {
+        Ok(Judgement::Legal(totals)) => Ok(Some(totals)),
+        Ok(Judgement::NotLegal(_)) => Ok(None),
+        Err(fault) => Err(fault),
+    }
+}

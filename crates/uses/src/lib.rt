@@ -1,0 +1,9 @@
+//! The proved callers of the pages CALLING.md: one module for each page.
+#![tactic(auto)]
+
+pub mod audits;
+pub mod cores;
+pub mod histories;
+pub mod replays;
+#[cfg(test)]
+mod tests;
