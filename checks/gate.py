@@ -1,5 +1,7 @@
 """All checks from nothing: rt ci over a copy of the tree without the wrong bodies, then these over what it built.
 
+Between them the program that rt ci built answers the files of examples/ (`examples.py`).
+
 rt ci tries each wrong body alone, most of which is the reading of libraries again; here many go into one check
 (`wrong_bodies.py`). The last line is 'N passed, M failed' for both, and the status is 1 where anything failed.
 """
@@ -53,6 +55,12 @@ def main():
         copied(copy)
         own = subprocess.run([sys.executable, "-B", "-m", "unittest", "discover", f"{copy}/checks"], cwd=copy)
         passed, failed = run(["rt", "ci"], copy, r"(\d+) passed, (\d+) failed")
+        good, bad = run(
+            [sys.executable, "-B", f"{copy}/checks/examples.py", f"{copy}/crates/aqs/out/aqs"],
+            copy,
+            r"(\d+) passed, (\d+) failed",
+        )
+        passed, failed = passed + good, failed + bad
         with_wrong_bodies(copy)
         refused, others = run(
             [sys.executable, f"{copy}/checks/wrong_bodies.py", "--built"], copy, r"(\d+) refused, (\d+) not refused"
