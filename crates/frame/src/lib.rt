@@ -16,7 +16,8 @@
 //! one entry, and [`Core::step`](machine::Core::step) does three things:
 //!
 //! 1. decide: which entry do the definitions give for this step now?
-//! 2. record: make room for the entry in the history, change hooks, queue, conditions and holds by it, add it.
+//! 2. record: make room for the entry in the history, change hooks, queue, conditions and holds by it, and
+//!    add it.
 //! 3. name: say whom the entry lets go. That is the first in the queue, if it could acquire now and could not
 //!    before, and if the entry isn't its own. A caller that runs threads has one thread to wake, or none.
 //!
@@ -41,10 +42,10 @@
 //! [`Hooks`](hooks::Hooks) is the trait of what differs between objects, as `tryAcquire` and `tryRelease` do
 //! in Java: could this thread acquire now, is it at its limit, does the queue hold a new call back, and the
 //! changes of acquiring, releasing, and giving up or restoring all holds around an await. Hooks see no queue
-//! and no history. Their contracts speak of `Counts`, the numbers that a history adds up to. Besides the exact
-//! answers they owe a few laws that a core's callers can rely on: nobody else can acquire after an exclusive
-//! acquire, no acquire lets anybody acquire who couldn't before, and a release that answers `Kept` lets
-//! nobody else acquire who couldn't before.
+//! and no history. Their contracts speak of `Counts`, the numbers that a history adds up to. Besides the
+//! exact answers they owe a few laws that a core's callers can rely on: nobody else can acquire after an
+//! exclusive acquire, no acquire lets anybody acquire who couldn't before, and a release that answers `Kept`
+//! lets nobody else acquire who couldn't before.
 //!
 //! The framework is that of Doug Lea, *The java.util.concurrent Synchronizer Framework* (2005).
 #![tactic(auto)]

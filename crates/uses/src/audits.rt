@@ -24,7 +24,8 @@ pub fn totals_if_legal(
     ensures legal { IfOk result (λ sums. IfSome sums (λ totals.
         IsLegal (opening header.now) history.now.entries
         × (totals ≡ totals_of (opening header.now) history.now.entries))) }
-    ensures not_legal { IfOk result (λ sums. IfNone sums (IsLegal (opening header.now) history.now.entries → ⊥)) }
+    ensures not_legal { IfOk result (λ sums. IfNone sums
+        (IsLegal (opening header.now) history.now.entries → ⊥)) }
     ensures memory { IsOkUnless result Fault.OutOfMemory }
 {
     match judge(alloc, header, history) {
