@@ -10,7 +10,7 @@ ERROR = re.compile(r"(?m)^(?:\./)?proofs/(\S+)/(?:Answers|Proof)\.antt:\d+:\d+: 
 # A proof that names what an edit took away: this says nothing of the contract.
 GONE = re.compile(
     r"has no field|is not in scope|has no `|was not admitted|is no name|cannot continue"
-    r"|expected the end|operand is missing"
+    r"|expected the end|operand is missing|: module `"
 )
 
 
