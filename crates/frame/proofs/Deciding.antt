@@ -63,14 +63,16 @@ step_next v i step e l q =
       made = subst (λ j. entry_for (start_of v) v.entries j step ≡ Ok (Some e)) same q;
     }
 
-pub made_next : (v : CoreView) (i : ℕ) (step : Step) (made : Result (Option Entry) Fault) → i < v.header.seats →
+pub made_next : (v : CoreView) (i : ℕ) (step : Step) (made : Result (Option Entry) Fault) →
+    i < v.header.seats →
     made ≡ entry_for (start_of v) v.entries i step → IfOk made (λ entry. IfSome entry (λ e. IsNext v e))
 made_next v i step (Ok (Some e)) l q = step_next v i step e l (sym q)
 made_next v i step (Ok None) l q = tt
 made_next v i step (Err f) l q = tt
 
 -- the first in line has one of the seats
-pub first_below : (k : Header) (h : List Entry) (a : Arrival) → IsLegal (opening k) h → AreSeated (opening k) h →
+pub first_below : (k : Header) (h : List Entry) (a : Arrival) → IsLegal (opening k) h →
+    AreSeated (opening k) h →
     Some a ≡ first_of (line (opening k) h) → a.seat < k.seats
 first_below k h a legal seated q = by (line (opening k) h) (line_seated k h legal seated) q
   where

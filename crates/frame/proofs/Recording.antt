@@ -147,12 +147,14 @@ pub grown_now : (v new : CoreView) (e : Entry) (u : Unit {0}) (name : Option ℕ
     new.entries ≡ made_by (Ok (Recorded e name)) ++ v.entries
 grown_now v new e u name is = ap (λ (w : CoreView). w.entries) is.1
 
-pub own_entry : (v : CoreView) (i : ℕ) (step : Step) (made : Option Entry) (e : Entry) (r : Result Answer Fault) →
+pub own_entry : (v : CoreView) (i : ℕ) (step : Step) (made : Option Entry) (e : Entry)
+    (r : Result Answer Fault) →
     Ok made ≡ entry_for (start_of v) v.entries i step → made ≡ Some e → IfOk r (λ a. IsOf e.seat a) →
     IfOk r (λ a. IsOf i a)
 own_entry v i step made e r q some is =
     subst (λ j. IfOk r (λ a. IsOf j a))
-    (entry_seat (start_of v) v.entries i step e (sym q ∙ ap (λ x. (let y : Result (Option Entry) Fault = Ok x in y)) some)) is
+    (entry_seat (start_of v) v.entries i step e
+    (sym q ∙ ap (λ x. (let y : Result (Option Entry) Fault = Ok x in y)) some)) is
 
 pub own_made : (i : ℕ) (r : Result Answer Fault) → IfOk r (λ a. IsOf i a) → All (λ e. e.seat ≡ i) (made_by r)
 own_made i (Ok (Recorded e name)) is = All-cons (λ x. x.seat ≡ i) e [] is (All-nil (λ x. x.seat ≡ i))

@@ -48,7 +48,8 @@ comes_not i (x ∷ xs) t = by (eqb x i) t (λ u. comes_not i xs u)
     by false u ih = ih u
 
 -- an entry of another seat
-returns_other : (s : Start) (e : Entry) (h : List Entry) (i : ℕ) (w : Sleep) → e.seat ≢ i → ReturnsAs s h i w →
+returns_other : (s : Start) (e : Entry) (h : List Entry) (i : ℕ) (w : Sleep) → e.seat ≢ i →
+    ReturnsAs s h i w →
     ReturnsAs s (e ∷ h) i w
 returns_other s e h i w ne r = record {
   place = stays_in_line s e h i (coming_back i) ne r.place;
@@ -59,19 +60,22 @@ returns_other s e h i w ne r = record {
 abbrev Moves : Start → Entry → List Entry → ℕ → ℕ → Word → Type 0
 Moves s e h i c w =
     (place_of i (arrivals_by s w e h) ≡ Some (coming_back i))
-    ⊎ ((place_of i (arrivals_by s w e h) ≡ None) × (e.at ≡ c → has i (sleepers_after w e.seat e.n (sleepers s h c)) ≡ true))
+    ⊎ ((place_of i (arrivals_by s w e h) ≡ None)
+    × (e.at ≡ c → has i (sleepers_after w e.seat e.n (sleepers s h c)) ≡ true))
 
 other_place : (i : ℕ) (a : Arrival) → a.seat ≢ i → place_of i (a ∷ []) ≡ None
 other_place i a ne = rw (ne_eqb a.seat i ne) refl
 
-moved_or_left : (i n : ℕ) (xs : List ℕ) → has i (take n xs) ≡ false → has i xs ≡ true → has i (drop n xs) ≡ true
+moved_or_left : (i n : ℕ) (xs : List ℕ) → has i (take n xs) ≡ false → has i xs ≡ true →
+    has i (drop n xs) ≡ true
 moved_or_left i n xs out t =
     let a = has_not i (take n xs) out in
     let b = has_once i xs t in
     let p = times-take_drop i n xs in
     once_has i (drop n xs) (omega (arith, a, b, p))
 
-moves : (s : Start) (e : Entry) (h : List Entry) (i c : ℕ) → e.seat ≢ i → has i (sleepers s h c) ≡ true → (w : Word) →
+moves : (s : Start) (e : Entry) (h : List Entry) (i c : ℕ) → e.seat ≢ i → has i (sleepers s h c) ≡ true →
+    (w : Word) →
     Moves s e h i c w
 moves s e h i c ne t word.Signal = by (has i (take e.n (sleepers s h e.at))) refl
   where
@@ -79,7 +83,8 @@ moves s e h i c ne t word.Signal = by (has i (take e.n (sleepers s h e.at))) ref
     by true u = inl (comes i (take e.n (sleepers s h e.at)) u)
     by false u = inr (
       comes_not i (take e.n (sleepers s h e.at)) u,
-      λ same. moved_or_left i e.n (sleepers s h c) (subst (λ d. has i (take e.n (sleepers s h d)) ≡ false) same u) t,
+      λ same. moved_or_left i e.n (sleepers s h c)
+          (subst (λ d. has i (take e.n (sleepers s h d)) ≡ false) same u) t,
     )
 moves s e h i c ne t word.SignalAll = by (has i (sleepers s h e.at)) refl
   where
@@ -112,7 +117,8 @@ sleeps_other s e h i w ne r = by (moves s e h i w.condition ne r.asleep e.word)
     saved : last_sleep s (e ∷ h) i ≡ w
     saved = last_sleep_other s e h i ne ∙ r.saved
 
-    stays_asleep : (e.at ≡ w.condition → has i (sleepers_after e.word e.seat e.n (sleepers s h w.condition)) ≡ true) →
+    stays_asleep :
+        (e.at ≡ w.condition → has i (sleepers_after e.word e.seat e.n (sleepers s h w.condition)) ≡ true) →
         has i (sleepers s (e ∷ h) w.condition) ≡ true
     stays_asleep there = ⊎_elim
         (λ same. rw (eq-eqb e.at w.condition same) (there same))
@@ -128,19 +134,22 @@ sleeps_other s e h i w ne r = by (moves s e h i w.condition ne r.asleep e.word)
       saved = saved;
     })
 
-pub awaits_other : (s : Start) (e : Entry) (h : List Entry) (i : ℕ) (w : Sleep) → e.seat ≢ i → AwaitsAs s h i w →
+pub awaits_other : (s : Start) (e : Entry) (h : List Entry) (i : ℕ) (w : Sleep) → e.seat ≢ i →
+    AwaitsAs s h i w →
     AwaitsAs s (e ∷ h) i w
 awaits_other s e h i w ne (inl r) = sleeps_other s e h i w ne r
 awaits_other s e h i w ne (inr r) = inr (returns_other s e h i w ne r)
 
 -- one who awaits does so while no entry of its seat comes, and one on its way back stays so
 pub still_awaits : (s : Start) (i : ℕ) (w : Sleep) (more h : List Entry) →
-    filter (λ e. e.seat == i) (more ++ h) ≡ filter (λ e. e.seat == i) h → AwaitsAs s h i w → AwaitsAs s (more ++ h) i w
+    filter (λ e. e.seat == i) (more ++ h) ≡ filter (λ e. e.seat == i) h → AwaitsAs s h i w →
+    AwaitsAs s (more ++ h) i w
 still_awaits s i w more h same r =
     while_others (λ l. AwaitsAs s l i w) i (λ e l ne q. awaits_other s e l i w ne q) more h same r
 
 pub still_returns : (s : Start) (i : ℕ) (w : Sleep) (more h : List Entry) →
-    filter (λ e. e.seat == i) (more ++ h) ≡ filter (λ e. e.seat == i) h → ReturnsAs s h i w → ReturnsAs s (more ++ h) i w
+    filter (λ e. e.seat == i) (more ++ h) ≡ filter (λ e. e.seat == i) h → ReturnsAs s h i w →
+    ReturnsAs s (more ++ h) i w
 still_returns s i w more h same r =
     while_others (λ l. ReturnsAs s l i w) i (λ e l ne q. returns_other s e l i w ne q) more h same r
 
@@ -149,12 +158,14 @@ own_sleep : (s : Start) (e : Entry) (h : List Entry) →
     last_sleep s (e ∷ h) e.seat ≡ sleep_after e.word e (last_sleep s h e.seat)
 own_sleep s e h = rw (eq-eqb e.seat e.seat refl) refl
 
-pub falls_asleep : (s : Start) (h : List Entry) (step : Step) (e : Entry) → entry_for s h e.seat step ≡ Ok (Some e) →
+pub falls_asleep : (s : Start) (h : List Entry) (step : Step) (e : Entry) →
+    entry_for s h e.seat step ≡ Ok (Some e) →
     e.word ≡ word.Await → SleepsAs s (e ∷ h) e.seat (signalled e.at e.n)
 falls_asleep s h step e made q =
     let k : KnownBy s h e word.Await = subst (KnownBy s h e) q (known s h step e made) in
     let on = k.0 in
-    let parts = idle_parts (place_of e.seat (line s h)) (sleeps_below s.header.conditions s h e.seat) on.idle in
+    let asleep = sleeps_below s.header.conditions s h e.seat in
+    let parts = idle_parts (place_of e.seat (line s h)) asleep on.idle in
     let none : arrivals_by s e.word e h ≡ [] = ap (λ x. arrivals_by s x e h) q in
     let list : sleepers s (e ∷ h) e.at ≡ sleepers s h e.at ++ e.seat ∷ [] =
     sleepers_here s e h ∙ ap (λ x. sleepers_after x e.seat e.n (sleepers s h e.at)) q in
@@ -214,7 +225,8 @@ pub record AwaitTurn (s : Start) (h : List Entry) (i : ℕ) (w : Sleep) (step : 
 
 owed_entry : (s : Start) (x e : Entry) → was_owed s.header.object x ≡ true → Some x ≡ Some e →
     was_owed s.header.object e ≡ true
-owed_entry s x e t q = let same : x ≡ e = cc in subst (λ (y : Entry). was_owed s.header.object y ≡ true) same t
+owed_entry s x e t q =
+    let same : x ≡ e = cc in subst (λ (y : Entry). was_owed s.header.object y ≡ true) same t
 
 returning_turn : (s : Start) (h : List Entry) (i : ℕ) (w : Sleep) (step : Step) → ReturnsAs s h i w →
     waits step ≡ true → AwaitTurn s h i w step
@@ -233,11 +245,13 @@ sleeping_turn : (s : Start) (h : List Entry) (i : ℕ) (w : Sleep) (step : Step)
     waits step ≡ true → AwaitTurn s h i w step
 sleeping_turn s h i w step r t = by step t (sleeping_made s h i w step r t)
   where
-    lapsing : (step : Step) (how : End) → LapsesBy step how → entry_for s h i step ≡ Ok (Some (lapse s h i how)) →
+    lapsing : (step : Step) (how : End) → LapsesBy step how →
+        entry_for s h i step ≡ Ok (Some (lapse s h i how)) →
         AwaitTurn s h i w step
     lapsing step how ends q = record {
       made = Some (lapse_from i w how);
-      is = q ∙ ap (λ (x : Sleep). (let y : Result (Option Entry) Fault = Ok (Some (lapse_from i x how)) in y)) r.saved;
+      is = q ∙ ap
+          (λ (x : Sleep). (let y : Result (Option Entry) Fault = Ok (Some (lapse_from i x how)) in y)) r.saved;
       makes = lapses how ends refl r (lapse_returns s h i w how r);
       owed = λ e same. owed_entry s (lapse_from i w how) e refl same;
     }

@@ -30,11 +30,13 @@ place_filter p i (a ∷ q) keeps = by (eqb a.seat i) (p a) refl refl (place_filt
     by false true t u ih = rw t ih
     by false false t u ih = ih
 
-place_append : (i : ℕ) (q r : List Arrival) (a : Arrival) → place_of i q ≡ Some a → place_of i (q ++ r) ≡ Some a
+place_append : (i : ℕ) (q r : List Arrival) (a : Arrival) → place_of i q ≡ Some a →
+    place_of i (q ++ r) ≡ Some a
 place_append i [] r a p = cc
 place_append i (b ∷ q) r a p = by (eqb b.seat i) p (λ x. place_append i q r a x)
   where
-    by : (t : Bool) → cond t (Some b) (place_of i q) ≡ Some a → (place_of i q ≡ Some a → place_of i (q ++ r) ≡ Some a) →
+    by : (t : Bool) → cond t (Some b) (place_of i q) ≡ Some a →
+        (place_of i q ≡ Some a → place_of i (q ++ r) ≡ Some a) →
         cond t (Some b) (place_of i (q ++ r)) ≡ Some a
     by true p ih = p
     by false p ih = ih p
@@ -43,7 +45,8 @@ place_behind : (i : ℕ) (q r : List Arrival) → place_of i q ≡ None → plac
 place_behind i [] r p = refl
 place_behind i (b ∷ q) r p = by (eqb b.seat i) p (λ x. place_behind i q r x)
   where
-    by : (t : Bool) → cond t (Some b) (place_of i q) ≡ None → (place_of i q ≡ None → place_of i (q ++ r) ≡ place_of i r) →
+    by : (t : Bool) → cond t (Some b) (place_of i q) ≡ None →
+        (place_of i q ≡ None → place_of i (q ++ r) ≡ place_of i r) →
         cond t (Some b) (place_of i (q ++ r)) ≡ place_of i r
     by true p ih = cc
     by false p ih = ih p
@@ -68,7 +71,8 @@ stays_in_line s e h i a ne p =
     (place_filter (stays e.word e.seat) i (line s h) (other_stays e i ne) ∙ p)
 
 -- who stood in no line stands there behind an entry where it arrives by it
-pub arrives_by : (s : Start) (e : Entry) (h : List Entry) (i : ℕ) → e.seat ≢ i → place_of i (line s h) ≡ None →
+pub arrives_by : (s : Start) (e : Entry) (h : List Entry) (i : ℕ) → e.seat ≢ i →
+    place_of i (line s h) ≡ None →
     place_of i (line s (e ∷ h)) ≡ place_of i (arrivals_by s e.word e h)
 arrives_by s e h i ne p =
     ap (place_of i) (line_after s e h)
@@ -86,15 +90,18 @@ arrives_itself s e h i t p =
 empty_front : (xs ys : List Entry) → xs ++ ys ≡ ys → xs ≡ []
 empty_front [] ys e = refl
 empty_front (x ∷ xs) ys e =
-    let n : length (x ∷ xs ++ ys) ≡ length ys = ap length e in absurd (omega (arith, length-append (x ∷ xs) ys, n))
+    let n : length (x ∷ xs ++ ys) ≡ length ys = ap length e in
+    absurd (omega (arith, length-append (x ∷ xs) ys, n))
 
-pub no_more : (i : ℕ) (more h : List Entry) → filter (λ e. e.seat == i) (more ++ h) ≡ filter (λ e. e.seat == i) h →
+pub no_more : (i : ℕ) (more h : List Entry) →
+    filter (λ e. e.seat == i) (more ++ h) ≡ filter (λ e. e.seat == i) h →
     filter (λ e. e.seat == i) more ≡ []
 no_more i more h same =
     let t : Entry → Bool = λ e. e.seat == i in
     empty_front (filter t more) (filter t h) (sym (filter-append t more h) ∙ same)
 
-kept_by_others : (P : List Entry → Type 0) (i : ℕ) → ((e : Entry) (h : List Entry) → e.seat ≢ i → P h → P (e ∷ h)) →
+kept_by_others : (P : List Entry → Type 0) (i : ℕ) →
+    ((e : Entry) (h : List Entry) → e.seat ≢ i → P h → P (e ∷ h)) →
     (more h : List Entry) → filter (λ e. e.seat == i) more ≡ [] → P h → P (more ++ h)
 kept_by_others P i step [] h none p = p
 kept_by_others P i step (e ∷ more) h none p =
@@ -106,8 +113,10 @@ kept_by_others P i step (e ∷ more) h none p =
     by ih false t n =
         step e (more ++ h) (λ same. let x = eq-eqb e.seat i same in cc (x, t)) (ih n)
 
-pub while_others : (P : List Entry → Type 0) (i : ℕ) → ((e : Entry) (h : List Entry) → e.seat ≢ i → P h → P (e ∷ h)) →
-    (more h : List Entry) → filter (λ e. e.seat == i) (more ++ h) ≡ filter (λ e. e.seat == i) h → P h → P (more ++ h)
+pub while_others : (P : List Entry → Type 0) (i : ℕ) →
+    ((e : Entry) (h : List Entry) → e.seat ≢ i → P h → P (e ∷ h)) →
+    (more h : List Entry) → filter (λ e. e.seat == i) (more ++ h) ≡ filter (λ e. e.seat == i) h → P h →
+    P (more ++ h)
 while_others P i step more h same p = kept_by_others P i step more h (no_more i more h same) p
 
 -- one in line stays there while no entry of its seat comes
@@ -115,7 +124,8 @@ pub still_in_line : (s : Start) (i : ℕ) (a : Arrival) (more h : List Entry) �
     filter (λ e. e.seat == i) (more ++ h) ≡ filter (λ e. e.seat == i) h → place_of i (line s h) ≡ Some a →
     place_of i (line s (more ++ h)) ≡ Some a
 still_in_line s i a more h same p =
-    while_others (λ l. place_of i (line s l) ≡ Some a) i (λ e l ne q. stays_in_line s e l i a ne q) more h same p
+    while_others (λ l. place_of i (line s l) ≡ Some a) i (λ e l ne q. stays_in_line s e l i a ne q)
+    more h same p
 
 -- what one in line makes of its steps
 pub queued_made : (s : Start) (h : List Entry) (i : ℕ) (a : Arrival) (step : Step) → waits step ≡ true →

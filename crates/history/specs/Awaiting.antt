@@ -48,7 +48,8 @@ LapsesBy _ how = ⊥
 
 -- What a step of one who awaits makes: nothing, the end of its await, or its lapse, behind which it is on its
 -- way back.
-pub data AwaitMakes (s : Start) (h : List Entry) (i : ℕ) (w : Sleep) (step : Step) (made : Option Entry) : Type 0 where
+pub data AwaitMakes (s : Start) (h : List Entry) (i : ℕ) (w : Sleep) (step : Step) (made : Option Entry)
+    : Type 0 where
   sleeps_on : made ≡ None → AwaitMakes s h i w step made
   comes_back : ReturnsAs s h i w → made ≡ Some (back_from i w) → AwaitMakes s h i w step made
   lapses : (how : End) → LapsesBy step how → made ≡ Some (lapse_from i w how) → SleepsAs s h i w →

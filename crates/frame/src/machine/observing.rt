@@ -1,6 +1,7 @@
 //! What a core tells of itself. No observer takes memory.
 
-ghost use Rattle.std.specs.Prelude.{◌≡◌, ◌<◌, ◌≤◌, ◌+◌, ◌^◌, ◌≤ℤ◌, pos, length, nat_lt, true, is_some, IfSome};
+ghost use Rattle.std.specs.Prelude.{◌≡◌, ◌<◌, ◌≤◌, ◌+◌, ◌^◌, ◌≤ℤ◌, pos, length, nat_lt};
+ghost use Rattle.std.specs.Prelude.{true, is_some, IfSome};
 ghost use Rattle.history.specs.declared.entry.Mode.TheVariants.{X, S};
 ghost use Rattle.history.specs.Counts.{count, held, owner};
 ghost use Rattle.history.specs.Faults.{max_amount};

@@ -6,7 +6,8 @@ use Rattle.frame.proofs.machine.Core.ready.Goals as goal
 
 pub returns-then-could-clause-ready : goal.returns-then-could-clause-ready
 returns-then-could-clause-ready g c =
-    ready_goes _ _ c.in-Some.first (sym c.first.ensures ∙ c.in-Some.is) (sym c.could.ensures ∙ c.if-could.true)
+    ready_goes _ _ c.in-Some.first (sym c.first.ensures ∙ c.in-Some.is)
+    (sym c.could.ensures ∙ c.if-could.true)
 
 pub returns-else-could-clause-ready : goal.returns-else-could-clause-ready
 returns-else-could-clause-ready g c =
@@ -19,5 +20,6 @@ returns-then-could-clause-below g c =
     let s = c.self.invariant in
     subst (λ (w : CoreView). c.in-Some.first.seat < w.header.seats) c.self.view_is
     (first_below v.header v.history.entries c.in-Some.first s.legal s.seated
-    (subst (λ (w : CoreView). Some c.in-Some.first ≡ first_of (line (start_of w) w.entries)) (sym c.self.view_is)
+    (subst (λ (w : CoreView). Some c.in-Some.first ≡ first_of (line (start_of w) w.entries))
+    (sym c.self.view_is)
     (sym c.in-Some.is ∙ c.first.ensures)))
