@@ -1,0 +1,5 @@
+pub mod Sections
+pub mod InLine
+pub mod Acquiring
+pub mod Opening
+pub mod Joining
