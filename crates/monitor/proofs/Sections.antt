@@ -1,0 +1,200 @@
+-- What a section of the lock with one step of the core leaves.
+use Rattle.std.proofs.Common.{◌≡◌, ◌==◌, inl, inr, ℕ, ◌+◌, ◌<◌, ◌≤◌, ◌^◌, Bool, cond, List, [], ◌∷◌, ◌++◌, length, Result, Ok, Err, Option, Some, None, IsOk, refl, sym, ap, ◌∙◌, subst, arith}
+use Rattle.std.specs.List.{All, filter}
+use Rattle.std.proofs.lemmas.Bool.{cond_both}
+use Rattle.std.proofs.lemmas.List.Elements.{All-nil, All-cons}
+use Rattle.history.specs.Answers.{answer, answer_by}
+use Rattle.history.specs.Entries.{ended_calls}
+use Rattle.history.specs.Entry.{ends_call}
+use Rattle.history.specs.Naming.{named}
+use Rattle.history.specs.Room.{has_room}
+use Rattle.history.specs.Start.{Start}
+use Rattle.history.specs.Steps.{entry_for}
+use Rattle.history.specs.declared.entry.Entry.{Entry}
+use Rattle.history.specs.declared.fault.Fault.{Fault}
+use Rattle.history.specs.declared.fault.Fault.TheVariants as fault
+use Rattle.history.specs.declared.step.Answer.{Answer}
+use Rattle.history.specs.declared.step.Answer.TheVariants.{Recorded}
+use Rattle.history.specs.declared.step.Step.{Step}
+use Rattle.history.proofs.Answering.{entry_seat}
+use lib.ListN.{get_elem?}
+use Rattle.history.specs.declared.header.Header.{Header}
+use Rattle.frame.specs.Core.{CoreView, start_of, IsAnswered, MakesOwed}
+use Rattle.word_lock.specs.declared.point.Point.{Point}
+use Rattle.word_lock.specs.declared.view.SeatLog.{SeatLog}
+use Rattle.word_lock.specs.Point.{header_of, Before, Follows, added, Agrees, entries_of}
+use Rattle.word_lock.specs.Rule.{AllAgree}
+use Rattle.word_lock.specs.Ticket.{LockId, Ticket, first_seat, first_entries, after_lock, after_unlock, after_meet}
+use Rattle.word_lock.proofs.PointLaws.{before_header, follows_more, added_more}
+use Rattle.word_lock.proofs.Sections.{IsSection, section}
+use Rattle.word_lock.proofs.Tokens.{one_log}
+use Rattle.monitor.specs.Lawful.{view_of, IsLawful}
+use Rattle.monitor.specs.Shown.{Shown, shown, IsPass, IsTrue}
+use Rattle.monitor.specs.Stepping.{made_by, now_of, IsStep, IsStepNow}
+use Rattle.monitor.specs.declared.step.Now.{Now}
+
+-- an answer's history is what was, with the entry that it recorded, which is of the seat
+pub record Grows (i : ℕ) (h : List Entry) (given : Result Answer Fault × List Entry) : Type 0 where
+  pub grown : given.1 ≡ made_by given.0 ++ h
+  pub own : All (λ e. e.seat ≡ i) (made_by given.0)
+
+answer_grows : (s : Start) (h : List Entry) (i : ℕ) (step : Step) → Grows i h (answer s h i step)
+answer_grows s h i step = by (entry_for s h i step) refl
+  where
+    by : (r : Result (Option Entry) Fault) → entry_for s h i step ≡ r → Grows i h (answer_by s h r)
+    by (Err f) q = record { grown = refl; own = All-nil (λ e. e.seat ≡ i) }
+    by (Ok None) q = record { grown = refl; own = All-nil (λ e. e.seat ≡ i) }
+    by (Ok (Some e)) q =
+        cond_both (has_room s h e) (Ok (Recorded e (named s h e)), e ∷ h) (Err fault.HistoryFull, h) (Grows i h)
+        (λ room. record {
+          grown = refl;
+          own = All-cons (λ x. x.seat ≡ i) e [] (entry_seat s h i step e q) (All-nil (λ x. x.seat ≡ i));
+        })
+        (λ full. record { grown = refl; own = All-nil (λ e. e.seat ≡ i) })
+
+-- what a step that was answered leaves
+pub record Left (i : ℕ) (p q : Point) (r : Result Answer Fault) : Type 0 where
+  pub header : p.header ≡ q.header
+  pub grown : q.list ≡ made_by r ++ p.list
+  pub own : All (λ e. e.seat ≡ i) (made_by r)
+
+pub left : (i : ℕ) (p q : Point) (step : Step) (r : Result Answer Fault) →
+    IsAnswered (view_of p) i step r (view_of q) → Left i p q r
+left i p q step r (inl a) =
+    let g = answer_grows (start_of (view_of p)) p.list i step in
+    let R : Result Answer Fault → Type 0 = λ z. Left i p q z in
+    subst R (sym a.answer) record {
+      header = sym a.header;
+      grown = a.entries ∙ g.grown;
+      own = g.own;
+    }
+left i p q step r (inr b) =
+    let R : Result Answer Fault → Type 0 = λ z. Left i p q z in
+    subst R (sym b.0) record {
+      header = ap (λ (v : CoreView). v.header) (sym b.1.unchanged);
+      grown = ap (λ (v : CoreView). v.entries) b.1.unchanged;
+      own = All-nil (λ e. e.seat ≡ i);
+    }
+
+pub follows_step : (i : ℕ) (p q : Point) (step : Step) (r : Result Answer Fault) →
+    IsAnswered (view_of p) i step r (view_of q) → Follows i p q
+follows_step i p q step r a = let l = left i p q step r a in
+    follows_more i p q (made_by r) l.header l.grown l.own
+
+pub added_step : (i : ℕ) (p q : Point) (step : Step) (r : Result Answer Fault) →
+    IsAnswered (view_of p) i step r (view_of q) → added p q ≡ made_by r
+added_step i p q step r a = added_more p q (made_by r) (left i p q step r a).grown
+
+-- no more calls end than there are entries
+calls_few : (es : List Entry) → ended_calls es ≤ length es
+calls_few [] = omega arith
+calls_few (e ∷ es) = let h = calls_few es in
+    cond_both (ends_call e.word) 1 0 (λ n. ended_calls es + n ≤ length (e ∷ es)) (λ t. omega (arith, h)) (λ t. omega (arith, h))
+
+filter_few : (t : Entry → Bool) (es : List Entry) → length (filter t es) ≤ length es
+filter_few t [] = omega arith
+filter_few t (e ∷ es) = let h = filter_few t es in
+    cond_both (t e) (e ∷ filter t es) (filter t es) (λ l. length l ≤ length (e ∷ es)) (λ q. omega (arith, h)) (λ q. omega (arith, h))
+
+pub share_few : (p : Point) (i : ℕ) (es : List Entry) (share : ℕ) → Agrees p i es → length p.list < 2 ^ 32 →
+    share ≡ ended_calls es → share < 2 ^ 63
+unfolding Agrees entries_of
+share_few p i es share agrees few is =
+    let a = calls_few es in
+    let b : length es ≤ length p.list = subst (λ (l : List Entry). length l ≤ length p.list) (sym agrees) (filter_few (λ e. e.seat == i) p.list) in
+    omega (arith, a, b, few, is)
+
+pub seat_below : (p : Point) (k l : Header) (seat : ℕ) → header_of p ≡ k → k ≡ l → seat < l.seats →
+    seat < p.header.seats
+unfolding header_of
+seat_below p k l seat is same below = subst (λ (z : Header). seat < z.seats) (sym (is ∙ same)) below
+
+calls_more : (es fs : List Entry) → ended_calls (es ++ fs) ≡ ended_calls es + ended_calls fs
+calls_more [] fs = let n : ℕ = ended_calls fs in let goal : n ≡ 0 + n = omega arith in goal
+calls_more (e ∷ es) fs =
+    let n : ℕ = (cond (ends_call e.word) 1 0) in
+    let h : ended_calls (es ++ fs) ≡ ended_calls es + ended_calls fs = calls_more es fs in
+    let goal : ended_calls (es ++ fs) + n ≡ (ended_calls es + n) + ended_calls fs = omega (arith, h) in goal
+
+-- what a point has of the only seat of a token
+pub own_entries : (t : Ticket) (p : Point) (seat : ℕ) → length t.logs ≡ 1 → first_seat t.logs ≡ seat →
+    AllAgree p t.logs → Agrees p seat (first_entries t.logs)
+own_entries t p seat one own agree =
+    subst (λ (k : ℕ). Agrees p k (first_entries t.logs)) own
+    (agree 0 _ (ap (λ (l : List SeatLog). get_elem? l 0) (one_log t.logs one)))
+
+-- a pass behind a section with one step
+module _ (t o n : Ticket) (p q : Point) (seat share : ℕ) (step : Step) (r : Result Answer Fault) where
+  pub record Section : Type 0 where
+    pub taken : o ≡ after_lock t p
+    pub given : n ≡ after_unlock o q
+    pub was : IsPass t seat share
+    pub begins : Before t.seen p
+    pub entries : AllAgree p t.logs
+    pub answered : IsAnswered (view_of p) seat step r (view_of q)
+    pub found : IsLawful p
+    pub lawful : IsLawful q
+
+  pub sectioned : Section → IsSection t n p q seat
+  sectioned s =
+      section t o n p q seat s.taken s.given s.was.one s.was.seat_is s.begins s.entries
+      (follows_step seat p q step r s.answered)
+
+  mine_grown : Section → first_entries n.logs ≡ made_by r ++ first_entries t.logs
+  mine_grown s =
+      (sectioned s).grown ∙ ap (λ (l : List Entry). l ++ first_entries t.logs) (added_step seat p q step r s.answered)
+
+  pub section_pass : Section → (next : ℕ) → next ≡ ended_calls (made_by r) + share → IsPass n seat next
+  section_pass s next is =
+      let x = sectioned s in record {
+        free = x.free;
+        one = x.one;
+        seat_is = x.seat_is;
+        below = subst (λ (l : LockId). seat < l.header.seats) (sym x.lock) s.was.below;
+        header = sym (before_header t.seen n.seen x.begins) ∙ (s.was.header ∙ ap (λ (l : LockId). l.header) (sym x.lock));
+        lawful = subst IsLawful (sym x.seen) s.lawful;
+        agrees = x.agrees;
+        counted = is ∙ (ap (λ k. ended_calls (made_by r) + k) s.was.counted
+            ∙ (sym (calls_more (made_by r) (first_entries t.logs)) ∙ ap ended_calls (sym (mine_grown s))));
+      }
+
+  pub section_true : Section → (next : ℕ) → next ≡ ended_calls (made_by r) + share → IsTrue (shown n seat next)
+  section_true s next is = let z = section_pass s next is in
+      record { lawful = z.lawful; header = z.header; below = z.below; agrees = z.agrees; counted = z.counted }
+
+  pub section_step : Section → (next : ℕ) → (MakesOwed (view_of p) seat step → IsOk r) →
+      IsStep (shown t seat share) step r (shown n seat next)
+  section_step s next owed = let x = sectioned s in record {
+    found = p;
+    begins = s.begins;
+    lawful = s.found;
+    agrees = own_entries t p seat s.was.one s.was.seat_is s.entries;
+    answered = subst (λ (z : Point). IsAnswered (view_of p) seat step r (view_of z)) (sym x.seen) s.answered;
+    owed = owed;
+    after = x.begins;
+    mine = mine_grown s;
+  }
+
+-- a pass that has seen more is a pass
+pub met : (t n : Ticket) (p : Point) (seat share : ℕ) → n ≡ after_meet t p → IsPass t seat share → IsLawful p →
+    Before t.seen p → AllAgree p t.logs → IsPass n seat share
+met t n p seat share is s lawful begins agree =
+    subst (λ (z : Ticket). IsPass z seat share) (sym is) record {
+      free = s.free;
+      one = s.one;
+      seat_is = s.seat_is;
+      below = s.below;
+      header = sym (before_header t.seen p begins) ∙ s.header;
+      lawful = lawful;
+      agrees = own_entries t p seat s.one s.seat_is agree;
+      counted = s.counted;
+    }
+
+pub true_pass : (t : Ticket) (seat share : ℕ) → IsPass t seat share → IsTrue (shown t seat share)
+true_pass t seat share z =
+    record { lawful = z.lawful; header = z.header; below = z.below; agrees = z.agrees; counted = z.counted }
+
+pub as_step_now : (old new : Shown) (step : Step) (r : Result Answer Fault) (z : Result Now Fault) → z ≡ now_of r →
+    IsStep old step r new → IsStepNow old step z new
+as_step_now old new step (Ok a) z is s = subst (λ (z : Result Now Fault). IsStepNow old step z new) (sym is) s
+as_step_now old new step (Err f) z is s = subst (λ (z : Result Now Fault). IsStepNow old step z new) (sym is) s

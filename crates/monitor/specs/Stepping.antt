@@ -1,0 +1,52 @@
+-- What a step of a pass leaves.
+use Rattle.std.specs.Prelude.{◌≡◌, ℕ, List, [], ◌∷◌, ◌++◌, Option, Result, Ok, Err, IsOk}
+use Rattle.history.specs.declared.entry.Entry.{Entry}
+use Rattle.history.specs.declared.fault.Fault.{Fault}
+use Rattle.history.specs.declared.step.Answer.{Answer}
+use Rattle.history.specs.declared.step.Answer.TheVariants.{Recorded, Sleep}
+use Rattle.history.specs.declared.step.Step.{Step}
+use Rattle.frame.specs.Core.{IsAnswered, MakesOwed}
+use Rattle.word_lock.specs.declared.point.Point.{Point}
+use Rattle.word_lock.specs.Point.{Before, Agrees}
+use Rattle.monitor.specs.Lawful.{view_of, IsLawful}
+use Rattle.monitor.specs.Shown.{Shown}
+use Rattle.monitor.specs.declared.step.Now.{Now}
+use Rattle.monitor.specs.declared.step.Now.TheVariants.{Done, Busy}
+
+-- the entry that an answer recorded
+abbrev pub made_by : Result Answer Fault → List Entry
+made_by (Ok (Recorded e named)) = e ∷ []
+made_by (Ok Sleep) = []
+made_by (Err fault) = []
+
+-- the pass is of the same monitor and seat
+pub record IsSame (old new : Shown) : Type 0 where
+  pub lock : new.lock ≡ old.lock
+  pub seat : new.seat ≡ old.seat
+
+-- The step found a history that begins with what was seen, and which has no entries of the seat but those
+-- that the pass knows. What it left, and the answer, are those of the core's step.
+pub record IsStep (old : Shown) (step : Step) (r : Result Answer Fault) (new : Shown) : Type 0 where
+  pub found : Point
+  pub begins : Before old.seen found
+  pub lawful : IsLawful found
+  pub agrees : Agrees found old.seat old.mine
+  pub answered : IsAnswered (view_of found) old.seat step r (view_of new.seen)
+  pub owed : MakesOwed (view_of found) old.seat step → IsOk r
+  pub after : Before old.seen new.seen
+  pub mine : new.mine ≡ made_by r ++ old.mine
+
+abbrev pub now_of : Result Answer Fault → Result Now Fault
+now_of (Ok answer) = Ok (Done answer)
+now_of (Err fault) = Err fault
+
+-- a step that waits for nobody
+abbrev pub IsStepNow : Shown → Step → Result Now Fault → Shown → Type 0
+IsStepNow old step (Ok (Done answer)) new = IsStep old step (Ok answer) new
+IsStepNow old step (Ok Busy) new = new ≡ old
+IsStepNow old step (Err fault) new = IsStep old step (Err fault) new
+
+-- a step that recorded its entry, or was refused
+abbrev pub IsEntered : Shown → Step → Result Entry Fault → Shown → Type 0
+IsEntered old step (Ok e) new = (named : Option ℕ) × IsStep old step (Ok (Recorded e named)) new
+IsEntered old step (Err f) new = IsStep old step (Err f) new

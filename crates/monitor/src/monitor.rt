@@ -1,0 +1,84 @@
+//! The monitor, and how one is opened.
+ghost use Rattle.std.specs.Prelude.{◌≡◌, ◌≤◌, [], IfOk, IfErr, vec_len, vec_capacity};
+ghost use Rattle.word_lock.specs.Ticket.{opening_tickets};
+ghost use Rattle.monitor.specs.Lawful.{blank, IsLawful};
+ghost use Rattle.history.specs.Header.{IsInRange};
+ghost use Rattle.history.specs.declared.fault.Fault.TheVariants.{OutOfMemory};
+ghost use Rattle.frame.specs.Core.{header_of};
+ghost use Rattle.monitor.specs.Shown.{opening_passes};
+
+use crate::kept::Kept;
+use crate::pass::Pass;
+use frame::hooks::Hooks;
+use frame::machine::Core;
+use history::fault::Fault;
+use std::alloc::Global;
+use std::marker::Model;
+use word_lock::{Token, WordLock};
+
+/// An object that threads step by passes.
+#[derive(Drop)]
+pub struct Monitor<H: Hooks + Drop> {
+    pub(crate) lock: WordLock<Kept<H>>,
+}
+
+impl<H: Hooks + Drop> Model for Monitor<H> {
+    ghost use Rattle.word_lock.specs.Ticket.{LockId};
+
+    ghost Value = { LockId };
+
+    ghost view = { λ m. m.lock };
+
+    ghost invariant = { λ _. Unit {0} };
+}
+
+// A pass for each token of an opening, in order.
+fn give_passes<H: Hooks + Drop>(
+    lock: &WordLock<Kept<H>>,
+    tokens: Vec<Token>,
+    passes: &mut Vec<Pass>,
+    seats: u16,
+)
+    requires tokens { tokens.items ≡ opening_tickets lock.now (blank lock.now.header) 0 seats }
+    requires seats { lock.now.header.seats ≡ seats }
+    requires lawful { IsLawful (blank lock.now.header) }
+    requires room { (passes.old.items ≡ []) × (vec_len passes.old ≡ 0) × (seats ≤ vec_capacity passes.old) }
+    ensures { passes.new.items ≡ opening_passes lock.now (blank lock.now.header) 0 seats }
+{
+    let mut seat = 0;
+    for token in tokens {
+        let share = 0;
+        passes.push_reserved(Pass { token, seat, share });
+        seat += 1;
+    }
+}
+
+impl<H: Hooks + Drop> Monitor<H> {
+    /// A monitor with an empty history, and a pass for each seat, in order.
+    pub fn open(
+        alloc: Global,
+        hooks: H,
+        seats: u16,
+        conditions: u8,
+        cap: u32,
+    ) -> Result<(Monitor<H>, Vec<Pass>), Fault>
+        requires opened { H.is_opened hooks seats }
+        requires range { IsInRange (header_of (H.object_of hooks) seats conditions cap) }
+        ensures header { IfOk result (λ r.
+            r.0.header ≡ header_of (H.object_of hooks) seats conditions cap) }
+        ensures passes { IfOk result (λ r. r.1.items ≡ opening_passes r.0 (blank r.0.header) 0 seats) }
+        ensures err { IfErr result (λ fault. fault ≡ OutOfMemory) }
+    {
+        let mut passes = Vec::with_capacity(alloc, seats as usize)?;
+        let core = Core::open(alloc, hooks, seats, conditions, cap)?;
+        core.is_lawful();
+        let _few = core.history().len();
+        match WordLock::open(alloc, Kept { core }, seats) {
+            Err((_, fault)) => Err(fault),
+            Ok((lock, tokens)) => {
+                give_passes(&lock, tokens, &mut passes, seats);
+                Ok((Monitor { lock }, passes))
+            }
+        }
+    }
+}

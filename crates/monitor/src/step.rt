@@ -1,0 +1,110 @@
+//! One step of a seat.
+ghost use Rattle.std.specs.Prelude.{◌≡◌, ◌≤◌, false};
+ghost use Rattle.history.specs.Phase.{waits};
+ghost use Rattle.monitor.specs.Shown.{IsTrue};
+ghost use Rattle.monitor.specs.Stepping.{IsSame, IsStep, IsStepNow, IsEntered, now_of};
+
+use crate::monitor::Monitor;
+use crate::pass::{Pass, share_behind};
+use frame::hooks::Hooks;
+use history::entry::Entry;
+use history::fault::Fault;
+use history::step::{Answer, Step};
+use permit::Parking;
+use std::sync::Wait;
+use std::time::Clock;
+
+/// What `step_now` answers.
+#[derive(Clone, Copy, Debug, PartialEq, Eq)]
+pub enum Now {
+    Done(Answer),
+    Busy,
+}
+
+impl<H: Hooks + Drop> Monitor<H> {
+    /// One step of the pass's seat. It waits for the object.
+    pub fn step<R: Wait>(&self, rt: &R, pass: &mut Pass, step: Step) -> Result<Answer, Fault>
+        requires is_of { pass.old.lock ≡ self.now }
+        ensures same { IsSame pass.old pass.new }
+        ensures stepped { IsStep pass.old step result pass.new }
+        ensures shows { IsTrue pass.new }
+    {
+        let mut held = self.lock.lock(rt, &mut pass.token);
+        let answer = held.value.core.step(pass.seat, step);
+        held.value.core.is_lawful();
+        let _few = held.value.core.history().len();
+        self.lock.unlock(&mut pass.token, held);
+        pass.share = share_behind(pass.share, &answer);
+        answer
+    }
+
+    /// One step of the pass's seat, if nobody has the object. It waits for nobody.
+    pub fn step_now(&self, pass: &mut Pass, step: Step) -> Result<Now, Fault>
+        requires is_of { pass.old.lock ≡ self.now }
+        ensures same { IsSame pass.old pass.new }
+        ensures stepped { IsStepNow pass.old step result pass.new }
+        ensures shows { IsTrue pass.new }
+    {
+        let Some(mut held) = self.lock.lock_now(&mut pass.token) else {
+            return Ok(Now::Busy);
+        };
+        let answer = held.value.core.step(pass.seat, step);
+        held.value.core.is_lawful();
+        let _few = held.value.core.history().len();
+        self.lock.unlock(&mut pass.token, held);
+        pass.share = share_behind(pass.share, &answer);
+        done(answer)
+    }
+
+    // A step, and an unpark of the seat that it names.
+    pub(crate) fn call<P: Parking, R: Wait + Clock>(
+        &self,
+        rt: &R,
+        parking: &P,
+        pass: &mut Pass,
+        step: Step,
+    ) -> Result<Answer, Fault>
+        requires is_of { pass.old.lock ≡ self.now }
+        requires places { self.now.header.seats ≤ P.seats parking.now }
+        ensures same { IsSame pass.old pass.new }
+        ensures stepped { IsStep pass.old step result pass.new }
+        ensures shows { IsTrue pass.new }
+    {
+        let answer = self.step(rt, pass, step);
+        if let Ok(Answer::Recorded(_, Some(seat))) = answer {
+            parking.unpark(rt, seat);
+        }
+        answer
+    }
+
+    // A step of an idle seat, which is answered with its entry or a fault.
+    pub(crate) fn enter<P: Parking, R: Wait + Clock>(
+        &self,
+        rt: &R,
+        parking: &P,
+        pass: &mut Pass,
+        step: Step,
+    ) -> Result<Entry, Fault>
+        requires is_of { pass.old.lock ≡ self.now }
+        requires places { self.now.header.seats ≤ P.seats parking.now }
+        requires idle { waits step ≡ false }
+        ensures same { IsSame pass.old pass.new }
+        ensures entered { IsEntered pass.old step result pass.new }
+        ensures shows { IsTrue pass.new }
+    {
+        match self.call(rt, parking, pass, step) {
+            Ok(Answer::Recorded(entry, _)) => Ok(entry),
+            Ok(Answer::Sleep) => unreachable!(),
+            Err(fault) => Err(fault),
+        }
+    }
+}
+
+fn done(answer: Result<Answer, Fault>) -> Result<Now, Fault>
+    ensures { result ≡ now_of answer }
+{
+    match answer {
+        Ok(answer) => Ok(Now::Done(answer)),
+        Err(fault) => Err(fault),
+    }
+}
