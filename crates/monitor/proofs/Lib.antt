@@ -2,4 +2,5 @@ pub mod Sections
 pub mod InLine
 pub mod Acquiring
 pub mod Opening
-pub mod Joining
+pub mod Merging
+pub mod Looking
