@@ -8,7 +8,6 @@ use Rattle.history.specs.declared.entry.Word.{Word}
 use Rattle.history.specs.declared.entry.Word.TheVariants as word
 use Rattle.history.specs.declared.fault.Fault.{Fault}
 use Rattle.history.specs.declared.fault.Fault.TheVariants as fault
-use Rattle.history.specs.declared.step.Answer.TheVariants.{Recorded}
 use Rattle.history.specs.declared.step.Step.{Step}
 use Rattle.history.specs.declared.step.Step.TheVariants.{Acquire, TryFair, EntryInterrupt, Look, Expire, Interrupt}
 use Rattle.history.specs.Line.{line, place_of}
@@ -19,7 +18,7 @@ use Rattle.permit.specs.declared.parking.Woke.TheVariants.{Permit, Deadline, Int
 use Rattle.word_lock.specs.declared.point.Point.{Point}
 use Rattle.word_lock.specs.Point.{Begins, Before}
 use Rattle.monitor.specs.Shown.{Shown, IsTrue}
-use Rattle.monitor.specs.Stepping.{IsSame, IsStep}
+use Rattle.monitor.specs.Stepping.{IsSame}
 use Rattle.monitor.specs.declared.how.How.{How}
 use Rattle.monitor.specs.declared.how.How.TheVariants.{Plain, Interruptible, Timed}
 

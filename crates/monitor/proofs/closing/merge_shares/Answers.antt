@@ -1,8 +1,4 @@
-use Rattle.std.proofs.Common.{rules, ◌≡◌, ◌+◌, ◌*◌, ◌^◌, length, List, ◌∷◌, ap, sym, ◌∙◌, subst, arith}
-use Rattle.std.specs.List.{All}
-use Rattle.std.proofs.lemmas.List.Elements.{All-cons}
-use Rattle.monitor.specs.Shown.{Shown, IsTrue}
-use Rattle.monitor.specs.Closing.{shares}
+use Rattle.std.proofs.Common.{rules, ◌≡◌, length, ◌∷◌, ap}
 use Rattle.monitor.proofs.Merging.{shares_more, all_true_more}
 use Rattle.monitor.proofs.closing.merge_shares.Goals as goal
 

@@ -1,12 +1,8 @@
-use Rattle.std.proofs.Common.{◌≡◌, ◌∙◌, sym, ap}
 use Rattle.word_lock.specs.Held.{held_ticket}
-use Rattle.word_lock.specs.Ticket.{LockId}
 use Rattle.word_lock.proofs.PointLaws.{follows_same}
 use Rattle.word_lock.proofs.Sections.{follows_taken}
 use Rattle.monitor.specs.Lawful.{point_of}
-use Rattle.monitor.specs.Shown.{Shown}
 use Rattle.monitor.proofs.Looking.{Look, look_pass, look_true, look_is}
-use Rattle.monitor.proofs.Sections.{seat_below}
 use Rattle.monitor.proofs.monitor.Monitor.queue_length.Goals as goal
 
 pub unlock-requires-clause-follows : goal.unlock-requires-clause-follows
