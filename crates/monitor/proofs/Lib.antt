@@ -6,4 +6,5 @@ pub mod Turns
 pub mod Acquiring
 pub mod OnCondition
 pub mod Opening
-pub mod Joining
+pub mod Merging
+pub mod Looking

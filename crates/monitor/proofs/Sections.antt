@@ -86,7 +86,7 @@ pub added_step : (i : ℕ) (p q : Point) (step : Step) (r : Result Answer Fault)
 added_step i p q step r a = added_more p q (made_by r) (left i p q step r a).grown
 
 -- no more calls end than there are entries
-calls_few : (es : List Entry) → ended_calls es ≤ length es
+pub calls_few : (es : List Entry) → ended_calls es ≤ length es
 calls_few [] = omega arith
 calls_few (e ∷ es) = let h = calls_few es in
     cond_both (ends_call e.word) 1 0 (λ n. ended_calls es + n ≤ length (e ∷ es)) (λ t. omega (arith, h)) (λ t. omega (arith, h))

@@ -97,7 +97,7 @@ impl<H: Hooks + Drop> Monitor<H> {
         let seat = pass.seat();
         let refused = self.enter(rt, parking, pass, Step::EntryInterrupt(mode, n));
         if refused.is_err() {
-            parking.interrupt(rt, seat);
+            parking.interrupt(seat);
         }
         refused
     }

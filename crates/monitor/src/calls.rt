@@ -1,6 +1,7 @@
 //! Calls that record one entry and never wait in line.
 ghost use Rattle.std.specs.Prelude.{◌≡◌, ◌≤◌};
-ghost use Rattle.history.specs.declared.step.Step.TheVariants.{Give};
+ghost use Rattle.history.specs.declared.entry.Mode.TheVariants.{S};
+ghost use Rattle.history.specs.declared.step.Step.TheVariants.{Try, Give, Signal, SignalAll, Drain};
 ghost use Rattle.monitor.specs.Shown.{IsTrue};
 ghost use Rattle.monitor.specs.Stepping.{IsSame, IsEntered};
 
@@ -14,8 +15,30 @@ use permit::Parking;
 use std::sync::Wait;
 use std::time::Clock;
 
+/// Each of these records one entry, which the answer is, and unparks the seat that its step names. Behind an
+/// `Err` nothing is recorded, and the pass may call again.
 impl<H: Hooks + Drop> Monitor<H> {
-    /// Gives a hold or permits back.
+    /// Takes what is free, past everybody who stands in line: `TryGot`, or `Missed`. `Refused` if the seat
+    /// has too many holds.
+    pub fn try_acquire<P: Parking, R: Wait + Clock>(
+        &self,
+        rt: &R,
+        parking: &P,
+        pass: &mut Pass,
+        mode: Mode,
+        n: u32,
+    ) -> Result<Entry, Fault>
+        requires is_of { pass.old.lock ≡ self.now }
+        requires places { self.now.header.seats ≤ P.seats parking.now }
+        ensures same { IsSame pass.old pass.new }
+        ensures tried { IsEntered pass.old (Try mode n) result pass.new }
+        ensures shows { IsTrue pass.new }
+    {
+        pass.is_true();
+        self.enter(rt, parking, pass, Step::Try(mode, n))
+    }
+
+    /// Gives a hold or permits back: `Gave`. `Refused` if the seat doesn't own what it gives back.
     pub fn release<P: Parking, R: Wait + Clock>(
         &self,
         rt: &R,
@@ -32,5 +55,75 @@ impl<H: Hooks + Drop> Monitor<H> {
     {
         pass.is_true();
         self.enter(rt, parking, pass, Step::Give(mode, n))
+    }
+
+    /// Counts a latch down by one: `Counted`.
+    pub fn count_down<P: Parking, R: Wait + Clock>(
+        &self,
+        rt: &R,
+        parking: &P,
+        pass: &mut Pass,
+    ) -> Result<Entry, Fault>
+        requires is_of { pass.old.lock ≡ self.now }
+        requires places { self.now.header.seats ≤ P.seats parking.now }
+        ensures same { IsSame pass.old pass.new }
+        ensures counted { IsEntered pass.old (Give S 1) result pass.new }
+        ensures shows { IsTrue pass.new }
+    {
+        pass.is_true();
+        self.enter(rt, parking, pass, Step::Give(Mode::S, 1))
+    }
+
+    /// Moves the longest sleeper of a condition into the line. `Refused` if the seat isn't the owner.
+    pub fn signal<P: Parking, R: Wait + Clock>(
+        &self,
+        rt: &R,
+        parking: &P,
+        pass: &mut Pass,
+        condition: u8,
+    ) -> Result<Entry, Fault>
+        requires is_of { pass.old.lock ≡ self.now }
+        requires places { self.now.header.seats ≤ P.seats parking.now }
+        ensures same { IsSame pass.old pass.new }
+        ensures signalled { IsEntered pass.old (Signal condition) result pass.new }
+        ensures shows { IsTrue pass.new }
+    {
+        pass.is_true();
+        self.enter(rt, parking, pass, Step::Signal(condition))
+    }
+
+    /// Moves all sleepers of a condition into the line, in order. `Refused` if the seat isn't the owner.
+    pub fn signal_all<P: Parking, R: Wait + Clock>(
+        &self,
+        rt: &R,
+        parking: &P,
+        pass: &mut Pass,
+        condition: u8,
+    ) -> Result<Entry, Fault>
+        requires is_of { pass.old.lock ≡ self.now }
+        requires places { self.now.header.seats ≤ P.seats parking.now }
+        ensures same { IsSame pass.old pass.new }
+        ensures signalled { IsEntered pass.old (SignalAll condition) result pass.new }
+        ensures shows { IsTrue pass.new }
+    {
+        pass.is_true();
+        self.enter(rt, parking, pass, Step::SignalAll(condition))
+    }
+
+    /// Takes all free permits of a semaphore: `Drained`, with their number.
+    pub fn drain<P: Parking, R: Wait + Clock>(
+        &self,
+        rt: &R,
+        parking: &P,
+        pass: &mut Pass,
+    ) -> Result<Entry, Fault>
+        requires is_of { pass.old.lock ≡ self.now }
+        requires places { self.now.header.seats ≤ P.seats parking.now }
+        ensures same { IsSame pass.old pass.new }
+        ensures drained { IsEntered pass.old (Drain) result pass.new }
+        ensures shows { IsTrue pass.new }
+    {
+        pass.is_true();
+        self.enter(rt, parking, pass, Step::Drain)
     }
 }

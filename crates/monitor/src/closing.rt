@@ -1,11 +1,12 @@
 //! Passes that meet, and the end of a monitor.
-ghost use Rattle.std.specs.Prelude.{◌≡◌, All};
+ghost use Rattle.std.specs.Prelude.{◌≡◌, ◌<◌, ◌≤◌, ◌*◌, ◌^◌, length, All, IfOk, IfErr};
+ghost use Rattle.history.specs.Entries.{ended_calls};
+ghost use Rattle.monitor.specs.Closing.{IsWithin, left_by, shares, passes_of, IsMissing};
+ghost use Rattle.monitor.specs.Lawful.{IsLawful};
 ghost use Rattle.word_lock.specs.Point.{Before};
 ghost use Rattle.monitor.specs.Shown.{IsTrue};
 ghost use Rattle.monitor.specs.Stepping.{IsSame};
-ghost use Rattle.monitor.specs.Closing.{IsWithin};
-ghost use Rattle.monitor.specs.Lawful.{IsLawful};
-ghost use Rattle.word_lock.specs.declared.point.Point.{Point};
+ghost use Rattle.monitor.specs.declared.closing.CloseFault.TheVariants.{MissingPass};
 
 use crate::kept::Kept;
 use crate::monitor::Monitor;
@@ -13,6 +14,22 @@ use crate::pass::Pass;
 use frame::hooks::Hooks;
 use history::entries::History;
 use std::sync::Wait;
+
+/// What a monitor leaves.
+#[derive(Debug, Drop)]
+pub struct Closed {
+    /// All that was done to the object, in order.
+    pub history: History,
+    /// The merged share: how many calls the passes saw end, all together.
+    pub share: u64,
+}
+
+/// Why a monitor can't be closed.
+#[derive(Clone, Copy, Debug, PartialEq, Eq)]
+pub enum CloseFault {
+    /// The pass of some seat isn't in the list.
+    MissingPass,
+}
 
 impl<H: Hooks + Drop> Monitor<H> {
     /// Ties what two passes have seen. It takes no memory and waits for nobody.
@@ -49,22 +66,61 @@ impl<H: Hooks + Drop> Monitor<H> {
         (one, two)
     }
 
-    /// Takes the object for good, and waits until nobody has it.
-    pub fn close<R: Wait>(self, rt: &R, first: Pass, rest: Vec<Pass>) -> History
-        requires first { first.lock ≡ self }
-        requires rest { All (λ p. p.lock ≡ self) rest.items }
-        ensures lawful { IsLawful (record { header = self.header; list = result.entries }) }
-        ensures first { IsWithin (record { header = self.header; list = result.entries }) first }
-        ensures rest { All (λ p. IsWithin (record { header = self.header; list = result.entries }) p) rest.items }
+    /// Takes the object for good, and waits until nobody has it. It takes no memory.
+    ///
+    /// The passes of all seats are needed, in any order, since only all of them together know what
+    /// everybody did. Where one is missing, the monitor and the passes come back as they were.
+    pub fn close<R: Wait>(
+        self,
+        rt: &R,
+        passes: Vec<Pass>,
+    ) -> Result<Closed, (Monitor<H>, Vec<Pass>, CloseFault)>
+        requires is_of { All (λ p. p.lock ≡ self) passes.items }
+        ensures lawful { IfOk result (λ c. IsLawful (left_by self c.history)) }
+        ensures within { IfOk result (λ c. All (λ p. IsWithin (left_by self c.history) p) passes.items) }
+        ensures cap { IfOk result (λ c. c.history.cap ≡ self.header.cap) }
+        ensures each { IfOk result (λ _. (seat : _) → seat < self.header.seats → passes_of seat passes.items ≡ 1) }
+        ensures share { IfOk result (λ c. c.share ≡ shares passes.items) }
+        ensures calls { IfOk result (λ c. c.share ≡ ended_calls c.history.entries) }
+        ensures missing { IfErr result (λ r. (r.2 ≡ MissingPass) × IsMissing self.header.seats passes.items) }
+        ensures back { IfErr result (λ r. (r.0 ≡ self) × (r.1 ≡ passes)) }
     {
-        let Monitor { lock } = self;
-        let mut rest = rest;
-        let mut joined = first.into_token();
-        while let Some(pass) = rest.pop() {
-            joined = lock.join(joined, pass.into_token());
+        let share = merge_shares(&passes);
+        if passes.len() < self.seats as usize {
+            return Err((self, passes, CloseFault::MissingPass));
         }
-        drop(rest);
+        let mut passes = passes;
+        let Some(last) = passes.pop() else {
+            unreachable!()
+        };
+        let Monitor { lock, seats: _ } = self;
+        let mut joined = last.into_token();
+        while let Some(pass) = passes.pop() {
+            joined = lock.join(pass.into_token(), joined);
+        }
+        drop(passes);
         let Kept { core } = lock.close(rt, joined);
-        core.into_history()
+        let history = core.into_history();
+        let _few = history.len();
+        Ok(Closed {
+            history,
+            share: share as u64,
+        })
     }
+}
+
+// The sum of the shares. It can't be more than 2^64, but that isn't known before the lock is closed.
+fn merge_shares(passes: &[Pass]) -> u128
+    ensures sum { result ≡ shares passes.now }
+    ensures shows { All (λ p. IsTrue p) passes.now }
+{
+    let mut share: u128 = 0;
+    let mut rest = passes;
+    let _few = passes.len();
+    while let Some((pass, tail)) = rest.split_first() {
+        pass.is_true();
+        share += u128::from(pass.share());
+        rest = tail;
+    }
+    share
 }

@@ -69,7 +69,7 @@ pub(crate) fn takes_interrupt<P: Parking, R: Wait + Clock>(
 {
     pass.is_true();
     if is_interruptible(how) {
-        parking.take_interrupt(rt, pass.seat())
+        parking.take_interrupt(pass.seat())
     } else {
         false
     }

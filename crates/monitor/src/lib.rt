@@ -8,10 +8,12 @@ mod closing;
 mod how;
 mod kept;
 mod monitor;
+mod observing;
 mod pass;
 mod step;
 mod waiting;
 
+pub use closing::{CloseFault, Closed};
 pub use how::How;
 pub use monitor::Monitor;
 pub use pass::Pass;

@@ -20,16 +20,18 @@ use word_lock::{Token, WordLock};
 #[derive(Drop)]
 pub struct Monitor<H: Hooks + Drop> {
     pub(crate) lock: WordLock<Kept<H>>,
+    pub(crate) seats: u16,
 }
 
 impl<H: Hooks + Drop> Model for Monitor<H> {
+    ghost use Rattle.std.specs.Prelude.{◌≡◌, ◌<◌};
     ghost use Rattle.word_lock.specs.Ticket.{LockId};
 
     ghost Value = { LockId };
 
     ghost view = { λ m. m.lock };
 
-    ghost invariant = { λ _. Unit {0} };
+    ghost invariant = { λ m. (m.seats ≡ m.lock.header.seats) × (0 < m.seats) };
 }
 
 // A pass for each token of an opening, in order.
@@ -77,7 +79,7 @@ impl<H: Hooks + Drop> Monitor<H> {
             Err((_, fault)) => Err(fault),
             Ok((lock, tokens)) => {
                 give_passes(&lock, tokens, &mut passes, seats);
-                Ok((Monitor { lock }, passes))
+                Ok((Monitor { lock, seats }, passes))
             }
         }
     }

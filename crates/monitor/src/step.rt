@@ -72,7 +72,7 @@ impl<H: Hooks + Drop> Monitor<H> {
     {
         let answer = self.step(rt, pass, step);
         if let Ok(Answer::Recorded(_, Some(seat))) = answer {
-            parking.unpark(rt, seat);
+            parking.unpark(seat);
         }
         answer
     }

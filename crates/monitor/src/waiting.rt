@@ -102,7 +102,7 @@ fn set_again<P: Parking, R: Wait + Clock>(rt: &R, parking: &P, seat: u16, interr
     if interrupted {
         match end {
             End::Interrupt => {}
-            _ => parking.interrupt(rt, seat),
+            _ => parking.interrupt(seat),
         }
     }
 }

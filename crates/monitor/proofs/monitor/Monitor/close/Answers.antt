@@ -1,67 +1,147 @@
-use Rattle.std.proofs.Common.{rules, ◌≡◌, List, [], ◌∷◌, ◌++◌, append_assoc, sym, ap, ◌∙◌, subst}
+use Rattle.std.proofs.Common.{rules, ◌≡◌, ◌<◌, ◌≤◌, ◌^◌, ℕ, List, [], ◌∷◌, ◌++◌, length, append_assoc, refl, sym, ap, ◌∙◌, subst, arith}
 use Rattle.std.specs.List.{All}
-use Rattle.std.proofs.lemmas.List.{append-nil}
-use Rattle.std.proofs.lemmas.List.Elements.{All-nil, All-cons, All-weaker, All-pop}
+use Rattle.std.proofs.lemmas.List.Elements.{All-nil, All-cons}
+use Rattle.history.specs.Entries.{ended_calls}
+use Rattle.history.specs.Start.{opening}
 use Rattle.word_lock.specs.declared.point.Point.{Point}
+use Rattle.word_lock.specs.declared.view.SeatLog.{SeatLog}
+use Rattle.word_lock.specs.Point.{Before, Agrees}
+use Rattle.word_lock.specs.Rule.{AllAgree, AreDistinct}
 use Rattle.word_lock.specs.Ticket.{LockId}
+use Rattle.word_lock.proofs.PointLaws.{before_refl}
 use Rattle.monitor.specs.Lawful.{point_of, IsLawful}
-use Rattle.monitor.proofs.Opening.{shown_as}
-use Rattle.monitor.specs.Shown.{Shown}
-use Rattle.monitor.specs.Closing.{IsKnownTo, IsWithin}
-use Rattle.monitor.proofs.Joining.{known_still, known_now, known_first, known_close}
+use Rattle.monitor.specs.Shown.{Shown, IsTrue}
+use Rattle.monitor.specs.Closing.{left_by, shares, passes_of}
+use Rattle.monitor.proofs.Opening.{shown_as, header_shown}
+use Rattle.monitor.proofs.Sections.{calls_few}
+use Rattle.monitor.proofs.Merging.{log_of, logs_of, all_last, all_seen, all_agree, all_within, seats_below, none_twice, each_once, some_missing, shares_are_calls}
 use Rattle.monitor.proofs.monitor.Monitor.close.Goals as goal
 
+pub returns-then-len-self-clause-missing : goal.returns-then-len-self-clause-missing
+returns-then-len-self-clause-missing g c =
+    let seats : c.self.inside.seats ≡ c.args.self.header.seats =
+    c.self.invariant.0 ∙ ap (λ (l : LockId). l.header.seats) c.self.view_is in
+    let true : All (λ (p : Shown). IsTrue p) c.args.passes.items =
+    subst (λ (l : List Shown). All (λ p. IsTrue p) l) c.deref.ensures.value c.merge_shares-share.ensures.shows in
+    let few : length c.args.passes.items < c.self.inside.seats = search rules in (
+      refl,
+      some_missing c.args.self.header.seats c.args.passes.items
+          (seats_below c.args.self c.args.passes.items true c.requires.is_of) (omega (arith, few, seats)),
+    )
+
 pub loop-pass-init : goal.loop-pass-init
-loop-pass-init g c = let t = c.into_token-joined.ensures in (
-  search rules,
-  t.lock.1,
-  ([], sym (append-nil c.args.rest.items), All-nil (λ (p : Shown). IsKnownTo c.into_token-joined.result p)),
-  known_first c.into_token-joined.result c.args.first t.seen t.log,
-  search rules,
-)
+loop-pass-init g c =
+    let t = c.into_token-joined.ensures in let p = c.in-Some.last in
+    let own = all_last (λ (q : Shown). q.lock ≡ c.args.self) c.args.passes.items c.pop.new.self.items p
+    c.in-Some.ensures.items c.requires.is_of in
+    let here : All (λ (q : Shown). q.lock ≡ c.self.inside.lock) c.pop.new.self.items =
+    subst (λ (k : LockId). All (λ (q : Shown). q.lock ≡ k) c.pop.new.self.items) (sym c.self.view_is) own.0 in (
+      t.lock.0 ∙ (own.1 ∙ sym c.self.view_is),
+      t.lock.1,
+      (
+        p ∷ [],
+        c.in-Some.ensures.items,
+        t.log,
+        All-cons (λ (q : Shown). Before q.seen c.into_token-joined.result.seen) p []
+            (subst (λ (z : Point). Before z c.into_token-joined.result.seen) t.seen
+            (before_refl c.into_token-joined.result.seen))
+            (All-nil (λ (q : Shown). Before q.seen c.into_token-joined.result.seen)),
+      ),
+      here,
+    )
+
+pub join-joined-requires-clause-own : goal.join-joined-requires-clause-own
+join-joined-requires-clause-own g c =
+    let own = all_last (λ (q : Shown). q.lock ≡ c.self.inside.lock) c.loop-pass.passes.items
+    c.pop-in-loop-pass.new.self.items c.in-Some-pop.pass c.in-Some-pop.ensures.items c.loop-pass.invariant.3 in
+    (c.into_token.ensures.lock.0 ∙ own.1, c.loop-pass.invariant.0)
 
 pub loop-pass-preserved : goal.loop-pass-preserved
 loop-pass-preserved g c =
-    let i = c.loop-pass.invariant in let j = c.join-joined.ensures in let p = c.in-Some.pass in
-    let t = c.into_token.ensures in
-    let still = known_still c.loop-pass.joined c.into_token.result c.join-joined.result j.token.2 j.begins.0 in
-    let now = known_now c.loop-pass.joined c.into_token.result c.join-joined.result j.token.2 j.begins.1 p t.seen t.log in
-    let rest : All (λ (q : Shown). q.lock ≡ c.self.inside.lock) c.pop.new.self.items =
-    (All-pop (λ (q : Shown). q.lock ≡ c.self.inside.lock) c.loop-pass.rest.items c.pop.new.self.items c.pop.result
-    c.pop.ensures.items i.4).0 in (
-      search rules,
+    let i = c.loop-pass.invariant in let j = c.join-joined.ensures in let p = c.in-Some-pop.pass in
+    let t = c.into_token.ensures in let left = c.pop-in-loop-pass.new.self.items in
+    let own = all_last (λ (q : Shown). q.lock ≡ c.self.inside.lock) c.loop-pass.passes.items left p
+    c.in-Some-pop.ensures.items i.3 in (
+      j.token.0,
       j.token.1,
       (
         p ∷ i.2.0,
-        i.2.1 ∙ (ap (λ (l : List Shown). l ++ i.2.0) c.in-Some.ensures.items ∙ append_assoc c.pop.new.self.items (p ∷ []) i.2.0),
-        All-cons (λ (q : Shown). IsKnownTo c.join-joined.result q) p i.2.0 now
-            (All-weaker (λ (q : Shown). IsKnownTo c.loop-pass.joined q) (λ (q : Shown). IsKnownTo c.join-joined.result q)
-            still i.2.0 i.2.2),
+        i.2.1 ∙ (ap (λ (l : List Shown). l ++ i.2.0) c.in-Some-pop.ensures.items ∙ append_assoc left (p ∷ []) i.2.0),
+        j.token.2 ∙ (ap (λ (l : List SeatLog). l ++ c.loop-pass.joined.logs) t.log
+            ∙ ap (λ (l : List SeatLog). log_of p ∷ l) i.2.2),
+        All-cons (λ (q : Shown). Before q.seen c.join-joined.result.seen) p i.2.0
+            (subst (λ (z : Point). Before z c.join-joined.result.seen) t.seen j.begins.0)
+            (all_seen c.loop-pass.joined.seen c.join-joined.result.seen i.2.0 j.begins.1 i.2.3),
       ),
-      still c.args.first i.3,
-      rest,
+      own.0,
     )
 
-left_is : (g : _) (c : goal.After-into_history g) →
-    point_of c.close-core.result.core ≡ record { header = c.args.self.header; list = c.into_history.result.entries }
-left_is g c =
-    shown_as (point_of c.close-core.result.core) c.args.self.header c.into_history.result.entries
-    (c.close-core.ensures.header ∙ ap (λ (l : LockId). l.header) c.self.view_is) (sym c.into_history.ensures.entries)
+-- what the passes and the history are to one another
+record Ends (lock : LockId) (q : Point) (ps : List Shown) : Type 0 where
+  header : q.header ≡ lock.header
+  lawful : IsLawful q
+  seen : All (λ p. Before p.seen q) ps
+  agree : All (λ p. Agrees q p.seat p.mine) ps
+  each : (i : ℕ) → i < lock.header.seats → passes_of i ps ≡ 1
+  calls : shares ps ≡ ended_calls q.list
+
+ends : (g : _) (c : goal.After-len-few g) →
+    Ends c.args.self (left_by c.args.self c.into_history-history.result) c.args.passes.items
+ends g c =
+    let i = c.loop-pass.invariant in let ps : List Shown = c.args.passes.items in
+    let all : ps ≡ i.2.0 = search rules in
+    let core = point_of c.close-core.result.core in
+    let q : Point = left_by c.args.self c.into_history-history.result in
+    let is : core ≡ q =
+    shown_as core c.args.self.header c.into_history-history.result.entries
+    (c.close-core.ensures.header ∙ ap (λ (l : LockId). l.header) c.self.view_is)
+    (sym c.into_history-history.ensures.entries) in
+    let logs : c.loop-pass.joined.logs ≡ logs_of ps = i.2.2 ∙ ap logs_of (sym all) in
+    let lawful : IsLawful q = subst IsLawful is c.close-core.ensures.fact in
+    let seen : All (λ (p : Shown). Before p.seen c.loop-pass.joined.seen) ps =
+    subst (λ (l : List Shown). All (λ p. Before p.seen c.loop-pass.joined.seen) l) (sym all) i.2.3 in
+    let agree : All (λ (p : Shown). Agrees q p.seat p.mine) ps =
+    all_agree q ps (subst (λ (z : Point). AllAgree z (logs_of ps)) is
+    (subst (λ (l : List SeatLog). AllAgree core l) logs c.close-core.ensures.entries)) in
+    let true : All (λ (p : Shown). IsTrue p) ps =
+    subst (λ (l : List Shown). All (λ p. IsTrue p) l) c.deref.ensures.value c.merge_shares-share.ensures.shows in
+    let seats : c.self.inside.seats ≡ c.args.self.header.seats =
+    c.self.invariant.0 ∙ ap (λ (l : LockId). l.header.seats) c.self.view_is in
+    let many : c.self.inside.seats ≤ length ps = search rules in
+    let each : (i : ℕ) → i < c.args.self.header.seats → passes_of i ps ≡ 1 =
+    each_once c.args.self.header.seats ps (seats_below c.args.self ps true c.requires.is_of)
+    (none_twice ps (subst AreDistinct logs c.close-core.ensures.distinct)) (omega (arith, many, seats)) in record {
+      header = refl;
+      lawful = lawful;
+      seen = all_seen c.loop-pass.joined.seen q ps
+          (subst (λ (z : Point). Before c.loop-pass.joined.seen z) is c.close-core.ensures.begins) seen;
+      agree = agree;
+      each = each;
+      calls = shares_are_calls (opening c.args.self.header) q ps lawful.seated each true agree;
+    }
+
+sum_is : (g : _) (c : goal.After-len-few g) → c.merge_shares-share.result ≡ ended_calls c.into_history-history.result.entries
+sum_is g c = c.merge_shares-share.ensures.sum ∙ (ap shares c.deref.ensures.value ∙ (ends g c).calls)
+
+pub overflow_cast-result : goal.overflow_cast-result
+overflow_cast-result g c =
+    let sum = sum_is g c in let most = calls_few c.into_history-history.result.entries in
+    let v = c.len-few.ensures.value in let f = c.len-few.ensures.few in
+    let small : c.merge_shares-share.result < 2 ^ 64 = omega (arith, sum, most, v, f) in search rules
 
 pub returns-clause-lawful : goal.returns-clause-lawful
-returns-clause-lawful g c = subst IsLawful (left_is g c) c.close-core.ensures.fact
+returns-clause-lawful g c = (ends g c).lawful
 
-pub returns-clause-first : goal.returns-clause-first
-returns-clause-first g c =
-    subst (λ (q : Point). IsWithin q c.args.first) (left_is g c)
-    (known_close c.loop-pass.joined (point_of c.close-core.result.core) c.close-core.ensures.begins c.close-core.ensures.entries c.args.first
-    c.loop-pass.invariant.3)
+pub returns-clause-within : goal.returns-clause-within
+returns-clause-within g c = let e = ends g c in all_within _ _ e.seen e.agree
 
-pub returns-clause-rest : goal.returns-clause-rest
-returns-clause-rest g c =
-    let i = c.loop-pass.invariant in
-    let all : c.args.rest.items ≡ i.2.0 = search rules in
-    subst (λ (q : Point). All (λ p. IsWithin q p) c.args.rest.items) (left_is g c)
-    (subst (λ (l : List Shown). All (λ p. IsWithin (point_of c.close-core.result.core) p) l) (sym all)
-    (All-weaker (λ (q : Shown). IsKnownTo c.loop-pass.joined q) (λ (q : Shown). IsWithin (point_of c.close-core.result.core) q)
-    (known_close c.loop-pass.joined (point_of c.close-core.result.core) c.close-core.ensures.begins c.close-core.ensures.entries) i.2.0 i.2.2))
+pub returns-clause-cap : goal.returns-clause-cap
+returns-clause-cap g c =
+    let header = c.close-core.ensures.header ∙ ap (λ (l : LockId). l.header) c.self.view_is in
+    c.into_history-history.ensures.cap ∙ ap (λ k. k.cap) (sym (header_shown (point_of c.close-core.result.core)) ∙ header)
+
+pub returns-clause-each : goal.returns-clause-each
+returns-clause-each g c = (ends g c).each
+
+pub returns-clause-calls : goal.returns-clause-calls
+returns-clause-calls g c = sum_is g c

@@ -1,4 +1,4 @@
-use Rattle.std.proofs.Common.{◌≡◌, length, ap, ◌∙◌, sym, subst, arith}
+use Rattle.std.proofs.Common.{◌≡◌, ◌≤◌, length, ap, ◌∙◌, sym, subst, arith}
 use Rattle.history.specs.declared.header.Header.{Header}
 use Rattle.word_lock.specs.declared.point.Point.{Point}
 use Rattle.word_lock.specs.Ticket.{opening_tickets}
@@ -34,3 +34,9 @@ give_passes-requires-clause-lawful g c = subst IsLawful (point_is g c) record {
 
 pub returns-in-Ok-clause-header : goal.returns-in-Ok-clause-header
 returns-in-Ok-clause-header g c = c.in-Ok.ensures.header ∙ (header_shown (point_of c.in_ok-core.core) ∙ c.in_ok-core.ensures.header)
+
+pub invariant_of-result : goal.invariant_of-result
+invariant_of-result g c =
+    let header = c.in-Ok.ensures.header ∙ (header_shown (point_of c.in_ok-core.core) ∙ c.in_ok-core.ensures.header) in
+    let some : 1 ≤ c.args.seats = c.requires.range.some_seat in
+    (sym (ap (λ (k : Header). k.seats) header), omega (arith, some))

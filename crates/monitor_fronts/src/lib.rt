@@ -1,0 +1,14 @@
+//! Locks, semaphores and latches over a monitor, with the names and answers that a programmer of
+//! `java.util.concurrent` knows.
+#![tactic(auto)]
+
+mod latch;
+mod lock;
+mod read_write;
+mod semaphore;
+mod told;
+
+pub use latch::Latch;
+pub use lock::ReentrantLock;
+pub use read_write::ReadWriteLock;
+pub use semaphore::Semaphore;

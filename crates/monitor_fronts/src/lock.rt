@@ -1,0 +1,163 @@
+//! A lock whose owner may take it again.
+ghost use Rattle.std.specs.Prelude.{◌≡◌, ◌≤◌};
+ghost use Rattle.history.specs.declared.entry.Mode.TheVariants.{X};
+ghost use Rattle.history.specs.declared.step.Step.TheVariants.{Try, Give, Signal, SignalAll};
+ghost use Rattle.monitor.specs.Acquire.{IsAcquire};
+ghost use Rattle.monitor.specs.Shown.{IsTrue};
+ghost use Rattle.monitor.specs.Stepping.{IsSame, IsEntered};
+ghost use Rattle.monitor.specs.declared.how.How.TheVariants.{Plain, Interruptible, Timed};
+ghost use Rattle.monitor_fronts.specs.Told.{Tells, done_of, whether_of};
+ghost use Rattle.word_lock.specs.Point.{Before};
+
+use crate::told::{done, whether};
+use history::entry::Mode;
+use history::fault::Fault;
+use monitor::{How, Monitor, Pass};
+use permit::Parking;
+use reentrant::lock::LockHooks;
+use std::sync::Wait;
+use std::time::Clock;
+
+/// `java.util.concurrent.locks.ReentrantLock` of Java SE 8 over a monitor. The thread is the pass, conditions
+/// have numbers, and a call answers an `Err` where Java throws.
+pub struct ReentrantLock<'m> {
+    pub monitor: &'m Monitor<LockHooks>,
+}
+
+impl<'m> ReentrantLock<'m> {
+    /// It borrows the monitor, which stays open to calls of its own.
+    pub fn of(monitor: &'m Monitor<LockHooks>) -> Self
+        ensures { result.monitor.now ≡ monitor.now }
+    {
+        ReentrantLock { monitor }
+    }
+
+    /// `ReentrantLock.lock()`: waits until it has the lock. An interrupt doesn't end the wait.
+    /// `Err(TooManyHolds)` where Java throws an `Error`.
+    pub fn lock<P: Parking, R: Wait + Clock>(
+        &self,
+        rt: &R,
+        parking: &P,
+        pass: &mut Pass,
+    ) -> Result<(), Fault>
+        requires is_of { pass.old.lock ≡ self.now.monitor.now }
+        requires places { self.now.monitor.now.header.seats ≤ P.seats parking.now }
+        ensures same { IsSame pass.old pass.new }
+        ensures begins { Before pass.old.seen pass.new.seen }
+        ensures shows { IsTrue pass.new }
+        ensures acquired { Tells done_of (λ reply. IsAcquire pass.old X 1 Plain reply pass.new) result }
+    {
+        done(
+            self.monitor
+                .acquire(rt, parking, pass, Mode::X, 1, How::Plain),
+        )
+    }
+
+    /// `ReentrantLock.lockInterruptibly()`: `Err(Interrupted)` where Java throws `InterruptedException`.
+    pub fn lock_interruptibly<P: Parking, R: Wait + Clock>(
+        &self,
+        rt: &R,
+        parking: &P,
+        pass: &mut Pass,
+    ) -> Result<(), Fault>
+        requires is_of { pass.old.lock ≡ self.now.monitor.now }
+        requires places { self.now.monitor.now.header.seats ≤ P.seats parking.now }
+        ensures same { IsSame pass.old pass.new }
+        ensures begins { Before pass.old.seen pass.new.seen }
+        ensures shows { IsTrue pass.new }
+        ensures acquired { Tells done_of (λ reply. IsAcquire pass.old X 1 Interruptible reply pass.new) result }
+    {
+        done(
+            self.monitor
+                .acquire(rt, parking, pass, Mode::X, 1, How::Interruptible),
+        )
+    }
+
+    /// `ReentrantLock.tryLock()`: whether it got the lock. It goes past those who wait, under a fair policy too.
+    pub fn try_lock<P: Parking, R: Wait + Clock>(
+        &self,
+        rt: &R,
+        parking: &P,
+        pass: &mut Pass,
+    ) -> Result<bool, Fault>
+        requires is_of { pass.old.lock ≡ self.now.monitor.now }
+        requires places { self.now.monitor.now.header.seats ≤ P.seats parking.now }
+        ensures same { IsSame pass.old pass.new }
+        ensures shows { IsTrue pass.new }
+        ensures entered { Tells whether_of (λ reply. IsEntered pass.old (Try X 1) reply pass.new) result }
+    {
+        whether(self.monitor.try_acquire(rt, parking, pass, Mode::X, 1))
+    }
+
+    /// `ReentrantLock.tryLock(time, unit)`: whether it got the lock within `ms` milliseconds.
+    /// With 0 it doesn't wait, and under a fair policy it doesn't go past those who wait.
+    pub fn try_lock_for<P: Parking, R: Wait + Clock>(
+        &self,
+        rt: &R,
+        parking: &P,
+        pass: &mut Pass,
+        ms: u32,
+    ) -> Result<bool, Fault>
+        requires is_of { pass.old.lock ≡ self.now.monitor.now }
+        requires places { self.now.monitor.now.header.seats ≤ P.seats parking.now }
+        ensures same { IsSame pass.old pass.new }
+        ensures begins { Before pass.old.seen pass.new.seen }
+        ensures shows { IsTrue pass.new }
+        ensures acquired { Tells whether_of (λ reply. IsAcquire pass.old X 1 (Timed ms) reply pass.new) result }
+    {
+        whether(
+            self.monitor
+                .acquire(rt, parking, pass, Mode::X, 1, How::Timed(ms)),
+        )
+    }
+
+    /// `ReentrantLock.unlock()`: `Err(NotOwner)` where Java throws `IllegalMonitorStateException`.
+    pub fn unlock<P: Parking, R: Wait + Clock>(
+        &self,
+        rt: &R,
+        parking: &P,
+        pass: &mut Pass,
+    ) -> Result<(), Fault>
+        requires is_of { pass.old.lock ≡ self.now.monitor.now }
+        requires places { self.now.monitor.now.header.seats ≤ P.seats parking.now }
+        ensures same { IsSame pass.old pass.new }
+        ensures shows { IsTrue pass.new }
+        ensures entered { Tells done_of (λ reply. IsEntered pass.old (Give X 1) reply pass.new) result }
+    {
+        done(self.monitor.release(rt, parking, pass, Mode::X, 1))
+    }
+
+    /// `Condition.signal()` of the condition of this number.
+    pub fn signal<P: Parking, R: Wait + Clock>(
+        &self,
+        rt: &R,
+        parking: &P,
+        pass: &mut Pass,
+        condition: u8,
+    ) -> Result<(), Fault>
+        requires is_of { pass.old.lock ≡ self.now.monitor.now }
+        requires places { self.now.monitor.now.header.seats ≤ P.seats parking.now }
+        ensures same { IsSame pass.old pass.new }
+        ensures shows { IsTrue pass.new }
+        ensures entered { Tells done_of (λ reply. IsEntered pass.old (Signal condition) reply pass.new) result }
+    {
+        done(self.monitor.signal(rt, parking, pass, condition))
+    }
+
+    /// `Condition.signalAll()` of the condition of this number.
+    pub fn signal_all<P: Parking, R: Wait + Clock>(
+        &self,
+        rt: &R,
+        parking: &P,
+        pass: &mut Pass,
+        condition: u8,
+    ) -> Result<(), Fault>
+        requires is_of { pass.old.lock ≡ self.now.monitor.now }
+        requires places { self.now.monitor.now.header.seats ≤ P.seats parking.now }
+        ensures same { IsSame pass.old pass.new }
+        ensures shows { IsTrue pass.new }
+        ensures entered { Tells done_of (λ reply. IsEntered pass.old (SignalAll condition) reply pass.new) result }
+    {
+        done(self.monitor.signal_all(rt, parking, pass, condition))
+    }
+}
