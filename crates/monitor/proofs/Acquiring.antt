@@ -1,5 +1,5 @@
 -- The first step of an acquire, and how its parts fit together.
-use Rattle.std.proofs.Common.{◌≡◌, ◌≢◌, ◌⊎◌, inl, inr, ⊎_elim, ℕ, eqb, Bool, true, false, cond, List, [], ◌∷◌, ◌++◌, Option, Some, None, IsSome, Result, Ok, Err, refl, sym, ap, ◌∙◌, subst, append_assoc}
+use Rattle.std.proofs.Common.{◌≡◌, ◌≢◌, ◌⊎◌, inl, inr, ⊎_elim, ℕ, eqb, Bool, true, false, cond, List, [], ◌∷◌, ◌++◌, Option, Some, None, Result, Ok, Err, refl, sym, ap, ◌∙◌, subst, append_assoc}
 use Rattle.std.specs.List.{filter}
 use Rattle.std.proofs.lemmas.Bool.{eq-eqb, eqb-true}
 use Rattle.history.specs.Could.{could, limit, held_back}
@@ -22,7 +22,7 @@ use Rattle.history.specs.declared.step.Step.TheVariants.{Acquire, TryFair, Entry
 use Rattle.history.proofs.Entering.{admitted}
 use Rattle.history.proofs.LineLemmas.{line_after, stays}
 use Rattle.history.proofs.SleepLemmas.{idle_parts}
-use Rattle.word_lock.specs.Point.{Begins, Before}
+use Rattle.word_lock.specs.Point.{Before}
 use Rattle.word_lock.proofs.PointLaws.{before_refl}
 use Rattle.monitor.specs.Lawful.{view_of}
 use Rattle.monitor.specs.Shown.{Shown}
@@ -30,8 +30,8 @@ use Rattle.monitor.specs.Stepping.{IsSame, IsStep, IsEntered}
 use Rattle.monitor.specs.declared.how.How.{How}
 use Rattle.monitor.specs.declared.how.How.TheVariants.{Plain, Interruptible, Timed}
 use Rattle.monitor.specs.declared.waiting.Limits.{Limits}
-use Rattle.monitor.specs.Acquire.{AtOnce, IsAtOnce, IsEndFor, IsFirst, LimitsFor, EndsAtOnce, EndsInLine, EndsUnrecorded, IsAcquire, first_step, is_interruptible, is_timed, has_time}
-use Rattle.monitor.specs.Waits.{StandsFor, IsMade, IsLast, IsEnd, EndsBy, EndsLapsed, Cause, in_line, IsWait, IsWaited, Waits, WaitsAs, asking}
+use Rattle.monitor.specs.Acquire.{AtOnce, IsEndFor, LimitsFor, EndsAtOnce, IsAcquire, first_step, is_interruptible, is_timed, has_time}
+use Rattle.monitor.specs.Waits.{StandsFor, IsMade, IsLast, IsEnd, in_line, IsWait, IsWaited, WaitsAs, asking}
 use Rattle.monitor.proofs.Turns.{there_later}
 use Rattle.monitor.proofs.InLine.{place_filter, place_behind, records, made_in, same_self}
 

@@ -1,20 +1,18 @@
 -- The first step of an await, and how its parts fit together.
-use Rattle.std.proofs.Common.{◌≡◌, ◌≢◌, ◌⊎◌, inl, inr, ⊎_elim, ℕ, eqb, nat_lt, Bool, true, false, not, cond, List, [], ◌∷◌, Option, Some, None, IsSome, Result, Ok, Err, refl, sym, ap, ◌∙◌, subst}
+use Rattle.std.proofs.Common.{◌≡◌, ◌≢◌, ◌⊎◌, inl, inr, ℕ, eqb, nat_lt, Bool, true, false, not, cond, List, ◌∷◌, Option, Some, Result, Ok, Err, refl, sym, ap, ◌∙◌, subst}
 use Rattle.history.specs.Could.{is_seat}
 use Rattle.history.specs.Counts.{Counts, counts, owner}
-use Rattle.history.specs.Start.{Start, Sleep, opening}
+use Rattle.history.specs.Start.{Sleep, opening}
 use Rattle.history.specs.Steps.{entry_for, awaits, plain}
 use Rattle.history.specs.declared.entry.End.{End}
 use Rattle.history.specs.declared.entry.End.TheVariants as end
 use Rattle.history.specs.declared.entry.Entry.{Entry}
 use Rattle.history.specs.declared.entry.Mode.TheVariants.{X, S}
-use Rattle.history.specs.declared.entry.Word.{Word}
 use Rattle.history.specs.declared.entry.Word.TheVariants as word
 use Rattle.history.specs.declared.fault.Fault.{Fault}
 use Rattle.history.specs.declared.fault.Fault.TheVariants as fault
 use Rattle.history.specs.declared.header.Header.{Header}
 use Rattle.history.specs.declared.step.Answer.TheVariants.{Recorded}
-use Rattle.history.specs.declared.step.Step.{Step}
 use Rattle.history.specs.declared.step.Step.TheVariants.{Await, EntryInterrupt}
 use Rattle.word_lock.specs.Point.{Before}
 use Rattle.monitor.specs.Awaiting.{SleepsAs, signalled, lapsed, back_from, lapse_from}
@@ -24,8 +22,8 @@ use Rattle.monitor.specs.Stepping.{IsSame, IsStep, IsEntered}
 use Rattle.monitor.specs.declared.how.How.{How}
 use Rattle.monitor.specs.declared.how.How.TheVariants.{Plain, Interruptible, Timed}
 use Rattle.monitor.specs.declared.waiting.Limits.{Limits}
-use Rattle.monitor.specs.Acquire.{LimitsFor, is_interruptible, is_timed}
-use Rattle.monitor.specs.AwaitOn.{IsAwait, IsAwaitRefused, MayLapseFor, EndsAwait, LapsesAndReturns, due_first, due_of}
+use Rattle.monitor.specs.Acquire.{LimitsFor, is_interruptible}
+use Rattle.monitor.specs.AwaitOn.{IsAwait, MayLapseFor, LapsesAndReturns, due_first, due_of}
 use Rattle.monitor.specs.Waits.{IsMade, IsWait, IsWaited, WaitsAs, on_condition, MayLapse, BackFromLapse, IsDue}
 use Rattle.monitor.proofs.Awaiting.{falls_asleep}
 use Rattle.monitor.proofs.Acquiring.{idle_made, at_once, made_later, refused_at_once}

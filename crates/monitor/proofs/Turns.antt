@@ -1,12 +1,9 @@
 -- What a step of one who waits makes, and what it leaves of the wait.
-use Rattle.std.proofs.Common.{◌≡◌, ◌≢◌, ◌⊎◌, inl, inr, ⊎_elim, ℕ, ◌==◌, Bool, true, false, List, [], ◌∷◌, ◌++◌, Option, Some, None, Result, Ok, Err, IsOk, refl, sym, ap, ◌∙◌, subst, append_assoc}
+use Rattle.std.proofs.Common.{◌≡◌, ◌⊎◌, inl, inr, ℕ, ◌==◌, Bool, true, false, List, ◌∷◌, ◌++◌, Option, Some, None, Result, Ok, Err, IsOk, refl, sym, ap, ◌∙◌, subst, append_assoc}
 use Rattle.std.specs.List.{filter}
 use Rattle.history.specs.declared.arrival.Arrival.{Arrival}
 use Rattle.history.specs.declared.entry.End.{End}
-use Rattle.history.specs.declared.entry.End.TheVariants as end
 use Rattle.history.specs.declared.entry.Entry.{Entry}
-use Rattle.history.specs.declared.entry.Word.{Word}
-use Rattle.history.specs.declared.entry.Word.TheVariants as word
 use Rattle.history.specs.declared.fault.Fault.{Fault}
 use Rattle.history.specs.declared.header.Header.{Header}
 use Rattle.history.specs.declared.step.Answer.{Answer}
@@ -18,20 +15,20 @@ use Rattle.history.specs.Line.{line, place_of}
 use Rattle.history.specs.Naming.{ready}
 use Rattle.history.specs.Phase.{waits}
 use Rattle.history.specs.Room.{was_owed}
-use Rattle.history.specs.Start.{Start, Sleep, opening}
-use Rattle.history.specs.Steps.{entry_for, queued_entry, ended}
-use Rattle.frame.specs.Core.{CoreView, start_of}
+use Rattle.history.specs.Start.{Sleep, opening}
+use Rattle.history.specs.Steps.{entry_for, queued_entry}
+use Rattle.frame.specs.Core.{CoreView}
 use Rattle.word_lock.specs.declared.point.Point.{Point}
-use Rattle.word_lock.specs.Point.{Begins, Before, Agrees, entries_of}
+use Rattle.word_lock.specs.Point.{Before, Agrees, entries_of}
 use Rattle.word_lock.proofs.PointLaws.{before_refl, before_trans}
-use Rattle.monitor.specs.Awaiting.{AwaitsAs, SleepsAs, ReturnsAs, AwaitMakes, sleeps_on, comes_back, lapses, LapsesBy, lapsed, back_from, lapse_from}
-use Rattle.monitor.proofs.Awaiting.{AwaitTurn, await_turn, still_awaits, still_returns}
+use Rattle.monitor.specs.Awaiting.{AwaitsAs, ReturnsAs, AwaitMakes, sleeps_on, comes_back, lapses, LapsesBy, lapsed, back_from, lapse_from}
+use Rattle.monitor.proofs.Awaiting.{await_turn, still_awaits, still_returns}
 use Rattle.monitor.specs.Lawful.{view_of}
 use Rattle.monitor.specs.Shown.{Shown, IsTrue}
 use Rattle.monitor.specs.Stepping.{IsSame, IsStep}
 use Rattle.monitor.specs.declared.waiting.Limits.{Limits}
-use Rattle.monitor.specs.Waits.{StandsFor, IsMade, IsLast, Cause, in_line, on_condition, on_way_back, WaitsAs, IsAllowed, IsNarrower, no_limits, IsEnd, EndsBy, MayLapse, HasLapsed, BackFromLapse, EndsLapsed, IsWait, SoFar, StillWaits, AllStillWait, IsWaited, Waits, is_lapse, unless_lapse, ending_of}
-use Rattle.monitor.proofs.InLine.{still_in_line, queued_made, ends_by, owed_by, IsEndBy, outcome, Outcome, made_in, same_self, records}
+use Rattle.monitor.specs.Waits.{IsMade, Cause, in_line, on_condition, on_way_back, WaitsAs, IsAllowed, IsNarrower, no_limits, IsEnd, EndsBy, MayLapse, HasLapsed, EndsLapsed, IsWait, SoFar, StillWaits, AllStillWait, is_lapse, unless_lapse, ending_of}
+use Rattle.monitor.proofs.InLine.{still_in_line, queued_made, ends_by, owed_by, IsEndBy, outcome, Outcome, made_in, same_self}
 use Rattle.monitor.proofs.Sections.{left}
 
 -- who waits does so while no entry of its seat comes

@@ -1,4 +1,4 @@
-use Rattle.std.proofs.Common.{rules, ◌≡◌, ◌≢◌, true, refl}
+use Rattle.std.proofs.Common.{rules, ◌≡◌, ◌≢◌, true}
 use Rattle.history.specs.declared.entry.Word.TheVariants as word
 use Rattle.word_lock.proofs.PointLaws.{before_trans}
 use Rattle.monitor.specs.Acquire.{first_step, is_interruptible}

@@ -1,5 +1,4 @@
-use Rattle.std.proofs.Common.{rules, ◌≡◌, inl, Some, None, Option, refl, sym, ◌∙◌}
-use Rattle.history.specs.declared.entry.Entry.{Entry}
+use Rattle.std.proofs.Common.{rules, ◌≡◌, inl, Some, None, refl}
 use Rattle.word_lock.proofs.PointLaws.{before_trans}
 use Rattle.monitor.specs.Waits.{ending_of}
 use Rattle.monitor.proofs.Turns.{waits_first, allowed_wide, narrower, never_fault, still_after, waited}
