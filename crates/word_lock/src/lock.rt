@@ -66,11 +66,13 @@ impl<T: Chronicle> WordLock<T> {
         }
     }
 
-    /// Takes the value, and waits until it is there.
+    /// Takes the value, and waits until it is there. A token that another was joined to has no one seat to
+    /// add as, and only [`close`](WordLock::close) takes it.
     #[inline]
     pub fn lock<R: Wait>(&self, rt: &R, token: &mut Token) -> Held<T>
         requires own { token.old.lock ≡ self.now }
         requires free { token.old.free ≡ true }
+        requires one { length token.old.logs ≡ 1 }
         ensures taken { (token.new.free ≡ false)
             × (held_ticket result ≡ after_lock token.old (T.point result.value)) }
         ensures fact { T.fact result.value }
@@ -79,22 +81,16 @@ impl<T: Chronicle> WordLock<T> {
         ensures entries { AllAgree (T.point result.value) token.old.logs }
         ensures distinct { AreDistinct token.old.logs }
     {
-        for _ in rt.forever() {
-            if let Some(held) = self.lock_now(token) {
-                return held;
-            }
-            if self.stays_taken() {
-                self.sleep(rt);
-            }
-        }
-        unreachable!()
+        self.wait_for_value(rt, token)
     }
 
     /// Takes the value if it is there: one exchange, which waits for nobody. None changes nothing.
+    /// A token that another was joined to isn't taken.
     #[inline(always)]
     pub fn lock_now(&self, token: &mut Token) -> Option<Held<T>>
         requires own { token.old.lock ≡ self.now }
         requires free { token.old.free ≡ true }
+        requires one { length token.old.logs ≡ 1 }
         ensures none { IfNone result (token.new ≡ token.old) }
         ensures taken { IfSome result (λ h. (token.new.free ≡ false)
             × (held_ticket h ≡ after_lock token.old (T.point h.value))) }
@@ -104,14 +100,7 @@ impl<T: Chronicle> WordLock<T> {
         ensures entries { IfSome result (λ h. AllAgree (T.point h.value) token.old.logs) }
         ensures distinct { IfSome result (λ _. AreDistinct token.old.logs) }
     {
-        let mut seat = token.take();
-        match self.take_value(&mut seat) {
-            Some(value) => Some(Held { value, seat }),
-            None => {
-                *token = Token::of(seat);
-                None
-            }
-        }
+        self.take_now(token)
     }
 
     /// Gives the value back: what was added since it was taken is of the token's own seat. It wakes one
@@ -170,8 +159,56 @@ impl<T: Chronicle> WordLock<T> {
         ensures entries { AllAgree (T.point result) token.logs }
         ensures distinct { AreDistinct token.logs }
     {
-        let Held { value, seat: _ } = self.lock(rt, &mut token);
+        let Held { value, seat: _ } = self.wait_for_value(rt, &mut token);
         value
+    }
+
+    // Takes the value by any token, and waits until it is there.
+    #[inline]
+    fn wait_for_value<R: Wait>(&self, rt: &R, token: &mut Token) -> Held<T>
+        requires own { token.old.lock ≡ self.now }
+        requires free { token.old.free ≡ true }
+        ensures taken { (token.new.free ≡ false)
+            × (held_ticket result ≡ after_lock token.old (T.point result.value)) }
+        ensures fact { T.fact result.value }
+        ensures header { header_of (T.point result.value) ≡ self.now.header }
+        ensures begins { Before token.old.seen (T.point result.value) }
+        ensures entries { AllAgree (T.point result.value) token.old.logs }
+        ensures distinct { AreDistinct token.old.logs }
+    {
+        for _ in rt.forever() {
+            if let Some(held) = self.take_now(token) {
+                return held;
+            }
+            if self.stays_taken() {
+                self.sleep(rt);
+            }
+        }
+        unreachable!()
+    }
+
+    // Takes the value by any token, if it is there.
+    #[inline(always)]
+    fn take_now(&self, token: &mut Token) -> Option<Held<T>>
+        requires own { token.old.lock ≡ self.now }
+        requires free { token.old.free ≡ true }
+        ensures none { IfNone result (token.new ≡ token.old) }
+        ensures taken { IfSome result (λ h. (token.new.free ≡ false)
+            × (held_ticket h ≡ after_lock token.old (T.point h.value))) }
+        ensures fact { IfSome result (λ h. T.fact h.value) }
+        ensures header { IfSome result (λ h. header_of (T.point h.value) ≡ self.now.header) }
+        ensures begins { IfSome result (λ h. Before token.old.seen (T.point h.value)) }
+        ensures entries { IfSome result (λ h. AllAgree (T.point h.value) token.old.logs) }
+        ensures distinct { IfSome result (λ _. AreDistinct token.old.logs) }
+    {
+        let mut seat = token.take();
+        match self.take_value(&mut seat) {
+            Some(value) => Some(Held { value, seat }),
+            None => {
+                *token = Token::of(seat);
+                None
+            }
+        }
     }
 
     // The exchange of 0 to 1, and the value out of the slot where it wins.

@@ -1,5 +1,5 @@
 use Rattle.std.proofs.Common.{rules}
-use Rattle.word_lock.proofs.lock.WordLock.lock_now.Goals as goal
+use Rattle.word_lock.proofs.lock.WordLock.take_now.Goals as goal
 
 pub returns-in-None-clause-none : goal.returns-in-None-clause-none
 returns-in-None-clause-none g c = search rules
