@@ -29,15 +29,18 @@ use Rattle.monitor.specs.Shown.{Shown}
 use Rattle.monitor.specs.Stepping.{IsSame, IsStep, IsEntered}
 use Rattle.monitor.specs.declared.how.How.{How}
 use Rattle.monitor.specs.declared.how.How.TheVariants.{Plain, Interruptible, Timed}
-use Rattle.monitor.specs.Acquire.{StandsFor, IsMade, IsLast, IsEndFor, IsWait, IsAtOnce, EndsAtOnce, EndsInLine, IsAcquire, asking, first_step, is_interruptible, is_timed, has_time}
+use Rattle.monitor.specs.declared.waiting.Limits.{Limits}
+use Rattle.monitor.specs.Acquire.{AtOnce, IsAtOnce, IsEndFor, IsFirst, LimitsFor, EndsAtOnce, EndsInLine, EndsUnrecorded, IsAcquire, first_step, is_interruptible, is_timed, has_time}
+use Rattle.monitor.specs.Waits.{StandsFor, IsMade, IsLast, IsEnd, EndsBy, EndsLapsed, Cause, in_line, IsWait, IsWaited, Waits, WaitsAs, asking}
+use Rattle.monitor.proofs.Turns.{there_later}
 use Rattle.monitor.proofs.InLine.{place_filter, place_behind, records, made_in, same_self}
 
 -- an entry of a step that is none of one who waits is an idle seat's
-record IsIdleEntry (s : Start) (h : List Entry) (i : ℕ) (step : Step) (e : Entry) : Type 0 where
-  idle : phase s h i ≡ Idle
-  is : e ≡ idle_entry s h i step
+pub record IsIdleEntry (s : Start) (h : List Entry) (i : ℕ) (step : Step) (e : Entry) : Type 0 where
+  pub idle : phase s h i ≡ Idle
+  pub is : e ≡ idle_entry s h i step
 
-idle_made : (s : Start) (h : List Entry) (i : ℕ) (step : Step) (e : Entry) → waits step ≡ false →
+pub idle_made : (s : Start) (h : List Entry) (i : ℕ) (step : Step) (e : Entry) → waits step ≡ false →
     entry_for s h i step ≡ Ok (Some e) → IsIdleEntry s h i step e
 idle_made s h i step e w q = let a = admitted s h i step e q in by (phase s h i) refl a.in_phase a.made
   where
@@ -64,39 +67,39 @@ fair_words false false true = inr (inr refl)
 fair_words false false false = inl refl
 
 -- what the first step of an acquire records: it joins the line, or it ends the call
-First : Start → List Entry → ℕ → How → Mode → ℕ → Step → Entry → Type 0
-First s h i how m n step e = ((step ≡ Acquire m n) × (e.word ≡ word.Queued)) ⊎ IsAtOnce how m n step e.word
+First : How → Mode → ℕ → Step → Entry → Type 0
+First how m n step e = ((step ≡ Acquire m n) × (e.word ≡ word.Queued)) ⊎ AtOnce how e.word
 
 acquire_words : (s : Start) (h : List Entry) (i : ℕ) (how : How) (m : Mode) (n : ℕ) (e : Entry) →
-    entry_for s h i (Acquire m n) ≡ Ok (Some e) → First s h i how m n (Acquire m n) e
+    entry_for s h i (Acquire m n) ≡ Ok (Some e) → First how m n (Acquire m n) e
 unfolding First
 acquire_words s h i how m n e q =
     let x = idle_made s h i (Acquire m n) e refl q in
     let same : e.word ≡ (idle_entry s h i (Acquire m n)).word = ap (λ (z : Entry). z.word) x.is in
-    let P : Word → Type 0 = IsAtOnce how m n (Acquire m n) in
+    let P : Word → Type 0 = AtOnce how in
     ⊎_elim (λ t. inl (refl, same ∙ t))
-    (λ r. ⊎_elim (λ t. inr (subst P (sym (same ∙ t)) (inl refl))) (λ t. inr (subst P (sym (same ∙ t)) (inl refl))) r)
+    (λ r. ⊎_elim (λ t. inr (subst P (sym (same ∙ t)) tt)) (λ t. inr (subst P (sym (same ∙ t)) tt)) r)
     (acquired_words (held_back (counts s h) (first_mode s h) i m) (limit (counts s h) i m) (could (counts s h) i m n))
 
 fairly_words : (s : Start) (h : List Entry) (i : ℕ) (how : How) (m : Mode) (n : ℕ) (e : Entry) → how ≡ Timed 0 →
-    entry_for s h i (TryFair m n) ≡ Ok (Some e) → First s h i how m n (TryFair m n) e
+    entry_for s h i (TryFair m n) ≡ Ok (Some e) → First how m n (TryFair m n) e
 unfolding First
 fairly_words s h i how m n e zero q =
     let x = idle_made s h i (TryFair m n) e refl q in
     let same : e.word ≡ (idle_entry s h i (TryFair m n)).word = ap (λ (z : Entry). z.word) x.is in
-    let P : Word → Type 0 = IsAtOnce how m n (TryFair m n) in
-    ⊎_elim (λ t. inr (subst P (sym (same ∙ t)) (refl, zero)))
-    (λ r. ⊎_elim (λ t. inr (subst P (sym (same ∙ t)) (inr (refl, zero)))) (λ t. inr (subst P (sym (same ∙ t)) (inr (refl, zero)))) r)
+    let P : Word → Type 0 = AtOnce how in
+    ⊎_elim (λ t. inr (subst P (sym (same ∙ t)) zero))
+    (λ r. ⊎_elim (λ t. inr (subst P (sym (same ∙ t)) tt)) (λ t. inr (subst P (sym (same ∙ t)) tt)) r)
     (fair_words (held_back (counts s h) (first_mode s h) i m) (limit (counts s h) i m) (could (counts s h) i m n))
 
 first_words : (s : Start) (h : List Entry) (i : ℕ) (how : How) (m : Mode) (n : ℕ) (e : Entry) →
-    entry_for s h i (first_step how m n) ≡ Ok (Some e) → First s h i how m n (first_step how m n) e
+    entry_for s h i (first_step how m n) ≡ Ok (Some e) → First how m n (first_step how m n) e
 first_words s h i Plain m n e q = acquire_words s h i Plain m n e q
 first_words s h i Interruptible m n e q = acquire_words s h i Interruptible m n e q
 first_words s h i (Timed ms) m n e q = by (eqb ms 0) refl q
   where
     by : (b : Bool) → eqb ms 0 ≡ b → entry_for s h i (cond b (TryFair m n) (Acquire m n)) ≡ Ok (Some e) →
-        First s h i (Timed ms) m n (cond b (TryFair m n) (Acquire m n)) e
+        First (Timed ms) m n (cond b (TryFair m n) (Acquire m n)) e
     by true t r = fairly_words s h i (Timed ms) m n e (ap Timed (eqb-true ms 0 t)) r
     by false t r = acquire_words s h i (Timed ms) m n e r
 
@@ -126,8 +129,34 @@ queued_stands s h i m n e q w =
     ∙ (place_behind i (filter (stays word.Queued i) (line s h)) (asking i m n ∷ []) front ∙ here) in
     subst (λ (z : Entry). place_of i (line s (z ∷ h)) ≡ Some (asking i m n)) (sym is) there
 
-begins_trans : (a b c : List Entry) → Begins a b → Begins b c → Begins a c
-begins_trans a b c x y = (y.0 ++ x.0, y.1 ∙ (ap (λ (w : List Entry). y.0 ++ w) x.1 ∙ sym (append_assoc y.0 x.0 a)))
+-- what an entered step is, where its answer is an entry
+pub entered_as : (old mid : Shown) (step is : Step) (r : Result Entry Fault) (e : Entry) → step ≡ is → r ≡ Ok e →
+    IsEntered old step r mid → IsEntered old is (Ok e) mid
+entered_as old mid step is r e q t s =
+    subst (λ (z : Step). IsEntered old z (Ok e) mid) q (subst (λ (z : Result Entry Fault). IsEntered old step z mid) t s)
+
+-- a step that was recorded is a call of one entry
+pub at_once : (old new : Shown) (step : Step) (e : Entry) (name : Option ℕ) →
+    IsStep old step (Ok (Recorded e name)) new → EndsAtOnce old step e new
+at_once old new step e name s =
+    let made = made_in old old new step e name (same_self old) (before_refl old.seen) s in
+    record { made = made.0; last = made.1; mine = s.mine }
+
+-- what was made behind a later pass was made behind an earlier one
+pub made_later : (old mid new : Shown) (step : Step) (e : Entry) → Before old.seen mid.seen → mid.seat ≡ old.seat →
+    IsMade mid.seen mid.seat step e new.seen → IsMade old.seen old.seat step e new.seen
+unfolding Before
+made_later old mid new step e up same x = record {
+  front = x.front;
+  begins = (
+    x.begins.0 ++ up.1.0,
+    x.begins.1 ∙ (ap (λ (w : List Entry). x.begins.0 ++ w) up.1.1 ∙ sym (append_assoc x.begins.0 up.1.0 old.seen.list)),
+  );
+  made =
+      subst (λ (i : ℕ). entry_for (opening old.seen.header) x.front i step ≡ Ok (Some e)) same
+      (subst (λ (k : Header). entry_for (opening k) x.front mid.seat step ≡ Ok (Some e)) (sym up.0) x.made);
+  there = x.there;
+}
 
 -- the first step of an acquire that was recorded
 module _ (old mid : Shown) (how : How) (m : Mode) (n : ℕ) (e : Entry) (name : Option ℕ)
@@ -135,90 +164,87 @@ module _ (old mid : Shown) (how : How) (m : Mode) (n : ℕ) (e : Entry) (name : 
   rec : entry_for (opening s.found.header) s.found.list old.seat (first_step how m n) ≡ Ok (Some e)
   rec = (records (view_of s.found) (view_of mid.seen) old.seat (first_step how m n) e name s.answered).made
 
-  first : First (opening s.found.header) s.found.list old.seat how m n (first_step how m n) e
+  first : First how m n (first_step how m n) e
   first = first_words (opening s.found.header) s.found.list old.seat how m n e rec
 
   pub is_acquire : e.word ≡ word.Queued → first_step how m n ≡ Acquire m n
   unfolding First
   is_acquire w = by first
     where
-      by : First (opening s.found.header) s.found.list old.seat how m n (first_step how m n) e →
-          first_step how m n ≡ Acquire m n
+      by : First how m n (first_step how m n) e → first_step how m n ≡ Acquire m n
       by (inl x) = x.0
-      by (inr x) = absurd (subst (IsAtOnce how m n (first_step how m n)) w x)
+      by (inr x) = absurd (subst (AtOnce how) w x)
 
-  pub ends_at_once : e.word ≢ word.Queued → EndsAtOnce old m n how e mid
+  pub ends_at_once : e.word ≢ word.Queued → IsAcquire old m n how (Ok e) mid
   unfolding First
   ends_at_once w = by first
     where
-      made : IsMade old.seen old.seat (first_step how m n) e mid.seen × IsLast e mid.seen
-      made = made_in old old mid (first_step how m n) e name (same_self old) (before_refl old.seen) s
-
-      by : First (opening s.found.header) s.found.list old.seat how m n (first_step how m n) e →
-          EndsAtOnce old m n how e mid
+      by : First how m n (first_step how m n) e → IsAcquire old m n how (Ok e) mid
       by (inl x) = absurd (w x.1)
-      by (inr x) = record { step = first_step how m n; word = x; made = made.0; last = made.1; mine = s.mine }
+      by (inr x) = inl (first_step how m n, inl (refl, x), at_once old mid (first_step how m n) e name s)
 
-  pub stands : e.word ≡ word.Queued → IsSame old mid → StandsFor mid.seen mid.seat (asking mid.seat m n)
+  pub stands : e.word ≡ word.Queued → IsSame old mid → WaitsAs mid.seen mid.seat (in_line (asking mid.seat m n))
   stands w same =
       let r = records (view_of s.found) (view_of mid.seen) old.seat (first_step how m n) e name s.answered in
       let made = subst (λ (t : Step). entry_for (opening s.found.header) s.found.list old.seat t ≡ Ok (Some e)) (is_acquire w) rec in
       let q : place_of old.seat (line (opening s.found.header) (e ∷ s.found.list)) ≡ Some (asking old.seat m n) =
-      queued_stands (opening s.found.header) s.found.list old.seat m n e made w in
-      subst (λ (i : ℕ). StandsFor mid.seen i (asking i m n)) (sym same.seat)
-      (subst (λ (k : Header). place_of old.seat (line (opening k) mid.seen.list) ≡ Some (asking old.seat m n)) (sym r.header)
-      (subst (λ (l : List Entry). place_of old.seat (line (opening s.found.header) l) ≡ Some (asking old.seat m n)) (sym r.entries) q))
+      queued_stands (opening s.found.header) s.found.list old.seat m n e made w in (
+        refl,
+        subst (λ (i : ℕ). StandsFor mid.seen i (asking i m n)) (sym same.seat)
+            (subst (λ (k : Header). place_of old.seat (line (opening k) mid.seen.list) ≡ Some (asking old.seat m n)) (sym r.header)
+            (subst (λ (l : List Entry). place_of old.seat (line (opening s.found.header) l) ≡ Some (asking old.seat m n)) (sym r.entries) q)),
+      )
 
   -- and the end of the wait behind it
-  pub ends_in_line : e.word ≡ word.Queued → IsSame old mid → (new : Shown) (until : Option ℕ) (last : Entry) →
-      (IsSome until → is_timed how) → Before mid.seen new.seen →
-      IsWait mid (asking mid.seat m n) until (is_interruptible how) last new → EndsInLine old m n how last new
-  unfolding Before
-  ends_in_line w same new until last timed after x =
-      let made = made_in old old mid (first_step how m n) e name (same_self old) (before_refl old.seen) s in
-      let acq = is_acquire w in
-      let joins : IsMade old.seen old.seat (Acquire m n) e mid.seen =
-      subst (λ (t : Step). IsMade old.seen old.seat t e mid.seen) acq made.0 in
-      let up : Before old.seen mid.seen = s.after in record {
-        asked = acq;
-        joined = e;
-        queued = w;
-        joins = record {
-          front = joins.front;
-          begins = joins.begins;
-          made = joins.made;
-          there = begins_trans (e ∷ joins.front) mid.seen.list new.seen.list joins.there after.1;
-        };
-        step = x.step;
-        made = record {
-          front = x.made.front;
-          begins = begins_trans old.seen.list mid.seen.list x.made.front up.1 x.made.begins;
-          made =
-              subst (λ (i : ℕ). entry_for (opening old.seen.header) x.made.front i x.step ≡ Ok (Some last)) same.seat
-              (subst (λ (k : Header). entry_for (opening k) x.made.front mid.seat x.step ≡ Ok (Some last)) (sym up.0) x.made.made);
-          there = x.made.there;
-        };
-        last = x.last;
-        end = subst (λ (i : ℕ). IsEndFor how i (asking i m n) last) same.seat
-            (⊎_elim inl (λ r. inr (⊎_elim (λ t. inl (t.0, time_left how m n acq (timed t.1))) inr r)) x.end);
-        mine = x.mine ∙ ap (λ (l : List Entry). last ∷ l) s.mine;
-      }
+  pub ends_in_line : e.word ≡ word.Queued → IsSame old mid → (new : Shown) (l : Limits) (last : Entry) →
+      LimitsFor how l → Before mid.seen new.seen → IsWaited mid l last new → IsAcquire old m n how (Ok last) new
+  ends_in_line w same new l last for after waited =
+      by (waited (in_line (asking mid.seat m n)) (stands w same))
+    where
+      made : IsMade old.seen old.seat (first_step how m n) e mid.seen × IsLast e mid.seen
+      made = made_in old old mid (first_step how m n) e name (same_self old) (before_refl old.seen) s
+
+      joins : IsMade old.seen old.seat (Acquire m n) e new.seen
+      joins = there_later old.seen mid.seen new.seen old.seat (Acquire m n) e
+          (subst (λ (t : Step). IsMade old.seen old.seat t e mid.seen) (is_acquire w) made.0) after
+
+      ends_for : IsEnd l mid.seat (asking mid.seat m n) last → IsEndFor how old.seat (asking old.seat m n) last
+      ends_for x = subst (λ (i : ℕ). IsEndFor how i (asking i m n) last) same.seat
+          (⊎_elim inl (λ r. inr (⊎_elim (λ t. inl (t.0, time_left how m n (is_acquire w) (for.only_timed t.1)))
+          (λ t. inr (t.0, sym for.interruptible ∙ t.1)) r)) x)
+
+      by : IsWait mid (in_line (asking mid.seat m n)) l last new → IsAcquire old m n how (Ok last) new
+      by x = end x.end
+        where
+          end : ((new.mine ≡ last ∷ mid.mine) × IsEnd l mid.seat (asking mid.seat m n) last) ⊎ ⊥ →
+              IsAcquire old m n how (Ok last) new
+          end (inr z) = absurd z
+          end (inl z) = inr record {
+            asked = is_acquire w;
+            joined = e;
+            queued = w;
+            joins = joins;
+            step = x.step;
+            made = made_later old mid new x.step last s.after same.seat x.made;
+            last = x.last;
+            end = ends_for z.1;
+            mine = z.0 ∙ ap (λ (l : List Entry). last ∷ l) s.mine;
+          }
 
 -- a pending interrupt
-pub refused_at_once : (old new : Shown) (how : How) (m : Mode) (n : ℕ) (e : Entry) (name : Option ℕ) →
-    is_interruptible how ≡ true → IsStep old (EntryInterrupt m n) (Ok (Recorded e name)) new → EndsAtOnce old m n how e new
-refused_at_once old new how m n e name is s =
+pub refused_at_once : (old new : Shown) (m : Mode) (n : ℕ) (e : Entry) (name : Option ℕ) →
+    IsStep old (EntryInterrupt m n) (Ok (Recorded e name)) new → e.word ≡ word.Refused fault.Interrupted
+refused_at_once old new m n e name s =
     let r = records (view_of s.found) (view_of new.seen) old.seat (EntryInterrupt m n) e name s.answered in
     let x = idle_made (opening s.found.header) s.found.list old.seat (EntryInterrupt m n) e refl r.made in
-    let made = made_in old old new (EntryInterrupt m n) e name (same_self old) (before_refl old.seen) s in record {
-      step = EntryInterrupt m n;
-      word = subst (IsAtOnce how m n (EntryInterrupt m n)) (sym (ap (λ (z : Entry). z.word) x.is)) (refl, is);
-      made = made.0;
-      last = made.1;
-      mine = s.mine;
-    }
+    ap (λ (z : Entry). z.word) x.is
 
 pub refused : (old new : Shown) (how : How) (m : Mode) (n : ℕ) (r : Result Entry Fault) →
     is_interruptible how ≡ true → IsEntered old (EntryInterrupt m n) r new → IsAcquire old m n how r new
-refused old new how m n (Ok e) is s = inl (refused_at_once old new how m n e s.0 is s.1)
-refused old new how m n (Err f) is s = s.mine
+refused old new how m n (Ok e) is s = inl (
+  EntryInterrupt m n,
+  inr (refl, is, refused_at_once old new m n e s.0 s.1),
+  at_once old new (EntryInterrupt m n) e s.0 s.1,
+)
+refused old new how m n (Err f) is s =
+    record { step = EntryInterrupt m n; first = inr (refl, is); stepped = s }

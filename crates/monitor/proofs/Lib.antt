@@ -1,6 +1,10 @@
 pub mod Sections
 pub mod InLine
+pub mod Staying
+pub mod Awaiting
+pub mod Turns
 pub mod Acquiring
+pub mod OnCondition
 pub mod Opening
 pub mod Merging
 pub mod Looking

@@ -1,6 +1,7 @@
 -- What an acquire records.
-use Rattle.std.specs.Prelude.{◌==◌, if◌then◌else◌, ◌≡◌, ◌⊎◌, ◌≢◌, ℕ, Bool, true, false, List, ◌∷◌, Option, Some, IsSome, Result, Ok, Err}
+use Rattle.std.specs.Prelude.{◌==◌, if◌then◌else◌, ◌≡◌, ◌⊎◌, ◌≢◌, ℕ, ◌+◌, Bool, true, false, ◌∷◌, Option, Some, None, IsSome, Result, Ok, Err}
 use Rattle.history.specs.declared.arrival.Arrival.{Arrival}
+use Rattle.history.specs.declared.entry.End.{End}
 use Rattle.history.specs.declared.entry.End.TheVariants as end
 use Rattle.history.specs.declared.entry.Entry.{Entry}
 use Rattle.history.specs.declared.entry.Mode.{Mode}
@@ -9,56 +10,14 @@ use Rattle.history.specs.declared.entry.Word.TheVariants as word
 use Rattle.history.specs.declared.fault.Fault.{Fault}
 use Rattle.history.specs.declared.fault.Fault.TheVariants as fault
 use Rattle.history.specs.declared.step.Step.{Step}
-use Rattle.history.specs.declared.step.Step.TheVariants.{Acquire, TryFair, EntryInterrupt, Look, Expire, Interrupt}
-use Rattle.history.specs.Line.{line, place_of}
-use Rattle.history.specs.Start.{opening}
-use Rattle.history.specs.Steps.{entry_for, ended}
-use Rattle.permit.specs.declared.parking.Woke.{Woke}
-use Rattle.permit.specs.declared.parking.Woke.TheVariants.{Permit, Deadline, Interrupted}
-use Rattle.word_lock.specs.declared.point.Point.{Point}
-use Rattle.word_lock.specs.Point.{Begins, Before}
-use Rattle.monitor.specs.Shown.{Shown, IsTrue}
-use Rattle.monitor.specs.Stepping.{IsSame}
+use Rattle.history.specs.declared.step.Step.TheVariants.{Acquire, TryFair, EntryInterrupt}
+use Rattle.history.specs.Steps.{ended}
+use Rattle.monitor.specs.Shown.{Shown}
+use Rattle.monitor.specs.Stepping.{IsStep}
+use Rattle.monitor.specs.Waits.{IsMade, IsLast, asking}
 use Rattle.monitor.specs.declared.how.How.{How}
 use Rattle.monitor.specs.declared.how.How.TheVariants.{Plain, Interruptible, Timed}
-
-abbrev pub asking : ℕ → Mode → ℕ → Arrival
-asking seat mode n = record { seat = seat; mode = mode; n = n; back = false }
-
--- the seat stands in line and asks for this
-abbrev pub StandsFor : Point → ℕ → Arrival → Type 0
-StandsFor p i a = place_of i (line (opening p.header) p.list) ≡ Some a
-
--- The entry is the one of a step of the seat, at its place in what was seen: behind all that had been seen.
-pub record IsMade (old : Point) (seat : ℕ) (step : Step) (e : Entry) (new : Point) : Type 0 where
-  pub front : List Entry
-  pub begins : Begins old.list front
-  pub made : entry_for (opening old.header) front seat step ≡ Ok (Some e)
-  pub there : Begins (e ∷ front) new.list
-
--- the entry is the last one
-abbrev pub IsLast : Entry → Point → Type 0
-IsLast e p = (rest : List Entry) × (p.list ≡ e ∷ rest)
-
-abbrev pub step_of : Woke → Step
-step_of Permit = Look
-step_of Deadline = Expire
-step_of Interrupted = Interrupt
-
--- how a wait may end
-abbrev pub IsEnd : Option ℕ → Bool → ℕ → Arrival → Entry → Type 0
-IsEnd until interruptible i a e =
-    (e ≡ ended i word.Granted a end.None)
-    ⊎ ((e ≡ ended i word.Left a end.Timeout) × IsSome until)
-    ⊎ ((e ≡ ended i word.Left a end.Interrupt) × (interruptible ≡ true))
-
--- one who stood in line waited, and recorded one entry
-pub record IsWait (old : Shown) (a : Arrival) (until : Option ℕ) (interruptible : Bool) (e : Entry) (new : Shown) : Type 0 where
-  pub step : Step
-  pub made : IsMade old.seen old.seat step e new.seen
-  pub last : IsLast e new.seen
-  pub end : IsEnd until interruptible old.seat a e
-  pub mine : new.mine ≡ e ∷ old.mine
+use Rattle.monitor.specs.declared.waiting.Limits.{Limits}
 
 abbrev pub is_interruptible : How → Bool
 is_interruptible Plain = false
@@ -73,24 +32,43 @@ abbrev pub is_timed : How → Type 0
 is_timed (Timed ms) = Unit {0}
 is_timed _ = ⊥
 
+-- a wait has a deadline exactly if it is timed
+pub record LimitsFor (how : How) (l : Limits) : Type 0 where
+  pub timed : is_timed how → IsSome l.until
+  pub only_timed : IsSome l.until → is_timed how
+  pub interruptible : l.interruptible ≡ is_interruptible how
+
 abbrev pub first_step : How → Mode → ℕ → Step
 first_step (Timed ms) m n = if ms == 0 then TryFair m n else Acquire m n
 first_step _ m n = Acquire m n
 
--- the entries that end an acquire at once, with the step that makes each
-abbrev pub IsAtOnce : How → Mode → ℕ → Step → Word → Type 0
-IsAtOnce how m n step word.Got = (step ≡ Acquire m n) ⊎ ((step ≡ TryFair m n) × (how ≡ Timed 0))
-IsAtOnce how m n step (word.Refused fault.TooManyHolds) = (step ≡ Acquire m n) ⊎ ((step ≡ TryFair m n) × (how ≡ Timed 0))
-IsAtOnce how m n step (word.Refused fault.Interrupted) = (step ≡ EntryInterrupt m n) × (is_interruptible how ≡ true)
-IsAtOnce how m n step word.Missed = (step ≡ TryFair m n) × (how ≡ Timed 0)
-IsAtOnce how m n step _ = ⊥
+-- the first step of a call: the one that it is for, or a refusal, since an interrupt was pending
+abbrev pub IsFirst : How → Step → Step → Step → Type 0
+IsFirst how starts refuses step = (step ≡ starts) ⊎ ((step ≡ refuses) × (is_interruptible how ≡ true))
 
-pub record EndsAtOnce (old : Shown) (m : Mode) (n : ℕ) (how : How) (e : Entry) (new : Shown) : Type 0 where
-  pub step : Step
-  pub word : IsAtOnce how m n step e.word
+-- a call that recorded one entry, the one of its step
+pub record EndsAtOnce (old : Shown) (step : Step) (e : Entry) (new : Shown) : Type 0 where
   pub made : IsMade old.seen old.seat step e new.seen
   pub last : IsLast e new.seen
   pub mine : new.mine ≡ e ∷ old.mine
+
+-- a call whose first step was refused and not recorded
+pub record EndsUnrecorded (old : Shown) (how : How) (starts refuses : Step) (f : Fault) (new : Shown) : Type 0 where
+  pub step : Step
+  pub first : IsFirst how starts refuses step
+  pub stepped : IsStep old step (Err f) new
+
+-- the words that end an acquire at its first step
+abbrev pub AtOnce : How → Word → Type 0
+AtOnce how word.Got = Unit {0}
+AtOnce how (word.Refused fault.TooManyHolds) = Unit {0}
+AtOnce how word.Missed = how ≡ Timed 0
+AtOnce how _ = ⊥
+
+abbrev pub IsAtOnce : How → Mode → ℕ → Step → Word → Type 0
+IsAtOnce how m n step w =
+    ((step ≡ first_step how m n) × AtOnce how w)
+    ⊎ ((step ≡ EntryInterrupt m n) × (is_interruptible how ≡ true) × (w ≡ word.Refused fault.Interrupted))
 
 abbrev pub IsEndFor : How → ℕ → Arrival → Entry → Type 0
 IsEndFor how i a e =
@@ -111,13 +89,6 @@ pub record EndsInLine (old : Shown) (m : Mode) (n : ℕ) (how : How) (e : Entry)
 
 -- the entries of an acquire, by its answer
 abbrev pub IsAcquire : Shown → Mode → ℕ → How → Result Entry Fault → Shown → Type 0
-IsAcquire old m n how (Ok e) new = EndsAtOnce old m n how e new ⊎ EndsInLine old m n how e new
-IsAcquire old m n how (Err f) new = new.mine ≡ old.mine
-
--- one who stands in line since the first pass, and has recorded nothing
-pub record StaysInLine (first now : Shown) (a : Arrival) : Type 0 where
-  pub same : IsSame first now
-  pub begins : Before first.seen now.seen
-  pub shows : IsTrue now
-  pub stands : StandsFor now.seen now.seat a
-  pub mine : now.mine ≡ first.mine
+IsAcquire old m n how (Ok e) new =
+    ((step : Step) × IsAtOnce how m n step e.word × EndsAtOnce old step e new) ⊎ EndsInLine old m n how e new
+IsAcquire old m n how (Err f) new = EndsUnrecorded old how (first_step how m n) (EntryInterrupt m n) f new

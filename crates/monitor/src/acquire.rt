@@ -1,11 +1,12 @@
 //! An acquire, which may wait in line.
 ghost use Rattle.std.specs.Prelude.{◌≡◌, ◌≤◌};
 ghost use Rattle.word_lock.specs.Point.{Before};
+ghost use Rattle.history.specs.declared.step.Step.TheVariants.{EntryInterrupt};
 ghost use Rattle.monitor.specs.Shown.{IsTrue};
-ghost use Rattle.monitor.specs.Stepping.{IsSame};
+ghost use Rattle.monitor.specs.Stepping.{IsSame, IsEntered};
 ghost use Rattle.monitor.specs.Acquire.{IsAcquire, first_step};
 
-use crate::how::{How, is_interruptible, until};
+use crate::how::{How, limits, takes_interrupt};
 use crate::monitor::Monitor;
 use crate::pass::Pass;
 use frame::hooks::Hooks;
@@ -16,6 +17,7 @@ use permit::Parking;
 use std::sync::Wait;
 use std::time::Clock;
 
+// A call without time doesn't join the line.
 fn first_step(how: How, mode: Mode, n: u32) -> Step
     ensures { result ≡ first_step how mode n }
 {
@@ -33,12 +35,17 @@ fn first_step(how: How, mode: Mode, n: u32) -> Step
 }
 
 impl<H: Hooks + Drop> Monitor<H> {
-    /// Acquires, and waits for it as `how` says. The answer is the entry that ended the call.
+    /// Acquires `n` in a mode, and waits in line as long as `how` says.
     ///
-    /// - `Got`, or `Granted` behind `Queued`: it has what it asked for.
-    /// - `Refused`: the seat has too many holds, or an interrupt was pending.
-    /// - `Left` behind `Queued`: its time was up, or it was interrupted.
-    /// - `Missed`: it had no time, and nothing was free.
+    /// The answer is the entry that ended the call, the last one that the pass has seen:
+    /// - `Got`, or `Granted` behind `Queued`: the seat has what it asked for.
+    /// - `Refused`: the seat has as many holds as it may, or an interrupt was pending.
+    /// - `Left` behind `Queued`: the time was up, or an interrupt came.
+    /// - `Missed`: the call had no time, and had to wait.
+    ///
+    /// A fault is the answer to the first step, and nothing was recorded. Behind `Queued` there is none. A pending
+    /// interrupt is taken and ends the call; where that couldn't be recorded, it is pending again.
+    /// This is the acquire of Java SE 8's AbstractQueuedSynchronizer, with its interruptible and timed kinds.
     pub fn acquire<P: Parking, R: Wait + Clock>(
         &self,
         rt: &R,
@@ -55,29 +62,43 @@ impl<H: Hooks + Drop> Monitor<H> {
         ensures shows { IsTrue pass.new }
         ensures acquired { IsAcquire pass.old mode n how result pass.new }
     {
-        pass.is_true();
-        let seat = pass.seat();
-        let interruptible = is_interruptible(how);
-        if interruptible {
-            let pending = parking.take_interrupt(rt, seat);
-            if pending {
-                let refused = self.enter(rt, parking, pass, Step::EntryInterrupt(mode, n));
-                if refused.is_err() {
-                    parking.interrupt(rt, seat);
-                }
-                return refused;
-            }
+        if takes_interrupt(rt, parking, pass, how) {
+            return self.refuse(rt, parking, pass, mode, n);
         }
-        let until = until(rt, parking, how);
+        let limits = limits(rt, parking, how);
         match self.enter(rt, parking, pass, first_step(how, mode, n)) {
             Err(fault) => Err(fault),
             Ok(entry) => match entry.word {
                 Word::Queued => {
-                    let last = self.wait_in_line(rt, parking, pass, mode, n, until, interruptible);
+                    let last = self.wait(rt, parking, pass, None, limits);
                     Ok(last)
                 }
                 _ => Ok(entry),
             },
         }
+    }
+
+    // A call that an interrupt ends before it began.
+    pub(crate) fn refuse<P: Parking, R: Wait + Clock>(
+        &self,
+        rt: &R,
+        parking: &P,
+        pass: &mut Pass,
+        mode: Mode,
+        n: u32,
+    ) -> Result<Entry, Fault>
+        requires is_of { pass.old.lock ≡ self.now }
+        requires places { self.now.header.seats ≤ P.seats parking.now }
+        ensures same { IsSame pass.old pass.new }
+        ensures entered { IsEntered pass.old (EntryInterrupt mode n) result pass.new }
+        ensures shows { IsTrue pass.new }
+    {
+        pass.is_true();
+        let seat = pass.seat();
+        let refused = self.enter(rt, parking, pass, Step::EntryInterrupt(mode, n));
+        if refused.is_err() {
+            parking.interrupt(rt, seat);
+        }
+        refused
     }
 }

@@ -1,16 +1,21 @@
 //! How long a call waits.
-ghost use Rattle.std.specs.Prelude.{◌≡◌, IsSome};
-ghost use Rattle.monitor.specs.Acquire.{is_interruptible, is_timed};
+ghost use Rattle.std.specs.Prelude.{◌≡◌, ◌≤◌, ◌+◌, ◌-◌, ◌^◌, min, true, IsSome};
+ghost use Rattle.monitor.specs.Acquire.{LimitsFor, is_interruptible, is_timed};
 
+use crate::pass::Pass;
+use crate::waiting::Limits;
 use permit::Parking;
 use std::sync::Wait;
 use std::time::Clock;
 
-/// Whether a wait ends at an interrupt, or also after so many milliseconds.
+/// What ends a wait before its turn comes.
 #[derive(Clone, Copy, Debug, PartialEq, Eq)]
 pub enum How {
+    /// Nothing does. An interrupt stays pending.
     Plain,
+    /// An interrupt, before the call or while it waits.
     Interruptible,
+    /// An interrupt, or so many milliseconds.
     Timed(u32),
 }
 
@@ -24,13 +29,48 @@ pub(crate) fn is_interruptible(how: How) -> bool
     }
 }
 
-// The moment at which a wait ends.
-pub(crate) fn until<P: Parking, R: Wait + Clock>(rt: &R, parking: &P, how: How) -> Option<u64>
-    ensures { IsSome result → is_timed how }
+// The moment that is so many milliseconds away, or the last one.
+fn moment(now: u64, milliseconds: u32) -> u64
+    ensures { result ≡ min (now + milliseconds) (2 ^ 64 - 1) }
+{
+    now.saturating_add(u64::from(milliseconds))
+}
+
+fn until<P: Parking, R: Wait + Clock>(rt: &R, parking: &P, how: How) -> Option<u64>
+    ensures timed { is_timed how → IsSome result }
+    ensures only_timed { IsSome result → is_timed how }
 {
     match how {
-        How::Timed(ms) => Some(parking.now(rt).saturating_add(u64::from(ms))),
+        How::Timed(milliseconds) => Some(moment(parking.now(rt), milliseconds)),
         How::Plain => None,
         How::Interruptible => None,
+    }
+}
+
+// How the parks of a call end: its time is counted from now.
+pub(crate) fn limits<P: Parking, R: Wait + Clock>(rt: &R, parking: &P, how: How) -> Limits
+    ensures { LimitsFor how result }
+{
+    Limits {
+        until: until(rt, parking, how),
+        interruptible: is_interruptible(how),
+    }
+}
+
+// Whether an interrupt is pending, where the call minds it. It is taken.
+pub(crate) fn takes_interrupt<P: Parking, R: Wait + Clock>(
+    rt: &R,
+    parking: &P,
+    pass: &Pass,
+    how: How,
+) -> bool
+    requires places { pass.now.lock.header.seats ≤ P.seats parking.now }
+    ensures { result ≡ true → is_interruptible how ≡ true }
+{
+    pass.is_true();
+    if is_interruptible(how) {
+        parking.take_interrupt(rt, pass.seat())
+    } else {
+        false
     }
 }

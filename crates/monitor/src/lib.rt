@@ -2,6 +2,7 @@
 #![tactic(auto)]
 
 mod acquire;
+mod await_on;
 mod calls;
 mod closing;
 mod how;

@@ -1,0 +1,147 @@
+-- The first step of an await, and how its parts fit together.
+use Rattle.std.proofs.Common.{◌≡◌, ◌≢◌, ◌⊎◌, inl, inr, ⊎_elim, ℕ, eqb, nat_lt, Bool, true, false, not, cond, List, [], ◌∷◌, Option, Some, None, IsSome, Result, Ok, Err, refl, sym, ap, ◌∙◌, subst}
+use Rattle.history.specs.Could.{is_seat}
+use Rattle.history.specs.Counts.{Counts, counts, owner}
+use Rattle.history.specs.Start.{Start, Sleep, opening}
+use Rattle.history.specs.Steps.{entry_for, awaits, plain}
+use Rattle.history.specs.declared.entry.End.{End}
+use Rattle.history.specs.declared.entry.End.TheVariants as end
+use Rattle.history.specs.declared.entry.Entry.{Entry}
+use Rattle.history.specs.declared.entry.Mode.TheVariants.{X, S}
+use Rattle.history.specs.declared.entry.Word.{Word}
+use Rattle.history.specs.declared.entry.Word.TheVariants as word
+use Rattle.history.specs.declared.fault.Fault.{Fault}
+use Rattle.history.specs.declared.fault.Fault.TheVariants as fault
+use Rattle.history.specs.declared.header.Header.{Header}
+use Rattle.history.specs.declared.step.Answer.TheVariants.{Recorded}
+use Rattle.history.specs.declared.step.Step.{Step}
+use Rattle.history.specs.declared.step.Step.TheVariants.{Await, EntryInterrupt}
+use Rattle.word_lock.specs.Point.{Before}
+use Rattle.monitor.specs.Awaiting.{SleepsAs, signalled, lapsed, back_from, lapse_from}
+use Rattle.monitor.specs.Lawful.{view_of}
+use Rattle.monitor.specs.Shown.{Shown}
+use Rattle.monitor.specs.Stepping.{IsSame, IsStep, IsEntered}
+use Rattle.monitor.specs.declared.how.How.{How}
+use Rattle.monitor.specs.declared.how.How.TheVariants.{Plain, Interruptible, Timed}
+use Rattle.monitor.specs.declared.waiting.Limits.{Limits}
+use Rattle.monitor.specs.Acquire.{LimitsFor, is_interruptible, is_timed}
+use Rattle.monitor.specs.AwaitOn.{IsAwait, IsAwaitRefused, MayLapseFor, EndsAwait, LapsesAndReturns, due_first, due_of}
+use Rattle.monitor.specs.Waits.{IsMade, IsWait, IsWaited, WaitsAs, on_condition, MayLapse, BackFromLapse, IsDue}
+use Rattle.monitor.proofs.Awaiting.{falls_asleep}
+use Rattle.monitor.proofs.Acquiring.{idle_made, at_once, made_later, refused_at_once}
+use Rattle.monitor.proofs.InLine.{records}
+use Rattle.monitor.proofs.Turns.{there_later}
+
+-- what an await records first: it sleeps, or is refused
+record AwaitsFirst (i : ℕ) (e : Entry) : Type 0 where
+  seat : e.seat ≡ i
+  word : (e.word ≡ word.Await) ⊎ ((e.word ≡ word.Refused fault.NotOwner) ⊎ (e.word ≡ word.Refused fault.HoldsRead))
+
+await_words : (k : Counts) (i c : ℕ) → AwaitsFirst i (awaits k i c)
+await_words k i c = by (not (is_seat (owner k) i)) (nat_lt 0 (k.held i S))
+  where
+    by : (b d : Bool) →
+        AwaitsFirst i
+        (cond b (plain i (word.Refused fault.NotOwner) X 1)
+        (cond d (plain i (word.Refused fault.HoldsRead) X 1)
+        (record { seat = i; word = word.Await; mode = X; n = k.held i X; at = c; end = end.None })))
+    by true d = record { seat = refl; word = inr (inl refl) }
+    by false true = record { seat = refl; word = inr (inr refl) }
+    by false false = record { seat = refl; word = inl refl }
+
+pub due_for : (how : How) (l : Limits) → LimitsFor how l → IsDue l (due_first how)
+due_for Plain l for = tt
+due_for Interruptible l for = tt
+due_for (Timed ms) l for = by (eqb ms 0)
+  where
+    by : (b : Bool) → IsDue l (due_of b)
+    by true = for.timed tt
+    by false = tt
+
+may_for : (how : How) (l : Limits) (e : End) → LimitsFor how l → MayLapse l e → MayLapseFor how e
+may_for how l end.Timeout for m = for.only_timed m
+may_for how l end.Interrupt for m = sym for.interruptible ∙ m
+may_for how l _ for m = absurd m
+
+-- the first step of an await that was recorded
+module _ (old mid : Shown) (c : ℕ) (how : How) (e : Entry) (name : Option ℕ)
+    (s : IsStep old (Await c) (Ok (Recorded e name)) mid) where
+  rec : entry_for (opening s.found.header) s.found.list old.seat (Await c) ≡ Ok (Some e)
+  rec = (records (view_of s.found) (view_of mid.seen) old.seat (Await c) e name s.answered).made
+
+  first : AwaitsFirst old.seat e
+  first =
+      let x = idle_made (opening s.found.header) s.found.list old.seat (Await c) e refl rec in
+      subst (AwaitsFirst old.seat) (sym x.is)
+      (await_words (counts (opening s.found.header) s.found.list) old.seat c)
+
+  pub refuses : e.word ≢ word.Await → IsAwait old c how (Ok e) mid
+  refuses w = by first.word
+    where
+      by : (e.word ≡ word.Await) ⊎ ((e.word ≡ word.Refused fault.NotOwner) ⊎ (e.word ≡ word.Refused fault.HoldsRead)) →
+          IsAwait old c how (Ok e) mid
+      by (inl x) = absurd (w x)
+      by (inr x) = inl (Await c, inl (refl, x), at_once old mid (Await c) e name s)
+
+  pub sleeps : e.word ≡ word.Await → IsSame old mid → WaitsAs mid.seen mid.seat (on_condition (signalled e.at e.n))
+  sleeps w same =
+      let r = records (view_of s.found) (view_of mid.seen) old.seat (Await c) e name s.answered in
+      let seat : e.seat ≡ old.seat = first.seat in
+      let asleep : SleepsAs (opening s.found.header) (e ∷ s.found.list) e.seat (signalled e.at e.n) =
+      falls_asleep (opening s.found.header) s.found.list (Await c) e
+      (subst (λ (i : ℕ). entry_for (opening s.found.header) s.found.list i (Await c) ≡ Ok (Some e)) (sym seat) rec) w in
+      let here : SleepsAs (opening s.found.header) (e ∷ s.found.list) mid.seat (signalled e.at e.n) =
+      subst (λ (i : ℕ). SleepsAs (opening s.found.header) (e ∷ s.found.list) i (signalled e.at e.n)) (seat ∙ sym same.seat)
+      asleep in
+      inl (subst (λ (k : Header). SleepsAs (opening k) mid.seen.list mid.seat (signalled e.at e.n)) (sym r.header)
+      (subst (λ (l : List Entry). SleepsAs (opening s.found.header) l mid.seat (signalled e.at e.n)) (sym r.entries) here))
+
+  -- and the end of the wait behind it
+  pub ends_await : e.word ≡ word.Await → IsSame old mid → (new : Shown) (l : Limits) (last : Entry) → LimitsFor how l →
+      Before mid.seen new.seen → IsWaited mid l last new → IsAwait old c how (Ok last) new
+  ends_await w same new l last for after waited = by (waited (on_condition (signalled e.at e.n)) (sleeps w same))
+    where
+      v : Sleep
+      v = signalled e.at e.n
+
+      by : IsWait mid (on_condition v) l last new → IsAwait old c how (Ok last) new
+      by x = inr record {
+        slept = e;
+        await = w;
+        sleeps = there_later old.seen mid.seen new.seen old.seat (Await c) e (at_once old mid (Await c) e name s).made after;
+        step = x.step;
+        made = made_later old mid new x.step last s.after same.seat x.made;
+        last = x.last;
+        end = end x.end;
+      }
+        where
+          end : ((new.mine ≡ last ∷ mid.mine) × (last ≡ back_from mid.seat v)) ⊎ BackFromLapse mid v l last new →
+              ((last ≡ back_from old.seat v) × (new.mine ≡ last ∷ e ∷ old.mine)) ⊎ LapsesAndReturns old how e last new
+          end (inl z) = inl (
+            z.1 ∙ ap (λ (i : ℕ). back_from i v) same.seat,
+            z.0 ∙ ap (λ (l : List Entry). last ∷ l) s.mine,
+          )
+          end (inr z) =
+              let at : lapse_from mid.seat v z.how ≡ lapse_from old.seat v z.how =
+              ap (λ (i : ℕ). lapse_from i v z.how) same.seat in
+              inr record {
+                end = z.how;
+                may = may_for how l z.how for z.lapse.may;
+                step = z.lapse.step;
+                lapse = subst (λ (y : Entry). IsMade old.seen old.seat z.lapse.step y new.seen) at
+                    (made_later old mid new z.lapse.step (lapse_from mid.seat v z.how) s.after same.seat z.lapse.made);
+                back = z.back ∙ ap (λ (i : ℕ). back_from i (lapsed v z.how)) same.seat;
+                mine = z.mine
+                    ∙ (ap (λ (y : Entry). last ∷ y ∷ mid.mine) at
+                    ∙ ap (λ (l : List Entry). last ∷ lapse_from old.seat v z.how ∷ l) s.mine);
+              }
+
+-- a pending interrupt
+pub refused : (old new : Shown) (c : ℕ) (how : How) (r : Result Entry Fault) → is_interruptible how ≡ true →
+    IsEntered old (EntryInterrupt X 1) r new → IsAwait old c how r new
+refused old new c how (Ok e) is s = inl (
+  EntryInterrupt X 1,
+  inr (refl, is, refused_at_once old new X 1 e s.0 s.1),
+  at_once old new (EntryInterrupt X 1) e s.0 s.1,
+)
+refused old new c how (Err f) is s = record { step = EntryInterrupt X 1; first = inr (refl, is); stepped = s }

@@ -1,0 +1,79 @@
+//! An await on a condition.
+ghost use Rattle.std.specs.Prelude.{◌≡◌, ◌≤◌};
+ghost use Rattle.word_lock.specs.Point.{Before};
+ghost use Rattle.monitor.specs.Shown.{IsTrue};
+ghost use Rattle.monitor.specs.Stepping.{IsSame};
+ghost use Rattle.monitor.specs.AwaitOn.{IsAwait, due_first};
+
+use crate::how::{How, limits, takes_interrupt};
+use crate::monitor::Monitor;
+use crate::pass::Pass;
+use frame::hooks::Hooks;
+use history::entry::{Entry, Mode, Word};
+use history::fault::Fault;
+use history::step::Step;
+use permit::Parking;
+use std::sync::Wait;
+use std::time::Clock;
+
+// An await without time expires before it parks.
+fn due_first(how: How) -> Option<Step>
+    ensures { result ≡ due_first how }
+{
+    match how {
+        How::Timed(ms) => {
+            if ms == 0 {
+                Some(Step::Expire)
+            } else {
+                None
+            }
+        }
+        How::Plain => None,
+        How::Interruptible => None,
+    }
+}
+
+impl<H: Hooks + Drop> Monitor<H> {
+    /// Gives up all its holds, sleeps on a condition until it is signalled, and holds them again.
+    ///
+    /// The answer is the entry that ended the call, the last one that the pass has seen:
+    /// - `Refused`: the seat doesn't own the lock, or holds it to read, or an interrupt was pending.
+    /// - `Back` behind `Await`, with the end Signalled.
+    /// - `Back` behind `Await` and `Lapse`: the time was up, or an interrupt came, before any signal. The end of
+    ///   both says which.
+    ///
+    /// The call waits for the lock however its sleep ended, and neither its time nor an interrupt ends that. A
+    /// fault is the answer to the first step, and nothing was recorded. Behind `Await` there is none. An interrupt
+    /// that the parking told and that didn't end the sleep is pending again.
+    /// This is the await of Java SE 8's Condition, with its uninterruptible and timed kinds.
+    pub fn await_on<P: Parking, R: Wait + Clock>(
+        &self,
+        rt: &R,
+        parking: &P,
+        pass: &mut Pass,
+        condition: u8,
+        how: How,
+    ) -> Result<Entry, Fault>
+        requires is_of { pass.old.lock ≡ self.now }
+        requires places { self.now.header.seats ≤ P.seats parking.now }
+        ensures same { IsSame pass.old pass.new }
+        ensures begins { Before pass.old.seen pass.new.seen }
+        ensures shows { IsTrue pass.new }
+        ensures awaited { IsAwait pass.old condition how result pass.new }
+    {
+        if takes_interrupt(rt, parking, pass, how) {
+            return self.refuse(rt, parking, pass, Mode::X, 1);
+        }
+        let limits = limits(rt, parking, how);
+        match self.enter(rt, parking, pass, Step::Await(condition)) {
+            Err(fault) => Err(fault),
+            Ok(entry) => match entry.word {
+                Word::Await => {
+                    let last = self.wait(rt, parking, pass, due_first(how), limits);
+                    Ok(last)
+                }
+                _ => Ok(entry),
+            },
+        }
+    }
+}
