@@ -21,13 +21,7 @@ fn due_first(how: How) -> Option<Step>
     ensures { result ≡ due_first how }
 {
     match how {
-        How::Timed(ms) => {
-            if ms == 0 {
-                Some(Step::Expire)
-            } else {
-                None
-            }
-        }
+        How::Timed(ms) => { if ms == 0 { Some(Step::Expire) } else { None } }
         How::Plain => None,
         How::Interruptible => None,
     }

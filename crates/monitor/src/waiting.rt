@@ -96,7 +96,13 @@ fn due_behind(answer: Result<Answer, Fault>, limits: Limits) -> Option<Step>
 }
 
 // An interrupt that was taken and didn't end the wait is set again.
-fn set_again<P: Parking, R: Wait + Clock>(rt: &R, parking: &P, seat: u16, interrupted: bool, end: End)
+fn set_again<P: Parking, R: Wait + Clock>(
+    rt: &R,
+    parking: &P,
+    seat: u16,
+    interrupted: bool,
+    end: End,
+)
     requires place { seat < P.seats parking.now }
 {
     if interrupted {
