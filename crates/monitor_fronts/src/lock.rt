@@ -134,7 +134,8 @@ impl<'m> ReentrantLock<'m> {
     }
 
     /// `Condition.await()` of the condition of this number. It holds the lock again before it answers,
-    /// also behind `Err(Interrupted)`, where Java throws `InterruptedException`. There are no spurious wakeups.
+    /// also behind `Err(Interrupted)`, where Java throws `InterruptedException`.
+    /// There are no spurious wakeups.
     pub fn wait<P: Parking, R: Wait + Clock>(
         &self,
         rt: &R,

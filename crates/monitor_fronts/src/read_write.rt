@@ -20,7 +20,8 @@ use std::sync::Wait;
 use std::time::Clock;
 
 /// `java.util.concurrent.locks.ReentrantReadWriteLock` of Java SE 8 over a monitor.
-/// The methods of its write lock begin with `write_`, those of its read lock with `read_`. A call answers an `Err` where Java throws.
+/// The methods of its write lock begin with `write_`, those of its read lock with `read_`.
+/// A call answers an `Err` where Java throws.
 pub struct ReadWriteLock<'m> {
     pub monitor: &'m Monitor<RwHooks>,
 }
@@ -134,7 +135,8 @@ impl<'m> ReadWriteLock<'m> {
     }
 
     /// `Condition.await()` of the condition of this number. It holds the lock again before it answers,
-    /// also behind `Err(Interrupted)`, where Java throws `InterruptedException`. There are no spurious wakeups.
+    /// also behind `Err(Interrupted)`, where Java throws `InterruptedException`.
+    /// There are no spurious wakeups.
     pub fn write_wait<P: Parking, R: Wait + Clock>(
         &self,
         rt: &R,

@@ -18,8 +18,8 @@ use permit::Parking;
 use std::sync::Wait;
 use std::time::Clock;
 
-/// `java.util.concurrent.Semaphore` of Java SE 8 over a monitor. It may be opened with fewer than 0 permits, as
-/// Java's. A call answers an `Err` where Java throws.
+/// `java.util.concurrent.Semaphore` of Java SE 8 over a monitor. It may be opened with fewer than 0
+/// permits, as Java's. A call answers an `Err` where Java throws.
 pub struct Semaphore<'m> {
     pub monitor: &'m Monitor<SemaphoreHooks>,
 }
@@ -77,8 +77,8 @@ impl<'m> Semaphore<'m> {
         )
     }
 
-    /// `Semaphore.tryAcquire(permits)`: whether `n` permits were free. It goes past those who wait, also where
-    /// the semaphore is fair.
+    /// `Semaphore.tryAcquire(permits)`: whether `n` permits were free. It goes past those who wait,
+    /// also where the semaphore is fair.
     pub fn try_acquire<P: Parking, R: Wait + Clock>(
         &self,
         rt: &R,
@@ -96,7 +96,8 @@ impl<'m> Semaphore<'m> {
         whether(self.monitor.try_acquire(rt, parking, pass, Mode::S, n))
     }
 
-    /// `Semaphore.tryAcquire(permits, timeout, unit)`: whether `n` permits were free within `ms` milliseconds.
+    /// `Semaphore.tryAcquire(permits, timeout, unit)`: whether `n` permits were free within
+    /// `ms` milliseconds.
     pub fn try_acquire_for<P: Parking, R: Wait + Clock>(
         &self,
         rt: &R,
