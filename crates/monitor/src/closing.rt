@@ -110,7 +110,7 @@ impl<H: Hooks + Drop> Monitor<H> {
     }
 }
 
-// The sum of the shares. It can't be more than 2^64, but that isn't known before the lock is closed.
+// The sum of the shares. That it fits 64 bits is known once the lock is closed: then no two passes are of one seat.
 fn merge_shares(passes: &[Pass]) -> u128
     ensures sum { result ≡ shares passes.now }
     ensures shows { All (λ p. IsTrue p) passes.now }
