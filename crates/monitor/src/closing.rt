@@ -79,7 +79,8 @@ impl<H: Hooks + Drop> Monitor<H> {
         ensures lawful { IfOk result (λ c. IsLawful (left_by self c.history)) }
         ensures within { IfOk result (λ c. All (λ p. IsWithin (left_by self c.history) p) passes.items) }
         ensures cap { IfOk result (λ c. c.history.cap ≡ self.header.cap) }
-        ensures each { IfOk result (λ _. (seat : _) → seat < self.header.seats → passes_of seat passes.items ≡ 1) }
+        ensures each { IfOk result (λ _. (seat : _)
+            → seat < self.header.seats → passes_of seat passes.items ≡ 1) }
         ensures share { IfOk result (λ c. c.share ≡ shares passes.items) }
         ensures calls { IfOk result (λ c. c.share ≡ ended_calls c.history.entries) }
         ensures missing { IfErr result (λ r. (r.2 ≡ MissingPass) × IsMissing self.header.seats passes.items) }
@@ -109,7 +110,7 @@ impl<H: Hooks + Drop> Monitor<H> {
     }
 }
 
-// The sum of the shares. It can't be more than 2^64, but that isn't known before the lock is closed.
+// The sum of the shares. That it fits 64 bits is known once the lock is closed: then no two passes are of one seat.
 fn merge_shares(passes: &[Pass]) -> u128
     ensures sum { result ≡ shares passes.now }
     ensures shows { All (λ p. IsTrue p) passes.now }

@@ -18,7 +18,8 @@ use permit::Parking;
 use std::sync::Wait;
 use std::time::Clock;
 
-/// `java.util.concurrent.CountDownLatch` of Java SE 8 over a monitor. A call answers an `Err` where Java throws.
+/// `java.util.concurrent.CountDownLatch` of Java SE 8 over a monitor.
+/// A call answers an `Err` where Java throws.
 pub struct Latch<'m> {
     pub monitor: &'m Monitor<LatchHooks>,
 }
@@ -44,7 +45,8 @@ impl<'m> Latch<'m> {
         ensures same { IsSame pass.old pass.new }
         ensures begins { Before pass.old.seen pass.new.seen }
         ensures shows { IsTrue pass.new }
-        ensures acquired { Tells done_of (λ reply. IsAcquire pass.old S 1 Interruptible reply pass.new) result }
+        ensures acquired { Tells done_of
+            (λ reply. IsAcquire pass.old S 1 Interruptible reply pass.new) result }
     {
         done(
             self.monitor
@@ -65,7 +67,8 @@ impl<'m> Latch<'m> {
         ensures same { IsSame pass.old pass.new }
         ensures begins { Before pass.old.seen pass.new.seen }
         ensures shows { IsTrue pass.new }
-        ensures acquired { Tells whether_of (λ reply. IsAcquire pass.old S 1 (Timed ms) reply pass.new) result }
+        ensures acquired { Tells whether_of
+            (λ reply. IsAcquire pass.old S 1 (Timed ms) reply pass.new) result }
     {
         whether(
             self.monitor
@@ -84,7 +87,8 @@ impl<'m> Latch<'m> {
         requires places { self.now.monitor.now.header.seats ≤ P.seats parking.now }
         ensures same { IsSame pass.old pass.new }
         ensures shows { IsTrue pass.new }
-        ensures entered { Tells done_of (λ reply. IsEntered pass.old (Give S 1) reply pass.new) result }
+        ensures entered { Tells done_of
+            (λ reply. IsEntered pass.old (Give S 1) reply pass.new) result }
     {
         done(self.monitor.count_down(rt, parking, pass))
     }

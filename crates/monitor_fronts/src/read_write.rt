@@ -3,6 +3,7 @@ ghost use Rattle.std.specs.Prelude.{◌≡◌, ◌≤◌};
 ghost use Rattle.history.specs.declared.entry.Mode.TheVariants.{X, S};
 ghost use Rattle.history.specs.declared.step.Step.TheVariants.{Try, Give, Signal, SignalAll};
 ghost use Rattle.monitor.specs.Acquire.{IsAcquire};
+ghost use Rattle.monitor.specs.AwaitOn.{IsAwait};
 ghost use Rattle.monitor.specs.Shown.{IsTrue};
 ghost use Rattle.monitor.specs.Stepping.{IsSame, IsEntered};
 ghost use Rattle.monitor.specs.declared.how.How.TheVariants.{Plain, Interruptible, Timed};
@@ -18,8 +19,9 @@ use read_write::hooks::RwHooks;
 use std::sync::Wait;
 use std::time::Clock;
 
-/// `java.util.concurrent.locks.ReentrantReadWriteLock` of Java SE 8 over a monitor. The methods of its write lock
-/// begin with `write_`, those of its read lock with `read_`. A call answers an `Err` where Java throws.
+/// `java.util.concurrent.locks.ReentrantReadWriteLock` of Java SE 8 over a monitor.
+/// The methods of its write lock begin with `write_`, those of its read lock with `read_`.
+/// A call answers an `Err` where Java throws.
 pub struct ReadWriteLock<'m> {
     pub monitor: &'m Monitor<RwHooks>,
 }
@@ -45,7 +47,8 @@ impl<'m> ReadWriteLock<'m> {
         ensures same { IsSame pass.old pass.new }
         ensures begins { Before pass.old.seen pass.new.seen }
         ensures shows { IsTrue pass.new }
-        ensures acquired { Tells done_of (λ reply. IsAcquire pass.old X 1 Plain reply pass.new) result }
+        ensures acquired { Tells done_of
+            (λ reply. IsAcquire pass.old X 1 Plain reply pass.new) result }
     {
         done(
             self.monitor
@@ -65,7 +68,8 @@ impl<'m> ReadWriteLock<'m> {
         ensures same { IsSame pass.old pass.new }
         ensures begins { Before pass.old.seen pass.new.seen }
         ensures shows { IsTrue pass.new }
-        ensures acquired { Tells done_of (λ reply. IsAcquire pass.old X 1 Interruptible reply pass.new) result }
+        ensures acquired { Tells done_of
+            (λ reply. IsAcquire pass.old X 1 Interruptible reply pass.new) result }
     {
         done(
             self.monitor
@@ -73,7 +77,7 @@ impl<'m> ReadWriteLock<'m> {
         )
     }
 
-    /// `WriteLock.tryLock()`: whether it got the lock. It goes past those who wait, under a fair policy too.
+    /// `WriteLock.tryLock()`: whether it got the lock. It goes past those who wait, a fair lock too.
     pub fn write_try_lock<P: Parking, R: Wait + Clock>(
         &self,
         rt: &R,
@@ -84,7 +88,8 @@ impl<'m> ReadWriteLock<'m> {
         requires places { self.now.monitor.now.header.seats ≤ P.seats parking.now }
         ensures same { IsSame pass.old pass.new }
         ensures shows { IsTrue pass.new }
-        ensures entered { Tells whether_of (λ reply. IsEntered pass.old (Try X 1) reply pass.new) result }
+        ensures entered { Tells whether_of
+            (λ reply. IsEntered pass.old (Try X 1) reply pass.new) result }
     {
         whether(self.monitor.try_acquire(rt, parking, pass, Mode::X, 1))
     }
@@ -103,7 +108,8 @@ impl<'m> ReadWriteLock<'m> {
         ensures same { IsSame pass.old pass.new }
         ensures begins { Before pass.old.seen pass.new.seen }
         ensures shows { IsTrue pass.new }
-        ensures acquired { Tells whether_of (λ reply. IsAcquire pass.old X 1 (Timed ms) reply pass.new) result }
+        ensures acquired { Tells whether_of
+            (λ reply. IsAcquire pass.old X 1 (Timed ms) reply pass.new) result }
     {
         whether(
             self.monitor
@@ -122,9 +128,80 @@ impl<'m> ReadWriteLock<'m> {
         requires places { self.now.monitor.now.header.seats ≤ P.seats parking.now }
         ensures same { IsSame pass.old pass.new }
         ensures shows { IsTrue pass.new }
-        ensures entered { Tells done_of (λ reply. IsEntered pass.old (Give X 1) reply pass.new) result }
+        ensures entered { Tells done_of
+            (λ reply. IsEntered pass.old (Give X 1) reply pass.new) result }
     {
         done(self.monitor.release(rt, parking, pass, Mode::X, 1))
+    }
+
+    /// `Condition.await()` of the condition of this number. It holds the lock again before it answers,
+    /// also behind `Err(Interrupted)`, where Java throws `InterruptedException`.
+    /// There are no spurious wakeups.
+    pub fn write_wait<P: Parking, R: Wait + Clock>(
+        &self,
+        rt: &R,
+        parking: &P,
+        pass: &mut Pass,
+        condition: u8,
+    ) -> Result<(), Fault>
+        requires is_of { pass.old.lock ≡ self.now.monitor.now }
+        requires places { self.now.monitor.now.header.seats ≤ P.seats parking.now }
+        ensures same { IsSame pass.old pass.new }
+        ensures begins { Before pass.old.seen pass.new.seen }
+        ensures shows { IsTrue pass.new }
+        ensures awaited { Tells done_of
+            (λ reply. IsAwait pass.old condition Interruptible reply pass.new) result }
+    {
+        done(
+            self.monitor
+                .await_on(rt, parking, pass, condition, How::Interruptible),
+        )
+    }
+
+    /// `Condition.awaitUninterruptibly()` of the condition of this number.
+    pub fn write_wait_uninterruptibly<P: Parking, R: Wait + Clock>(
+        &self,
+        rt: &R,
+        parking: &P,
+        pass: &mut Pass,
+        condition: u8,
+    ) -> Result<(), Fault>
+        requires is_of { pass.old.lock ≡ self.now.monitor.now }
+        requires places { self.now.monitor.now.header.seats ≤ P.seats parking.now }
+        ensures same { IsSame pass.old pass.new }
+        ensures begins { Before pass.old.seen pass.new.seen }
+        ensures shows { IsTrue pass.new }
+        ensures awaited { Tells done_of
+            (λ reply. IsAwait pass.old condition Plain reply pass.new) result }
+    {
+        done(
+            self.monitor
+                .await_on(rt, parking, pass, condition, How::Plain),
+        )
+    }
+
+    /// `Condition.await(time, unit)` of the condition of this number: whether it was signalled within `ms`
+    /// milliseconds. It holds the lock again either way.
+    pub fn write_wait_for<P: Parking, R: Wait + Clock>(
+        &self,
+        rt: &R,
+        parking: &P,
+        pass: &mut Pass,
+        condition: u8,
+        ms: u32,
+    ) -> Result<bool, Fault>
+        requires is_of { pass.old.lock ≡ self.now.monitor.now }
+        requires places { self.now.monitor.now.header.seats ≤ P.seats parking.now }
+        ensures same { IsSame pass.old pass.new }
+        ensures begins { Before pass.old.seen pass.new.seen }
+        ensures shows { IsTrue pass.new }
+        ensures awaited { Tells whether_of
+            (λ reply. IsAwait pass.old condition (Timed ms) reply pass.new) result }
+    {
+        whether(
+            self.monitor
+                .await_on(rt, parking, pass, condition, How::Timed(ms)),
+        )
     }
 
     /// `Condition.signal()` of the condition of this number.
@@ -139,7 +216,8 @@ impl<'m> ReadWriteLock<'m> {
         requires places { self.now.monitor.now.header.seats ≤ P.seats parking.now }
         ensures same { IsSame pass.old pass.new }
         ensures shows { IsTrue pass.new }
-        ensures entered { Tells done_of (λ reply. IsEntered pass.old (Signal condition) reply pass.new) result }
+        ensures entered { Tells done_of
+            (λ reply. IsEntered pass.old (Signal condition) reply pass.new) result }
     {
         done(self.monitor.signal(rt, parking, pass, condition))
     }
@@ -156,7 +234,8 @@ impl<'m> ReadWriteLock<'m> {
         requires places { self.now.monitor.now.header.seats ≤ P.seats parking.now }
         ensures same { IsSame pass.old pass.new }
         ensures shows { IsTrue pass.new }
-        ensures entered { Tells done_of (λ reply. IsEntered pass.old (SignalAll condition) reply pass.new) result }
+        ensures entered { Tells done_of
+            (λ reply. IsEntered pass.old (SignalAll condition) reply pass.new) result }
     {
         done(self.monitor.signal_all(rt, parking, pass, condition))
     }
@@ -174,7 +253,8 @@ impl<'m> ReadWriteLock<'m> {
         ensures same { IsSame pass.old pass.new }
         ensures begins { Before pass.old.seen pass.new.seen }
         ensures shows { IsTrue pass.new }
-        ensures acquired { Tells done_of (λ reply. IsAcquire pass.old S 1 Plain reply pass.new) result }
+        ensures acquired { Tells done_of
+            (λ reply. IsAcquire pass.old S 1 Plain reply pass.new) result }
     {
         done(
             self.monitor
@@ -194,7 +274,8 @@ impl<'m> ReadWriteLock<'m> {
         ensures same { IsSame pass.old pass.new }
         ensures begins { Before pass.old.seen pass.new.seen }
         ensures shows { IsTrue pass.new }
-        ensures acquired { Tells done_of (λ reply. IsAcquire pass.old S 1 Interruptible reply pass.new) result }
+        ensures acquired { Tells done_of
+            (λ reply. IsAcquire pass.old S 1 Interruptible reply pass.new) result }
     {
         done(
             self.monitor
@@ -202,7 +283,7 @@ impl<'m> ReadWriteLock<'m> {
         )
     }
 
-    /// `ReadLock.tryLock()`: whether it got the lock. It goes past those who wait, under a fair policy too.
+    /// `ReadLock.tryLock()`: whether it got the lock. It goes past those who wait, a fair lock too.
     pub fn read_try_lock<P: Parking, R: Wait + Clock>(
         &self,
         rt: &R,
@@ -213,7 +294,8 @@ impl<'m> ReadWriteLock<'m> {
         requires places { self.now.monitor.now.header.seats ≤ P.seats parking.now }
         ensures same { IsSame pass.old pass.new }
         ensures shows { IsTrue pass.new }
-        ensures entered { Tells whether_of (λ reply. IsEntered pass.old (Try S 1) reply pass.new) result }
+        ensures entered { Tells whether_of
+            (λ reply. IsEntered pass.old (Try S 1) reply pass.new) result }
     {
         whether(self.monitor.try_acquire(rt, parking, pass, Mode::S, 1))
     }
@@ -232,7 +314,8 @@ impl<'m> ReadWriteLock<'m> {
         ensures same { IsSame pass.old pass.new }
         ensures begins { Before pass.old.seen pass.new.seen }
         ensures shows { IsTrue pass.new }
-        ensures acquired { Tells whether_of (λ reply. IsAcquire pass.old S 1 (Timed ms) reply pass.new) result }
+        ensures acquired { Tells whether_of
+            (λ reply. IsAcquire pass.old S 1 (Timed ms) reply pass.new) result }
     {
         whether(
             self.monitor
@@ -251,7 +334,8 @@ impl<'m> ReadWriteLock<'m> {
         requires places { self.now.monitor.now.header.seats ≤ P.seats parking.now }
         ensures same { IsSame pass.old pass.new }
         ensures shows { IsTrue pass.new }
-        ensures entered { Tells done_of (λ reply. IsEntered pass.old (Give S 1) reply pass.new) result }
+        ensures entered { Tells done_of
+            (λ reply. IsEntered pass.old (Give S 1) reply pass.new) result }
     {
         done(self.monitor.release(rt, parking, pass, Mode::S, 1))
     }

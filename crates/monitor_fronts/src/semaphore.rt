@@ -18,8 +18,8 @@ use permit::Parking;
 use std::sync::Wait;
 use std::time::Clock;
 
-/// `java.util.concurrent.Semaphore` of Java SE 8 over a monitor. It may be opened with fewer than 0 permits, as
-/// Java's. A call answers an `Err` where Java throws.
+/// `java.util.concurrent.Semaphore` of Java SE 8 over a monitor. It may be opened with fewer than 0
+/// permits, as Java's. A call answers an `Err` where Java throws.
 pub struct Semaphore<'m> {
     pub monitor: &'m Monitor<SemaphoreHooks>,
 }
@@ -46,7 +46,8 @@ impl<'m> Semaphore<'m> {
         ensures same { IsSame pass.old pass.new }
         ensures begins { Before pass.old.seen pass.new.seen }
         ensures shows { IsTrue pass.new }
-        ensures acquired { Tells done_of (λ reply. IsAcquire pass.old S n Interruptible reply pass.new) result }
+        ensures acquired { Tells done_of
+            (λ reply. IsAcquire pass.old S n Interruptible reply pass.new) result }
     {
         done(
             self.monitor
@@ -67,7 +68,8 @@ impl<'m> Semaphore<'m> {
         ensures same { IsSame pass.old pass.new }
         ensures begins { Before pass.old.seen pass.new.seen }
         ensures shows { IsTrue pass.new }
-        ensures acquired { Tells done_of (λ reply. IsAcquire pass.old S n Plain reply pass.new) result }
+        ensures acquired { Tells done_of
+            (λ reply. IsAcquire pass.old S n Plain reply pass.new) result }
     {
         done(
             self.monitor
@@ -75,8 +77,8 @@ impl<'m> Semaphore<'m> {
         )
     }
 
-    /// `Semaphore.tryAcquire(permits)`: whether `n` permits were free. It goes past those who wait, under a fair
-    /// policy too.
+    /// `Semaphore.tryAcquire(permits)`: whether `n` permits were free. It goes past those who wait,
+    /// also where the semaphore is fair.
     pub fn try_acquire<P: Parking, R: Wait + Clock>(
         &self,
         rt: &R,
@@ -88,12 +90,14 @@ impl<'m> Semaphore<'m> {
         requires places { self.now.monitor.now.header.seats ≤ P.seats parking.now }
         ensures same { IsSame pass.old pass.new }
         ensures shows { IsTrue pass.new }
-        ensures entered { Tells whether_of (λ reply. IsEntered pass.old (Try S n) reply pass.new) result }
+        ensures entered { Tells whether_of
+            (λ reply. IsEntered pass.old (Try S n) reply pass.new) result }
     {
         whether(self.monitor.try_acquire(rt, parking, pass, Mode::S, n))
     }
 
-    /// `Semaphore.tryAcquire(permits, timeout, unit)`: whether `n` permits were free within `ms` milliseconds.
+    /// `Semaphore.tryAcquire(permits, timeout, unit)`: whether `n` permits were free within
+    /// `ms` milliseconds.
     pub fn try_acquire_for<P: Parking, R: Wait + Clock>(
         &self,
         rt: &R,
@@ -107,7 +111,8 @@ impl<'m> Semaphore<'m> {
         ensures same { IsSame pass.old pass.new }
         ensures begins { Before pass.old.seen pass.new.seen }
         ensures shows { IsTrue pass.new }
-        ensures acquired { Tells whether_of (λ reply. IsAcquire pass.old S n (Timed ms) reply pass.new) result }
+        ensures acquired { Tells whether_of
+            (λ reply. IsAcquire pass.old S n (Timed ms) reply pass.new) result }
     {
         whether(
             self.monitor
@@ -127,13 +132,14 @@ impl<'m> Semaphore<'m> {
         requires places { self.now.monitor.now.header.seats ≤ P.seats parking.now }
         ensures same { IsSame pass.old pass.new }
         ensures shows { IsTrue pass.new }
-        ensures entered { Tells done_of (λ reply. IsEntered pass.old (Give S n) reply pass.new) result }
+        ensures entered { Tells done_of
+            (λ reply. IsEntered pass.old (Give S n) reply pass.new) result }
     {
         done(self.monitor.release(rt, parking, pass, Mode::S, n))
     }
 
-    /// `Semaphore.drainPermits()`: takes all that are free, and answers how many these were. It takes none where
-    /// fewer than 0 are free; Java's then makes them 0.
+    /// `Semaphore.drainPermits()`: takes all that are free, and answers how many these were.
+    /// It takes none where fewer than 0 are free; Java's then makes them 0.
     pub fn drain_permits<P: Parking, R: Wait + Clock>(
         &self,
         rt: &R,
@@ -144,7 +150,8 @@ impl<'m> Semaphore<'m> {
         requires places { self.now.monitor.now.header.seats ≤ P.seats parking.now }
         ensures same { IsSame pass.old pass.new }
         ensures shows { IsTrue pass.new }
-        ensures entered { Tells number_of (λ reply. IsEntered pass.old Drain reply pass.new) result }
+        ensures entered { Tells number_of
+            (λ reply. IsEntered pass.old Drain reply pass.new) result }
     {
         number(self.monitor.drain(rt, parking, pass))
     }
