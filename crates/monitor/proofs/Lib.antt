@@ -1,7 +1,5 @@
 pub mod Sections
 pub mod InLine
-pub mod Staying
-pub mod Awaiting
 pub mod Turns
 pub mod Acquiring
 pub mod OnCondition

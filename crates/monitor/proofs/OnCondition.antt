@@ -15,7 +15,7 @@ use Rattle.history.specs.declared.header.Header.{Header}
 use Rattle.history.specs.declared.step.Answer.TheVariants.{Recorded}
 use Rattle.history.specs.declared.step.Step.TheVariants.{Await, EntryInterrupt}
 use Rattle.word_lock.specs.Point.{Before}
-use Rattle.monitor.specs.Awaiting.{SleepsAs, signalled, lapsed, back_from, lapse_from}
+use Rattle.history.specs.Awaiting.{SleepsAs, signalled, lapsed, back_from, lapse_from}
 use Rattle.monitor.specs.Lawful.{view_of}
 use Rattle.monitor.specs.Shown.{Shown}
 use Rattle.monitor.specs.Stepping.{IsSame, IsStep, IsEntered}
@@ -25,7 +25,7 @@ use Rattle.monitor.specs.declared.waiting.Limits.{Limits}
 use Rattle.monitor.specs.Acquire.{LimitsFor, is_interruptible}
 use Rattle.monitor.specs.AwaitOn.{IsAwait, MayLapseFor, LapsesAndReturns, due_first, due_of}
 use Rattle.monitor.specs.Waits.{IsMade, IsWait, IsWaited, WaitsAs, on_condition, MayLapse, BackFromLapse, IsDue}
-use Rattle.monitor.proofs.Awaiting.{falls_asleep}
+use Rattle.history.proofs.Awaiting.{falls_asleep}
 use Rattle.monitor.proofs.Acquiring.{idle_made, at_once, made_later, refused_at_once}
 use Rattle.monitor.proofs.InLine.{records}
 use Rattle.monitor.proofs.Turns.{there_later}

@@ -21,8 +21,8 @@ use Rattle.frame.specs.Core.{CoreView}
 use Rattle.word_lock.specs.declared.point.Point.{Point}
 use Rattle.word_lock.specs.Point.{Before, Agrees, entries_of}
 use Rattle.word_lock.proofs.PointLaws.{before_refl, before_trans}
-use Rattle.monitor.specs.Awaiting.{AwaitsAs, ReturnsAs, AwaitMakes, sleeps_on, comes_back, lapses, LapsesBy, lapsed, back_from, lapse_from}
-use Rattle.monitor.proofs.Awaiting.{await_turn, still_awaits, still_returns}
+use Rattle.history.specs.Awaiting.{AwaitsAs, ReturnsAs, AwaitMakes, sleeps_on, comes_back, lapses, LapsesBy, lapsed, back_from, lapse_from}
+use Rattle.history.proofs.Awaiting.{await_turn, still_awaits, still_returns}
 use Rattle.monitor.specs.Lawful.{view_of}
 use Rattle.monitor.specs.Shown.{Shown, IsTrue}
 use Rattle.monitor.specs.Stepping.{IsSame, IsStep}

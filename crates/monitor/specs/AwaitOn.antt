@@ -10,7 +10,7 @@ use Rattle.history.specs.declared.fault.Fault.{Fault}
 use Rattle.history.specs.declared.fault.Fault.TheVariants as fault
 use Rattle.history.specs.declared.step.Step.{Step}
 use Rattle.history.specs.declared.step.Step.TheVariants.{Await, EntryInterrupt, Expire}
-use Rattle.monitor.specs.Awaiting.{signalled, lapsed, back_from, lapse_from}
+use Rattle.history.specs.Awaiting.{signalled, lapsed, back_from, lapse_from}
 use Rattle.monitor.specs.Acquire.{EndsAtOnce, EndsUnrecorded, is_interruptible, is_timed}
 use Rattle.monitor.specs.Shown.{Shown}
 use Rattle.monitor.specs.Waits.{IsMade, IsLast}

@@ -19,7 +19,7 @@ use Rattle.permit.specs.declared.parking.Woke.{Woke}
 use Rattle.permit.specs.declared.parking.Woke.TheVariants.{Permit, Deadline, Interrupted}
 use Rattle.word_lock.specs.declared.point.Point.{Point}
 use Rattle.word_lock.specs.Point.{Begins, Before}
-use Rattle.monitor.specs.Awaiting.{AwaitsAs, ReturnsAs, lapsed, back_from, lapse_from}
+use Rattle.history.specs.Awaiting.{AwaitsAs, ReturnsAs, lapsed, back_from, lapse_from}
 use Rattle.monitor.specs.Shown.{Shown, IsTrue}
 use Rattle.monitor.specs.Stepping.{IsSame}
 use Rattle.monitor.specs.declared.waiting.Limits.{Limits}

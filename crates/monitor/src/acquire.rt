@@ -62,7 +62,7 @@ impl<H: Hooks + Drop> Monitor<H> {
         ensures shows { IsTrue pass.new }
         ensures acquired { IsAcquire pass.old mode n how result pass.new }
     {
-        if takes_interrupt(rt, parking, pass, how) {
+        if takes_interrupt(parking, pass, how) {
             return self.refuse(rt, parking, pass, mode, n);
         }
         let limits = limits(rt, parking, how);

@@ -55,7 +55,7 @@ impl<H: Hooks + Drop> Monitor<H> {
         ensures shows { IsTrue pass.new }
         ensures awaited { IsAwait pass.old condition how result pass.new }
     {
-        if takes_interrupt(rt, parking, pass, how) {
+        if takes_interrupt(parking, pass, how) {
             return self.refuse(rt, parking, pass, Mode::X, 1);
         }
         let limits = limits(rt, parking, how);

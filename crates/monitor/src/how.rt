@@ -5,7 +5,6 @@ ghost use Rattle.monitor.specs.Acquire.{LimitsFor, is_interruptible, is_timed};
 use crate::pass::Pass;
 use crate::waiting::Limits;
 use permit::Parking;
-use std::sync::Wait;
 use std::time::Clock;
 
 /// What ends a wait before its turn comes.
@@ -36,7 +35,7 @@ fn moment(now: u64, milliseconds: u32) -> u64
     now.saturating_add(u64::from(milliseconds))
 }
 
-fn until<P: Parking, R: Wait + Clock>(rt: &R, parking: &P, how: How) -> Option<u64>
+fn until<P: Parking, R: Clock>(rt: &R, parking: &P, how: How) -> Option<u64>
     ensures timed { is_timed how → IsSome result }
     ensures only_timed { IsSome result → is_timed how }
 {
@@ -48,7 +47,7 @@ fn until<P: Parking, R: Wait + Clock>(rt: &R, parking: &P, how: How) -> Option<u
 }
 
 // How the parks of a call end: its time is counted from now.
-pub(crate) fn limits<P: Parking, R: Wait + Clock>(rt: &R, parking: &P, how: How) -> Limits
+pub(crate) fn limits<P: Parking, R: Clock>(rt: &R, parking: &P, how: How) -> Limits
     ensures { LimitsFor how result }
 {
     Limits {
@@ -58,12 +57,7 @@ pub(crate) fn limits<P: Parking, R: Wait + Clock>(rt: &R, parking: &P, how: How)
 }
 
 // Whether an interrupt is pending, where the call minds it. It is taken.
-pub(crate) fn takes_interrupt<P: Parking, R: Wait + Clock>(
-    rt: &R,
-    parking: &P,
-    pass: &Pass,
-    how: How,
-) -> bool
+pub(crate) fn takes_interrupt<P: Parking>(parking: &P, pass: &Pass, how: How) -> bool
     requires places { pass.now.lock.header.seats ≤ P.seats parking.now }
     ensures { result ≡ true → is_interruptible how ≡ true }
 {

@@ -96,13 +96,7 @@ fn due_behind(answer: Result<Answer, Fault>, limits: Limits) -> Option<Step>
 }
 
 // An interrupt that was taken and didn't end the wait is set again.
-fn set_again<P: Parking, R: Wait + Clock>(
-    rt: &R,
-    parking: &P,
-    seat: u16,
-    interrupted: bool,
-    end: End,
-)
+fn set_again<P: Parking>(parking: &P, seat: u16, interrupted: bool, end: End)
     requires place { seat < P.seats parking.now }
 {
     if interrupted {
@@ -143,7 +137,7 @@ impl<H: Hooks + Drop> Monitor<H> {
             narrowed = limits_behind(step, narrowed);
             let answer = self.call(rt, parking, pass, step);
             if let Some(entry) = ending(answer) {
-                set_again(rt, parking, seat, interrupted, entry.end);
+                set_again(parking, seat, interrupted, entry.end);
                 return entry;
             }
             due = due_behind(answer, narrowed);

@@ -3,7 +3,7 @@ use Rattle.history.specs.declared.entry.Word.TheVariants as word
 use Rattle.word_lock.proofs.PointLaws.{before_trans}
 use Rattle.monitor.specs.Acquire.{is_interruptible}
 use Rattle.history.specs.declared.step.Step.TheVariants.{Await}
-use Rattle.monitor.specs.Awaiting.{signalled}
+use Rattle.history.specs.Awaiting.{signalled}
 use Rattle.monitor.specs.Waits.{on_condition}
 use Rattle.monitor.proofs.Acquiring.{entered_as}
 use Rattle.monitor.proofs.OnCondition.{refused, refuses, sleeps, due_for, ends_await}

@@ -1,12 +1,21 @@
 //! Awaits.
 
-use crate::opened::lock_of_two;
+use crate::waiting::opened::lock_of_two;
 use history::entry::{End, Mode, Word};
 use history::header::Policy;
 use monitor::How;
 use permit::{Call, Parking, ScriptedParking, Woke};
 use std::process::Abort;
 use std::test::Fail;
+
+/// A park until 5 milliseconds after the opening, which an interrupt ends too.
+fn park(seat: u16) -> Call {
+    Call::Park {
+        seat,
+        until: Some(5),
+        interruptible: true,
+    }
+}
 
 // The seat's own lapse makes it ready, so it is back by the Look behind it and doesn't park again.
 #[test]
@@ -29,7 +38,7 @@ fn a_timed_await_lapses_at_its_deadline_and_is_back(rt: HostRuntime) -> Result<(
     let calls = parking.calls();
     assert_eq!(rt; calls.len(), 2);
     for call in calls.iter() {
-        assert!(rt; *call == Call::Park(0, Some(5), true));
+        assert!(rt; *call == park(0));
     }
     Ok(())
 }
@@ -49,7 +58,7 @@ fn an_interrupted_await_is_back_and_the_interrupt_is_gone(rt: HostRuntime) -> Re
     assert!(rt;
         matches!(&back, Ok(entry) if entry.word == Word::Back && entry.end == End::Interrupt)
     );
-    assert!(rt; !parking.take_interrupt(&rt, 0));
+    assert!(rt; !parking.take_interrupt(0));
     Ok(())
 }
 

@@ -1,6 +1,6 @@
 //! Acquires.
 
-use crate::opened::lock_of_two;
+use crate::waiting::opened::lock_of_two;
 use history::entry::{End, Mode, Word};
 use history::fault::Fault;
 use history::header::Policy;
@@ -8,6 +8,15 @@ use monitor::How;
 use permit::{Call, Parking, ScriptedParking, Woke};
 use std::process::Abort;
 use std::test::Fail;
+
+/// A park until 5 milliseconds after the opening, which an interrupt ends too.
+fn park(seat: u16) -> Call {
+    Call::Park {
+        seat,
+        until: Some(5),
+        interruptible: true,
+    }
+}
 
 #[test]
 fn a_timed_acquire_looks_at_each_permit_and_leaves_at_its_deadline(
@@ -31,7 +40,7 @@ fn a_timed_acquire_looks_at_each_permit_and_leaves_at_its_deadline(
     let calls = parking.calls();
     assert_eq!(rt; calls.len(), 3);
     for call in calls.iter() {
-        assert!(rt; *call == Call::Park(1, Some(5), true));
+        assert!(rt; *call == park(1));
     }
     Ok(())
 }
@@ -47,7 +56,7 @@ fn a_pending_interrupt_is_refused_once(rt: HostRuntime) -> Result<(), Fail> {
     let (mut zero, mut one) = (zero, one);
     let got = monitor.acquire(&rt, &parking, &mut zero, Mode::X, 1, How::Plain);
     assert!(rt; matches!(&got, Ok(entry) if entry.word == Word::Got));
-    parking.interrupt(&rt, 1);
+    parking.interrupt(1);
     let refused = monitor.acquire(&rt, &parking, &mut one, Mode::X, 1, How::Timed(0));
     assert!(rt; matches!(&refused, Ok(entry) if entry.word == Word::Refused(Fault::Interrupted)));
     let missed = monitor.acquire(&rt, &parking, &mut one, Mode::X, 1, How::Timed(0));

@@ -1,0 +1,10 @@
+//! Tests of the places to park.
+
+mod memory;
+mod noted;
+mod order;
+mod script;
+mod storm;
+mod threads;
+
+pub(crate) use noted::NotedParking;

@@ -1,0 +1,142 @@
+//! Threads that wake one another.
+ghost use Rattle.std.specs.Prelude.{◌≡◌, ◌<◌};
+ghost use Rattle.std.specs.Thread.{IsSync};
+
+use permit::{Parking, ThreadParking, Woke};
+use std::process::Abort;
+use std::sync::Wait;
+use std::test::Fail;
+use std::thread;
+use std::thread::{Threads, join};
+use std::time::{Clock, Duration};
+
+/// So many milliseconds a thread waits before it wakes another, which sleeps by then.
+const LATER: u64 = 30;
+
+#[derive(Clone, Copy, PartialEq, Eq)]
+enum Signal {
+    Unpark,
+    Interrupt,
+}
+
+fn send_later<R: Clock>(rt: &R, parking: &ThreadParking, signal: Signal)
+    requires { 0 < parking.now }
+{
+    thread::sleep(rt, Duration::from_millis(LATER));
+    match signal {
+        Signal::Unpark => parking.unpark(0),
+        Signal::Interrupt => parking.interrupt(0),
+    }
+}
+
+/// What seat 0 is answered that sleeps until another thread sends it a signal.
+fn woken_by<R: Threads + Wait + Clock + Sync>(
+    rt: &R,
+    parking: &ThreadParking,
+    signal: Signal,
+    until: Option<u64>,
+) -> Woke
+    requires { 0 < parking.now }
+{
+    let (woke, ()) = join(
+        rt,
+        || -> Woke
+            requires { 0 < parking.now }
+        { parking.park(rt, 0, until, true) },
+        ||
+            requires { 0 < parking.now }
+        { send_later(rt, parking, signal) },
+    );
+    woke
+}
+
+#[test]
+fn one_who_sleeps_is_woken_by_an_unpark(rt: HostRuntime) -> Result<(), Fail> {
+    let Ok(parking) = ThreadParking::open(&rt, rt.alloc(), 1) else {
+        panic!(rt; "memory")
+    };
+    let far = Some(parking.now(&rt).saturating_add(50_000));
+    assert_eq!(rt; woken_by(&rt, &parking, Signal::Unpark, None), Woke::Permit);
+    assert_eq!(rt; woken_by(&rt, &parking, Signal::Unpark, far), Woke::Permit);
+    assert_eq!(rt;
+        woken_by(&rt, &parking, Signal::Unpark, Some(u64::MAX)),
+        Woke::Permit
+    );
+    assert_eq!(rt; parking.park(&rt, 0, Some(0), false), Woke::Deadline);
+    Ok(())
+}
+
+#[test]
+fn one_who_sleeps_is_woken_by_an_interrupt(rt: HostRuntime) -> Result<(), Fail> {
+    let Ok(parking) = ThreadParking::open(&rt, rt.alloc(), 1) else {
+        panic!(rt; "memory")
+    };
+    let far = Some(parking.now(&rt).saturating_add(50_000));
+    assert_eq!(rt;
+        woken_by(&rt, &parking, Signal::Interrupt, None),
+        Woke::Interrupted
+    );
+    assert_eq!(rt;
+        woken_by(&rt, &parking, Signal::Interrupt, far),
+        Woke::Interrupted
+    );
+    assert!(rt; !parking.take_interrupt(0));
+    Ok(())
+}
+
+/// Wakes seat 1 and waits at seat 0 for its answer, so many times. Says how often `Permit` came.
+fn serve<R: Wait + Clock>(rt: &R, parking: &ThreadParking, turns: u32) -> u32
+    requires { 1 < parking.now }
+{
+    let mut permits = 0u32;
+    for _ in 0..turns {
+        parking.unpark(1);
+        if parking.park(rt, 0, None, false) == Woke::Permit {
+            permits = permits.saturating_add(1);
+        }
+    }
+    permits
+}
+
+/// Waits at seat 1 and then wakes seat 0, so many times. Says how often `Permit` came.
+fn return_all<R: Wait + Clock>(rt: &R, parking: &ThreadParking, turns: u32) -> u32
+    requires { 1 < parking.now }
+{
+    let mut permits = 0u32;
+    for _ in 0..turns {
+        if parking.park(rt, 1, None, false) == Woke::Permit {
+            permits = permits.saturating_add(1);
+        }
+        parking.unpark(0);
+    }
+    permits
+}
+
+fn both_take_turns<R: Threads + Wait + Clock + Sync>(
+    rt: &R,
+    parking: &ThreadParking,
+    turns: u32,
+) -> (u32, u32)
+    requires { 1 < parking.now }
+{
+    join(
+        rt,
+        || -> u32
+            requires { 1 < parking.now }
+        { serve(rt, parking, turns) },
+        || -> u32
+            requires { 1 < parking.now }
+        { return_all(rt, parking, turns) },
+    )
+}
+
+// They alternate strictly, so no two unparks meet in one permit. A wake that is lost leaves both asleep, and the
+// test never ends.
+#[test]
+fn two_threads_wake_each_other_2000_times(rt: HostRuntime) -> Result<(), Fail> {
+    let Ok(parking) = ThreadParking::open(&rt, rt.alloc(), 2) else {
+        panic!(rt; "memory")
+    };
+    assert_eq!(rt; both_take_turns(&rt, &parking, 2000), (2000, 2000));
+    Ok(())
+}
