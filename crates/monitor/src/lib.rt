@@ -1,32 +1,37 @@
 //! Synchronisers that threads share.
 //!
-//! A [`Monitor`] is a lock, a read-write lock, a semaphore or a latch, which many threads step by turns. Below it lies
-//! the sequential core of `frame` under the lock of `word_lock`: each step is one critical section. The monitor adds
-//! what a thread needs beside: it parks the thread that has to wait, and unparks the one whose turn has come.
+//! A [`Monitor`] is a lock, a read-write lock, a semaphore or a latch, which many threads step by turns.
+//! Below it lies the sequential core of `frame` under the lock of `word_lock`: each step is one critical
+//! section. The monitor adds what a thread needs beside: it parks the thread that has to wait, and unparks
+//! the one whose turn has come.
 //!
-//! Each thread steps by a [`Pass`], the right of one seat. `open` gives one for each seat. No two threads have the pass
-//! of one seat, since a call takes it by `&mut`. A pass may be dropped; its seat then steps no more.
+//! Each thread steps by a [`Pass`], the right of one seat. `open` gives one for each seat. No two threads
+//! have the pass of one seat, since a call takes it by `&mut`. A pass may be dropped; its seat then steps
+//! no more.
 //!
 //! A contract sees three things of a pass:
 //! - `seen`, the history that it saw at its last call. It is legal, and what was seen before begins it.
-//! - `mine`, the entries of its own seat in that, the newest first. Each call adds its own entries and no others.
+//! - `mine`, the entries of its own seat in that, the newest first. Each call adds its own entries and no
+//!   others.
 //! - `share`, how many calls those entries ended.
 //!
-//! Two passes may have seen histories of different length, and `meet` makes them the same. The histories that all
-//! passes saw are fronts of one history, which `close` gives.
+//! Two passes may have seen histories of different length, and `meet` makes them the same. The histories
+//! that all passes saw are fronts of one history, which `close` gives.
 //!
-//! A call that waits is `acquire` or `await_on`. Both wait in the same loop: park, step, and leave at the entry that
-//! ends the wait. [`How`] says what else ends it. A permit leads to the step Look, by which a waiter takes its turn if
-//! it has come; the end of its time to Expire; an interrupt to Interrupt. The reply is the entry that ended the call.
+//! A call that waits is `acquire` or `await_on`. Both wait in the same loop: park, step, and leave at the
+//! entry that ends the wait. [`How`] says what else ends it. A permit leads to the step Look, by which a
+//! waiter takes its turn if it has come; the end of its time to Expire; an interrupt to Interrupt. The
+//! reply is the entry that ended the call.
 //!
-//! Proved of each call that returns: what the pass has seen afterwards is legal and begins with what it had seen;
-//! `mine` grew by the entries that the call's contract lists, each the one entry of the named step at its own place;
-//! the reply is the last entry seen; a fault is the answer of the definitions, and nothing was recorded.
-//! `step_now` waits for nobody, and its Busy leaves the pass as it was.
+//! Proved of each call that returns: what the pass has seen afterwards is legal and begins with what it had
+//! seen; `mine` grew by the entries that the call's contract lists, each the one entry of the named step at
+//! its own place; the reply is the last entry seen; a fault is the answer of the definitions, and nothing
+//! was recorded. `step_now` waits for nobody, and its Busy leaves the pass as it was.
 //!
-//! Not promised: that a waiter wakes, that a waiting call returns, or in which order threads are served between two
-//! steps. A parking promises only that it tells no deadline where there is none, and no interrupt where it may not.
-//! That a waiter parks, and that the named seat is unparked, are shown by tests.
+//! Not promised: that a waiter wakes, that a waiting call returns, or in which order threads are served
+//! between two steps. A parking promises only that it tells no deadline where there is none, and no
+//! interrupt where it may not. That a waiter parks, and that the named seat is unparked, are shown by
+//! tests.
 //!
 //! The form is that of Doug Lea's "The java.util.concurrent Synchronizer Framework" (2005).
 #![tactic(auto)]
