@@ -2,6 +2,7 @@
 //!
 //! Prints the sum of what was taken, and what the audit says of the history of the lock.
 #![tactic(auto)]
+
 ghost use Rattle.std.specs.Prelude.{◌≡◌, ◌≤◌, IfOk};
 ghost use Rattle.monitor.specs.Stepping.{IsSame};
 
@@ -11,7 +12,7 @@ use crate::buffer::{Buffer, consume, produce};
 use audit::verdict::{Verdict, check};
 use history::fault::Fault;
 use history::header::{Header, Object, Policy};
-use monitor::{Closed, Monitor, Pass};
+use monitor::{Monitor, Pass};
 use permit::ThreadParking;
 use reentrant::lock::LockHooks;
 use std::alloc::Global;
@@ -57,33 +58,55 @@ fn exchange<R: Threads + Wait + Clock + Sync>(
     )
 }
 
-/// The sum of what was taken, and what the lock leaves.
-fn play<R: Threads + Wait + Clock + Sync>(rt: &R, alloc: Global) -> Result<(u64, Closed), Fault> {
+/// What is told at the end.
+#[derive(Clone, Copy)]
+struct Told {
+    sum: u64,
+    all_calls: bool,
+    verdict: Verdict,
+}
+
+/// Plays, closes the lock and has its history judged.
+fn play<R: Threads + Wait + Clock + Sync>(rt: &R, alloc: Global) -> Result<Told, Fault> {
     let parking = ThreadParking::open(rt, alloc, HEADER.seats)?;
     let hooks = LockHooks::open(Policy::Fair);
-    let (monitor, mut passes) =
-        Monitor::open(alloc, hooks, HEADER.seats, HEADER.conditions, HEADER.cap)?;
-    let (Some(consumer), Some(producer)) = (passes.pop(), passes.pop()) else {
+    let (monitor, mut passes) = Monitor::open(
+        alloc,
+        hooks,
+        HEADER.seats,
+        HEADER.conditions,
+        HEADER.cap,
+    )?;
+    let Some(consumer) = passes.pop() else {
+        unreachable!()
+    };
+    let Some(producer) = passes.pop() else {
         unreachable!()
     };
     let (put, taken) = exchange(rt, &parking, &monitor, producer, consumer);
     let (consumer, sum) = taken?;
-    passes.push(put?)?;
-    passes.push(consumer)?;
-    match monitor.close(rt, passes) {
-        Ok(closed) => Ok((sum, closed)),
-        Err((_, _, _)) => Err(Fault::OutOfPhase),
-    }
+    let producer = put?;
+    let Ok(passes) = vec![in alloc; producer, consumer] else {
+        return Err(Fault::OutOfMemory);
+    };
+    let Ok(closed) = monitor.close(rt, passes) else {
+        return Err(Fault::OutOfPhase);
+    };
+    Ok(Told {
+        sum,
+        all_calls: closed.history.calls() == closed.share,
+        verdict: check(alloc, &HEADER, &closed.history)?,
+    })
 }
 
 fn main(rt: HostRuntime) -> io::Result<()> {
-    let Ok((sum, closed)) = play(&rt, rt.alloc()) else {
+    let Ok(told) = play(&rt, rt.alloc()) else {
         return println!(rt; "out of memory");
     };
-    println!(rt; "taken {sum}")?;
-    println!(rt; "every call is in the history: {}", closed.history.calls() == closed.share)?;
-    match check(rt.alloc(), &HEADER, &closed.history) {
-        Ok(Verdict::Legal) => println!(rt; "the history is legal"),
-        _ => println!(rt; "the history is not legal"),
+    println!(rt; "taken {}", told.sum)?;
+    println!(rt; "every call is in the history: {}", told.all_calls)?;
+    match told.verdict {
+        Verdict::Legal => println!(rt; "the history is legal"),
+        Verdict::NotLegal(number) => println!(rt; "not legal at {number}"),
     }
 }
