@@ -20,6 +20,7 @@ use std::time::Clock;
 
 /// `java.util.concurrent.CountDownLatch` of Java SE 8 over a monitor.
 /// A call answers an `Err` where Java throws.
+#[derive(Clone, Copy)]
 pub struct Latch<'m> {
     pub monitor: &'m Monitor<LatchHooks>,
 }

@@ -21,6 +21,7 @@ use std::time::Clock;
 
 /// `java.util.concurrent.locks.ReentrantLock` of Java SE 8 over a monitor. The thread is the pass, conditions
 /// have numbers, and a call answers an `Err` where Java throws.
+#[derive(Clone, Copy)]
 pub struct ReentrantLock<'m> {
     pub monitor: &'m Monitor<LockHooks>,
 }

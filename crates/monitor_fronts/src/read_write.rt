@@ -22,6 +22,7 @@ use std::time::Clock;
 /// `java.util.concurrent.locks.ReentrantReadWriteLock` of Java SE 8 over a monitor.
 /// The methods of its write lock begin with `write_`, those of its read lock with `read_`.
 /// A call answers an `Err` where Java throws.
+#[derive(Clone, Copy)]
 pub struct ReadWriteLock<'m> {
     pub monitor: &'m Monitor<RwHooks>,
 }

@@ -20,6 +20,7 @@ use std::time::Clock;
 
 /// `java.util.concurrent.Semaphore` of Java SE 8 over a monitor. It may be opened with fewer than 0
 /// permits, as Java's. A call answers an `Err` where Java throws.
+#[derive(Clone, Copy)]
 pub struct Semaphore<'m> {
     pub monitor: &'m Monitor<SemaphoreHooks>,
 }

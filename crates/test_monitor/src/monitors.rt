@@ -1,0 +1,6 @@
+//! Tests of monitors and of the types that stand before them.
+
+mod calls;
+mod fronts;
+mod opened;
+mod threads;
