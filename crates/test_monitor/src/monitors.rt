@@ -2,5 +2,7 @@
 
 mod calls;
 mod fronts;
+mod memory;
 mod opened;
+mod played;
 mod threads;

@@ -78,6 +78,26 @@ pub(crate) fn of_two<H: Hooks + Drop>(
     }
 }
 
+/// A monitor of four seats, and their passes.
+pub(crate) fn of_four<H: Hooks + Drop>(
+    alloc: Global,
+    hooks: H,
+    conditions: u8,
+    cap: u32,
+) -> Result<(Monitor<H>, Pass, Pass, Pass, Pass), Fault>
+    ensures first { IfOk result (λ r. (r.1.lock ≡ r.0) × (r.2.lock ≡ r.0)) }
+    ensures last { IfOk result (λ r. (r.3.lock ≡ r.0) × (r.4.lock ≡ r.0)) }
+    ensures seats { IfOk result (λ r. r.0.header.seats ≡ 4) }
+{
+    let (monitor, mut passes) = of_many(alloc, hooks, 4, conditions, cap)?;
+    let (three, two) = (passes.pop(), passes.pop());
+    let (one, zero) = (passes.pop(), passes.pop());
+    match (zero, one, two, three) {
+        (Some(zero), Some(one), Some(two), Some(three)) => Ok((monitor, zero, one, two, three)),
+        _ => unreachable!(),
+    }
+}
+
 fn put_line(alloc: Global, lines: &mut Vec<u8>, entry: &Entry) -> Result<(), Fail> {
     if !entry.is_spelt() {
         return Err(Fail::from("an entry that has no words"));

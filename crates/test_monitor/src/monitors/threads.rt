@@ -2,13 +2,12 @@
 ghost use Rattle.std.specs.Prelude.{◌≡◌, ◌≤◌};
 ghost use Rattle.std.specs.Thread.{IsSync};
 
-use crate::monitors::opened::{closed, lines, of_two};
+use crate::monitors::opened::{closed, lines, of_four, of_two};
 use crate::parking::NotedParking;
-use history::entry::Mode;
-use history::fault::Fault;
+use history::entry::{Mode, Word};
 use history::header::Policy;
-use monitor::{How, Monitor, Pass};
-use permit::{Call, Parking};
+use monitor::{CloseFault, How, Monitor, Pass};
+use permit::{Call, Parking, ScriptedParking, ThreadParking};
 use reentrant::lock::LockHooks;
 use std::process::Abort;
 use std::sync::Wait;
@@ -98,4 +97,124 @@ fn who_waits_parks_once_and_a_release_unparks_that_one_alone(
     };
     assert!(rt; parking.calls().as_slice() == [park, Call::Unpark { seat: 1 }].as_slice());
     Ok(())
+}
+
+// Takes the lock and gives it back, so many times. Says how often it took.
+fn take_turns<R: Wait + Clock>(
+    rt: &R,
+    monitor: &Monitor<LockHooks>,
+    parking: &ThreadParking,
+    pass: Pass,
+    turns: u32,
+) -> (Pass, u32)
+    requires own { pass.lock ≡ monitor.now }
+    requires seats { monitor.now.header.seats ≤ parking.now }
+    ensures { result.0.lock ≡ monitor.now }
+{
+    let mut pass = pass;
+    let mut took = 0u32;
+    for _ in 0..turns {
+        if let Ok(got) = monitor.acquire(rt, parking, &mut pass, Mode::X, 1, How::Plain) {
+            if matches!(got.word, Word::Got | Word::Granted) {
+                took = took.saturating_add(1);
+            }
+        }
+        let _gave = monitor.release(rt, parking, &mut pass, Mode::X, 1);
+    }
+    (pass, took)
+}
+
+fn two_take_turns<R: Threads + Wait + Clock + Sync>(
+    rt: &R,
+    monitor: &Monitor<LockHooks>,
+    parking: &ThreadParking,
+    one: Pass,
+    two: Pass,
+) -> ((Pass, u32), (Pass, u32))
+    requires own { (one.lock ≡ monitor.now) × (two.lock ≡ monitor.now) }
+    requires seats { monitor.now.header.seats ≤ parking.now }
+    ensures { (result.0.0.lock ≡ monitor.now) × (result.1.0.lock ≡ monitor.now) }
+{
+    join(
+        rt,
+        move || -> (Pass, u32)
+            requires { (one.lock ≡ monitor.now) × (monitor.now.header.seats ≤ parking.now) × IsSync R.row }
+            ensures { result.0.lock ≡ monitor.entry.now }
+        { take_turns(rt, monitor, parking, one, 250) },
+        move || -> (Pass, u32)
+            requires { (two.lock ≡ monitor.now) × (monitor.now.header.seats ≤ parking.now) × IsSync R.row }
+            ensures { result.0.lock ≡ monitor.entry.now }
+        { take_turns(rt, monitor, parking, two, 250) },
+    )
+}
+
+fn four_take_turns<R: Threads + Wait + Clock + Sync>(
+    rt: &R,
+    monitor: &Monitor<LockHooks>,
+    parking: &ThreadParking,
+    passes: (Pass, Pass, Pass, Pass),
+) -> (((Pass, u32), (Pass, u32)), ((Pass, u32), (Pass, u32)))
+    requires first { (passes.0.lock ≡ monitor.now) × (passes.1.lock ≡ monitor.now) }
+    requires last { (passes.2.lock ≡ monitor.now) × (passes.3.lock ≡ monitor.now) }
+    requires seats { monitor.now.header.seats ≤ parking.now }
+    ensures first { (result.0.0.0.lock ≡ monitor.now) × (result.0.1.0.lock ≡ monitor.now) }
+    ensures last { (result.1.0.0.lock ≡ monitor.now) × (result.1.1.0.lock ≡ monitor.now) }
+{
+    let (a, b, c, d) = passes;
+    join(
+        rt,
+        move || -> ((Pass, u32), (Pass, u32))
+            requires own { (a.lock ≡ monitor.now) × (b.lock ≡ monitor.now) }
+            requires seats { (monitor.now.header.seats ≤ parking.now) × IsSync R.row }
+            ensures { (result.0.0.lock ≡ monitor.entry.now) × (result.1.0.lock ≡ monitor.entry.now) }
+        { two_take_turns(rt, monitor, parking, a, b) },
+        move || -> ((Pass, u32), (Pass, u32))
+            requires own { (c.lock ≡ monitor.now) × (d.lock ≡ monitor.now) }
+            requires seats { (monitor.now.header.seats ≤ parking.now) × IsSync R.row }
+            ensures { (result.0.0.lock ≡ monitor.entry.now) × (result.1.0.lock ≡ monitor.entry.now) }
+        { two_take_turns(rt, monitor, parking, c, d) },
+    )
+}
+
+#[test]
+fn four_threads_take_turns_and_the_merged_share_is_all_their_calls(
+    rt: HostRuntime,
+) -> Result<(), Fail> {
+    let parking = ThreadParking::open(&rt, rt.alloc(), 4)?;
+    let hooks = LockHooks::open(Policy::NonFair);
+    let (monitor, a, b, c, d) = of_four(rt.alloc(), hooks, 0, 10_000)?;
+    let (left, right) = four_take_turns(&rt, &monitor, &parking, (a, b, c, d));
+    let ((a, took_a), (b, took_b)) = left;
+    let ((c, took_c), (d, took_d)) = right;
+    assert_eq!(rt; [took_a, took_b, took_c, took_d], [250; 4]);
+    assert_eq!(rt; [a.share(), b.share(), c.share(), d.share()], [500; 4]);
+    let left = closed(&rt, monitor, vec![in rt.alloc(); c, a, d, b]?)?;
+    assert_eq!(rt; (left.share, left.history.calls()), (2000, 2000));
+    Ok(())
+}
+
+#[test]
+fn a_monitor_whose_pass_was_dropped_goes_on_and_isnt_closed(rt: HostRuntime) -> Result<(), Fail> {
+    let parking = ScriptedParking::open(rt.alloc(), Vec::new(rt.alloc()), 4)?;
+    let hooks = LockHooks::open(Policy::NonFair);
+    let (monitor, mut a, b, mut c, d) = of_four(rt.alloc(), hooks, 0, 10_000)?;
+    monitor.acquire(&rt, &parking, &mut a, Mode::X, 1, How::Plain)?;
+    drop(b);
+    monitor.release(&rt, &parking, &mut a, Mode::X, 1)?;
+    monitor.acquire(&rt, &parking, &mut c, Mode::X, 1, How::Plain)?;
+    match monitor.close(&rt, vec![in rt.alloc(); a, c, d]?) {
+        Ok(_) => Err(Fail::from("closed")),
+        Err((monitor, passes, fault)) => {
+            assert!(rt; fault == CloseFault::MissingPass && passes.len() == 3);
+            assert!(rt; passes[0].seat() == 0 && passes[1].seat() == 2 && passes[2].seat() == 3);
+            assert!(rt; passes[0].share() == 2 && passes[1].share() == 1);
+            let mut passes = passes;
+            let Some(mut last) = passes.pop() else {
+                panic!(rt; "no pass")
+            };
+            let missed = monitor.try_acquire(&rt, &parking, &mut last, Mode::X, 1)?;
+            assert!(rt; missed.word == Word::Missed && missed.seat == 3);
+            Ok(())
+        }
+    }
 }
