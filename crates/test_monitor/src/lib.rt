@@ -2,6 +2,8 @@
 #![tactic(auto)]
 
 #[cfg(test)]
+mod monitors;
+#[cfg(test)]
 mod parking;
 #[cfg(test)]
 mod waiting;
