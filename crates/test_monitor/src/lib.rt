@@ -2,8 +2,6 @@
 #![tactic(auto)]
 
 #[cfg(test)]
-mod monitors;
-#[cfg(test)]
 mod parking;
 #[cfg(test)]
 mod waiting;
