@@ -4,11 +4,11 @@
 
 mod latch;
 mod lock;
-mod read_write;
+mod read_write_lock;
 mod semaphore;
 mod told;
 
 pub use latch::Latch;
 pub use lock::ReentrantLock;
-pub use read_write::ReadWriteLock;
+pub use read_write_lock::ReadWriteLock;
 pub use semaphore::Semaphore;
