@@ -1,4 +1,5 @@
 pub mod Broken
+pub mod GoingOn
 pub mod OutOfOrder
 pub mod Told
 pub mod Woken

@@ -5,6 +5,7 @@ use Rattle.history.specs.declared.entry.Entry.{Entry}
 use Rattle.history.specs.declared.entry.Mode.TheVariants.{X}
 use Rattle.history.specs.declared.entry.Word.TheVariants as word
 use Rattle.history.specs.declared.fault.Fault.TheVariants as fault
+use Rattle.history.specs.declared.step.Step.TheVariants as step
 use Rattle.history.specs.Legal.{IsLegal}
 use Rattle.history.specs.Line.{Arrived, Ending}
 use Rattle.history.specs.Order.{IsFairOrder, IsInOrder}
@@ -12,7 +13,8 @@ use Rattle.history.specs.Phase.{Idle, InLine}
 use Rattle.history.specs.Start.{opening}
 use Rattle.history.specs.Waiting.{IsOneWait}
 use Rattle.history.proofs.Entering.{Known, known}
-use Rattle.laws.specs.OutOfTurn.{fair_lock, gave_first, got_past_the_line, granted_out_of_turn, of, queued_twice}
+use Rattle.laws.specs.Fold.{fold}
+use Rattle.laws.specs.OutOfTurn.{fair_lock, gave_first, got_past_the_line, granted_out_of_turn, of, queued_twice, taken}
 
 never_ends : (end : Ending) → None ≡ Some end → ⊥
 never_ends end q = cc
@@ -71,3 +73,6 @@ gave_illegal l =
     let k : Known (opening fair_lock) [] (of 0 word.Gave) =
     known (opening fair_lock) [] l.0.0 (of 0 word.Gave) l.0.1 in
     refused_not_gave k.1
+
+pub gave_after : IsLegal (fold (opening fair_lock) taken) gave_first
+gave_after = ((step.Give X 1, refl), tt)

@@ -1,3 +1,4 @@
 pub mod Breaks
+pub mod Fold
 pub mod OutOfTurn
 pub mod Woken

@@ -32,3 +32,7 @@ queued_twice = of 1 word.Queued ∷ of 1 word.Queued ∷ of 0 word.Got ∷ []
 -- a seat gives back what it never took
 abbrev pub gave_first : List Entry
 gave_first = of 0 word.Gave ∷ []
+
+-- a seat takes
+abbrev pub taken : List Entry
+taken = of 0 word.Got ∷ []

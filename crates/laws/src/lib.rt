@@ -5,6 +5,7 @@
 #![tactic(auto)]
 
 pub mod conservation;
+pub mod folding;
 pub mod order;
 pub mod ownership;
 pub mod results;
