@@ -35,10 +35,10 @@ held_at s g (e ∷ h) i m =
     ap (λ n. cond ((e.seat == i) && same_mode e.mode m) (holds_after s.header.object e.word e.n n) n)
     (held_at s g h i m)
 
-held_goes_on : (s : Start) (g h : List Entry) → held (fold s g) h ≡ held s (h ++ g)
+pub held_goes_on : (s : Start) (g h : List Entry) → held (fold s g) h ≡ held s (h ++ g)
 held_goes_on s g h = λ j i m. held_at s g h i m j
 
-free_goes_on : (s : Start) (g h : List Entry) → free (fold s g) h ≡ free s (h ++ g)
+pub free_goes_on : (s : Start) (g h : List Entry) → free (fold s g) h ≡ free s (h ++ g)
 free_goes_on s g [] = refl
 free_goes_on s g (e ∷ h) = ap (free_after e.word e.n) (free_goes_on s g h)
 

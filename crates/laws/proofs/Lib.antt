@@ -1,4 +1,5 @@
 pub mod Broken
+pub mod BehindFolds
 pub mod GoingOn
 pub mod OutOfOrder
 pub mod Told
