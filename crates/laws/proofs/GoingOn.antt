@@ -115,7 +115,7 @@ fold_goes_on s g h =
     }
 
 -- Whom an entry names.
-ready_goes_on : (s : Start) (g h : List Entry) → ready (fold s g) h ≡ ready s (h ++ g)
+pub ready_goes_on : (s : Start) (g h : List Entry) → ready (fold s g) h ≡ ready s (h ++ g)
 ready_goes_on s g h = λ j. ready_by (counts_go_on s g h j) (first_of (line_goes_on s g h j))
 
 pub named_goes_on : (s : Start) (g h : List Entry) (e : Entry) → named (fold s g) h e ≡ named s (h ++ g) e

@@ -1,6 +1,7 @@
 pub mod Broken
 pub mod BehindFolds
 pub mod GoingOn
+pub mod Marking
 pub mod OutOfOrder
 pub mod Told
 pub mod Woken

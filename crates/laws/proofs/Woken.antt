@@ -10,7 +10,7 @@ use Rattle.history.proofs.Entering.{seat_is}
 use Rattle.laws.specs.Woken.{IsWoken}
 
 -- who is ready behind an entry was named by it, made it, or was ready before it
-told_now : (before : Option ℕ) (i seat : ℕ) → (named_by before (Some i) seat ≡ Some i) ⊎ (seat ≡ i)
+pub told_now : (before : Option ℕ) (i seat : ℕ) → (named_by before (Some i) seat ≡ Some i) ⊎ (seat ≡ i)
     ⊎ (before ≡ Some i)
 told_now before i seat = by (is_seat before i) refl (cases_eq i seat)
   where

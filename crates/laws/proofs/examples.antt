@@ -4,6 +4,7 @@ mod Conditions
 mod ReadersAndWriters
 mod Semaphores
 mod Latches
+mod Marks
 mod Naming
 mod Histories
 mod Pairs

@@ -1,4 +1,5 @@
 pub mod Breaks
 pub mod Fold
+pub mod Marks
 pub mod OutOfTurn
 pub mod Woken

@@ -36,3 +36,7 @@ gave_first = of 0 word.Gave ∷ []
 -- a seat takes
 abbrev pub taken : List Entry
 taken = of 0 word.Got ∷ []
+
+-- seat 1 waits, and could go since 0 gave back
+abbrev pub given_to_a_waiter : List Entry
+given_to_a_waiter = of 0 word.Gave ∷ of 1 word.Queued ∷ of 0 word.Got ∷ []
