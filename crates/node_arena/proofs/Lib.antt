@@ -1,0 +1,2 @@
+mod Rings
+mod FromLinks

@@ -1,0 +1,4 @@
+//! Nodes under numbers, and lists that link them.
+#![tactic(auto)]
+
+pub mod linked_lists;
