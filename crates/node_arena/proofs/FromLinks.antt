@@ -1,13 +1,13 @@
 -- From the links of `LinkedLists` to what a contract sees.
-use Rattle.std.proofs.Common.{◌≡◌, ◌≢◌, ◌⊎◌, ℕ, zero, suc, ◌+◌, ◌-◌, ◌<◌, ◌≤◌, List, [], ◌∷◌, ◌++◌, length, get_or, set, replicate, take, take_all, append-nil, Bool, true, false, slice_get, Option, Some, None, IfSome, cond, count_by, refl, sym, ap, ◌∙◌, subst, inl, inr, arith, eq-eqb, ne_eqb, length-set, get_or-set_same, get_or-set_other}
-use Rattle.std.proofs.lemmas.Bool.{cases_eq, cases_lt, cond-true, cond-false}
+use Rattle.std.proofs.Common.{◌≡◌, ◌≢◌, ◌⊎◌, ℕ, zero, suc, ◌+◌, ◌-◌, ◌<◌, ◌≤◌, List, [], ◌∷◌, ◌++◌, length, get_or, set, replicate, take, take_all, append-nil, Bool, true, false, slice_get, Option, Some, None, IsSome, IfSome, cond, count_by, ltb, add-one, refl, sym, ap, ◌∙◌, subst, inl, inr, arith, eq-eqb, ne_eqb, length-set, get_or-set_same, get_or-set_other}
+use Rattle.std.proofs.lemmas.Bool.{cases_eq, cases_lt, cond-true, cond-false, lt-ltb, le-ltb}
 use Rattle.std.proofs.lemmas.List.{get_or_past, get_or_push, get_or_read, get_or_append_left, get_or-append_right, length_push, length-append, length-replicate}
 use Rattle.std.proofs.lemmas.List.FromFn.{length-map-range_with_len, get_or-map-range_with_len}
 use Rattle.std.proofs.lemmas.List.Sums.{sum_by-set, sum_by-append}
 use Rattle.std.proofs.lemmas.List.Folds.{sum_by-replicate}
 use Rattle.std.proofs.lemmas.Option.{none-some, same_Some}
 use Rattle.node_arena.specs.declared.linked_lists.Link.{Link}
-use Rattle.node_arena.specs.LinkedLists.{items, list_count, without, IsIn, IsApart, IsEmpty, SameLists}
+use Rattle.node_arena.specs.LinkedLists.{items, list_count, one_before, without, IsIn, IsApart, IsEmpty, SameLists}
 use Rattle.node_arena.specs.Links.{no_link, next_of, prev_of, Skips, Splices, is_list, walk, IsChain, IsRing, keys_of, lists_of, IsSound}
 use Rattle.node_arena.proofs.Rings.{length-without, length-walk, IsOn, walk_chain, prev_end_on, prev_on, next_on, IsRing-kept, IsRing-skip, IsRing-push, rings_apart, free_not_on}
 
@@ -324,3 +324,88 @@ module _ (links new_links : List Link) (owners : List (Option ℕ)) (heads more 
         lists = λ list. items_kept links new_links owners _ heads list (keys_grown list);
         keys = λ key. get_or-append_defaults owners more key None;
       }
+
+-- the key whose link is at a place, and None at a head
+abbrev pub key_at : ℕ → ℕ → Option ℕ
+key_at heads at = cond (ltb at heads) None (Some (at - heads))
+
+pub key_at_head : (heads at : ℕ) → at < heads → key_at heads at ≡ None
+key_at_head heads at low = cond-true _ _ _ (lt-ltb at heads low)
+
+pub key_at_link : (heads at : ℕ) → heads ≤ at → key_at heads at ≡ Some (at - heads)
+key_at_link heads at high = cond-false _ _ _ (le-ltb at heads high)
+
+key_at_key : (heads at key : ℕ) → at ≡ heads + key → key_at heads at ≡ Some key
+key_at_key heads at key e =
+    let same : at - heads ≡ key = omega (arith, e) in
+    key_at_link heads at (omega (arith, e)) ∙ ap Some same
+
+module _ (next prev : ℕ → ℕ) (heads : ℕ) where
+  next_in_chain : (from : ℕ) (keys : List ℕ) (to k key : ℕ) → to < heads →
+      IsChain next prev heads from keys to → slice_get keys k ≡ Some key →
+      key_at heads (next (heads + key)) ≡ slice_get keys (suc k)
+  next_in_chain from [] to k key low chain found = absurd (none-some key found)
+  next_in_chain from (first ∷ []) to zero key low chain found =
+      let same = same_Some first key found in
+      ap (λ x. key_at heads (next (heads + x))) (sym same) ∙ ap (key_at heads) chain.2.0 ∙ key_at_head heads to low
+  next_in_chain from (first ∷ (second ∷ rest)) to zero key low chain found =
+      let same = same_Some first key found in
+      ap (λ x. key_at heads (next (heads + x))) (sym same) ∙ key_at_key heads _ second chain.2.0
+  next_in_chain from (first ∷ rest) to (suc k) key low chain found =
+      next_in_chain (heads + first) rest to k key low chain.2 found
+
+  prev_behind : (one : ℕ) (keys : List ℕ) (to k key : ℕ) → IsChain next prev heads (heads + one) keys to →
+      slice_get keys k ≡ Some key → key_at heads (prev (heads + key)) ≡ slice_get (one ∷ keys) k
+  prev_behind one [] to k key chain found = absurd (none-some key found)
+  prev_behind one (first ∷ rest) to zero key chain found =
+      let same = same_Some first key found in
+      ap (λ x. key_at heads (prev (heads + x))) (sym same) ∙ key_at_key heads _ one chain.1
+  prev_behind one (first ∷ rest) to (suc k) key chain found = prev_behind first rest to k key chain.2 found
+
+  prev_in_chain : (from : ℕ) (keys : List ℕ) (to k key : ℕ) → from < heads →
+      IsChain next prev heads from keys to → slice_get keys k ≡ Some key →
+      key_at heads (prev (heads + key)) ≡ one_before keys k
+  prev_in_chain from [] to k key low chain found = absurd (none-some key found)
+  prev_in_chain from (first ∷ rest) to zero key low chain found =
+      let same = same_Some first key found in
+      ap (λ x. key_at heads (prev (heads + x))) (sym same)
+      ∙ ap (key_at heads) chain.1 ∙ key_at_head heads from low
+  prev_in_chain from (first ∷ rest) to (suc k) key low chain found =
+      prev_behind first rest to k key chain.2 found
+
+in_list_below : (links : List Link) (owners : List (Option ℕ)) (heads list k key : ℕ) →
+    slice_get (items (lists_of links owners heads) list) k ≡ Some key → list < heads
+in_list_below links owners heads list k key found =
+    elim (cases_lt list heads) [
+      | inl head ↦ head
+      | inr past ↦ absurd (none-some key (ap (λ l. slice_get l k) (sym (items_past links owners heads list past)) ∙ found))
+    ]
+
+module _ (links : List Link) (owners : List (Option ℕ)) (heads : ℕ) (sound : IsSound links owners heads)
+    (list k key : ℕ) (found : slice_get (items (lists_of links owners heads) list) k ≡ Some key) where
+  pub next_key : key_at heads (next_of links (heads + key)) ≡ slice_get (items (lists_of links owners heads) list) (k + 1)
+  next_key =
+      let head = in_list_below links owners heads list k key found in
+      let same = items-lists_of links owners heads list head in
+      next_in_chain _ _ heads list _ list k key head (sound.rings list head).chained (rw same at found)
+      ∙ ap (slice_get (keys_of links owners heads list)) (sym (add-one k))
+      ∙ ap (λ keys. slice_get keys (k + 1)) (sym same)
+
+  pub prev_key : key_at heads (prev_of links (heads + key)) ≡ one_before (items (lists_of links owners heads) list) k
+  prev_key =
+      let head = in_list_below links owners heads list k key found in
+      let same = items-lists_of links owners heads list head in
+      prev_in_chain _ _ heads list _ list k key head (sound.rings list head).chained (rw same at found)
+      ∙ ap (λ keys. one_before keys k) (sym same)
+
+some_within : (owners : List (Option ℕ)) (key : ℕ) → IsSome (get_or owners key None) → key < length owners
+some_within owners key some = grind (arith, get_or_past)
+
+-- the link of a key that is in a list, as it was read
+pub link_read : (links : List Link) (owners : List (Option ℕ)) (heads key : ℕ) (link : Link) →
+    IsSound links owners heads → IsSome (get_or owners key None) → link ≡ get_or links (heads + key) link →
+    link ≡ get_or links (heads + key) no_link
+link_read links owners heads key link sound some read =
+    let low = some_within owners key some in
+    let within : heads + key < length links = omega (arith, sound.sized, low) in
+    get_or_read links (heads + key) link within read no_link

@@ -1,2 +1,3 @@
 mod Rings
 mod FromLinks
+mod Linking

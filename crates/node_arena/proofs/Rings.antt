@@ -10,7 +10,7 @@ use Rattle.node_arena.specs.Links.{Joins, Inserts, walk, IsChain, IsRing}
 pub without_head : (key first : ℕ) (rest : List ℕ) → first ≡ key → without key (first ∷ rest) ≡ without key rest
 without_head key first rest same = cond-false _ _ _ (not_from_true _ (eq-eqb first key same))
 
-without_past : (key first : ℕ) (rest : List ℕ) → first ≢ key → without key (first ∷ rest) ≡ first ∷ without key rest
+pub without_past : (key first : ℕ) (rest : List ℕ) → first ≢ key → without key (first ∷ rest) ≡ first ∷ without key rest
 without_past key first rest other = cond-true _ _ _ (not_from_false _ (ne_eqb first key other))
 
 pub without_absent : (key : ℕ) (keys : List ℕ) → ¬ IsIn key keys → without key keys ≡ keys
@@ -42,7 +42,7 @@ IsIn-without key other (first ∷ rest) found =
           ]
     ]
 
-IsIn-without_kept : (key other : ℕ) (keys : List ℕ) → IsIn other keys → other ≢ key → IsIn other (without key keys)
+pub IsIn-without_kept : (key other : ℕ) (keys : List ℕ) → IsIn other keys → other ≢ key → IsIn other (without key keys)
 IsIn-without_kept key other [] found differs = absurd found
 IsIn-without_kept key other (first ∷ rest) found differs =
     elim (cases_eq first key) [
@@ -57,7 +57,7 @@ IsIn-without_kept key other (first ∷ rest) found differs =
           (elim found [ inl here ↦ inl here | inr there ↦ inr (IsIn-without_kept key other rest there differs) ])
     ]
 
-IsApart-without : (key : ℕ) (keys : List ℕ) → IsApart keys → IsApart (without key keys)
+pub IsApart-without : (key : ℕ) (keys : List ℕ) → IsApart keys → IsApart (without key keys)
 IsApart-without key [] apart = tt
 IsApart-without key (first ∷ rest) apart =
     elim (cases_eq first key) [
@@ -81,7 +81,7 @@ length-without key (first ∷ rest) apart found =
           ]
     ]
 
-IsIn-push : (key other : ℕ) (keys : List ℕ) → IsIn other (keys ++ key ∷ []) → IsIn other keys ⊎ (key ≡ other)
+pub IsIn-push : (key other : ℕ) (keys : List ℕ) → IsIn other (keys ++ key ∷ []) → IsIn other keys ⊎ (key ≡ other)
 IsIn-push key other [] found = elim found [ inl here ↦ inr here | inr nowhere ↦ absurd nowhere ]
 IsIn-push key other (first ∷ rest) found =
     elim found [
@@ -89,16 +89,16 @@ IsIn-push key other (first ∷ rest) found =
       | inr there ↦ elim (IsIn-push key other rest there) [ inl old ↦ inl (inr old) | inr new ↦ inr new ]
     ]
 
-IsIn-push_kept : (key other : ℕ) (keys : List ℕ) → IsIn other keys → IsIn other (keys ++ key ∷ [])
+pub IsIn-push_kept : (key other : ℕ) (keys : List ℕ) → IsIn other keys → IsIn other (keys ++ key ∷ [])
 IsIn-push_kept key other [] found = absurd found
 IsIn-push_kept key other (first ∷ rest) found =
     elim found [ inl here ↦ inl here | inr there ↦ inr (IsIn-push_kept key other rest there) ]
 
-IsIn-push_last : (key : ℕ) (keys : List ℕ) → IsIn key (keys ++ key ∷ [])
+pub IsIn-push_last : (key : ℕ) (keys : List ℕ) → IsIn key (keys ++ key ∷ [])
 IsIn-push_last key [] = inl refl
 IsIn-push_last key (first ∷ rest) = inr (IsIn-push_last key rest)
 
-IsApart-push : (key : ℕ) (keys : List ℕ) → IsApart keys → ¬ IsIn key keys → IsApart (keys ++ key ∷ [])
+pub IsApart-push : (key : ℕ) (keys : List ℕ) → IsApart keys → ¬ IsIn key keys → IsApart (keys ++ key ∷ [])
 IsApart-push key [] apart absent = (λ nowhere. nowhere, tt)
 IsApart-push key (first ∷ rest) apart absent = (
   λ found. elim (IsIn-push key first rest found) [ inl old ↦ apart.0 old | inr new ↦ absent (inl (sym new)) ],

@@ -1,21 +1,10 @@
 -- What a contract sees of `LinkedLists`.
-use Rattle.std.specs.Prelude.{◌≡◌, ◌≢◌, ◌⊎◌, ℕ, List, [], ◌∷◌, length, Option, Some, None, not, ◌==◌, filter, slice_index_or, refl}
-use Rattle.std.specs.Coded.{Coded, code_by, coded×, coded_ℕ, coded_list, coded_option}
+use Rattle.std.specs.Prelude.{◌≡◌, ◌≢◌, ◌⊎◌, ℕ, List, [], ◌∷◌, length, Option, Some, None, not, ◌==◌, filter, slice_index_or, slice_get, zero, suc}
 
 -- the keys of each list from first to last, and the list of each key that has room
 pub record LinkedLists : Type 0 where
   pub lists : List (List ℕ)
   pub owners : List (Option ℕ)
-
--- the lists are stored as the pair of the fields
-abbrev pub lists_code : Coded LinkedLists
-lists_code =
-    code_by
-    (List (List ℕ) × List (Option ℕ))
-    (coded× (coded_list (coded_list coded_ℕ)) (coded_list (coded_option coded_ℕ)))
-    (λ s. (s.lists, s.owners))
-    (λ p. record { lists = p.0; owners = p.1 })
-    (λ _. refl)
 
 -- the keys of a list, from first to last
 abbrev pub items : LinkedLists → ℕ → List ℕ
@@ -36,6 +25,11 @@ key_limit s = length s.owners
 -- the keys other than this one, in their order
 abbrev pub without : ℕ → List ℕ → List ℕ
 without key keys = filter (λ other. not (other == key)) keys
+
+-- what stands right before a place of a list
+abbrev pub one_before : List ℕ → ℕ → Option ℕ
+one_before keys zero = None
+one_before keys (suc k) = slice_get keys k
 
 -- the key is one of these
 abbrev pub IsIn : ℕ → List ℕ → Type 0

@@ -1,6 +1,6 @@
 //! Queues of keys that are linked by index, so that a key leaves its queue in constant time.
-ghost use Rattle.std.specs.Prelude.{◌≡◌, ◌≢◌, ℕ, ◌+◌, ◌^◌, ◌<◌, ◌≤◌, [], ◌∷◌, ◌++◌, length, IfSome, IfNone, IfOk, OnOk, IsOk, slice_get, vec_len};
-ghost use Rattle.node_arena.specs.LinkedLists.{items, list_of, list_count, key_limit, without, IsIn, IsApart, IsEmpty, SameLists, Moves};
+ghost use Rattle.std.specs.Prelude.{◌≡◌, ◌≢◌, ℕ, ◌+◌, ◌^◌, ◌<◌, ◌≤◌, [], ◌∷◌, ◌++◌, length, IfSome, IfNone, IfOk, OnOk, IsOk, slice_get, IsSome, vec_len};
+ghost use Rattle.node_arena.specs.LinkedLists.{items, list_of, list_count, key_limit, one_before, without, IsIn, IsApart, IsEmpty, SameLists, Moves};
 ghost use Rattle.node_arena.specs.Links.{next_of, prev_of, Skips, Splices};
 
 use std::alloc::{AllocError, Global};
@@ -27,11 +27,9 @@ struct Link {
 }
 
 impl Model for LinkedLists {
-    ghost use Rattle.node_arena.specs.LinkedLists.{LinkedLists as Lists, lists_code};
+    ghost use Rattle.node_arena.specs.LinkedLists.{LinkedLists as Lists};
 
     ghost Value = { Lists };
-
-    ghost coded = { lists_code };
 
     ghost use Rattle.node_arena.specs.Links.{lists_of, IsSound};
 
@@ -70,8 +68,22 @@ fn splice(links: &mut Vec<Link>, at: usize, next: usize)
 }
 
 impl LinkedLists {
-    /// `lists` empty queues, numbered from 0.
-    pub fn new(alloc: Global, lists: usize) -> Result<Self, AllocError>
+    /// So many empty lists, numbered from 0, and a link for each key below `keys`.
+    pub fn with_keys(alloc: Global, lists: usize, keys: usize) -> Result<Self, AllocError>
+        ensures count { IfOk result (λ s. list_count s ≡ lists) }
+        ensures no_items { IfOk result (λ s. (list : ℕ) → items s list ≡ []) }
+        ensures no_keys { IfOk result (λ s. (key : ℕ) → list_of s key ≡ None) }
+        ensures room { IfOk result (λ s. keys ≤ key_limit s) }
+    {
+        let mut lists = LinkedLists::new(alloc, lists)?;
+        if keys > 0 {
+            lists.reserve_key(keys - 1)?;
+        }
+        Ok(lists)
+    }
+
+    /// So many empty lists and no keys.
+    fn new(alloc: Global, lists: usize) -> Result<Self, AllocError>
         ensures count { IfOk result (λ s. list_count s ≡ lists) }
         ensures no_items { IfOk result (λ s. (list : ℕ) → items s list ≡ []) }
         ensures no_keys { IfOk result (λ s. (key : ℕ) → list_of s key ≡ None) }
@@ -90,8 +102,8 @@ impl LinkedLists {
         })
     }
 
-    /// Makes room for `key` and each key below it.
-    pub fn reserve_key(&mut self, key: usize) -> Result<(), AllocError>
+    /// Makes room for a key and each key below it.
+    fn reserve_key(&mut self, key: usize) -> Result<(), AllocError>
         ensures room { OnOk result (key < key_limit self.new) }
         ensures fits { OnOk result (key + 1 < 2 ^ 64) }
         ensures succeeds { key < key_limit self.old → IsOk result }
@@ -134,6 +146,34 @@ impl LinkedLists {
             None
         } else {
             Some(first - self.heads)
+        }
+    }
+
+    /// The key right behind one, in the list that it is in.
+    pub fn behind(&self, key: usize) -> Option<usize>
+        requires { IsSome (list_of self.now key) }
+        ensures { (list k : ℕ) → slice_get (items self.now list) k ≡ Some key →
+            result ≡ slice_get (items self.now list) (k + 1) }
+    {
+        let next = self.links[self.heads + key].next;
+        if next < self.heads {
+            None
+        } else {
+            Some(next - self.heads)
+        }
+    }
+
+    /// The key right before one, in the list that it is in.
+    pub fn before(&self, key: usize) -> Option<usize>
+        requires { IsSome (list_of self.now key) }
+        ensures { (list k : ℕ) → slice_get (items self.now list) k ≡ Some key →
+            result ≡ one_before (items self.now list) k }
+    {
+        let prev = self.links[self.heads + key].prev;
+        if prev < self.heads {
+            None
+        } else {
+            Some(prev - self.heads)
         }
     }
 
