@@ -1,0 +1,3 @@
+mod Rings
+mod FromLinks
+mod Linking

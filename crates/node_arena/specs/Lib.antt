@@ -1,0 +1,4 @@
+pub mod Arena
+pub mod LinkedLists
+pub mod Links
+pub mod NodeList

@@ -1,0 +1,25 @@
+//! A node: one who arrived, until it is freed.
+
+use history::arrival::Arrival;
+
+/// One who arrived, and whether it left while it stood between others.
+#[derive(Clone, Copy, Debug, PartialEq, Eq)]
+pub struct Node {
+    pub arrival: Arrival,
+    pub cancelled: bool,
+}
+
+/// The number of a node: its place, and how many nodes were placed before it. No two nodes of an arena ever
+/// have the same number.
+#[derive(Clone, Copy, Debug, PartialEq, Eq)]
+pub struct NodeNo {
+    pub place: usize,
+    pub generation: u64,
+}
+
+/// A node with its number.
+#[derive(Clone, Copy, Debug, PartialEq, Eq)]
+pub struct Standing {
+    pub number: NodeNo,
+    pub node: Node,
+}
