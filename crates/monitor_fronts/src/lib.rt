@@ -4,11 +4,13 @@
 
 mod latch;
 mod lock;
+mod openings;
 mod read_write_lock;
 mod semaphore;
 mod told;
 
 pub use latch::Latch;
 pub use lock::ReentrantLock;
+pub use openings::{open_latch, open_lock, open_read_write_lock, open_semaphore};
 pub use read_write_lock::ReadWriteLock;
 pub use semaphore::Semaphore;
