@@ -8,7 +8,6 @@ ghost use Rattle.monitor.specs.Shown.{IsTrue};
 ghost use Rattle.monitor.specs.Stepping.{IsSame};
 ghost use Rattle.monitor.specs.declared.closing.CloseFault.TheVariants.{MissingPass};
 
-use crate::kept::Kept;
 use crate::monitor::Monitor;
 use crate::pass::Pass;
 use frame::hooks::Hooks;
@@ -100,7 +99,8 @@ impl<H: Hooks + Drop> Monitor<H> {
             joined = lock.join(pass.into_token(), joined);
         }
         drop(passes);
-        let Kept { core } = lock.close(rt, joined);
+        let kept = lock.close(rt, joined);
+        let core = kept.into_core();
         let history = core.into_history();
         let _few = history.len();
         Ok(Closed {

@@ -10,7 +10,6 @@ ghost use Rattle.monitor.specs.Shown.{opening_passes};
 use crate::kept::Kept;
 use crate::pass::Pass;
 use frame::hooks::Hooks;
-use frame::machine::Core;
 use history::fault::Fault;
 use std::alloc::Global;
 use std::marker::Model;
@@ -72,10 +71,8 @@ impl<H: Hooks + Drop> Monitor<H> {
         ensures err { IfErr result (λ fault. fault ≡ OutOfMemory) }
     {
         let mut passes = Vec::with_capacity(alloc, seats as usize)?;
-        let core = Core::open(alloc, hooks, seats, conditions, cap)?;
-        core.is_lawful();
-        let _few = core.history().len();
-        match WordLock::open(alloc, Kept { core }, seats) {
+        let kept = Kept::open(alloc, hooks, seats, conditions, cap)?;
+        match WordLock::open(alloc, kept, seats) {
             Err((_, fault)) => Err(fault),
             Ok((lock, tokens)) => {
                 give_passes(&lock, tokens, &mut passes, seats);

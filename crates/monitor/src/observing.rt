@@ -25,7 +25,7 @@ impl<H: Hooks + Drop> Monitor<H> {
         ensures value { result ≡ held (opened pass.new.seen) pass.new.seen.list seat mode }
     {
         let held = self.lock.lock(rt, &mut pass.token);
-        let holds = held.value.core.holds(seat, mode);
+        let holds = held.value.core().holds(seat, mode);
         self.lock.unlock(&mut pass.token, held);
         holds
     }
@@ -38,7 +38,7 @@ impl<H: Hooks + Drop> Monitor<H> {
         ensures value { result ≡ is_some (owner (counts (opened pass.new.seen) pass.new.seen.list)) }
     {
         let held = self.lock.lock(rt, &mut pass.token);
-        let is_held = held.value.core.is_held();
+        let is_held = held.value.core().is_held();
         self.lock.unlock(&mut pass.token, held);
         is_held
     }
@@ -51,7 +51,7 @@ impl<H: Hooks + Drop> Monitor<H> {
         ensures value { result ≡ length (line (opened pass.new.seen) pass.new.seen.list) }
     {
         let held = self.lock.lock(rt, &mut pass.token);
-        let queue_length = held.value.core.queue_length();
+        let queue_length = held.value.core().queue_length();
         self.lock.unlock(&mut pass.token, held);
         queue_length
     }
@@ -64,7 +64,7 @@ impl<H: Hooks + Drop> Monitor<H> {
         ensures value { result ≡ length (sleepers (opened pass.new.seen) pass.new.seen.list condition) }
     {
         let held = self.lock.lock(rt, &mut pass.token);
-        let waiters = held.value.core.waiters(condition);
+        let waiters = held.value.core().waiters(condition);
         self.lock.unlock(&mut pass.token, held);
         waiters
     }
@@ -77,7 +77,7 @@ impl<H: Hooks + Drop> Monitor<H> {
         ensures value { result ≡ available (opened pass.new.seen) pass.new.seen.list }
     {
         let held = self.lock.lock(rt, &mut pass.token);
-        let available = held.value.core.available();
+        let available = held.value.core().available();
         self.lock.unlock(&mut pass.token, held);
         available
     }
@@ -90,7 +90,7 @@ impl<H: Hooks + Drop> Monitor<H> {
         ensures value { result ≡ count (opened pass.new.seen) pass.new.seen.list }
     {
         let held = self.lock.lock(rt, &mut pass.token);
-        let count = held.value.core.count();
+        let count = held.value.core().count();
         self.lock.unlock(&mut pass.token, held);
         count
     }

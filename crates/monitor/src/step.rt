@@ -30,9 +30,7 @@ impl<H: Hooks + Drop> Monitor<H> {
         ensures shows { IsTrue pass.new }
     {
         let mut held = self.lock.lock(rt, &mut pass.token);
-        let answer = held.value.core.step(pass.seat, step);
-        held.value.core.is_lawful();
-        let _few = held.value.core.history().len();
+        let answer = held.value.step(pass.seat, step);
         self.lock.unlock(&mut pass.token, held);
         pass.share = share_behind(pass.share, &answer);
         answer
@@ -48,9 +46,7 @@ impl<H: Hooks + Drop> Monitor<H> {
         let Some(mut held) = self.lock.lock_now(&mut pass.token) else {
             return Ok(Now::Busy);
         };
-        let answer = held.value.core.step(pass.seat, step);
-        held.value.core.is_lawful();
-        let _few = held.value.core.history().len();
+        let answer = held.value.step(pass.seat, step);
         self.lock.unlock(&mut pass.token, held);
         pass.share = share_behind(pass.share, &answer);
         done(answer)

@@ -50,6 +50,7 @@ mod dealing;
 mod held;
 mod lock;
 mod point;
+mod sleepers;
 mod steps;
 mod token;
 mod view;

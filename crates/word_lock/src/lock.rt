@@ -8,6 +8,7 @@ ghost use Rattle.word_lock.specs.Held.{held_ticket};
 use crate::chronicle::Chronicle;
 use crate::dealing::{LockTable, make_table, split_token};
 use crate::held::Held;
+use crate::sleepers::Sleepers;
 use crate::steps::{Give, JoinTokens, Look, Take};
 use crate::token::Token;
 use crate::view::View;
@@ -17,18 +18,16 @@ use std::alloc::Global;
 use std::hint::spin_loop;
 use std::marker::Model;
 use std::sync::Wait;
-use std::sync::atomic::{AtomicU64, Ordering};
 
-// How often a thread looks at the word before it parks.
-const LOOKS: u32 = 1000;
+// How often a thread looks at the word before it sleeps.
+const LOOKS: u32 = 100;
 
 /// A value that one token at a time may have. A contract sees which lock it is, and the header of the
 /// value that it was opened with.
 #[derive(Drop)]
 pub struct WordLock<T: Chronicle> {
     table: LockTable<T>,
-    // How many threads park on the word, or are about to.
-    sleepers: AtomicU64,
+    sleepers: Sleepers,
 }
 
 impl<T: Chronicle> Model for WordLock<T> {
@@ -59,7 +58,7 @@ impl<T: Chronicle> WordLock<T> {
     {
         match make_table(alloc, value, seats) {
             Ok((table, tokens)) => {
-                let sleepers = AtomicU64::new(0);
+                let sleepers = Sleepers::new();
                 Ok((WordLock { table, sleepers }, tokens))
             }
             Err(value) => Err((value, Fault::OutOfMemory)),
@@ -176,12 +175,17 @@ impl<T: Chronicle> WordLock<T> {
         ensures entries { AllAgree (T.point result.value) token.old.logs }
         ensures distinct { AreDistinct token.old.logs }
     {
+        let mut was_enlisted = false;
         for _ in rt.forever() {
             if let Some(held) = self.take_now(token) {
+                if was_enlisted {
+                    self.sleepers.arrive();
+                }
                 return held;
             }
             if self.stays_taken() {
                 self.sleep(rt);
+                was_enlisted = true;
             }
         }
         unreachable!()
@@ -274,33 +278,36 @@ impl<T: Chronicle> WordLock<T> {
         seat
     }
 
-    // Whether the word is 1 at each of many looks. Most sections are shorter than a call of the system.
+    // Whether the word is 1 at each of many looks. Most sections are shorter than a call of the system. Where
+    // somebody sleeps already the next one soon does too, so that few look at the word while its holder works.
     fn stays_taken(&self) -> bool {
         for _ in 0..LOOKS {
             if self.table.shared.peek(0) == 0 {
                 return false;
+            }
+            if self.sleepers.are_some() {
+                return true;
             }
             spin_loop();
         }
         true
     }
 
-    // Parks while the word is 1. A thread is counted before the system compares the word, and `wake` reads
-    // the count after the store of 0. So either the thread finds the word changed and doesn't sleep, or it
-    // is seen in the count.
+    // Sleeps, unless the word is 0 once the thread is enlisted.
     #[cold]
     fn sleep<R: Wait>(&self, rt: &R) {
-        self.sleepers.fetch_add(1, Ordering::SeqCst);
-        self.table.shared.park(rt, 0, 1);
-        self.sleepers.fetch_sub(1, Ordering::SeqCst);
+        let wakes = self.sleepers.enlist();
+        if self.table.shared.peek(0) != 0 {
+            self.sleepers.sleep(rt, wakes);
+        }
     }
 
-    // Waking is a call of the system even where nobody sleeps, so it is left out then. It is left out too
-    // where the word is 1 again: whoever took it wakes at its own store.
+    // It costs one load if nobody is enlisted. Where the word is 1 again nobody is woken: whoever took it wakes at
+    // its own store.
     #[inline(always)]
     fn wake(&self) {
-        if self.sleepers.load(Ordering::SeqCst) != 0 && self.table.shared.peek(0) == 0 {
-            self.table.shared.wake_one(0);
+        if self.sleepers.are_some() && self.table.shared.peek(0) == 0 {
+            self.sleepers.wake_one();
         }
     }
 }

@@ -1,6 +1,8 @@
 use Rattle.std.proofs.Common.{rules, ◌≡◌, ◌<◌, ◌≤◌, ◌^◌, ℕ, List, [], ◌∷◌, ◌++◌, length, append_assoc, refl, sym, ap, ◌∙◌, subst, arith}
 use Rattle.std.specs.List.{All}
 use Rattle.std.proofs.lemmas.List.Elements.{All-nil, All-cons}
+use Rattle.frame.specs.Core.{CoreView}
+use Rattle.history.specs.declared.header.Header.{Header}
 use Rattle.history.specs.Entries.{ended_calls}
 use Rattle.history.specs.Start.{opening}
 use Rattle.word_lock.specs.declared.point.Point.{Point}
@@ -90,19 +92,19 @@ ends : (g : _) (c : goal.After-len-few g) →
 ends g c =
     let i = c.loop-pass.invariant in let ps : List Shown = c.args.passes.items in
     let all : ps ≡ i.2.0 = search rules in
-    let core = point_of c.close-core.result.core in
+    let core = point_of c.close-kept.result.core.value in
     let q : Point = left_by c.args.self c.into_history-history.result in
     let is : core ≡ q =
     shown_as core c.args.self.header c.into_history-history.result.entries
-    (c.close-core.ensures.header ∙ ap (λ (l : LockId). l.header) c.self.view_is)
-    (sym c.into_history-history.ensures.entries) in
+    (c.close-kept.ensures.header ∙ ap (λ (l : LockId). l.header) c.self.view_is)
+    (ap (λ (v : CoreView). v.entries) (sym c.into_core-core.ensures) ∙ sym c.into_history-history.ensures.entries) in
     let logs : c.loop-pass.joined.logs ≡ logs_of ps = i.2.2 ∙ ap logs_of (sym all) in
-    let lawful : IsLawful q = subst IsLawful is c.close-core.ensures.fact in
+    let lawful : IsLawful q = subst IsLawful is c.close-kept.ensures.fact in
     let seen : All (λ (p : Shown). Before p.seen c.loop-pass.joined.seen) ps =
     subst (λ (l : List Shown). All (λ p. Before p.seen c.loop-pass.joined.seen) l) (sym all) i.2.3 in
     let agree : All (λ (p : Shown). Agrees q p.seat p.mine) ps =
     all_agree q ps (subst (λ (z : Point). AllAgree z (logs_of ps)) is
-    (subst (λ (l : List SeatLog). AllAgree core l) logs c.close-core.ensures.entries)) in
+    (subst (λ (l : List SeatLog). AllAgree core l) logs c.close-kept.ensures.entries)) in
     let true : All (λ (p : Shown). IsTrue p) ps =
     subst (λ (l : List Shown). All (λ p. IsTrue p) l) c.deref.ensures.value c.merge_shares-share.ensures.shows in
     let seats : c.self.inside.seats ≡ c.args.self.header.seats =
@@ -110,11 +112,11 @@ ends g c =
     let many : c.self.inside.seats ≤ length ps = search rules in
     let each : (i : ℕ) → i < c.args.self.header.seats → passes_of i ps ≡ 1 =
     each_once c.args.self.header.seats ps (seats_below c.args.self ps true c.requires.is_of)
-    (none_twice ps (subst AreDistinct logs c.close-core.ensures.distinct)) (omega (arith, many, seats)) in record {
+    (none_twice ps (subst AreDistinct logs c.close-kept.ensures.distinct)) (omega (arith, many, seats)) in record {
       header = refl;
       lawful = lawful;
       seen = all_seen c.loop-pass.joined.seen q ps
-          (subst (λ (z : Point). Before c.loop-pass.joined.seen z) is c.close-core.ensures.begins) seen;
+          (subst (λ (z : Point). Before c.loop-pass.joined.seen z) is c.close-kept.ensures.begins) seen;
       agree = agree;
       each = each;
       calls = shares_are_calls (opening c.args.self.header) q ps lawful.seated each true agree;
@@ -137,8 +139,11 @@ returns-clause-within g c = let e = ends g c in all_within _ _ e.seen e.agree
 
 pub returns-clause-cap : goal.returns-clause-cap
 returns-clause-cap g c =
-    let header = c.close-core.ensures.header ∙ ap (λ (l : LockId). l.header) c.self.view_is in
-    c.into_history-history.ensures.cap ∙ ap (λ k. k.cap) (sym (header_shown (point_of c.close-core.result.core)) ∙ header)
+    let header = c.close-kept.ensures.header ∙ ap (λ (l : LockId). l.header) c.self.view_is in
+    let is : c.into_core-core.result.header ≡ c.close-kept.result.core.value.header =
+    ap (λ (v : CoreView). v.header) c.into_core-core.ensures in
+    c.into_history-history.ensures.cap
+    ∙ ap (λ (k : Header). k.cap) (is ∙ (sym (header_shown (point_of c.close-kept.result.core.value)) ∙ header))
 
 pub returns-clause-each : goal.returns-clause-each
 returns-clause-each g c = (ends g c).each

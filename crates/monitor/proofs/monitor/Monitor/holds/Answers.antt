@@ -1,4 +1,5 @@
-use Rattle.std.proofs.Common.{ap}
+use Rattle.std.proofs.Common.{◌<◌, ap, subst, sym}
+use Rattle.frame.specs.Core.{CoreView}
 use Rattle.word_lock.specs.Held.{held_ticket}
 use Rattle.word_lock.specs.Ticket.{LockId}
 use Rattle.word_lock.proofs.PointLaws.{follows_same}
@@ -10,17 +11,18 @@ use Rattle.monitor.proofs.monitor.Monitor.holds.Goals as goal
 
 pub holds-holds-requires : goal.holds-holds-requires
 holds-holds-requires g c =
-    seat_below (point_of c.lock-held.result.value.core) _ c.args.self.now.header c.args.seat
-    c.lock-held.ensures.header (ap (λ (l : LockId). l.header) c.self.view_is) c.requires.seat
+    subst (λ (v : CoreView). c.args.seat < v.header.seats) (sym c.core.ensures)
+    (seat_below (point_of c.lock-held.result.value.core.value) _ c.args.self.now.header c.args.seat
+    c.lock-held.ensures.header (ap (λ (l : LockId). l.header) c.self.view_is) c.requires.seat)
 
 pub unlock-requires-clause-follows : goal.unlock-requires-clause-follows
 unlock-requires-clause-follows g c =
-    let p = point_of c.lock-held.result.value.core in
+    let p = point_of c.lock-held.result.value.core.value in
     follows_taken _ c.pass.inside.token p p c.pass.inside.seat c.lock-held.ensures.taken.1 c.pass.invariant.seat_is
     (follows_same c.pass.inside.seat p)
 
 looks : (g : _) (c : goal.After-unlock g) → Look c.pass.inside.token (held_ticket c.lock-held.result) c.unlock.new.token
-    (point_of c.lock-held.result.value.core) c.pass.inside.seat c.pass.inside.share
+    (point_of c.lock-held.result.value.core.value) c.pass.inside.seat c.pass.inside.share
 looks g c = record {
   taken = c.lock-held.ensures.taken.1;
   given = c.unlock.ensures;

@@ -1,4 +1,4 @@
-use Rattle.std.proofs.Common.{◌≡◌, ◌∙◌, length, sym, ap, arith}
+use Rattle.std.proofs.Common.{◌≡◌, ◌∙◌, sym, ap}
 use Rattle.word_lock.specs.Held.{held_ticket}
 use Rattle.monitor.specs.Shown.{Shown}
 use Rattle.word_lock.specs.Ticket.{LockId}
@@ -11,14 +11,14 @@ pub step-answer-requires : goal.step-answer-requires
 step-answer-requires g c =
     let of : c.self.inside.lock ≡ c.pass.inside.token.lock =
     c.self.view_is ∙ (sym c.requires.is_of ∙ ap (λ (s : Shown). s.lock) (sym c.pass.view_is)) in
-    seat_below (point_of c.in-Some.held.value.core) _ c.pass.inside.token.lock.header c.pass.inside.seat
+    seat_below (point_of c.in-Some.held.value.core.value) _ c.pass.inside.token.lock.header c.pass.inside.seat
     c.in-Some.ensures.header (ap (λ (l : LockId). l.header) of)
     c.pass.invariant.below
 
 pub unlock-requires-clause-follows : goal.unlock-requires-clause-follows
 unlock-requires-clause-follows g c =
     follows_taken _ c.pass.inside.token _ _ c.pass.inside.seat c.in-Some.ensures.taken.1 c.pass.invariant.seat_is
-    (follows_step c.pass.inside.seat (point_of c.in-Some.held.value.core) (point_of c.step-answer.new.self) c.args.step
+    (follows_step c.pass.inside.seat (point_of c.in-Some.held.value.core.value) (point_of c.step-answer.new.self.core.value) c.args.step
     c.step-answer.result c.step-answer.ensures.answered)
 
 pub share_behind-pass-inside-requires : goal.share_behind-pass-inside-requires
@@ -27,7 +27,7 @@ share_behind-pass-inside-requires g c =
     c.pass.invariant.lawful.short c.pass.invariant.counted
 
 went : (g : _) (c : goal.After-done g) → Section c.pass.inside.token (held_ticket c.in-Some.held) c.unlock.new.token
-    (point_of c.in-Some.held.value.core) (point_of c.step-answer.new.self) c.pass.inside.seat c.pass.inside.share
+    (point_of c.in-Some.held.value.core.value) (point_of c.step-answer.new.self.core.value) c.pass.inside.seat c.pass.inside.share
     c.args.step c.step-answer.result
 went g c = record {
   taken = c.in-Some.ensures.taken.1;
@@ -37,17 +37,7 @@ went g c = record {
   entries = c.in-Some.ensures.entries;
   answered = c.step-answer.ensures.answered;
   found = c.in-Some.ensures.fact;
-  lawful = record {
-    legal = c.is_lawful.ensures.legal;
-    seated = c.is_lawful.ensures.seated;
-    order = c.is_lawful.ensures.order;
-    fair = c.is_lawful.ensures.fair;
-    room = c.is_lawful.ensures.room;
-    short =
-        let v = c.len-few.ensures.value in
-        let e : length c.history.result.now.entries ≡ length c.step-answer.new.self.entries = ap length c.history.ensures.entries in
-        let f = c.len-few.ensures.few in omega (arith, v, e, f);
-  };
+  lawful = c.step-answer.ensures.lawful;
 }
 
 pub invariant_of-pass-2 : goal.invariant_of-pass-2
