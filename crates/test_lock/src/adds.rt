@@ -120,3 +120,23 @@ pub fn two_add<R: Threads + Wait + Sync>(
     let y = y?;
     Ok(lock.join(x, y))
 }
+
+/// Whether one token finds the value out while the other, whose seat is 0, adds an entry.
+pub fn is_refused_meanwhile<R: Wait>(
+    rt: &R,
+    lock: &WordLock<Notes>,
+    zero: &mut Token,
+    one: &mut Token,
+) -> bool
+    requires zero { IsReady lock.now 0 zero.old }
+    requires one { IsReady lock.now 1 one.old }
+    ensures zero { IsReady lock.now 0 zero.new }
+    ensures one { IsReady lock.now 1 one.new }
+{
+    let mut held = lock.lock(rt, zero);
+    let holds = !zero.is_free();
+    let count = count_now(lock, one, 1, 0);
+    let added = held.value.add(got(0));
+    lock.unlock(zero, held);
+    holds && zero.is_free() && count.is_none() && added.is_ok()
+}

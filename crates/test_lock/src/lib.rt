@@ -1,8 +1,11 @@
-//! Tests of the word lock: tokens that take turns, threads, and memory that is refused.
+//! Tests of the word lock: tokens that take turns, threads, memory that is refused, and memory that is left as it
+//! was.
 #![tactic(auto)]
 
 #[cfg(test)]
 mod adds;
+#[cfg(test)]
+mod keeping;
 #[cfg(test)]
 mod memory;
 #[cfg(test)]

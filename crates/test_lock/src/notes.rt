@@ -1,5 +1,5 @@
 //! A value to lock: a header beside entries, oldest first.
-ghost use Rattle.std.specs.Prelude.{◌≡◌, [], reverse};
+ghost use Rattle.std.specs.Prelude.{◌≡◌, [], reverse, IfOk};
 ghost use Rattle.word_lock.specs.Point.{Follows};
 
 use history::entry::{End, Entry, Mode, Word};
@@ -53,6 +53,16 @@ impl Notes {
             header: HEADER,
             list: Vec::new(alloc),
         }
+    }
+
+    /// Notes that have room for so many entries.
+    pub fn with_room(alloc: Global, entries: usize) -> Result<Notes, AllocError>
+        ensures { IfOk result (λ notes. notes.list.items ≡ []) }
+    {
+        Ok(Notes {
+            header: HEADER,
+            list: Vec::with_capacity(alloc, entries)?,
+        })
     }
 
     pub fn add(&mut self, entry: Entry) -> Result<(), AllocError>

@@ -11,6 +11,7 @@ use std::rt::Clock;
 use std::sync::Wait;
 use std::test::Fail;
 use std::thread::{Threads, join};
+use std::time::{CpuClock, Duration};
 use word_lock::{Token, WordLock};
 
 #[test]
@@ -61,7 +62,14 @@ fn four_add<R: Threads + Wait + Sync>(
     Ok(lock.join(x, y))
 }
 
-// The second thread comes while the first one has the lock, sleeps, and is woken.
+/// So long the first thread has the lock, in milliseconds.
+const HELD: u64 = 600;
+
+/// So much of a processor's time two threads use at most, in milliseconds.
+const USED: u64 = 60;
+
+// The second thread comes while the first one has the lock, sleeps, and is woken. One that spins uses the
+// processor all the while.
 #[test]
 fn one_who_sleeps_is_woken(rt: HostRuntime) -> Result<(), Fail> {
     let Ok((lock, mut tokens)) = WordLock::open(rt.alloc(), Notes::new(rt.alloc()), 2) else {
@@ -69,9 +77,12 @@ fn one_who_sleeps_is_woken(rt: HostRuntime) -> Result<(), Fail> {
     };
     let b = last(&lock, &mut tokens, 1);
     let a = last(&lock, &mut tokens, 0);
+    let before = rt.process_cpu_time()?;
     let token = two_add_slowly(&rt, &lock, a, b)?;
+    let used = rt.process_cpu_time()?.saturating_sub(before);
     let notes = lock.close(&rt, token);
     assert_eq!(rt; (notes.count_of(0), notes.count_of(1)), (1, 1));
+    assert!(rt; used < Duration::from_millis(USED), "{used:?}");
     Ok(())
 }
 
@@ -90,11 +101,11 @@ fn two_add_slowly<R: Threads + Wait + Clock + Sync>(
         move || -> Result<Token, AllocError>
             requires { IsReady lock.now 0 a }
             ensures { IfOk result (λ t. IsReady lock.entry.now 0 t) }
-        { add_slowly(rt, lock, a, 0, 0, 40) },
+        { add_slowly(rt, lock, a, 0, 0, HELD) },
         move || -> Result<Token, AllocError>
             requires { IsReady lock.now 1 b }
             ensures { IfOk result (λ t. IsReady lock.entry.now 1 t) }
-        { add_slowly(rt, lock, b, 1, 10, 0) },
+        { add_slowly(rt, lock, b, 1, 50, 0) },
     );
     let x = x?;
     let y = y?;

@@ -1,32 +1,9 @@
 //! Tokens of one thread that take turns.
-ghost use Rattle.word_lock.specs.Ready.{IsReady};
-
-use crate::adds::{add, count_now, last};
-use crate::notes::{Notes, got};
+use crate::adds::{add, count_now, is_refused_meanwhile, last};
+use crate::notes::Notes;
 use std::process::Abort;
-use std::sync::Wait;
 use std::test::Fail;
-use word_lock::{Token, WordLock};
-
-// Whether one token finds the value out while the other, whose seat is 0, adds an entry.
-fn is_refused_meanwhile<R: Wait>(
-    rt: &R,
-    lock: &WordLock<Notes>,
-    zero: &mut Token,
-    one: &mut Token,
-) -> bool
-    requires zero { IsReady lock.now 0 zero.old }
-    requires one { IsReady lock.now 1 one.old }
-    ensures zero { IsReady lock.now 0 zero.new }
-    ensures one { IsReady lock.now 1 one.new }
-{
-    let mut held = lock.lock(rt, zero);
-    let holds = !zero.is_free();
-    let count = count_now(lock, one, 1, 0);
-    let added = held.value.add(got(0));
-    lock.unlock(zero, held);
-    holds && zero.is_free() && count.is_none() && added.is_ok()
-}
+use word_lock::WordLock;
 
 #[test]
 fn one_finds_what_the_other_gave_back(rt: HostRuntime) -> Result<(), Fail> {
@@ -55,4 +32,25 @@ fn tokens_meet_and_join(rt: HostRuntime) -> Result<(), Fail> {
     let notes = lock.close(&rt, token);
     assert_eq!(rt; (notes.count_of(0), notes.count_of(1)), (1, 1));
     Ok(())
+}
+
+/// Opens a lock, which has a token for each seat.
+fn open_for<R: Abort + AllocGlobal>(rt: &R, seats: u16) {
+    if seats == 0 {
+        return;
+    }
+    let Ok((_lock, tokens)) = WordLock::open(rt.alloc(), Notes::new(rt.alloc()), seats) else {
+        panic!(rt; "no memory for {seats}")
+    };
+    assert_eq!(rt; tokens.len(), usize::from(seats));
+}
+
+/// Each number that there are seats for, and the greatest.
+#[test]
+fn a_lock_has_a_token_for_each_seat(rt: HostRuntime) {
+    for seats in 1..=256 {
+        open_for(&rt, seats);
+    }
+    open_for(&rt, 1000);
+    open_for(&rt, 65_535);
 }

@@ -3,7 +3,7 @@
 //! Nothing stands between a core, a history or a table and the heap, so a test takes the heap first, and each
 //! further request is refused for true. Untouched memory costs next to nothing.
 
-ghost use Rattle.std.specs.Prelude.{◌≡◌, ◌-◌, ◌<◌, ◌≤◌, ◌↔◌, All, IfOk, IsTrue, vec_capacity};
+ghost use Rattle.std.specs.Prelude.{◌≡◌, ◌+◌, ◌-◌, ◌<◌, ◌≤◌, ◌↔◌, All, IfOk, IsTrue, if◌then◌else◌, vec_capacity};
 
 use std::alloc::{AllocError, Global};
 use std::marker::Model;
@@ -57,6 +57,7 @@ fn take(
 #[derive(Drop)]
 pub struct Memory {
     alloc: Global,
+    piece: usize,
     pieces: Vec<Vec<u8>>,
     rest: Vec<Vec<u8>>,
 }
@@ -81,6 +82,7 @@ impl Memory {
         }
         let mut memory = Memory {
             alloc,
+            piece,
             pieces,
             rest,
         };
@@ -101,6 +103,46 @@ impl Memory {
         ensures left { self.new ≡ self.old - 1 }
     {
         self.pieces.pop().is_some()
+    }
+
+    /// Takes a piece more, and says whether there was memory for it.
+    pub fn take_piece(&mut self) -> bool
+        ensures { self.new ≡ (if result then self.old + 1 else self.old) }
+    {
+        match Vec::with_capacity(self.alloc, self.piece) {
+            Ok(piece) => self.pieces.push(piece).is_ok(),
+            Err(_) => false,
+        }
+    }
+
+    /// Takes the pieces that there is memory for, and says how many they were.
+    pub fn take_pieces(&mut self) -> usize
+        ensures { self.new ≡ self.old + result }
+    {
+        for taken in 0..PIECES {
+            if !self.take_piece() {
+                return taken;
+            }
+        }
+        PIECES
+    }
+
+    /// Gives so many pieces back.
+    pub fn give_pieces(&mut self, count: usize)
+        ensures { self.new ≡ self.old - count }
+    {
+        for _ in 0..count {
+            let _was_left = self.give_piece();
+        }
+    }
+
+    /// How many pieces there is memory for. They are taken, and given back.
+    pub fn free_pieces(&mut self) -> usize
+        ensures { self.new ≡ self.old }
+    {
+        let free = self.take_pieces();
+        self.give_pieces(free);
+        free
     }
 }
 

@@ -27,3 +27,17 @@ fn a_piece_that_is_given_back_can_be_taken(rt: HostRuntime) -> Result<(), Fail> 
     assert!(rt; refused.is_err());
     Ok(())
 }
+
+/// A leak of one byte takes a part of a piece, and so the whole of it.
+#[test]
+fn a_piece_of_which_a_byte_is_taken_is_not_free(rt: HostRuntime) -> Result<(), Fail> {
+    let mut memory = Memory::take_all(rt.alloc(), 4096)?;
+    assert_eq!(rt; memory.free_pieces(), 0);
+    memory.give_pieces(3);
+    assert_eq!(rt; memory.free_pieces(), 3);
+    let byte: Vec<u8> = Vec::with_capacity(rt.alloc(), 1)?;
+    assert_eq!(rt; memory.free_pieces(), 2);
+    assert!(rt; memory.take_piece());
+    drop(byte);
+    Ok(())
+}

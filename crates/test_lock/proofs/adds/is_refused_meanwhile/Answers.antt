@@ -1,6 +1,6 @@
 use Rattle.std.proofs.Common.{sym, ◌∙◌}
 use Rattle.word_lock.proofs.Sections.{follows_taken}
-use Rattle.test_lock.proofs.turns.is_refused_meanwhile.Goals as goal
+use Rattle.test_lock.proofs.adds.is_refused_meanwhile.Goals as goal
 
 pub unlock-requires-clause-follows : goal.unlock-requires-clause-follows
 unlock-requires-clause-follows g c =
