@@ -1,36 +1,46 @@
 //! A queue of arrivals.
 
-ghost use Rattle.std.specs.Prelude.{◌≡◌, ℕ, ◌+◌, ◌^◌, ◌<◌, ◌==◌, not, List, [], ◌∷◌, ◌++◌, length, drop, filter, position, is_some, is_none, IfOk, IfErr, IfSome, IsSome};
+ghost use Rattle.std.specs.Prelude.{◌≡◌, ℕ, ◌+◌, ◌^◌, ◌<◌, ◌≤◌, ◌==◌, not, List, [], ◌∷◌, ◌++◌, length, drop, filter, position, is_some, is_none, IfOk, IfErr, IfSome, IsSome};
 ghost use Rattle.std.specs.Bool.{OnFalse};
-ghost use Rattle.std.specs.VecDeque.{deque_capacity};
 ghost use Rattle.history.specs.Line.{first_of, place_of};
-ghost use Rattle.acquire_queue.specs.Line.{StandOnce};
+ghost use Rattle.acquire_queue.specs.Line.{StandOnce, live, number_of, left_by, trimmed, swept};
+ghost use Rattle.node_arena.specs.NodeList.{under};
 
 use history::arrival::Arrival;
 use history::fault::Fault;
+use node_arena::node::{Node, NodeNo};
+use node_arena::node_list::NodeList;
 use std::alloc::Global;
-use std::collections::VecDeque;
 use std::marker::Model;
 
 /// The line of an object: one place at most for each of its seats, the longest waiter first.
+///
+/// A seat that leaves from between others leaves its node behind, marked as cancelled, so nobody has to be
+/// looked for and nothing is moved. A cancelled node is freed once it comes to the head, and all of them as
+/// soon as more stand than there are seats.
 #[derive(Drop)]
 pub struct Queue {
     seats: u16,
-    joined: u64,
-    line: VecDeque<Arrival>,
-    /// What each seat in line asks for, so that nobody has to be looked for.
-    table: Vec<Option<Arrival>>,
+    /// How many nodes aren't cancelled.
+    waiting: u16,
+    nodes: NodeList,
+    /// The number of the node of each seat in line, so that nobody has to be looked for.
+    table: Vec<Option<NodeNo>>,
 }
 
 impl Model for Queue {
-    ghost use Rattle.std.specs.VecDeque.{deque_capacity};
-    ghost use Rattle.acquire_queue.specs.Line.{Line, IsKept};
+    ghost use Rattle.acquire_queue.specs.Line.{Line, live, IsKept};
 
     ghost Value = { Line };
 
-    ghost view = { λ q. record { seats = q.seats; joined = q.joined; arrivals = q.line.items } };
+    ghost view = { λ q. record {
+      seats = q.seats;
+      joined = q.nodes.placed;
+      arrivals = live q.nodes.nodes;
+      nodes = q.nodes.nodes;
+    } };
 
-    ghost invariant = { λ q. IsKept q.seats (deque_capacity q.line) q.line.items q.table.items };
+    ghost invariant = { λ q. IsKept q.seats q.waiting q.nodes q.table.items };
 }
 
 impl Queue {
@@ -43,12 +53,12 @@ impl Queue {
         ensures refused { IfErr result (λ fault. fault ≡ Fault.OutOfMemory) }
     {
         let places = seats as usize;
-        let line = VecDeque::with_capacity(alloc, places)?;
+        let nodes = NodeList::with_places(alloc, 2 * places)?;
         let table = vec![in alloc; None; places]?;
         Ok(Queue {
             seats,
-            joined: 0,
-            line,
+            waiting: 0,
+            nodes,
             table,
         })
     }
@@ -62,23 +72,26 @@ impl Queue {
         ensures joined { self.new.joined ≡ self.old.joined + 1 }
         ensures seats { self.new.seats ≡ self.old.seats }
     {
-        self.table[arrival.seat as usize] = Some(arrival);
-        self.line.push_back_reserved(arrival);
-        self.joined += 1;
+        let number = self.nodes.push_back(Node {
+            arrival,
+            cancelled: false,
+        });
+        self.table[arrival.seat as usize] = Some(number);
+        self.waiting += 1;
     }
 
     /// How often anybody joined since the opening, those moved here from a condition too.
     pub fn joined(&self) -> u64
         ensures { result ≡ self.now.joined }
     {
-        self.joined
+        self.nodes.placed()
     }
 
     /// The longest waiter.
     pub fn first(&self) -> Option<Arrival>
         ensures { result ≡ first_of self.now.arrivals }
     {
-        self.line.front().copied()
+        Some(self.nodes.first()?.node.arrival)
     }
 
     /// Takes the longest waiter out of the line.
@@ -92,9 +105,13 @@ impl Queue {
         ensures joined { self.new.joined ≡ self.old.joined }
         ensures seats { self.new.seats ≡ self.old.seats }
     {
-        let first = self.line.pop_front()?;
-        self.table[first.seat as usize] = None;
-        Some(first)
+        let first = self.nodes.first()?;
+        let arrival = first.node.arrival;
+        self.nodes.remove(first.number);
+        free_head(&mut self.nodes);
+        self.table[arrival.seat as usize] = None;
+        self.waiting -= 1;
+        Some(arrival)
     }
 
     /// Takes a seat out of the line, wherever it stands, and tells whether it stood there.
@@ -105,18 +122,14 @@ impl Queue {
         ensures joined { self.new.joined ≡ self.old.joined }
         ensures seats { self.new.seats ≡ self.old.seats }
     {
-        if self.arrival_of(seat).is_none() {
+        let Some(number) = self.number_of(seat) else {
             return false;
-        }
-        match self.first() {
-            // Most who leave are the longest waiter, and then nobody has to be looked for.
-            Some(first) if first.seat == seat => {
-                let _first = self.take_first();
-            }
-            _ => {
-                self.table[seat as usize] = None;
-                remove_seat(&mut self.line, seat);
-            }
+        };
+        self.table[seat as usize] = None;
+        self.waiting -= 1;
+        leave_node(&mut self.nodes, number);
+        if self.nodes.len() > self.waiting as usize + self.seats as usize {
+            free_cancelled(&mut self.nodes);
         }
         true
     }
@@ -126,18 +139,22 @@ impl Queue {
         ensures position { result ≡ position (λ a. a.seat == seat) self.now.arrivals }
         ensures stands { is_some result ≡ is_some (place_of seat self.now.arrivals) }
     {
-        if self.arrival_of(seat).is_none() {
-            return None;
-        }
-        match place_in(&self.line, seat) {
-            None => None,
-            Some(place) => Some(place as u16),
-        }
+        let _number = self.number_of(seat)?;
+        place_in(&self.nodes, seat)
     }
 
     /// What a seat in line asks for, found in one step.
     pub fn arrival_of(&self, seat: u16) -> Option<Arrival>
         ensures { result ≡ place_of seat self.now.arrivals }
+    {
+        let number = self.number_of(seat)?;
+        Some(self.nodes.get(number)?.arrival)
+    }
+
+    /// The number of a seat's node.
+    fn number_of(&self, seat: u16) -> Option<NodeNo>
+        ensures number { result ≡ number_of seat self.now.nodes }
+        ensures live { self.now.arrivals ≡ live self.now.nodes }
     {
         *self.table.get(seat as usize)?
     }
@@ -148,13 +165,13 @@ impl Queue {
         ensures once { StandOnce self.now.arrivals }
         ensures below { (i : ℕ) → IsSome (place_of i self.now.arrivals) → i < self.now.seats }
     {
-        self.line.len() as u16
+        self.waiting
     }
 
     pub fn is_empty(&self) -> bool
         ensures { result ≡ (length self.now.arrivals == 0) }
     {
-        self.line.is_empty()
+        self.waiting == 0
     }
 
     /// Gives back what those who left still take up. The line is as it was.
@@ -163,21 +180,82 @@ impl Queue {
         ensures joined { self.new.joined ≡ self.old.joined }
         ensures seats { self.new.seats ≡ self.old.seats }
     {
-        // One who leaves is taken out at once, so nothing is left behind.
+        free_cancelled(&mut self.nodes);
+    }
+
+    /// How many nodes stand, those of seats that left among them.
+    pub fn standing(&self) -> u16
+        requires { self.now.seats < 2 ^ 15 }
+        ensures standing { result ≡ length self.now.nodes }
+        ensures live { self.now.arrivals ≡ live self.now.nodes }
+    {
+        self.nodes.len() as u16
     }
 }
 
-/// The line without a seat.
-fn remove_seat(line: &mut VecDeque<Arrival>, seat: u16)
-    ensures line { line.new.items ≡ filter (λ a. not (seat == a.seat)) line.old.items }
-    ensures room { deque_capacity line.new ≡ deque_capacity line.old }
+/// The head's node leaves with the cancelled ones behind it, any other one is marked and stays.
+fn leave_node(nodes: &mut NodeList, number: NodeNo)
+    requires { IsSome (under number nodes.old.nodes) }
+    ensures nodes { nodes.new.nodes ≡ left_by number nodes.old.nodes }
+    ensures placed { nodes.new.placed ≡ nodes.old.placed }
+    ensures places { nodes.new.places ≡ nodes.old.places }
 {
-    line.retain(|a| a.seat != seat);
+    match nodes.first() {
+        Some(first) if first.number.place == number.place => {
+            nodes.remove(number);
+            free_head(nodes);
+        }
+        _ => {
+            nodes.cancel(number);
+        }
+    }
 }
 
-/// The place of a seat in the line.
-fn place_in(line: &VecDeque<Arrival>, seat: u16) -> Option<usize>
-    ensures { result ≡ position (λ a. a.seat == seat) line.now.items }
+/// Frees the cancelled nodes at the head.
+fn free_head(nodes: &mut NodeList)
+    ensures nodes { nodes.new.nodes ≡ trimmed nodes.old.nodes }
+    ensures placed { nodes.new.placed ≡ nodes.old.placed }
+    ensures places { nodes.new.places ≡ nodes.old.places }
 {
-    line.iter().position(|a| a.seat == seat)
+    while let Some(first) = nodes.first() {
+        if !first.node.cancelled {
+            break;
+        }
+        nodes.remove(first.number);
+    }
+}
+
+/// Frees all cancelled nodes.
+fn free_cancelled(nodes: &mut NodeList)
+    ensures nodes { nodes.new.nodes ≡ swept nodes.old.nodes }
+    ensures placed { nodes.new.placed ≡ nodes.old.placed }
+    ensures places { nodes.new.places ≡ nodes.old.places }
+{
+    for place in 0..nodes.limit() {
+        if let Some(standing) = nodes.at(place) {
+            if standing.node.cancelled {
+                nodes.remove(standing.number);
+            }
+        }
+    }
+}
+
+/// How many that aren't cancelled stand before a seat.
+fn place_in(nodes: &NodeList, seat: u16) -> Option<u16>
+    requires { length (live nodes.now.nodes) < 2 ^ 16 }
+    ensures { result ≡ position (λ a. a.seat == seat) (live nodes.now.nodes) }
+{
+    let mut before: u16 = 0;
+    let mut next = nodes.first();
+    for _ in 0..nodes.len() {
+        let standing = next?;
+        if !standing.node.cancelled {
+            if standing.node.arrival.seat == seat {
+                return Some(before);
+            }
+            before += 1;
+        }
+        next = nodes.behind(standing.number);
+    }
+    None
 }

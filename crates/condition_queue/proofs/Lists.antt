@@ -2,12 +2,10 @@
 use Rattle.std.proofs.Common.{◌≡◌, ◌⊎◌, inl, inr, ℕ, zero, suc, ◌<◌, ◌≤◌, Bool, true, false, not, ◌||◌, ◌&&◌, cond, eqb, List, [], ◌∷◌, ◌++◌, length, map, take, drop, get_or, set, Some, refl, ap, ◌∙◌, sym, arith}
 use Rattle.std.specs.Prelude.{slice_get}
 use Rattle.std.specs.List.{AllByRecursion, IsDistinct, list_any}
-use Rattle.std.specs.declared.collections.VecDeque.{VecDeque}
-use Rattle.std.specs.VecDeque.{deque_items}
 use Rattle.std.proofs.lemmas.Bool.{cases_eq, eq-eqb, ne_eqb}
-use Rattle.std.proofs.lemmas.List.{get_or-set_same, get_or-set_other, length-map, map-set}
+use Rattle.std.proofs.lemmas.List.{get_or-set_same, get_or-set_other, length-map}
 use Rattle.std.proofs.lemmas.Map.Steps.{length-le_from_distinct_below}
-use Rattle.acquire_queue.proofs.Kept.{eqb_swap}
+use Rattle.acquire_queue.proofs.Lines.{eqb_swap}
 use Rattle.history.specs.Sleepers.{has, without}
 use Rattle.condition_queue.specs.Sleepers.{SleepOnce}
 
@@ -111,13 +109,7 @@ pub length-once : (n : ℕ) (xs : List ℕ) → SleepOnce xs → ((i : ℕ) → 
 length-once n xs once below =
     length-le_from_distinct_below xs n (distinct_seats xs once) (λ i p. below i (sym (any_has i xs) ∙ p))
 
--- one element of a list, and the list once it changed
-pub field_at : {X Y : Type 0} (f : X → Y) (xs : List X) (c : ℕ) (x : X) (y : Y) → c < length xs →
-    x ≡ get_or xs c x → get_or (map f xs) c y ≡ f x
-field_at f [] c x y low e = absurd (omega arith)
-field_at f (z ∷ xs) zero x y low e = ap f (sym e)
-field_at f (z ∷ xs) (suc c) x y low e = field_at f xs c x y (omega arith) e
-
+-- a list that is read at one place after another has changed
 pub at_set : {X : Type 0} (xs : List X) (c d : ℕ) (x y : X) → c < length xs →
     get_or (set xs c x) d y ≡ cond (eqb c d) x (get_or xs d y)
 at_set xs c d x y low = by (cases_eq d c)
@@ -125,25 +117,3 @@ at_set xs c d x y low = by (cases_eq d c)
     by : (d ≡ c) ⊎ (d ≡ c → ⊥) → get_or (set xs c x) d y ≡ cond (eqb c d) x (get_or xs d y)
     by (inl e) = rw e (rw (eq-eqb c c refl) (get_or-set_same xs c x y low))
     by (inr n) = rw (ne_eqb c d (λ e. n (sym e))) (get_or-set_other xs c d x y n)
-
-pub field_set : {X Y : Type 0} (f : X → Y) (xs : List X) (c d : ℕ) (x : X) (y : Y) → c < length xs →
-    get_or (map f (set xs c x)) d y ≡ cond (eqb c d) (f x) (get_or (map f xs) d y)
-field_set f xs c d x y low =
-    ap (λ l. get_or l d y) (map-set f xs c x) ∙ at_set (map f xs) c d (f x) y (omega (arith, length-map xs f))
-
--- the lists as contracts see them, where f of one takes its place
-module _ {Z : Type 0} where
-  pub lists_changed : (f : List ℕ → List ℕ) (lists : List (VecDeque ℕ Z)) (seen : ℕ → List ℕ) (c : ℕ)
-      (q p : VecDeque ℕ Z) → ((d : ℕ) → get_or (map deque_items lists) d [] ≡ seen d) → c < length lists →
-      q ≡ get_or lists c q → p.items ≡ f q.items → (d : ℕ) →
-      get_or (map deque_items (set lists c p)) d [] ≡ cond (eqb c d) (f (seen d)) (seen d)
-  lists_changed f lists seen c q p same low is becomes d =
-      field_set deque_items lists c d p [] low ∙ by (cases_eq c d)
-    where
-      by : (c ≡ d) ⊎ (c ≡ d → ⊥) → cond (eqb c d) p.items (get_or (map deque_items lists) d [])
-          ≡ cond (eqb c d) (f (seen d)) (seen d)
-      by (inl e) =
-          let here : q.items ≡ seen d = sym (field_at deque_items lists c q [] low is)
-          ∙ ap (λ k. get_or (map deque_items lists) k []) e ∙ same d in
-          rw (eq-eqb c d e) (becomes ∙ ap f here)
-      by (inr n) = rw (ne_eqb c d n) (same d)

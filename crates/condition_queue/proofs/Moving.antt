@@ -1,18 +1,19 @@
 -- Moving sleepers one after another.
 use Rattle.std.proofs.Common.{◌≡◌, ◌⊎◌, inl, inr, ℕ, zero, suc, ◌+◌, ◌<◌, ◌≤◌, Bool, true, false, ◌||◌, cond, eqb, List, [], ◌∷◌, ◌++◌, length, map, take, drop, get_or, set, Option, Some, None, refl, ap, ◌∙◌, sym, arith}
 use Rattle.std.specs.Prelude.{slice_get}
-use Rattle.std.proofs.lemmas.Bool.{cases_eq, eq-eqb, ne_eqb}
+use Rattle.std.proofs.lemmas.Bool.{cases_eq, eq-eqb, ne_eqb, cond-true, cond-false}
 use Rattle.std.proofs.lemmas.List.{append_assoc, append-nil, drop-drop, length-drop, map-append}
 use Rattle.std.proofs.Math.Seq.{take-add}
 use Rattle.history.specs.declared.arrival.Arrival.{Arrival}
 use Rattle.history.specs.Line.{coming_back, place_of}
-use Rattle.history.specs.Sleepers.{has}
+use Rattle.history.specs.Sleepers.{has, without}
 use Rattle.history.specs.Steps.{at_most_one}
 use Rattle.acquire_queue.specs.Line.{Line}
-use Rattle.condition_queue.specs.Sleepers.{Sleepers, SleepOnce, asleep_on, sleeper_of}
+use Rattle.condition_queue.specs.Sleepers.{Sleepers, SleepOnce, asleep_on, sleeper_of, sleeps_on}
 use Rattle.condition_queue.specs.declared.sleeper.Sleeper.{Sleeper}
 use Rattle.condition_queue.specs.Moves.{Moves}
-use Rattle.condition_queue.proofs.Lists.{has-append, at_set}
+use Rattle.condition_queue.proofs.Lists.{has-append, without_first}
+use Rattle.condition_queue.proofs.Kept.{left_elsewhere}
 
 either : {X : Type 0} (b : Bool) (x : X) → x ≡ cond b x x
 either true x = refl
@@ -45,14 +46,25 @@ pub nobody_first : (xs : List ℕ) → slice_get xs 0 ≡ None → at_most_one (
 nobody_first [] p = refl
 nobody_first (x ∷ xs) p = cc
 
--- the table, once the first of a list is awake
-pub moved_table : (table : List (Option Sleeper)) (seen : ℕ → Option Sleeper) (s : ℕ) (xs : List ℕ) →
-    ((i : ℕ) → get_or table i None ≡ seen i) → s < length table → s ∷ [] ≡ take 1 xs → (i : ℕ) →
-    get_or (set table s None) i None ≡ cond (has i (take 1 xs)) None (seen i)
-moved_table table seen s xs same low first i =
-    at_set table s i None None low
-    ∙ ap (λ o. cond (eqb s i) None o) (same i)
-    ∙ ap (λ b. cond b None (seen i)) (alone (eqb s i) ∙ ap (has i) first)
+-- the lists and the sleepers, once the first on a condition is awake
+pub moved_lists : (c s : ℕ) (old new : ℕ → List ℕ) (o : Option Sleeper) → ((d : ℕ) → new d ≡ without s (old d)) →
+    SleepOnce (old c) → Some s ≡ slice_get (old c) 0 → sleeps_on c o ≡ true →
+    ((d : ℕ) → has s (old d) ≡ sleeps_on d o) → (d : ℕ) → new d ≡ cond (eqb c d) (drop 1 (old d)) (old d)
+moved_lists c s old new o left once first asleep listed d = by (cases_eq c d)
+  where
+    by : (c ≡ d) ⊎ (c ≡ d → ⊥) → new d ≡ cond (eqb c d) (drop 1 (old d)) (old d)
+    by (inl e) =
+        left d ∙ ap (λ k. without s (old k)) (sym e) ∙ without_first s (old c) once (sym first)
+        ∙ ap (λ k. drop 1 (old k)) e ∙ sym (cond-true _ _ _ (eq-eqb c d e))
+    by (inr n) =
+        left d ∙ left_elsewhere c d s o (old d) asleep (λ e. n (sym e)) (listed d)
+        ∙ sym (cond-false _ _ _ (ne_eqb c d n))
+
+pub moved_sleepers : (s : ℕ) (xs : List ℕ) (old new : ℕ → Option Sleeper) →
+    ((i : ℕ) → new i ≡ cond (eqb s i) None (old i)) → s ∷ [] ≡ take 1 xs → (i : ℕ) →
+    new i ≡ cond (has i (take 1 xs)) None (old i)
+moved_sleepers s xs old new left first i =
+    left i ∙ ap (λ b. cond b None (old i)) (alone (eqb s i) ∙ ap (has i) first)
   where
     alone : (b : Bool) → b ≡ (b || false)
     alone true = refl

@@ -1,6 +1,7 @@
 -- The sleepers as contracts see them, and how the fields of the waiters hold them.
 use Rattle.std.specs.Prelude.{◌≡◌, ℕ, ◌<◌, ◌≤◌, ◌^◌, ◌==◌, Bool, false, List, [], ◌∷◌, length, slice_index_or, Option, Some, None}
 use Rattle.history.specs.Sleepers.{has}
+use Rattle.node_arena.specs.LinkedLists.{LinkedLists, items, list_of, list_count, key_limit}
 use Rattle.condition_queue.specs.declared.sleeper.Sleeper.{Sleeper}
 
 -- How many seats and conditions there are, who sleeps on each condition, the longest sleeper first, and
@@ -28,11 +29,18 @@ abbrev pub SleepOnce : List ℕ → Type 0
 SleepOnce [] = Unit {0}
 SleepOnce (i ∷ rest) = (has i rest ≡ false) × SleepOnce rest
 
--- The lists and the table tell the same, and each condition has a place for each seat.
-pub record IsKept (seats : ℕ) (lists : List (List ℕ)) (rooms : List ℕ)
-    (table : List (Option Sleeper)) : Type 0 where
-  pub listed : (c i : ℕ) → has i (slice_index_or lists c []) ≡ sleeps_on c (slice_index_or table i None)
-  pub once : (c : ℕ) → SleepOnce (slice_index_or lists c [])
+-- the condition of one who sleeps
+abbrev pub condition_of : Option Sleeper → Option ℕ
+condition_of None = None
+condition_of (Some s) = Some s.condition
+
+-- The lists, the counts and the table tell the same, and each seat has a link.
+pub record IsKept (seats : ℕ) (l : LinkedLists) (counts : List ℕ) (table : List (Option Sleeper)) : Type 0 where
+  pub listed : (c i : ℕ) → has i (items l c) ≡ sleeps_on c (slice_index_or table i None)
+  pub owned : (i : ℕ) → list_of l i ≡ condition_of (slice_index_or table i None)
+  pub once : (c : ℕ) → SleepOnce (items l c)
+  pub counted : (c : ℕ) → slice_index_or counts c 0 ≡ length (items l c)
+  pub each_counted : length counts ≡ list_count l
   pub one_a_seat : length table ≡ seats
-  pub reserved : (c : ℕ) → c < length lists → seats ≤ slice_index_or rooms c 0
+  pub linked : seats ≤ key_limit l
   pub few : seats < 2 ^ 16

@@ -1,8 +1,7 @@
 //! The sleepers of all conditions of one object.
 
-ghost use Rattle.std.specs.Prelude.{◌≡◌, false, true, ℕ, ◌+◌, ◌^◌, ◌<◌, ◌≤◌, ◌==◌, if◌then◌else◌, [], ◌∷◌, ◌++◌, length, slice_get, is_some, All, Some, None, IfOk, IfErr, IfSome};
+ghost use Rattle.std.specs.Prelude.{◌≡◌, false, true, ℕ, ◌+◌, ◌^◌, ◌<◌, ◌≤◌, ◌==◌, if◌then◌else◌, [], ◌∷◌, ◌++◌, length, slice_get, is_some, Some, None, IfOk, IfErr, IfSome};
 ghost use Rattle.std.specs.Bool.{OnFalse};
-ghost use Rattle.std.specs.VecDeque.{deque_capacity};
 ghost use Rattle.history.specs.Line.{coming_back, place_of};
 ghost use Rattle.history.specs.Sleepers.{has, without};
 ghost use Rattle.history.specs.Steps.{at_most_one};
@@ -13,8 +12,8 @@ use crate::sleeper::Sleeper;
 use acquire_queue::queue::Queue;
 use deciding::arrivals::coming_back;
 use history::fault::Fault;
-use std::alloc::{AllocError, Global};
-use std::collections::VecDeque;
+use node_arena::linked_lists::LinkedLists;
+use std::alloc::Global;
 use std::marker::Model;
 
 /// The sleepers of each condition of an object, the longest sleeper first. A seat sleeps on one condition
@@ -22,27 +21,28 @@ use std::marker::Model;
 #[derive(Drop)]
 pub struct Waiters {
     seats: u16,
-    lists: Vec<VecDeque<u16>>,
+    /// The seats that sleep on each condition, linked by one record for each seat.
+    lists: LinkedLists,
+    /// How many sleep on each condition.
+    counts: Vec<u16>,
     /// What each seat sleeps on, so that nobody has to be looked for.
     table: Vec<Option<Sleeper>>,
 }
 
 impl Model for Waiters {
-    ghost use Rattle.std.specs.Prelude.{length, map};
-    ghost use Rattle.std.specs.VecDeque.{deque_items, deque_capacity};
+    ghost use Rattle.node_arena.specs.LinkedLists.{list_count};
     ghost use Rattle.condition_queue.specs.Sleepers.{Sleepers, IsKept};
 
     ghost Value = { Sleepers };
 
     ghost view = { λ w. record {
       seats = w.seats;
-      conditions = length w.lists.items;
-      lists = map deque_items w.lists.items;
+      conditions = list_count w.lists;
+      lists = w.lists.lists;
       sleepers = w.table.items;
     } };
 
-    ghost invariant = { λ w.
-        IsKept w.seats (map deque_items w.lists.items) (map deque_capacity w.lists.items) w.table.items };
+    ghost invariant = { λ w. IsKept w.seats w.lists w.counts.items w.table.items };
 }
 
 impl Waiters {
@@ -55,11 +55,13 @@ impl Waiters {
         ensures seats { IfOk result (λ waiters. waiters.seats ≡ seats) }
         ensures refused { IfErr result (λ fault. fault ≡ Fault.OutOfMemory) }
     {
-        let lists = reserve_lists(alloc, conditions, seats)?;
+        let lists = LinkedLists::with_keys(alloc, conditions as usize, seats as usize)?;
+        let counts = vec![in alloc; 0u16; conditions as usize]?;
         let table = vec![in alloc; None; seats as usize]?;
         Ok(Waiters {
             seats,
             lists,
+            counts,
             table,
         })
     }
@@ -80,7 +82,8 @@ impl Waiters {
             condition: c,
             holds,
         });
-        self.lists[c as usize].push_back_reserved(seat);
+        self.lists.push_back(c as usize, seat as usize);
+        self.counts[c as usize] += 1;
     }
 
     /// Takes a seat away from the condition that it sleeps on, and tells whether it slept.
@@ -102,7 +105,8 @@ impl Waiters {
             None => false,
             Some(sleeper) => {
                 self.table[seat as usize] = None;
-                remove_seat(&mut self.lists[sleeper.condition as usize], seat);
+                self.lists.unlink(seat as usize);
+                self.counts[sleeper.condition as usize] -= 1;
                 true
             }
         }
@@ -122,8 +126,7 @@ impl Waiters {
         match self.first_on(c) {
             None => 0,
             Some(seat) => {
-                self.lists[c as usize].pop_front();
-                self.table[seat as usize] = None;
+                self.leave(seat);
                 queue.join(coming_back(seat));
                 1
             }
@@ -153,9 +156,9 @@ impl Waiters {
         ensures len { result ≡ length (asleep_on self.now c) }
         ensures once { SleepOnce (asleep_on self.now c) }
     {
-        match self.lists.get(c as usize) {
+        match self.counts.get(c as usize) {
             None => 0,
-            Some(list) => list.len() as u16,
+            Some(count) => *count,
         }
     }
 
@@ -170,33 +173,14 @@ impl Waiters {
 
     /// The longest sleeper of a condition.
     fn first_on(&self, c: u8) -> Option<u16>
-        ensures { result ≡ slice_get (asleep_on self.now c) 0 }
+        requires { c < self.now.conditions }
+        ensures first { result ≡ slice_get (asleep_on self.now c) 0 }
+        ensures once { SleepOnce (asleep_on self.now c) }
+        ensures seat { IfSome result (λ seat. seat < self.now.seats) }
+        ensures asleep { IfSome result (λ seat. sleeps_on c (sleeper_of self.now seat) ≡ true) }
+        ensures listed { (d i : ℕ) → has i (asleep_on self.now d) ≡ sleeps_on d (sleeper_of self.now i) }
     {
-        self.lists.get(c as usize)?.front().copied()
+        let seat = self.lists.front(c as usize)?;
+        Some(seat as u16)
     }
-}
-
-/// A place for each seat on each condition.
-fn reserve_lists(
-    alloc: Global,
-    conditions: u8,
-    seats: u16,
-) -> Result<Vec<VecDeque<u16>>, AllocError>
-    ensures conditions { IfOk result (λ lists. length lists.items ≡ conditions) }
-    ensures reserved { IfOk result (λ lists.
-        All (λ list. (list.items ≡ []) × (seats ≤ deque_capacity list)) lists.items) }
-{
-    let mut lists = Vec::with_capacity(alloc, conditions as usize)?;
-    for _ in 0..conditions {
-        lists.push(VecDeque::with_capacity(alloc, seats as usize)?)?;
-    }
-    Ok(lists)
-}
-
-/// A list of sleepers without a seat.
-fn remove_seat(list: &mut VecDeque<u16>, seat: u16)
-    ensures list { list.new.items ≡ without seat list.old.items }
-    ensures room { deque_capacity list.new ≡ deque_capacity list.old }
-{
-    list.retain(|i| *i != seat);
 }

@@ -245,9 +245,9 @@ module _ (a : Places) (l : LinkedLists) (is : IsLinked a l) (number : NodeNo) (n
   in_list = is.linked number.place ∙ ap list_by (found_slot a number node found)
 
   pub cancelled_now : (b : Places) → Changes a b number.place (Some (record {
-      generation = number.generation;
-      node = record { arrival = node.arrival; cancelled = true };
-    })) → nodes_of b l ≡ cancel_at number.place (nodes_of a l)
+    generation = number.generation;
+    node = record { arrival = node.arrival; cancelled = true };
+  })) → nodes_of b l ≡ cancel_at number.place (nodes_of a l)
   cancelled_now b changes =
       nodes-cancel a.slots b.slots number.place changes.others (items l 0)
       (ap (standing_by number.place) changes.changed

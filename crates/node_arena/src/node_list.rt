@@ -89,7 +89,8 @@ impl NodeList {
 
     /// Below what each place is.
     pub fn limit(&self) -> usize
-        ensures { (place : ℕ) → IsSome (at_place place self.now.nodes) → place < result }
+        ensures below { (place : ℕ) → IsSome (at_place place self.now.nodes) → place < result }
+        ensures apart { StandApart self.now.nodes }
     {
         self.arena.limit()
     }

@@ -1,18 +1,64 @@
-use Rattle.std.proofs.Common.{◌≡◌, true, sym, ap, ◌∙◌}
+use Rattle.std.proofs.Common.{◌≡◌, Some, None, sym, ap, ◌∙◌, refl, arith}
 use Rattle.std.specs.Prelude.{is_some}
-use Rattle.history.specs.Line.{place_of}
-use Rattle.acquire_queue.specs.Line.{Line}
-use Rattle.acquire_queue.proofs.Kept.{absent, present, below, left_absent, kept_left}
+use Rattle.acquire_queue.specs.Line.{number_of}
+use Rattle.acquire_queue.proofs.Lines.{left_absent}
+use Rattle.acquire_queue.proofs.Nodes.{no_place, stands_by, under_by, left_node, kept_gone, kept_gone_swept, line_gone_swept}
 use Rattle.acquire_queue.proofs.queue.Queue.leave.Goals as goal
+use Rattle.acquire_queue.proofs.queue.Queue.leave.Goals.{In-Some, In_default}
 
-pub returns-then-is_none-clause-line : goal.returns-then-is_none-clause-line
-returns-then-is_none-clause-line c =
-    sym (left_absent _ _ (absent _ _ _ c.arrival_of.ensures c.is_none.ensures c.if-is_none.true))
+found : (c : In-Some) → number_of c.args.seat c.self.inside.nodes.nodes ≡ Some c.in-Some.number
+found c = rw (← c.self.view_is) at (sym c.in-Some.ensures.number)
+
+pub returns-in_default-clause-stood : goal.returns-in_default-clause-stood
+returns-in_default-clause-stood c =
+    rw (← c.self.view_is)
+    (sym (ap is_some (no_place c.args.seat c.self.inside.nodes.nodes
+    (rw (← c.self.view_is) at (sym c.number_of.ensures.number ∙ c.in_default.is)))))
+
+pub returns-in_default-clause-line : goal.returns-in_default-clause-line
+returns-in_default-clause-line c =
+    rw (← c.self.view_is)
+    (sym (left_absent c.args.seat _
+    (no_place c.args.seat c.self.inside.nodes.nodes
+    (rw (← c.self.view_is) at (sym c.number_of.ensures.number ∙ c.in_default.is)))))
+
+pub leave_node-requires : goal.leave_node-requires
+leave_node-requires c =
+    under_by _ _ _ _ c.self.invariant c.args.seat c.in-Some.number (found (goal.at.leave_node-requires c).In-Some)
 
 pub invariant_of-self : goal.invariant_of-self
 invariant_of-self c =
-    let stands : is_some (place_of c.args.seat c.self.inside.line.items) ≡ true =
-    ap (λ (v : Line). is_some (place_of c.args.seat v.arrivals)) c.self.view_is
-    ∙ present _ _ _ c.arrival_of.ensures c.is_none.ensures c.if-is_none.false in
-    let low = below _ _ _ _ c.self.invariant c.args.seat stands in
-    rw (c.remove_seat.ensures.line, c.remove_seat.ensures.room) (kept_left _ _ _ _ _ c.self.invariant low)
+    kept_gone_swept _ _ _ _ c.self.invariant c.args.seat c.in-Some.number (found (goal.at.invariant_of-self c).In-Some)
+    c.leave_node.new.nodes c.free_cancelled.new.nodes _ refl c.leave_node.ensures.nodes c.leave_node.ensures.places
+    c.free_cancelled.ensures.nodes c.free_cancelled.ensures.places
+
+pub invariant_of-self-else-len-self : goal.invariant_of-self-else-len-self
+invariant_of-self-else-len-self c =
+    kept_gone _ _ _ _ c.self.invariant c.args.seat c.in-Some.number
+    (found (goal.at.invariant_of-self-else-len-self c).In-Some) c.leave_node.new.nodes _ refl c.leave_node.ensures.nodes
+    c.leave_node.ensures.places (omega (arith, c.len.ensures, c.if-len-self.false))
+
+pub returns-then-len-self-clause-stood : goal.returns-then-len-self-clause-stood
+returns-then-len-self-clause-stood c =
+    rw (← c.self.view_is)
+    (sym (stands_by _ _ _ _ c.self.invariant c.args.seat c.in-Some.number
+    (found (goal.at.returns-then-len-self-clause-stood c).In-Some)))
+
+pub returns-then-len-self-clause-line : goal.returns-then-len-self-clause-line
+returns-then-len-self-clause-line c =
+    rw (← c.self.view_is)
+    (line_gone_swept _ _ _ _ c.self.invariant c.args.seat c.in-Some.number
+    (found (goal.at.returns-then-len-self-clause-line c).In-Some) c.leave_node.new.nodes c.free_cancelled.new.nodes
+    c.leave_node.ensures.nodes c.free_cancelled.ensures.nodes)
+
+pub returns-else-len-self-clause-stood : goal.returns-else-len-self-clause-stood
+returns-else-len-self-clause-stood c =
+    rw (← c.self.view_is)
+    (sym (stands_by _ _ _ _ c.self.invariant c.args.seat c.in-Some.number
+    (found (goal.at.returns-else-len-self-clause-stood c).In-Some)))
+
+pub returns-else-len-self-clause-line : goal.returns-else-len-self-clause-line
+returns-else-len-self-clause-line c =
+    rw (← c.self.view_is)
+    ((left_node _ _ _ _ c.self.invariant c.args.seat c.in-Some.number
+    (found (goal.at.returns-else-len-self-clause-line c).In-Some) c.leave_node.new.nodes c.leave_node.ensures.nodes).arrivals)

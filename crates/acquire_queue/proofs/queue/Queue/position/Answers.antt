@@ -1,25 +1,31 @@
-use Rattle.std.proofs.Common.{rules, sym, ap, ◌∙◌, arith}
+use Rattle.std.proofs.Common.{◌≡◌, None, sym, ap, ◌∙◌, arith}
 use Rattle.std.specs.Prelude.{is_some}
 use Rattle.history.specs.Line.{place_of}
-use Rattle.acquire_queue.specs.Line.{Line}
-use Rattle.acquire_queue.proofs.Kept.{absent, found, found_none, position_below}
+use Rattle.acquire_queue.specs.Line.{live}
+use Rattle.acquire_queue.proofs.Lines.{found, found_none}
+use Rattle.acquire_queue.proofs.Nodes.{no_place, few_wait}
 use Rattle.acquire_queue.proofs.queue.Queue.position.Goals as goal
+use Rattle.acquire_queue.proofs.queue.Queue.position.Goals.{In_err-_number}
 
-pub returns-then-is_none-clause-position : goal.returns-then-is_none-clause-position
-returns-then-is_none-clause-position c =
-    sym (found_none c.args.seat c.args.self.now.arrivals
-    (absent _ _ _ c.arrival_of.ensures c.is_none.ensures c.if-is_none.true))
+absent : (c : In_err-_number) → place_of c.args.seat c.args.self.now.arrivals ≡ None
+absent c =
+    ap (place_of c.args.seat) c.number_of.ensures.live
+    ∙ no_place c.args.seat c.args.self.now.nodes (sym c.in_err-_number.ensures.number)
 
-pub overflow_cast-result : goal.overflow_cast-result
-overflow_cast-result c =
-    let low = position_below c.args.seat c.in-Some.place _ _ _ _ c.self.invariant (sym c.in-Some.ensures) in
-    omega (arith, low, c.self.invariant.few)
+pub returns-in_err-_number-clause-position : goal.returns-in_err-_number-clause-position
+returns-in_err-_number-clause-position c =
+    c.from_residual.ensures
+    ∙ sym (found_none c.args.seat _ (absent (goal.at.returns-in_err-_number-clause-position c).In_err-_number))
 
-pub returns-in-None-clause-stands : goal.returns-in-None-clause-stands
-returns-in-None-clause-stands c =
-    ap is_some c.in-None.ensures
-    ∙ found c.args.seat c.self.inside.line.items
-    ∙ ap (λ (v : Line). is_some (place_of c.args.seat v.arrivals)) c.self.view_is
+pub returns-in_err-_number-clause-stands : goal.returns-in_err-_number-clause-stands
+returns-in_err-_number-clause-stands c =
+    ap is_some c.from_residual.ensures
+    ∙ sym (ap is_some (absent (goal.at.returns-in_err-_number-clause-stands c).In_err-_number))
 
-pub returns-in-Some-clause-position : goal.returns-in-Some-clause-position
-returns-in-Some-clause-position c = search rules
+pub place_in-requires : goal.place_in-requires
+place_in-requires c = omega (arith, c.self.invariant.counted, few_wait _ _ _ _ c.self.invariant, c.self.invariant.few)
+
+pub returns-clause-stands : goal.returns-clause-stands
+returns-clause-stands c =
+    rw (← c.self.view_is)
+    (ap is_some c.place_in.ensures ∙ found c.args.seat (live c.self.inside.nodes.nodes))

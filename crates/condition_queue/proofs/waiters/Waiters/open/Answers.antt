@@ -1,18 +1,16 @@
-use Rattle.std.proofs.Common.{rules, ◌≡◌, ℕ, get_or, None, arith}
+use Rattle.std.proofs.Common.{◌≡◌, ℕ, get_or, None, arith}
 use Rattle.std.proofs.lemmas.Grind.{common_steps}
-use Rattle.condition_queue.proofs.Kept.{nobody, kept_opened}
+use Rattle.condition_queue.proofs.Kept.{kept_opened}
 use Rattle.condition_queue.proofs.waiters.Waiters.open.Goals as goal
 
 pub invariant_of-result : goal.invariant_of-result
 invariant_of-result c =
     let none : (i : ℕ) → get_or c.in_ok-table.table.items i None ≡ None = λ i. grind (arith, common_steps) in
+    let zeros : (d : ℕ) → get_or c.in_ok-counts.counts.items d 0 ≡ 0 = λ d. grind (arith, common_steps) in
     let table = c.in_ok-table.table.ok.0 in
-    kept_opened c.args.seats c.in_ok-lists.lists.items c.in_ok-table.table.items
-    c.in_ok-lists.ensures.reserved none
-    (omega (arith, c.in_ok-table.ensures.len, table)) (omega (arith, c.ranges.seats.fits))
-
-pub returns-clause-empty : goal.returns-clause-empty
-returns-clause-empty c = nobody c.args.seats c.in_ok-lists.lists.items c.in_ok-lists.ensures.reserved
-
-pub returns-clause-conditions : goal.returns-clause-conditions
-returns-clause-conditions c = search rules
+    let counts = c.in_ok-counts.counts.ok.0 in
+    kept_opened c.args.seats c.in_ok-lists.lists c.in_ok-counts.counts.items c.in_ok-table.table.items
+    c.in_ok-lists.ensures.no_items c.in_ok-lists.ensures.no_keys none zeros
+    (omega (arith, c.in_ok-counts.ensures.len, counts, c.in_ok-lists.ensures.count))
+    (omega (arith, c.in_ok-table.ensures.len, table)) c.in_ok-lists.ensures.room
+    (omega (arith, c.ranges.seats.fits))

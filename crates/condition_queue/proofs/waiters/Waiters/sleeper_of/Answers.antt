@@ -1,8 +1,6 @@
-use Rattle.std.proofs.Common.{rules, ◌≡◌, ◌<◌, length, get_or, None, ap, ◌∙◌, sym, arith}
-use Rattle.std.specs.VecDeque.{deque_items}
+use Rattle.std.proofs.Common.{◌≡◌, ◌<◌, length, get_or, None, ap, ◌∙◌, sym, arith}
 use Rattle.std.proofs.lemmas.Bool.{ltb-true}
-use Rattle.std.proofs.lemmas.List.{get_or_read, length-map}
-use Rattle.condition_queue.specs.Sleepers.{Sleepers}
+use Rattle.std.proofs.lemmas.List.{get_or_read}
 use Rattle.condition_queue.proofs.Kept.{condition_known}
 use Rattle.condition_queue.proofs.waiters.Waiters.sleeper_of.Goals as goal
 
@@ -14,8 +12,4 @@ returns-clause-condition c =
     let told : found ≡ get_or c.self.inside.table.items c.args.seat None =
     get_or_read c.self.inside.table.items c.args.seat found low (c.in_ok-get.ensures.lookup.1
     ∙ ap (λ l. get_or l c.args.seat found) c.deref.ensures.value) None in
-    condition_known _ _ _ _ _ c.self.invariant (length-map c.self.inside.lists.items deque_items
-    ∙ ap (λ (v : Sleepers). v.conditions) c.self.view_is) c.args.seat found (sym told)
-
-pub returns-clause-sleeper : goal.returns-clause-sleeper
-returns-clause-sleeper c = search rules
+    rw (← c.self.view_is) (condition_known _ _ _ _ c.self.invariant c.args.seat found (sym told))

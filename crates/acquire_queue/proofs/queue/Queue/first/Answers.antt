@@ -1,5 +1,0 @@
-use Rattle.std.proofs.Common.{rules}
-use Rattle.acquire_queue.proofs.queue.Queue.first.Goals as goal
-
-pub returns : goal.returns
-returns c = search rules

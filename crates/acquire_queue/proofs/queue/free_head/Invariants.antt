@@ -1,0 +1,13 @@
+use Rattle.std.proofs.Common.{◌≡◌, ℕ, length}
+use Rattle.node_arena.specs.NodeList.{StandApart}
+use Rattle.acquire_queue.specs.Line.{trimmed}
+use Rattle.acquire_queue.proofs.queue.free_head.Given as goal
+
+abbrev pub invariant-loop-first : goal.invariant-loop-first
+invariant-loop-first l =
+    (trimmed l.nodes.nodes ≡ trimmed l.fn.nodes.nodes)
+    × (l.nodes.placed ≡ l.fn.nodes.placed)
+    × (l.nodes.places ≡ l.fn.nodes.places)
+
+abbrev pub decreases-loop-first : goal.decreases-loop-first
+decreases-loop-first l = length l.nodes.nodes
