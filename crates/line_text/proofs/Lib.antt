@@ -8,3 +8,4 @@ pub mod Seats
 pub mod AskingOnce
 pub mod UnderWay
 pub mod Faults
+pub mod LongLines
