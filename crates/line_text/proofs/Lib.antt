@@ -9,3 +9,4 @@ pub mod AskingOnce
 pub mod UnderWay
 pub mod Faults
 pub mod LongLines
+pub mod Lengths
