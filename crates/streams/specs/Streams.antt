@@ -1,5 +1,5 @@
 -- What a stream reads, writes and answers.
-use Rattle.std.specs.Prelude.{◌≡◌, ◌⊎◌, ◌≤◌, ℕ, List, ◌++◌, length, Option, Some, None, Result, Ok, Err, IfSome}
+use Rattle.std.specs.Prelude.{◌≡◌, ◌⊎◌, ◌≤◌, ℕ, List, ◌++◌, length, Option, Result, Ok, Err, IfSome, IsSomeAnd}
 use Rattle.std.specs.Io.KnownBytes.{IsAtEnd, Keeps, Appends}
 use Rattle.line_text.specs.Form.{Form}
 use Rattle.line_text.specs.Reading.{Begins, IsReading}
@@ -36,12 +36,10 @@ pub record AreReadAhead {H I : Type 0} (form : Form H I) (text left : List ℕ) 
   pub begins : Begins form text header items (window ++ left)
   pub few : length window ≤ room
 
--- no line was read but those that were answered and those that a window holds, of a text whose reads can be
--- counted
+-- no line was read but those that were answered and what a window holds, of a text whose reads can be counted
 abbrev pub IsReadNoFurther : {H I : Type 0} → Form H I → Option (List ℕ) → Option (List ℕ) → Type 0
-IsReadNoFurther form None left = Unit {0}
-IsReadNoFurther form (Some text) None = ⊥
-IsReadNoFurther form (Some text) (Some left) = (left ≡ text) ⊎ (AreReadAhead form text left ⊎ IsTooLong text)
+IsReadNoFurther form text left =
+    IfSome text (λ t. IsTooLong t ⊎ IsSomeAnd left (λ rest. (rest ≡ t) ⊎ AreReadAhead form t rest))
 
 -- a text was read to its end where it is answered or has a fault, and before anything is written; where memory
 -- is refused, nothing more is read

@@ -78,6 +78,7 @@ impl Window {
         requires { left ≤ length self.old.bytes }
         ensures bytes { self.new.bytes ≡ drop (length self.old.bytes - left) self.old.bytes }
         ensures passed { self.new.passed ≡ self.old.passed + (length self.old.bytes - left) }
+        ensures few { length self.new.bytes ≤ self.new.places }
         ensures places { self.new.places ≡ self.old.places }
     {
         self.at = self.end - left;
@@ -113,6 +114,7 @@ impl Window {
         ensures kept { OnErr result ((self.new.bytes ≡ self.old.bytes)
             × Keeps (R.left reader.old) (R.left reader.new)) }
         ensures passed { self.new.passed ≡ 0 }
+        ensures few { length self.new.bytes ≤ self.new.places }
         ensures places { self.new.places ≡ self.old.places }
         ensures failing { IsErrOf result ReadFailed ↔ IsTrue (R.failed reader.new) }
         ensures kinds { IfErr result (λ fault. fault ≡ ReadFailed) }
@@ -141,6 +143,7 @@ impl Window {
             × Keeps (R.left reader.old) (R.left reader.new)) }
         ensures few { IfOk result (λ all. all ≡ false → length self.new.bytes ≤ kept_of_line) }
         ensures less { IfOk result (λ all. all ≡ false → IsShorter (R.left reader.old) (R.left reader.new)) }
+        ensures held { length self.new.bytes ≤ self.new.places }
         ensures whole { IfOk result (λ all. IsTrue all → IsLine self.new.bytes → IsAtEnd (R.left reader.new)) }
         ensures places { self.new.places ≡ self.old.places }
         ensures failing { IsErrOf result ReadFailed ↔ IsTrue (R.failed reader.new) }
@@ -168,6 +171,7 @@ impl Window {
         requires room { kept_of_line < self.old.places }
         ensures ahead { StaysAhead self.old.bytes (R.left reader.old) self.new.bytes (R.left reader.new) }
         ensures ready { (IsLine self.old.bytes → ⊥) → (self.new ≡ self.old) × (reader.new ≡ reader.old) }
+        ensures few { length self.new.bytes ≤ self.new.places }
         ensures places { self.new.places ≡ self.old.places }
         ensures whole { OnOk result (IsLine self.new.bytes → IsAtEnd (R.left reader.new)) }
         ensures failing { IsErrOf result ReadFailed ↔ IsTrue (R.failed reader.new) }
