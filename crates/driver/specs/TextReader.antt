@@ -52,7 +52,7 @@ IsBehindEnd count left (Ok (Some item)) = ⊥
 IsBehindEnd count left (Ok None) = IsAtEnd left
 IsBehindEnd count left (Err (Text fault)) = (fault ≡ BadLine (count + 3)) × IfSome left (λ more. more ≢ [])
 IsBehindEnd count left (Err ReadFailed) = Unit {0}
-IsBehindEnd count left (Err Memory) = Unit {0}
+IsBehindEnd count left (Err Memory) = ⊥
 IsBehindEnd count left (Err WriteFailed) = ⊥
 
 -- Whatever items were read: one more was, or they are all, or this is the fault of the text or of its source,

@@ -35,8 +35,8 @@ pub fn read_on<R: Source>(reader: &mut R) -> Result<(), StreamFault>
 pub fn told_at_the_end<R: Source>(reader: &mut R, fault: StreamFault) -> StreamFault
     requires { (fault ≡ ReadFailed) ↔ IsTrue (R.failed reader.old) }
     ensures told { IsToldFor fault result }
-    ensures memory { result ≡ Memory → ((fault ≡ Memory) × (reader.new ≡ reader.old))
-        ⊎ IfSome (R.left reader.old) IsTooLong }
+    ensures memory { result ≡ Memory → (fault ≡ Memory) ⊎ IfSome (R.left reader.old) IsTooLong }
+    ensures untouched { fault ≡ Memory → reader.new ≡ reader.old }
     ensures end { IsReadTo result (R.left reader.new) }
     ensures failing { (result ≡ ReadFailed) ↔ IsTrue (R.failed reader.new) }
 {
