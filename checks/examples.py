@@ -1,9 +1,10 @@
 #!/usr/bin/env python3
 """Runs every example through the program: checks/examples.py PROGRAM [FOLDER].
 
-Each pair NAME.steps and NAME.answers is replayed, and each pair NAME.history and NAME.answers audited. Then
-faults of each kind are tried. Compared are the exit status, standard output and standard error. The last line
-is 'N passed, M failed', and the status is 0 only if nothing failed and something passed.
+Each pair NAME.steps and NAME.answers is replayed, and each pair NAME.history and NAME.answers audited, from the
+file, and one of each kind from standard input too. Then faults of each kind are tried. Compared are the exit
+status, standard output and standard error. The last line is 'N passed, M failed', and the status is 0 only if
+nothing failed and something passed.
 """
 
 import pathlib
@@ -14,8 +15,8 @@ import tempfile
 SECONDS = 60
 
 
-def run(program, words):
-    done = subprocess.run([program, *map(str, words)], stdin=subprocess.DEVNULL, capture_output=True, timeout=SECONDS)
+def run(program, words, given=b""):
+    done = subprocess.run([program, *map(str, words)], input=given, capture_output=True, timeout=SECONDS)
     return done.returncode, done.stdout, done.stderr
 
 
@@ -54,6 +55,43 @@ def round_trips(program, folder, scratch):
         yield f"replay {file.name} --history, audit", good and verdict[2] == b""
 
 
+def from_input(program, folder):
+    """A steps text and two history texts, from standard input; a file that is named is read in its place."""
+    steps = (folder / "acquire_and_give.steps").read_bytes()
+    answers = (folder / "acquire_and_give.answers").read_bytes()
+    legal = (folder / "handed_over.history").read_bytes()
+    wrong = (folder / "taken_past_the_line.history").read_bytes()
+    told_legal = (folder / "handed_over.answers").read_bytes()
+    told_wrong = (folder / "taken_past_the_line.answers").read_bytes()
+    runs = [
+        ([], steps, (0, answers, b"")),
+        (["replay"], steps, (0, answers, b"")),
+        (["audit"], legal, (0, told_legal, b"")),
+        (["audit"], wrong, (1, told_wrong, b"")),
+        (["audit"], steps, (3, b"", b"aqs: bad header\n")),
+        (["replay"], legal, (3, b"", b"aqs: bad header\n")),
+        (["replay", folder / "acquire_and_give.steps"], wrong, (0, answers, b"")),
+        (["audit", folder / "handed_over.history"], wrong, (0, told_legal, b"")),
+        (["audit", folder / "taken_past_the_line.history"], legal, (1, told_wrong, b"")),
+    ]
+    for words, given, wanted in runs:
+        name = " ".join(pathlib.Path(w).name for w in map(str, words))
+        yield f"{name} with an input of {len(given)} bytes", run(program, words, given) == wanted
+    status, history, error = run(program, ["replay", "--history"], steps)
+    kept = (status, error) == (0, b"") and history.startswith(b"aqs-history 1 ")
+    yield "replay --history, audit", kept and run(program, ["audit"], history)[0] == 0
+
+
+def long_lines(scratch):
+    """A line of any length takes no more memory than a short one, and the time that its bytes take."""
+    header = b"aqs-steps 1 lock fair seats 2 conditions 0 cap 16\n"
+    (scratch / "long_line").write_bytes(header + b"0" * 64_000_000 + b"\nend 1\n")
+    (scratch / "long_cut").write_bytes(header + b"0" * 64_000_000)
+    yield ["replay", scratch / "long_line"], (3, b"", b"aqs: bad line 2\n")
+    yield ["replay", scratch / "long_cut"], (3, b"", b"aqs: cut short\n")
+    yield ["audit", scratch / "long_line"], (3, b"", b"aqs: bad header\n")
+
+
 def faults(scratch):
     header = b"aqs-steps 1 lock fair seats 2 conditions 0 cap 16\n"
     texts = {
@@ -78,8 +116,9 @@ def faults(scratch):
 
 
 def results(program, folder, scratch):
-    for words, wanted in [*pairs(folder), *faults(scratch)]:
+    for words, wanted in [*pairs(folder), *faults(scratch), *long_lines(scratch)]:
         yield " ".join(pathlib.Path(w).name for w in map(str, words)), run(program, words) == wanted
+    yield from from_input(program, folder)
     yield from round_trips(program, folder, scratch)
     for file in unpaired(folder):
         yield f"{file.name} has its pair", False

@@ -31,7 +31,7 @@ pub record Judging (first : Progress Header Entry) (now : EntriesHeld) (left : O
 
 pub judging_on : (first : Progress Header Entry) (old new : EntriesHeld) (left left' : Option (List ℕ))
     (a b : Auditor) (e : Entry) →
-    IsNext history_form (entries_read old left) (Ok (Some e)) (entries_read new left') →
+    IsNext history_form (entries_read old left) (Ok (Some e)) (entries_read new left') left' →
     new.header ≡ old.header → AreCounted old (Some e) new →
     ((k : Header) (h : List Entry) → HasJudged k h a → e.seat < k.seats → HasJudged k (e ∷ h) b) →
     Judging first old left a → Judging first new left' b
@@ -52,7 +52,7 @@ judging_on first old new left left' a b e next same counted follow j =
 
 pub all_judged : (first : Progress Header Entry) (now new : EntriesHeld) (left left' : Option (List ℕ))
     (a : Auditor) (judgement : Judgement) →
-    IsNext history_form (entries_read now left) (Ok None) (entries_read new left') →
+    IsNext history_form (entries_read now left) (Ok None) (entries_read new left') left' →
     new.header ≡ now.header → AreCounted now None new →
     ((k : Header) (h : List Entry) → HasJudged k h a → IsJudgement k h judgement) →
     Judging first now left a → IsJudged first new judgement

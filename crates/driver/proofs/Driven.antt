@@ -51,13 +51,13 @@ answering_none p h none =
 
 -- one more step was answered
 pub answering_on : (first old new : Progress Header (ℕ × Step)) (x : ℕ × Step) (r : Result Answer Fault)
-    (h h' : List Entry) (remarks remarks' : List Remark)
-    → IsNext steps_form old (Ok (Some x)) new → new.so_far.header ≡ old.so_far.header →
+    (h h' : List Entry) (remarks remarks' : List Remark) (left : Option (List ℕ))
+    → IsNext steps_form old (Ok (Some x)) new left → new.so_far.header ≡ old.so_far.header →
     x.0 < old.so_far.header.seats → r ≡ (answer (opening new.so_far.header) h x.0 x.1).0 →
     h' ≡ (answer (opening new.so_far.header) h x.0 x.1).1
     → IsKept remarks (remark_of (length h) x.0 r) remarks' → Answering first old h remarks →
     Answering first new h' remarks'
-answering_on first old new x r h h' remarks remarks' next same below p q more a =
+answering_on first old new x r h h' remarks remarks' left next same below p q more a =
     let told = subst (λ (k : Header). Told k a.steps a.lines h) (sym same) a.told in
     let seated = subst (λ (k : Header). x.0 < k.seats) (sym same) below in
     let line = ended (answer_line (length h) x.0 r) in
@@ -109,11 +109,12 @@ answer_is form (Some t) header h remarks steps lines told remarked is =
     replayed form t header steps _ is (text_is form header h remarks steps lines told remarked)
 
 -- the last step was answered
-pub answering_all : (first now new : Progress Header (ℕ × Step)) (h : List Entry) (remarks : List Remark) →
-    now.so_far.header ≡ first.so_far.header → IsNext steps_form now (Ok None) new →
+pub answering_all : (first now new : Progress Header (ℕ × Step)) (h : List Entry) (remarks : List Remark)
+    (left : Option (List ℕ)) →
+    now.so_far.header ≡ first.so_far.header → IsNext steps_form now (Ok None) new left →
     Answering first now h remarks
     → AreAnswersBehind first (record { header = first.so_far.header; entries = h; remarks = remarks })
-answering_all first now new h remarks same all a = λ form text were.
+answering_all first now new h remarks left same all a = λ form text were.
     let told : Told first.so_far.header a.steps a.lines h =
     subst (λ (k : Header). Told k a.steps a.lines h) same a.told in
     let is = subst (λ (k : Header). IfSome text (λ t. IsText steps_form t k a.steps)) same

@@ -1,20 +1,27 @@
 -- The items of a text ahead of a reader's window.
-use Rattle.std.proofs.Common.{Bool, true, false, ◌≡◌, ◌≢◌, ℕ, ◌+◌, ◌-◌, ◌<◌, ◌≤◌, List, [], ◌∷◌, ◌++◌, length, drop, Option, None, Some, Result, Ok, Err, IfSome, refl, sym, ap, ◌∙◌, arith, append_assoc, append-nil, subst}
+use Rattle.std.proofs.Common.{Bool, true, false, inl, inr, ◌≡◌, ◌≢◌, ℕ, ◌+◌, ◌-◌, ◌<◌, ◌≤◌, List, [], ◌∷◌, ◌++◌, length, drop, take, Option, None, Some, Result, Ok, Err, IfSome, refl, sym, ap, ◌∙◌, arith, append_assoc, append-nil, subst}
 use Rattle.std.proofs.lemmas.Bool.{false≢true}
+use Rattle.std.proofs.lemmas.List.{length-append}
 use Rattle.std.specs.Result.{IsErr, IsErrAnd, IfErr}
 use Rattle.std.specs.Io.KnownBytes.{Keeps, IsAtEnd, prepend_known}
 use Rattle.history.specs.Text.{ended}
 use Rattle.line_text.specs.declared.fault.TextFault.{TextFault}
-use Rattle.line_text.specs.declared.fault.TextFault.TheVariants.{BadHeader, BadLine, CutShort, OutOfMemory}
-use Rattle.line_text.specs.Form.{Form}
-use Rattle.line_text.specs.Reading.{IsText, IsReading}
+use Rattle.line_text.specs.declared.fault.TextFault.TheVariants.{BadHeader, BadLine, CutShort}
+use Rattle.line_text.specs.Form.{Form, lines_of}
+use Rattle.line_text.specs.Reading.{Begins, IsText, IsReading}
+use Rattle.line_text.specs.Short.{HasShortLines}
+use Rattle.line_text.proofs.Growing.{broken}
+use Rattle.line_text.proofs.Lawful.{IsLawful}
+use Rattle.line_text.proofs.LongLines.{header_cut, line_cut, uncut}
 use Rattle.line_text.specs.UnderWay.{SoFar, AreRead, IsAhead, IsLineBehind}
 use Rattle.line_text.proofs.Following.{begins_more, without, begins_without, with_rest, fault_stays, text_goes_on}
 use Rattle.line_text.proofs.UnderWay.{last_bytes, one_further, read_on, shorter}
 use Rattle.streams.specs.declared.stream_fault.StreamFault.{StreamFault}
 use Rattle.streams.specs.declared.stream_fault.StreamFault.TheVariants.{Text, ReadFailed, WriteFailed, Memory}
-use Rattle.streams.specs.Window.{Grows}
-use Rattle.driver.specs.TextReader.{Progress, reader_at, WereRead, IsFaultOf, IsBehindEnd, IsNext}
+use Rattle.streams.specs.Streams.{IsReadNoFurther}
+use Rattle.streams.specs.Whole.{IsOfReading, IsTooLong}
+use Rattle.streams.specs.Window.{Grows, StaysAhead}
+use Rattle.driver.specs.TextReader.{Progress, reader_at, WereRead, IsFaultOf, IsBehindEnd, IsNext, IsPartLeft, Stands}
 
 -- ---- the source
 
@@ -27,6 +34,57 @@ pub more_left : (old new : List ℕ) (left after : Option (List ℕ)) (n : ℕ) 
 more_left old new None after n g lt = tt
 more_left old new (Some xs) None n g lt = absurd g.consumed
 more_left old new (Some xs) (Some ys) n g lt = λ e. some_more g.more ys n g.count lt (sym g.consumed ∙ e)
+
+-- what was read more stands in the window
+pub grown_keeps : (old new : List ℕ) (left after : Option (List ℕ)) (n : ℕ) → Grows old new left after n →
+    Keeps (prepend_known old left) (prepend_known new after)
+grown_keeps old new None after n g = tt
+grown_keeps old new (Some xs) None n g = absurd g.consumed
+grown_keeps old new (Some xs) (Some ys) n g =
+    ap (λ (t : List ℕ). t ++ ys) g.behind ∙ append_assoc old g.more ys
+    ∙ ap (λ (t : List ℕ). old ++ t) (sym g.consumed)
+
+-- the window stays, and so does what is left
+pub same_keeps : (old new : List ℕ) (left after : Option (List ℕ)) → new ≡ old → Keeps left after →
+    Keeps (prepend_known old left) (prepend_known new after)
+same_keeps old new None after same keeps = tt
+same_keeps old new (Some xs) None same keeps = absurd keeps
+same_keeps old new (Some xs) (Some ys) same keeps = rw (same, keeps) refl
+
+pub keeps_same : (a : Option (List ℕ)) → Keeps a a
+keeps_same None = tt
+keeps_same (Some xs) = refl
+
+keeps_on : (a b c : Option (List ℕ)) → Keeps a b → Keeps b c → Keeps a c
+keeps_on None b c p q = tt
+keeps_on (Some xs) None c p q = absurd p
+keeps_on (Some xs) (Some ys) None p q = absurd q
+keeps_on (Some xs) (Some ys) (Some zs) p q = q ∙ p
+
+-- nothing was let go of
+keeps_stays : (old new : List ℕ) (left after : Option (List ℕ)) →
+    Keeps (prepend_known old left) (prepend_known new after) → StaysAhead old left new after
+keeps_stays old new None after keeps = tt
+keeps_stays old new (Some xs) None keeps = absurd keeps
+keeps_stays old new (Some xs) (Some ys) keeps =
+    record {
+      line = [];
+      rest = new;
+      parts = sym keeps;
+      one_line = λ i d lt. absurd (omega (arith, lt));
+      seen = refl;
+    }
+
+-- what stands in the window begins with a good line: nothing of it was let go of
+all_kept : (old window good rest : List ℕ) (left after : Option (List ℕ)) →
+    StaysAhead old left window after → window ≡ good ++ 10 ∷ rest → length good < 256 →
+    Keeps (prepend_known old left) (prepend_known window after)
+all_kept old window good rest None after s is lt = tt
+all_kept old window good rest (Some xs) None s is lt = absurd s
+all_kept old window good rest (Some xs) (Some ys) s is lt =
+    let line = uncut 256 s.line s.rest good rest s.one_line lt (sym s.seen ∙ is) in
+    ap (λ (t : List ℕ). t ++ ys) (s.seen ∙ ap (λ (t : List ℕ). t ++ s.rest) line)
+    ∙ append_assoc s.line s.rest ys ∙ sym s.parts
 
 -- ---- what was read
 
@@ -52,6 +110,82 @@ further form (Some t) so_far known window after (Some more) items x ahead next w
     read_on form t so_far known items (window ++ more) x (after ++ more)
     (record { fits = ahead.fits; parts = parts }) (next were.known) were
 
+-- the next line was found
+pub item_kept : {H I : Type 0} (form : Form H I) (so_far : SoFar H I) (old window : List ℕ)
+    (left after : Option (List ℕ)) (x : I) (n : ℕ) → HasShortLines form 256 → form.IsHeader so_far.header →
+    StaysAhead old left window after → IsLineBehind form so_far window (Ok (Some (x, n)))
+    → Keeps (prepend_known old left) (prepend_known window after)
+item_kept form so_far old window left after x n short header s is =
+    let found = is [] in
+    all_kept old window (form.item_line so_far.count x) found.0 left after s
+    (found.1.parts ∙ broken (form.item_line so_far.count x) found.0)
+    (short.item so_far.header so_far.count x header found.1.fits)
+
+-- the end line was found
+pub end_kept : (old window good : List ℕ) (left after : Option (List ℕ)) → StaysAhead old left window after →
+    window ≡ ended good → length good < 255 → Keeps (prepend_known old left) (prepend_known window after)
+end_kept old window good left after s is lt =
+    all_kept old window good [] left after s is (omega (arith, lt))
+
+-- ---- what is left of a text
+
+part_left : {H I : Type 0} (form : Form H I) (t : List ℕ) (h : H) (items : List I) (rest : List ℕ) →
+    Begins form t h items rest → length rest ≤ length t
+part_left form t h items rest begun =
+    omega (
+      arith,
+      ap length begun.parts,
+      length-append (ended (form.header_line h)) (lines_of form 0 items ++ rest),
+      length-append (lines_of form 0 items) rest,
+    )
+
+pub left_of : {H I : Type 0} (form : Form H I) (text : Option (List ℕ)) (so_far : SoFar H I)
+    (window : List ℕ) (left : Option (List ℕ)) (items : List I) →
+    WereRead form text (reader_at so_far window left) items → IsPartLeft text left
+left_of form None so_far window left items were = tt
+left_of form (Some t) so_far window None items were = absurd were
+left_of form (Some t) so_far window (Some xs) items were =
+    omega (arith, part_left form t so_far.header items (window ++ xs) were.begins, length-append window xs)
+
+-- no line was read but those of these items, and what stands in the window
+pub no_further : {H I : Type 0} (form : Form H I) (text : Option (List ℕ)) (so_far : SoFar H I)
+    (window : List ℕ) (left : Option (List ℕ)) (items : List I) → length window ≤ 65792 →
+    WereRead form text (reader_at so_far window left) items → IsReadNoFurther form text left
+no_further form None so_far window left items few were = tt
+no_further form (Some t) so_far window None items few were = absurd were
+no_further form (Some t) so_far window (Some xs) items few were =
+    inr (inr (record {
+      header = so_far.header;
+      items = items;
+      window = window;
+      begins = were.begins;
+      few = few;
+    }))
+
+pub unread_yet : {H I : Type 0} (form : Form H I) (text : Option (List ℕ)) → IsReadNoFurther form text text
+unread_yet form None = tt
+unread_yet form (Some t) = inr (inl refl)
+
+-- its reads can't be counted
+pub too_long : {H I : Type 0} (form : Form H I) (text left after : Option (List ℕ)) →
+    IfSome left IsTooLong → IsPartLeft text left → IsReadNoFurther form text after
+too_long form None left after long part = tt
+too_long form (Some t) None after long part = absurd part
+too_long form (Some t) (Some xs) after long part = inl (omega (arith, long, part))
+
+pub whole_left : (text : Option (List ℕ)) → IsPartLeft text text
+whole_left None = tt
+whole_left (Some t) = omega arith
+
+-- the faults of reading
+reading_fault : {H I : Type 0} (form : Form H I) (text left after : Option (List ℕ)) (fault : StreamFault) →
+    IsOfReading fault → (fault ≡ Memory → IfSome left IsTooLong) → IsPartLeft text left →
+    IsFaultOf form text after fault
+reading_fault form text left after ReadFailed of long part = tt
+reading_fault form text left after Memory of long part = too_long form text left after (long refl) part
+reading_fault form text left after (Text fault) of long part = absurd of
+reading_fault form text left after WriteFailed of long part = absurd of
+
 -- the next line is in the window, and so many bytes behind it
 pub item_ahead : {H I : Type 0} (form : Form H I) (text : Option (List ℕ)) (so_far : SoFar H I)
     (known : List I → Type 0) (window : List ℕ) (left : Option (List ℕ)) (items : List I) (x : I) (n : ℕ)
@@ -76,7 +210,6 @@ stays : {H I : Type 0} (form : Form H I) (front more : List ℕ) (fault : TextFa
 stays form front more CutShort end is = rw (end refl, append-nil front) is
 stays form front more BadHeader end is = fault_stays form front more BadHeader (λ e. cc) is
 stays form front more (BadLine number) end is = fault_stays form front more (BadLine number) (λ e. cc) is
-stays form front more OutOfMemory end is = absurd is
 
 -- the front of a text that ends with a window: the same items were read of it
 front_read : {H I : Type 0} (form : Form H I) (t : List ℕ) (so_far : SoFar H I) (window more : List ℕ)
@@ -89,17 +222,36 @@ front_read form t so_far window more items were =
       known = were.known;
     }
 
+-- the fault of the next line, of which bytes may have been let go of
 fault_ahead : {H I : Type 0} (form : Form H I) (text : Option (List ℕ)) (so_far : SoFar H I)
-    (window : List ℕ) (left : Option (List ℕ)) (items : List I) (fault : TextFault)
-    → IsLineBehind form so_far window (Err fault) → (fault ≡ CutShort → IsAtEnd left) →
-    WereRead form text (reader_at so_far window left) items → IsFaultOf form text (Text fault)
-fault_ahead form None so_far window left items fault is end were = tt
-fault_ahead form (Some t) so_far window None items fault is end were = absurd were
-fault_ahead form (Some t) so_far window (Some more) items fault is end were =
-    let front = without form so_far.header items window in
-    subst (λ (b : List ℕ). IsReading form b (Err fault))
-    (sym (with_rest form t so_far.header items window more were.begins))
-    (stays form front more fault end (is front items (front_read form t so_far window more items were)))
+    (old window : List ℕ) (left after : Option (List ℕ)) (items : List I) (fault : TextFault)
+    → IsLawful form → HasShortLines form 256 → StaysAhead old left window after →
+    IsLineBehind form so_far window (Err fault) → (fault ≡ CutShort → IsAtEnd after) →
+    WereRead form text (reader_at so_far old left) items → IsFaultOf form text after (Text fault)
+fault_ahead form None so_far old window left after items fault lawful short s is end were = (tt, tt)
+fault_ahead form (Some t) so_far old window None after items fault lawful short s is end were = absurd were
+fault_ahead form (Some t) so_far old window (Some xs) None items fault lawful short s is end were = absurd s
+fault_ahead form (Some t) so_far old window (Some xs) (Some ys) items fault lawful short s is end were =
+    let h = so_far.header in
+    let begun : Begins form t h items ((s.line ++ s.rest) ++ ys) =
+    subst (Begins form t h items) (s.parts ∙ sym (append_assoc s.line s.rest ys)) were.begins in
+    let all = without form h items (s.line ++ s.rest) in
+    let cut = without form h items window in
+    let begun_all = begins_without form t h items (s.line ++ s.rest) ((s.line ++ s.rest) ++ ys) begun in
+    let begun_cut = begins_without form t h items window ((s.line ++ s.rest) ++ ys) begun in
+    let there =
+    is cut items (record { begins = begun_cut; count = were.count; known = were.known }) in
+    let here =
+    line_cut form 256 lawful short all cut h items s.line s.rest fault s.one_line begun_all
+    (subst (Begins form cut h items) s.seen begun_cut) there in (
+      subst (λ (b : List ℕ). IsReading form b (Err fault))
+          (sym (with_rest form t h items (s.line ++ s.rest) ys begun)) (stays form all ys fault end here),
+      omega (
+        arith,
+        part_left form t h items ((s.line ++ s.rest) ++ ys) begun,
+        length-append (s.line ++ s.rest) ys,
+      ),
+    )
 
 front_whole : {H I : Type 0} (form : Form H I) (t : List ℕ) (so_far : SoFar H I) (window more : List ℕ)
     (items : List I) → IsLineBehind form so_far window (Ok None) → AreRead form t so_far items (window ++ more)
@@ -126,7 +278,7 @@ more_ahead : {H I : Type 0} (form : Form H I) (text : Option (List ℕ)) (so_far
     (window : List ℕ) (left : Option (List ℕ)) (items : List I)
     → IsLineBehind form so_far window (Ok None) → IfSome left (λ more. more ≢ []) →
     WereRead form text (reader_at so_far window left) items →
-    IsFaultOf form text (Text (BadLine (so_far.count + 3)))
+    IfSome text (λ t. IsReading form t (Err (BadLine (so_far.count + 3))))
 more_ahead form None so_far window left items is some were = tt
 more_ahead form (Some t) so_far window None items is some were = absurd were
 more_ahead form (Some t) so_far window (Some more) items is some were =
@@ -158,63 +310,150 @@ header_ahead form text so_far window after left read keeps =
     rw (last_bytes window (ended (form.header_line so_far.header)) after (length after) read.begins.parts
     refl) (header_read form text so_far window after left read keeps)
 
+-- the header's line was found
+pub header_kept : {H I : Type 0} (form : Form H I) (h : H) (window rest : List ℕ)
+    (text after : Option (List ℕ)) → HasShortLines form 256 → Begins form window h [] rest →
+    StaysAhead [] text window after → Keeps (prepend_known [] text) (prepend_known window after)
+header_kept form h window rest text after short begun s =
+    all_kept [] window (form.header_line h) rest text after s (begun.parts ∙ broken (form.header_line h) rest)
+    (short.header h begun.header)
+
 header_fault : {H I : Type 0} (form : Form H I) (text : Option (List ℕ)) (window : List ℕ)
-    (left : Option (List ℕ)) (fault : TextFault) → IsReading form window (Err fault)
-    → (fault ≡ CutShort → IsAtEnd left) → Keeps (prepend_known [] text) (prepend_known window left) →
-    IsFaultOf form text (Text fault)
-header_fault form None window left fault is end keeps = tt
-header_fault form (Some t) window None fault is end keeps = absurd keeps
-header_fault form (Some t) window (Some more) fault is end keeps =
-    subst (λ (b : List ℕ). IsReading form b (Err fault)) keeps (stays form window more fault end is)
+    (after : Option (List ℕ)) (fault : TextFault) → IsLawful form → HasShortLines form 256 →
+    IsReading form window (Err fault) → (fault ≡ CutShort → IsAtEnd after) →
+    StaysAhead [] text window after → IsFaultOf form text after (Text fault)
+header_fault form None window after fault lawful short is end s = (tt, tt)
+header_fault form (Some t) window None fault lawful short is end s = absurd s
+header_fault form (Some t) window (Some ys) fault lawful short is end s =
+    let whole : t ≡ (s.line ++ s.rest) ++ ys = s.parts ∙ sym (append_assoc s.line s.rest ys) in
+    let there = subst (λ (b : List ℕ). IsReading form b (Err fault)) s.seen is in
+    let here = header_cut form 256 lawful short s.line s.rest fault s.one_line there in (
+      subst (λ (b : List ℕ). IsReading form b (Err fault)) (sym whole)
+          (stays form (s.line ++ s.rest) ys fault end here),
+      omega (arith, ap length whole, length-append (s.line ++ s.rest) ys),
+    )
 
 -- ---- what a call answers
 
 -- a fault of the next line was passed on
-pub next_failed : {H I : Type 0} (form : Form H I) (so_far : SoFar H I) (window : List ℕ)
-    (left : Option (List ℕ)) (r : Result (Option I) StreamFault) (new : Progress H I) (fault : TextFault)
-    → IsErr r × IsErrAnd r (λ e. e ≡ Text fault) → IsLineBehind form so_far window (Err fault) →
-    (fault ≡ CutShort → IsAtEnd left) → IsNext form (reader_at so_far window left) r new
-next_failed form so_far window left (Ok next) new fault passed is end = absurd (false≢true passed.0)
-next_failed form so_far window left (Err e) new fault passed is end =
-    λ text items were. subst (IsFaultOf form text) (sym passed.1)
-    (fault_ahead form text so_far window left items fault is end were)
+pub next_failed : {H I : Type 0} (form : Form H I) (so_far : SoFar H I) (old window : List ℕ)
+    (left after : Option (List ℕ)) (r : Result (Option I) StreamFault) (new : Progress H I) (fault : TextFault)
+    → IsErr r × IsErrAnd r (λ e. e ≡ Text fault) → IsLawful form → HasShortLines form 256 →
+    StaysAhead old left window after → IsLineBehind form so_far window (Err fault) →
+    (fault ≡ CutShort → IsAtEnd after) → IsNext form (reader_at so_far old left) r new after
+next_failed form so_far old window left after (Ok next) new fault passed lawful short s is end =
+    absurd (false≢true passed.0)
+next_failed form so_far old window left after (Err e) new fault passed lawful short s is end =
+    λ text items were. subst (IsFaultOf form text after) (sym passed.1)
+    (fault_ahead form text so_far old window left after items fault lawful short s is end were)
+
+-- a fault of reading was passed on
+pub read_failed : {H I : Type 0} (form : Form H I) (so_far : SoFar H I) (old : List ℕ)
+    (left after : Option (List ℕ)) (r : Result (Option I) StreamFault) (new : Progress H I) (fault : StreamFault)
+    → IsErr r × IsErrAnd r (λ e. e ≡ fault) → IsOfReading fault → (fault ≡ Memory → IfSome left IsTooLong) →
+    IsNext form (reader_at so_far old left) r new after
+read_failed form so_far old left after (Ok next) new fault passed of long = absurd (false≢true passed.0)
+read_failed form so_far old left after (Err e) new fault passed of long =
+    λ text items were. subst (IsFaultOf form text after) (sym passed.1)
+    (reading_fault form text left after fault of long (left_of form text so_far old left items were))
+
+-- no further item can be counted
+pub not_counted : {H I : Type 0} (form : Form H I) (so_far : SoFar H I) (old window : List ℕ)
+    (left after : Option (List ℕ)) (r : Result (Option I) StreamFault) (new : Progress H I) (fault : StreamFault)
+    → IsErr r × IsErrAnd r (λ e. e ≡ fault) → fault ≡ Memory → length window ≤ 65792 →
+    Keeps (prepend_known old left) (prepend_known window after) →
+    IsNext form (reader_at so_far old left) r new after
+not_counted form so_far old window left after (Ok next) new fault passed is few keeps =
+    absurd (false≢true passed.0)
+not_counted form so_far old window left after (Err e) new fault passed is few keeps =
+    λ text items were. subst (IsFaultOf form text after) (sym (passed.1 ∙ is))
+    (no_further form text so_far window after items few
+    (kept form text so_far (prepend_known old left) (prepend_known window after) items keeps were))
 
 -- a fault of the header was passed on
 pub open_failed : {H I T : Type 0} (form : Form H I) (text : Option (List ℕ)) (window : List ℕ)
-    (left : Option (List ℕ)) (r : Result T StreamFault) (fault : TextFault)
-    → IsErr r × IsErrAnd r (λ e. e ≡ Text fault) → IsReading form window (Err fault) →
-    (fault ≡ CutShort → IsAtEnd left) → Keeps (prepend_known [] text) (prepend_known window left) →
-    IfErr r (IsFaultOf form text)
-open_failed form text window left (Ok reader) fault passed is end keeps = absurd (false≢true passed.0)
-open_failed form text window left (Err e) fault passed is end keeps =
-    subst (IsFaultOf form text) (sym passed.1) (header_fault form text window left fault is end keeps)
+    (after : Option (List ℕ)) (r : Result T StreamFault) (fault : TextFault)
+    → IsErr r × IsErrAnd r (λ e. e ≡ Text fault) → IsLawful form → HasShortLines form 256 →
+    IsReading form window (Err fault) → (fault ≡ CutShort → IsAtEnd after) →
+    StaysAhead [] text window after → IfErr r (IsFaultOf form text after)
+open_failed form text window after (Ok reader) fault passed lawful short is end s =
+    absurd (false≢true passed.0)
+open_failed form text window after (Err e) fault passed lawful short is end s =
+    subst (IsFaultOf form text after) (sym passed.1)
+    (header_fault form text window after fault lawful short is end s)
+
+-- a fault of reading the header was passed on
+pub open_unread : {H I T : Type 0} (form : Form H I) (text after : Option (List ℕ)) (r : Result T StreamFault)
+    (fault : StreamFault) → IsErr r × IsErrAnd r (λ e. e ≡ fault) → IsOfReading fault →
+    (fault ≡ Memory → IfSome text IsTooLong) → IfErr r (IsFaultOf form text after)
+open_unread form text after (Ok reader) fault passed of long = absurd (false≢true passed.0)
+open_unread form text after (Err e) fault passed of long =
+    subst (IsFaultOf form text after) (sym passed.1)
+    (reading_fault form text text after fault of long (whole_left text))
+
+-- the window found no memory
+pub open_refused : {H I T : Type 0} (form : Form H I) (text : Option (List ℕ)) (r : Result T StreamFault)
+    → IsErr r × IsErrAnd r (λ e. e ≡ Memory) → IfErr r (IsFaultOf form text text)
+open_refused form text (Ok reader) passed = absurd (false≢true passed.0)
+open_refused form text (Err e) passed = subst (IsFaultOf form text text) (sym passed.1) (unread_yet form text)
 
 -- behind the end line
-pub ended_here : {H I : Type 0} (form : Form H I) (so_far : SoFar H I) (window : List ℕ)
-    (left : Option (List ℕ)) (r : Result (Option I) StreamFault) (new : Progress H I)
+pub ended_here : {H I : Type 0} (form : Form H I) (so_far : SoFar H I) (window grown : List ℕ)
+    (left after : Option (List ℕ)) (r : Result (Option I) StreamFault) (new : Progress H I)
     → IsLineBehind form so_far window (Ok None) → IsBehindEnd so_far.count left r →
-    IsNext form (reader_at so_far window left) r new
-ended_here form so_far window left (Ok (Some item)) new is behind = absurd behind
-ended_here form so_far window left (Ok None) new is behind =
+    Keeps (prepend_known window left) (prepend_known grown after) →
+    IsNext form (reader_at so_far window left) r new after
+ended_here form so_far window grown left after (Ok (Some item)) new is behind keeps = absurd behind
+ended_here form so_far window grown left after (Ok None) new is behind keeps =
     λ text items were. all_ahead form text so_far window left items is behind were
-ended_here form so_far window left (Err (Text fault)) new is behind =
-    λ text items were. subst (λ (f : TextFault). IsFaultOf form text (Text f)) (sym behind.0)
-    (more_ahead form text so_far window left items is behind.1 were)
-ended_here form so_far window left (Err ReadFailed) new is behind = λ text items were. tt
-ended_here form so_far window left (Err Memory) new is behind = λ text items were. tt
-ended_here form so_far window left (Err WriteFailed) new is behind = absurd behind
+ended_here form so_far window grown left after (Err (Text fault)) new is behind keeps =
+    λ text items were. subst (λ (f : TextFault). IsFaultOf form text after (Text f)) (sym behind.0) (
+      more_ahead form text so_far window left items is behind.1 were,
+      left_of form text so_far grown after items
+          (kept form text so_far (prepend_known window left) (prepend_known grown after) items keeps were),
+    )
+ended_here form so_far window grown left after (Err ReadFailed) new is behind keeps = λ text items were. tt
+ended_here form so_far window grown left after (Err Memory) new is behind keeps = absurd behind
+ended_here form so_far window grown left after (Err WriteFailed) new is behind keeps = absurd behind
 
 -- what the source gave before changes nothing
 pub next_kept : {H I : Type 0} (form : Form H I) (so_far : SoFar H I) (a b : Option (List ℕ))
-    (r : Result (Option I) StreamFault) (new : Progress H I) → Keeps a b
-    → IsNext form (record { so_far = so_far; ahead = b }) r new →
-    IsNext form (record { so_far = so_far; ahead = a }) r new
-next_kept form so_far a b (Ok (Some item)) new keeps next =
+    (r : Result (Option I) StreamFault) (new : Progress H I) (after : Option (List ℕ)) → Keeps a b
+    → IsNext form (record { so_far = so_far; ahead = b }) r new after →
+    IsNext form (record { so_far = so_far; ahead = a }) r new after
+next_kept form so_far a b (Ok (Some item)) new after keeps next =
     λ text items were. next text items (kept form text so_far a b items keeps were)
-next_kept form so_far a b (Ok None) new keeps next =
+next_kept form so_far a b (Ok None) new after keeps next =
     λ text items were. next text items (kept form text so_far a b items keeps were)
-next_kept form so_far a b (Err fault) new keeps next =
+next_kept form so_far a b (Err fault) new after keeps next =
     λ text items were. next text items (kept form text so_far a b items keeps were)
+
+-- ---- where a reader stands
+
+pub stands_failed : {I : Type 0} (old new : List ℕ) (left after : Option (List ℕ))
+    (r : Result (Option I) StreamFault) → IsErr r → StaysAhead old left new after →
+    Stands old left r new after
+stands_failed old new left after (Ok next) failed s = absurd (false≢true failed)
+stands_failed old new left after (Err fault) failed s = s
+
+pub stands_still : {I : Type 0} (old new : List ℕ) (left after : Option (List ℕ))
+    (r : Result (Option I) StreamFault) → Keeps (prepend_known old left) (prepend_known new after) →
+    Stands old left r new after
+stands_still old new left after (Ok (Some item)) keeps = tt
+stands_still old new left after (Ok None) keeps = keeps
+stands_still old new left after (Err fault) keeps = keeps_stays old new left after keeps
+
+pub stands_behind : {I : Type 0} (old window new : List ℕ) (left mid after : Option (List ℕ))
+    (r : Result (Option I) StreamFault) → Keeps (prepend_known old left) (prepend_known window mid) →
+    Keeps (prepend_known window mid) (prepend_known new after) → Stands old left r new after
+stands_behind old window new left mid after r p q =
+    stands_still old new left after r (keeps_on (prepend_known old left) (prepend_known window mid)
+    (prepend_known new after) p q)
+
+-- nothing has changed
+pub stands_here : {I : Type 0} (old : List ℕ) (left : Option (List ℕ)) (r : Result (Option I) StreamFault) →
+    Stands old left r old left
+stands_here old left r = stands_still old old left left r (keeps_same (prepend_known old left))
 
 -- ---- from the header on
 
@@ -233,3 +472,23 @@ goes_on x true failing = absurd (no_fault x (failing refl))
     no_fault : {T : Type 0} (x : T) → sure x ≡ Err ReadFailed → ⊥
     no_fault x e = cc
 goes_on x false failing = refl
+
+-- ---- where memory is refused
+
+-- behind so many items no further line was read but what stands in the window
+pub memory_behind : {H I : Type 0} (form : Form H I) (first : Progress H I) (items : List I)
+    (so_far : SoFar H I) (window : List ℕ) (left : Option (List ℕ)) → length window ≤ 65792 →
+    ReadOn form first items (reader_at so_far window left) → (text : Option (List ℕ)) →
+    WereRead form text first [] → IsReadNoFurther form text left
+memory_behind form first items so_far window left few read text were =
+    no_further form text so_far window left items few (read text were)
+
+-- the reader gave no more, and stands where it stood
+pub memory_at_end : {H I : Type 0} (form : Form H I) (first : Progress H I) (items : List I)
+    (so_far : SoFar H I) (old window : List ℕ) (left after : Option (List ℕ)) → length window ≤ 65792 →
+    Keeps (prepend_known old left) (prepend_known window after) →
+    ReadOn form first items (reader_at so_far old left) → (text : Option (List ℕ)) →
+    WereRead form text first [] → IsReadNoFurther form text after
+memory_at_end form first items so_far old window left after few keeps read text were =
+    no_further form text so_far window after items few
+    (kept form text so_far (prepend_known old left) (prepend_known window after) items keeps (read text were))

@@ -15,7 +15,7 @@ use Rattle.streams.specs.declared.stream_fault.StreamFault.{StreamFault}
 use Rattle.driver.specs.AuditText.{audit_text}
 use Rattle.driver.specs.HistoryReader.{EntriesHeld}
 use Rattle.driver.specs.TextReader.{Progress, OfText}
-use Rattle.streams.specs.Streams.{Streams}
+use Rattle.streams.specs.Streams.{IsReadOut, Streams}
 
 -- the history is legal, or this is its first entry that isn't
 abbrev pub IsVerdict : Header → List Entry → Verdict → Type 0
@@ -43,3 +43,7 @@ pub record IsJudged (p : Progress Header Entry) (end : EntriesHeld) (judgement :
 -- what an audit leaves
 abbrev pub Audits : Option (List ℕ) → Option (List ℕ) → Option (List ℕ) → Result Verdict StreamFault → Type 0
 Audits = Streams history_form Audited
+
+-- how far an audit reads
+abbrev pub HistoryReadOut : Option (List ℕ) → Result Verdict StreamFault → Option (List ℕ) → Type 0
+HistoryReadOut = IsReadOut history_form

@@ -6,13 +6,14 @@ use Rattle.history.specs.Entry.{ends_call}
 use Rattle.history_text.specs.HistoryText.{entries_so_far}
 use Rattle.driver.specs.TextReader.{Progress, reader_at}
 
--- What a reader of entries has: the header, how many entries it gave, how many of them end a call, and the
--- bytes behind them that it holds.
+-- What a reader of entries has: the header, how many entries it gave, how many of them end a call, the bytes
+-- behind them that it holds, and how many places its memory has.
 pub record EntriesHeld : Type 0 where
   pub header : Header
   pub count : ℕ
   pub calls : ℕ
   pub bytes : List ℕ
+  pub places : ℕ
 
 -- the same after one more entry, behind which so many bytes are left
 abbrev pub entry_passed : Entry → ℕ → EntriesHeld → EntriesHeld
@@ -22,6 +23,7 @@ entry_passed e left held =
       count = held.count + 1;
       calls = held.calls + (if ends_call e.word then 1 else 0);
       bytes = drop (length held.bytes - left) held.bytes;
+      places = held.places;
     }
 
 -- one more entry is counted, of one of the header's seats and within its cap, or none is

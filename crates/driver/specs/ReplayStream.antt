@@ -14,7 +14,7 @@ use Rattle.streams.specs.declared.stream_fault.StreamFault.{StreamFault}
 use Rattle.driver.specs.Answers.{AllAnswers, answers_text}
 use Rattle.driver.specs.ReplayText.{replay_text, history_behind}
 use Rattle.driver.specs.TextReader.{Progress, OfText}
-use Rattle.streams.specs.Streams.{Streams}
+use Rattle.streams.specs.Streams.{IsReadOut, Streams}
 
 abbrev pub answer_text : Form → Header → List (ℕ × Step) → List ℕ
 answer_text Replay h steps = replay_text h steps
@@ -51,3 +51,7 @@ AreAnswersBehind p answers = (form : Form) → IsAnswerBehind form p (answers_te
 abbrev pub Replays : Form → Option (List ℕ) → Option (List ℕ) → Option (List ℕ) →
     Result (Unit {0}) StreamFault → Type 0
 Replays form = Streams steps_form (λ text done Written. Replayed form text Written)
+
+-- how far a replay reads
+abbrev pub StepsReadOut : Option (List ℕ) → Result (Unit {0}) StreamFault → Option (List ℕ) → Type 0
+StepsReadOut = IsReadOut steps_form

@@ -1,12 +1,14 @@
 -- A text that is read from a source as its items are asked for.
-use Rattle.std.specs.Prelude.{◌≡◌, ◌≢◌, ◌+◌, ℕ, List, [], ◌∷◌, ◌++◌, Option, Some, None, Result, Ok, Err, IfSome, IsSomeAnd}
-use Rattle.std.specs.Io.KnownBytes.{IsAtEnd, prepend_known}
+use Rattle.std.specs.Prelude.{◌≡◌, ◌≢◌, ◌+◌, ◌≤◌, ℕ, List, [], ◌∷◌, ◌++◌, length, Option, Some, None, Result, Ok, Err, IfSome, IsSomeAnd}
+use Rattle.std.specs.Io.KnownBytes.{IsAtEnd, Keeps, prepend_known}
 use Rattle.line_text.specs.Form.{Form}
 use Rattle.line_text.specs.declared.fault.TextFault.TheVariants.{BadLine}
 use Rattle.line_text.specs.Reading.{IsText, IsReading}
 use Rattle.line_text.specs.UnderWay.{SoFar, AreRead}
 use Rattle.streams.specs.declared.stream_fault.StreamFault.{StreamFault}
 use Rattle.streams.specs.declared.stream_fault.StreamFault.TheVariants.{Text, ReadFailed, WriteFailed, Memory}
+use Rattle.streams.specs.Streams.{IsReadNoFurther}
+use Rattle.streams.specs.Window.{StaysAhead}
 
 -- A text under way: what is known of it so far, and all that follows the items that were read, where it is
 -- known.
@@ -26,16 +28,23 @@ WereRead form text p items = IfSome text (λ t. IsSomeAnd p.ahead (AreRead form 
 abbrev pub OfText : {H I : Type 0} → Form H I → Progress H I → (List ℕ → Type 0) → Type 0
 OfText form p P = (text : Option (List ℕ)) → WereRead form text p [] → IfSome text P
 
--- the faults of a text, where it is known, and of its source
-abbrev pub IsFaultOf : {H I : Type 0} → Form H I → Option (List ℕ) → StreamFault → Type 0
-IsFaultOf form text (Text fault) = IfSome text (λ t. IsReading form t (Err fault))
-IsFaultOf form text ReadFailed = Unit {0}
-IsFaultOf form text Memory = Unit {0}
-IsFaultOf form text WriteFailed = ⊥
+-- what is left of a text is no longer than it
+abbrev pub IsPartLeft : Option (List ℕ) → Option (List ℕ) → Type 0
+IsPartLeft None left = Unit {0}
+IsPartLeft (Some text) None = ⊥
+IsPartLeft (Some text) (Some left) = length left ≤ length text
+
+-- the faults of a text, where it is known, and of its source, which has this left behind them
+abbrev pub IsFaultOf : {H I : Type 0} → Form H I → Option (List ℕ) → Option (List ℕ) → StreamFault → Type 0
+IsFaultOf form text left (Text fault) = IfSome text (λ t. IsReading form t (Err fault)) × IsPartLeft text left
+IsFaultOf form text left ReadFailed = Unit {0}
+IsFaultOf form text left Memory = IsReadNoFurther form text left
+IsFaultOf form text left WriteFailed = ⊥
 
 -- the faults behind a header, whatever the text
-abbrev pub IsFaultBehind : {H I : Type 0} → Form H I → Progress H I → StreamFault → Type 0
-IsFaultBehind form p fault = (text : Option (List ℕ)) → WereRead form text p [] → IsFaultOf form text fault
+abbrev pub IsFaultBehind : {H I : Type 0} → Form H I → Progress H I → Option (List ℕ) → StreamFault → Type 0
+IsFaultBehind form p left fault =
+    (text : Option (List ℕ)) → WereRead form text p [] → IsFaultOf form text left fault
 
 -- what stands behind the end line of so many items: nothing, or what makes the line after it a bad one
 abbrev pub IsBehindEnd : {I : Type 0} → ℕ → Option (List ℕ) → Result (Option I) StreamFault → Type 0
@@ -43,17 +52,26 @@ IsBehindEnd count left (Ok (Some item)) = ⊥
 IsBehindEnd count left (Ok None) = IsAtEnd left
 IsBehindEnd count left (Err (Text fault)) = (fault ≡ BadLine (count + 3)) × IfSome left (λ more. more ≢ [])
 IsBehindEnd count left (Err ReadFailed) = Unit {0}
-IsBehindEnd count left (Err Memory) = Unit {0}
+IsBehindEnd count left (Err Memory) = ⊥
 IsBehindEnd count left (Err WriteFailed) = ⊥
 
--- Whatever items were read: one more was, or they are all, or this is the fault of the text or of its source.
+-- Whatever items were read: one more was, or they are all, or this is the fault of the text or of its source,
+-- which has this left.
 abbrev pub IsNext : {H I : Type 0} → Form H I → Progress H I → Result (Option I) StreamFault →
-    Progress H I → Type 0
-IsNext {H} {I} form old (Ok (Some item)) new =
+    Progress H I → Option (List ℕ) → Type 0
+IsNext {H} {I} form old (Ok (Some item)) new left =
     (text : Option (List ℕ)) (items : List I) → WereRead form text old items →
     WereRead form text new (items ++ item ∷ [])
-IsNext {H} {I} form old (Ok None) new =
+IsNext {H} {I} form old (Ok None) new left =
     (text : Option (List ℕ)) (items : List I) → WereRead form text old items →
     IfSome text (λ t. IsText form t old.so_far.header items)
-IsNext {H} {I} form old (Err fault) new =
-    (text : Option (List ℕ)) (items : List I) → WereRead form text old items → IsFaultOf form text fault
+IsNext {H} {I} form old (Err fault) new left =
+    (text : Option (List ℕ)) (items : List I) → WereRead form text old items → IsFaultOf form text left fault
+
+-- Where a reader stands that gave no item, by what it held and holds and what its source had left and has: where
+-- it stood. Behind a fault bytes of a line that is longer than any good one may be gone.
+abbrev pub Stands : {I : Type 0} → List ℕ → Option (List ℕ) → Result (Option I) StreamFault → List ℕ →
+    Option (List ℕ) → Type 0
+Stands old left (Ok (Some item)) new after = Unit {0}
+Stands old left (Ok None) new after = Keeps (prepend_known old left) (prepend_known new after)
+Stands old left (Err fault) new after = StaysAhead old left new after

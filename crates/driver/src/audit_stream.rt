@@ -6,7 +6,8 @@ ghost use Rattle.driver.specs.AuditStream.{Audited, Audits, IsJudged};
 ghost use Rattle.driver.specs.HistoryReader.{entries_read};
 ghost use Rattle.driver.specs.TextReader.{IsFaultBehind, IsFaultOf};
 ghost use Rattle.history_text.specs.HistoryText.{history_form};
-ghost use Rattle.streams.specs.Streams.{IsReadOut};
+ghost use Rattle.streams.specs.Streams.{IsReadNoFurther, IsReadOut};
+ghost use Rattle.streams.specs.declared.stream_fault.StreamFault.TheVariants.{Memory};
 
 use crate::audit_text::audit_text;
 use crate::history_reader::HistoryReader;
@@ -24,7 +25,7 @@ use streams::whole::{told_at_the_end, write_all};
 /// Each entry is judged as its line is read, and none is kept. As in
 /// [`replay_stream`](crate::replay_stream::replay_stream) all is read before anything is written, and nothing
 /// is written where the text has a fault, where reading fails or where memory is refused. A text is read to
-/// its end where it is answered, and where it has a fault.
+/// its end where it is answered, and where it has a fault; where memory is refused nothing more is read.
 pub fn audit_stream<R: Source, W: Sink>(
     alloc: Global,
     reader: &mut R,
@@ -33,7 +34,7 @@ pub fn audit_stream<R: Source, W: Sink>(
     requires reader { R.failed reader.old ≡ false }
     requires writer { W.failed writer.old ≡ false }
     ensures audits { Audits (R.left reader.old) (W.held writer.old) (W.held writer.new) result }
-    ensures end { IsReadOut result (R.left reader.new) }
+    ensures end { IsReadOut history_form (R.left reader.old) result (R.left reader.new) }
     ensures read { IsErrOf result StreamFault.ReadFailed ↔ IsTrue (R.failed reader.new) }
     ensures write { IsErrOf result StreamFault.WriteFailed ↔ IsTrue (W.failed writer.new) }
 {
@@ -58,7 +59,8 @@ fn audit_of<R: Source>(alloc: Global, reader: &mut R) -> Result<Audit, StreamFau
     requires { R.failed reader.old ≡ false }
     ensures ok { IfOk result (λ audit. IfSome (R.left reader.old) (λ text.
         Audited text audit.verdict (λ written. audit.text.items ≡ written))) }
-    ensures err { IfErr result (IsFaultOf history_form (R.left reader.old)) }
+    ensures err { IfErr result (IsFaultOf history_form (R.left reader.old) (R.left reader.new)) }
+    ensures memory { OnOk result (IsReadNoFurther history_form (R.left reader.old) (R.left reader.new)) }
     ensures ended { OnOk result (IsAtEnd (R.left reader.new)) }
     ensures failing { IsErrOf result StreamFault.ReadFailed ↔ IsTrue (R.failed reader.new) }
 {
@@ -81,7 +83,10 @@ fn judgement_of<R: Source>(
     requires reader { R.failed reader.old ≡ false }
     requires fresh { (entries.old.count ≡ 0) × (entries.old.calls ≡ 0) }
     ensures ok { IfOk result (IsJudged (entries_read entries.old (R.left reader.old)) entries.new) }
-    ensures err { IfErr result (IsFaultBehind history_form (entries_read entries.old (R.left reader.old))) }
+    ensures err { IfErr result (IsFaultBehind history_form (entries_read entries.old (R.left reader.old))
+        (R.left reader.new)) }
+    ensures memory { OnOk result (IsFaultBehind history_form (entries_read entries.old (R.left reader.old))
+        (R.left reader.new) Memory) }
     ensures ended { OnOk result (IsAtEnd (R.left reader.new)) }
     ensures failing { IsErrOf result StreamFault.ReadFailed ↔ IsTrue (R.failed reader.new) }
 {

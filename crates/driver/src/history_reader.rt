@@ -1,12 +1,13 @@
 //! The entries of a history text, read from its source as they are asked for.
 
-ghost use Rattle.std.specs.Prelude.{◌≡◌, ◌<◌, ◌≤◌, ◌↔◌, [], false, length, None, Ok, IsTrue, IsErrOf, IfOk, IfErr, IfSome};
-ghost use Rattle.std.specs.Io.KnownBytes.{IsAtEnd};
+ghost use Rattle.std.specs.Prelude.{◌≡◌, ◌<◌, ◌≤◌, ◌↔◌, [], false, length, None, Ok, IsTrue, IsErrOf, IfOk, IfErr, IfSome, OnErr};
+ghost use Rattle.std.specs.Io.KnownBytes.{IsAtEnd, Keeps, prepend_known};
 ghost use Rattle.history.specs.Header.{IsInRange};
 ghost use Rattle.history.specs.Text.{IsLine};
 ghost use Rattle.driver.specs.HistoryReader.{AreCounted, entries_read, entry_passed};
-ghost use Rattle.driver.specs.TextReader.{IsBehindEnd, IsFaultOf, IsNext, WereRead};
+ghost use Rattle.driver.specs.TextReader.{IsBehindEnd, IsFaultOf, IsNext, Stands, WereRead};
 ghost use Rattle.history_text.specs.HistoryText.{history_form};
+ghost use Rattle.streams.specs.Window.{room};
 
 use history::entries::ends_call;
 use history::entry::Entry;
@@ -31,15 +32,23 @@ pub struct HistoryReader {
 }
 
 impl Model for HistoryReader {
-    ghost use Rattle.std.specs.Prelude.{◌≤◌};
+    ghost use Rattle.std.specs.Prelude.{◌≡◌, ◌≤◌, length};
     ghost use Rattle.history.specs.Header.{IsInRange};
     ghost use Rattle.driver.specs.HistoryReader.{EntriesHeld};
+    ghost use Rattle.streams.specs.Window.{room};
 
     ghost Value = { EntriesHeld };
 
-    ghost view = { λ r. record { header = r.header; count = r.count; calls = r.calls; bytes = r.window.bytes } };
+    ghost view = { λ r. record {
+      header = r.header;
+      count = r.count;
+      calls = r.calls;
+      bytes = r.window.bytes;
+      places = r.window.places;
+    } };
 
-    ghost invariant = { λ r. (r.count ≤ r.header.cap) × (r.calls ≤ r.count) × IsInRange r.header };
+    ghost invariant = { λ r. (r.count ≤ r.header.cap) × (r.calls ≤ r.count) × IsInRange r.header
+        × (r.window.places ≡ room) × (length r.window.bytes ≤ room) };
 }
 
 impl HistoryReader {
@@ -48,11 +57,12 @@ impl HistoryReader {
         requires { R.failed reader.old ≡ false }
         ensures ok { IfOk result (λ entries. WereRead history_form (R.left reader.old)
             (entries_read entries (R.left reader.new)) []) }
-        ensures err { IfErr result (IsFaultOf history_form (R.left reader.old)) }
+        ensures err { IfErr result (IsFaultOf history_form (R.left reader.old) (R.left reader.new)) }
+        ensures room { IfOk result (λ entries. entries.places ≡ room) }
         ensures failing { IsErrOf result StreamFault.ReadFailed ↔ IsTrue (R.failed reader.new) }
         ensures none { IfOk result (λ entries. (entries.count ≡ 0) × (entries.calls ≡ 0)) }
     {
-        let mut window = Window::open(alloc);
+        let mut window = Window::open(alloc)?;
         window.read_line(reader)?;
         let (header, after) = header_of(window.bytes())?;
         let left = after.len();
@@ -70,6 +80,7 @@ impl HistoryReader {
     pub fn header(&self) -> Header
         ensures value { result ≡ self.now.header }
         ensures range { IsInRange self.now.header }
+        ensures held { length self.now.bytes ≤ room }
     {
         self.header
     }
@@ -103,12 +114,17 @@ impl HistoryReader {
 
     /// Behind the end line: nothing may follow it.
     fn end<R: Source>(&mut self, reader: &mut R) -> Result<Option<Entry>, StreamFault>
-        requires { R.failed reader.old ≡ false }
+        requires reader { R.failed reader.old ≡ false }
+        requires end { length self.old.bytes ≤ 255 }
         ensures header { self.new.header ≡ self.old.header }
         ensures counts { (self.new.count ≡ self.old.count) × (self.new.calls ≡ self.old.calls) }
         ensures behind { IsBehindEnd self.old.count (R.left reader.old) result }
         ensures ended { result ≡ Ok None → IsAtEnd (R.left reader.new) }
         ensures failing { IsErrOf result StreamFault.ReadFailed ↔ IsTrue (R.failed reader.new) }
+        ensures stays { Keeps (prepend_known self.old.bytes (R.left reader.old))
+            (prepend_known self.new.bytes (R.left reader.new)) }
+        ensures places { self.new.places ≡ self.old.places }
+        ensures held { length self.new.bytes ≤ room }
     {
         if self.window.read_more(reader)? > 0 {
             return Err(StreamFault::Text(TextFault::BadLine(self.count + 3)));
@@ -125,8 +141,12 @@ impl HistoryReader {
         requires { R.failed reader.old ≡ false }
         ensures header { self.new.header ≡ self.old.header }
         ensures next { IsNext history_form (entries_read self.old (R.left reader.old)) result
-            (entries_read self.new (R.left reader.new)) }
+            (entries_read self.new (R.left reader.new)) (R.left reader.new) }
+        ensures stands { Stands self.old.bytes (R.left reader.old) result self.new.bytes (R.left reader.new) }
         ensures counted { IfOk result (λ next. AreCounted self.old next self.new) }
+        ensures uncounted { OnErr result ((self.new.count ≡ self.old.count) × (self.new.calls ≡ self.old.calls)) }
+        ensures places { self.new.places ≡ self.old.places }
+        ensures held { length self.new.bytes ≤ room }
         ensures ready { (IsLine self.old.bytes → ⊥) →
             IfOk result (λ next. IfSome next (λ _. reader.new ≡ reader.old)) }
         ensures ended { result ≡ Ok None → IsAtEnd (R.left reader.new) }
@@ -149,14 +169,19 @@ impl HistoryReader {
 
     /// The next entry, or None behind the last: nothing follows the end line.
     ///
-    /// Behind a fault the reader stands nowhere.
+    /// Behind None, and behind a fault, the reader stands where it stood: only bytes of a line that is longer than
+    /// any good one may be gone.
     #[inline(always)]
     pub fn next<R: Source>(&mut self, reader: &mut R) -> Result<Option<Entry>, StreamFault>
         requires { R.failed reader.old ≡ false }
         ensures header { self.new.header ≡ self.old.header }
         ensures next { IsNext history_form (entries_read self.old (R.left reader.old)) result
-            (entries_read self.new (R.left reader.new)) }
+            (entries_read self.new (R.left reader.new)) (R.left reader.new) }
+        ensures stands { Stands self.old.bytes (R.left reader.old) result self.new.bytes (R.left reader.new) }
         ensures counted { IfOk result (λ next. AreCounted self.old next self.new) }
+        ensures uncounted { OnErr result ((self.new.count ≡ self.old.count) × (self.new.calls ≡ self.old.calls)) }
+        ensures places { self.new.places ≡ self.old.places }
+        ensures held { length self.new.bytes ≤ room }
         ensures ready { (IsLine self.old.bytes → ⊥) →
             IfOk result (λ next. IfSome next (λ _. reader.new ≡ reader.old)) }
         ensures ended { result ≡ Ok None → IsAtEnd (R.left reader.new) }

@@ -1,6 +1,6 @@
 //! Lines on their way to a sink.
 
-ghost use Rattle.std.specs.Prelude.{◌≡◌, ◌++◌, ◌≤◌, ◌↔◌, [], false, IsErr, IsTrue, IfOk, OnErr, OnOk};
+ghost use Rattle.std.specs.Prelude.{◌≡◌, ◌+◌, ◌++◌, ◌≤◌, ◌↔◌, [], false, length, IsErr, IsTrue, IfOk, OnErr, OnOk};
 ghost use Rattle.std.specs.Io.KnownBytes.{Appends};
 ghost use Rattle.history.specs.Text.{ended};
 ghost use Rattle.history_text.specs.EntryLines.{counts_line};
@@ -26,7 +26,8 @@ const MOST_BYTES: usize = 136;
 /// So many bytes are gathered, and then written at once.
 const PIECE: usize = 65_536;
 
-/// Lines that are gathered over blank bytes, and written piece by piece. No line takes memory.
+/// Lines that are gathered over blank bytes, and written piece by piece. No line takes memory, and nothing is
+/// written while there is room for another.
 #[derive(Drop)]
 pub struct LineWriter {
     bytes: Vec<u8>,
@@ -48,7 +49,8 @@ impl Model for LineWriter {
 impl LineWriter {
     /// A writer that begins with this line, and has all the memory that it will want.
     pub fn open(alloc: Global, first: &[u8]) -> Result<Self, AllocError>
-        ensures { IfOk result (λ lines. lines.bytes ≡ first.now) }
+        ensures first { IfOk result (λ lines. lines.bytes ≡ first.now) }
+        ensures room { IfOk result (λ lines. lines.room ≡ 65536) }
     {
         let mut bytes = Vec::from_slice(alloc, first)?;
         bytes.resize(first.len() + PIECE, 0)?;
@@ -65,7 +67,8 @@ impl LineWriter {
         requires { W.failed writer.old ≡ false }
         ensures ok { OnOk result (Appends (W.held writer.old) (W.held writer.new) self.old.bytes) }
         ensures none { OnOk result (self.new.bytes ≡ []) }
-        ensures room { OnOk result (136 ≤ self.new.room) }
+        ensures room { OnOk result (self.new.room ≡ length self.old.bytes + self.old.room) }
+        ensures enough { OnOk result (136 ≤ self.new.room) }
         ensures err { OnErr result (AppendsFront (W.held writer.old) (W.held writer.new) self.old.bytes) }
         ensures kept { OnErr result (self.new ≡ self.old) }
         ensures failing { IsTrue (W.failed writer.new) ↔ IsErr result }
@@ -80,6 +83,7 @@ impl LineWriter {
     fn make_room<W: Sink>(&mut self, writer: &mut W) -> Result<(), DeviceFailed>
         requires { W.failed writer.old ≡ false }
         ensures room { OnOk result (136 ≤ self.new.room) }
+        ensures ready { 136 ≤ self.old.room → (self.new ≡ self.old) × (writer.new ≡ writer.old) }
         ensures adds { Gathers (W.held writer.old) self.old.bytes result (W.held writer.new) self.new.bytes [] }
         ensures failing { IsTrue (W.failed writer.new) ↔ IsErr result }
     {
@@ -102,6 +106,7 @@ impl LineWriter {
         requires spelt { HasLine answer.now }
         ensures adds { Gathers (W.held writer.old) self.old.bytes result (W.held writer.new) self.new.bytes
             (ended (answer_line number seat answer.now)) }
+        ensures gathers { 136 ≤ self.old.room → writer.new ≡ writer.old }
         ensures failing { IsTrue (W.failed writer.new) ↔ IsErr result }
     {
         self.make_room(writer)?;
@@ -119,6 +124,7 @@ impl LineWriter {
         requires { W.failed writer.old ≡ false }
         ensures adds { Gathers (W.held writer.old) self.old.bytes result (W.held writer.new) self.new.bytes
             (ended (counts_line entries calls)) }
+        ensures gathers { 136 ≤ self.old.room → writer.new ≡ writer.old }
         ensures failing { IsTrue (W.failed writer.new) ↔ IsErr result }
     {
         self.make_room(writer)?;

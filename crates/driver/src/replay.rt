@@ -62,7 +62,10 @@ pub fn replay<O: Answering, R: Source>(
           remarks = remarks.items;
         })) }
     ensures legal { OnOk result (IsLegal (opening steps.old.header) (O.view_of object.new).entries) }
-    ensures err { IfErr result (IsFaultBehind steps_form (progress steps.old (R.left reader.old))) }
+    ensures err { IfErr result (IsFaultBehind steps_form (progress steps.old (R.left reader.old))
+        (R.left reader.new)) }
+    ensures memory { OnOk result (IsFaultBehind steps_form (progress steps.old (R.left reader.old))
+        (R.left reader.new) Memory) }
     ensures ended { OnOk result (IsAtEnd (R.left reader.new)) }
     ensures failing { IsErrOf result StreamFault.ReadFailed ↔ IsTrue (R.failed reader.new) }
 {

@@ -3,7 +3,8 @@
 ghost use Rattle.std.specs.Prelude.{◌≡◌, ◌↔◌, [], false, IsTrue, IfErr, IfOk, IsErrOf, OnOk};
 ghost use Rattle.std.specs.Io.KnownBytes.{IsAtEnd};
 ghost use Rattle.driver.specs.ReplayStream.{AreAnswersBehind, AreAnswersTo, Replays};
-ghost use Rattle.streams.specs.Streams.{IsReadOut};
+ghost use Rattle.streams.specs.Streams.{IsReadNoFurther, IsReadOut};
+ghost use Rattle.streams.specs.declared.stream_fault.StreamFault.TheVariants.{Memory};
 ghost use Rattle.driver.specs.StepReader.{progress};
 ghost use Rattle.driver.specs.TextReader.{IsFaultBehind, IsFaultOf};
 ghost use Rattle.steps.specs.StepsText.{steps_form};
@@ -30,7 +31,8 @@ use streams::whole::told_at_the_end;
 ///
 /// Each line is answered as it is read, and nothing is written before all was answered and all memory was
 /// found: nothing at all where the text has a fault, where reading fails or where memory is refused, to a step
-/// too. A text is read to its end where it is answered, and where it has a fault.
+/// too. A text is read to its end where it is answered, and where it has a fault; where memory is refused nothing
+/// more is read.
 pub fn replay_stream<R: Source, W: Sink>(
     alloc: Global,
     reader: &mut R,
@@ -40,7 +42,7 @@ pub fn replay_stream<R: Source, W: Sink>(
     requires reader { R.failed reader.old ≡ false }
     requires writer { W.failed writer.old ≡ false }
     ensures replays { Replays form (R.left reader.old) (W.held writer.old) (W.held writer.new) result }
-    ensures end { IsReadOut result (R.left reader.new) }
+    ensures end { IsReadOut steps_form (R.left reader.old) result (R.left reader.new) }
     ensures read { IsErrOf result StreamFault.ReadFailed ↔ IsTrue (R.failed reader.new) }
     ensures write { IsErrOf result StreamFault.WriteFailed ↔ IsTrue (W.failed writer.new) }
 {
@@ -54,7 +56,8 @@ pub fn replay_stream<R: Source, W: Sink>(
 fn answers_to<R: Source>(alloc: Global, reader: &mut R) -> Result<Answers, StreamFault>
     requires { R.failed reader.old ≡ false }
     ensures ok { IfOk result (AreAnswersTo (R.left reader.old)) }
-    ensures err { IfErr result (IsFaultOf steps_form (R.left reader.old)) }
+    ensures err { IfErr result (IsFaultOf steps_form (R.left reader.old) (R.left reader.new)) }
+    ensures memory { OnOk result (IsReadNoFurther steps_form (R.left reader.old) (R.left reader.new)) }
     ensures ended { OnOk result (IsAtEnd (R.left reader.new)) }
     ensures failing { IsErrOf result StreamFault.ReadFailed ↔ IsTrue (R.failed reader.new) }
 {
@@ -73,7 +76,10 @@ fn answered<O: Answering + Drop, R: Source>(
     requires header { (O.view_of object).header ≡ steps.old.header }
     requires fresh { (O.view_of object).entries ≡ [] }
     ensures ok { IfOk result (AreAnswersBehind (progress steps.old (R.left reader.old))) }
-    ensures err { IfErr result (IsFaultBehind steps_form (progress steps.old (R.left reader.old))) }
+    ensures err { IfErr result (IsFaultBehind steps_form (progress steps.old (R.left reader.old))
+        (R.left reader.new)) }
+    ensures memory { OnOk result (IsFaultBehind steps_form (progress steps.old (R.left reader.old))
+        (R.left reader.new) Memory) }
     ensures ended { OnOk result (IsAtEnd (R.left reader.new)) }
     ensures failing { IsErrOf result StreamFault.ReadFailed ↔ IsTrue (R.failed reader.new) }
 {
@@ -94,7 +100,10 @@ fn opened<H: Hooks + Drop, R: Source>(
     requires hooks { H.is_opened hooks steps.old.header.seats }
     requires object { H.object_of hooks ≡ steps.old.header.object }
     ensures ok { IfOk result (AreAnswersBehind (progress steps.old (R.left reader.old))) }
-    ensures err { IfErr result (IsFaultBehind steps_form (progress steps.old (R.left reader.old))) }
+    ensures err { IfErr result (IsFaultBehind steps_form (progress steps.old (R.left reader.old))
+        (R.left reader.new)) }
+    ensures memory { OnOk result (IsFaultBehind steps_form (progress steps.old (R.left reader.old))
+        (R.left reader.new) Memory) }
     ensures ended { OnOk result (IsAtEnd (R.left reader.new)) }
     ensures failing { IsErrOf result StreamFault.ReadFailed ↔ IsTrue (R.failed reader.new) }
 {
@@ -113,7 +122,10 @@ fn answers_behind<R: Source>(
 ) -> Result<Answers, StreamFault>
     requires reader { R.failed reader.old ≡ false }
     ensures ok { IfOk result (AreAnswersBehind (progress steps.old (R.left reader.old))) }
-    ensures err { IfErr result (IsFaultBehind steps_form (progress steps.old (R.left reader.old))) }
+    ensures err { IfErr result (IsFaultBehind steps_form (progress steps.old (R.left reader.old))
+        (R.left reader.new)) }
+    ensures memory { OnOk result (IsFaultBehind steps_form (progress steps.old (R.left reader.old))
+        (R.left reader.new) Memory) }
     ensures ended { OnOk result (IsAtEnd (R.left reader.new)) }
     ensures failing { IsErrOf result StreamFault.ReadFailed ↔ IsTrue (R.failed reader.new) }
 {

@@ -1,12 +1,13 @@
 //! The steps of a text, read from its source as they are asked for.
 
-ghost use Rattle.std.specs.Prelude.{◌≡◌, ◌+◌, ◌^◌, ◌<◌, ◌≤◌, ◌∷◌, ◌++◌, ◌↔◌, ◌-◌, [], false, drop, length, None, Ok, IsTrue, IsErrOf, IfOk, IfErr, IfSome, OnOk};
-ghost use Rattle.std.specs.Io.KnownBytes.{IsAtEnd};
+ghost use Rattle.std.specs.Prelude.{◌≡◌, ◌+◌, ◌^◌, ◌<◌, ◌≤◌, ◌∷◌, ◌++◌, ◌↔◌, ◌-◌, [], false, length, None, Ok, IsTrue, IsErrOf, IfOk, IfErr, IfSome, OnErr, OnOk};
+ghost use Rattle.std.specs.Io.KnownBytes.{IsAtEnd, Keeps, prepend_known};
 ghost use Rattle.history.specs.Header.{IsInRange};
 ghost use Rattle.history.specs.Text.{IsLine};
 ghost use Rattle.driver.specs.StepReader.{passed, progress};
-ghost use Rattle.driver.specs.TextReader.{IsBehindEnd, IsFaultOf, IsNext, WereRead};
+ghost use Rattle.driver.specs.TextReader.{IsBehindEnd, IsFaultOf, IsNext, Stands, WereRead};
 ghost use Rattle.steps.specs.StepsText.{steps_form};
+ghost use Rattle.streams.specs.Window.{room};
 ghost use Rattle.streams.specs.declared.stream_fault.StreamFault.TheVariants.{Memory};
 
 use history::header::Header;
@@ -31,15 +32,22 @@ pub struct StepReader {
 }
 
 impl Model for StepReader {
-    ghost use Rattle.std.specs.Prelude.{◌<◌, ◌+◌, ◌^◌};
+    ghost use Rattle.std.specs.Prelude.{◌≡◌, ◌<◌, ◌≤◌, ◌+◌, ◌^◌, length};
     ghost use Rattle.history.specs.Header.{IsInRange};
     ghost use Rattle.driver.specs.StepReader.{Held};
+    ghost use Rattle.streams.specs.Window.{room};
 
     ghost Value = { Held };
 
-    ghost view = { λ r. record { header = r.header; count = r.count; bytes = r.window.bytes } };
+    ghost view = { λ r. record {
+      header = r.header;
+      count = r.count;
+      bytes = r.window.bytes;
+      places = r.window.places;
+    } };
 
-    ghost invariant = { λ r. (r.count + 3 < 2 ^ 64) × IsInRange r.header };
+    ghost invariant = { λ r. (r.count + 3 < 2 ^ 64) × IsInRange r.header × (r.window.places ≡ room)
+        × (length r.window.bytes ≤ room) };
 }
 
 impl StepReader {
@@ -48,11 +56,12 @@ impl StepReader {
         requires { R.failed reader.old ≡ false }
         ensures ok { IfOk result (λ steps. WereRead steps_form (R.left reader.old)
             (progress steps (R.left reader.new)) []) }
-        ensures err { IfErr result (IsFaultOf steps_form (R.left reader.old)) }
+        ensures err { IfErr result (IsFaultOf steps_form (R.left reader.old) (R.left reader.new)) }
+        ensures room { IfOk result (λ steps. steps.places ≡ room) }
         ensures failing { IsErrOf result StreamFault.ReadFailed ↔ IsTrue (R.failed reader.new) }
         ensures none { IfOk result (λ steps. steps.count ≡ 0) }
     {
-        let mut window = Window::open(alloc);
+        let mut window = Window::open(alloc)?;
         window.read_line(reader)?;
         let (header, after) = header_of(window.bytes())?;
         let left = after.len();
@@ -68,6 +77,7 @@ impl StepReader {
     pub fn header(&self) -> Header
         ensures value { result ≡ self.now.header }
         ensures range { IsInRange self.now.header }
+        ensures held { length self.now.bytes ≤ room }
     {
         self.header
     }
@@ -78,6 +88,7 @@ impl StepReader {
         requires { left ≤ length self.old.bytes }
         ensures ok { OnOk result (self.new ≡ passed left self.old) }
         ensures err { IfErr result (λ fault. fault ≡ Memory) }
+        ensures kept { OnErr result (self.new ≡ self.old) }
         ensures header { self.new.header ≡ self.old.header }
         ensures few { self.new.count < 2 ^ 64 }
     {
@@ -91,13 +102,18 @@ impl StepReader {
 
     /// Behind the end line: nothing may follow it.
     fn end<R: Source>(&mut self, reader: &mut R) -> Result<Option<(u16, Step)>, StreamFault>
-        requires { R.failed reader.old ≡ false }
+        requires reader { R.failed reader.old ≡ false }
+        requires end { length self.old.bytes ≤ 255 }
         ensures header { self.new.header ≡ self.old.header }
         ensures few { self.new.count < 2 ^ 64 }
         ensures count { self.new.count ≡ self.old.count }
         ensures behind { IsBehindEnd self.old.count (R.left reader.old) result }
         ensures ended { result ≡ Ok None → IsAtEnd (R.left reader.new) }
         ensures failing { IsErrOf result StreamFault.ReadFailed ↔ IsTrue (R.failed reader.new) }
+        ensures stays { Keeps (prepend_known self.old.bytes (R.left reader.old))
+            (prepend_known self.new.bytes (R.left reader.new)) }
+        ensures places { self.new.places ≡ self.old.places }
+        ensures held { length self.new.bytes ≤ room }
     {
         if self.window.read_more(reader)? > 0 {
             return Err(StreamFault::Text(TextFault::BadLine(self.count + 3)));
@@ -114,11 +130,15 @@ impl StepReader {
         requires { R.failed reader.old ≡ false }
         ensures header { self.new.header ≡ self.old.header }
         ensures next { IsNext steps_form (progress self.old (R.left reader.old)) result
-            (progress self.new (R.left reader.new)) }
+            (progress self.new (R.left reader.new)) (R.left reader.new) }
+        ensures stands { Stands self.old.bytes (R.left reader.old) result self.new.bytes (R.left reader.new) }
         ensures seated { IfOk result (λ next. IfSome next (λ step. step.0 < self.old.header.seats)) }
         ensures few { self.new.count < 2 ^ 64 }
         ensures counted { IfOk result (λ next. IfSome next (λ _. self.new.count ≡ self.old.count + 1)) }
         ensures stays { result ≡ Ok None → self.new.count ≡ self.old.count }
+        ensures uncounted { OnErr result (self.new.count ≡ self.old.count) }
+        ensures places { self.new.places ≡ self.old.places }
+        ensures held { length self.new.bytes ≤ room }
         ensures ready { (IsLine self.old.bytes → ⊥) →
             IfOk result (λ next. IfSome next (λ _. reader.new ≡ reader.old)) }
         ensures ended { result ≡ Ok None → IsAtEnd (R.left reader.new) }
@@ -133,16 +153,23 @@ impl StepReader {
     }
 
     /// The next seat and its step, or None behind the last: nothing follows the end line.
+    ///
+    /// Behind None, and behind a fault, the reader stands where it stood: only bytes of a line that is longer than
+    /// any good one may be gone.
     #[inline(always)]
     pub fn next<R: Source>(&mut self, reader: &mut R) -> Result<Option<(u16, Step)>, StreamFault>
         requires { R.failed reader.old ≡ false }
         ensures header { self.new.header ≡ self.old.header }
         ensures next { IsNext steps_form (progress self.old (R.left reader.old)) result
-            (progress self.new (R.left reader.new)) }
+            (progress self.new (R.left reader.new)) (R.left reader.new) }
+        ensures stands { Stands self.old.bytes (R.left reader.old) result self.new.bytes (R.left reader.new) }
         ensures seated { IfOk result (λ next. IfSome next (λ step. step.0 < self.old.header.seats)) }
         ensures few { self.new.count < 2 ^ 64 }
         ensures counted { IfOk result (λ next. IfSome next (λ _. self.new.count ≡ self.old.count + 1)) }
         ensures stays { result ≡ Ok None → self.new.count ≡ self.old.count }
+        ensures uncounted { OnErr result (self.new.count ≡ self.old.count) }
+        ensures places { self.new.places ≡ self.old.places }
+        ensures held { length self.new.bytes ≤ room }
         ensures ready { (IsLine self.old.bytes → ⊥) →
             IfOk result (λ next. IfSome next (λ _. reader.new ≡ reader.old)) }
         ensures ended { result ≡ Ok None → IsAtEnd (R.left reader.new) }

@@ -7,3 +7,4 @@ pub mod HistoryWriting
 pub mod Lists
 pub mod Made
 pub mod Spelt
+pub mod ShortEntries

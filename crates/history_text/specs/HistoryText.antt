@@ -4,7 +4,7 @@ use Rattle.history.specs.declared.entry.Entry.{Entry}
 use Rattle.history.specs.declared.header.Header.{Header}
 use Rattle.history.specs.Entries.{HistoryView, ended_calls}
 use Rattle.history.specs.Header.{IsInRange}
-use Rattle.line_text.specs.declared.fault.TextFault.{TextFault}
+use Rattle.line_text.specs.declared.fault.ReadFault.{ReadFault}
 use Rattle.line_text.specs.Form.{Form, text_of}
 use Rattle.line_text.specs.Reading.{IsReading}
 use Rattle.line_text.specs.Reading as reading
@@ -43,5 +43,5 @@ entries_so_far header count calls =
     record { header = header; count = count; known = λ entries. calls ≡ ended_calls entries }
 
 -- what a call answers: the reading of the text, or want of memory
-abbrev pub Reads : List ℕ → Result (Header × HistoryView) TextFault → Type 0
+abbrev pub Reads : List ℕ → Result (Header × HistoryView) ReadFault → Type 0
 Reads text = reading.Reads history_form (λ read. IsRead text read.0 read.1) text

@@ -12,7 +12,7 @@ use history::entries::History;
 use history::fault::Fault;
 use history::header::Header;
 use history::number::Numbering;
-use line_text::fault::TextFault;
+use line_text::fault::ReadFault;
 use std::alloc::{AllocError, Global};
 
 /// More than the length of most entries' lines: the text is made for lines of this length.
@@ -55,10 +55,10 @@ fn written(alloc: Global, header: &Header, history: &History) -> Result<Vec<u8>,
     Ok(out)
 }
 
-/// The header and the history that a text spells, or its first fault.
+/// The header and the history that a text spells, or its first fault, or want of memory.
 ///
 /// No room is owed in what is read, which needn't be legal.
-pub fn read_text(alloc: Global, text: &[u8]) -> Result<(Header, History), TextFault>
+pub fn read_text(alloc: Global, text: &[u8]) -> Result<(Header, History), ReadFault>
     ensures { Reads text.now result }
 {
     let (header, mut rest) = header_of(text)?;
@@ -72,7 +72,7 @@ pub fn read_text(alloc: Global, text: &[u8]) -> Result<(Header, History), TextFa
         history.calls(),
     )? {
         if history.make_room(1).is_err() {
-            return Err(TextFault::OutOfMemory);
+            return Err(ReadFault::OutOfMemory);
         }
         history.add(entry, 0);
         rest = &rest[rest.len() - left..];

@@ -8,6 +8,7 @@ ghost use Rattle.history.specs.Header.{IsInRange};
 ghost use Rattle.history.specs.Legal.{AreSeated, IsLegal};
 ghost use Rattle.history.specs.Start.{opening};
 ghost use Rattle.line_text.specs.Reading.{IsReading, IsText, IsCutShort, Reading};
+ghost use Rattle.line_text.specs.Short.{HasShortLines};
 ghost use Rattle.history_text.specs.HistoryText.{history_form, history_text, Fits};
 
 /// A text has one reading: it spells one header and one list of entries, or it has one first fault.
@@ -33,4 +34,9 @@ pub fn written_is_read()
 pub fn legal_histories_fit()
     ensures { (h : Header) (kept : HistoryView) → IsInRange h → kept.cap ≡ h.cap →
         IsLegal (opening h) kept.entries → AreSeated (opening h) kept.entries → Fits h kept }
+{}
+
+/// No line of a history text has 256 bytes.
+pub fn lines_are_short()
+    ensures { HasShortLines history_form 256 }
 {}

@@ -1,11 +1,12 @@
 //! The lines of a history text, one after another.
 
-ghost use Rattle.std.specs.Prelude.{◌≡◌, ◌+◌, ◌<◌, ◌≤◌, ◌^◌, Err, length, IfOk, IfErr, IsErrOf};
+ghost use Rattle.std.specs.Prelude.{◌≡◌, ◌+◌, ◌<◌, ◌≤◌, ◌^◌, Err, Ok, None, length, IfOk, IfErr, IsErrOf};
 ghost use Rattle.history.specs.Header.{IsInRange};
-ghost use Rattle.history.specs.Text.{IsLine};
+ghost use Rattle.history.specs.Text.{IsLine, ended};
 ghost use Rattle.line_text.specs.Reading.{IsReading};
 ghost use Rattle.line_text.specs.declared.fault.TextFault.TheVariants.{CutShort};
 ghost use Rattle.line_text.specs.UnderWay.{IsHeaderOf, IsLineBehind};
+ghost use Rattle.history_text.specs.EntryLines.{counts_line};
 ghost use Rattle.history_text.specs.HistoryText.{entries_so_far, history_form};
 
 use crate::common_entry::common_entry;
@@ -41,6 +42,7 @@ fn entry_by_words(
     requires few { count + 3 < 2 ^ 64 }
     ensures line { IsLineBehind history_form (entries_so_far header.now count calls) rest.now result }
     ensures cut { IsErrOf result CutShort → IsLine rest.now }
+    ensures last { result ≡ Ok None → rest.now ≡ ended (counts_line count calls) }
 {
     let Some((line, after)) = first_line(rest) else {
         return Err(TextFault::CutShort);
@@ -74,6 +76,7 @@ pub fn next_entry(
     requires few { count + 3 < 2 ^ 64 }
     ensures line { IsLineBehind history_form (entries_so_far header.now count calls) rest.now result }
     ensures cut { IsErrOf result CutShort → IsLine rest.now }
+    ensures last { result ≡ Ok None → rest.now ≡ ended (counts_line count calls) }
 {
     if count < u64::from(header.cap) {
         if let Some((entry, left)) = common_entry(rest, numbering, count, header.seats) {

@@ -8,7 +8,7 @@ use Rattle.line_text.proofs.Lawful.{Lacks, IsLawful}
 use Rattle.line_text.proofs.Growing.{broken}
 use Rattle.line_text.proofs.OneReading.{head_is, tail_is, first_line}
 
-line_from : (xs : List ℕ) → Lacks xs → IsLine xs
+pub line_from : (xs : List ℕ) → Lacks xs → IsLine xs
 line_from xs h = All-from_recursion _ xs h
 
 -- the front ends within the first line, or behind its break

@@ -2,7 +2,7 @@
 use Rattle.std.proofs.Common.{◌≡◌, ◌≢◌, ℕ, ◌+◌, List, [], ◌∷◌, ◌++◌, length, Err, refl, sym, ap, ◌∙◌, append_assoc, inl, inr}
 use Rattle.history.specs.Text.{ended}
 use Rattle.line_text.specs.declared.fault.TextFault.{TextFault}
-use Rattle.line_text.specs.declared.fault.TextFault.TheVariants.{BadHeader, BadLine, CutShort, OutOfMemory}
+use Rattle.line_text.specs.declared.fault.TextFault.TheVariants.{BadHeader, BadLine, CutShort}
 use Rattle.line_text.specs.Form.{Form, lines_of}
 use Rattle.line_text.specs.Reading.{Begins, IsText, HasBadHeader, HasBadLine, IsReading}
 
@@ -76,7 +76,6 @@ pub fault_stays : {H I : Type 0} (form : Form H I) (text more : List ℕ) (fault
 fault_stays form text more BadHeader whole is = header_stays form text more is
 fault_stays form text more (BadLine number) whole is = line_stays form text more number is
 fault_stays form text more CutShort whole is = absurd (whole refl)
-fault_stays form text more OutOfMemory whole is = absurd is
 
 -- bytes follow a whole text
 pub text_goes_on : {H I : Type 0} (form : Form H I) (text : List ℕ) (h : H) (xs : List I) (more : List ℕ) →

@@ -8,3 +8,5 @@ pub mod Seats
 pub mod AskingOnce
 pub mod UnderWay
 pub mod Faults
+pub mod LongLines
+pub mod Lengths

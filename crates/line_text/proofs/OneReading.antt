@@ -2,7 +2,7 @@
 use Rattle.std.proofs.Common.{◌≡◌, ◌≢◌, ℕ, ◌+◌, ◌<◌, ◌^◌, List, [], ◌∷◌, ◌++◌, length, Option, Some, None, Ok, Err, refl, sym, ap, subst, ◌∙◌, arith, append_assoc, inl, inr, ◌⊎◌}
 use Rattle.std.proofs.lemmas.List.Elements.{recursion_from_All}
 use Rattle.line_text.specs.declared.fault.TextFault.{TextFault}
-use Rattle.line_text.specs.declared.fault.TextFault.TheVariants.{BadHeader, BadLine, CutShort, OutOfMemory}
+use Rattle.line_text.specs.declared.fault.TextFault.TheVariants.{BadHeader, BadLine, CutShort}
 use Rattle.history.specs.Text.{IsLine, ended}
 use Rattle.line_text.specs.Form.{Form, lines_of, AreItems}
 use Rattle.line_text.specs.Reading.{Begins, HasBadHeader, IsBadLine, Reading, IsReading}
@@ -59,7 +59,6 @@ Ending form h k end tail (Some BadHeader) = ⊥
 Ending form h k end tail (Some (BadLine m)) =
     ((line : List ℕ) × (rest : List ℕ) × (tail ≡ line ++ 10 ∷ rest) × IsBadLine form h k end line × (m ≡ k + 2))
     ⊎ ((rest : List ℕ) × (tail ≡ ended end ++ rest) × (k < 2 ^ 32) × (rest ≢ []) × (m ≡ k + 3))
-Ending form h k end tail (Some OutOfMemory) = ⊥
 
 -- a whole line that is the end line
 ended_lines : (end line rest more tail : List ℕ) → Lacks end → Lacks line → tail ≡ line ++ 10 ∷ rest →
@@ -111,9 +110,7 @@ same_ending form h k end tail (Some (BadLine m)) (Some CutShort) lawful of p q =
 same_ending form h k end tail (Some (BadLine m)) (Some (BadLine n)) lawful of p q =
     ap (λ (x : ℕ). Some (BadLine x)) (bad_bad form h k m n end tail lawful of p q)
 same_ending form h k end tail (Some BadHeader) u lawful of p q = absurd p
-same_ending form h k end tail (Some OutOfMemory) u lawful of p q = absurd p
 same_ending form h k end tail o (Some BadHeader) lawful of p q = absurd q
-same_ending form h k end tail o (Some OutOfMemory) lawful of p q = absurd q
 
 -- behind the good lines comes no good one
 no_more : {H I : Type 0} (form : Form H I) (h : H) (k : ℕ) (end tail rest : List ℕ) (x : I)
@@ -133,7 +130,6 @@ no_more form h k end tail rest x (Some (BadLine m)) lawful of header fits (inr p
     (same_lines (form.item_line k x) end rest p.0 (lawful.item_whole h k x header fits)
     (end_lacks form k end lawful of p.2) (sym e ∙ p.1 ∙ broken end p.0)).0
 no_more form h k end tail rest x (Some BadHeader) lawful of header fits p e = p
-no_more form h k end tail rest x (Some OutOfMemory) lawful of header fits p e = p
 
 -- the first of the lines, and what follows it
 pub first_line : {H I : Type 0} (form : Form H I) (k : ℕ) (x : I) (xs : List I) (tail : List ℕ) →
@@ -229,7 +225,6 @@ kind_of form text (Err (BadLine m)) (inr p) =
       ends = inr (p.2, refl, p.4, p.5, p.6);
       is = refl;
     }))
-kind_of form text (Err OutOfMemory) p = absurd p
 
 -- the header line of a text
 header_first : {H I : Type 0} (form : Form H I) (text : List ℕ) (r : Reading H I) (p : Past form text r) →

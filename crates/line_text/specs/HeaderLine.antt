@@ -6,7 +6,7 @@ use Rattle.history.specs.Header.{IsInRange}
 use Rattle.history.specs.Spelling.{part_of}
 use Rattle.history.specs.Text.{IsLine, ended}
 use Rattle.line_text.specs.declared.fault.TextFault.{TextFault}
-use Rattle.line_text.specs.declared.fault.TextFault.TheVariants.{BadHeader, BadLine, CutShort, OutOfMemory}
+use Rattle.line_text.specs.declared.fault.TextFault.TheVariants.{BadHeader, BadLine, CutShort}
 
 -- the line of this header, behind the name, begins the text, and this follows it
 abbrev pub BeginsWithHeader : List ℕ → List ℕ → Header × Bor (List ℕ) → Type 0
@@ -19,4 +19,3 @@ LacksHeader name text BadHeader =
     (line : List ℕ) × (rest : List ℕ) × (text ≡ line ++ 10 ∷ rest) × IsLine line
     × ((h : Header) → IsInRange h → line ≢ name ++ part_of h)
 LacksHeader name text (BadLine number) = ⊥
-LacksHeader name text OutOfMemory = ⊥

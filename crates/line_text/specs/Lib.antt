@@ -3,4 +3,5 @@ pub mod Form
 pub mod HeaderLine
 pub mod Once
 pub mod Reading
+pub mod Short
 pub mod UnderWay

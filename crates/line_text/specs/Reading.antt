@@ -1,7 +1,9 @@
 -- Which texts are of a form, and the first fault of a text that is not, line by line.
 use Rattle.std.specs.Prelude.{◌≡◌, ◌≢◌, ℕ, ◌+◌, ◌<◌, ◌^◌, List, [], ◌∷◌, ◌++◌, length, Result, Ok, Err, ◌⊎◌}
 use Rattle.line_text.specs.declared.fault.TextFault.{TextFault}
-use Rattle.line_text.specs.declared.fault.TextFault.TheVariants.{BadHeader, BadLine, CutShort, OutOfMemory}
+use Rattle.line_text.specs.declared.fault.TextFault.TheVariants.{BadHeader, BadLine, CutShort}
+use Rattle.line_text.specs.declared.fault.ReadFault.{ReadFault}
+use Rattle.line_text.specs.declared.fault.ReadFault.TheVariants.{Text, OutOfMemory}
 use Rattle.history.specs.Text.{IsLine, ended}
 use Rattle.line_text.specs.Form.{Form, lines_of, AreItems}
 
@@ -54,13 +56,10 @@ IsReading form text (Ok said) = IsText form text said.0 said.1
 IsReading form text (Err CutShort) = IsCutShort form text
 IsReading form text (Err BadHeader) = HasBadHeader form text
 IsReading form text (Err (BadLine number)) = HasBadLine form text number
-IsReading form text (Err OutOfMemory) = ⊥
 
 -- what a call answers that keeps what it reads: what it keeps is as it is to be, or this is the first fault
 -- of the text, or memory was refused
-abbrev pub Reads : {H I T : Type 0} → Form H I → (T → Type 0) → List ℕ → Result T TextFault → Type 0
+abbrev pub Reads : {H I T : Type 0} → Form H I → (T → Type 0) → List ℕ → Result T ReadFault → Type 0
 Reads form Keeps text (Ok kept) = Keeps kept
-Reads form Keeps text (Err CutShort) = IsReading form text (Err CutShort)
-Reads form Keeps text (Err BadHeader) = IsReading form text (Err BadHeader)
-Reads form Keeps text (Err (BadLine number)) = IsReading form text (Err (BadLine number))
+Reads form Keeps text (Err (Text fault)) = IsReading form text (Err fault)
 Reads form Keeps text (Err OutOfMemory) = Unit {0}

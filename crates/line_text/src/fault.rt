@@ -1,7 +1,7 @@
 //! Why a text couldn't be read.
 
 ghost use Rattle.std.specs.Prelude.{◌≡◌};
-ghost use Rattle.line_text.specs.declared.fault.TextFault.TheVariants.{OutOfMemory};
+ghost use Rattle.line_text.specs.declared.fault.ReadFault.TheVariants.{Text, OutOfMemory};
 
 use std::alloc::{AllocError, AllocFailed};
 use thiserror::Error;
@@ -18,23 +18,39 @@ pub enum TextFault {
     /// The text ends before its end line has.
     #[error("cut short")]
     CutShort,
+}
+
+/// Why a text was not read into memory.
+#[derive(Clone, Copy, Debug, PartialEq, Eq, Error)]
+pub enum ReadFault {
+    /// The text has this fault.
+    #[error("{0}")]
+    Text(TextFault),
     /// Memory was refused; the text may be good.
     #[error("out of memory")]
     OutOfMemory,
 }
 
-impl From<AllocError> for TextFault {
-    ghost from_gives = { λ _ e. e ≡ OutOfMemory };
+impl From<TextFault> for ReadFault {
+    ghost from_gives = { λ fault e. e ≡ Text fault };
 
-    fn from(_e: AllocError) -> TextFault {
-        TextFault::OutOfMemory
+    fn from(fault: TextFault) -> ReadFault {
+        ReadFault::Text(fault)
     }
 }
 
-impl<T: Drop> From<AllocFailed<T>> for TextFault {
+impl From<AllocError> for ReadFault {
     ghost from_gives = { λ _ e. e ≡ OutOfMemory };
 
-    fn from(_e: AllocFailed<T>) -> TextFault {
-        TextFault::OutOfMemory
+    fn from(_e: AllocError) -> ReadFault {
+        ReadFault::OutOfMemory
+    }
+}
+
+impl<T: Drop> From<AllocFailed<T>> for ReadFault {
+    ghost from_gives = { λ _ e. e ≡ OutOfMemory };
+
+    fn from(_e: AllocFailed<T>) -> ReadFault {
+        ReadFault::OutOfMemory
     }
 }

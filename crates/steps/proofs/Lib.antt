@@ -1,3 +1,4 @@
 pub mod StepLemmas
 pub mod StepsLawful
 pub mod Lines
+pub mod ShortSteps

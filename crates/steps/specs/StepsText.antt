@@ -3,7 +3,7 @@ use Rattle.std.specs.Prelude.{ℕ, List, length, Result, Ok}
 use Rattle.history.specs.declared.header.Header.{Header}
 use Rattle.history.specs.declared.step.Step.{Step}
 use Rattle.history.specs.Header.{IsInRange}
-use Rattle.line_text.specs.declared.fault.TextFault.{TextFault}
+use Rattle.line_text.specs.declared.fault.ReadFault.{ReadFault}
 use Rattle.line_text.specs.Form.{Form}
 use Rattle.line_text.specs.Reading.{IsReading}
 use Rattle.line_text.specs.Reading as reading
@@ -27,5 +27,5 @@ abbrev pub steps_so_far : Header → ℕ → SoFar Header (ℕ × Step)
 steps_so_far header count = record { header = header; count = count; known = λ steps. Unit {0} }
 
 -- what a call answers: the reading of the text, or want of memory
-abbrev pub Reads : List ℕ → Result StepsText TextFault → Type 0
+abbrev pub Reads : List ℕ → Result StepsText ReadFault → Type 0
 Reads text = reading.Reads steps_form (λ t. IsReading steps_form text (Ok (t.header, t.steps.items))) text

@@ -1,11 +1,12 @@
 //! The lines of a steps text, one after another.
 
-ghost use Rattle.std.specs.Prelude.{◌≡◌, ◌+◌, ◌<◌, ◌≤◌, ◌^◌, Err, length, IfOk, IfErr, IsErrOf};
+ghost use Rattle.std.specs.Prelude.{◌≡◌, ◌+◌, ◌<◌, ◌≤◌, ◌^◌, Err, Ok, None, length, IfOk, IfErr, IsErrOf};
 ghost use Rattle.history.specs.Header.{IsInRange};
-ghost use Rattle.history.specs.Text.{IsLine};
+ghost use Rattle.history.specs.Text.{IsLine, ended};
 ghost use Rattle.line_text.specs.Reading.{IsReading};
 ghost use Rattle.line_text.specs.declared.fault.TextFault.TheVariants.{CutShort};
 ghost use Rattle.line_text.specs.UnderWay.{IsHeaderOf, IsLineBehind};
+ghost use Rattle.steps.specs.StepLines.{end_line};
 ghost use Rattle.steps.specs.StepsText.{steps_form, steps_so_far};
 
 use crate::common_step::common_step;
@@ -39,6 +40,7 @@ fn line_by_words(
     requires few { count + 3 < 2 ^ 64 }
     ensures line { IsLineBehind steps_form (steps_so_far header.now count) rest.now result }
     ensures cut { IsErrOf result CutShort → IsLine rest.now }
+    ensures last { result ≡ Ok None → rest.now ≡ ended (end_line count) }
 {
     let Some((line, after)) = first_line(rest) else {
         return Err(TextFault::CutShort);
@@ -67,6 +69,7 @@ pub fn next_line(
     requires few { count + 3 < 2 ^ 64 }
     ensures line { IsLineBehind steps_form (steps_so_far header.now count) rest.now result }
     ensures cut { IsErrOf result CutShort → IsLine rest.now }
+    ensures last { result ≡ Ok None → rest.now ≡ ended (end_line count) }
 {
     match common_step(rest, header.seats) {
         Some(found) => Ok(Some(found)),

@@ -5,7 +5,7 @@ ghost use Rattle.steps.specs.StepsText.{Reads};
 use crate::next_line::{header_of, next_line};
 use history::header::Header;
 use history::step::Step;
-use line_text::fault::TextFault;
+use line_text::fault::ReadFault;
 use std::alloc::Global;
 
 /// About the length of a step's line: the list of steps is made for a text of such lines.
@@ -18,8 +18,8 @@ pub struct StepsText {
     pub steps: Vec<(u16, Step)>,
 }
 
-/// The header and the steps that a text spells, or its first fault.
-pub fn read_steps(alloc: Global, text: &[u8]) -> Result<StepsText, TextFault>
+/// The header and the steps that a text spells, or its first fault, or want of memory.
+pub fn read_steps(alloc: Global, text: &[u8]) -> Result<StepsText, ReadFault>
     ensures { Reads text.now result }
 {
     let (header, mut rest) = header_of(text)?;

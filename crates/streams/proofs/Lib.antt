@@ -1,3 +1,4 @@
+pub mod LongLines
 pub mod Pieces
 pub mod Sliding
 pub mod Written

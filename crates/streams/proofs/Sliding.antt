@@ -1,7 +1,8 @@
 -- What stands in a window behind a read, and when it moves on.
-use Rattle.std.proofs.Common.{◌≡◌, ℕ, ◌+◌, ◌-◌, ◌≤◌, List, ◌++◌, length, take, drop, slice_range, sym, ap, ◌∙◌, arith, append_assoc}
+use Rattle.std.proofs.Common.{◌≡◌, ℕ, ◌+◌, ◌-◌, ◌<◌, ◌≤◌, ◌⊎◌, inl, inr, min, List, ◌++◌, length, take, drop, slice_range, sym, ap, ◌∙◌, arith, append_assoc}
 use Rattle.std.proofs.Math.Seq.{take-append-add}
-use Rattle.std.proofs.lemmas.List.{take-append-le, take-take, drop-append-le, drop-take, drop-drop, length-take-le, length-drop}
+use Rattle.std.proofs.lemmas.Bool.{cases_order}
+use Rattle.std.proofs.lemmas.List.{take-append-le, take-take, drop-append-le, drop-take, drop-drop, length-take, length-take-le, length-drop, take_all}
 
 ranged : (xs : List ℕ) (at end : ℕ) → at ≤ end → slice_range xs at end ≡ drop at (take end xs)
 ranged xs at end ordered =
@@ -38,3 +39,30 @@ kept_last xs at end left ordered within few =
     let all : end - at ≡ gone + (end - (end - left)) = omega (arith, len, few, ordered) in
     sym (ap (λ (j : ℕ). drop gone (take j (drop at xs))) all ∙ drop-take gone (end - (end - left)) (drop at xs)
     ∙ ap (take (end - (end - left))) (drop-drop gone at xs ∙ ap (λ (j : ℕ). drop j xs) (sym from)))
+
+-- so many bytes at the front are kept
+pub kept_front : (xs : List ℕ) (at end most kept : ℕ) → kept ≡ min (end - at) most →
+    slice_range xs at (at + kept) ≡ take most (slice_range xs at end)
+kept_front xs at end most kept is =
+    ap (λ (n : ℕ). take n (drop at xs)) here ∙ by (cases_order (end - at) most)
+  where
+    here : (at + kept) - at ≡ min (end - at) most
+    here = omega (arith, is)
+
+    all : end - at ≤ most → take (min (end - at) most) (drop at xs) ≡ take most (take (end - at) (drop at xs))
+    all le =
+        let n : min (end - at) most ≡ end - at = omega (arith, le) in
+        ap (λ (k : ℕ). take k (drop at xs)) n
+        ∙ sym (take_all most (take (end - at) (drop at xs))
+        (omega (arith, le, length-take (end - at) (drop at xs))))
+
+    some : most ≤ end - at → take (min (end - at) most) (drop at xs) ≡ take most (take (end - at) (drop at xs))
+    some le =
+        let n : min (end - at) most ≡ most = omega (arith, le) in
+        ap (λ (k : ℕ). take k (drop at xs)) n ∙ sym (take-take most (end - at) (drop at xs) le)
+
+    by : ((end - at) ≡ most) ⊎ (((end - at) < most) ⊎ (most < (end - at)))
+        → take (min (end - at) most) (drop at xs) ≡ take most (take (end - at) (drop at xs))
+    by (inl same) = all (omega (arith, same))
+    by (inr (inl lt)) = all (omega (arith, lt))
+    by (inr (inr lt)) = some (omega (arith, lt))

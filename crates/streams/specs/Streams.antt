@@ -1,11 +1,12 @@
 -- What a stream reads, writes and answers.
-use Rattle.std.specs.Prelude.{ℕ, List, Option, Result, Ok, Err, IfSome}
+use Rattle.std.specs.Prelude.{◌≡◌, ◌⊎◌, ◌≤◌, ℕ, List, ◌++◌, length, Option, Result, Ok, Err, IfSome, IsSomeAnd}
 use Rattle.std.specs.Io.KnownBytes.{IsAtEnd, Keeps, Appends}
 use Rattle.line_text.specs.Form.{Form}
-use Rattle.line_text.specs.Reading.{IsReading}
+use Rattle.line_text.specs.Reading.{Begins, IsReading}
 use Rattle.streams.specs.declared.stream_fault.StreamFault.{StreamFault}
 use Rattle.streams.specs.declared.stream_fault.StreamFault.TheVariants.{Text, ReadFailed, WriteFailed, Memory}
-use Rattle.streams.specs.Whole.{AppendsFront}
+use Rattle.streams.specs.Whole.{AppendsFront, IsTooLong}
+use Rattle.streams.specs.Window.{room}
 
 -- From the bytes that a source has, and what a sink held before and holds after. A text of the form is
 -- answered by a value, and by what is written.
@@ -27,8 +28,25 @@ IsReadTo ReadFailed left = Unit {0}
 IsReadTo WriteFailed left = Unit {0}
 IsReadTo Memory left = Unit {0}
 
--- a text was read to its end where it is answered or has a fault, and before anything is written
-abbrev pub IsReadOut : {T : Type 0} → Result T StreamFault → Option (List ℕ) → Type 0
-IsReadOut {T} (Ok answer) left = IsAtEnd left
-IsReadOut {T} (Err WriteFailed) left = IsAtEnd left
-IsReadOut {T} (Err fault) left = IsReadTo fault left
+-- A header, the lines of some items, and no more than a window holds behind them were read.
+pub record AreReadAhead {H I : Type 0} (form : Form H I) (text left : List ℕ) : Type 0 where
+  pub header : H
+  pub items : List I
+  pub window : List ℕ
+  pub begins : Begins form text header items (window ++ left)
+  pub few : length window ≤ room
+
+-- no line was read but those that were answered and what a window holds, of a text whose reads can be counted
+abbrev pub IsReadNoFurther : {H I : Type 0} → Form H I → Option (List ℕ) → Option (List ℕ) → Type 0
+IsReadNoFurther form text left =
+    IfSome text (λ t. IsTooLong t ⊎ IsSomeAnd left (λ rest. (rest ≡ t) ⊎ AreReadAhead form t rest))
+
+-- a text was read to its end where it is answered or has a fault, and before anything is written; where memory
+-- is refused, nothing more is read
+abbrev pub IsReadOut : {H I T : Type 0} → Form H I → Option (List ℕ) → Result T StreamFault → Option (List ℕ) →
+    Type 0
+IsReadOut form text (Ok answer) left = IsAtEnd left
+IsReadOut form text (Err (Text fault)) left = IsAtEnd left
+IsReadOut form text (Err ReadFailed) left = Unit {0}
+IsReadOut form text (Err WriteFailed) left = IsAtEnd left
+IsReadOut form text (Err Memory) left = IsReadNoFurther form text left

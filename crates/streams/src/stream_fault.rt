@@ -10,7 +10,7 @@ use thiserror::Error;
 /// Why a stream was not answered.
 #[derive(Clone, Copy, Debug, PartialEq, Eq, Error)]
 pub enum StreamFault {
-    /// The text has this fault, never OutOfMemory; nothing was written.
+    /// The text has this fault; nothing was written.
     #[error("{0}")]
     Text(TextFault),
     /// The reader has failed; nothing was written.

@@ -36,6 +36,7 @@ pub fn told_at_the_end<R: Source>(reader: &mut R, fault: StreamFault) -> StreamF
     requires { (fault ≡ ReadFailed) ↔ IsTrue (R.failed reader.old) }
     ensures told { IsToldFor fault result }
     ensures memory { result ≡ Memory → (fault ≡ Memory) ⊎ IfSome (R.left reader.old) IsTooLong }
+    ensures untouched { fault ≡ Memory → reader.new ≡ reader.old }
     ensures end { IsReadTo result (R.left reader.new) }
     ensures failing { (result ≡ ReadFailed) ↔ IsTrue (R.failed reader.new) }
 {

@@ -1,22 +1,29 @@
 //! The bytes of a source that were read and are still wanted.
 
-ghost use Rattle.std.specs.Prelude.{◌≡◌, ◌+◌, ◌<◌, ◌≤◌, ◌^◌, ◌-◌, ◌↔◌, [], false, drop, length, max, IsTrue, IsErrOf, IfOk, IfErr, OnOk, OnErr};
+ghost use Rattle.std.specs.Prelude.{◌≡◌, ◌+◌, ◌<◌, ◌≤◌, ◌-◌, ◌↔◌, ℕ, List, Option, [], false, drop, length, take, IsTrue, IsErrOf, IfOk, IfErr, IfSome, OnOk, OnErr};
 ghost use Rattle.std.specs.Io.KnownBytes.{IsAtEnd, Keeps};
 ghost use Rattle.history.specs.Text.{IsLine};
-ghost use Rattle.streams.specs.Whole.{IsOfReading};
-ghost use Rattle.streams.specs.Window.{Grows, KeepsAhead};
+ghost use Rattle.streams.specs.Whole.{IsOfReading, IsTooLong};
+ghost use Rattle.streams.specs.Window.{Grows, IsFrontAhead, IsShorter, StaysAhead, kept_of_line, room};
+ghost use Rattle.streams.specs.declared.stream_fault.StreamFault.TheVariants.{Memory, ReadFailed};
 
 use crate::source::Source;
 use crate::stream_fault::StreamFault;
-use memchr::memchr;
+use history::text::first_line;
 use std::alloc::{AllocError, Global};
 use std::marker::Model;
 
-/// How many bytes are asked of a source at once.
-const PIECE: usize = 65_536;
+/// So many bytes of a line that isn't whole stay in a window: no good line of a text has as many.
+const KEPT_OF_LINE: usize = 256;
+
+/// So many bytes stand in a window at most: a piece of 65,536, behind what stays of a line.
+const ROOM: usize = 65_792;
 
 /// A window on the bytes of a source, which moves on as they are read: what stands in it was got from the
 /// source, and what was read is let go of.
+///
+/// Its memory is taken when it is opened, and never grows. Of a line that is longer than any good one only the
+/// first bytes stay, so each line of a source can be looked at, however long it is.
 #[derive(Drop)]
 pub struct Window {
     bytes: Vec<u8>,
@@ -25,7 +32,7 @@ pub struct Window {
 }
 
 impl Model for Window {
-    ghost use Rattle.std.specs.Prelude.{◌≤◌, length, slice_range};
+    ghost use Rattle.std.specs.Prelude.{◌≡◌, ◌≤◌, length, slice_range, vec_capacity};
     ghost use Rattle.streams.specs.Window.{Seen};
 
     ghost Value = { Seen };
@@ -33,27 +40,34 @@ impl Model for Window {
     ghost view = { λ w. record {
       bytes = slice_range w.bytes.items w.at w.end;
       passed = w.at;
-      places = length w.bytes.items;
+      places = vec_capacity w.bytes;
     } };
 
-    ghost invariant = { λ w. (w.at ≤ w.end) × (w.end ≤ length w.bytes.items) };
+    ghost invariant = { λ w. (w.at ≤ w.end) × (w.end ≤ length w.bytes.items)
+        × (length w.bytes.items ≡ vec_capacity w.bytes) };
 }
 
 impl Window {
-    pub fn open(alloc: Global) -> Self
-        ensures { result ≡ record { bytes = []; passed = 0; places = 0 } }
+    /// A window on a source of which nothing was read.
+    pub fn open(alloc: Global) -> Result<Self, AllocError>
+        ensures { IfOk result (λ w. w ≡ record { bytes = []; passed = 0; places = room }) }
     {
-        Window {
-            bytes: Vec::new(alloc),
+        let mut bytes = Vec::with_capacity(alloc, ROOM)?;
+        for _ in 0..ROOM {
+            bytes.push_reserved(0);
+        }
+        Ok(Window {
+            bytes,
             at: 0,
             end: 0,
-        }
+        })
     }
 
     /// The bytes that are still wanted.
     #[inline(always)]
     pub fn bytes(&self) -> &[u8]
-        ensures { result.now ≡ self.now.bytes }
+        ensures bytes { result.now ≡ self.now.bytes }
+        ensures few { length result.now ≤ self.now.places }
     {
         &self.bytes[self.at..self.end]
     }
@@ -64,9 +78,20 @@ impl Window {
         requires { left ≤ length self.old.bytes }
         ensures bytes { self.new.bytes ≡ drop (length self.old.bytes - left) self.old.bytes }
         ensures passed { self.new.passed ≡ self.old.passed + (length self.old.bytes - left) }
+        ensures few { length self.new.bytes ≤ self.new.places }
         ensures places { self.new.places ≡ self.old.places }
     {
         self.at = self.end - left;
+    }
+
+    /// Lets go of what is more than the first bytes of a line.
+    fn keep_front(&mut self)
+        ensures bytes { self.new.bytes ≡ take kept_of_line self.old.bytes }
+        ensures few { length self.new.bytes ≤ kept_of_line }
+        ensures places { self.new.places ≡ self.old.places }
+    {
+        let kept = (self.end - self.at).min(KEPT_OF_LINE);
+        self.end = self.at + kept;
     }
 
     /// Moves what is wanted to the front, so that the bytes that were let go of take no room.
@@ -78,37 +103,23 @@ impl Window {
         self.at = 0;
     }
 
-    /// Makes room for a piece behind the bytes that are wanted, which stand at the front.
-    fn make_room(&mut self) -> Result<(), AllocError>
-        requires { self.old.passed ≡ 0 }
-        ensures bytes { self.new.bytes ≡ self.old.bytes }
-        ensures passed { self.new.passed ≡ 0 }
-        ensures room { OnOk result (length self.old.bytes + 65536 ≤ self.new.places) }
-        ensures few { self.new.places ≤ max self.old.places (length self.old.bytes + 65536) }
-    {
-        if PIECE <= self.bytes.len() - self.end {
-            return Ok(());
-        }
-        self.bytes.resize(self.end + PIECE, 0)
-    }
-
     /// Adds what a read gives, and says how much that is; 0 is the end of the source. A read that fails adds
     /// nothing, and the same bytes stand in the window.
     pub fn read_more<R: Source>(&mut self, reader: &mut R) -> Result<usize, StreamFault>
-        requires { R.failed reader.old ≡ false }
+        requires reader { R.failed reader.old ≡ false }
+        requires room { length self.old.bytes < self.old.places }
         ensures grows { IfOk result (Grows self.old.bytes self.new.bytes
             (R.left reader.old) (R.left reader.new)) }
         ensures end { IfOk result (λ n. n ≡ 0 → IsAtEnd (R.left reader.new)) }
-        ensures few { OnOk result (length self.new.bytes < 2 ^ 64) }
         ensures kept { OnErr result ((self.new.bytes ≡ self.old.bytes)
             × Keeps (R.left reader.old) (R.left reader.new)) }
         ensures passed { self.new.passed ≡ 0 }
-        ensures room { self.new.places ≤ max self.old.places (length self.old.bytes + 65536) }
-        ensures failing { IsErrOf result StreamFault.ReadFailed ↔ IsTrue (R.failed reader.new) }
-        ensures kinds { IfErr result IsOfReading }
+        ensures few { length self.new.bytes ≤ self.new.places }
+        ensures places { self.new.places ≡ self.old.places }
+        ensures failing { IsErrOf result ReadFailed ↔ IsTrue (R.failed reader.new) }
+        ensures kinds { IfErr result (λ fault. fault ≡ ReadFailed) }
     {
         self.move_to_front();
-        self.make_room()?;
         let Ok(n) = reader.read(&mut self.bytes[self.end..]) else {
             return Err(StreamFault::ReadFailed);
         };
@@ -116,26 +127,66 @@ impl Window {
         Ok(n)
     }
 
-    /// Reads on until a whole line stands in the window, or to the end of the source. Nothing is read where one
-    /// stands in it, and nothing that was read is lost, also where reading fails.
-    pub fn read_line<R: Source>(&mut self, reader: &mut R) -> Result<(), StreamFault>
-        requires { R.failed reader.old ≡ false }
-        ensures kept { KeepsAhead self.old.bytes (R.left reader.old) self.new.bytes (R.left reader.new) }
-        ensures ready { (IsLine self.old.bytes → ⊥) → (self.new ≡ self.old) × (reader.new ≡ reader.old) }
-        ensures room { self.new.places ≤ max self.old.places (length self.new.bytes + 65536) }
-        ensures whole { OnOk result (IsLine self.new.bytes → IsAtEnd (R.left reader.new)) }
-        ensures failing { IsErrOf result StreamFault.ReadFailed ↔ IsTrue (R.failed reader.new) }
-        ensures kinds { IfErr result IsOfReading }
+    /// Adds a piece to the front of a line, and says whether that is all: the line ends in the piece, or the
+    /// source does. If not, only the front of the line stays.
+    fn read_piece<R: Source>(&mut self, reader: &mut R) -> Result<bool, StreamFault>
+        requires reader { R.failed reader.old ≡ false }
+        requires room { kept_of_line < self.old.places }
+        requires front { length self.old.bytes ≤ kept_of_line }
+        ensures all { IfOk result (λ all. IsTrue all → (first : Option (List ℕ)) (old : List ℕ) →
+            IsFrontAhead old first self.old.bytes (R.left reader.old) →
+            StaysAhead old first self.new.bytes (R.left reader.new)) }
+        ensures more { IfOk result (λ all. all ≡ false → (first : Option (List ℕ)) (old : List ℕ) →
+            IsFrontAhead old first self.old.bytes (R.left reader.old) →
+            IsFrontAhead old first self.new.bytes (R.left reader.new)) }
+        ensures kept { OnErr result ((self.new.bytes ≡ self.old.bytes)
+            × Keeps (R.left reader.old) (R.left reader.new)) }
+        ensures few { IfOk result (λ all. all ≡ false → length self.new.bytes ≤ kept_of_line) }
+        ensures less { IfOk result (λ all. all ≡ false → IsShorter (R.left reader.old) (R.left reader.new)) }
+        ensures held { length self.new.bytes ≤ self.new.places }
+        ensures whole { IfOk result (λ all. IsTrue all → IsLine self.new.bytes → IsAtEnd (R.left reader.new)) }
+        ensures places { self.new.places ≡ self.old.places }
+        ensures failing { IsErrOf result ReadFailed ↔ IsTrue (R.failed reader.new) }
+        ensures kinds { IfErr result (λ fault. fault ≡ ReadFailed) }
     {
-        let mut wanted = memchr(b'\n', self.bytes()).is_none();
-        while wanted {
-            let n = self.read_more(reader)?;
-            if n == 0 {
+        let n = self.read_more(reader)?;
+        if n == 0 {
+            return Ok(true);
+        }
+        let bytes = self.bytes();
+        if first_line(&bytes[bytes.len() - n..]).is_some() {
+            return Ok(true);
+        }
+        self.keep_front();
+        Ok(false)
+    }
+
+    /// Reads on until a whole line stands in the window, or to the end of the source. Nothing is read where one
+    /// stands in it, and nothing that was read is lost, also where reading fails; but of a line without a break
+    /// only the first 256 bytes stay, and whatever was read last.
+    ///
+    /// Reads are counted, and only a source of more bytes than a count can tell is answered by want of memory.
+    pub fn read_line<R: Source>(&mut self, reader: &mut R) -> Result<(), StreamFault>
+        requires reader { R.failed reader.old ≡ false }
+        requires room { kept_of_line < self.old.places }
+        ensures ahead { StaysAhead self.old.bytes (R.left reader.old) self.new.bytes (R.left reader.new) }
+        ensures ready { (IsLine self.old.bytes → ⊥) → (self.new ≡ self.old) × (reader.new ≡ reader.old) }
+        ensures few { length self.new.bytes ≤ self.new.places }
+        ensures places { self.new.places ≡ self.old.places }
+        ensures whole { OnOk result (IsLine self.new.bytes → IsAtEnd (R.left reader.new)) }
+        ensures failing { IsErrOf result ReadFailed ↔ IsTrue (R.failed reader.new) }
+        ensures kinds { IfErr result IsOfReading }
+        ensures memory { IsErrOf result Memory → IfSome (R.left reader.old) IsTooLong }
+    {
+        if first_line(self.bytes()).is_some() {
+            return Ok(());
+        }
+        self.keep_front();
+        for _ in 0..u64::MAX {
+            if self.read_piece(reader)? {
                 return Ok(());
             }
-            let seen = self.bytes().len() - n;
-            wanted = memchr(b'\n', &self.bytes()[seen..]).is_none();
         }
-        Ok(())
+        Err(StreamFault::Memory)
     }
 }

@@ -1,9 +1,10 @@
 -- What the program does for a task, and the status that it ends with.
 use Rattle.std.specs.Prelude.{◌≡◌, ℕ, List, Option, Result, Ok, Err}
+use Rattle.std.specs.Io.KnownBytes.{IsAtEnd}
 use Rattle.audit.specs.declared.verdict.Verdict.{Verdict}
 use Rattle.audit.specs.declared.verdict.Verdict.TheVariants.{Legal, NotLegal}
-use Rattle.driver.specs.AuditStream.{Audits}
-use Rattle.driver.specs.ReplayStream.{Replays}
+use Rattle.driver.specs.AuditStream.{Audits, HistoryReadOut}
+use Rattle.driver.specs.ReplayStream.{Replays, StepsReadOut}
 use Rattle.tasks.specs.declared.task.Task.{Task}
 use Rattle.tasks.specs.declared.task.Task.TheVariants.{Replay, Audit}
 use Rattle.tasks.specs.declared.fault.Fault.{Fault}
@@ -25,3 +26,11 @@ Performs Audit left old new (Ok status) =
 Performs Audit left old new (Err (Stream fault)) = Audits left old new (Err fault)
 Performs Audit left old new (Err Usage) = ⊥
 Performs Audit left old new (Err Memory) = ⊥
+
+-- How far a task reads, from what the source had left to what it has left: as its stream does.
+abbrev pub IsReadOutFor : Task → Option (List ℕ) → Result ℕ Fault → Option (List ℕ) → Type 0
+IsReadOutFor task text (Ok status) left = IsAtEnd left
+IsReadOutFor (Replay form) text (Err (Stream fault)) left = StepsReadOut text (Err fault) left
+IsReadOutFor Audit text (Err (Stream fault)) left = HistoryReadOut text (Err fault) left
+IsReadOutFor task text (Err Usage) left = ⊥
+IsReadOutFor task text (Err Memory) left = ⊥

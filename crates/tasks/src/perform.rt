@@ -1,7 +1,9 @@
 //! A task, from what a source has to what a sink is given.
 
-ghost use Rattle.std.specs.Prelude.{◌≡◌, false};
-ghost use Rattle.tasks.specs.Perform.{Performs, status_for};
+ghost use Rattle.std.specs.Prelude.{◌≡◌, ◌↔◌, false, IsErrOf, IsTrue};
+ghost use Rattle.streams.specs.declared.stream_fault.StreamFault.TheVariants.{ReadFailed, WriteFailed};
+ghost use Rattle.tasks.specs.Perform.{IsReadOutFor, Performs, status_for};
+ghost use Rattle.tasks.specs.declared.fault.Fault.TheVariants.{Stream};
 
 use crate::fault::Fault;
 use crate::task::Task;
@@ -23,6 +25,8 @@ fn status_for(verdict: Verdict) -> u8
 }
 
 /// Answers what a source has to a sink, and tells the exit status: 0, or 1 for a history that isn't legal.
+///
+/// It reads, writes and fails as the stream of the task does.
 pub fn perform<R: Source, W: Sink>(
     alloc: Global,
     reader: &mut R,
@@ -31,7 +35,10 @@ pub fn perform<R: Source, W: Sink>(
 ) -> Result<u8, Fault>
     requires reader { R.failed reader.old ≡ false }
     requires writer { W.failed writer.old ≡ false }
-    ensures { Performs task (R.left reader.old) (W.held writer.old) (W.held writer.new) result }
+    ensures performs { Performs task (R.left reader.old) (W.held writer.old) (W.held writer.new) result }
+    ensures end { IsReadOutFor task (R.left reader.old) result (R.left reader.new) }
+    ensures read { IsErrOf result (Stream ReadFailed) ↔ IsTrue (R.failed reader.new) }
+    ensures write { IsErrOf result (Stream WriteFailed) ↔ IsTrue (W.failed writer.new) }
 {
     match task {
         Task::Replay(form) => {

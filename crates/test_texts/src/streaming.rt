@@ -6,6 +6,7 @@ mod devices;
 mod memory;
 mod pieces;
 mod plain;
+mod readers;
 mod replays;
 mod spoiled;
 mod streamed;

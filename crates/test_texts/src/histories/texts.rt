@@ -9,7 +9,7 @@ use history::fault::Fault;
 use history::header::{Header, Object, Policy};
 use history_text::fitting::fits;
 use history_text::history_text::{read_text, write_text};
-use line_text::fault::TextFault;
+use line_text::fault::{ReadFault, TextFault};
 use std::alloc::Global;
 use std::test::Fail;
 use test_support::memory::all_memory;
@@ -74,7 +74,10 @@ fn a_text_has_its_first_fault(rt: HostRuntime) {
             TextFault::BadLine(3),
         ),
     ] {
-        assert_eq!(rt; read_text(rt.alloc(), text).err(), Some(fault));
+        assert_eq!(rt;
+            read_text(rt.alloc(), text).err(),
+            Some(ReadFault::Text(fault))
+        );
     }
 }
 
@@ -94,7 +97,7 @@ fn a_call_without_memory_says_so(rt: HostRuntime) -> Result<(), Fail> {
     let read = read_text(rt.alloc(), TEXT).err();
     let wrote = written(rt.alloc(), &header, &history).err();
     drop(taken);
-    assert!(rt; read == Some(TextFault::OutOfMemory));
+    assert!(rt; read == Some(ReadFault::OutOfMemory));
     assert!(rt; wrote == Some(Fault::OutOfMemory));
     Ok(())
 }

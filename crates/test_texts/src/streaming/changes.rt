@@ -7,7 +7,7 @@ use driver::form::Form;
 use std::alloc::{AllocError, Global};
 use std::process::Abort;
 use std::test::Fail;
-use steps::{StepsText, TextFault, read_steps};
+use steps::{ReadFault, StepsText, TextFault, read_steps};
 use streams::stream_fault::StreamFault;
 use test_support::examples::situations;
 
@@ -97,7 +97,7 @@ fn answers_each_step(
 }
 
 /// Whether a text is read as what it says.
-fn is_read_as(alloc: Global, text: &[u8], said: &StepsText) -> Result<bool, TextFault> {
+fn is_read_as(alloc: Global, text: &[u8], said: &StepsText) -> Result<bool, ReadFault> {
     let read = read_steps(alloc, text)?;
     Ok(read.header == said.header && read.steps.as_slice() == said.steps.as_slice())
 }
@@ -136,10 +136,11 @@ fn is_answered_as_read<R: Abort + AllocGlobal>(
 ) -> Result<(), Fail> {
     let outcome = streamed(rt, text, Form::Replay, 1, (None, None), AMPLE);
     match plainly_read(rt.alloc(), text) {
-        Err(fault) => {
+        Err(ReadFault::Text(fault)) => {
             assert!(rt; outcome.is_refused(StreamFault::Text(fault)), "{name}");
             Ok(())
         }
+        Err(ReadFault::OutOfMemory) => Err(Fail::new("no memory for a list of steps")),
         Ok(plain) => {
             assert!(rt; outcome.is_ok(), "{name}");
             is_answered_so(rt, text, &plain, outcome.bytes(), name)

@@ -97,3 +97,62 @@ fn an_error_of_writing_fails(rt: HostRuntime) {
         assert!(rt; Sink::has_failed(&writer));
     }
 }
+
+/// A reader and a writer of which the first call fails, and no other.
+#[derive(Drop)]
+struct FailsOnce {
+    kind: io::ErrorKind,
+    has_failed: bool,
+}
+
+impl FailsOnce {
+    fn new(kind: io::ErrorKind) -> FailsOnce {
+        FailsOnce {
+            kind,
+            has_failed: false,
+        }
+    }
+
+    /// What a call answers that otherwise does so much.
+    fn call(&mut self, done: usize) -> io::Result<usize> {
+        if self.has_failed {
+            return Ok(done);
+        }
+        self.has_failed = true;
+        Err(io::Error::from(self.kind))
+    }
+}
+
+impl io::Read for FailsOnce {
+    fn read(&mut self, _buf: &mut [u8]) -> io::Result<usize> {
+        self.call(0)
+    }
+}
+
+impl io::Write for FailsOnce {
+    fn write(&mut self, buf: &[u8]) -> io::Result<usize> {
+        self.call(buf.len())
+    }
+
+    fn flush(&mut self) -> io::Result<()> {
+        Ok(())
+    }
+}
+
+/// An error is told, whatever a second call would have answered: a device isn't asked again.
+#[test]
+fn a_device_is_not_asked_again(rt: HostRuntime) {
+    for kind in [
+        io::ErrorKind::Interrupted,
+        io::ErrorKind::WouldBlock,
+        io::ErrorKind::Other,
+    ] {
+        let mut reader = Device::new(FailsOnce::new(kind));
+        let mut buffer = [0; 16];
+        assert!(rt; reader.read(&mut buffer).is_err());
+        assert!(rt; Source::has_failed(&reader));
+        let mut writer = Device::new(FailsOnce::new(kind));
+        assert!(rt; writer.write(b"line").is_err());
+        assert!(rt; Sink::has_failed(&writer));
+    }
+}

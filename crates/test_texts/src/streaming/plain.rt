@@ -7,22 +7,22 @@ use history::entry::Mode;
 use history::header::{Header, Object, Policy};
 use history::step::Step;
 use std::alloc::{AllocError, Global};
-use steps::{StepsText, TextFault};
+use steps::{ReadFault, StepsText, TextFault};
 
 /// What a text says, or its first fault.
-pub fn plainly_read(alloc: Global, text: &[u8]) -> Result<StepsText, TextFault> {
+pub fn plainly_read(alloc: Global, text: &[u8]) -> Result<StepsText, ReadFault> {
     let mut lines = text.split_inclusive(|byte| *byte == b'\n');
     let first = whole(lines.next().unwrap_or_default())?;
     let header = match good_header(alloc, first)? {
         Some(header) => header,
-        None => return Err(TextFault::BadHeader),
+        None => return Err(ReadFault::Text(TextFault::BadHeader)),
     };
     let mut steps = Vec::new(alloc);
     let mut has_ended = false;
     for line in lines {
         let number = (steps.len() as u64).saturating_add(2);
         if has_ended {
-            return Err(TextFault::BadLine(number.saturating_add(1)));
+            return Err(ReadFault::Text(TextFault::BadLine(number.saturating_add(1))));
         }
         let line = whole(line)?;
         if is_end(alloc, line, steps.len())? {
@@ -30,14 +30,14 @@ pub fn plainly_read(alloc: Global, text: &[u8]) -> Result<StepsText, TextFault> 
         } else {
             match good_step(alloc, line, header.seats)? {
                 Some(step) => steps.push(step)?,
-                None => return Err(TextFault::BadLine(number)),
+                None => return Err(ReadFault::Text(TextFault::BadLine(number))),
             }
         }
     }
     if has_ended {
         Ok(StepsText { header, steps })
     } else {
-        Err(TextFault::CutShort)
+        Err(ReadFault::Text(TextFault::CutShort))
     }
 }
 

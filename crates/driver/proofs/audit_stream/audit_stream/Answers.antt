@@ -1,5 +1,9 @@
-use Rattle.std.proofs.Common.{refl, rules}
+use Rattle.std.proofs.Common.{ap, refl, rules}
+use Rattle.history_text.specs.HistoryText.{history_form}
+use Rattle.audit.specs.declared.verdict.Verdict.{Verdict}
+use Rattle.driver.specs.AuditStream.{Audited}
 use Rattle.driver.proofs.Audits.{some_told, told_of}
+use Rattle.driver.proofs.Ending.{told_out, told_streams}
 use Rattle.streams.specs.Whole.{AppendsFront}
 use Rattle.std.specs.Io.KnownBytes.{Appends}
 use Rattle.driver.proofs.audit_stream.audit_stream.Goals as goal
@@ -23,7 +27,17 @@ pub returns-in-Ok-clause-write : goal.returns-in-Ok-clause-write
 returns-in-Ok-clause-write g c = (λ e. c.in-Err-write_all.ensures.failing.1 refl, λ t. refl)
 
 pub returns-clause-audits : goal.returns-clause-audits
-returns-clause-audits g c = search rules
+returns-clause-audits g c =
+    told_streams history_form Audited (g.R.Source.left c.args.reader.now) (g.R.Source.left c.audit_of.new.reader)
+    (g.W.Sink.held c.args.writer.now) c.in-Err.fault c.told_at_the_end.result c.in-Err.ensures.err
+    c.told_at_the_end.ensures.told
 
 pub returns-clause-write : goal.returns-clause-write
 returns-clause-write g c = search rules
+
+pub returns-clause-end : goal.returns-clause-end
+returns-clause-end g c =
+    let told = c.told_at_the_end in
+    told_out Verdict history_form (g.R.Source.left c.args.reader.now) (g.R.Source.left c.audit_of.new.reader)
+    (g.R.Source.left told.new.reader) c.in-Err.fault told.result c.in-Err.ensures.err told.ensures.told
+    told.ensures.memory (λ e. ap g.R.Source.left (told.ensures.untouched e)) told.ensures.end

@@ -1,42 +1,116 @@
-use Rattle.std.proofs.Common.{[], Err, ap}
+use Rattle.std.proofs.Common.{[], ◌≡◌, ◌≤◌, ◌<◌, ◌^◌, ℕ, Err, ap, arith, length, refl}
+use Rattle.steps.specs.StepLines.{end_line}
 use Rattle.line_text.specs.declared.fault.TextFault.{TextFault}
+use Rattle.streams.specs.declared.stream_fault.StreamFault.{StreamFault}
 use Rattle.steps.specs.StepsText.{steps_form, steps_so_far}
-use Rattle.driver.proofs.ReadingAhead.{kept, item_ahead, line_within, next_failed, next_kept, ended_here}
+use Rattle.steps.proofs.ShortSteps.{ended_short, end_short, short}
+use Rattle.steps.proofs.StepsLawful.{lawful}
+use Rattle.driver.proofs.ReadingAhead.{end_kept, ended_here, item_ahead, item_kept, kept, line_within, next_failed, next_kept, not_counted, read_failed, stands_behind, stands_failed}
 use Rattle.driver.proofs.step_reader.StepReader.next_after_reading.Goals as goal
+
+pub returns-in_err-read_line-clause-next : goal.returns-in_err-read_line-clause-next
+returns-in_err-read_line-clause-next g c =
+    let held = c.self.inside in
+    let passed = c.from_residual in
+    let failed = c.in_err-read_line.ensures in
+    rw (← c.self.view_is) (read_failed steps_form (steps_so_far held.header held.count) held.window.bytes
+    (g.R.Source.left c.args.reader.now) (g.R.Source.left c.read_line.new.reader) passed.result _
+    c.in_err-read_line.field-0.0 passed.ensures failed.kinds
+    (λ e. failed.memory (ap (λ (f : StreamFault). Err f) e)))
+
+pub returns-in_err-read_line-clause-stands : goal.returns-in_err-read_line-clause-stands
+returns-in_err-read_line-clause-stands g c =
+    rw (← c.self.view_is) (stands_failed _ _ _ _ c.from_residual.result c.from_residual.ensures.0
+    c.in_err-read_line.ensures.ahead)
 
 pub returns-in_err-step-clause-next : goal.returns-in_err-step-clause-next
 returns-in_err-step-clause-next g c =
-    let so_far = steps_so_far c.self.inside.header c.self.inside.count in
-    let is = rw c.bytes.ensures at c.in_err-step.ensures.line in
-    let cut = rw c.bytes.ensures at c.in_err-step.ensures.cut in
+    let held = c.self.inside in
+    let is = rw c.bytes.ensures.bytes at c.in_err-step.ensures.line in
+    let cut = rw c.bytes.ensures.bytes at c.in_err-step.ensures.cut in
     let passed = c.from_residual-in_err-step in
-    rw (← c.self.view_is) (next_kept steps_form so_far _ _ passed.result _ c.in_ok-read_line.ensures.kept
-    (next_failed steps_form so_far c.read_line.new.self.bytes (g.R.Source.left c.read_line.new.reader)
-    passed.result _ c.in_err-step.field-0.0 passed.ensures is
-    (λ e. c.in_ok-read_line.ensures.whole (cut (ap (λ (f : TextFault). Err f) e)))))
+    rw (← c.self.view_is) (next_failed steps_form (steps_so_far held.header held.count) held.window.bytes
+    c.read_line.new.self.bytes (g.R.Source.left c.args.reader.now) (g.R.Source.left c.read_line.new.reader)
+    passed.result _ c.in_err-step.field-0.0 passed.ensures lawful short c.in_ok-read_line.ensures.ahead is
+    (λ e. c.in_ok-read_line.ensures.whole (cut (ap (λ (f : TextFault). Err f) e))))
+
+pub returns-in_err-step-clause-stands : goal.returns-in_err-step-clause-stands
+returns-in_err-step-clause-stands g c =
+    let passed = c.from_residual-in_err-step in
+    rw (← c.self.view_is) (stands_failed _ _ _ _ passed.result passed.ensures.0 c.in_ok-read_line.ensures.ahead)
+
+pub end-requires-clause-end : goal.end-requires-clause-end
+end-requires-clause-end g c =
+    let held = c.self.inside in
+    ended_short _ held.count (omega (arith, c.self.invariant.0))
+    ((rw (c.in_default.is, c.bytes.ensures.bytes) at c.in_ok-step.ensures.last) refl)
 
 pub returns-in_default-clause-next : goal.returns-in_default-clause-next
 returns-in_default-clause-next g c =
-    let so_far = steps_so_far c.self.inside.header c.self.inside.count in
-    let is = rw (c.in_default.is, c.bytes.ensures) at c.in_ok-step.ensures.line in
-    rw (← c.self.view_is) (next_kept steps_form so_far _ _ c.end.result _ c.in_ok-read_line.ensures.kept
-    (ended_here steps_form so_far c.read_line.new.self.bytes (g.R.Source.left c.read_line.new.reader)
-    c.end.result _ is c.end.ensures.behind))
+    let held = c.self.inside in
+    let so_far = steps_so_far held.header held.count in
+    let window = c.read_line.new.self.bytes in
+    let is = rw (c.in_default.is, c.bytes.ensures.bytes) at c.in_ok-step.ensures.line in
+    let last = (rw (c.in_default.is, c.bytes.ensures.bytes) at c.in_ok-step.ensures.last) refl in
+    let keeps =
+    end_kept held.window.bytes window (end_line held.count) (g.R.Source.left c.args.reader.now)
+    (g.R.Source.left c.read_line.new.reader) c.in_ok-read_line.ensures.ahead last (end_short held.count (omega (arith, c.self.invariant.0))) in
+    rw (← c.self.view_is) (next_kept steps_form so_far _ _ c.end.result _ (g.R.Source.left c.end.new.reader) keeps
+    (ended_here steps_form so_far window c.end.new.self.bytes (g.R.Source.left c.read_line.new.reader)
+    (g.R.Source.left c.end.new.reader) c.end.result _ is c.end.ensures.behind c.end.ensures.stays))
+
+pub returns-in_default-clause-stands : goal.returns-in_default-clause-stands
+returns-in_default-clause-stands g c =
+    let held = c.self.inside in
+    let window = c.read_line.new.self.bytes in
+    let last = (rw (c.in_default.is, c.bytes.ensures.bytes) at c.in_ok-step.ensures.last) refl in
+    let keeps =
+    end_kept held.window.bytes window (end_line held.count) (g.R.Source.left c.args.reader.now)
+    (g.R.Source.left c.read_line.new.reader) c.in_ok-read_line.ensures.ahead last (end_short held.count (omega (arith, c.self.invariant.0))) in
+    rw (← c.self.view_is) (stands_behind held.window.bytes window c.end.new.self.bytes
+    (g.R.Source.left c.args.reader.now) (g.R.Source.left c.read_line.new.reader)
+    (g.R.Source.left c.end.new.reader) c.end.result keeps c.end.ensures.stays)
 
 pub pass-requires : goal.pass-requires
 pass-requires g c =
-    let is = rw (c.in-Some.is, c.bytes.ensures) at c.in_ok-step.ensures.line in
+    let is = rw (c.in-Some.is, c.bytes.ensures.bytes) at c.in_ok-step.ensures.line in
     line_within steps_form (steps_so_far c.self.inside.header c.self.inside.count)
     c.read_line.new.self.bytes c.in-Some.step c.in-Some.left is
 
+pub returns-in_err-pass-clause-next : goal.returns-in_err-pass-clause-next
+returns-in_err-pass-clause-next g c =
+    let held = c.self.inside in
+    let so_far = steps_so_far held.header held.count in
+    let window = c.read_line.new.self.bytes in
+    let is = rw (c.in-Some.is, c.bytes.ensures.bytes) at c.in_ok-step.ensures.line in
+    let passed = c.from_residual-in_err-pass in
+    let few : length window ≤ 65792 =
+    omega (arith, c.in_ok-read_line.ensures.few, c.in_ok-read_line.ensures.places, c.self.invariant.2) in
+    rw (← c.self.view_is) (not_counted steps_form so_far held.window.bytes window
+    (g.R.Source.left c.args.reader.now) (g.R.Source.left c.read_line.new.reader) passed.result _
+    c.in_err-pass.field-0.0 passed.ensures c.in_err-pass.ensures.err few
+    (item_kept steps_form so_far held.window.bytes window (g.R.Source.left c.args.reader.now) (g.R.Source.left c.read_line.new.reader)
+    c.in-Some.step c.in-Some.left short c.self.invariant.1 c.in_ok-read_line.ensures.ahead is))
+
+pub returns-in_err-pass-clause-stands : goal.returns-in_err-pass-clause-stands
+returns-in_err-pass-clause-stands g c =
+    let passed = c.from_residual-in_err-pass in
+    rw (c.in_err-pass.ensures.kept, ← c.self.view_is) (stands_failed _ _ _ _ passed.result passed.ensures.0
+    c.in_ok-read_line.ensures.ahead)
+
 pub returns-clause-next : goal.returns-clause-next
 returns-clause-next g c = rw (← c.self.view_is) (λ text steps were.
-    let so_far = steps_so_far c.self.inside.header c.self.inside.count in
-    let is = rw (c.in-Some.is, c.bytes.ensures) at c.in_ok-step.ensures.line in
-    let here = kept steps_form text so_far _ _ steps c.in_ok-read_line.ensures.kept were in
+    let held = c.self.inside in
+    let so_far = steps_so_far held.header held.count in
+    let window = c.read_line.new.self.bytes in
+    let is = rw (c.in-Some.is, c.bytes.ensures.bytes) at c.in_ok-step.ensures.line in
+    let keeps =
+    item_kept steps_form so_far held.window.bytes window (g.R.Source.left c.args.reader.now) (g.R.Source.left c.read_line.new.reader)
+    c.in-Some.step c.in-Some.left short c.self.invariant.1 c.in_ok-read_line.ensures.ahead is in
+    let here = kept steps_form text so_far _ _ steps keeps were in
     rw c.in_ok-pass.ensures.ok
-    (item_ahead steps_form text so_far so_far.known c.read_line.new.self.bytes
-    (g.R.Source.left c.read_line.new.reader) steps c.in-Some.step c.in-Some.left is (λ known. tt) here))
+    (item_ahead steps_form text so_far so_far.known window (g.R.Source.left c.read_line.new.reader)
+    steps c.in-Some.step c.in-Some.left is (λ known. tt) here))
 
 pub returns-clause-seated : goal.returns-clause-seated
 returns-clause-seated g c = rw (← c.self.view_is) ((rw c.in-Some.is at c.in_ok-step.ensures.line) []).1.fits.0

@@ -1,17 +1,15 @@
-use Rattle.std.proofs.Common.{◌≡◌, ◌+◌, ◌-◌, ◌^◌, ◌≤◌, false, length, max}
-use Rattle.std.specs.Io.KnownBytes.{Keeps, IsAtEnd, prepend_known}
+use Rattle.std.proofs.Common.{◌≡◌, ◌≤◌, false, length}
 use Rattle.history.specs.Text.{IsLine}
+use Rattle.streams.specs.Window.{IsFrontAhead, kept_of_line}
+use Rattle.streams.proofs.Pieces.{HasRead}
 use Rattle.streams.proofs.window.Window.read_line.Given as goal
 
-abbrev pub invariant-loop-wanted : goal.invariant-loop-wanted
-invariant-loop-wanted g l = record {
-  kept : Keeps (prepend_known l.fn.self.bytes (g.R.Source.left l.fn.reader))
-      (prepend_known l.self.bytes (g.R.Source.left l.reader));
+abbrev pub invariant-loop : goal.invariant-loop
+invariant-loop g l = record {
+  front : IsFrontAhead l.fn.self.bytes (g.R.Source.left l.fn.reader) l.self.bytes (g.R.Source.left l.reader);
   going : g.R.Source.failed l.reader ≡ false;
-  ready : (IsLine l.fn.self.bytes → ⊥) → (l.wanted ≡ false) × (l.self ≡ l.fn.self) × (l.reader ≡ l.fn.reader);
-  room : l.self.places ≤ max l.fn.self.places (length l.self.bytes + 65536);
-  whole : l.wanted ≡ false → IsLine l.self.bytes → IsAtEnd (g.R.Source.left l.reader);
+  few : length l.self.bytes ≤ kept_of_line;
+  places : l.self.places ≡ l.fn.self.places;
+  read : HasRead (g.R.Source.left l.fn.reader) (g.R.Source.left l.reader) l.counter;
+  one_line : IsLine l.fn.self.bytes;
 }
-
-abbrev pub decreases-loop-wanted : goal.decreases-loop-wanted
-decreases-loop-wanted g l = 2 ^ 64 - length l.self.bytes

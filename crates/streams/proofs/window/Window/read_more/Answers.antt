@@ -1,4 +1,4 @@
-use Rattle.std.proofs.Common.{rules, ◌≡◌, ℕ, ◌++◌, List, slice_range, take, arith, ap, ◌∙◌}
+use Rattle.std.proofs.Common.{◌≡◌, ℕ, ◌++◌, List, slice_range, take, arith, ap, ◌∙◌}
 use Rattle.std.proofs.lemmas.List.{length-take-le}
 use Rattle.std.proofs.lemmas.Grind.{common_steps}
 use Rattle.streams.specs.Window.{Seen}
@@ -12,7 +12,7 @@ returns-clause-grows g c =
     let read = c.read.new.buf in
     let places = c.deref_mut.result.now in
     let stood : slice_range w.bytes.items w.at w.end ≡ c.args.self.now.bytes =
-    ap (λ (seen : Seen). seen.bytes) c.self.view_is ∙ c.in_ok-make_room.ensures.bytes
+    ap (λ (seen : Seen). seen.bytes) c.self.view_is
     ∙ ap (λ (seen : Seen). seen.bytes) c.move_to_front.ensures in
     record {
       more = take n read;
@@ -24,9 +24,6 @@ returns-clause-grows g c =
           ∙ ap (λ (t : List ℕ). t ++ take n read) stood;
       count = length-take-le n read c.in-Ok.ensures.bound;
     }
-
-pub make_room-requires : goal.make_room-requires
-make_room-requires g c = search rules
 
 pub returns-in_default-clause-kept : goal.returns-in_default-clause-kept
 returns-in_default-clause-kept g c = grind (arith, common_steps)

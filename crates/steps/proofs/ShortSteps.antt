@@ -1,0 +1,63 @@
+-- The lines of a steps text are short.
+use Rattle.std.proofs.Common.{◌≡◌, ℕ, ◌+◌, ◌*◌, ◌<◌, ◌≤◌, ◌^◌, List, [], ◌∷◌, ◌++◌, length, arith, decimal}
+use Rattle.std.specs.Prelude.{codes}
+use Rattle.history.specs.declared.entry.Mode.{Mode}
+use Rattle.history.specs.declared.entry.Mode.TheVariants.{X, S}
+use Rattle.history.specs.declared.step.Step.{Step}
+use Rattle.history.specs.declared.step.Step.TheVariants.{Acquire, Try, TryFair, EntryInterrupt, Give, Look, Expire, Interrupt, Await, Signal, SignalAll, Drain}
+use Rattle.history.specs.EntryWords.{mode_word}
+use Rattle.history.specs.Text.{ended}
+use Rattle.line_text.specs.Short.{HasShortLines}
+use Rattle.line_text.proofs.Lengths.{AreShort, decimal_short, header_short, line_length}
+use Rattle.std.proofs.lemmas.List.{length-append}
+use Rattle.steps.specs.StepLines.{HasAmounts, IsStep, end_line, step_line, step_words}
+use Rattle.steps.specs.StepsText.{steps_form}
+
+pub mode_short : (m : Mode) → length (mode_word m) ≤ 20
+mode_short X = omega arith
+mode_short S = omega arith
+
+words_short : (s : Step) → HasAmounts s → AreShort (step_words s) × (length (step_words s) ≤ 3)
+words_short (Acquire m n) lt = ((omega arith, (mode_short m, (decimal_short n (omega (arith, lt)), tt))), omega arith)
+words_short (Try m n) lt = ((omega arith, (mode_short m, (decimal_short n (omega (arith, lt)), tt))), omega arith)
+words_short (TryFair m n) lt = ((omega arith, (mode_short m, (decimal_short n (omega (arith, lt)), tt))), omega arith)
+words_short (EntryInterrupt m n) lt =
+    ((omega arith, (mode_short m, (decimal_short n (omega (arith, lt)), tt))), omega arith)
+words_short (Give m n) lt = ((omega arith, (mode_short m, (decimal_short n (omega (arith, lt)), tt))), omega arith)
+words_short Look lt = ((omega arith, tt), omega arith)
+words_short Expire lt = ((omega arith, tt), omega arith)
+words_short Interrupt lt = ((omega arith, tt), omega arith)
+words_short (Await c) lt = ((omega arith, (decimal_short c (omega (arith, lt)), tt)), omega arith)
+words_short (Signal c) lt = ((omega arith, (decimal_short c (omega (arith, lt)), tt)), omega arith)
+words_short (SignalAll c) lt = ((omega arith, (decimal_short c (omega (arith, lt)), tt)), omega arith)
+words_short Drain lt = ((omega arith, tt), omega arith)
+
+step_short : (seats : ℕ) (s : ℕ × Step) → seats ≤ 256 → IsStep seats s → length (step_line s) < 256
+step_short seats s small fits =
+    let words = words_short s.1 fits.1 in
+    omega (
+      arith,
+      words.1,
+      line_length (decimal s.0 ∷ step_words s.1) (decimal_short s.0 (omega (arith, small, fits.0)), words.0),
+    )
+
+pub end_short : (count : ℕ) → count < 2 ^ 64 → length (end_line count) < 255
+end_short count lt =
+    omega (arith, decimal_short count lt, length-append (codes "end ") (decimal count))
+
+pub short : HasShortLines steps_form 256
+short =
+    record {
+      header = λ h fits. header_short (codes "aqs-steps 1 ") h (omega arith) fits;
+      item = λ h k s header fits. step_short h.seats s header.seats fits;
+      end = λ steps lt. omega (arith, end_short (length steps) (omega (arith, lt)));
+    }
+
+-- the end line and its break
+pub ended_short : (line : List ℕ) (count : ℕ) → count < 2 ^ 64 → line ≡ ended (end_line count) →
+    length line ≤ 255
+ended_short line count lt is = rw is (omega (
+  arith,
+  end_short count lt,
+  length-append (end_line count) (10 ∷ []),
+))

@@ -1,0 +1,110 @@
+-- A line that is read piece by piece, of which the first bytes stay.
+use Rattle.std.proofs.Common.{◌≡◌, ◌≢◌, ℕ, ◌+◌, ◌-◌, ◌<◌, ◌≤◌, List, [], ◌++◌, length, take, drop, Option, None, Some, refl, sym, ap, subst, ◌∙◌, arith, append_assoc, append-nil, inl, inr, ◌⊎◌}
+use Rattle.std.specs.Io.KnownBytes.{Consumes, Keeps}
+use Rattle.std.specs.Prelude.{MatchOption, is_some, false}
+use Rattle.std.proofs.lemmas.Bool.{cases_order, false≢true}
+use Rattle.std.proofs.lemmas.List.{length-append, length-take-le, take-append-le, take-take, take_all}
+use Rattle.std.proofs.lemmas.List.Elements.{All-append}
+use Rattle.std.proofs.Math.Seq.{drop-append_seam}
+use Rattle.history.specs.Text.{IsLine}
+use Rattle.streams.specs.Window.{Grows, IsAhead, IsFront, IsFrontAhead, IsShorter, StaysAhead}
+
+-- the first bytes of a line and of more of it
+first_of : (n : ℕ) (line more : List ℕ) → take n (take n line ++ more) ≡ take n (line ++ more)
+first_of n line more = by (cases_order (length line) n)
+  where
+    by : (length line ≡ n) ⊎ ((length line < n) ⊎ (n < length line))
+        → take n (take n line ++ more) ≡ take n (line ++ more)
+    by (inl same) = ap (λ (t : List ℕ). take n (t ++ more)) (take_all n line (omega (arith, same)))
+    by (inr (inl lt)) = ap (λ (t : List ℕ). take n (t ++ more)) (take_all n line (omega (arith, lt)))
+    by (inr (inr lt)) =
+        let long = length-take-le n line (omega (arith, lt)) in
+        take-append-le n (take n line) more (omega (arith, long))
+        ∙ take-take n n line (omega arith) ∙ sym (take-append-le n line more (omega (arith, lt)))
+
+-- nothing was read
+pub unread : (old : List ℕ) (left : Option (List ℕ)) → StaysAhead old left old left
+unread old None = tt
+unread old (Some left) = record { line = []; rest = old; parts = refl; one_line = λ i d lt. absurd (omega (arith, lt)); seen = refl }
+
+-- of one line the first bytes stay
+pub front_of : (old window : List ℕ) (left : Option (List ℕ)) → IsLine old → window ≡ take 256 old →
+    IsFrontAhead old left window left
+front_of old window None line is = tt
+front_of old window (Some left) line is = record { line = old; parts = refl; one_line = line; seen = is }
+
+-- nothing was read behind the front
+pub stays : (old window new : List ℕ) (first left after : Option (List ℕ)) →
+    IsFrontAhead old first window left → new ≡ window → Keeps left after → StaysAhead old first new after
+stays old window new None left after front same keeps = tt
+stays old window new (Some xs) None after front same keeps = absurd front
+stays old window new (Some xs) (Some ys) None front same keeps = absurd keeps
+stays old window new (Some xs) (Some ys) (Some zs) front same keeps =
+    record {
+      line = front.line;
+      rest = [];
+      parts = front.parts ∙ ap (λ (t : List ℕ). front.line ++ t) (sym keeps);
+      one_line = front.one_line;
+      seen = same ∙ front.seen ∙ sym (append-nil (take 256 front.line));
+    }
+
+pub still : (old window : List ℕ) (first left : Option (List ℕ)) → IsFrontAhead old first window left →
+    StaysAhead old first window left
+still old window None left front = tt
+still old window (Some xs) None front = absurd front
+still old window (Some xs) (Some ys) front =
+    stays old window window (Some xs) (Some ys) (Some ys) front refl refl
+
+-- a piece was read
+pub ends : (old window new : List ℕ) (first left after : Option (List ℕ)) (n : ℕ) →
+    Grows window new left after n → IsFrontAhead old first window left → StaysAhead old first new after
+ends old window new None left after n grown front = tt
+ends old window new (Some xs) None after n grown front = absurd front
+ends old window new (Some xs) (Some ys) None n grown front = absurd grown.consumed
+ends old window new (Some xs) (Some ys) (Some zs) n grown front =
+    record {
+      line = front.line;
+      rest = grown.more;
+      parts = front.parts ∙ ap (λ (t : List ℕ). front.line ++ t) grown.consumed;
+      one_line = front.one_line;
+      seen = grown.behind ∙ ap (λ (t : List ℕ). t ++ grown.more) front.seen;
+    }
+
+-- the last bytes are those that were read
+pub last_read : (old new : List ℕ) (left after : Option (List ℕ)) (n : ℕ) (g : Grows old new left after n) →
+    drop (length new - n) new ≡ g.more
+last_read old new left after n g =
+    let start : length new - n ≡ length old =
+    omega (arith, g.count, ap length g.behind, length-append old g.more) in
+    ap (λ (i : ℕ). drop i new) start ∙ ap (drop (length old)) g.behind ∙ drop-append_seam old g.more
+
+-- a piece was read that holds no break
+pub goes_on : (old window grown new : List ℕ) (first left after : Option (List ℕ)) (n : ℕ) →
+    Grows window grown left after n → IsLine (drop (length grown - n) grown) → new ≡ take 256 grown →
+    IsFrontAhead old first window left → IsFrontAhead old first new after
+goes_on old window grown new None left after n g whole is front = tt
+goes_on old window grown new (Some xs) None after n g whole is front = absurd front
+goes_on old window grown new (Some xs) (Some ys) None n g whole is front = absurd g.consumed
+goes_on old window grown new (Some xs) (Some ys) (Some zs) n g whole is front =
+    record {
+      line = front.line ++ g.more;
+      parts = front.parts ∙ ap (λ (t : List ℕ). front.line ++ t) g.consumed
+          ∙ sym (append_assoc front.line g.more zs);
+      one_line = All-append (λ (b : ℕ). b ≢ 10) front.line g.more front.one_line
+          (subst IsLine (last_read window grown _ _ n g) whole);
+      seen = is ∙ ap (take 256) (g.behind ∙ ap (λ (t : List ℕ). t ++ g.more) front.seen)
+          ∙ first_of 256 front.line g.more;
+    }
+
+-- nothing was found
+pub none_of : {X : Type 0} (r : Option X) (P : Type 0) (Q : X → Type 0) → MatchOption r P Q →
+    is_some r ≡ false → P
+none_of None P Q found none = found
+none_of (Some x) P Q found none = absurd (false≢true (sym none))
+
+pub less : (old new : List ℕ) (left after : Option (List ℕ)) (n : ℕ) → Grows old new left after n → 0 < n →
+    IsShorter left after
+less old new None after n g some = tt
+less old new (Some xs) None n g some = absurd g.consumed
+less old new (Some xs) (Some ys) n g some =
+    omega (arith, some, g.count, ap length g.consumed, length-append g.more ys)
