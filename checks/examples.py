@@ -2,9 +2,9 @@
 """Runs every example through the program: checks/examples.py PROGRAM [FOLDER].
 
 Each pair NAME.steps and NAME.answers is replayed, and each pair NAME.history and NAME.answers audited, from the
-file, and one of each kind from standard input too. Then faults of each kind are tried. Compared are the exit
-status, standard output and standard error. The last line is 'N passed, M failed', and the status is 0 only if
-nothing failed and something passed.
+file, and one of each kind from standard input too. A file NAME.script has no answers: what its threads do depends
+on their schedule. Then faults of each kind are tried. Compared are the exit status, standard output and standard
+error. The last line is 'N passed, M failed', and the status is 0 only if nothing failed and something passed.
 """
 
 import pathlib
@@ -36,8 +36,10 @@ def pairs(folder):
 
 
 def unpaired(folder):
-    """Files that no run reads."""
+    """Files that are neither an input with its answers, nor answers with their input, nor a script."""
     for file in sorted(folder.iterdir()):
+        if file.suffix == ".script":
+            continue
         read = file.suffix in (".steps", ".history") and file.with_suffix(".answers").exists()
         told = file.suffix == ".answers" and any(file.with_suffix(s).exists() for s in (".steps", ".history"))
         if not (read or told):

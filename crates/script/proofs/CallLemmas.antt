@@ -8,11 +8,11 @@ use Rattle.steps.proofs.StepLemmas.{asked_again, condition_again, mode_plain}
 use Rattle.monitor.specs.declared.how.How.TheVariants.{Plain, Interruptible, Timed}
 use Rattle.script.specs.declared.action.Action.{Action}
 use Rattle.script.specs.declared.action.Action.TheVariants.{Acquire, TryAcquire, Release, AwaitOn, Signal, SignalAll, Drain}
-use Rattle.script.specs.CallReading.{timed_at, acquire_at, timed_acquire_at, asking_at, on_condition_at, timed_await_at, waiting_at, action_at}
+use Rattle.script.specs.CallReading.{timed_at, timed_acquire_at, timed_await_at, waiting_at, action_at}
 use Rattle.script.specs.CallText.{action_words, HasAmounts}
 
 action_words_again : (a : Action) → HasAmounts a → action_at (action_words a) ≡ Some (a, [])
-unfolding timed_at acquire_at asking_at on_condition_at timed_acquire_at timed_await_at waiting_at action_at
+unfolding timed_at timed_acquire_at timed_await_at waiting_at action_at
 action_words_again (Acquire m n Plain) lt = rw (asked_again m n [] lt) refl
 action_words_again (Acquire m n Interruptible) lt = rw (asked_again m n [] lt) refl
 action_words_again (TryAcquire m n) lt = rw (asked_again m n [] lt) refl

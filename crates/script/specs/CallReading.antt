@@ -13,7 +13,7 @@ unfoldable pub timed_at : Words → Option (How × Words)
 timed_at words = number_at 0 4294967295 words >>= λ ms. Some (Timed ms.0, ms.1)
 
 -- an acquire: a mode and an amount, and the milliseconds where it is timed
-unfoldable pub acquire_at : How → Words → Option (Action × Words)
+abbrev pub acquire_at : How → Words → Option (Action × Words)
 acquire_at how words = asked_at words >>= λ a. Some (Acquire a.0.0 a.0.1 how, a.1)
 
 unfoldable pub timed_acquire_at : Words → Option (Action × Words)
@@ -23,11 +23,11 @@ timed_acquire_at words = do
   Some (Acquire a.0.0 a.0.1 how.0, how.1)
 
 -- a call for a mode and an amount that waits for nobody
-unfoldable pub asking_at : (Mode → ℕ → Action) → Words → Option (Action × Words)
+abbrev pub asking_at : (Mode → ℕ → Action) → Words → Option (Action × Words)
 asking_at made words = asked_at words >>= λ a. Some (made a.0.0 a.0.1, a.1)
 
 -- a call of a condition
-unfoldable pub on_condition_at : (ℕ → Action) → Words → Option (Action × Words)
+abbrev pub on_condition_at : (ℕ → Action) → Words → Option (Action × Words)
 on_condition_at made words = condition_at words >>= λ c. Some (made c.0, c.1)
 
 unfoldable pub timed_await_at : Words → Option (Action × Words)

@@ -48,7 +48,7 @@ fn timed_await(words: &mut Words<'_>) -> Option<Action>
 }
 
 /// A call that names no amount, by its name: one of a condition, or of none.
-#[tactic(auto, unfolding(crate::specs::CallReading::waiting_at, crate::specs::CallReading::on_condition_at))]
+#[tactic(auto, unfolding(crate::specs::CallReading::waiting_at))]
 fn waiting(name: &[u8], words: &mut Words<'_>) -> Option<Action>
     ensures is { with_rest result words.new ≡ waiting_at name.now words.old }
     ensures found { IfSome result (λ a. HasAmounts a × (name.now ∷ words.old ≡ action_words a ++ words.new)) }
@@ -71,7 +71,7 @@ fn waiting(name: &[u8], words: &mut Words<'_>) -> Option<Action>
 }
 
 /// A call of an object.
-#[tactic(auto, unfolding(crate::specs::CallReading::action_at, crate::specs::CallReading::acquire_at, crate::specs::CallReading::asking_at))]
+#[tactic(auto, unfolding(crate::specs::CallReading::action_at))]
 pub(crate) fn action(words: &mut Words<'_>) -> Option<Action>
     ensures is { with_rest result words.new ≡ action_at words.old }
     ensures found { IfSome result (λ a. HasAmounts a × (words.old ≡ action_words a ++ words.new)) }

@@ -1,0 +1,17 @@
+//! Tests of scripts: that the definitions say what was meant, the words of the faults, that scripts are read where
+//! there is memory, and that nothing is where it is refused.
+#![tactic(auto)]
+
+pub mod callers;
+#[cfg(test)]
+mod changes;
+#[cfg(test)]
+mod examples;
+#[cfg(test)]
+mod faults;
+#[cfg(test)]
+mod limits;
+#[cfg(test)]
+mod memory;
+#[cfg(test)]
+mod said;
