@@ -7,3 +7,5 @@ mod cores;
 mod hooks;
 #[cfg(test)]
 mod queues;
+#[cfg(test)]
+mod refusals;

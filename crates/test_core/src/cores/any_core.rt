@@ -108,6 +108,40 @@ fn first_holds<H: Hooks + Drop>(core: &Core<H>, mode: Mode) -> [u64; 4] {
     ]
 }
 
+/// The holds of all seats.
+fn all_holds<H: Hooks + Drop>(core: &Core<H>, mode: Mode) -> u64 {
+    let mut sum: u64 = 0;
+    for seat in 0..core.header().seats {
+        sum = sum.saturating_add(holds(core, seat, mode));
+    }
+    sum
+}
+
+/// Those asleep on any condition.
+fn all_asleep<H: Hooks + Drop>(core: &Core<H>) -> u64 {
+    let mut sum: u64 = 0;
+    for condition in 0..core.header().conditions {
+        sum = sum.saturating_add(u64::from(core.waiters(condition)));
+    }
+    sum
+}
+
+/// What a core tells of all its seats and conditions together.
+#[derive(Clone, Copy, Debug, PartialEq, Eq)]
+pub struct Sums {
+    pub exclusive: u64,
+    pub shared: u64,
+    pub asleep: u64,
+}
+
+fn sum_up<H: Hooks + Drop>(core: &Core<H>) -> Sums {
+    Sums {
+        exclusive: all_holds(core, Mode::X),
+        shared: all_holds(core, Mode::S),
+        asleep: all_asleep(core),
+    }
+}
+
 fn tell<H: Hooks + Drop>(core: &Core<H>) -> Told {
     core.is_lawful();
     let history = core.history();
@@ -175,6 +209,37 @@ pub fn told_opened(alloc: Global, header: &Header) -> Result<Told, Fault> {
     }
 }
 
+/// The history that steps leave behind.
+fn run_and_leave<H: Hooks + Drop>(
+    alloc: Global,
+    hooks: H,
+    header: &Header,
+    steps: &[(u16, Step)],
+) -> Result<History, Fault> {
+    let mut core = open(alloc, hooks, header)?;
+    let _answers = run_all(alloc, &mut core, steps)?;
+    Ok(core.into_history())
+}
+
+/// The same of the object that a header names.
+pub fn history_left(
+    alloc: Global,
+    header: &Header,
+    steps: &[(u16, Step)],
+) -> Result<History, Fault> {
+    match header.object {
+        Object::Lock(policy) => run_and_leave(alloc, LockHooks::open(policy), header, steps),
+        Object::ReadWrite(policy) => {
+            let hooks = RwHooks::open(alloc, policy, header.seats)?;
+            run_and_leave(alloc, hooks, header, steps)
+        }
+        Object::Semaphore(policy, permits) => {
+            run_and_leave(alloc, SemaphoreHooks::open(policy, permits), header, steps)
+        }
+        Object::Latch(count) => run_and_leave(alloc, LatchHooks::open(count), header, steps),
+    }
+}
+
 /// A core of the object that a header names. Clauses see nothing of it, which keeps the proofs of callers small.
 #[derive(Drop)]
 pub struct AnyCore {
@@ -237,12 +302,30 @@ impl AnyCore {
         }
     }
 
+    pub fn queue_length(&self) -> u16 {
+        match &self.core {
+            ObjectCore::Lock(core) => core.queue_length(),
+            ObjectCore::ReadWrite(core) => core.queue_length(),
+            ObjectCore::Semaphore(core) => core.queue_length(),
+            ObjectCore::Latch(core) => core.queue_length(),
+        }
+    }
+
     pub fn told(&self) -> Told {
         match &self.core {
             ObjectCore::Lock(core) => tell(core),
             ObjectCore::ReadWrite(core) => tell(core),
             ObjectCore::Semaphore(core) => tell(core),
             ObjectCore::Latch(core) => tell(core),
+        }
+    }
+
+    pub fn sums(&self) -> Sums {
+        match &self.core {
+            ObjectCore::Lock(core) => sum_up(core),
+            ObjectCore::ReadWrite(core) => sum_up(core),
+            ObjectCore::Semaphore(core) => sum_up(core),
+            ObjectCore::Latch(core) => sum_up(core),
         }
     }
 }

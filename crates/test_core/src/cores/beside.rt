@@ -1,13 +1,15 @@
 //! Cores beside the plain program: by chance and in the known situations each step is answered by both alike,
 //! and in the end a core tells what its history adds up to.
 
-mod chance;
+mod crowds;
 mod found;
 mod sums;
 
 use crate::cores::any_core::AnyCore;
+use crate::cores::chance::Chance;
+use crate::cores::lists::{KINDS, header_of};
+use crate::cores::seen::{COUNTED, OWNED, PERMITTED, Seen, TAKEN, assert_seen};
 use crate::cores::texts::steps_of;
-use chance::Chance;
 use found::{answer_found, totals_found};
 use history::entry::Word;
 use history::fault::Fault;
@@ -32,39 +34,16 @@ fn step_beside<R: Abort + AllocGlobal>(
     answer
 }
 
-/// A core of at most four seats and two conditions tells what its history adds up to.
+/// A core tells what its history adds up to.
 fn compare_totals<R: Abort + AllocGlobal>(rt: &R, core: &AnyCore) -> Result<(), Fail> {
     let told = core.told();
     let totals = totals_found(rt.alloc(), core)?;
-    assert_eq!(rt; totals_told(core.header().object, &told), totals);
+    assert_eq!(rt;
+        totals_told(core.header().object, &told, &core.sums()),
+        totals
+    );
     assert_eq!(rt; told.is_held, 0 < totals.x);
     Ok(())
-}
-
-/// What came up in the lists of an object.
-#[derive(Drop)]
-struct Seen {
-    words: Vec<Word>,
-    sleep: bool,
-    full: bool,
-    named: bool,
-}
-
-impl Seen {
-    fn note(&mut self, answer: &Result<Answer, Fault>) -> Result<(), Fail> {
-        match answer {
-            Ok(Answer::Recorded(entry, named)) => {
-                self.named = self.named || named.is_some();
-                if !self.words.contains(&entry.word) {
-                    self.words.push(entry.word)?;
-                }
-            }
-            Ok(Answer::Sleep) => self.sleep = true,
-            Err(Fault::HistoryFull) => self.full = true,
-            Err(_) => {}
-        }
-        Ok(())
-    }
 }
 
 /// Steps of a list: more than a small history has room for.
@@ -96,78 +75,17 @@ fn play_list<R: Abort + AllocGlobal>(
     play(rt, &mut core, Chance::from_seed(seed), seen)
 }
 
-/// Lists of an object: each number of seats with each of conditions and each cap, eight times.
-const LISTS: u16 = 288;
-
-const CAPS: [u32; 3] = [16, 24, 96];
-
-/// The header of a list by its number.
-fn header_of(object: Object, number: u16) -> Header {
-    let conditions = match object {
-        Object::Lock(_) | Object::ReadWrite(_) => (number / 12 % 3) as u8,
-        Object::Semaphore(_, _) | Object::Latch(_) => 0,
-    };
-    Header {
-        object,
-        seats: 1 + number % 4,
-        conditions,
-        cap: CAPS[usize::from(number / 4 % 3)],
-    }
-}
+/// Lists of an object: each kind eight times.
+const LISTS: u16 = 8 * KINDS;
 
 /// What comes up in the lists of an object.
 fn play_lists<R: Abort + AllocGlobal>(rt: &R, object: Object) -> Result<Seen, Fail> {
-    let mut seen = Seen {
-        words: Vec::new(rt.alloc()),
-        sleep: false,
-        full: false,
-        named: false,
-    };
+    let mut seen = Seen::open(rt.alloc())?;
     for number in 0..LISTS {
         play_list(rt, &header_of(object, number), u64::from(number), &mut seen)?;
     }
     Ok(seen)
 }
-
-/// All of these words came up, and there were sleeps, full histories and names.
-fn assert_seen<R: Abort>(rt: &R, seen: &Seen, words: &[Word]) {
-    for word in words {
-        assert!(rt; seen.words.contains(word), "{word:?}");
-    }
-    assert!(rt; seen.sleep && seen.full && seen.named);
-}
-
-const TAKEN: [Word; 8] = [
-    Word::Got,
-    Word::TryGot,
-    Word::Queued,
-    Word::Granted,
-    Word::Missed,
-    Word::Left,
-    Word::Gave,
-    Word::Refused(Fault::Interrupted),
-];
-
-const OWNED: [Word; 6] = [
-    Word::Await,
-    Word::Lapse,
-    Word::Signal,
-    Word::SignalAll,
-    Word::Back,
-    Word::Refused(Fault::NotOwner),
-];
-
-const PERMITTED: [Word; 2] = [Word::Drained, Word::Refused(Fault::TooManyPermits)];
-
-const COUNTED: [Word; 7] = [
-    Word::Got,
-    Word::Queued,
-    Word::Granted,
-    Word::Missed,
-    Word::Left,
-    Word::Counted,
-    Word::Refused(Fault::Interrupted),
-];
 
 #[test]
 fn locks_answer_like_the_plain_program(rt: HostRuntime) -> Result<(), Fail> {

@@ -2,9 +2,10 @@
 
 use crate::cores::any_core::AnyCore;
 use history::entries::History;
-use history::entry::{Mode, Word};
+use history::entry::{Entry, Mode, Word};
+use history::fault::Fault;
 use history::header::Object;
-use history::step::Step;
+use history::step::{Answer, Step};
 use rand_core::utils::NextWord;
 use rand_pcg::Pcg32;
 
@@ -12,12 +13,25 @@ use rand_pcg::Pcg32;
 #[derive(Drop)]
 pub struct Chance {
     words: Pcg32,
+    /// Whom the last entry named.
+    named: Option<u16>,
 }
+
+/// As many seats act often enough if each is as likely as the others.
+const FEW: u16 = 8;
 
 impl Chance {
     pub fn from_seed(seed: u64) -> Chance {
         Chance {
             words: Pcg32::new(seed, 0),
+            named: None,
+        }
+    }
+
+    /// Hears the answer to a step.
+    pub fn hear(&mut self, answer: &Result<Answer, Fault>) {
+        if let Ok(Answer::Recorded(_, named)) = answer {
+            self.named = *named;
         }
     }
 
@@ -87,9 +101,10 @@ impl Chance {
         }
     }
 
-    /// A step of one who holds something.
-    fn holding(&mut self, object: Object) -> Step {
+    /// A step of one who holds something, mostly in the mode of its newest entry.
+    fn holding(&mut self, object: Object, newest: Mode) -> Step {
         let (mode, n) = (self.mode(object), self.amount(object));
+        let mode = if self.below(4) > 0 { newest } else { mode };
         match self.below(16) {
             0..=6 => Step::Give(mode, n),
             7..=9 => Step::Acquire(mode, n),
@@ -112,33 +127,51 @@ impl Chance {
         }
     }
 
+    /// A seat. Of many it is mostly the one that was named, or one that did something not long ago.
+    fn seat(&mut self, core: &AnyCore) -> u16 {
+        let seats = core.header().seats;
+        if seats <= FEW || self.below(4) == 0 {
+            return self.below(seats);
+        }
+        let wakes = self.below(2) == 0;
+        let back = 1 + u64::from(self.below(FEW));
+        match self.named {
+            Some(named) if wakes => named,
+            _ => {
+                let number = core.history().len().saturating_sub(back);
+                core.history().get(number).map_or(0, |entry| entry.seat)
+            }
+        }
+    }
+
     /// A seat and its step: mostly one that suits what the seat did last.
     pub fn step(&mut self, core: &AnyCore) -> (u16, Step) {
-        let (seats, object) = (core.header().seats, core.header().object);
-        let seat = self.below(seats);
+        let object = core.header().object;
+        let seat = self.seat(core);
         if self.below(8) == 0 {
             return (seat, self.any(object));
         }
-        let asked = match last_word(core.history(), seat) {
-            Some(Word::Queued | Word::Await | Word::Lapse) => self.waiting(),
-            None | Some(Word::Gave | Word::Missed | Word::Left | Word::Refused(_)) => {
-                self.taking(object)
-            }
-            Some(_) => self.holding(object),
+        let asked = match newest_of(core.history(), seat) {
+            None => self.taking(object),
+            Some(entry) => match entry.word {
+                Word::Queued | Word::Await | Word::Lapse => self.waiting(),
+                Word::Gave | Word::Missed | Word::Left | Word::Refused(_) => self.taking(object),
+                _ => self.holding(object, entry.mode),
+            },
         };
         (seat, asked)
     }
 }
 
-/// The word of a seat's newest entry.
-fn last_word(history: &History, seat: u16) -> Option<Word> {
-    let mut last = None;
+/// A seat's newest entry.
+fn newest_of(history: &History, seat: u16) -> Option<Entry> {
+    let mut newest = None;
     for number in 0..history.len() {
         if let Some(entry) = history.get(number) {
             if entry.seat == seat {
-                last = Some(entry.word);
+                newest = Some(entry);
             }
         }
     }
-    last
+    newest
 }

@@ -1,8 +1,11 @@
-//! Memory that is refused to an open.
+//! Memory that is refused to an open, and memory that is there.
 
-use crate::cores::any_core::{PIECE, told_opened};
+use crate::cores::any_core::{PIECE, history_left, told_opened};
+use crate::refusals::refusals;
+use history::entry::Mode;
 use history::fault::Fault;
 use history::header::{Header, Object, Policy};
+use history::step::Step;
 use read_write::hooks::RwHooks;
 use std::process::Abort;
 use std::test::Fail;
@@ -17,28 +20,20 @@ fn header_of(object: Object, seats: u16, conditions: u8) -> Header {
     }
 }
 
-/// Opens a core for as much as there may be. It tells that nothing has happened yet.
-fn open_widest<R: Abort + AllocGlobal>(rt: &R, object: Object) -> Result<(), Fault> {
-    let conditions = match object {
+/// As many conditions as an object may have.
+fn most_conditions(object: Object) -> u8 {
+    match object {
         Object::Lock(_) | Object::ReadWrite(_) => 16,
         Object::Semaphore(_, _) | Object::Latch(_) => 0,
-    };
-    let told = told_opened(rt.alloc(), &header_of(object, 256, conditions))?;
+    }
+}
+
+/// Opens a core for as much as there may be. It tells that nothing has happened yet.
+fn open_widest<R: Abort + AllocGlobal>(rt: &R, object: Object) -> Result<(), Fault> {
+    let told = told_opened(rt.alloc(), &header_of(object, 256, most_conditions(object)))?;
     assert!(rt; told.entries == 0 && told.owed == 0 && told.places == 0);
     assert!(rt; told.asleep == [0; 2] && told.line == 0 && !told.is_held);
     Ok(())
-}
-
-/// How often an open is refused while memory is given back piece by piece.
-fn refusals<R: Abort + AllocGlobal>(rt: &R, object: Object) -> Result<u32, Fail> {
-    let mut memory = Memory::take_all(rt.alloc(), PIECE)?;
-    for refused in 0..65_536 {
-        match open_widest(rt, object) {
-            Ok(()) => return Ok(refused),
-            Err(fault) => assert!(rt; fault == Fault::OutOfMemory && memory.give_piece()),
-        }
-    }
-    Err(Fail::from("never opened"))
 }
 
 /// A core opens four tables for its seats, a list of its conditions and a table for each; a read-write lock
@@ -51,7 +46,7 @@ fn a_core_is_opened_whole_or_not_at_all(rt: HostRuntime) -> Result<(), Fail> {
         (Object::Semaphore(Policy::Fair, 3), 4),
         (Object::Latch(2), 4),
     ] {
-        let refused = refusals(&rt, object)?;
+        let refused = refusals(&rt, PIECE, || open_widest(&rt, object))?;
         assert!(rt; tables <= refused, "{object:?} {refused}");
     }
     Ok(())
@@ -64,5 +59,58 @@ fn a_table_of_readers_is_refused(rt: HostRuntime) -> Result<(), Fail> {
     assert!(rt; matches!(refused, Err(Fault::OutOfMemory)));
     drop(taken);
     let _hooks = RwHooks::open(rt.alloc(), Policy::Fair, 256)?;
+    Ok(())
+}
+
+/// What the last of so many seats asks for: to acquire, and where there are conditions, to wait on the last.
+fn first_steps(header: &Header) -> [(u16, Step); 2] {
+    let last = header.seats.saturating_sub(1);
+    let mode = match header.object {
+        Object::Lock(_) | Object::ReadWrite(_) => Mode::X,
+        Object::Semaphore(_, _) | Object::Latch(_) => Mode::S,
+    };
+    [
+        (last, Step::Acquire(mode, 1)),
+        (last, Step::Await(header.conditions.saturating_sub(1))),
+    ]
+}
+
+/// Opens a core, and makes its first steps. All of them are recorded that are to be.
+fn open_and_step<R: Abort + AllocGlobal>(rt: &R, header: &Header) -> Result<(), Fault> {
+    let left = history_left(rt.alloc(), header, &first_steps(header))?;
+    let recorded = if header.conditions == 0 { 1 } else { 2 };
+    assert_eq!(rt; left.len(), recorded, "{:?}", *header);
+    Ok(())
+}
+
+/// Each number of conditions.
+fn open_and_step_each<R: Abort + AllocGlobal>(
+    rt: &R,
+    object: Object,
+    seats: u16,
+) -> Result<(), Fault> {
+    for conditions in 0..=most_conditions(object) {
+        open_and_step(rt, &header_of(object, seats, conditions))?;
+    }
+    Ok(())
+}
+
+const OBJECTS: [Object; 7] = [
+    Object::Lock(Policy::Fair),
+    Object::Lock(Policy::NonFair),
+    Object::ReadWrite(Policy::Fair),
+    Object::ReadWrite(Policy::NonFair),
+    Object::Semaphore(Policy::Fair, 1),
+    Object::Semaphore(Policy::NonFair, 1),
+    Object::Latch(0),
+];
+
+#[test]
+fn each_number_of_seats_and_conditions_is_opened(rt: HostRuntime) -> Result<(), Fail> {
+    for object in OBJECTS {
+        for seats in 1..=256 {
+            open_and_step_each(&rt, object, seats)?;
+        }
+    }
     Ok(())
 }

@@ -1,4 +1,4 @@
-//! Plays a table of calls, and compares each reply.
+//! Plays a table of calls, and compares each reply. None of them takes memory.
 
 ghost use Rattle.std.specs.Prelude.{◌≡◌, ◌↔◌, IsTrue, ℕ};
 ghost use Rattle.frame.specs.Hooks.{hold_limit};
@@ -10,6 +10,10 @@ use frame::hooks::Hooks;
 use history::entry::Mode;
 use history::header::Object;
 use std::process::Abort;
+use test_support::memory::Memory;
+
+/// Memory is taken in pieces of this size first.
+const PIECE: usize = 1040;
 
 fn take<H: Hooks>(hooks: &mut H, seats: u16, who: u16, mode: Mode, n: u32) -> Reply
     requires { IsSeated (H.agrees hooks.old) seats }
@@ -109,13 +113,20 @@ fn reply<H: Hooks>(hooks: &mut H, seats: u16, call: Call) -> Reply
     }
 }
 
-/// Plays the calls on hooks as an open makes them.
-pub fn play<H: Hooks + Drop>(rt: &impl Abort, mut hooks: H, seats: u16, rows: &[(Call, Reply)]) {
+/// Plays the calls on hooks as an open makes them, where there is no memory.
+pub fn play<H: Hooks + Drop>(
+    rt: &(impl Abort + AllocGlobal),
+    mut hooks: H,
+    seats: u16,
+    rows: &[(Call, Reply)],
+) {
     let opened = hooks.as_opened(seats);
     assert!(rt; opened, "as opened");
     if !opened {
         return;
     }
+    let taken = Memory::take_all(rt.alloc(), PIECE);
+    assert!(rt; taken.is_ok());
     for (call, want) in rows {
         let got = reply(&mut hooks, seats, *call);
         assert_eq!(rt; got, *want, "{call:?}");

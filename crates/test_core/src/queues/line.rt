@@ -1,15 +1,21 @@
-//! The line: that its calls succeed, and a long run beside a plain list.
+//! The line: that its calls succeed and take no memory, and a long run beside a plain list.
 
 ghost use Rattle.std.specs.Prelude.{◌≡◌};
 
+use crate::refusals::refusals;
 use acquire_queue::queue::Queue;
 use history::arrival::Arrival;
 use history::entry::Mode;
-use history::fault::Fault;
 use std::alloc::AllocError;
+use std::process::Abort;
 use std::test::Fail;
+use test_support::memory::Memory;
 
 const SEATS: u16 = 8;
+
+/// A heap keeps each smaller block for requests of its size, also once it is given back. So whatever is cut from
+/// such a piece is missed.
+const PIECE: usize = 1040;
 
 fn asks(seat: u16, n: u32) -> Arrival
     ensures { result.seat ≡ seat }
@@ -22,13 +28,21 @@ fn asks(seat: u16, n: u32) -> Arrival
     }
 }
 
-// With every allocation granted it opens; `rt try --test --fail-alloc 1` and 2 refuse one of its two.
+/// A line takes memory twice. Each time it lacks pieces of the size of its own.
 #[test]
-fn opens_or_tells_the_want_of_memory(rt: HostRuntime) {
-    match Queue::open(rt.alloc(), SEATS) {
-        Ok(queue) => assert_eq!(rt; queue.live_len(), 0),
-        Err(fault) => assert_eq!(rt; fault, Fault::OutOfMemory),
+fn opens_whole_or_tells_the_want_of_memory(rt: HostRuntime) -> Result<(), Fail> {
+    let refused = refusals(&rt, PIECE, || Queue::open(rt.alloc(), 256))?;
+    assert!(rt; 2 <= refused, "{refused}");
+    Ok(())
+}
+
+#[test]
+fn each_number_of_seats_is_opened(rt: HostRuntime) -> Result<(), Fail> {
+    for seats in (0..=256).chain([1000, 65_535]) {
+        let queue = Queue::open(rt.alloc(), seats)?;
+        assert!(rt; queue.live_len() == 0 && queue.is_empty(), "{seats}");
     }
+    Ok(())
 }
 
 #[test]
@@ -75,6 +89,7 @@ fn change(queue: &mut Queue, list: &mut Vec<Arrival>, number: u64) -> Result<(),
     ensures { queue.new.seats ≡ SEATS }
 {
     let seat = (number / 4 % 8) as u16;
+    queue.sweep();
     if number % 4 == 0 {
         let first = queue.take_first();
         list.retain(|a| Some(*a) != first);
@@ -91,6 +106,7 @@ fn change(queue: &mut Queue, list: &mut Vec<Arrival>, number: u64) -> Result<(),
 
 fn is_same(queue: &Queue, list: &[Arrival]) -> bool {
     let mut same = queue.live_len() as usize == list.len()
+        && queue.is_empty() == list.is_empty()
         && queue.first() == list.first().copied();
     for seat in 0..SEATS {
         let place = list.iter().position(|a| a.seat == seat);
@@ -102,10 +118,12 @@ fn is_same(queue: &Queue, list: &[Arrival]) -> bool {
     same
 }
 
-#[test]
-fn a_long_run_stays_as_a_plain_list(rt: HostRuntime) -> Result<(), Fail> {
+/// A long run where no more than so many pieces are free, which stay so.
+fn run_long<R: Abort + AllocGlobal>(rt: &R, pieces: usize) -> Result<(), Fail> {
     let mut queue = Queue::open(rt.alloc(), SEATS)?;
-    let mut list = Vec::new(rt.alloc());
+    let mut list = Vec::with_capacity(rt.alloc(), usize::from(SEATS))?;
+    let mut memory = Memory::take_all(rt.alloc(), PIECE)?;
+    memory.give_pieces(pieces);
     let mut number: u64 = 1;
     for _ in 0..5000 {
         number = number
@@ -113,7 +131,15 @@ fn a_long_run_stays_as_a_plain_list(rt: HostRuntime) -> Result<(), Fail> {
             .wrapping_add(1442695040888963407);
         change(&mut queue, &mut list, number >> 33)?;
         assert!(rt; is_same(&queue, &list), "after {number}");
+        assert_eq!(rt; memory.free_pieces(), pieces, "after {number}");
     }
     assert!(rt; queue.joined() > 1000);
     Ok(())
+}
+
+/// No call takes memory: first where there is none, then where a piece is free, from which nothing is cut.
+#[test]
+fn a_long_run_stays_as_a_plain_list(rt: HostRuntime) -> Result<(), Fail> {
+    run_long(&rt, 0)?;
+    run_long(&rt, 1)
 }

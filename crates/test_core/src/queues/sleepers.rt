@@ -1,30 +1,47 @@
-//! Those who sleep on conditions: that their calls succeed, and a long run beside plain lists.
+//! Those who sleep on conditions: that their calls succeed and take no memory, and a long run beside plain lists.
 
 ghost use Rattle.std.specs.Prelude.{◌≡◌, ◌<◌};
 
+use crate::refusals::refusals;
 use acquire_queue::queue::Queue;
 use condition_queue::sleeper::Sleeper;
 use condition_queue::waiters::Waiters;
 use deciding::arrivals::coming_back;
-use history::fault::Fault;
-use std::alloc::{AllocError, Global};
+use std::alloc::AllocError;
+use std::process::Abort;
 use std::test::Fail;
+use test_support::memory::Memory;
 
 const SEATS: u16 = 8;
 
 const CONDITIONS: u8 = 3;
 
+/// Less than any list of the waiters takes.
+const LEAST: usize = 16;
+
+/// A heap keeps each smaller block for requests of its size, also once it is given back. So whatever is cut from
+/// such a piece is missed.
+const PIECE: usize = 1040;
+
 fn sleeper(condition: u8, holds: u32) -> Option<Sleeper> {
     Some(Sleeper { condition, holds })
 }
 
-// With every allocation granted it opens; `rt try --test --fail-alloc N` refuses the Nth of its five.
+/// The waiters take memory five times: a list of the conditions, a list for each, and a table of the seats.
 #[test]
-fn opens_or_tells_the_want_of_memory(rt: HostRuntime) {
-    match Waiters::open(rt.alloc(), CONDITIONS, SEATS) {
-        Ok(waiters) => assert_eq!(rt; waiters.len(0), 0),
-        Err(fault) => assert_eq!(rt; fault, Fault::OutOfMemory),
+fn opens_whole_or_tells_the_want_of_memory(rt: HostRuntime) -> Result<(), Fail> {
+    let refused = refusals(&rt, LEAST, || Waiters::open(rt.alloc(), CONDITIONS, 256))?;
+    assert!(rt; 5 <= refused, "{refused}");
+    Ok(())
+}
+
+#[test]
+fn each_number_of_conditions_is_opened(rt: HostRuntime) -> Result<(), Fail> {
+    for conditions in 0..=255 {
+        let waiters = Waiters::open(rt.alloc(), conditions, 256)?;
+        assert!(rt; waiters.len(conditions) == 0 && waiters.sleeper_of(255).is_none());
     }
+    Ok(())
 }
 
 #[test]
@@ -96,24 +113,28 @@ fn change(waiters: &mut Waiters, list: &mut Vec<Asleep>, number: u64) -> Result<
 
 /// Moves one or all of a condition to an empty line, and tells whether those and no others arrive, in order.
 fn moves_as(
-    alloc: Global,
+    queue: &mut Queue,
     waiters: &mut Waiters,
     list: &mut Vec<Asleep>,
     c: u8,
     all: bool,
-) -> Result<bool, Fault>
+) -> bool
+    requires line { queue.old.seats ≡ SEATS }
     requires seats { waiters.old.seats ≡ SEATS }
     requires conditions { waiters.old.conditions ≡ CONDITIONS }
     requires condition { c < CONDITIONS }
+    ensures line { queue.new.seats ≡ SEATS }
     ensures seats { waiters.new.seats ≡ SEATS }
     ensures conditions { waiters.new.conditions ≡ CONDITIONS }
 {
-    let mut queue = Queue::open(alloc, SEATS)?;
+    if queue.first().is_some() || queue.joined() > 1_000_000 {
+        return false;
+    }
     let asleep = waiters.len(c);
     let moved = if all {
-        waiters.move_all(c, &mut queue)
+        waiters.move_all(c, queue)
     } else {
-        waiters.move_first(c, &mut queue)
+        waiters.move_first(c, queue)
     };
     let mut same = moved == u32::from(if all { asleep } else { asleep.min(1) });
     for _ in 0..moved {
@@ -122,7 +143,7 @@ fn moves_as(
             same = same && queue.take_first() == Some(coming_back(seat));
         }
     }
-    Ok(same && queue.is_empty())
+    same && queue.is_empty()
 }
 
 fn is_same(waiters: &Waiters, list: &[Asleep]) -> bool {
@@ -138,22 +159,55 @@ fn is_same(waiters: &Waiters, list: &[Asleep]) -> bool {
     same
 }
 
-#[test]
-fn a_long_run_stays_as_plain_lists(rt: HostRuntime) -> Result<(), Fail> {
+/// A turn: someone falls asleep or leaves, and those of a condition are moved. Memory stays as it was.
+fn turn<R: Abort>(
+    rt: &R,
+    queue: &mut Queue,
+    waiters: &mut Waiters,
+    list: &mut Vec<Asleep>,
+    memory: &mut Memory,
+    number: u64,
+) -> Result<(), Fail>
+    requires line { queue.old.seats ≡ SEATS }
+    requires seats { waiters.old.seats ≡ SEATS }
+    requires conditions { waiters.old.conditions ≡ CONDITIONS }
+    ensures line { queue.new.seats ≡ SEATS }
+    ensures seats { waiters.new.seats ≡ SEATS }
+    ensures conditions { waiters.new.conditions ≡ CONDITIONS }
+{
+    let free = memory.free_pieces();
+    change(waiters, list, number >> 33)?;
+    if (number >> 40) % 5 == 4 {
+        let c = ((number >> 50) % 3) as u8;
+        let moved = moves_as(queue, waiters, list, c, (number >> 45) % 2 == 0);
+        assert!(rt; moved, "after {number}");
+    }
+    assert!(rt; is_same(waiters, list), "after {number}");
+    assert_eq!(rt; memory.free_pieces(), free, "after {number}");
+    Ok(())
+}
+
+/// A long run where no more than so many pieces are free.
+fn run_long<R: Abort + AllocGlobal>(rt: &R, pieces: usize) -> Result<(), Fail> {
+    let mut queue = Queue::open(rt.alloc(), SEATS)?;
     let mut waiters = Waiters::open(rt.alloc(), CONDITIONS, SEATS)?;
-    let mut list = Vec::new(rt.alloc());
+    let mut list = Vec::with_capacity(rt.alloc(), usize::from(SEATS))?;
+    let mut memory = Memory::take_all(rt.alloc(), PIECE)?;
+    memory.give_pieces(pieces);
     let mut number: u64 = 1;
-    for turn in 0..2000u64 {
+    for _ in 0..2000 {
         number = number
             .wrapping_mul(6364136223846793005)
             .wrapping_add(1442695040888963407);
-        change(&mut waiters, &mut list, number >> 33)?;
-        if turn % 5 == 4 {
-            let c = ((number >> 50) % 3) as u8;
-            let moved = moves_as(rt.alloc(), &mut waiters, &mut list, c, turn % 2 == 0)?;
-            assert!(rt; moved, "after {number}");
-        }
-        assert!(rt; is_same(&waiters, &list), "after {number}");
+        turn(rt, &mut queue, &mut waiters, &mut list, &mut memory, number)?;
     }
+    assert!(rt; queue.joined() > 300);
     Ok(())
+}
+
+/// No call takes memory: first where there is none, then where a piece is free, from which nothing is cut.
+#[test]
+fn a_long_run_stays_as_plain_lists(rt: HostRuntime) -> Result<(), Fail> {
+    run_long(&rt, 0)?;
+    run_long(&rt, 1)
 }

@@ -1,12 +1,8 @@
 //! What a core tells, as the totals of its history.
 
-use crate::cores::any_core::Told;
+use crate::cores::any_core::{Sums, Told};
 use audit::sums::Totals;
 use history::header::Object;
-
-fn sum(numbers: &[u64]) -> i128 {
-    numbers.iter().fold(0, |sum: i128, number| sum.wrapping_add(i128::from(*number)))
-}
 
 const NOTHING: Totals = Totals {
     x: 0,
@@ -21,19 +17,19 @@ const NOTHING: Totals = Totals {
 };
 
 /// The same as a core tells it; the permits that nobody held are those held and free beyond the created.
-pub fn totals_told(object: Object, told: &Told) -> Totals {
+pub fn totals_told(object: Object, told: &Told, sums: &Sums) -> Totals {
     let line = i128::from(told.line);
     match object {
         Object::Lock(_) | Object::ReadWrite(_) => Totals {
-            x: sum(&told.exclusive),
-            s: sum(&told.shared),
+            x: i128::from(sums.exclusive),
+            s: i128::from(sums.shared),
             line,
-            sleepers: i128::from(told.asleep[0]) + i128::from(told.asleep[1]),
+            sleepers: i128::from(sums.asleep),
             ..NOTHING
         },
         Object::Semaphore(_, permits) => {
             let (held, free, created) = (
-                sum(&told.shared),
+                i128::from(sums.shared),
                 i128::from(told.available),
                 i128::from(permits),
             );

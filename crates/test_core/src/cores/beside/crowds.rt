@@ -1,0 +1,115 @@
+//! Many seats and thousands of steps by chance, beside the plain program.
+
+use super::{compare_totals, step_beside};
+use crate::cores::any_core::AnyCore;
+use crate::cores::chance::Chance;
+use crate::cores::seen::{COUNTED, OWNED, PERMITTED, Seen, TAKEN, assert_seen};
+use history::header::{Header, Object, Policy};
+use std::process::Abort;
+use std::test::Fail;
+
+/// More than the history has room for.
+const STEPS: u32 = 3000;
+
+const CAP: u32 = 1800;
+
+fn header_of(object: Object, seats: u16) -> Header {
+    let conditions = match object {
+        Object::Lock(_) | Object::ReadWrite(_) => 2,
+        Object::Semaphore(_, _) | Object::Latch(_) => 0,
+    };
+    Header {
+        object,
+        seats,
+        conditions,
+        cap: CAP,
+    }
+}
+
+/// Steps by chance. The most that stood in line at a time.
+fn play<R: Abort + AllocGlobal>(
+    rt: &R,
+    core: &mut AnyCore,
+    mut chance: Chance,
+    seen: &mut Seen,
+) -> Result<u16, Fail> {
+    let mut longest = 0;
+    for _ in 0..STEPS {
+        let (seat, asked) = chance.step(core);
+        let answer = step_beside(rt, core, seat, asked);
+        chance.hear(&answer);
+        seen.note(&answer)?;
+        longest = longest.max(core.queue_length());
+    }
+    compare_totals(rt, core)?;
+    Ok(longest)
+}
+
+fn play_crowd<R: Abort + AllocGlobal>(
+    rt: &R,
+    object: Object,
+    seats: u16,
+    seen: &mut Seen,
+) -> Result<u16, Fail> {
+    let mut core = AnyCore::open(rt.alloc(), &header_of(object, seats))?;
+    play(rt, &mut core, Chance::from_seed(u64::from(seats)), seen)
+}
+
+/// What comes up among so many seats, of whom at least so many stand in line at a time.
+fn play_crowds<R: Abort + AllocGlobal>(
+    rt: &R,
+    object: Object,
+    crowds: &[(u16, u16)],
+) -> Result<Seen, Fail> {
+    let mut seen = Seen::open(rt.alloc())?;
+    for (seats, in_line) in crowds {
+        let longest = play_crowd(rt, object, *seats, &mut seen)?;
+        assert!(rt; *in_line <= longest, "{object:?} {seats} {longest}");
+    }
+    Ok(seen)
+}
+
+/// How many seats, and how many of them stand in line at a time.
+const CROWDS: [(u16, u16); 4] = [(5, 3), (17, 10), (60, 30), (256, 100)];
+
+#[test]
+fn crowds_at_a_lock_are_answered_like_the_plain_program(rt: HostRuntime) -> Result<(), Fail> {
+    for policy in [Policy::Fair, Policy::NonFair] {
+        let seen = play_crowds(&rt, Object::Lock(policy), &CROWDS)?;
+        assert_seen(&rt, &seen, &TAKEN);
+        assert_seen(&rt, &seen, &OWNED);
+    }
+    Ok(())
+}
+
+#[test]
+fn crowds_at_a_read_write_lock_are_answered_like_the_plain_program(
+    rt: HostRuntime,
+) -> Result<(), Fail> {
+    for policy in [Policy::Fair, Policy::NonFair] {
+        let seen = play_crowds(&rt, Object::ReadWrite(policy), &CROWDS)?;
+        assert_seen(&rt, &seen, &TAKEN);
+        assert_seen(&rt, &seen, &OWNED);
+    }
+    Ok(())
+}
+
+#[test]
+fn crowds_at_a_semaphore_are_answered_like_the_plain_program(rt: HostRuntime) -> Result<(), Fail> {
+    for policy in [Policy::Fair, Policy::NonFair] {
+        let seen = play_crowds(&rt, Object::Semaphore(policy, 3), &CROWDS)?;
+        assert_seen(&rt, &seen, &TAKEN);
+        assert_seen(&rt, &seen, &PERMITTED);
+    }
+    Ok(())
+}
+
+/// Those who wait for a latch go all at once.
+const AT_A_LATCH: [(u16, u16); 4] = [(5, 3), (17, 10), (60, 30), (256, 40)];
+
+#[test]
+fn crowds_at_a_latch_are_answered_like_the_plain_program(rt: HostRuntime) -> Result<(), Fail> {
+    let seen = play_crowds(&rt, Object::Latch(60), &AT_A_LATCH)?;
+    assert_seen(&rt, &seen, &COUNTED);
+    Ok(())
+}
