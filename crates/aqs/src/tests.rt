@@ -12,7 +12,6 @@ use streams::stream_fault::StreamFault;
 use tasks::fault::Fault;
 use tasks::task::Task;
 use tasks::told::told;
-use test_support::memory::Memory;
 
 #[test]
 fn asks_for_a_file_or_standard_input(rt: HostRuntime) -> Result<(), Fail> {
@@ -192,28 +191,5 @@ fn a_closed_output_is_told(rt: HostRuntime) -> Result<(), Fail> {
     let done = run(&rt, &["aqs"], STEPS, Closed);
     assert_eq!(rt; told(&noted, done), 4);
     assert!(rt; noted.0.into_inner().as_str() == "aqs: write failed\n");
-    Ok(())
-}
-
-/// A refused request for memory is told as that, whichever it is: with no memory, and then with a piece more each
-/// time.
-#[test]
-fn want_of_memory_is_told(rt: HostRuntime) -> Result<(), Fail> {
-    let words: [&[&str]; 3] = [
-        &["aqs", "replay", "--history", "steps.txt"],
-        &["aqs", "audit", "history.txt"],
-        &["aqs"],
-    ];
-    for asked in &words {
-        let mut memory = Memory::take_all(rt.alloc(), 64)?;
-        let mut refused: u64 = 0;
-        while matches!(arguments(rt.alloc(), asked), Err(Fault::Memory)) {
-            assert!(rt; memory.give_piece());
-            refused = refused.saturating_add(1);
-        }
-        drop(memory);
-        assert!(rt; arguments(rt.alloc(), asked).is_ok());
-        assert!(rt; 2 <= refused);
-    }
     Ok(())
 }

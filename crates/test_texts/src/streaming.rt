@@ -6,7 +6,6 @@ mod devices;
 mod memory;
 mod pieces;
 mod plain;
-mod readers;
 mod replays;
 mod spoiled;
 mod streamed;

@@ -9,7 +9,6 @@ ghost use Rattle.history.specs.declared.header.Object.TheVariants.{Lock};
 ghost use Rattle.history.specs.declared.header.Policy.TheVariants.{Fair};
 
 use driver::answering::Answering;
-use driver::answers::Answers;
 use driver::form::Form;
 use driver::replay::replay;
 use driver::replay_stream::replay_stream;
@@ -23,13 +22,9 @@ use reentrant::lock::LockHooks;
 use std::alloc::Global;
 use std::process::Abort;
 use std::test::Fail;
-use steps::{ReadFault, read_steps};
 use streams::device::Device;
 use streams::stream_fault::StreamFault;
-use tasks::fault::Fault as Stopped;
-use tasks::perform::perform;
-use tasks::task::Task;
-use test_support::memory::{Memory, all_memory};
+use test_support::memory::all_memory;
 
 /// What is written for a text.
 fn answer_to(alloc: Global, text: &[u8], form: Form) -> Result<Vec<u8>, Fail> {
@@ -85,36 +80,12 @@ const TEXTS: [&[u8]; 4] = [
     b"aqs-steps 1 latch seats 256 count 1 cap 64\n0 acquire s 1\n1 give s 1\n0 look\nend 3\n",
 ];
 
-/// A piece of memory, smaller than a window and each table of 256 seats.
-const PIECE: usize = 64;
-
-/// The same with a piece of memory more each time. All pieces stand side by side, so each request that is larger
-/// than a piece is refused.
-fn refusals_of_pieces<R: Abort + AllocGlobal>(
-    rt: &R,
-    text: &[u8],
-    form: Form,
-) -> Result<usize, Fail> {
-    let expected = answer_to(rt.alloc(), text, form)?;
-    let mut written = Vec::with_capacity(rt.alloc(), expected.len())?;
-    let mut memory = Memory::take_all(rt.alloc(), PIECE)?;
-    for refused in 0..4096 {
-        if finds_memory(rt, text, form, &mut written) {
-            assert!(rt; written == expected);
-            return Ok(refused);
-        }
-        let _was_left = memory.give_piece();
-    }
-    Err(Fail::new("memory was refused to the end"))
-}
-
-/// A window of 65,792 bytes, and a table of 256 seats at least beside it: each was refused, piece by piece.
 #[test]
 fn each_request_for_memory_is_refused(rt: HostRuntime) -> Result<(), Fail> {
     for text in TEXTS {
         for form in [Form::Replay, Form::History] {
-            let refused = refusals_of_pieces(&rt, text, form)?;
-            assert!(rt; (65_792 + 256) / PIECE <= refused);
+            let refused = refusals(&rt, text, form)?;
+            assert!(rt; 1 <= refused);
         }
     }
     Ok(())
@@ -202,109 +173,6 @@ fn replays<R: Abort + AllocGlobal>(rt: &R, fed: usize) -> Result<bool, Fail> {
 fn a_step_without_memory_ends_the_replay(rt: HostRuntime) -> Result<(), Fail> {
     for fed in 0..=4 {
         assert_eq!(rt; replays(&rt, fed)?, fed == 4);
-    }
-    Ok(())
-}
-
-/// The answers of a lock to a text, that are still to be written.
-fn answers_to<R: Abort + AllocGlobal>(rt: &R) -> Result<Answers, Fail> {
-    let mut reader = Device::new(ONE_LOCK);
-    let mut steps = StepReader::open(rt.alloc(), &mut reader)?;
-    let header = steps.header();
-    let mut lock = lock_fed(rt, &header, 4)?;
-    let remarks = replay(rt.alloc(), &mut lock, &mut steps, &mut reader)?;
-    Ok(Answers::new(header, lock.into_history(), remarks))
-}
-
-/// Answers are written in pieces of 65,536 bytes, memory for which is found first: it is refused piece by piece,
-/// and nothing is written then.
-#[test]
-fn nothing_is_written_before_there_is_memory(rt: HostRuntime) -> Result<(), Fail> {
-    let expected = answer_to(rt.alloc(), ONE_LOCK, Form::Replay)?;
-    let answers = answers_to(&rt)?;
-    let mut written = Vec::with_capacity(rt.alloc(), expected.len())?;
-    let mut memory = Memory::take_all(rt.alloc(), PIECE)?;
-    for refused in 0..4096 {
-        let answer = answers.write(rt.alloc(), &mut Device::new(&mut written), Form::Replay);
-        if answer.is_ok() {
-            assert!(rt; written == expected && 65_536 / PIECE <= refused);
-            return Ok(());
-        }
-        assert!(rt; answer == Err(StreamFault::Memory) && written.is_empty());
-        let _was_left = memory.give_piece();
-    }
-    Err(Fail::new("memory was refused to the end"))
-}
-
-/// A list of steps asks for memory once, and again where it grows; each is refused.
-#[test]
-fn a_list_of_steps_tells_want_of_memory(rt: HostRuntime) -> Result<(), Fail> {
-    let mut text = String::from_str(
-        rt.alloc(),
-        "aqs-steps 1 lock fair seats 1 conditions 0 cap 100000\n",
-    )?;
-    for _ in 0..1000 {
-        text.push_str("0 look\n")?;
-    }
-    text.push_str("end 1000\n")?;
-    let mut memory = Memory::take_all(rt.alloc(), PIECE)?;
-    for refused in 0..4096 {
-        match read_steps(rt.alloc(), text.as_bytes()) {
-            Ok(read) => {
-                assert!(rt; read.steps.len() == 1000 && 12_000 / PIECE <= refused);
-                return Ok(());
-            }
-            Err(fault) => assert!(rt; fault == ReadFault::OutOfMemory),
-        }
-        let _was_left = memory.give_piece();
-    }
-    Err(Fail::new("memory was refused to the end"))
-}
-
-/// What a task answers with what memory there is: its status, or want of memory, with nothing written.
-fn performed<R: Abort + AllocGlobal>(
-    rt: &R,
-    task: Task,
-    text: &[u8],
-    written: &mut Vec<u8>,
-) -> Option<u8> {
-    let mut writer = Device::new(&mut *written);
-    let done = perform(rt.alloc(), &mut Device::new(text), &mut writer, task);
-    match done {
-        Ok(status) => Some(status),
-        Err(fault) => {
-            assert!(rt; fault == Stopped::Stream(StreamFault::Memory) && written.is_empty());
-            None
-        }
-    }
-}
-
-const GIVEN: &[u8] =
-    b"aqs-history 1 lock fair seats 1 conditions 0 cap 16\n0 0 gave x 1\nend 1 1\n";
-
-/// A task tells want of memory as that, whichever request is refused; then it ends with its status.
-#[test]
-fn a_task_tells_want_of_memory(rt: HostRuntime) -> Result<(), Fail> {
-    let tasks: [(Task, &[u8], u8, usize); 3] = [
-        (Task::Audit, GIVEN, 1, 15),
-        (Task::Replay(Form::Replay), ONE_LOCK, 0, 0),
-        (Task::Replay(Form::History), ONE_LOCK, 0, 0),
-    ];
-    for (task, text, status, length) in &tasks {
-        let mut written = Vec::with_capacity(rt.alloc(), 1024)?;
-        let mut memory = Memory::take_all(rt.alloc(), PIECE)?;
-        let first = performed(&rt, *task, text, &mut written);
-        assert!(rt; first.is_none());
-        let mut ended = None;
-        for _ in 0..4096 {
-            let _was_left = memory.give_piece();
-            ended = performed(&rt, *task, text, &mut written);
-            if ended.is_some() {
-                break;
-            }
-        }
-        assert!(rt; ended == Some(*status));
-        assert!(rt; *length == 0 || written.len() == *length);
     }
     Ok(())
 }

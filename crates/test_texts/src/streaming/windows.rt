@@ -3,16 +3,10 @@
 use crate::streaming::replays::AMPLE;
 use crate::streaming::streamed::{Outcome, streamed};
 use driver::form::Form;
-use driver::replay_stream::replay_stream;
 use line_text::fault::TextFault;
 use std::process::Abort;
 use std::test::Fail;
-use streams::device::Device;
-use streams::memory_source::MemorySource;
-use streams::source::Source;
 use streams::stream_fault::StreamFault;
-use streams::window::Window;
-use test_support::memory::Memory;
 
 const HEADER: &str = "aqs-steps 1 lock fair seats 2 conditions 0 cap 64\n";
 
@@ -51,98 +45,6 @@ fn a_line_longer_than_a_read_is_a_bad_line(rt: HostRuntime) -> Result<(), Fail> 
         assert!(rt; is_refused(&rt, length, "\n0 give x 1\nend 2\n", TextFault::BadLine(2))?);
         assert!(rt; is_refused(&rt, length, "", TextFault::CutShort)?);
     }
-    Ok(())
-}
-
-/// A line of any length takes the time that its bytes take, and no more memory than a short one.
-#[test]
-fn a_line_of_many_megabytes_is_a_bad_line(rt: HostRuntime) -> Result<(), Fail> {
-    let text = text_with(&rt, 16_000_000, "\n0 give x 1\nend 2\n")?;
-    let mut written = Vec::new(rt.alloc());
-    let answer = replay_stream(
-        rt.alloc(),
-        &mut Device::new(text.as_bytes()),
-        &mut Device::new(&mut written),
-        Form::Replay,
-    );
-    assert!(rt; answer == Err(StreamFault::Text(TextFault::BadLine(2))));
-    Ok(())
-}
-
-/// How many pieces of memory a text needs that has this fault.
-fn pieces_for<R: AllocGlobal>(rt: &R, text: &[u8], fault: TextFault) -> Result<usize, Fail> {
-    let mut memory = Memory::take_all(rt.alloc(), 64)?;
-    for pieces in 0..4096 {
-        let mut written = Vec::new(rt.alloc());
-        let answer = replay_stream(
-            rt.alloc(),
-            &mut Device::new(text),
-            &mut Device::new(&mut written),
-            Form::Replay,
-        );
-        match answer {
-            Err(StreamFault::Memory) => {}
-            Err(StreamFault::Text(found)) if found == fault => return Ok(pieces),
-            _ => return Err(Fail::new("another answer")),
-        }
-        let _was_left = memory.give_piece();
-    }
-    Err(Fail::new("memory was refused to the end"))
-}
-
-#[test]
-fn a_long_line_takes_no_more_memory_than_a_short_one(rt: HostRuntime) -> Result<(), Fail> {
-    let short = text_with(&rt, 10, "\n0 give x 1\nend 2\n")?;
-    let long = text_with(&rt, 1_000_000, "\n0 give x 1\nend 2\n")?;
-    let cut = text_with(&rt, 1_000_000, "")?;
-    let pieces = pieces_for(&rt, short.as_bytes(), TextFault::BadLine(2))?;
-    assert!(rt; 65_536 / 64 <= pieces);
-    assert_eq!(rt;
-        pieces_for(&rt, long.as_bytes(), TextFault::BadLine(2))?,
-        pieces
-    );
-    assert_eq!(rt;
-        pieces_for(&rt, cut.as_bytes(), TextFault::CutShort)?,
-        pieces
-    );
-    Ok(())
-}
-
-/// What stands in a window behind each read of a line that is longer than what stays of it.
-#[test]
-fn a_window_keeps_the_front_of_a_long_line(rt: HostRuntime) -> Result<(), Fail> {
-    let mut bytes = Vec::new(rt.alloc());
-    bytes.resize(100_000, b'7')?;
-    bytes.extend_from_slice(b"\n0 look\n")?;
-    let mut source = MemorySource::new(bytes, 1000, None);
-    let mut window = Window::open(rt.alloc())?;
-    window.read_line(&mut source)?;
-    assert_eq!(rt; window.bytes().len(), 264);
-    assert!(rt; window.bytes()[..256].iter().all(|byte| *byte == b'7'));
-    assert!(rt; &window.bytes()[256..] == b"\n0 look\n".as_slice());
-    window.keep_last(7);
-    assert!(rt; !source.has_failed());
-    window.read_line(&mut source)?;
-    assert!(rt; window.bytes() == b"0 look\n".as_slice());
-    window.keep_last(0);
-    assert!(rt; !source.has_failed());
-    window.read_line(&mut source)?;
-    assert!(rt; window.bytes().is_empty());
-    Ok(())
-}
-
-/// Where a read fails, the window has what it had.
-#[test]
-fn a_window_keeps_its_bytes_where_a_read_fails(rt: HostRuntime) -> Result<(), Fail> {
-    let bytes = Vec::from_slice(rt.alloc(), b"0 look\n1 lo")?;
-    let mut source = MemorySource::new(bytes, 100, Some(1));
-    let mut window = Window::open(rt.alloc())?;
-    window.read_line(&mut source)?;
-    assert_eq!(rt; window.bytes().len(), 11);
-    window.keep_last(4);
-    assert!(rt; !source.has_failed());
-    assert!(rt; window.read_line(&mut source) == Err(StreamFault::ReadFailed));
-    assert!(rt; window.bytes() == b"1 lo".as_slice());
     Ok(())
 }
 
