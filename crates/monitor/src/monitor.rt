@@ -1,5 +1,5 @@
 //! The monitor, and how one is opened.
-ghost use Rattle.std.specs.Prelude.{◌≡◌, ◌≤◌, [], IfOk, IfErr, vec_len, vec_capacity};
+ghost use Rattle.std.specs.Prelude.{◌≡◌, ◌≤◌, [], All, IfOk, IfErr, vec_len, vec_capacity};
 ghost use Rattle.word_lock.specs.Ticket.{opening_tickets};
 ghost use Rattle.monitor.specs.Lawful.{blank, IsLawful};
 ghost use Rattle.history.specs.Header.{IsInRange};
@@ -68,6 +68,7 @@ impl<H: Hooks + Drop> Monitor<H> {
         ensures header { IfOk result (λ r.
             r.0.header ≡ header_of (H.object_of hooks) seats conditions cap) }
         ensures passes { IfOk result (λ r. r.1.items ≡ opening_passes r.0 (blank r.0.header) 0 seats) }
+        ensures own { IfOk result (λ r. All (λ p. p.lock ≡ r.0) r.1.items) }
         ensures err { IfErr result (λ fault. fault ≡ OutOfMemory) }
     {
         let mut passes = Vec::with_capacity(alloc, seats as usize)?;

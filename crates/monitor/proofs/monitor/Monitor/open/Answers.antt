@@ -1,9 +1,11 @@
-use Rattle.std.proofs.Common.{◌≡◌, ◌≤◌, ap, ◌∙◌, sym, subst, arith}
+use Rattle.std.proofs.Common.{◌≡◌, ◌≤◌, List, ap, ◌∙◌, sym, subst, arith}
+use Rattle.std.specs.List.{All}
 use Rattle.history.specs.declared.header.Header.{Header}
 use Rattle.word_lock.specs.declared.point.Point.{Point}
 use Rattle.word_lock.specs.Ticket.{opening_tickets}
 use Rattle.monitor.specs.Lawful.{point_of, blank, IsLawful}
-use Rattle.monitor.proofs.Opening.{shows_blank, header_shown}
+use Rattle.monitor.specs.Shown.{Shown}
+use Rattle.monitor.proofs.Opening.{shows_blank, header_shown, opening_own}
 use Rattle.monitor.proofs.monitor.Monitor.open.Goals as goal
 
 header_is : (g : _) (c : goal.After-passes-in-Ok-1 g) → c.in-Ok.lock.header ≡ c.in_ok-kept.kept.core.value.header
@@ -26,6 +28,11 @@ give_passes-requires-clause-lawful g c = subst IsLawful (point_is g c) c.in_ok-k
 pub returns-in-Ok-clause-header : goal.returns-in-Ok-clause-header
 returns-in-Ok-clause-header g c =
     c.in-Ok.ensures.header ∙ (header_shown (point_of c.in_ok-kept.kept.core.value) ∙ c.in_ok-kept.ensures.header)
+
+pub returns-in-Ok-clause-own : goal.returns-in-Ok-clause-own
+returns-in-Ok-clause-own g c =
+    subst (λ (l : List Shown). All (λ (s : Shown). s.lock ≡ c.in-Ok.lock) l) (sym c.give_passes.ensures)
+    (opening_own c.in-Ok.lock (blank c.in-Ok.lock.header) 0 c.args.seats)
 
 pub invariant_of-result : goal.invariant_of-result
 invariant_of-result g c =

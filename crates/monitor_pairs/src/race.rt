@@ -1,0 +1,93 @@
+//! When the threads start and stop.
+
+use std::sync::atomic::{AtomicBool, AtomicU64, Ordering};
+use std::thread;
+use std::time::{Clock, Duration, Instant};
+
+/// How often a thread looks whether the others are there. It goes on without them then, so no thread waits
+/// forever if the system makes too few.
+const LOOKS: u32 = 1_000_000;
+
+/// What ends the work of each thread.
+#[derive(Clone, Copy)]
+pub enum Limit {
+    Pairs(u64),
+    Time(Duration),
+}
+
+/// What the threads at one monitor share beside it.
+#[derive(Drop)]
+pub struct Race {
+    threads: u64,
+    limit: Limit,
+    ready: AtomicU64,
+    is_on: AtomicBool,
+    is_over: AtomicBool,
+    pairs: AtomicU64,
+}
+
+impl Race {
+    pub fn new(threads: u16, limit: Limit) -> Self {
+        Race {
+            threads: u64::from(threads),
+            limit,
+            ready: AtomicU64::new(0),
+            is_on: AtomicBool::new(false),
+            is_over: AtomicBool::new(false),
+            pairs: AtomicU64::new(0),
+        }
+    }
+
+    /// How many pairs a thread makes at most.
+    pub fn most_pairs(&self) -> u64 {
+        match self.limit {
+            Limit::Pairs(pairs) => pairs,
+            Limit::Time(_) => u64::MAX,
+        }
+    }
+
+    /// Starts the threads together, and stops them if their time is limited. Says how long they had.
+    pub fn keep_time<R: Clock>(&self, rt: &R) -> Duration {
+        for _ in 0..LOOKS {
+            if self.threads <= self.ready.load(Ordering::SeqCst) {
+                break;
+            }
+            thread::yield_now();
+        }
+        let start = Instant::now(rt).ok();
+        self.is_on.store(true, Ordering::SeqCst);
+        let Limit::Time(time) = self.limit else {
+            return Duration::ZERO;
+        };
+        thread::sleep(rt, time);
+        self.is_over.store(true, Ordering::SeqCst);
+        start
+            .and_then(|start| start.elapsed(rt).ok())
+            .unwrap_or(time)
+    }
+
+    /// Waits until the threads start together.
+    pub fn wait_for_start(&self) {
+        self.ready.fetch_add(1, Ordering::SeqCst);
+        for _ in 0..LOOKS {
+            if self.is_on.load(Ordering::SeqCst) {
+                break;
+            }
+            thread::yield_now();
+        }
+    }
+
+    pub fn is_over(&self) -> bool {
+        self.is_over.load(Ordering::SeqCst)
+    }
+
+    /// Counts what a thread made.
+    pub fn add(&self, pairs: u64) {
+        self.pairs.fetch_add(pairs, Ordering::SeqCst);
+    }
+
+    /// What all threads made.
+    pub fn pairs(&self) -> u64 {
+        self.pairs.load(Ordering::SeqCst)
+    }
+}
