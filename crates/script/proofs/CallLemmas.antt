@@ -23,13 +23,30 @@ action_words_again (Signal c) lt = rw (condition_again c [] lt) refl
 action_words_again (SignalAll c) lt = rw (condition_again c [] lt) refl
 action_words_again Drain lt = refl
 action_words_again (Acquire m n (Timed ms)) lt =
-    rw (asked_again m n (decimal ms ∷ []) lt.0, number_at_again 0 4294967295 ms [] (omega (arith, lt.1)) (omega arith) (omega (arith, lt.1))) refl
+    rw (
+      asked_again m n (decimal ms ∷ []) lt.0,
+      number_at_again 0 4294967295 ms [] (omega (arith, lt.1))
+          (omega arith) (omega (arith, lt.1)),
+    ) refl
 action_words_again (AwaitOn c (Timed ms)) lt =
-    rw (condition_again c (decimal ms ∷ []) lt.0, number_at_again 0 4294967295 ms [] (omega (arith, lt.1)) (omega arith) (omega (arith, lt.1))) refl
+    rw (
+      condition_again c (decimal ms ∷ []) lt.0,
+      number_at_again 0 4294967295 ms [] (omega (arith, lt.1))
+          (omega arith) (omega (arith, lt.1)),
+    ) refl
 
 action_plain : (a : Action) → HasAmounts a → ArePlain (action_words a)
 action_plain (Acquire m n Plain) lt = (refl, (mode_plain m, (decimal_plain n (omega (arith, lt)), tt)))
-action_plain (Acquire m n Interruptible) lt = (refl, (mode_plain m, (decimal_plain n (omega (arith, lt)), tt)))
+action_plain (Acquire m n Interruptible) lt = (
+  refl,
+  (
+    mode_plain m,
+    (
+      decimal_plain n (omega (arith, lt)),
+      tt,
+    ),
+  ),
+)
 action_plain (Acquire m n (Timed ms)) lt = (
   refl,
   (mode_plain m, (decimal_plain n (omega (arith, lt.0)), (decimal_plain ms (omega (arith, lt.1)), tt))),
@@ -44,18 +61,23 @@ action_plain (Signal c) lt = (refl, (decimal_plain c (omega (arith, lt)), tt))
 action_plain (SignalAll c) lt = (refl, (decimal_plain c (omega (arith, lt)), tt))
 action_plain Drain lt = (refl, tt)
 
-cut_again : (ws : Words) (x : Action × Words) → ArePlain ws → action_at ws ≡ Some x → words_of (line_of ws) ≡ ws
+cut_again : (ws : Words) (x : Action × Words) → ArePlain ws → action_at ws ≡ Some x →
+    words_of (line_of ws) ≡ ws
 unfolding action_at
 cut_again [] x plain read = absurd cc
 cut_again (w ∷ ws) x plain read = words_again w ws plain
 
-pub action_again : (a : Action) → HasAmounts a → action_at (words_of (line_of (action_words a))) ≡ Some (a, [])
+pub action_again : (a : Action) → HasAmounts a → action_at (words_of (line_of (action_words a))) ≡ Some (
+  a,
+  [],
+)
 action_again a lt =
     let read = action_words_again a lt in
     ap action_at (cut_again (action_words a) (a, []) (action_plain a lt) read) ∙ read
 
 -- behind a name and a space
-pub behind_name : (name : List ℕ) (a : Action) → line_of (name ∷ action_words a) ≡ name ++ 32 ∷ line_of (action_words a)
+pub behind_name : (name : List ℕ) (a : Action) → line_of (name ∷ action_words a) ≡ name ++ 32
+    ∷ line_of (action_words a)
 behind_name name (Acquire m n Plain) = refl
 behind_name name (Acquire m n Interruptible) = refl
 behind_name name (Acquire m n (Timed ms)) = refl

@@ -16,7 +16,8 @@ use Rattle.script.proofs.CallLemmas.{behind_name}
 -- the first word of a call, and what stands behind it
 abbrev pub IsCut : List Named → ℕ → Call → List ℕ → List ℕ → Type 0
 IsCut objects threads (On place action) name rest = HasAmounts action
-    × ((o : Named) × (slice_get objects place ≡ Some o) × (name ≡ o.0) × (rest ≡ line_of (action_words action)))
+    × ((o : Named) × (slice_get objects place ≡ Some o) × (name ≡ o.0) × (rest ≡ line_of (action_words
+    action)))
 IsCut objects threads (Interrupt thread) name rest =
     (thread < threads) × (name ≡ codes "interrupt") × (rest ≡ decimal thread)
 
@@ -29,7 +30,8 @@ no_space_in_name b good is = true≢false (sym (subst (λ (n : ℕ). IsTrue (is_
 pub at : (P : Named → Type 0) (xs : List Named) (i : ℕ) (x : Named) → All P xs → slice_get xs i ≡ Some x → P x
 at P xs i x all is = subst P (get_or_from_slice_get xs i x x is) (all i x (slice_get_within xs i x is))
 
-name_cut : (objects : List Named) (threads place : ℕ) (action : Action) (text : List ℕ) (o : Named) (r : Halves) →
+name_cut : (objects : List Named) (threads place : ℕ) (action : Action) (text : List ℕ) (o : Named) (r :
+    Halves) →
     HasAmounts action → slice_get objects place ≡ Some o →
     MatchOption r ⊥ (λ x. (x.0.now ≡ o.0) × (x.1.now ≡ line_of (action_words action))) →
     MatchOption r ⊥ (λ x. IsCut objects threads (On place action) x.0.now x.1.now)
@@ -67,22 +69,26 @@ no_interrupt objects threads (On place action) name rest names is none cut =
     (at (λ o. IsName o.0) objects place cut.1.0 names cut.1.1).other (sym cut.1.2 ∙ is)
 no_interrupt objects threads (Interrupt thread) name rest names is none cut = none thread cut.0 cut.2
 
-pub no_object : (objects : List Named) (threads : ℕ) (c : Call) (name rest : List ℕ) → name ≢ codes "interrupt" →
+pub no_object : (objects : List Named) (threads : ℕ) (c : Call) (name rest : List ℕ) →
+    name ≢ codes "interrupt" →
     All (λ o. o.0 ≢ name) objects → IsCut objects threads c name rest → ⊥
 no_object objects threads (On place action) name rest other none cut =
     at (λ o. o.0 ≢ name) objects place cut.1.0 none cut.1.1 (sym cut.1.2)
 no_object objects threads (Interrupt thread) name rest other none cut = other cut.1
 
-pub no_action : (objects : List Named) (threads : ℕ) (c : Call) (name rest : List ℕ) → name ≢ codes "interrupt" →
+pub no_action : (objects : List Named) (threads : ℕ) (c : Call) (name rest : List ℕ) →
+    name ≢ codes "interrupt" →
     ((a : Action) → HasAmounts a → rest ≢ line_of (action_words a)) → IsCut objects threads c name rest → ⊥
 no_action objects threads (On place action) name rest other none cut = none action cut.0 cut.1.3
 no_action objects threads (Interrupt thread) name rest other none cut = other cut.1
 
-pub interrupt_joined : (text name rest : List ℕ) (thread : ℕ) → text ≡ name ++ 32 ∷ rest → name ≡ codes "interrupt" →
+pub interrupt_joined : (text name rest : List ℕ) (thread : ℕ) → text ≡ name ++ 32 ∷ rest →
+    name ≡ codes "interrupt" →
     rest ≡ decimal thread → text ≡ line_of (codes "interrupt" ∷ decimal thread ∷ [])
 interrupt_joined text name rest thread parts is number = parts ∙ ap (λ (n : List ℕ). n ++ 32 ∷ rest) is
     ∙ ap (λ (r : List ℕ). codes "interrupt" ++ 32 ∷ r) number
 
 pub name_joined : (text name rest : List ℕ) (a : Action) → text ≡ name ++ 32 ∷ rest →
     rest ≡ line_of (action_words a) → text ≡ line_of (name ∷ action_words a)
-name_joined text name rest a parts is = parts ∙ ap (λ (r : List ℕ). name ++ 32 ∷ r) is ∙ sym (behind_name name a)
+name_joined text name rest a parts is = parts ∙ ap (λ (r : List ℕ). name ++ 32 ∷ r) is
+    ∙ sym (behind_name name a)

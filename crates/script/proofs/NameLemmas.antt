@@ -17,14 +17,16 @@ Entry = String Global × Header
 abbrev is_of : List ℕ → String Global → Bool
 is_of name k = bytes_eq name (string_bytes k)
 
-at_place : (name : List ℕ) (es : List Entry) (i : ℕ) (d : Entry) → position (is_of name) (keys_of es) ≡ Some i →
+at_place : (name : List ℕ) (es : List Entry) (i : ℕ) (d : Entry) →
+    position (is_of name) (keys_of es) ≡ Some i →
     (h : Header) × (slice_get (named es) i ≡ Some (name, h))
 at_place name es i d found =
     let known = position-Some (is_of name) (keys_of es) i d.0 found in
     let within : i < length es = rw (← length-map es (λ (e : Entry). e.0)) known.0 in
     let e = get_or es i d in
     let key : get_or (keys_of es) i d.0 ≡ e.0 = get_or-map (λ (e : Entry). e.0) es i d d.0 within in
-    let is : name ≡ string_bytes e.0 = (bytes_eq-Decides name (string_bytes e.0)).0 (ap (is_of name) (sym key) ∙ known.1) in (
+    let is : name ≡ string_bytes e.0 = (bytes_eq-Decides name (string_bytes e.0)).0 (ap (is_of name) (sym
+    key) ∙ known.1) in (
       e.1,
       slice_get-map (λ (e : Entry). (string_bytes e.0, e.1)) es i
           ∙ ap (option_map (λ (e : Entry). (string_bytes e.0, e.1))) (slice_get-get_or es i d within)
@@ -36,7 +38,8 @@ at_position : (name : List ℕ) (es : List Entry) (i : ℕ) → position (is_of 
 at_position name [] i found = absurd cc
 at_position name (e ∷ es) i found = at_place name (e ∷ es) i e found
 
-others : (name : List ℕ) (es : List Entry) → lookup (is_of name) es ≡ None → AllByRecursion (λ o. o.0 ≢ name) (named es)
+others : (name : List ℕ) (es : List Entry) → lookup (is_of name) es ≡ None →
+    AllByRecursion (λ o. o.0 ≢ name) (named es)
 others name [] none = tt
 others name (e ∷ es) none = by (is_of name e.0) refl none (others name es)
   where
@@ -58,7 +61,8 @@ none_from : {A : Type 0} (x : Option A) → false ≡ is_some x → x ≡ None
 none_from None e = refl
 none_from (Some x) e = absurd cc
 
-pub unplaced : (name : List ℕ) (es : List Entry) (r : Option ℕ) → is_some r ≡ is_some (lookup (is_of name) es) →
+pub unplaced : (name : List ℕ) (es : List Entry) (r : Option ℕ) →
+    is_some r ≡ is_some (lookup (is_of name) es) →
     IfNone r (All (λ o. o.0 ≢ name) (named es))
 unplaced name es None e = All-from_recursion _ (named es) (others name es (none_from _ e))
 unplaced name es (Some i) e = tt

@@ -31,7 +31,8 @@ same_text : (m n : List ℕ) → string m ≡ string n → m ≡ n
 same_text m n e = cc
 
 -- the two texts that a value has are those of the object that it is
-pub two_texts : (d : Data) (vs : List Value) (a b : Value) (name part : List ℕ) (o : Named) → vs ≡ a ∷ b ∷ [] →
+pub two_texts : (d : Data) (vs : List Value) (a b : Value) (name part : List ℕ) (o : Named) →
+    vs ≡ a ∷ b ∷ [] →
     d ≡ array (items_of (map view vs)) → d ≡ object_value o → view a ≡ string name → view b ≡ string part →
     (name ≡ o.0) × (part ≡ part_of o.1)
 two_texts d vs a b name part o two is spelt first second =
@@ -48,13 +49,18 @@ abbrev Entry : Type 0
 Entry = String Global × Header
 
 appended : (es : List Entry) (k : String Global) (h : Header) (name : List ℕ) → string_bytes k ≡ name →
-    AllByRecursion (λ b. b.0 ≢ name) (named es) → named (insert_entry string_eq es k h) ≡ named es ++ (name, h) ∷ []
+    AllByRecursion (λ b. b.0 ≢ name) (named es) → named (insert_entry string_eq es k h) ≡ named es ++ (
+      name,
+      h,
+    ) ∷ []
 appended [] k h name is new = ap (λ (n : List ℕ). (n, h) ∷ []) is
 appended (e ∷ es) k h name is new = by (string_eq k e.0) refl (appended es k h name is new.1)
   where
-    by : (b : Bool) → string_eq k e.0 ≡ b → named (insert_entry string_eq es k h) ≡ named es ++ (name, h) ∷ [] →
+    by : (b : Bool) → string_eq k e.0 ≡ b → named (insert_entry string_eq es k h) ≡ named es ++ (name, h)
+        ∷ [] →
         named (cond b ((e.0, h) ∷ es) (e ∷ insert_entry string_eq es k h)) ≡ named (e ∷ es) ++ (name, h) ∷ []
-    by true same rest = absurd (new.0 (sym ((bytes_eq-Decides (string_bytes k) (string_bytes e.0)).0 same) ∙ is))
+    by true same rest = absurd (new.0 (sym ((bytes_eq-Decides (string_bytes k) (string_bytes e.0)).0 same) ∙
+        is))
     by false same rest = ap (λ (os : List Named). (string_bytes e.0, e.1) ∷ os) rest
 
 pub inserted : (es : List Entry) (k : String Global) (h : Header) (name : List ℕ) → string_bytes k ≡ name →

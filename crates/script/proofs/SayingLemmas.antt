@@ -17,10 +17,12 @@ module _ {T : Type 0} (Says : List T → Data → T → Type 0) where
   more before (w ∷ ws) [] v x say next = absurd say
   more before (w ∷ ws) (y ∷ ys) v x say next = (
     say.0,
-    more (before ++ y ∷ []) ws ys v x say.1 (subst (λ (b : List T). Says b v x) (sym (append_assoc before (y ∷ []) ys)) next),
+    more (before ++ y ∷ []) ws ys v x say.1 (subst (λ (b : List T). Says b v x) (sym (append_assoc before (y
+        ∷ []) ys)) next),
   )
 
-  pub say_next : (values : List Value) (i : ℕ) (v : Value) (xs : List T) (x : T) → slice_get values i ≡ Some v →
+  pub say_next : (values : List Value) (i : ℕ) (v : Value) (xs : List T) (x : T) →
+      slice_get values i ≡ Some v →
       Say Says [] (take i (map view values)) xs → Says xs (view v) x →
       Say Says [] (take (i + 1) (map view values)) (xs ++ x ∷ [])
   say_next values i v xs x here say next =
@@ -44,7 +46,8 @@ module _ {T : Type 0} (Says : List T → Data → T → Type 0) where
     bad = bad;
   }
 
-  pub said_length : (before : List T) (vs : List Data) (xs : List T) → Say Says before vs xs → length vs ≡ length xs
+  pub said_length : (before : List T) (vs : List Data) (xs : List T) → Say Says before vs xs →
+      length vs ≡ length xs
   said_length before [] [] say = refl
   said_length before [] (x ∷ xs) say = absurd say
   said_length before (v ∷ vs) [] say = absurd say

@@ -39,7 +39,8 @@ pub is_script : (value : Data) (s : ScriptView) → Says value s → IsScript s
 is_script value s says =
     let threads = length says.threads in
     let objects = said_length (SaysObject threads) [] says.objects s.objects says.each_object in
-    let workers = said_length (SaysWorker s.objects threads) [] says.threads s.workers says.each_worker in record {
+    let workers = said_length (SaysWorker s.objects threads) [] says.threads s.workers says.each_worker in
+    record {
       some_object = omega (arith, objects, says.top.object_list.enough);
       few_objects = omega (arith, objects, says.top.object_list.few);
       some_worker = omega (arith, workers, says.top.thread_list.enough);
@@ -55,7 +56,8 @@ is_script value s says =
 -- a fault of the thread at a place, behind good ones
 threads_fault : (objects : List Named) (threads : ℕ) (values : List Value) (i : ℕ) (v : Value)
     (ws : List WorkerView) (f : ScriptFault) → slice_get values i ≡ Some v →
-    Say (SaysWorker objects threads) [] (take i (map view values)) ws → IsThreadFault objects threads i (view v) f →
+    Say (SaysWorker objects threads) [] (take i (map view values)) ws →
+    IsThreadFault objects threads i (view v) f →
     IsThreadsFault objects threads (map view values) f
 threads_fault objects threads values i v ws NotJson here say fault = absurd fault
 threads_fault objects threads values i v ws BadTop here say fault = absurd fault
@@ -63,7 +65,8 @@ threads_fault objects threads values i v ws (BadObject place) here say fault = a
 threads_fault objects threads values i v ws OutOfMemory here say fault = tt
 threads_fault objects threads values i v ws (BadThread t) here say fault =
     subst (λ (n : ℕ). IsThreadsFault objects threads (map view values) (BadThread n)) (sym fault.0)
-    (stops_here (SaysWorker objects threads) (λ before value. HasNoRounds value) values i v ws here say fault.1)
+    (stops_here (SaysWorker objects threads) (λ before value. HasNoRounds value) values i v ws here say
+    fault.1)
 threads_fault objects threads values i v ws (BadCall t place) here say fault =
     subst (λ (n : ℕ). IsThreadsFault objects threads (map view values) (BadCall n place)) (sym fault.0)
     (stops_here (SaysWorker objects threads) (λ before value. HasBadCall objects threads place value)

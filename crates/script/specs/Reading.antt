@@ -65,7 +65,8 @@ abbrev pub IsThreadsFault : List Named → ℕ → List Data → ScriptFault →
 IsThreadsFault objects threads values (BadThread thread) =
     StopsAt (SaysWorker objects threads) values thread (λ before value. HasNoRounds value)
 IsThreadsFault objects threads values (BadCall thread place) =
-    StopsAt (SaysWorker objects threads) values thread (λ before value. HasBadCall objects threads place value)
+    StopsAt (SaysWorker objects threads) values thread (λ before value. HasBadCall objects threads place
+    value)
 IsThreadsFault objects threads values OutOfMemory = Unit {0}
 IsThreadsFault objects threads values _ = ⊥
 

@@ -18,7 +18,8 @@ use std::alloc::Global;
 fn named_header(value: &Value, threads: usize) -> Option<(&str, Header)>
     ensures found { IfSome result (λ o. IsObject threads (o.0.now, o.1)
         × (view value.entry.now ≡ object_value (o.0.now, o.1))) }
-    ensures none { IfNone result ((o : Named) → IsObject threads o → ¬ (view value.entry.now ≡ object_value o)) }
+    ensures none { IfNone result ((o : Named) → IsObject threads o
+        → ¬ (view value.entry.now ≡ object_value o)) }
 {
     let [name, part] = list_of(value, 2, 2)? else {
         return None;
@@ -40,7 +41,8 @@ fn new_object<'a>(
 ) -> Option<(&'a str, Header)>
     ensures found { IfSome result (λ o. SaysObject threads (named objects.entry.now.entries)
         (view value.entry.now) (o.0.now, o.1)) }
-    ensures none { IfNone result (SaysNoObject threads (named objects.entry.now.entries) (view value.entry.now)) }
+    ensures none { IfNone result (SaysNoObject threads (named objects.entry.now.entries)
+        (view value.entry.now)) }
 {
     let (name, header) = named_header(value, threads)?;
     match place_of(name, objects) {

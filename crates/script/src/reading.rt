@@ -44,7 +44,8 @@ fn value_of(alloc: Global, text: &[u8]) -> Result<Value, ScriptFault>
 fn top_of(value: &Value) -> Option<Top<'_>>
     ensures found { IfSome result (λ t. IsTop (view value.entry.now) (map view t.objects.now)
         (map view t.threads.now)) }
-    ensures none { IfNone result ((objects threads : List Data) → ¬ IsTop (view value.entry.now) objects threads) }
+    ensures none { IfNone result ((objects threads : List Data) →
+        ¬ IsTop (view value.entry.now) objects threads) }
 {
     let (objects, threads) = members_of(value, "objects", "threads")?;
     Some(Top {
@@ -55,15 +56,22 @@ fn top_of(value: &Value) -> Option<Top<'_>>
 
 /// The script that a text says, or its first fault.
 ///
-/// The text is a JSON object with two keys. `objects` has a list of 1 to 64 pairs, a name and the object part of a
-/// header as in a steps text, whose seats are as many as the threads. A name has 1 to 32 of `a` to `z`, `0` to `9`
-/// and `-`, isn't `interrupt`, and stands there once. `threads` has a list of 1 to 256 objects, each with two keys:
-/// `repeat`, a whole number from 1 to 1000000 without fraction and exponent, and `calls`, a list of at most 10000
+/// The text is a JSON object with two keys. `objects` has a list of 1 to 64 pairs, a name and the object part
+/// of a
+/// header as in a steps text, whose seats are as many as the threads. A name has 1 to 32 of `a` to `z`, `0`
+/// to `9`
+/// and `-`, isn't `interrupt`, and stands there once. `threads` has a list of 1 to 256 objects, each with two
+/// keys:
+/// `repeat`, a whole number from 1 to 1000000 without fraction and exponent, and `calls`, a list of at most
+/// 10000
 /// texts. What a text of a call says is [`Action`](crate::Action)'s matter.
 ///
-/// A key that stands in an object twice has its last value, as in `serde_json`. Text that nests deeper than 127
-/// levels isn't JSON here, and neither is a number that is too large for a float. The error tells what comes first:
-/// the text, the top, the objects in their order, then each thread with its calls. It is OutOfMemory only where
+/// A key that stands in an object twice has its last value, as in `serde_json`. Text that nests deeper than
+/// 127
+/// levels isn't JSON here, and neither is a number that is too large for a float. The error tells what comes
+/// first:
+/// the text, the top, the objects in their order, then each thread with its calls. It is OutOfMemory only
+/// where
 /// memory was refused. Time and memory grow linearly with the text.
 pub fn read_script(alloc: Global, text: &[u8]) -> Result<Script, ScriptFault>
     ensures { Reads text.now result }

@@ -10,7 +10,8 @@ use std::marker::Model;
 
 /// Objects by their names, and threads with the calls that each makes of them.
 ///
-/// The thread at a place is the worker of that number, counted from 0, and has the seat of that number in every
+/// The thread at a place is the worker of that number, counted from 0, and has the seat of that number in
+/// every
 /// object. [`read_script`](crate::read_script) makes scripts and nothing else does, so each meets all limits.
 #[derive(Debug, Drop)]
 pub struct Script {
@@ -25,7 +26,10 @@ impl Model for Script {
 
     ghost view = { λ s. record { objects = named s.objects.entries; workers = s.workers.items } };
 
-    ghost invariant = { λ s. IsScript (record { objects = named s.objects.entries; workers = s.workers.items }) };
+    ghost invariant = { λ s. IsScript (record {
+      objects = named s.objects.entries;
+      workers = s.workers.items;
+    }) };
 }
 
 impl Script {

@@ -48,9 +48,10 @@ fn calls_of(
 ) -> Result<Vec<Call>, ScriptFault>
     requires threads { threads ≤ 256 }
     requires names { All (λ o. IsName o.0) (named objects.now.entries) }
-    ensures ok { IfOk result (λ cs. Say (SaysCall (named objects.now.entries) threads) [] (map view values.now)
-        cs.items) }
-    ensures err { IfErr result (IsCallsFault (named objects.now.entries) threads thread (map view values.now)) }
+    ensures ok { IfOk result (λ cs. Say (SaysCall (named objects.now.entries) threads) []
+        (map view values.now) cs.items) }
+    ensures err { IfErr result (IsCallsFault (named objects.now.entries) threads thread
+        (map view values.now)) }
 {
     let mut calls = Vec::with_capacity(alloc, values.len())?;
     for (place, value) in values.iter().enumerate() {
@@ -66,10 +67,10 @@ fn calls_of(
 fn call_in(value: &Value, objects: &IndexMap<String, Header>, threads: usize) -> Option<Call>
     requires threads { threads ≤ 256 }
     requires names { All (λ o. IsName o.0) (named objects.now.entries) }
-    ensures found { IfSome result (λ c. (before : List Call) → SaysCall (named objects.now.entries) threads before
-        (view value.now) c) }
-    ensures none { IfNone result ((before : List Call) (c : Call) → ¬ (SaysCall (named objects.now.entries) threads
-        before (view value.now) c)) }
+    ensures found { IfSome result (λ c. (before : List Call) →
+        SaysCall (named objects.now.entries) threads before (view value.now) c) }
+    ensures none { IfNone result ((before : List Call) (c : Call) →
+        ¬ (SaysCall (named objects.now.entries) threads before (view value.now) c)) }
 {
     call_of(text_of(value)?, objects, threads)
 }

@@ -1,4 +1,5 @@
-//! Tests of scripts: that the definitions say what was meant, the words of the faults, that scripts are read where
+//! Tests of scripts: that the definitions say what was meant, the words of the faults, that scripts are read
+//! where
 //! there is memory, and that nothing is where it is refused.
 #![tactic(auto)]
 

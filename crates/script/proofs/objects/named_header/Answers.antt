@@ -10,14 +10,16 @@ use Rattle.script.proofs.objects.named_header.Goals.{else-is_name-via-then-is_na
 
 pub returns-in_err-list_of-clause-none : goal.returns-in_err-list_of-clause-none
 returns-in_err-list_of-clause-none c =
-    rw c.from_residual.ensures (λ o good is. c.in_err-list_of.ensures.none (string o.0 ∷ string (part_of o.1) ∷ [])
+    rw c.from_residual.ensures (λ o good is. c.in_err-list_of.ensures.none (string o.0
+    ∷ string (part_of o.1) ∷ [])
     (record { enough = omega arith; few = omega arith; is = is }))
 
 pub returns-else-is_name-clause-none : goal.returns-else-is_name-clause-none
 returns-else-is_name-clause-none c = λ o good is.
     let list = c.in_ok-list_of.field-0.now in
     let has = c.in_ok-list_of.ensures.found in
-    let two = two_items list c.name-item.result c.part-item.result (search rules) c.name-item.is c.part-item.is in
+    let two = two_items list c.name-item.result c.part-item.result (search rules) c.name-item.is
+    c.part-item.is in
     let texts =
     two_texts (view c.args.value.now) list c.name-item.result c.part-item.result c.in_ok-name.name.now
     c.in_ok-text_of.field-0.now o two has.is is c.in_ok-name.ensures.found c.in_ok-text_of.ensures.found in
@@ -28,5 +30,6 @@ returns-else-is_name-clause-none c = λ o good is.
       | else-is_name-via-then-is_name+else-from-threads w ↦
           w.if-from-threads.false (w.from.ensures ∙ ap (λ (h : Header). h.seats) header ∙ good.seats)
       | else-is_name-via-else-is_name w ↦
-          true≢false (sym (c.is_name.ensures.1 (subst (λ (n : List ℕ). IsName n) (sym texts.0) good.name)) ∙ w.if-is_name.false)
+          true≢false (sym (c.is_name.ensures.1 (subst (λ (n : List ℕ). IsName n) (sym texts.0) good.name)) ∙
+          w.if-is_name.false)
     ]

@@ -11,7 +11,8 @@ use Rattle.script.proofs.reading.read_script.Goals as goal
 
 pub workers_of-requires-clause-names : goal.workers_of-requires-clause-names
 workers_of-requires-clause-names c =
-    said_all (SaysObject _) (λ o. IsName o.0) (λ before v o says. says.good.name) _ (named c.in_ok-objects.objects.entries)
+    said_all (SaysObject _) (λ o. IsName o.0) (λ before v o says. says.good.name) _ (named
+    c.in_ok-objects.objects.entries)
     c.in_ok-objects.ensures.ok
 
 pub new-requires : goal.new-requires

@@ -14,9 +14,11 @@ returns-in_default-clause-err c =
     let value = c.index-values-place.result in
     let objects = named c.args.objects.now.entries in
     let calls = c.loop-place.calls.items in
-    let here = slice_get_read values (length values) c.loop-place.place value refl c.loop-place-test.true c.index-values-place.is in (
+    let here = slice_get_read values (length values) c.loop-place.place value refl c.loop-place-test.true
+    c.index-values-place.is in (
       refl,
-      stops_here (SaysCall objects c.args.threads) (SaysNoCall objects c.args.threads) values c.loop-place.place value
+      stops_here (SaysCall objects c.args.threads) (SaysNoCall objects c.args.threads) values
+          c.loop-place.place value
           calls here c.loop-place.invariant.said (c.in_default.ensures.none calls),
     )
 
@@ -26,10 +28,12 @@ loop-place-preserved c =
     let value = c.index-values-place.result in
     let objects = named c.args.objects.now.entries in
     let calls = c.loop-place.calls.items in
-    let here = slice_get_read values (length values) c.loop-place.place value refl c.loop-place-test.true c.index-values-place.is in
+    let here = slice_get_read values (length values) c.loop-place.place value refl c.loop-place-test.true
+    c.index-values-place.is in
     record {
       said = subst (λ (cs : List Call). Say (SaysCall objects c.args.threads) []
           (take (c.loop-place.place + 1) (map view values)) cs) (sym c.in_ok-push.ensures.items)
-          (say_next (SaysCall objects c.args.threads) values c.loop-place.place value calls c.in-Some.call here
+          (say_next (SaysCall objects c.args.threads) values c.loop-place.place value calls c.in-Some.call
+          here
           c.loop-place.invariant.said (c.in-Some.ensures.found calls));
     }

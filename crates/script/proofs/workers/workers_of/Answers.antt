@@ -11,7 +11,8 @@ pub returns-in_err-worker_of-clause-err : goal.returns-in_err-worker_of-clause-e
 returns-in_err-worker_of-clause-err c =
     let values = c.args.values.now in
     let value = c.index-values-thread.result in
-    let here = slice_get_read values (length values) c.loop-thread.thread value refl c.loop-thread-test.true c.index-values-thread.is in
+    let here = slice_get_read values (length values) c.loop-thread.thread value refl c.loop-thread-test.true
+    c.index-values-thread.is in
     fault_passed (named c.args.objects.now.entries) (length values) values c.loop-thread.thread value
     c.loop-thread.workers.items c.from_residual-in_err-worker_of.result c.in_err-worker_of.field-0.0
     c.from_residual-in_err-worker_of.ensures here c.loop-thread.invariant.said c.in_err-worker_of.ensures.err
@@ -22,9 +23,11 @@ loop-thread-preserved c =
     let value = c.index-values-thread.result in
     let says = SaysWorker (named c.args.objects.now.entries) (length values) in
     let workers = c.loop-thread.workers.items in
-    let here = slice_get_read values (length values) c.loop-thread.thread value refl c.loop-thread-test.true c.index-values-thread.is in
+    let here = slice_get_read values (length values) c.loop-thread.thread value refl c.loop-thread-test.true
+    c.index-values-thread.is in
     record {
-      said = subst (λ (ws : List WorkerView). Say says [] (take (c.loop-thread.thread + 1) (map view values)) ws)
+      said = subst (λ (ws : List WorkerView). Say says [] (take (c.loop-thread.thread + 1) (map view
+          values)) ws)
           (sym c.in_ok-push.ensures.items)
           (say_next says values c.loop-thread.thread value workers c.in_ok-worker_of.field-0 here
           c.loop-thread.invariant.said (c.in_ok-worker_of.ensures.ok workers));
