@@ -10,6 +10,7 @@ from kit import rt
 from said import Said
 
 ONE_JOB = ["--jobs", "1"]
+REFUSALS = (rt.REFUSED, rt.AT_LIMIT)  # by a failing goal, or by a limit of the prover's own, as rt ci counts them
 MOST = 60  # wrong bodies in one check: a crate has seldom more, and a check of so many still takes some 1.5 GB
 
 
@@ -88,12 +89,12 @@ class Trial:
 
     def alone(self, edit):
         at = seconds()
-        well, text = self.over_a_copy(lambda copy: rt.must_fail(self.crate, edit, ONE_JOB, copy))
-        if not well:
-            well, text = rt.must_fail(self.crate, edit, ONE_JOB)
+        kind, text = self.over_a_copy(lambda copy: rt.must_fail(self.crate, edit, ONE_JOB, copy))
+        if kind not in REFUSALS:
+            kind, text = rt.must_fail(self.crate, edit, ONE_JOB)
         is_by_name = "only because a proof file names" in text
         text = text.partition(": ")[2] + f" (alone, {seconds() - at:.0f} s)"
-        return Result(well and not is_by_name, True, text)
+        return Result(kind in REFUSALS and not is_by_name, True, text)
 
     def run(self, all_alone):
         """Tries all, and returns what came of each edit, in their order."""
