@@ -1,5 +1,5 @@
 -- What is answered where an entry was added, or not.
-use Rattle.std.proofs.Common.{◌≡◌, inl, inr, ⊎_elim, ℕ, ◌<◌, eqb, true, false, not, ◌&&◌, List, [], ◌∷◌, ◌++◌, Option, Some, None, Result, Ok, Err, refl, ap, ◌∙◌, sym, subst}
+use Rattle.std.proofs.Common.{◌≡◌, inl, inr, ⊎_elim, ℕ, ◌<◌, eqb, true, false, not, ◌&&◌, [], ◌∷◌, ◌++◌, Option, Some, None, Result, Ok, Err, refl, ap, ◌∙◌, sym, subst}
 use Rattle.std.specs.Prelude.{IfOk, IfSome}
 use Rattle.std.specs.List.{All}
 use Rattle.std.proofs.lemmas.Bool.{cond_both}
@@ -18,10 +18,10 @@ use Rattle.history.specs.Naming.{ready, named, named_by}
 use Rattle.history.specs.Room.{has_room, was_owed}
 use Rattle.history.specs.Steps.{entry_for}
 use Rattle.history.proofs.Changes.{counts_nothing, held_same}
-use Rattle.frame.specs.Core.{CoreView, start_of, IsAdded, IsAnswer, IsAnswered, IsRecorded, KeepsHolds, LacksMemory, MakesOwed, made_by, IsOf, NamesBelow}
+use Rattle.frame.specs.Core.{CoreView, start_of, IsAdded, IsAnswer, IsAnswered, IsRecorded, KeepsHolds, LacksMemory, MakesOwed, made_by, places_with, IsOf, NamesBelow}
 
 abbrev with_entry : CoreView → Entry → CoreView
-with_entry v e = record v { entries = e ∷ v.entries }
+with_entry v e = record v { entries = e ∷ v.entries; places = places_with v e }
 
 -- an entry that has room, and one that hasn't
 room_for : (v : CoreView) (e : Entry) → has_room (start_of v) v.entries e ≡ true →
@@ -49,6 +49,7 @@ recorded_now v new e u before after name is b a n =
           ∙ sym (ap (λ p. p.0) made);
       entries = ap (λ (w : CoreView). w.entries) is.1 ∙ sym (ap (λ p. p.1) made);
       header = ap (λ (w : CoreView). w.header) is.1;
+      places = ap (λ (w : CoreView). w.places) is.1;
     })
 
 pub recorded_not : (v new : CoreView) (e : Entry) (f : Fault) → IsAdded v e (Err f) new →
@@ -59,9 +60,20 @@ recorded_not v new e HistoryFull is =
       answer = sym (ap (λ p. p.0) made);
       entries = ap (λ (w : CoreView). w.entries) is.2 ∙ sym (ap (λ p. p.1) made);
       header = ap (λ (w : CoreView). w.header) is.2;
+      places = ap (λ (w : CoreView). w.places) is.2;
     })
 recorded_not v new e OutOfMemory is =
-    inr (refl, record { entry = e; is = refl; has_room = is.0; not_owed = is.1; unchanged = is.2 })
+    inr (
+      refl,
+      record {
+        entry = e;
+        is = refl;
+        has_room = is.0;
+        lacks_places = is.3;
+        not_owed = is.1;
+        unchanged = is.2;
+      },
+    )
 recorded_not v new e _ is = absurd is
 
 -- nothing has changed after a fault, and a fault isn't answered to an entry that was owed
@@ -93,13 +105,23 @@ pub answered_fault : (v : CoreView) (i : ℕ) (step : Step) (f : Fault) →
     IsAnswered v i step (Err f) v
 answered_fault v i step f q =
     let made = ap (answer_by (start_of v) v.entries) q in
-    inl (record { answer = sym (ap (λ p. p.0) made); entries = sym (ap (λ p. p.1) made); header = refl })
+    inl (record {
+      answer = sym (ap (λ p. p.0) made);
+      entries = sym (ap (λ p. p.1) made);
+      header = refl;
+      places = refl;
+    })
 
 pub answered_sleep : (v : CoreView) (i : ℕ) (step : Step) → entry_for (start_of v) v.entries i step ≡ Ok None →
     IsAnswered v i step (Ok Sleep) v
 answered_sleep v i step q =
     let made = ap (answer_by (start_of v) v.entries) q in
-    inl (record { answer = sym (ap (λ p. p.0) made); entries = sym (ap (λ p. p.1) made); header = refl })
+    inl (record {
+      answer = sym (ap (λ p. p.0) made);
+      entries = sym (ap (λ p. p.1) made);
+      header = refl;
+      places = refl;
+    })
 
 pub answered_entry : (v new : CoreView) (i : ℕ) (step : Step) (e : Entry) (r : Result Answer Fault) →
     entry_for (start_of v) v.entries i step ≡ Ok (Some e) → IsRecorded v e r new → IsAnswered v i step r new
@@ -111,6 +133,7 @@ answered_entry v new i step e r q is =
       answer = a.answer ∙ sym (ap (λ p. p.0) made);
       entries = a.entries ∙ sym (ap (λ p. p.1) made);
       header = a.header;
+      places = a.places;
     }))
     (λ (l : (r ≡ Err OutOfMemory) × LacksMemory v (Ok (Some e)) new).
     inr (
@@ -119,6 +142,7 @@ answered_entry v new i step e r q is =
         entry = l.1.entry;
         is = q ∙ l.1.is;
         has_room = l.1.has_room;
+        lacks_places = l.1.lacks_places;
         not_owed = l.1.not_owed;
         unchanged = l.1.unchanged;
       },

@@ -1,7 +1,7 @@
 -- What stands for a history stands for it with one entry more.
-use Rattle.std.proofs.Common.{◌≡◌, ◌≢◌, ◌⊎◌, ⊎_elim, ◌↔◌, ℕ, zero, suc, ◌+◌, ◌-◌, ◌^◌, ◌<◌, ◌≤◌, Bool, true, false, List, ◌∷◌, length, get_or, set, Some, Result, Ok, Err, refl, ap, ◌∙◌, sym, subst, arith}
+use Rattle.std.proofs.Common.{◌≡◌, ◌≢◌, ◌⊎◌, ⊎_elim, ◌↔◌, ℕ, ◌+◌, ◌-◌, ◌^◌, ◌<◌, ◌≤◌, max, Bool, true, false, List, ◌∷◌, length, get_or, set, Some, Result, Ok, Err, refl, ap, ◌∙◌, sym, subst, arith}
 use Rattle.std.specs.Prelude.{slice_get}
-use Rattle.std.proofs.lemmas.Bool.{cases_eq, eq-eqb, ne_eqb, le-leb, lt-leb, cases_lt, false≢true}
+use Rattle.std.proofs.lemmas.Bool.{cases_eq, eq-eqb, ne_eqb, le-leb, lt-leb, cases_lt}
 use Rattle.std.proofs.lemmas.List.{length-set, get_or-set_same, get_or-set_other}
 use Rattle.std.proofs.lemmas.Option.{slice_get-get_or, get_or_from_slice_get}
 use Rattle.acquire_queue.specs.Line.{Line}
@@ -15,6 +15,7 @@ use Rattle.history.specs.Counts.{Counts, counts, held}
 use Rattle.history.specs.Entries.{HistoryView}
 use Rattle.history.specs.Header.{IsInRange}
 use Rattle.history.specs.Legal.{IsLegal, AreSeated}
+use Rattle.history.specs.Pages.{whole_pages}
 use Rattle.history.specs.Room.{owed, was_owed, releases, reserves}
 use Rattle.history.specs.Start.{opening}
 use Rattle.history.proofs.RoomLemmas.{owed_releases}
@@ -22,7 +23,7 @@ use Rattle.history.proofs.Entering.{Known, known}
 use Rattle.history.proofs.OneWait.{waits}
 use Rattle.history.proofs.Owing.{owed_step}
 use Rattle.frame.specs.declared.seat.Seat.{Seat}
-use Rattle.frame.specs.Core.{CoreView, Stands, Keeps, IsNext, IsAdded}
+use Rattle.frame.specs.Core.{CoreView, Stands, Keeps, IsNext, IsAdded, with_history}
 use Rattle.frame.specs.Effects.{IsAllowed, counts_after}
 use Rattle.frame.specs.Seat.{seat_of, seat_after, no_holds}
 use Rattle.frame.proofs.Bounds.{exclusive_fits, shared_fits}
@@ -39,9 +40,9 @@ pub record Next (k : Header) (h : List Entry) (e : Entry) : Type 0 where
   pub allowed : IsAllowed e.word (counts (opening k) h) e
   pub counts : counts (opening k) (e ∷ h) ≡ counts_after e.word (counts (opening k) h) e
 
-pub next : (k : Header) (h : List Entry) (e : Entry) → IsLegal (opening k) h → AreSeated (opening k) h →
-    IsNext (record { header = k; entries = h }) e → Next k h e
-next k h e legal seated is =
+pub next : (k : Header) (h : List Entry) (places : ℕ) (e : Entry) → IsLegal (opening k) h →
+    AreSeated (opening k) h → IsNext (record { header = k; entries = h; places = places }) e → Next k h e
+next k h places e legal seated is =
     let more : IsLegal (opening k) (e ∷ h) = ((is.step, is.made), legal) in
     let all : AreSeated (opening k) (e ∷ h) = (is.seat, seated) in
     let m = known (opening k) h is.step e is.made in
@@ -59,9 +60,10 @@ next k h e legal seated is =
 pub next_seen : {agrees : Counts → Type 0} {queue : Line} {waiters : Sleepers} {table : List Seat}
     (k : Header) (kept : HistoryView) (e : Entry)
     (seen : CoreView) → Stands agrees k kept queue waiters table →
-    (let v : CoreView = record { header = k; entries = kept.entries } in v) ≡ seen → IsNext seen e →
+    with_history k kept ≡ seen → IsNext seen e →
     Next k kept.entries e
-next_seen k kept e seen s q is = next k kept.entries e s.legal s.seated (subst (λ v. IsNext v e) (sym q) is)
+next_seen k kept e seen s q is =
+    next k kept.entries kept.places e s.legal s.seated (subst (λ v. IsNext v e) (sym q) is)
 
 -- the table
 pub tabled : (k : Header) (h : List Entry) (table : List Seat) → length table ≡ k.seats →
@@ -141,10 +143,6 @@ needs k h e was owes n p q =
     }
 
 -- room was asked for, and refused
-asks_more : (m len was places : ℕ) → len + was ≤ places → (len + was + m ≤ places → ⊥) → 0 < m
-asks_more zero len was places room f = absurd (f (omega (arith, room)))
-asks_more (suc m) len was places room f = omega arith
-
 not_owed : (k : Header) (h : List Entry) (e : Entry) (was owes : ℕ) → Needs k h e was owes →
     0 < (owes + 1) - was → was_owed k.object e ≡ false
 not_owed k h e was owes n some = by (was_owed k.object e) refl
@@ -155,44 +153,32 @@ not_owed k h e was owes n some = by (was_owed k.object e) refl
 
 pub refused : (k : Header) (e : Entry) (f : Fault) (kept kept' : HistoryView) (was owes needed : ℕ) →
     Needs k kept.entries e was owes → kept.cap ≡ k.cap → was ≡ kept.owed →
-    length kept.entries + was ≤ kept.places → needed ≡ (owes + 1) - was →
+    length kept.entries + was ≤ kept.cap → length kept.entries + was ≤ kept.places →
+    needed ≡ (owes + 1) - was →
     ((◌≡◌ {A = Result (Unit {0}) Fault} (Err f) (Err fault.HistoryFull))
     ↔ (kept.cap < length kept.entries + kept.owed + needed)) →
     (f ≡ fault.HistoryFull) ⊎ (f ≡ fault.OutOfMemory) →
-    (length kept.entries + kept.owed + needed ≤ kept.places → (◌≡◌ {A = Bool} false true)
-    × (kept' ≡ kept)) → kept' ≡ kept →
-    IsAdded (record { header = k; entries = kept.entries }) e (Err f)
-    (record { header = k; entries = kept'.entries })
-refused k e f kept kept' was owes needed n cap is room q full which reserved same =
+    ((◌≡◌ {A = Result (Unit {0}) Fault} (Err f) (Err fault.OutOfMemory))
+    → kept.places < length kept.entries + kept.owed + needed) → kept' ≡ kept →
+    IsAdded (with_history k kept) e (Err f) (with_history k kept')
+refused k e f kept kept' was owes needed n cap is within room q full which memory same =
     ⊎_elim no_room no_memory which
   where
-    v : CoreView
-    v = record { header = k; entries = kept.entries }
-
-    w : CoreView
-    w = record { header = k; entries = kept'.entries }
-
-    unchanged : w ≡ v
-    unchanged =
-        ap (λ (y : HistoryView). (let u : CoreView = record { header = k; entries = y.entries } in u)) same
-
-    some : 0 < (owes + 1) - was
-    some =
-        asks_more _ (length kept.entries) was kept.places room
-        (λ l. let z = (reserved (omega (arith, l, is, q))).0 in false≢true z)
+    err : Fault → Result (Unit {0}) Fault
+    err x = Err x
 
     P : Fault → Type 0
-    P g = IsAdded v e (Err g) w
+    P g = IsAdded (with_history k kept) e (err g) (with_history k kept')
 
     no_room : f ≡ fault.HistoryFull → P f
     no_room p =
         let o = n.owed in
-        let err : Fault → Result (Unit {0}) Fault = λ x. Err x in
-        let over = full.0 (ap err p) in
+        let over = full.0 (ap (λ x. (let r : Result (Unit {0}) Fault = Err x in r)) p) in
+        let some : 0 < (owes + 1) - was = omega (arith, over, within, is, q) in
         let here : P fault.HistoryFull = (
-          lt-leb _ _ (omega (arith, is, room, o, over, some, q, cap)),
+          lt-leb _ _ (omega (arith, is, o, over, some, q, cap)),
           not_owed k kept.entries e was owes n some,
-          unchanged,
+          ap (with_history k) same,
         ) in
         subst P (sym p) here
 
@@ -205,12 +191,37 @@ refused k e f kept kept' was owes needed n cap is room q full which reserved sam
         let z = full.1 over in let d : fault.OutOfMemory ≡ fault.HistoryFull = cc in absurd (cc))
         (λ l. l)
         (cases_lt kept.cap (length kept.entries + kept.owed + needed)) in
+        let lacks = memory (ap (λ x. (let r : Result (Unit {0}) Fault = Err x in r)) p) in
+        let some : 0 < (owes + 1) - was = omega (arith, lacks, room, is, q) in
         let here : P fault.OutOfMemory = (
-          le-leb _ _ (omega (arith, is, room, o, fits, some, q, cap)),
+          le-leb _ _ (omega (arith, is, o, fits, some, q, cap)),
           not_owed k kept.entries e was owes n some,
-          unchanged,
+          ap (with_history k) same,
+          omega (arith, is, o, lacks, some, q),
         ) in
         subst P (sym p) here
+
+-- The places of what was asked for are those that the entry takes, with all that is owed.
+whole_pages_le : (m n : ℕ) → m ≤ n → whole_pages m ≤ whole_pages n
+whole_pages_le m n l = omega (arith, l)
+
+placed : (places places' len was owes needed : ℕ) → needed ≡ (owes + 1) - was →
+    (len + was + needed ≤ places → places' ≡ places) → len + was ≤ places →
+    places' ≡ max places (whole_pages (len + was + needed)) →
+    places' ≡ max places (whole_pages (len + 1 + owes))
+placed places places' len was owes needed q stays room is =
+    ⊎_elim
+    (λ (more : was < owes + 1).
+    let same : len + was + needed ≡ len + 1 + owes = omega (arith, q, more) in
+    is ∙ ap (λ n. max places (whole_pages n)) same)
+    (λ (none : owes + 1 ≤ was).
+    let here = stays (omega (arith, q, none, room)) in
+    let least = whole_pages_le (len + 1 + owes) (len + was + needed) (omega (arith, none)) in
+    by _ _ here is least)
+    (cases_lt was (owes + 1))
+  where
+    by : (n m : ℕ) → places' ≡ places → places' ≡ max places n → m ≤ n → places' ≡ max places m
+    by n m here is least = omega (arith, here, is, least)
 
 -- What is known of the history that the entry was added to, room being there.
 pub record Grown (k : Header) (e : Entry) (kept new : HistoryView) : Type 0 where
@@ -218,12 +229,16 @@ pub record Grown (k : Header) (e : Entry) (kept new : HistoryView) : Type 0 wher
   pub cap : new.cap ≡ kept.cap
   pub owed : new.owed ≡ owed (opening k) (e ∷ kept.entries)
   pub room : length kept.entries + 1 + new.owed ≤ k.cap
+  pub places : new.places ≡ max kept.places (whole_pages (length kept.entries + 1 + new.owed))
 
 pub grown : (k : Header) (e : Entry) (kept mid new : HistoryView) (was owes needed : ℕ) →
     owes ≡ owed (opening k) (e ∷ kept.entries) → was ≡ kept.owed → needed ≡ (owes + 1) - was →
     length mid.entries + mid.owed + needed ≤ mid.cap → mid ≡ record kept { places = mid.places } →
-    kept.cap ≡ k.cap → new ≡ record mid { entries = e ∷ mid.entries; owed = owes } → Grown k e kept new
-grown k e kept mid new was owes needed now is q fits same cap added =
+    kept.cap ≡ k.cap → new ≡ record mid { entries = e ∷ mid.entries; owed = owes } →
+    length kept.entries + was ≤ kept.places →
+    (length kept.entries + kept.owed + needed ≤ kept.places → mid ≡ kept) →
+    mid.places ≡ max kept.places (whole_pages (length kept.entries + kept.owed + needed)) → Grown k e kept new
+grown k e kept mid new was owes needed now is q fits same cap added room stays places =
     let a : length mid.entries ≡ length kept.entries = ap (λ (y : HistoryView). length y.entries) same in
     let b : mid.owed ≡ kept.owed = ap (λ (y : HistoryView). y.owed) same in
     let c : mid.cap ≡ kept.cap = ap (λ (y : HistoryView). y.cap) same in
@@ -234,16 +249,23 @@ grown k e kept mid new was owes needed now is q fits same cap added =
       cap = ap (λ (y : HistoryView). y.cap) added ∙ c;
       owed = o ∙ now;
       room = omega (arith, is, q, fits, cap, a, b, c, o);
+      places = ap (λ (y : HistoryView). y.places) added
+          ∙ placed kept.places mid.places (length kept.entries) kept.owed owes needed
+          (q ∙ ap (λ n. (owes + 1) - n) is)
+          (λ l. ap (λ (y : HistoryView). y.places) (stays l)) (omega (arith, is, room)) places
+          ∙ ap (λ n. max kept.places (whole_pages (length kept.entries + 1 + n))) (sym o);
     }
 
 pub is_added : (k : Header) (e : Entry) (u : Unit {0}) (kept new : HistoryView) → Grown k e kept new →
-    IsAdded (record { header = k; entries = kept.entries }) e (Ok u)
-    (record { header = k; entries = new.entries })
+    IsAdded (with_history k kept) e (Ok u) (with_history k new)
 is_added k e u kept new n =
     let o = n.owed in
-    let fits = n.room in (
+    let fits = n.room in
+    let places = n.places ∙ ap (λ m. max kept.places (whole_pages (length kept.entries + 1 + m))) o in (
       le-leb _ _ (omega (arith, fits, o)),
-      ap (λ g. (let w : CoreView = record { header = k; entries = g } in w)) n.entries,
+      ap (λ g. (let w : CoreView = record { header = k; entries = g; places = new.places } in w)) n.entries
+          ∙ ap (λ m. (let w : CoreView = record { header = k; entries = e ∷ kept.entries; places = m } in w))
+          places,
     )
 
 -- all that is kept

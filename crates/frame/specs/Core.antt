@@ -1,5 +1,5 @@
 -- What a core is to its callers, and how its fields stand for it.
-use Rattle.std.specs.Prelude.{◌≡◌, ◌⊎◌, ◌≤◌, ◌<◌, ℕ, ◌+◌, ◌*◌, Bool, true, false, List, [], ◌∷◌, length, slice_get, Result, Ok, Err, Option, Some, IfSome}
+use Rattle.std.specs.Prelude.{◌≡◌, ◌⊎◌, ◌≤◌, ◌<◌, ℕ, ◌+◌, ◌*◌, max, Bool, true, false, List, [], ◌∷◌, length, slice_get, Result, Ok, Err, Option, Some, IfSome}
 use Rattle.acquire_queue.specs.Line.{Line}
 use Rattle.condition_queue.specs.Sleepers.{Sleepers, asleep_on}
 use Rattle.history.specs.declared.entry.Entry.{Entry}
@@ -19,6 +19,7 @@ use Rattle.history.specs.Header.{IsInRange}
 use Rattle.history.specs.Legal.{IsLegal, AreSeated}
 use Rattle.history.specs.Line.{line, first_mode}
 use Rattle.history.specs.Naming.{ready}
+use Rattle.history.specs.Pages.{whole_pages}
 use Rattle.history.specs.Phase.{Phase, phase}
 use Rattle.history.specs.Room.{owed, has_room, was_owed}
 use Rattle.history.specs.Sleepers.{sleepers, sleeps_below}
@@ -35,6 +36,11 @@ header_of o seats conditions cap = record { object = o; seats = seats; condition
 pub record CoreView : Type 0 where
   pub header : Header
   pub entries : List Entry
+  pub places : ℕ  -- how many entries the reserved memory holds
+
+-- a core with this history
+abbrev pub with_history : Header → HistoryView → CoreView
+with_history k kept = record { header = k; entries = kept.entries; places = kept.places }
 
 -- what stood before the first entry: the object as opened
 abbrev pub start_of : CoreView → Start
@@ -81,36 +87,56 @@ pub record Stands (agrees : Counts → Type 0) (k : Header) (kept : HistoryView)
   pub legal : IsLegal (opening k) kept.entries
   pub seated : AreSeated (opening k) kept.entries
 
+-- the places that an entry takes, with all that is owed before it and behind it
+abbrev pub places_for : CoreView → Entry → ℕ
+places_for v e = length v.entries + 1 + owed (start_of v) (e ∷ v.entries)
+
+-- an entry's places are whole pages, and those that stand are kept
+abbrev pub places_with : CoreView → Entry → ℕ
+places_with v e = max v.places (whole_pages (places_for v e))
+
+-- the places behind an answer: only an entry reserves any
+abbrev pub places_behind : CoreView → Result Answer Fault → ℕ
+places_behind v (Ok (Recorded e named)) = places_with v e
+places_behind v (Ok Sleep) = v.places
+places_behind v (Err fault) = v.places
+
 -- an entry that a step of its seat makes now
 pub record IsNext (v : CoreView) (e : Entry) : Type 0 where
   pub seat : e.seat < v.header.seats
   pub step : Step
   pub made : entry_for (start_of v) v.entries e.seat step ≡ Ok (Some e)
 
--- An entry was added, or there was no room, or no memory. What was owed finds both.
+-- An entry was added, or there was no room, or no memory. What was owed finds both. Memory is lacking only
+-- where places are.
 abbrev pub IsAdded : CoreView → Entry → Result (Unit {0}) Fault → CoreView → Type 0
 IsAdded old e (Ok u) new =
-    (has_room (start_of old) old.entries e ≡ true) × (new ≡ record old { entries = e ∷ old.entries })
+    (has_room (start_of old) old.entries e ≡ true)
+    × (new ≡ record old { entries = e ∷ old.entries; places = places_with old e })
 IsAdded old e (Err HistoryFull) new =
     (has_room (start_of old) old.entries e ≡ false) × (was_owed old.header.object e ≡ false) × (new ≡ old)
 IsAdded old e (Err OutOfMemory) new =
     (has_room (start_of old) old.entries e ≡ true) × (was_owed old.header.object e ≡ false) × (new ≡ old)
+    × (old.places < places_for old e)
 IsAdded old e (Err _) new = ⊥
 
--- Memory was refused to an entry that has room and was owed to nobody, and nothing has changed.
+-- Memory was refused to an entry that has room, for which places lack and which was owed to nobody, and
+-- nothing has changed.
 pub record LacksMemory (old : CoreView) (made : Result (Option Entry) Fault) (new : CoreView) : Type 0 where
   pub entry : Entry
   pub is : made ≡ Ok (Some entry)
   pub has_room : has_room (start_of old) old.entries entry ≡ true
+  pub lacks_places : old.places < places_for old entry
   pub not_owed : was_owed old.header.object entry ≡ false
   pub unchanged : new ≡ old
 
--- the answer and the history behind it are those that the definitions give
+-- the answer and the history behind it are those that the definitions give, and so are its places
 pub record IsAnswer (old : CoreView) (given : Result Answer Fault × List Entry) (r : Result Answer Fault)
     (new : CoreView) : Type 0 where
   pub answer : r ≡ given.0
   pub entries : new.entries ≡ given.1
   pub header : new.header ≡ old.header
+  pub places : new.places ≡ places_behind old r
 
 -- an entry's answer, or want of memory
 abbrev pub IsRecorded : CoreView → Entry → Result Answer Fault → CoreView → Type 0

@@ -34,11 +34,11 @@ pub struct Core<H: Hooks + Drop> {
 }
 
 impl<H: Hooks + Drop> Model for Core<H> {
-    ghost use Rattle.frame.specs.Core.{CoreView, Stands};
+    ghost use Rattle.frame.specs.Core.{CoreView, Stands, with_history};
 
     ghost Value = { CoreView };
 
-    ghost view = { λ a. record { header = a.header; entries = a.history.entries } };
+    ghost view = { λ a. with_history a.header a.history };
 
     ghost invariant = { λ a. Stands (H.agrees a.hooks) a.header a.history a.queue a.waiters a.seats.items };
 }
@@ -57,6 +57,7 @@ impl<H: Hooks + Drop> Core<H> {
         ensures header { IfOk result (λ core.
             core.header ≡ header_of (H.object_of hooks) seats conditions cap) }
         ensures empty { IfOk result (λ core. core.entries ≡ []) }
+        ensures places { IfOk result (λ core. core.places ≡ 0) }
         ensures err { IfErr result (λ fault. fault ≡ OutOfMemory) }
     {
         let queue = Queue::open(alloc, seats)?;

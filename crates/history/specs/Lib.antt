@@ -7,6 +7,7 @@ pub mod EntryWords
 pub mod EntryReading
 pub mod Entry
 pub mod Entries
+pub mod Pages
 pub mod Object
 pub mod Start
 pub mod Counts

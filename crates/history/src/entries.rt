@@ -1,12 +1,14 @@
 //! A list of entries that only grows, with room that stays reserved.
 
-ghost use Rattle.std.specs.Prelude.{◌≡◌, ◌+◌, ◌*◌, ◌^◌, ◌<◌, ◌≤◌, ◌↔◌, ◌⊎◌, [], ◌∷◌, length, reverse, slice_get, IsTrue, IsOk, IsErrOf, OnOk, OnErr, IfErr};
+ghost use Rattle.std.specs.Prelude.{◌≡◌, ◌+◌, ◌*◌, ◌^◌, ◌<◌, ◌≤◌, ◌↔◌, ◌⊎◌, max, [], ◌∷◌, length, reverse, slice_get, IsTrue, IsOk, IsErrOf, OnOk, OnErr, IfErr};
 ghost use Rattle.history.specs.declared.fault.Fault.TheVariants.{HistoryFull, OutOfMemory};
 ghost use Rattle.history.specs.Entry.{ends_call};
 ghost use Rattle.history.specs.Entries.{ended_calls};
+ghost use Rattle.history.specs.Pages.{whole_pages};
 
 use crate::entry::{Entry, Word};
 use crate::fault::Fault;
+use crate::page::{PLACES, Page, reserve_pages};
 use std::alloc::Global;
 use std::marker::Model;
 use std::mem::size_of;
@@ -15,33 +17,36 @@ const _: () = prove!(size_of::<Entry>() <= 12);
 
 /// The entries of a history in their order, at most `cap` of them.
 ///
+/// They stand in pages of 1,024 places. A page is reserved once, and neither moves nor grows: only the list
+/// of pages does. So no call ever copies an entry again.
+///
 /// Before an entry is added, [`make_room`](History::make_room) reserves its place. Room for `owed` entries
 /// more stays reserved: those which the history owes to the calls that it has let in, so that none of them
 /// ever lacks a place or memory.
 #[derive(Debug, Drop)]
 pub struct History {
-    entries: Vec<Entry>,
+    pages: Vec<Page>,
+    len: u64,
     cap: u32,
     owed: u64,
     calls: u64,
 }
 
 impl Model for History {
-    ghost use Rattle.std.specs.Prelude.{◌≡◌, ◌+◌, ◌≤◌, ◌<◌, ◌^◌, reverse, vec_len, vec_capacity};
-    ghost use Rattle.history.specs.Entries.{HistoryView, ended_calls};
+    ghost use Rattle.std.specs.Prelude.{◌*◌, length, reverse};
+    ghost use Rattle.history.specs.Entries.{HistoryView};
+    ghost use Rattle.history.specs.Pages.{in_pages, AreKept};
 
     ghost Value = { HistoryView };
 
     ghost view = { λ a. record {
       cap = a.cap;
-      entries = reverse a.entries.items;
+      entries = reverse (in_pages a.pages.items);
       owed = a.owed;
-      places = vec_capacity a.entries;
+      places = 1024 * length a.pages.items;
     } };
 
-    ghost invariant = { λ a. (vec_len a.entries + a.owed ≤ vec_capacity a.entries)
-        × (vec_capacity a.entries ≤ a.cap) × (a.calls ≡ ended_calls (reverse a.entries.items))
-        × (a.cap < 2 ^ 32) };
+    ghost invariant = { λ a. AreKept a.pages.items a.len a.cap a.owed a.calls };
 }
 
 impl History {
@@ -50,7 +55,8 @@ impl History {
         ensures { result ≡ record { cap = cap; entries = []; owed = 0; places = 0 } }
     {
         History {
-            entries: Vec::new(alloc),
+            pages: Vec::new(alloc),
+            len: 0,
             cap,
             owed: 0,
             calls: 0,
@@ -63,13 +69,13 @@ impl History {
         ensures within_cap { result ≤ self.now.cap }
         ensures few { result < 2 ^ 32 }
     {
-        self.entries.len() as u64
+        self.len
     }
 
     pub fn is_empty(&self) -> bool
         ensures { IsTrue result ↔ (self.now.entries ≡ []) }
     {
-        self.entries.is_empty()
+        self.len == 0
     }
 
     /// The greatest number of entries.
@@ -83,16 +89,18 @@ impl History {
     pub fn owed(&self) -> u64
         ensures value { result ≡ self.now.owed }
         ensures reserved { length self.now.entries + result ≤ self.now.places }
+        ensures within_cap { length self.now.entries + result ≤ self.now.cap }
     {
         self.owed
     }
 
-    /// The number of entries that the reserved memory holds, those that stand in it among them.
+    /// The number of entries that the reserved memory holds, those that stand in it among them. These are
+    /// whole pages, so it may be above the cap, by less than a page.
     pub fn places(&self) -> u64
         ensures value { result ≡ self.now.places }
-        ensures within_cap { result ≤ self.now.cap }
+        ensures bounded { result < self.now.cap + 1024 }
     {
-        self.entries.capacity() as u64
+        (self.pages.len() * PLACES) as u64
     }
 
     /// The number of entries that end a call.
@@ -106,58 +114,77 @@ impl History {
     pub fn get(&self, number: u64) -> Option<Entry>
         ensures { result ≡ slice_get (reverse self.now.entries) number }
     {
-        self.entries.get(number as usize).copied()
+        let place = number as usize;
+        match self.pages.get(place / PLACES) {
+            Some(page) => page.get(place % PLACES),
+            None => None,
+        }
     }
 
-    /// Reserves places for as many entries more, beside those owed.
+    /// Reserves places for as many entries more, beside those owed: as many pages as all these take, and no
+    /// more.
     ///
-    /// What is reserved already takes no memory, and so does 0. The places at least double where they grow,
-    /// up to the cap, so that n entries cost O(n) in all.
+    /// - `HistoryFull`: they don't fit within the cap.
+    /// - `OutOfMemory`: a page, or the list of pages, was refused. It comes only where places lack.
+    ///
+    /// After a fault nothing has changed, and no page is kept. Where no place lacks, as with 0, no memory is
+    /// taken.
     pub fn make_room(&mut self, needed: u64) -> Result<(), Fault>
         ensures full { IsErrOf result HistoryFull
             ↔ (self.old.cap < length self.old.entries + self.old.owed + needed) }
         ensures faults { IfErr result (λ fault. (fault ≡ HistoryFull) ⊎ (fault ≡ OutOfMemory)) }
-        ensures reserved { length self.old.entries + self.old.owed + needed ≤ self.old.places → IsOk result
-            × (self.new ≡ self.old) }
+        ensures memory { IsErrOf result OutOfMemory
+            → self.old.places < length self.old.entries + self.old.owed + needed }
 
+        // The pages are exactly those that the entries take.
+        ensures places { OnOk result (self.new.places
+            ≡ max self.old.places (whole_pages (length self.old.entries + self.old.owed + needed))) }
+        ensures reserved { length self.old.entries + self.old.owed + needed ≤ self.old.places
+            → self.new ≡ self.old }
         ensures ok { OnOk result (length self.new.entries + self.new.owed + needed ≤ self.new.places) }
         ensures within_cap { OnOk result (length self.new.entries + self.new.owed + needed ≤ self.new.cap) }
-        ensures err { OnErr result (self.new ≡ self.old) }
 
-        // Nothing but the places changes, and they only grow.
+        // Nothing but the places changes.
         ensures same { self.new ≡ record self.old { places = self.new.places } }
-        ensures grows { (self.new.places ≡ self.old.places) ⊎ (2 * self.old.places ≤ self.new.places)
-            ⊎ (self.new.places ≡ self.old.cap) }
+        ensures err { OnErr result (self.new ≡ self.old) }
     {
-        let cap = u64::from(self.cap);
-        let places = self.entries.capacity() as u64;
-        let taken = self.entries.len() as u64 + self.owed;
-        // What is reserved is within the cap: the commonest case takes one test.
-        if needed <= places - taken {
-            return Ok(());
-        }
+        let cap = u64::from(self.cap());
+        let taken = self.len() + self.owed();
         if cap - taken < needed {
             return Err(Fault::HistoryFull);
         }
-        let wanted = (taken + needed).max((2 * places).min(cap));
-        let more = wanted as usize - self.entries.len();
-        match self.entries.reserve_exact(more) {
-            Ok(()) => Ok(()),
-            Err(_) => Err(Fault::OutOfMemory),
+        self.reserve(taken + needed)
+    }
+
+    /// Reserves the pages that so many entries take, those that stand among them.
+    fn reserve(&mut self, entries: u64) -> Result<(), Fault>
+        requires { entries ≤ self.old.cap }
+        ensures places { OnOk result (self.new.places ≡ max self.old.places (whole_pages entries)) }
+        ensures enough { OnOk result (entries ≤ self.new.places) }
+        ensures same { self.new ≡ record self.old { places = self.new.places } }
+        ensures reserved { entries ≤ self.old.places → IsOk result × (self.new ≡ self.old) }
+        ensures err { IfErr result (λ fault. (fault ≡ OutOfMemory) × (self.new ≡ self.old)) }
+    {
+        let wanted = entries as usize;
+        if wanted <= self.pages.len() * PLACES {
+            return Ok(());
         }
+        let more = wanted.div_ceil(PLACES) - self.pages.len();
+        reserve_pages(&mut self.pages, more)?;
+        Ok(())
     }
 
     /// Adds an entry at a place that is reserved, and says how much room stays owed from then on. It takes
     /// no memory.
     pub fn add(&mut self, entry: Entry, owed: u64)
-        requires { length self.old.entries + 1 + owed ≤ self.old.places }
+        requires reserved { length self.old.entries + 1 + owed ≤ self.old.places }
+        requires within_cap { length self.old.entries + 1 + owed ≤ self.old.cap }
         ensures { self.new ≡ record self.old { entries = entry ∷ self.old.entries; owed = owed } }
     {
-        self.entries.push_reserved(entry);
+        self.pages[self.len as usize / PLACES].add(entry);
+        self.len += 1;
         self.owed = owed;
-        if ends_call(entry.word) {
-            self.calls += 1;
-        }
+        self.calls += u64::from(ends_call(entry.word));
     }
 }
 

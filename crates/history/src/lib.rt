@@ -14,6 +14,7 @@ pub mod header;
 pub mod header_text;
 pub mod laws;
 pub mod number;
+mod page;
 pub mod pieces;
 pub mod step;
 pub mod text;

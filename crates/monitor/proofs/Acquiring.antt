@@ -162,7 +162,7 @@ made_later old mid new step e up same x = record {
 module _ (old mid : Shown) (how : How) (m : Mode) (n : ℕ) (e : Entry) (name : Option ℕ)
     (s : IsStep old (first_step how m n) (Ok (Recorded e name)) mid) where
   rec : entry_for (opening s.found.header) s.found.list old.seat (first_step how m n) ≡ Ok (Some e)
-  rec = (records (view_of s.found) (view_of mid.seen) old.seat (first_step how m n) e name s.answered).made
+  rec = (records (view_of s.found s.places) (view_of mid.seen s.places_left) old.seat (first_step how m n) e name s.answered).made
 
   first : First how m n (first_step how m n) e
   first = first_words (opening s.found.header) s.found.list old.seat how m n e rec
@@ -185,7 +185,7 @@ module _ (old mid : Shown) (how : How) (m : Mode) (n : ℕ) (e : Entry) (name : 
 
   pub stands : e.word ≡ word.Queued → IsSame old mid → WaitsAs mid.seen mid.seat (in_line (asking mid.seat m n))
   stands w same =
-      let r = records (view_of s.found) (view_of mid.seen) old.seat (first_step how m n) e name s.answered in
+      let r = records (view_of s.found s.places) (view_of mid.seen s.places_left) old.seat (first_step how m n) e name s.answered in
       let made = subst (λ (t : Step). entry_for (opening s.found.header) s.found.list old.seat t ≡ Ok (Some e)) (is_acquire w) rec in
       let q : place_of old.seat (line (opening s.found.header) (e ∷ s.found.list)) ≡ Some (asking old.seat m n) =
       queued_stands (opening s.found.header) s.found.list old.seat m n e made w in (
@@ -235,7 +235,7 @@ module _ (old mid : Shown) (how : How) (m : Mode) (n : ℕ) (e : Entry) (name : 
 pub refused_at_once : (old new : Shown) (m : Mode) (n : ℕ) (e : Entry) (name : Option ℕ) →
     IsStep old (EntryInterrupt m n) (Ok (Recorded e name)) new → e.word ≡ word.Refused fault.Interrupted
 refused_at_once old new m n e name s =
-    let r = records (view_of s.found) (view_of new.seen) old.seat (EntryInterrupt m n) e name s.answered in
+    let r = records (view_of s.found s.places) (view_of new.seen s.places_left) old.seat (EntryInterrupt m n) e name s.answered in
     let x = idle_made (opening s.found.header) s.found.list old.seat (EntryInterrupt m n) e refl r.made in
     ap (λ (z : Entry). z.word) x.is
 

@@ -65,7 +65,7 @@ may_for how l _ for m = absurd m
 module _ (old mid : Shown) (c : ℕ) (how : How) (e : Entry) (name : Option ℕ)
     (s : IsStep old (Await c) (Ok (Recorded e name)) mid) where
   rec : entry_for (opening s.found.header) s.found.list old.seat (Await c) ≡ Ok (Some e)
-  rec = (records (view_of s.found) (view_of mid.seen) old.seat (Await c) e name s.answered).made
+  rec = (records (view_of s.found s.places) (view_of mid.seen s.places_left) old.seat (Await c) e name s.answered).made
 
   first : AwaitsFirst old.seat e
   first =
@@ -83,7 +83,7 @@ module _ (old mid : Shown) (c : ℕ) (how : How) (e : Entry) (name : Option ℕ)
 
   pub sleeps : e.word ≡ word.Await → IsSame old mid → WaitsAs mid.seen mid.seat (on_condition (signalled e.at e.n))
   sleeps w same =
-      let r = records (view_of s.found) (view_of mid.seen) old.seat (Await c) e name s.answered in
+      let r = records (view_of s.found s.places) (view_of mid.seen s.places_left) old.seat (Await c) e name s.answered in
       let seat : e.seat ≡ old.seat = first.seat in
       let asleep : SleepsAs (opening s.found.header) (e ∷ s.found.list) e.seat (signalled e.at e.n) =
       falls_asleep (opening s.found.header) s.found.list (Await c) e

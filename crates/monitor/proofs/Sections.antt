@@ -58,17 +58,17 @@ pub record Left (i : ℕ) (p q : Point) (r : Result Answer Fault) : Type 0 where
   pub grown : q.list ≡ made_by r ++ p.list
   pub own : All (λ e. e.seat ≡ i) (made_by r)
 
-pub left : (i : ℕ) (p q : Point) (step : Step) (r : Result Answer Fault) →
-    IsAnswered (view_of p) i step r (view_of q) → Left i p q r
-left i p q step r (inl a) =
-    let g = answer_grows (start_of (view_of p)) p.list i step in
+pub left : (i : ℕ) (p q : Point) (m n : ℕ) (step : Step) (r : Result Answer Fault) →
+    IsAnswered (view_of p m) i step r (view_of q n) → Left i p q r
+left i p q m n step r (inl a) =
+    let g = answer_grows (start_of (view_of p m)) p.list i step in
     let R : Result Answer Fault → Type 0 = λ z. Left i p q z in
     subst R (sym a.answer) record {
       header = sym a.header;
       grown = a.entries ∙ g.grown;
       own = g.own;
     }
-left i p q step r (inr b) =
+left i p q m n step r (inr b) =
     let R : Result Answer Fault → Type 0 = λ z. Left i p q z in
     subst R (sym b.0) record {
       header = ap (λ (v : CoreView). v.header) (sym b.1.unchanged);
@@ -76,14 +76,14 @@ left i p q step r (inr b) =
       own = All-nil (λ e. e.seat ≡ i);
     }
 
-pub follows_step : (i : ℕ) (p q : Point) (step : Step) (r : Result Answer Fault) →
-    IsAnswered (view_of p) i step r (view_of q) → Follows i p q
-follows_step i p q step r a = let l = left i p q step r a in
+pub follows_step : (i : ℕ) (p q : Point) (m n : ℕ) (step : Step) (r : Result Answer Fault) →
+    IsAnswered (view_of p m) i step r (view_of q n) → Follows i p q
+follows_step i p q m n step r a = let l = left i p q m n step r a in
     follows_more i p q (made_by r) l.header l.grown l.own
 
-pub added_step : (i : ℕ) (p q : Point) (step : Step) (r : Result Answer Fault) →
-    IsAnswered (view_of p) i step r (view_of q) → added p q ≡ made_by r
-added_step i p q step r a = added_more p q (made_by r) (left i p q step r a).grown
+pub added_step : (i : ℕ) (p q : Point) (m n : ℕ) (step : Step) (r : Result Answer Fault) →
+    IsAnswered (view_of p m) i step r (view_of q n) → added p q ≡ made_by r
+added_step i p q m n step r a = added_more p q (made_by r) (left i p q m n step r a).grown
 
 -- no more calls end than there are entries
 pub calls_few : (es : List Entry) → ended_calls es ≤ length es
@@ -131,18 +131,20 @@ module _ (t o n : Ticket) (p q : Point) (seat share : ℕ) (step : Step) (r : Re
     pub was : IsPass t seat share
     pub begins : Before t.seen p
     pub entries : AllAgree p t.logs
-    pub answered : IsAnswered (view_of p) seat step r (view_of q)
+    pub places : ℕ
+    pub places_left : ℕ
+    pub answered : IsAnswered (view_of p places) seat step r (view_of q places_left)
     pub found : IsLawful p
     pub lawful : IsLawful q
 
   pub sectioned : Section → IsSection t n p q seat
   sectioned s =
       section t o n p q seat s.taken s.given s.was.one s.was.seat_is s.begins s.entries
-      (follows_step seat p q step r s.answered)
+      (follows_step seat p q s.places s.places_left step r s.answered)
 
   mine_grown : Section → first_entries n.logs ≡ made_by r ++ first_entries t.logs
   mine_grown s =
-      (sectioned s).grown ∙ ap (λ (l : List Entry). l ++ first_entries t.logs) (added_step seat p q step r s.answered)
+      (sectioned s).grown ∙ ap (λ (l : List Entry). l ++ first_entries t.logs) (added_step seat p q s.places s.places_left step r s.answered)
 
   pub section_pass : Section → (next : ℕ) → next ≡ ended_calls (made_by r) + share → IsPass n seat next
   section_pass s next is =
@@ -162,14 +164,17 @@ module _ (t o n : Ticket) (p q : Point) (seat share : ℕ) (step : Step) (r : Re
   section_true s next is = let z = section_pass s next is in
       record { lawful = z.lawful; header = z.header; below = z.below; agrees = z.agrees; counted = z.counted }
 
-  pub section_step : Section → (next : ℕ) → (MakesOwed (view_of p) seat step → IsOk r) →
+  pub section_step : (s : Section) → (next : ℕ) → (MakesOwed (view_of p s.places) seat step → IsOk r) →
       IsStep (shown t seat share) step r (shown n seat next)
   section_step s next owed = let x = sectioned s in record {
     found = p;
     begins = s.begins;
     lawful = s.found;
     agrees = own_entries t p seat s.was.one s.was.seat_is s.entries;
-    answered = subst (λ (z : Point). IsAnswered (view_of p) seat step r (view_of z)) (sym x.seen) s.answered;
+    places = s.places;
+    places_left = s.places_left;
+    answered = subst (λ (z : Point). IsAnswered (view_of p s.places) seat step r (view_of z s.places_left)) (sym x.seen)
+        s.answered;
     owed = owed;
     after = x.begins;
     mine = mine_grown s;

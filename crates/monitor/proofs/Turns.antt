@@ -121,10 +121,10 @@ Turn old c step (Err f) new = ⊥
 
 pub turn : (old new : Shown) (c : Cause) (step : Step) (r : Result Answer Fault) → IsStep old step r new → IsTrue old →
     WaitsAs old.seen old.seat c → waits step ≡ true → Turn old c step r new
-turn old new c step r s t stands w = by x.made refl (outcome v (view_of new.seen) i step r x.made x.is s.answered ok)
+turn old new c step r s t stands w = by x.made refl (outcome v (view_of new.seen s.places_left) i step r x.made x.is s.answered ok)
   where
     v : CoreView
-    v = view_of s.found
+    v = view_of s.found s.places
 
     i : ℕ
     i = old.seat
@@ -143,14 +143,14 @@ turn old new c step r s t stands w = by x.made refl (outcome v (view_of new.seen
     )
 
     header : s.found.header ≡ new.seen.header
-    header = (left i s.found new.seen step r s.answered).header
+    header = (left i s.found new.seen s.places s.places_left step r s.answered).header
 
     at : (k : Header) (l : List Entry) → s.found.header ≡ k → l ≡ s.found.list → WaitsAs (record { header = k; list = l }) i c
     at k l q e =
         subst (λ (z : Header). WaitsAs (record { header = z; list = l }) i c) q
         (subst (λ (z : List Entry). WaitsAs (record { header = s.found.header; list = z }) i c) (sym e) here)
 
-    by : (m : Option Entry) → x.made ≡ m → Outcome v m r (view_of new.seen) → Turn old c step r new
+    by : (m : Option Entry) → x.made ≡ m → Outcome v m r (view_of new.seen s.places_left) → Turn old c step r new
     by None q o = subst (λ (z : Result Answer Fault). Turn old c step z new) (sym o.0) (at new.seen.header new.seen.list header o.1)
     by (Some e) q o =
         subst (λ (z : Result Answer Fault). Turn old c step z new) (sym o.0)

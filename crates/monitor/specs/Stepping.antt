@@ -31,8 +31,10 @@ pub record IsStep (old : Shown) (step : Step) (r : Result Answer Fault) (new : S
   pub begins : Before old.seen found
   pub lawful : IsLawful found
   pub agrees : Agrees found old.seat old.mine
-  pub answered : IsAnswered (view_of found) old.seat step r (view_of new.seen)
-  pub owed : MakesOwed (view_of found) old.seat step → IsOk r
+  pub places : ℕ  -- that the history had
+  pub places_left : ℕ  -- and has then
+  pub answered : IsAnswered (view_of found places) old.seat step r (view_of new.seen places_left)
+  pub owed : MakesOwed (view_of found places) old.seat step → IsOk r
   pub after : Before old.seen new.seen
   pub mine : new.mine ≡ made_by r ++ old.mine
 

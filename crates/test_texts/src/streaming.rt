@@ -4,6 +4,7 @@ mod audits;
 mod changes;
 mod devices;
 mod memory;
+mod pages;
 mod pieces;
 mod plain;
 mod replays;

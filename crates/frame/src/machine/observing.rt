@@ -38,6 +38,7 @@ impl<H: Hooks + Drop> Core<H> {
         ensures entries { result.now.entries ≡ self.now.entries }
         ensures cap { result.now.cap ≡ self.now.header.cap }
         ensures owed { result.now.owed ≡ owed (start_of self.now) self.now.entries }
+        ensures places { result.now.places ≡ self.now.places }
     {
         &self.history
     }
@@ -46,6 +47,7 @@ impl<H: Hooks + Drop> Core<H> {
     pub fn into_history(self) -> History
         ensures entries { result.entries ≡ self.entries }
         ensures cap { result.cap ≡ self.header.cap }
+        ensures places { result.places ≡ self.places }
     {
         self.history
     }
@@ -65,7 +67,8 @@ impl<H: Hooks + Drop> Core<H> {
         self.seats.iter().any(|seat| seat.exclusive > 0)
     }
 
-    /// The history is legal, nobody in line is passed, what is owed has room, and its length fits in 32 bits.
+    /// The history is legal, nobody in line is passed, what is owed has room and places, and its length fits
+    /// in 32 bits.
     pub fn is_lawful(&self)
         ensures legal { IsLegal (start_of self.now) self.now.entries }
         ensures seated { AreSeated (start_of self.now) self.now.entries }
@@ -73,9 +76,11 @@ impl<H: Hooks + Drop> Core<H> {
         ensures fair { IsFairOrder (start_of self.now) self.now.entries }
         ensures room { length self.now.entries + owed (start_of self.now) self.now.entries
             ≤ self.now.header.cap }
+        ensures reserved { length self.now.entries + owed (start_of self.now) self.now.entries
+            ≤ self.now.places }
         ensures short { length self.now.entries < 2 ^ 32 }
     {
-        let _header = &self.header;
+        let _owed = self.history.owed();
     }
 
     /// How many stand in line.

@@ -3,7 +3,7 @@
 ghost use Rattle.std.specs.Prelude.{◌≡◌, ◌<◌, ◌++◌, IsOk, IfOk, OnErr};
 ghost use Rattle.history.specs.declared.entry.Entry.{Entry};
 ghost use Rattle.frame.specs.Core.{start_of, IsAdded, IsAnswered, IsNext, IsRecorded, KeepsHolds, MakesOwed};
-ghost use Rattle.frame.specs.Core.{made_by, IsOf, NamesBelow};
+ghost use Rattle.frame.specs.Core.{made_by, places_behind, IsOf, NamesBelow};
 ghost use Rattle.history.specs.Room.{was_owed};
 ghost use Rattle.std.specs.Prelude.{true};
 
@@ -44,6 +44,7 @@ impl<H: Hooks + Drop> Core<H> {
         ensures recorded { IsRecorded self.old entry result self.new }
         ensures header { self.new.header ≡ self.old.header }
         ensures fault { OnErr result (self.new ≡ self.old) }
+        ensures places { self.new.places ≡ places_behind self.old result }
         ensures refused { IfOk result (λ answer. KeepsHolds self.old answer self.new) }
         ensures owed { was_owed self.old.header.object entry ≡ true → IsOk result }
         ensures grown { self.new.entries ≡ made_by result ++ self.old.entries }
@@ -62,16 +63,19 @@ impl<H: Hooks + Drop> Core<H> {
     /// - `Sleep`: nothing is recorded, and the seat waits on.
     /// - `WrongMode`, `NoSuchCondition`, `BadAmount`, `OutOfPhase`: the step isn't one of the seat's now.
     /// - `HistoryFull`: the entry and what it would owe don't fit in the history.
-    /// - `OutOfMemory`: the history's memory couldn't grow.
+    /// - `OutOfMemory`: the history's memory couldn't grow. It comes only where places lack for the entry and
+    ///   for what it would owe.
     ///
-    /// After a fault nothing has changed. What ends a wait, gives a hold back or moves a sleeper always finds
-    /// room and memory.
+    /// The history's places become those of the pages that its entries take, with all that is owed, where
+    /// these are more than there were. After a fault, or a sleep, nothing has changed. What ends a wait, gives
+    /// a hold back or moves a sleeper always finds room and memory.
     #[inline(always)]
     pub fn step(&mut self, seat: u16, step: Step) -> Result<Answer, Fault>
         requires { seat < self.old.header.seats }
         ensures answered { IsAnswered self.old seat step result self.new }
         ensures header { self.new.header ≡ self.old.header }
         ensures fault { OnErr result (self.new ≡ self.old) }
+        ensures places { self.new.places ≡ places_behind self.old result }
         ensures refused { IfOk result (λ answer. KeepsHolds self.old answer self.new) }
         ensures owed { MakesOwed self.old seat step → IsOk result }
         // What was recorded stands in front of what was there. It is of the seat, and names one of the seats.

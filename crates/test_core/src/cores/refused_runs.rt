@@ -91,11 +91,11 @@ fn a_refused_run_makes_no_step(rt: HostRuntime) -> Result<(), Fail> {
     Ok(())
 }
 
-/// Places of a history that take more memory to grow than there is for the answers of a situation.
-const MANY_PLACES: u64 = 256;
+/// The places of a page, which takes more memory than the answers of a situation.
+const MANY_PLACES: u64 = 1024;
 
-/// More steps than such a history has places.
-const MANY_STEPS: usize = 4096;
+/// More steps than fill such a page.
+const MANY_STEPS: usize = 65_536;
 
 /// Runs the steps over and over until the history has so many places.
 fn grow(alloc: Global, core: &mut AnyCore, steps: &[(u16, Step)]) -> Result<(), Fail> {

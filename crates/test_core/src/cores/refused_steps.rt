@@ -16,8 +16,14 @@ use steps::StepsText;
 use test_support::examples::{Example, situations};
 use test_support::memory::Memory;
 
-/// How often the steps of a situation are made in one history, so that it grows some times.
+/// How often the steps of a situation are made in one history.
 const ROUNDS: u32 = 24;
+
+/// How often they are made at most until a history has three pages.
+const MANY_ROUNDS: u32 = 4096;
+
+/// The places of three pages.
+const MANY_PLACES: u64 = 3072;
 
 /// A step of a core that lacks no memory: what it was answered, and what the core told behind it.
 #[derive(Clone, Copy, Drop)]
@@ -42,23 +48,27 @@ fn play(core: &mut AnyCore, steps: &[(u16, Step)], played: &mut Vec<Played>) -> 
     Ok(())
 }
 
-/// The steps, over and over.
+/// The steps, over and over, but no longer than until the history has three pages.
 fn play_rounds(
     alloc: Global,
     core: &mut AnyCore,
     steps: &[(u16, Step)],
+    rounds: u32,
 ) -> Result<Vec<Played>, Fail> {
     let mut played = Vec::new(alloc);
-    for _ in 0..ROUNDS {
+    for _ in 0..rounds {
+        if MANY_PLACES <= core.told().places {
+            break;
+        }
         play(core, steps, &mut played)?;
     }
     Ok(played)
 }
 
 /// The steps of a situation, over and over.
-fn play_situation(alloc: Global, said: &StepsText) -> Result<Vec<Played>, Fail> {
+fn play_situation(alloc: Global, said: &StepsText, rounds: u32) -> Result<Vec<Played>, Fail> {
     let mut core = AnyCore::open(alloc, &said.header)?;
-    play_rounds(alloc, &mut core, &said.steps)
+    play_rounds(alloc, &mut core, &said.steps, rounds)
 }
 
 /// Whether room and memory for an entry were reserved before it came.
@@ -127,8 +137,8 @@ fn compare_refused<R: Abort>(
     Ok(())
 }
 
-/// A step where there is no memory is refused exactly where its history wants a larger block, and is answered in
-/// the end as if it came first. Whether it was refused.
+/// A step where there is no memory is refused exactly where its history wants a page, and is answered in the end
+/// as if it came first. Whether it was refused.
 fn compare_step<R: Abort>(rt: &R, starved: &mut Starved, played: &Played) -> Result<bool, Fail> {
     let before = starved.core.told();
     let first = starved.core.step(played.seat, played.asked);
@@ -138,8 +148,7 @@ fn compare_step<R: Abort>(rt: &R, starved: &mut Starved, played: &Played) -> Res
     }
     assert!(rt; is_same(&first, &played.answer));
     assert_tells(rt, &starved.core, &played.told);
-    // The smallest block of a heap has a second place.
-    assert!(rt; before.places == played.told.places || before.places == 1);
+    assert!(rt; before.places == played.told.places);
     Ok(false)
 }
 
@@ -155,25 +164,34 @@ fn compare_steps<R: Abort>(rt: &R, starved: &mut Starved, played: &[Played]) -> 
 }
 
 /// Plays the steps over and over where each growth of the history is refused before it is met; how many were.
-fn refuse_growth<R: Abort + AllocGlobal>(rt: &R, said: &StepsText) -> Result<u32, Fail> {
-    let played = play_situation(rt.alloc(), said)?;
+fn refuse_growth<R: Abort + AllocGlobal>(
+    rt: &R,
+    said: &StepsText,
+    rounds: u32,
+) -> Result<u32, Fail> {
+    let played = play_situation(rt.alloc(), said, rounds)?;
     let mut starved = Starved::open(rt.alloc(), &said.header)?;
     compare_steps(rt, &mut starved, &played)
 }
 
-/// A situation within its cap. A history without steps doesn't grow.
+/// A situation within its cap, whose history takes one page. A history without steps takes none.
 fn refuse_within_cap<R: Abort + AllocGlobal>(rt: &R, example: &Example) -> Result<(), Fail> {
     let said = steps_of(rt.alloc(), example.steps)?;
-    let refused = refuse_growth(rt, &said)?;
-    assert!(rt; (refused == 0) == said.steps.is_empty(), "{}", example.name);
+    let refused = refuse_growth(rt, &said, ROUNDS)?;
+    assert!(rt;
+        refused == u32::from(!said.steps.is_empty()),
+        "{}",
+        example.name
+    );
     Ok(())
 }
 
-/// A situation in a long history, which grows several times.
+/// A situation in a long history, which takes three pages.
 fn refuse_beyond_cap<R: Abort + AllocGlobal>(rt: &R, example: &Example) -> Result<(), Fail> {
     let said = long_situation(rt.alloc(), example)?;
-    let refused = refuse_growth(rt, &said)?;
-    assert!(rt; (refused < 4) == said.steps.is_empty(), "{}", example.name);
+    let refused = refuse_growth(rt, &said, MANY_ROUNDS)?;
+    let pages = if said.steps.is_empty() { 0 } else { 3 };
+    assert!(rt; refused == pages, "{}", example.name);
     Ok(())
 }
 

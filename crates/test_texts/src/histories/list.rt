@@ -118,7 +118,7 @@ fn reserve_all<R: Abort>(rt: &R, history: &mut History) -> Result<(), Fail> {
     history.make_room(0)?;
     tells(rt, history, (0, 0, 0, 0));
     history.make_room(16)?;
-    tells(rt, history, (0, 0, 16, 0));
+    tells(rt, history, (0, 0, 1024, 0));
     history.add(of(0, Word::Got), 14);
     Ok(())
 }
@@ -126,9 +126,9 @@ fn reserve_all<R: Abort>(rt: &R, history: &mut History) -> Result<(), Fail> {
 /// Asks for the place that is left where 14 are owed, and for more.
 fn fill<R: Abort>(rt: &R, history: &mut History) -> Result<(), Fail> {
     assert!(rt; is_full(history, 2));
-    tells(rt, history, (1, 14, 16, 1));
+    tells(rt, history, (1, 14, 1024, 1));
     history.make_room(1)?;
-    tells(rt, history, (1, 14, 16, 1));
+    tells(rt, history, (1, 14, 1024, 1));
     assert!(rt; history.owed() == 14);
     history.add(of(0, Word::Got), 14);
     assert!(rt; is_full(history, 1));
@@ -143,6 +143,64 @@ fn room_ends_at_the_cap(rt: HostRuntime) -> Result<(), Fail> {
     fill(&rt, &mut history)
 }
 
+/// A list of so many entries, each with its own number in it.
+fn numbered(alloc: Global, count: u32) -> Result<History, Fault> {
+    let mut history = History::open(alloc, 4096);
+    for n in 0..count {
+        history.make_room(1)?;
+        let entry = Entry {
+            n,
+            ..of(0, Word::Got)
+        };
+        history.add(entry, 0);
+    }
+    Ok(history)
+}
+
+/// Each entry stands at its number, and none behind them.
+fn has_numbers<R: Abort>(rt: &R, history: &History, count: u32) {
+    for n in 0..count {
+        let found = history.get(u64::from(n));
+        assert!(rt; found.is_some_and(|entry| entry.n == n), "{n} of {count}");
+    }
+    assert!(rt; history.get(u64::from(count)).is_none());
+}
+
+#[test]
+fn entries_stand_on_both_sides_of_the_border_of_a_page(rt: HostRuntime) -> Result<(), Fail> {
+    for (count, places) in [
+        (1, 1024),
+        (1023, 1024),
+        (1024, 1024),
+        (1025, 2048),
+        (2048, 2048),
+        (2049, 3072),
+    ] {
+        let history = numbered(rt.alloc(), count)?;
+        tells(
+            &rt,
+            &history,
+            (u64::from(count), 0, places, u64::from(count)),
+        );
+        has_numbers(&rt, &history, count);
+    }
+    Ok(())
+}
+
+/// Room for many at once is reserved in whole pages, and what is owed counts.
+#[test]
+fn as_many_pages_are_reserved_as_the_entries_take(rt: HostRuntime) -> Result<(), Fail> {
+    let mut history = History::open(rt.alloc(), 4_294_967_295);
+    history.make_room(2500)?;
+    tells(&rt, &history, (0, 0, 3072, 0));
+    history.add(of(0, Word::Got), 2499);
+    history.make_room(572)?;
+    tells(&rt, &history, (1, 2499, 3072, 1));
+    history.make_room(573)?;
+    tells(&rt, &history, (1, 2499, 4096, 1));
+    Ok(())
+}
+
 /// Adds an entry; whether the list has grown for it.
 fn grows(history: &mut History) -> Result<bool, Fault> {
     let before = history.places();
@@ -152,9 +210,9 @@ fn grows(history: &mut History) -> Result<bool, Fault> {
     Ok(has_grown)
 }
 
-/// The places double: 100,000 entries that ask for room one by one move a few times, not each time.
+/// 100,000 entries that ask for room one by one take 98 pages, each reserved once.
 #[test]
-fn many_entries_grow_the_list_seldom(rt: HostRuntime) -> Result<(), Fail> {
+fn many_entries_reserve_each_page_once(rt: HostRuntime) -> Result<(), Fail> {
     let mut history = History::open(rt.alloc(), 100_000);
     let mut grown: u64 = 0;
     for _ in 0..100_000 {
@@ -162,7 +220,7 @@ fn many_entries_grow_the_list_seldom(rt: HostRuntime) -> Result<(), Fail> {
             grown = grown.saturating_add(1);
         }
     }
-    tells(&rt, &history, (100_000, 0, 100_000, 100_000));
-    assert!(rt; grown <= 18, "grown {grown} times");
+    tells(&rt, &history, (100_000, 0, 100_352, 100_000));
+    assert!(rt; grown == 98, "grown {grown} times");
     Ok(())
 }

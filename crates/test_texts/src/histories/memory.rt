@@ -11,7 +11,7 @@ use history::number::put_number;
 use std::alloc::Global;
 use std::process::Abort;
 use std::test::Fail;
-use test_support::memory::all_memory;
+use test_support::memory::{Memory, all_memory};
 
 const SMALL: usize = 65_536;
 
@@ -98,5 +98,54 @@ fn a_refused_growth_leaves_the_list_as_it_was(rt: HostRuntime) -> Result<(), Fai
     refuse_growth(&rt, &mut history, entry)?;
     drop(taken);
     history.make_room(100_000)?;
+    Ok(())
+}
+
+/// Room for so many is refused while memory is given back piece by piece, until it is enough; how often.
+/// After each refusal the list is as it was.
+fn refusals<R: Abort>(
+    rt: &R,
+    history: &mut History,
+    memory: &mut Memory,
+    needed: u64,
+) -> Result<u32, Fail> {
+    let places = history.places();
+    for refused in 0..4096 {
+        match history.make_room(needed) {
+            Ok(()) => return Ok(refused),
+            Err(fault) => {
+                assert!(rt; fault == Fault::OutOfMemory);
+                tells(rt, history, (1, 0, places, 1));
+                assert!(rt; memory.give_piece());
+            }
+        }
+    }
+    Err(Fail::from("never reserved"))
+}
+
+/// Pieces of memory of which one page takes three.
+const PIECE: usize = 4096;
+
+/// The list of pages and each of four pages are refused in turn: a piece is given back after each refusal,
+/// and twelve make four pages.
+#[test]
+fn each_page_of_many_is_refused(rt: HostRuntime) -> Result<(), Fail> {
+    let entry = Entry {
+        seat: 0,
+        word: Word::Got,
+        mode: Mode::X,
+        n: 1,
+        at: 0,
+        end: End::None,
+    };
+    let mut history = History::open(rt.alloc(), 1_000_000);
+    history.make_room(1)?;
+    history.add(entry, 0);
+    let mut memory = Memory::take_all(rt.alloc(), PIECE)?;
+    let refused = refusals(&rt, &mut history, &mut memory, 5000)?;
+    assert!(rt; 12 <= refused, "refused {refused} times");
+    tells(&rt, &history, (1, 0, 5120, 1));
+    has(&rt, &history, 0, entry);
+    drop(memory);
     Ok(())
 }

@@ -214,13 +214,18 @@ fn audited<R: Abort + AllocGlobal>(
 }
 
 /// Whether a history that comes in such pieces is legal, and adds up so.
-fn is_legal<R: Abort + AllocGlobal>(rt: &R, history: &str, piece: usize, expected: &str) -> bool {
+pub fn is_legal<R: Abort + AllocGlobal>(
+    rt: &R,
+    history: &str,
+    piece: usize,
+    expected: &str,
+) -> bool {
     let audited = audited(rt, history.as_bytes(), piece, (None, None), AMPLE);
     audited.is_judged(Verdict::Legal, expected.as_bytes())
 }
 
 /// What is said of a legal history.
-fn legal(alloc: Global, entries: u64, calls: u64, totals: &str) -> Result<String, AllocError> {
+pub fn legal(alloc: Global, entries: u64, calls: u64, totals: &str) -> Result<String, AllocError> {
     format!(in alloc; "legal\nentries {entries}\ncalls {calls}\n{totals}\n")
 }
 
@@ -347,7 +352,7 @@ fn each_beginning_of_a_history_is_cut_short(rt: HostRuntime) {
 }
 
 /// The text of the history that a text spells, if it spells one.
-fn written_again(alloc: Global, text: &[u8]) -> Result<Option<Vec<u8>>, Fault> {
+pub fn written_again(alloc: Global, text: &[u8]) -> Result<Option<Vec<u8>>, Fault> {
     let (header, history) = match read_text(alloc, text) {
         Ok(read) => read,
         Err(TextFault::OutOfMemory) => return Err(Fault::OutOfMemory),

@@ -18,6 +18,7 @@ returns g c =
       order : IsInOrder (start_of v) v.entries;
       fair : IsFairOrder (start_of v) v.entries;
       room : length v.entries + owed (start_of v) v.entries ≤ v.header.cap;
+      reserved : length v.entries + owed (start_of v) v.entries ≤ v.places;
       short : length v.entries < 2 ^ 32;
     } in
     subst P c.self.view_is (record {
@@ -26,5 +27,10 @@ returns g c =
       order = in_order a.header h s.legal;
       fair = fair_order (opening a.header) h s.legal;
       room = let o = s.owed in let r = s.room in omega (arith, o, r);
+      reserved =
+          let o = s.owed in
+          let r = c.owed-owed.ensures.reserved in
+          let n = c.owed-owed.ensures.value in
+          omega (arith, o, r, n);
       short = let r = s.room in let k = s.range.cap in omega (arith, r, k);
     })

@@ -2,7 +2,7 @@ use Rattle.std.proofs.Common.{◌≡◌, ◌≤◌, length, Result, Ok, Err, ◌
 use Rattle.history.specs.Counts.{counts}
 use Rattle.history.specs.declared.fault.Fault.{Fault}
 use Rattle.history.specs.Start.{opening}
-use Rattle.frame.specs.Core.{CoreView, IsAdded}
+use Rattle.frame.specs.Core.{CoreView, IsAdded, with_history}
 use Rattle.frame.proofs.Moving.{movable, keeps_next}
 use Rattle.frame.proofs.Stepping.{next_seen, within, needs, refused, grown, is_added, stands_next, tabled, exclusive_next, shared_next}
 use Rattle.frame.proofs.machine.Core.write.Goals as goal
@@ -32,13 +32,13 @@ returns-in_err-make_room g c =
     let full = c.in_err-make_room.ensures in
     let fault = c.in_err-make_room.field-0.0 in
     let err : Fault → Result Unit Fault = λ f. Err f in
-    let after : CoreView = record { header = k; entries = new.entries } in
+    let after : CoreView = with_history k new in
     let told : err fault ≡ c.from_residual.result = search rules in
     subst (λ r. IsAdded c.args.self.now e r after) told
     (subst (λ w. IsAdded w e (err fault) after) c.self.view_is
     (refused k e fault a.history new was owes c.saturating_sub-needed.result m s.cap
-    c.owed-was_owed.ensures.value c.owed-was_owed.ensures.reserved c.saturating_sub-needed.ensures
-    full.full full.faults full.reserved full.err))
+    c.owed-was_owed.ensures.value c.owed-was_owed.ensures.within_cap c.owed-was_owed.ensures.reserved
+    c.saturating_sub-needed.ensures full.full full.faults full.memory full.err))
 
 pub change-requires : goal.change-requires
 change-requires g c =
@@ -103,7 +103,8 @@ invariant_of-self-2 g c =
     a.waiters c.move_waiters.new.waiters a.seats.items c.update.new.seats.items e s n
     (c.change.ensures.changed (counts (opening k) h) s.hooks n.allowed) waiting c.update.ensures
     (grown k e a.history c.make_room.new.self new _ _ _ m.owed was c.saturating_sub-needed.ensures
-    roomy.within_cap roomy.same s.cap c.add.ensures)
+    roomy.within_cap roomy.same s.cap c.add.ensures c.owed-was_owed.ensures.reserved
+    roomy.reserved roomy.places)
 
 pub returns : goal.returns
 returns g c =
@@ -116,7 +117,8 @@ returns g c =
     let was = c.owed-was_owed.ensures.value in
     let m = needs k a.history.entries e _ _ n (was ∙ s.owed) c.owed_behind-owed.ensures in
     let roomy = c.in_ok-make_room.ensures in
-    let P : CoreView → Type 0 = λ w. IsAdded w e (Ok tt) (record { header = k; entries = new.entries }) in
+    let P : CoreView → Type 0 = λ w. IsAdded w e (Ok tt) (with_history k new) in
     subst P c.self.view_is (is_added k e tt a.history new
     (grown k e a.history c.make_room.new.self new _ _ _ m.owed was c.saturating_sub-needed.ensures
-    roomy.within_cap roomy.same s.cap c.add.ensures))
+    roomy.within_cap roomy.same s.cap c.add.ensures c.owed-was_owed.ensures.reserved
+    roomy.reserved roomy.places))

@@ -18,7 +18,8 @@ step-answer-requires g c =
 pub unlock-requires-clause-follows : goal.unlock-requires-clause-follows
 unlock-requires-clause-follows g c =
     follows_taken _ c.pass.inside.token _ _ c.pass.inside.seat c.lock-held.ensures.taken.1 c.pass.invariant.seat_is
-    (follows_step c.pass.inside.seat (point_of c.lock-held.result.value.core) (point_of c.step-answer.new.self) c.args.step
+    (follows_step c.pass.inside.seat (point_of c.lock-held.result.value.core) (point_of c.step-answer.new.self)
+    c.lock-held.result.value.core.places c.step-answer.new.self.places c.args.step
     c.step-answer.result c.step-answer.ensures.answered)
 
 pub share_behind-pass-inside-requires : goal.share_behind-pass-inside-requires
@@ -35,6 +36,8 @@ went g c = record {
   was = c.pass.invariant;
   begins = c.lock-held.ensures.begins;
   entries = c.lock-held.ensures.entries;
+  places = c.lock-held.result.value.core.places;
+  places_left = c.step-answer.new.self.places;
   answered = c.step-answer.ensures.answered;
   found = c.lock-held.ensures.fact;
   lawful = record {
