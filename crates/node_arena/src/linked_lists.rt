@@ -1,4 +1,7 @@
-//! Queues of keys that are linked by index, so that a key leaves its queue in constant time.
+//! Lists of keys that are linked by index, so that a key leaves its list in constant time.
+//!
+//! The links and their proof are those of `util::linked_list` in the kit's `futures`, which tells no key before
+//! or behind another.
 ghost use Rattle.std.specs.Prelude.{◌≡◌, ◌≢◌, ℕ, ◌+◌, ◌^◌, ◌<◌, ◌≤◌, [], ◌∷◌, ◌++◌, length, IfSome, IfNone, IfOk, OnOk, IsOk, slice_get, IsSome, vec_len};
 ghost use Rattle.node_arena.specs.LinkedLists.{items, list_of, list_count, key_limit, one_before, without, IsIn, IsApart, IsEmpty, SameLists, Moves};
 ghost use Rattle.node_arena.specs.Links.{next_of, prev_of, Skips, Splices};
@@ -6,10 +9,9 @@ ghost use Rattle.node_arena.specs.Links.{next_of, prev_of, Skips, Splices};
 use std::alloc::{AllocError, Global};
 use std::marker::Model;
 
-/// A fixed number of queues over `usize` keys, such as those of a slab. A key is in at most one
-/// queue.
+/// A fixed number of lists over keys, such as the places of an arena. A key is in one list at most.
 ///
-/// Only `new` and `reserve_key` allocate.
+/// Only `with_keys` takes memory.
 #[derive(Drop)]
 pub struct LinkedLists {
     // Each list is a ring through its head. The head of list `n` is at `n`, and the link of a key
