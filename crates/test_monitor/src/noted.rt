@@ -16,7 +16,8 @@ const SEATS: usize = 256;
 const TURNS: u32 = 10_000;
 
 /// Records each park and unpark. A park waits until its seat was unparked, for some 10 seconds at most,
-/// whatever `until` and `interruptible` are. Then it gives the next answer of a list, or `Permit` if none is left.
+/// whatever `until` and `interruptible` are. Then it gives the next answer of a list, or `Permit` if none is
+/// left.
 #[derive(Drop)]
 pub struct NotedParking {
     notes: ScriptedParking,
