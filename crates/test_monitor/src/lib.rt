@@ -2,6 +2,16 @@
 #![tactic(auto)]
 
 #[cfg(test)]
+mod asking;
+#[cfg(test)]
+mod calls;
+#[cfg(test)]
+mod handing_over;
+#[cfg(test)]
+mod memory;
+pub mod noted;
+pub mod opened;
+#[cfg(test)]
 mod parking;
 #[cfg(test)]
-mod waiting;
+mod situations;

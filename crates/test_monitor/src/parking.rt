@@ -6,5 +6,3 @@ mod order;
 mod script;
 mod storm;
 mod threads;
-
-pub(crate) use noted::NotedParking;

@@ -1,0 +1,145 @@
+//! The known situations, stepped by one thread through the passes of a monitor, beside a core.
+ghost use Rattle.std.specs.Prelude.{◌≡◌, All, IfOk};
+
+use crate::opened::{closed, of_many};
+use counting::latch::LatchHooks;
+use counting::semaphore::SemaphoreHooks;
+use frame::hooks::Hooks;
+use frame::machine::Core;
+use history::fault::Fault;
+use history::header::{Header, Object};
+use history::step::{Answer, Step};
+use monitor::{Monitor, Now, Pass};
+use read_write::hooks::RwHooks;
+use reentrant::lock::LockHooks;
+use std::alloc::Global;
+use std::process::Abort;
+use std::sync::Wait;
+use std::test::Fail;
+use steps::{StepsText, read_steps};
+use test_support::examples::situations;
+
+/// A core over hooks as an open makes them.
+fn core_of<H: Hooks + Drop>(alloc: Global, hooks: H, header: &Header) -> Result<Core<H>, Fault> {
+    let header = Header {
+        object: hooks.object(),
+        seats: header.seats,
+        conditions: header.conditions,
+        cap: header.cap,
+    };
+    if !header.in_range() {
+        return Err(Fault::BadAmount);
+    }
+    if !hooks.as_opened(header.seats) {
+        return Err(Fault::BadAmount);
+    }
+    Core::open(alloc, hooks, header.seats, header.conditions, header.cap)
+}
+
+/// A monitor as the header says, and its passes.
+fn monitor_of<H: Hooks + Drop>(
+    alloc: Global,
+    hooks: H,
+    header: &Header,
+) -> Result<(Monitor<H>, Vec<Pass>), Fault>
+    ensures { IfOk result (λ r. All (λ p. p.lock ≡ r.0) r.1.items) }
+{
+    match of_many(alloc, hooks, header.seats, header.conditions, header.cap) {
+        Ok((monitor, passes)) => Ok((monitor, passes)),
+        Err(fault) => Err(fault),
+    }
+}
+
+/// A step of the pass of a seat. The monitor is never busy if one thread alone steps it.
+fn step_now<H: Hooks + Drop>(
+    monitor: &Monitor<H>,
+    passes: &mut Vec<Pass>,
+    seat: u16,
+    step: Step,
+) -> Result<Result<Answer, Fault>, Fail>
+    requires { All (λ p. p.lock ≡ monitor.now) passes.old.items }
+    ensures { All (λ p. p.lock ≡ monitor.now) passes.new.items }
+{
+    let Some(pass) = passes.get_mut(usize::from(seat)) else {
+        return Err(Fail::new("a seat without a pass"));
+    };
+    match monitor.step_now(pass, step) {
+        Ok(Now::Done(answer)) => Ok(Ok(answer)),
+        Ok(Now::Busy) => Err(Fail::new("busy")),
+        Err(fault) => Ok(Err(fault)),
+    }
+}
+
+fn step_of_core<H: Hooks + Drop>(
+    core: &mut Core<H>,
+    seat: u16,
+    step: Step,
+) -> Result<Result<Answer, Fault>, Fail> {
+    if core.header().seats <= seat {
+        return Err(Fail::new("a seat that the core doesn't have"));
+    }
+    Ok(core.step(seat, step))
+}
+
+/// Steps the passes of a monitor and a core, which answer alike.
+fn play_steps<H: Hooks + Drop, R: Abort>(
+    rt: &R,
+    monitor: &Monitor<H>,
+    passes: &mut Vec<Pass>,
+    core: &mut Core<H>,
+    steps: &[(u16, Step)],
+) -> Result<(), Fail>
+    requires { All (λ p. p.lock ≡ monitor.now) passes.old.items }
+    ensures { All (λ p. p.lock ≡ monitor.now) passes.new.items }
+{
+    for (seat, step) in steps {
+        let answer = step_now(monitor, passes, *seat, *step)?;
+        let wanted = step_of_core(core, *seat, *step)?;
+        assert_eq!(rt; answer, wanted, "{seat} {step:?}");
+    }
+    Ok(())
+}
+
+/// Plays a situation by a monitor and by a core over equal hooks.
+fn play<H: Hooks + Drop, R: Abort + AllocGlobal + Wait>(
+    rt: &R,
+    hooks: H,
+    hooks_of_core: H,
+    said: &StepsText,
+) -> Result<(), Fail> {
+    let header = said.header;
+    let mut core = core_of(rt.alloc(), hooks_of_core, &header)?;
+    let (monitor, mut passes) = monitor_of(rt.alloc(), hooks, &header)?;
+    play_steps(rt, &monitor, &mut passes, &mut core, said.steps.as_slice())?;
+    let closed = closed(rt, monitor, passes)?;
+    assert_eq!(rt; closed.history.len(), core.history().len());
+    assert_eq!(rt; closed.share, core.history().calls());
+    Ok(())
+}
+
+fn play_object<R: Abort + AllocGlobal + Wait>(rt: &R, said: &StepsText) -> Result<(), Fail> {
+    match said.header.object {
+        Object::Lock(policy) => play(rt, LockHooks::open(policy), LockHooks::open(policy), said),
+        Object::ReadWrite(policy) => {
+            let hooks = RwHooks::open(rt.alloc(), policy, said.header.seats)?;
+            let hooks_of_core = RwHooks::open(rt.alloc(), policy, said.header.seats)?;
+            play(rt, hooks, hooks_of_core, said)
+        }
+        Object::Semaphore(policy, permits) => {
+            let hooks = SemaphoreHooks::open(policy, permits);
+            play(rt, hooks, SemaphoreHooks::open(policy, permits), said)
+        }
+        Object::Latch(count) => play(rt, LatchHooks::open(count), LatchHooks::open(count), said),
+    }
+}
+
+#[test]
+fn step_now_by_one_thread_answers_as_the_core_and_is_never_busy(
+    rt: HostRuntime,
+) -> Result<(), Fail> {
+    for example in situations() {
+        let said = read_steps(rt.alloc(), example.steps.as_bytes())?;
+        play_object(&rt, &said)?;
+    }
+    Ok(())
+}
