@@ -15,31 +15,32 @@ use Rattle.history.specs.declared.step.Step.TheVariants.{Acquire, Try, TryFair, 
 use Rattle.steps.specs.StepLines.{step_words, step_line, IsStep, HasAmounts}
 use Rattle.steps.specs.StepReading.{asked_at, condition_at, alone_at, unasked_at, step_at, line_at}
 
-asked_again : (m : Mode) (n : ℕ) → n < 2 ^ 32 → asked_at (mode_word m ∷ decimal n ∷ []) ≡ Some ((m, n), [])
+pub asked_again : (m : Mode) (n : ℕ) (ws : Words) → n < 2 ^ 32 →
+    asked_at (mode_word m ∷ decimal n ∷ ws) ≡ Some ((m, n), ws)
 unfolding asked_at
-asked_again X n lt =
+asked_again X n ws lt =
     rw (number_again n (omega arith), le-leb 0 n (omega arith), le-leb n 4294967295 (omega arith)) refl
-asked_again S n lt =
+asked_again S n ws lt =
     rw (number_again n (omega arith), le-leb 0 n (omega arith), le-leb n 4294967295 (omega arith)) refl
 
-condition_again : (c : ℕ) → c < 2 ^ 8 → condition_at (decimal c ∷ []) ≡ Some (c, [])
+pub condition_again : (c : ℕ) (ws : Words) → c < 2 ^ 8 → condition_at (decimal c ∷ ws) ≡ Some (c, ws)
 unfolding condition_at
-condition_again c lt =
+condition_again c ws lt =
     rw (number_again c (omega arith), le-leb 0 c (omega arith), le-leb c 255 (omega arith)) refl
 
 step_again : (s : Step) → HasAmounts s → step_at (step_words s) ≡ Some (s, [])
 unfolding step_at unasked_at alone_at
-step_again (Acquire m n) lt = rw (asked_again m n lt) refl
-step_again (Try m n) lt = rw (asked_again m n lt) refl
-step_again (TryFair m n) lt = rw (asked_again m n lt) refl
-step_again (EntryInterrupt m n) lt = rw (asked_again m n lt) refl
-step_again (Give m n) lt = rw (asked_again m n lt) refl
+step_again (Acquire m n) lt = rw (asked_again m n [] lt) refl
+step_again (Try m n) lt = rw (asked_again m n [] lt) refl
+step_again (TryFair m n) lt = rw (asked_again m n [] lt) refl
+step_again (EntryInterrupt m n) lt = rw (asked_again m n [] lt) refl
+step_again (Give m n) lt = rw (asked_again m n [] lt) refl
 step_again Look lt = refl
 step_again Expire lt = refl
 step_again Interrupt lt = refl
-step_again (Await c) lt = rw (condition_again c lt) refl
-step_again (Signal c) lt = rw (condition_again c lt) refl
-step_again (SignalAll c) lt = rw (condition_again c lt) refl
+step_again (Await c) lt = rw (condition_again c [] lt) refl
+step_again (Signal c) lt = rw (condition_again c [] lt) refl
+step_again (SignalAll c) lt = rw (condition_again c [] lt) refl
 step_again Drain lt = refl
 
 line_again : (seats : ℕ) (s : ℕ × Step) → seats < 2 ^ 32 → IsStep seats s →
@@ -52,7 +53,7 @@ line_again seats s small fits =
       step_again s.1 fits.1,
     ) refl
 
-mode_plain : (m : Mode) → is_plain (mode_word m) ≡ true
+pub mode_plain : (m : Mode) → is_plain (mode_word m) ≡ true
 mode_plain X = refl
 mode_plain S = refl
 

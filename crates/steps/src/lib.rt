@@ -12,5 +12,6 @@ mod step_line;
 pub mod steps_text;
 
 pub use crate::law::{cut_short, one_reading};
+pub use crate::step_line::{asked, condition};
 pub use crate::steps_text::{StepsText, read_steps};
 pub use line_text::fault::TextFault;

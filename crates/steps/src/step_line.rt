@@ -11,10 +11,10 @@ use history::entry::Mode;
 use history::step::Step;
 use history::words::Words;
 
-/// A mode and an amount.
+/// Takes a mode and an amount, if they come next.
 #[tactic(auto, unfolding(crate::specs::StepReading::asked_at))]
 #[inline(always)]
-fn asked(words: &mut Words<'_>) -> Option<(Mode, u32)>
+pub fn asked(words: &mut Words<'_>) -> Option<(Mode, u32)>
     ensures is { with_rest result words.new ≡ asked_at words.old }
     ensures found { IfSome result (λ a. (words.old ≡ mode_word a.0 ∷ decimal a.1 ∷ words.new)
         × (a.1 < 2 ^ 32)) }
@@ -24,9 +24,10 @@ fn asked(words: &mut Words<'_>) -> Option<(Mode, u32)>
     Some((mode, n as u32))
 }
 
+/// Takes the number of a condition, if one comes next.
 #[tactic(auto, unfolding(crate::specs::StepReading::condition_at))]
 #[inline(always)]
-fn condition(words: &mut Words<'_>) -> Option<u8>
+pub fn condition(words: &mut Words<'_>) -> Option<u8>
     ensures is { with_rest result words.new ≡ condition_at words.old }
     ensures found { IfSome result (λ c. (words.old ≡ decimal c ∷ words.new) × (c < 2 ^ 8)) }
 {

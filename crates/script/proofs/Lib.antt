@@ -1,0 +1,3 @@
+pub mod CallLemmas
+pub mod Cutting
+pub mod NameLemmas

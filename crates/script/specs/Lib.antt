@@ -1,0 +1,4 @@
+pub mod CallReading
+pub mod CallText
+pub mod Name
+pub mod Script

@@ -1,0 +1,50 @@
+//! Why a script couldn't be read.
+
+ghost use Rattle.std.specs.Prelude.{◌≡◌};
+ghost use Rattle.script.specs.declared.fault.ScriptFault.TheVariants.{OutOfMemory};
+
+use std::alloc::{AllocError, AllocFailed};
+use thiserror::Error;
+
+/// The first fault of a script, in the order in which its parts are looked at: the text, the top, each object,
+/// then each thread, with its calls.
+///
+/// Objects, threads and calls are counted from 0.
+#[derive(Clone, Copy, Debug, PartialEq, Eq, Error)]
+pub enum ScriptFault {
+    /// The bytes aren't the text of a JSON value.
+    #[error("not JSON")]
+    NotJson,
+    /// The value isn't an object with exactly the keys `objects` and `threads`, lists of 1 to 64 and of 1 to 256.
+    #[error("bad top")]
+    BadTop,
+    /// This member of `objects` isn't a new name and a header with as many seats as there are threads.
+    #[error("bad object {0}")]
+    BadObject(usize),
+    /// This member of `threads` isn't an object with exactly the keys `repeat`, 1 to 1000000, and `calls`, a list
+    /// of at most 10000.
+    #[error("bad thread {0}")]
+    BadThread(usize),
+    /// Of this thread this member of `calls` isn't a call.
+    #[error("bad call {0} {1}")]
+    BadCall(usize, usize),
+    /// Memory was refused; the script may be good.
+    #[error("out of memory")]
+    OutOfMemory,
+}
+
+impl From<AllocError> for ScriptFault {
+    ghost from_gives = { λ _ e. e ≡ OutOfMemory };
+
+    fn from(_e: AllocError) -> ScriptFault {
+        ScriptFault::OutOfMemory
+    }
+}
+
+impl<T: Drop> From<AllocFailed<T>> for ScriptFault {
+    ghost from_gives = { λ _ e. e ≡ OutOfMemory };
+
+    fn from(_e: AllocFailed<T>) -> ScriptFault {
+        ScriptFault::OutOfMemory
+    }
+}

@@ -1,0 +1,19 @@
+//! Scripts of threads: which objects there are, and which calls each thread makes of them.
+//!
+//! A script is a JSON text. [`read_script`] gives what it says, or its first fault.
+#![tactic(auto)]
+
+mod action;
+mod action_text;
+mod call;
+mod call_text;
+mod fault;
+mod name;
+mod script;
+mod worker;
+
+pub use crate::action::Action;
+pub use crate::call::Call;
+pub use crate::fault::ScriptFault;
+pub use crate::script::Script;
+pub use crate::worker::Worker;

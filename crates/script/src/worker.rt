@@ -1,0 +1,43 @@
+//! What one thread of a script does.
+
+ghost use Rattle.std.specs.Prelude.{◌≡◌};
+
+use crate::call::Call;
+use std::marker::Model;
+
+/// The calls of one thread, and how many times over it makes them.
+#[derive(Debug, Drop)]
+pub struct Worker {
+    repeat: u32,
+    calls: Vec<Call>,
+}
+
+impl Model for Worker {
+    ghost use Rattle.script.specs.Script.{WorkerView};
+
+    ghost Value = { WorkerView };
+
+    ghost view = { λ w. record { repeat = w.repeat; calls = w.calls.items } };
+}
+
+impl Worker {
+    pub(crate) fn new(repeat: u32, calls: Vec<Call>) -> Self
+        ensures { result ≡ record { repeat = repeat; calls = calls.items } }
+    {
+        Worker { repeat, calls }
+    }
+
+    /// How many times over the thread makes its calls, 1 to 1000000.
+    pub fn repeat(&self) -> u32
+        ensures { result ≡ self.now.repeat }
+    {
+        self.repeat
+    }
+
+    /// The calls of one round in their order, at most 10000.
+    pub fn calls(&self) -> &[Call]
+        ensures { result.now ≡ self.now.calls }
+    {
+        self.calls.as_slice()
+    }
+}
