@@ -1,3 +1,7 @@
 pub mod CallLemmas
 pub mod Cutting
 pub mod NameLemmas
+pub mod ObjectLemmas
+pub mod SayingLemmas
+pub mod Scripts
+pub mod Values

@@ -1,4 +1,6 @@
 pub mod CallReading
 pub mod CallText
 pub mod Name
+pub mod Reading
+pub mod Saying
 pub mod Script

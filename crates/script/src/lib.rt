@@ -8,12 +8,17 @@ mod action_text;
 mod call;
 mod call_text;
 mod fault;
+mod json;
 mod name;
+mod objects;
+mod reading;
 mod script;
 mod worker;
+mod workers;
 
 pub use crate::action::Action;
 pub use crate::call::Call;
 pub use crate::fault::ScriptFault;
+pub use crate::reading::read_script;
 pub use crate::script::Script;
 pub use crate::worker::Worker;

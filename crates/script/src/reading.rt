@@ -1,0 +1,78 @@
+//! A script, from its text.
+
+ghost use Rattle.std.specs.Prelude.{◌≡◌, ◌≢◌, List, map, IfOk, IfErr, IfSome, IfNone};
+ghost use Rattle.serde_json.specs.Data.{Data};
+ghost use Rattle.serde_json.specs.View.{view};
+ghost use Rattle.script.specs.Reading.{IsJson, Reads};
+ghost use Rattle.script.specs.Saying.{IsTop};
+ghost use Rattle.script.specs.declared.fault.ScriptFault.TheVariants.{NotJson, OutOfMemory};
+ghost use Rattle.std.specs.Prelude.{◌⊎◌};
+
+use crate::fault::ScriptFault;
+use crate::json::{list_of, members_of};
+use crate::objects::objects_of;
+use crate::script::Script;
+use crate::workers::workers_of;
+use serde_json::Value;
+use std::alloc::Global;
+
+const MOST_OBJECTS: usize = 64;
+
+const MOST_THREADS: usize = 256;
+
+/// The lists of a script.
+#[derive(Clone, Copy)]
+struct Top<'a> {
+    objects: &'a [Value],
+    threads: &'a [Value],
+}
+
+/// The JSON value whose text the bytes are.
+fn value_of(alloc: Global, text: &[u8]) -> Result<Value, ScriptFault>
+    ensures ok { IfOk result (λ v. IsJson text.now (view v)) }
+    ensures err { IfErr result (λ f. (f ≡ OutOfMemory) ⊎ ((f ≡ NotJson)
+        × ((v : Data) → ¬ IsJson text.now v))) }
+{
+    match Value::from_slice(alloc, text) {
+        Ok(value) => Ok(value),
+        Err(error) if error.is_memory() => Err(ScriptFault::OutOfMemory),
+        Err(_) => Err(ScriptFault::NotJson),
+    }
+}
+
+/// The lists of objects and of threads that a value has.
+fn top_of(value: &Value) -> Option<Top<'_>>
+    ensures found { IfSome result (λ t. IsTop (view value.entry.now) (map view t.objects.now)
+        (map view t.threads.now)) }
+    ensures none { IfNone result ((objects threads : List Data) → ¬ IsTop (view value.entry.now) objects threads) }
+{
+    let (objects, threads) = members_of(value, "objects", "threads")?;
+    Some(Top {
+        objects: list_of(objects, 1, MOST_OBJECTS)?,
+        threads: list_of(threads, 1, MOST_THREADS)?,
+    })
+}
+
+/// The script that a text says, or its first fault.
+///
+/// The text is a JSON object with two keys. `objects` has a list of 1 to 64 pairs, a name and the object part of a
+/// header as in a steps text, whose seats are as many as the threads. A name has 1 to 32 of `a` to `z`, `0` to `9`
+/// and `-`, isn't `interrupt`, and stands there once. `threads` has a list of 1 to 256 objects, each with two keys:
+/// `repeat`, a whole number from 1 to 1000000 without fraction and exponent, and `calls`, a list of at most 10000
+/// texts. What a text of a call says is [`Action`](crate::Action)'s matter.
+///
+/// A key that stands in an object twice has its last value, as in `serde_json`. Text that nests deeper than 127
+/// levels isn't JSON here, and neither is a number that is too large for a float. The error tells what comes first:
+/// the text, the top, the objects in their order, then each thread with its calls. It is OutOfMemory only where
+/// memory was refused. Time and memory grow linearly with the text.
+pub fn read_script(alloc: Global, text: &[u8]) -> Result<Script, ScriptFault>
+    ensures { Reads text.now result }
+{
+    let value = value_of(alloc, text)?;
+    let Some(top) = top_of(&value) else {
+        return Err(ScriptFault::BadTop);
+    };
+    let objects = objects_of(alloc, top.objects, top.threads.len())?;
+    let workers = workers_of(alloc, top.threads, &objects)?;
+    Ok(Script::new(objects, workers))
+}

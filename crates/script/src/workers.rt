@@ -1,0 +1,116 @@
+//! The workers of a script.
+
+ghost use Rattle.std.specs.Prelude.{◌≡◌, ◌≤◌, [], List, ℕ, All, length, map, IfOk, IfErr, IfSome, IfNone};
+ghost use Rattle.serde_json.specs.Data.{Data};
+ghost use Rattle.serde_json.specs.View.{view};
+ghost use Rattle.script.specs.Name.{IsName};
+ghost use Rattle.script.specs.Reading.{IsCallsFault, IsThreadFault, IsThreadsFault, HasNoRounds};
+ghost use Rattle.script.specs.Saying.{Say, SaysCall, SaysWorker, IsRounds};
+ghost use Rattle.script.specs.Script.{named, WorkerView};
+ghost use Rattle.script.specs.declared.call.Call.{Call};
+
+use crate::call::Call;
+use crate::call_text::call_of;
+use crate::fault::ScriptFault;
+use crate::json::{list_of, members_of, number_of, text_of};
+use crate::worker::Worker;
+use history::header::Header;
+use indexmap::IndexMap;
+use serde_json::Value;
+use std::alloc::Global;
+
+const MOST_ROUNDS: u64 = 1_000_000;
+
+const MOST_CALLS: usize = 10_000;
+
+/// How many rounds of which calls a value says.
+fn rounds_of(value: &Value) -> Option<(u32, &[Value])>
+    ensures found { IfSome result (λ r. IsRounds (view value.entry.now) r.0 (map view r.1.now)) }
+    ensures none { IfNone result (HasNoRounds (view value.entry.now)) }
+{
+    let (calls, repeat) = members_of(value, "calls", "repeat")?;
+    let repeat = number_of(repeat)?;
+    let calls = list_of(calls, 0, MOST_CALLS)?;
+    if 1 <= repeat && repeat <= MOST_ROUNDS {
+        Some((repeat as u32, calls))
+    } else {
+        None
+    }
+}
+
+/// The calls that a list says, or its first that is none.
+fn calls_of(
+    alloc: Global,
+    values: &[Value],
+    objects: &IndexMap<String, Header>,
+    threads: usize,
+    thread: usize,
+) -> Result<Vec<Call>, ScriptFault>
+    requires threads { threads ≤ 256 }
+    requires names { All (λ o. IsName o.0) (named objects.now.entries) }
+    ensures ok { IfOk result (λ cs. Say (SaysCall (named objects.now.entries) threads) [] (map view values.now)
+        cs.items) }
+    ensures err { IfErr result (IsCallsFault (named objects.now.entries) threads thread (map view values.now)) }
+{
+    let mut calls = Vec::with_capacity(alloc, values.len())?;
+    for (place, value) in values.iter().enumerate() {
+        let Some(call) = call_in(value, objects, threads) else {
+            return Err(ScriptFault::BadCall(thread, place));
+        };
+        calls.push(call)?;
+    }
+    Ok(calls)
+}
+
+/// The call that a value says.
+fn call_in(value: &Value, objects: &IndexMap<String, Header>, threads: usize) -> Option<Call>
+    requires threads { threads ≤ 256 }
+    requires names { All (λ o. IsName o.0) (named objects.now.entries) }
+    ensures found { IfSome result (λ c. (before : List Call) → SaysCall (named objects.now.entries) threads before
+        (view value.now) c) }
+    ensures none { IfNone result ((before : List Call) (c : Call) → ¬ (SaysCall (named objects.now.entries) threads
+        before (view value.now) c)) }
+{
+    call_of(text_of(value)?, objects, threads)
+}
+
+/// What the thread of this number does, or what is wrong with it.
+fn worker_of(
+    alloc: Global,
+    value: &Value,
+    objects: &IndexMap<String, Header>,
+    threads: usize,
+    thread: usize,
+) -> Result<Worker, ScriptFault>
+    requires threads { threads ≤ 256 }
+    requires names { All (λ o. IsName o.0) (named objects.now.entries) }
+    ensures ok { IfOk result (λ w. (before : List WorkerView) → SaysWorker (named objects.now.entries) threads
+        before (view value.now) w) }
+    ensures err { IfErr result (IsThreadFault (named objects.now.entries) threads thread (view value.now)) }
+{
+    let Some((repeat, values)) = rounds_of(value) else {
+        return Err(ScriptFault::BadThread(thread));
+    };
+    let calls = calls_of(alloc, values, objects, threads, thread)?;
+    Ok(Worker::new(repeat, calls))
+}
+
+/// The workers that a list says, or what is wrong with the first that is none.
+pub(crate) fn workers_of(
+    alloc: Global,
+    values: &[Value],
+    objects: &IndexMap<String, Header>,
+) -> Result<Vec<Worker>, ScriptFault>
+    requires threads { length values.now ≤ 256 }
+    requires names { All (λ o. IsName o.0) (named objects.now.entries) }
+    ensures ok { IfOk result (λ ws. Say (SaysWorker (named objects.now.entries) (length values.now)) []
+        (map view values.now) ws.items) }
+    ensures err { IfErr result (IsThreadsFault (named objects.now.entries) (length values.now)
+        (map view values.now)) }
+{
+    let mut workers = Vec::with_capacity(alloc, values.len())?;
+    for (thread, value) in values.iter().enumerate() {
+        workers.push(worker_of(alloc, value, objects, values.len(), thread)?)?;
+    }
+    Ok(workers)
+}
