@@ -1,0 +1,293 @@
+-- Rows of passes, and the columns of their objects.
+use Rattle.std.proofs.Common.{◌≡◌, ℕ, zero, suc, ◌+◌, ◌<◌, ◌≤◌, List, [], ◌∷◌, ◌++◌, length, map, take, Some, get_or, refl, ap, sym, subst, arith, ◌∙◌, eqb, cond, Bool, true, false}
+use Rattle.std.specs.List.{All, slice_get}
+use Rattle.std.proofs.lemmas.List.{append-nil, take_more}
+use Rattle.std.proofs.lemmas.Option.{slice_get_within, get_or_from_slice_get}
+use Rattle.std.proofs.lemmas.List.Elements.{All-nil, All-cons, All-head, All-tail, All-push, All-same}
+use Rattle.std.proofs.lemmas.Bool.Decides.{nat_tests}
+use Rattle.history.specs.declared.header.Header.{Header}
+use Rattle.history.specs.Legal.{IsLegal}
+use Rattle.history.specs.Start.{opening}
+use Rattle.monitor.specs.Closing.{passes_of}
+use Rattle.monitor.specs.Lawful.{blank}
+use Rattle.monitor.specs.Shown.{Shown, opening_pass, opening_passes}
+use Rattle.script.specs.Script.{WorkerView}
+use Rattle.word_lock.specs.declared.point.Point.{Point}
+use Rattle.word_lock.specs.Ticket.{LockId}
+use Rattle.workers.specs.declared.report.ObjectReport.{ObjectReport}
+use Rattle.workers.specs.declared.work.Worked.{Worked}
+use Rattle.workers.specs.Calls.{homes, homes_at, home_of, lock_of}
+use Rattle.workers.specs.Reports.{AreParts, HaveColumns, IsPart, IsSound, dealt_all, header_of, empties, homes_below, opening_row, opening_rows}
+use Rattle.workers.specs.Rows.{dealt}
+use Rattle.workers.specs.Works.{AllWorked, HasWorked, passes_left}
+
+-- one object more in a row
+row_more : (locks : List LockId) (lock : LockId) (seat : ℕ) →
+    opening_row locks seat ++ opening_pass lock (blank lock.header) seat ∷ [] ≡ opening_row (locks ++ lock ∷ []) seat
+row_more [] lock seat = refl
+row_more (l ∷ locks) lock seat =
+    ap (λ z. opening_pass l (blank l.header) seat ∷ z) (row_more locks lock seat)
+
+-- one object more in all rows
+pub rows_more : (locks : List LockId) (lock : LockId) (seat n : ℕ) →
+    dealt (opening_passes lock (blank lock.header) seat n) (opening_rows locks seat n)
+    ≡ opening_rows (locks ++ lock ∷ []) seat n
+rows_more locks lock seat zero = refl
+rows_more locks lock seat (suc n) =
+    ap (λ z. z ∷ dealt (opening_passes lock (blank lock.header) (suc seat) n) (opening_rows locks (suc seat) n))
+    (row_more locks lock seat)
+    ∙ ap (λ z. opening_row (locks ++ lock ∷ []) seat ∷ z) (rows_more locks lock (suc seat) n)
+
+-- no object yet
+pub rows_none : (seat n : ℕ) → empties n ≡ opening_rows [] seat n
+rows_none seat zero = refl
+rows_none seat (suc n) = ap (λ z. [] ∷ z) (rows_none (suc seat) n)
+
+empties_next : (n : ℕ) → empties n ++ [] ∷ [] ≡ empties (suc n)
+empties_next zero = refl
+empties_next (suc n) = ap (λ z. [] ∷ z) (empties_next n)
+
+-- one empty row more
+pub empties_more : (n : ℕ) → empties n ++ [] ∷ [] ≡ empties (n + 1)
+empties_more n = let up : suc n ≡ n + 1 = omega arith in empties_next n ∙ ap empties up
+
+pub rows_count : (locks : List LockId) (seat n : ℕ) → length (opening_rows locks seat n) ≡ n
+rows_count locks seat zero = refl
+rows_count locks seat (suc n) = ap suc (rows_count locks (suc seat) n)
+
+row_locks : (locks : List LockId) (seat : ℕ) → map lock_of (opening_row locks seat) ≡ locks
+row_locks [] seat = refl
+row_locks (l ∷ locks) seat = ap (λ z. l ∷ z) (row_locks locks seat)
+
+-- each pass of a row is of its object
+pub rows_own : (locks : List LockId) (seat n : ℕ) →
+    All (λ (row : List Shown). map lock_of row ≡ locks) (opening_rows locks seat n)
+rows_own locks seat zero = All-nil (λ (row : List Shown). map lock_of row ≡ locks)
+rows_own locks seat (suc n) =
+    All-cons (λ (row : List Shown). map lock_of row ≡ locks) (opening_row locks seat)
+    (opening_rows locks (suc seat) n) (row_locks locks seat) (rows_own locks (suc seat) n)
+
+row_homes : (locks : List LockId) (seat : ℕ) → homes (opening_row locks seat) ≡ homes_at locks seat
+row_homes [] seat = refl
+row_homes (l ∷ locks) seat = ap (λ z. (l, seat) ∷ z) (row_homes locks seat)
+
+homes_each : (ps : List Shown) → length (homes ps) ≡ length ps
+homes_each [] = refl
+homes_each (p ∷ ps) = ap suc (homes_each ps)
+
+homes_at_each : (locks : List LockId) (seat : ℕ) → length (homes_at locks seat) ≡ length locks
+homes_at_each [] seat = refl
+homes_at_each (l ∷ locks) seat = ap suc (homes_at_each locks seat)
+
+-- columns with the seats below one
+abbrev pub HaveBelow : ℕ → List LockId → List (List Shown) → Type 0
+HaveBelow n [] [] = Unit {0}
+HaveBelow n [] (column ∷ columns) = ⊥
+HaveBelow n (lock ∷ locks) [] = ⊥
+HaveBelow n (lock ∷ locks) (column ∷ columns) =
+    (homes column ≡ homes_below lock n) × HaveBelow n locks columns
+
+-- columns of nothing
+pub below_none : (locks : List LockId) → HaveBelow 0 locks (empties (length locks))
+below_none [] = tt
+below_none (lock ∷ locks) = (refl, below_none locks)
+
+homes_more : (ps : List Shown) (p : Shown) → homes (ps ++ p ∷ []) ≡ homes ps ++ home_of p ∷ []
+homes_more [] p = refl
+homes_more (q ∷ ps) p = ap (λ z. home_of q ∷ z) (homes_more ps p)
+
+heads : {A : Type 0} (x y : A) (xs ys : List A) → x ∷ xs ≡ y ∷ ys → x ≡ y
+heads x y xs ys same = cc
+
+tails : {A : Type 0} (x y : A) (xs ys : List A) → x ∷ xs ≡ y ∷ ys → xs ≡ ys
+tails x y xs ys same = cc
+
+column_more : (n : ℕ) (lock : LockId) (column : List Shown) (p : Shown) → homes column ≡ homes_below lock n →
+    home_of p ≡ (lock, n) → homes (column ++ p ∷ []) ≡ homes_below lock (suc n)
+column_more n lock column p below at =
+    homes_more column p ∙ ap (λ z. z ++ home_of p ∷ []) below ∙ ap (λ h. homes_below lock n ++ h ∷ []) at
+
+-- a row with one seat more
+below_more : (n : ℕ) (locks : List LockId) (row : List Shown) (columns : List (List Shown)) →
+    homes row ≡ homes_at locks n → HaveBelow n locks columns → HaveBelow (suc n) locks (dealt row columns)
+below_more n [] [] [] same below = tt
+below_more n [] [] (column ∷ columns) same below = absurd below
+below_more n [] (p ∷ row) columns same below = absurd (omega (arith, ap length same))
+below_more n (lock ∷ locks) [] columns same below = absurd (omega (arith, ap length same))
+below_more n (lock ∷ locks) (p ∷ row) [] same below = absurd below
+below_more n (lock ∷ locks) (p ∷ row) (column ∷ columns) same (first, rest) = (
+  column_more n lock column p first (heads (home_of p) (lock, n) (homes row) (homes_at locks n) same),
+  below_more n locks row columns (tails (home_of p) (lock, n) (homes row) (homes_at locks n) same) rest,
+)
+
+-- the rows of all workers from a seat on
+below_all : (ns : Type 0) (ws : List WorkerView) (locks : List LockId) (seat n : ℕ) (dones : List Worked)
+    (columns : List (List Shown)) → AllWorked ns ws (opening_rows locks seat n) dones →
+    HaveBelow seat locks columns → HaveBelow (seat + n) locks (dealt_all (passes_left dones) columns)
+below_all ns [] locks seat zero [] columns worked below =
+    let same : seat ≡ seat + 0 = omega arith in subst (λ (z : ℕ). HaveBelow z locks columns) same below
+below_all ns [] locks seat zero (done ∷ dones) columns worked below = absurd worked
+below_all ns (w ∷ ws) locks seat zero dones columns worked below = absurd worked
+below_all ns [] locks seat (suc n) dones columns worked below = absurd worked
+below_all ns (w ∷ ws) locks seat (suc n) [] columns worked below = absurd worked
+below_all ns (w ∷ ws) locks seat (suc n) (done ∷ dones) columns (first, rest) below =
+    let up : suc seat + n ≡ seat + suc n = omega arith in
+    subst (λ (z : ℕ). HaveBelow z locks (dealt_all (passes_left dones) (dealt done.passes columns))) up
+    (below_all ns ws locks (suc seat) n dones (dealt done.passes columns) rest
+    (below_more seat locks done.passes columns (first.same ∙ row_homes locks seat) below))
+
+have_columns : (n : ℕ) (locks : List LockId) (columns : List (List Shown)) →
+    All (λ (l : LockId). l.header.seats ≡ n) locks → HaveBelow n locks columns → HaveColumns locks columns
+have_columns n [] [] seats below = tt
+have_columns n [] (column ∷ columns) seats below = absurd below
+have_columns n (lock ∷ locks) [] seats below = absurd below
+have_columns n (lock ∷ locks) (column ∷ columns) seats (first, rest) =
+    let P : LockId → Type 0 = λ (l : LockId). l.header.seats ≡ n in (
+      first ∙ ap (homes_below lock) (sym (All-head P lock locks seats)),
+      have_columns n locks columns (All-tail P lock locks seats) rest,
+    )
+
+-- the rows that all workers leave give each object the passes of all its seats
+pub all_columns : (ns : Type 0) (ws : List WorkerView) (locks : List LockId) (n : ℕ) (dones : List Worked) →
+    All (λ (l : LockId). l.header.seats ≡ n) locks → AllWorked ns ws (opening_rows locks 0 n) dones →
+    HaveColumns locks (dealt_all (passes_left dones) (empties (length locks)))
+all_columns ns ws locks n dones seats worked =
+    let up : 0 + n ≡ n = omega arith in
+    have_columns n locks (dealt_all (passes_left dones) (empties (length locks))) seats
+    (subst (λ (z : ℕ). HaveBelow z locks (dealt_all (passes_left dones) (empties (length locks)))) up
+    (below_all ns ws locks 0 n dones (empties (length locks)) worked (below_none locks)))
+
+-- a row has a pass for each object
+row_length : (ps : List Shown) (locks : List LockId) (seat : ℕ) → homes ps ≡ homes (opening_row locks seat) →
+    length ps ≡ length locks
+row_length ps locks seat same =
+    sym (homes_each ps) ∙ ap length (same ∙ row_homes locks seat) ∙ homes_at_each locks seat
+
+pub rows_fit : (ns : Type 0) (ws : List WorkerView) (locks : List LockId) (seat n k : ℕ) (dones : List Worked) →
+    k ≡ length locks → AllWorked ns ws (opening_rows locks seat n) dones →
+    All (λ (done : Worked). length done.passes ≤ k) dones
+rows_fit ns ws locks seat n k [] is worked = All-nil (λ (done : Worked). length done.passes ≤ k)
+rows_fit ns [] locks seat zero k (done ∷ dones) is worked = absurd worked
+rows_fit ns (w ∷ ws) locks seat zero k (done ∷ dones) is worked = absurd worked
+rows_fit ns [] locks seat (suc n) k (done ∷ dones) is worked = absurd worked
+rows_fit ns (w ∷ ws) locks seat (suc n) k (done ∷ dones) is (first, rest) =
+    let same = row_length done.passes locks seat first.same in
+    All-cons (λ (d : Worked). length d.passes ≤ k) done dones (omega (arith, same, is))
+    (rows_fit ns ws locks (suc seat) n k dones is rest)
+
+-- the passes of an object's column
+below_own : (lock : LockId) (n : ℕ) → All (λ (h : LockId × ℕ). h.0 ≡ lock) (homes_below lock n)
+below_own lock zero = All-nil (λ (h : LockId × ℕ). h.0 ≡ lock)
+below_own lock (suc n) =
+    All-push (λ (h : LockId × ℕ). h.0 ≡ lock) (homes_below lock n) (lock, n) (below_own lock n) refl
+
+own_of : (lock : LockId) (ps : List Shown) → All (λ (h : LockId × ℕ). h.0 ≡ lock) (homes ps) →
+    All (λ (p : Shown). p.lock ≡ lock) ps
+own_of lock [] own = All-nil (λ (p : Shown). p.lock ≡ lock)
+own_of lock (p ∷ ps) own =
+    let P : LockId × ℕ → Type 0 = λ (h : LockId × ℕ). h.0 ≡ lock in
+    All-cons (λ (q : Shown). q.lock ≡ lock) p ps (All-head P (home_of p) (homes ps) own)
+    (own_of lock ps (All-tail P (home_of p) (homes ps) own))
+
+pub column_own : (lock : LockId) (n : ℕ) (ps : List Shown) → homes ps ≡ homes_below lock n →
+    All (λ (p : Shown). p.lock ≡ lock) ps
+column_own lock n ps same =
+    own_of lock ps (All-same (λ (h : LockId × ℕ). h.0 ≡ lock) (homes ps) (homes_below lock n) same
+    (below_own lock n))
+
+abbrev seats_in : ℕ → List (LockId × ℕ) → ℕ
+seats_in i [] = 0
+seats_in i (h ∷ hs) = seats_in i hs + cond (eqb i h.1) 1 0
+
+passes_seats : (i : ℕ) (ps : List Shown) → passes_of i ps ≡ seats_in i (homes ps)
+passes_seats i [] = refl
+passes_seats i (p ∷ ps) = ap (λ z. z + cond (eqb i p.seat) 1 0) (passes_seats i ps)
+
+seats_more : (i : ℕ) (hs : List (LockId × ℕ)) (h : LockId × ℕ) →
+    seats_in i (hs ++ h ∷ []) ≡ seats_in i hs + cond (eqb i h.1) 1 0
+seats_more i [] h = refl
+seats_more i (g ∷ hs) h = let rest = seats_more i hs h in omega (arith, rest)
+
+seats_last : (b : Bool) (i m x all : ℕ) → eqb i m ≡ b → all ≡ x + cond b 1 0 → (i < m → 1 ≤ x) → i < suc m →
+    1 ≤ all
+seats_last true i m x all is sum there below = omega (arith, sum)
+seats_last false i m x all is sum there below =
+    let lower : i < m = grind (arith, nat_tests) in let some = there lower in omega (arith, sum, some)
+
+seats_there : (lock : LockId) (n i : ℕ) → i < n → 1 ≤ seats_in i (homes_below lock n)
+seats_there lock zero i below = absurd (omega (arith, below))
+seats_there lock (suc m) i below =
+    seats_last (eqb i m) i m (seats_in i (homes_below lock m)) _ refl
+    (seats_more i (homes_below lock m) (lock, m)) (seats_there lock m i) below
+
+pub column_whole : (lock : LockId) (n : ℕ) (ps : List Shown) → homes ps ≡ homes_below lock n → (i : ℕ) → i < n →
+    1 ≤ passes_of i ps
+column_whole lock n ps same i below =
+    let here = passes_seats i ps ∙ ap (seats_in i) same in let some = seats_there lock n i below in
+    omega (arith, here, some)
+
+-- the first object and its column
+pub columns_cut : (locks rest : List LockId) (lock : LockId) (columns others : List (List Shown))
+    (column : List Shown) → locks ≡ lock ∷ rest → columns ≡ column ∷ others → HaveColumns locks columns →
+    (homes column ≡ homes_below lock lock.header.seats) × HaveColumns rest others
+columns_cut locks rest lock columns others column first second have =
+    subst (λ (z : List (List Shown)). HaveColumns (lock ∷ rest) z) second
+    (subst (λ (z : List LockId). HaveColumns z columns) first have)
+
+no_parts : (columns : List (List Shown)) → HaveColumns [] columns → AreParts [] columns []
+no_parts [] have = tt
+no_parts (column ∷ columns) have = absurd have
+
+-- no object is left
+pub parts_end : (all locks : List LockId) (all_columns columns : List (List Shown)) (parts : List ObjectReport) →
+    locks ≡ [] → HaveColumns locks columns →
+    ((more : List ObjectReport) → AreParts locks columns more → AreParts all all_columns (parts ++ more)) →
+    AreParts all all_columns parts
+parts_end all locks all_columns columns parts none have so_far =
+    subst (λ (z : List ObjectReport). AreParts all all_columns z) (append-nil parts)
+    (so_far [] (subst (λ (z : List LockId). AreParts z columns []) (sym none)
+    (no_parts columns (subst (λ (z : List LockId). HaveColumns z columns) none have))))
+
+-- the headers of the objects so far
+headers_both : (locks : List LockId) (lock : LockId) → map header_of (locks ++ lock ∷ []) ≡ map header_of locks ++ lock.header ∷ []
+headers_both [] lock = refl
+headers_both (l ∷ locks) lock = ap (λ z. l.header ∷ z) (headers_both locks lock)
+
+pub headers_more : (locks : List LockId) (lock : LockId) (hs : List Header) (k : ℕ) (h : Header) →
+    map header_of locks ≡ take k hs → slice_get hs k ≡ Some h → lock.header ≡ h →
+    map header_of (locks ++ lock ∷ []) ≡ take (k + 1) hs
+headers_more locks lock hs k h so_far at same =
+    let below = slice_get_within hs k h at in
+    let here : get_or hs k h ≡ h = get_or_from_slice_get hs k h h at in
+    headers_both locks lock ∙ ap (λ z. z ++ lock.header ∷ []) so_far
+    ∙ ap (λ (z : Header). take k hs ++ z ∷ []) (same ∙ sym here) ∙ sym (take_more hs k h below)
+
+pub passes_count : (lock : LockId) (p : Point) (seat n : ℕ) → length (opening_passes lock p seat n) ≡ n
+passes_count lock p seat zero = refl
+passes_count lock p seat (suc n) = ap suc (passes_count lock p (suc seat) n)
+
+-- all parts are sound
+part_sound : (lock : LockId) (column : List Shown) (part : ObjectReport) → IsPart lock column part → IsSound part
+part_sound lock column part is =
+    (is.range, subst (λ (k : Header). IsLegal (opening k) part.history.entries) (sym is.header) is.lawful.legal)
+
+pub parts_sound : (locks : List LockId) (columns : List (List Shown)) (parts : List ObjectReport) →
+    AreParts locks columns parts → All IsSound parts
+parts_sound [] [] [] are = All-nil IsSound
+parts_sound [] [] (part ∷ parts) are = absurd are
+parts_sound [] (column ∷ columns) [] are = absurd are
+parts_sound [] (column ∷ columns) (part ∷ parts) are = absurd are
+parts_sound (lock ∷ locks) [] [] are = absurd are
+parts_sound (lock ∷ locks) [] (part ∷ parts) are = absurd are
+parts_sound (lock ∷ locks) (column ∷ columns) [] are = absurd are
+parts_sound (lock ∷ locks) (column ∷ columns) (part ∷ parts) (first, rest) =
+    All-cons IsSound part parts (part_sound lock column part first) (parts_sound locks columns parts rest)
+
+pub empties_count : (n : ℕ) → length (empties n) ≡ n
+empties_count zero = refl
+empties_count (suc n) = ap suc (empties_count n)
+
+-- a list with nothing in it
+pub none_left : {A : Type 0} (xs : List A) → length xs ≡ 0 → xs ≡ []
+none_left [] none = refl
+none_left (x ∷ xs) none = absurd (omega (arith, none))

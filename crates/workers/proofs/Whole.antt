@@ -1,0 +1,103 @@
+-- A run as a whole.
+use Rattle.std.proofs.Common.{◌≡◌, ℕ, ◌<◌, ◌≤◌, ◌⊎◌, List, [], ◌∷◌, length, map, suc, refl, ap, sym, subst, arith, ◌∙◌, get_or, inl, inr}
+use Rattle.std.specs.List.{All}
+use Rattle.std.proofs.lemmas.List.Elements.{All-nil, All-cons, All-head, All-tail, All-same, All-weaker}
+use Rattle.history.specs.declared.header.Header.{Header}
+use Rattle.monitor.specs.Shown.{Shown}
+use Rattle.script.specs.Script.{IsObject, IsScript, IsWorker, Named, ScriptView, WorkerView}
+use Rattle.word_lock.specs.Ticket.{LockId}
+use Rattle.workers.specs.declared.fault.RunFault.{RunFault}
+use Rattle.workers.specs.declared.fault.RunFault.TheVariants.{Memory, GateShut, NotStarted}
+use Rattle.workers.specs.declared.work.Worked.{Worked}
+use Rattle.workers.specs.Calls.{lock_of}
+use Rattle.workers.specs.Reports.{header_of, headers_of, opening_rows}
+use Rattle.workers.specs.Works.{AllWorked, HasStopped, IsTold, WorksAt}
+use Rattle.workers.proofs.Columns.{rows_count, rows_own}
+use Rattle.workers.proofs.Working.{all_worked, stopped_told}
+use Rattle.workers.proofs.Settling.{IsFew}
+
+heads : {A : Type 0} (x y : A) (xs ys : List A) → x ∷ xs ≡ y ∷ ys → x ≡ y
+heads x y xs ys same = cc
+
+tails : {A : Type 0} (x y : A) (xs ys : List A) → x ∷ xs ≡ y ∷ ys → xs ≡ ys
+tails x y xs ys same = cc
+
+abbrev HasSeats : ℕ → LockId → Type 0
+HasSeats n lock = lock.header.seats ≡ n
+
+seats_each : (n : ℕ) (locks : List LockId) (os : List Named) → map header_of locks ≡ map (λ (o : Named). o.1) os →
+    All (IsObject n) os → All (HasSeats n) locks
+seats_each n [] os same all = All-nil (HasSeats n)
+seats_each n (l ∷ locks) [] same all = absurd (omega (arith, ap length same))
+seats_each n (l ∷ locks) (o ∷ os) same all =
+    let header = heads l.header o.1 (map header_of locks) (map (λ (o : Named). o.1) os) same in
+    let object = All-head (IsObject n) o os all in
+    All-cons (HasSeats n) l locks (ap (λ (h : Header). h.seats) header ∙ object.seats)
+    (seats_each n locks os (tails l.header o.1 (map header_of locks) (map (λ (o : Named). o.1) os) same)
+    (All-tail (IsObject n) o os all))
+
+-- each object has as many seats as there are workers
+pub all_seats : (s : ScriptView) (locks : List LockId) → map header_of locks ≡ headers_of s → IsScript s →
+    All (HasSeats (length s.workers)) locks
+all_seats s locks same is = seats_each (length s.workers) locks s.objects same is.objects
+
+pub all_places : (s : ScriptView) (locks : List LockId) (places : ℕ) → places ≡ length s.workers →
+    map header_of locks ≡ headers_of s → IsScript s → All (λ (l : LockId). l.header.seats ≤ places) locks
+all_places s locks places as_many same is =
+    All-weaker (HasSeats (length s.workers)) (λ (l : LockId). l.header.seats ≤ places)
+    (λ l seats. omega (arith, seats, as_many)) locks (all_seats s locks same is)
+
+headers_count : (locks : List LockId) (os : List Named) → map header_of locks ≡ map (λ (o : Named). o.1) os →
+    length locks ≡ length os
+headers_count [] [] same = refl
+headers_count [] (o ∷ os) same = absurd (omega (arith, ap length same))
+headers_count (l ∷ locks) [] same = absurd (omega (arith, ap length same))
+headers_count (l ∷ locks) (o ∷ os) same =
+    ap suc (headers_count locks os (tails l.header o.1 (map header_of locks) (map (λ (o : Named). o.1) os) same))
+
+-- each worker's calls are of these objects
+pub all_workers : (s : ScriptView) (locks : List LockId) (places : ℕ) → places ≡ length s.workers →
+    map header_of locks ≡ headers_of s → IsScript s → All (IsWorker (length locks) places) s.workers
+all_workers s locks places as_many same is =
+    subst (λ (k : ℕ). All (IsWorker (length locks) k) s.workers) (sym as_many)
+    (subst (λ (k : ℕ). All (IsWorker k (length s.workers)) s.workers) (sym (headers_count locks s.objects same))
+    is.workers)
+
+pub all_own : (locks : List LockId) (rows : List (List Shown)) (n : ℕ) → rows ≡ opening_rows locks 0 n →
+    All (λ (row : List Shown). map lock_of row ≡ locks) rows
+all_own locks rows n is =
+    All-same (λ (row : List Shown). map lock_of row ≡ locks) rows (opening_rows locks 0 n) is (rows_own locks 0 n)
+
+pub all_few : (ns : Type 0) (ws : List WorkerView) (olds : List (List Shown)) (dones : List Worked) →
+    AllWorked ns ws olds dones → All IsFew dones
+all_few ns [] [] [] worked = All-nil IsFew
+all_few ns [] [] (done ∷ dones) worked = absurd worked
+all_few ns [] (old ∷ olds) dones worked = absurd worked
+all_few ns (w ∷ ws) [] dones worked = absurd worked
+all_few ns (w ∷ ws) (old ∷ olds) [] worked = absurd worked
+all_few ns (w ∷ ws) (old ∷ olds) (done ∷ dones) (first, rest) =
+    All-cons IsFew done dones first.few (all_few ns ws olds dones rest)
+
+-- a fault that no gate tells
+pub told_by : (ns : Type 0) (fault : RunFault) → IsTold (Unit {0}) fault → IsTold ns fault
+told_by ns (GateShut k) told = absurd (told tt)
+told_by ns (NotStarted k) told = tt
+told_by ns Memory told = tt
+
+-- all workers, as they were opened
+pub ran : (ns : Type 0) (s : ScriptView) (ws : List WorkerView) (locks : List LockId) (rows : List (List Shown))
+    (dones : List Worked) → ws ≡ s.workers → rows ≡ opening_rows locks 0 (length s.workers) →
+    length dones ≡ length ws →
+    ((i : ℕ) (d : Worked) → i < length ws → WorksAt ns ws rows i (get_or dones i d)) →
+    AllWorked ns s.workers (opening_rows locks 0 (length s.workers)) dones
+ran ns s ws locks rows dones same opened count each =
+    let as_many : length rows ≡ length ws =
+    ap length opened ∙ rows_count locks 0 (length s.workers) ∙ sym (ap length same) in
+    subst (λ (z : List (List Shown)). AllWorked ns s.workers z dones) opened
+    (subst (λ (z : List WorkerView). AllWorked ns z rows dones) same (all_worked ns ws rows dones as_many count each))
+
+-- why a run stopped
+pub told_stop : (ns : Type 0) (ws : List WorkerView) (olds : List (List Shown)) (dones : List Worked)
+    (fault : RunFault) → AllWorked ns ws olds dones → (fault ≡ Memory) ⊎ HasStopped fault dones → IsTold ns fault
+told_stop ns ws olds dones fault worked (inl memory) = subst (IsTold ns) (sym memory) tt
+told_stop ns ws olds dones fault worked (inr stopped) = stopped_told ns ws olds dones fault worked stopped

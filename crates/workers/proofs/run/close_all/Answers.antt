@@ -1,0 +1,34 @@
+use Rattle.std.proofs.Common.{rules, ◌≡◌, ◌∷◌, arith}
+use Rattle.workers.proofs.Columns.{column_own, column_whole, columns_cut, none_left, parts_end}
+use Rattle.workers.proofs.run.close_all.Goals as goal
+
+pub close-requires-clause-own : goal.close-requires-clause-own
+close-requires-clause-own g c =
+    let first : c.loop-object.object-iterator.rest.items ≡ c.in-Some.object ∷ c.next.new.self.rest.items =
+    search rules in
+    let second : c.loop-object.columns.rest.items
+    ≡ c.in-Some-next.passes ∷ c.next-in-loop-object.new.self.rest.items = search rules in
+    let cut = columns_cut c.loop-object.object-iterator.rest.items c.next.new.self.rest.items c.in-Some.object
+    c.loop-object.columns.rest.items c.next-in-loop-object.new.self.rest.items c.in-Some-next.passes first second
+    c.loop-object.invariant.0 in
+    column_own c.in-Some.object c.in-Some.object.header.seats c.in-Some-next.passes cut.0
+
+pub close-requires-clause-all : goal.close-requires-clause-all
+close-requires-clause-all g c =
+    let first : c.loop-object.object-iterator.rest.items ≡ c.in-Some.object ∷ c.next.new.self.rest.items =
+    search rules in
+    let second : c.loop-object.columns.rest.items
+    ≡ c.in-Some-next.passes ∷ c.next-in-loop-object.new.self.rest.items = search rules in
+    let cut = columns_cut c.loop-object.object-iterator.rest.items c.next.new.self.rest.items c.in-Some.object
+    c.loop-object.columns.rest.items c.next-in-loop-object.new.self.rest.items c.in-Some-next.passes first second
+    c.loop-object.invariant.0 in
+    column_whole c.in-Some.object c.in-Some.object.header.seats c.in-Some-next.passes cut.0
+
+pub returns-clause-parts : goal.returns-clause-parts
+returns-clause-parts g c =
+    let out = c.in-None.ensures.steps.0 in
+    let fits = c.loop-object.object-iterator.rest.ok.0 in
+    let none = none_left c.loop-object.object-iterator.rest.items (omega (arith, out, fits)) in
+    parts_end c.args.objects.items c.loop-object.object-iterator.rest.items c.args.columns.items
+    c.loop-object.columns.rest.items c.loop-object.parts.items none c.loop-object.invariant.0
+    c.loop-object.invariant.1

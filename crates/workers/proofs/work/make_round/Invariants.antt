@@ -1,0 +1,9 @@
+use Rattle.std.proofs.Common.{◌≡◌, ◌+◌, ◌≤◌, reverse, take}
+use Rattle.workers.specs.Calls.{Made, homes}
+use Rattle.workers.proofs.work.make_round.Given as goal
+
+abbrev pub invariant-loop-call : goal.invariant-loop-call
+invariant-loop-call g l =
+    (l.number ≡ l.first + l.call-index) × (l.unrecorded ≤ l.call-index)
+    × (homes l.passes ≡ homes l.fn.passes)
+    × Made (reverse (take l.call-index l.calls)) l.fn.passes l.unrecorded l.passes

@@ -1,0 +1,71 @@
+-- What the calls of a worker leave of its passes.
+use Rattle.std.specs.Prelude.{◌≡◌, ℕ, zero, suc, ◌+◌, List, [], ◌∷◌, ◌++◌, Some, Result, Ok, Err, map, reverse, slice_get, slice_set}
+use Rattle.history.specs.declared.entry.Entry.{Entry}
+use Rattle.history.specs.declared.fault.Fault.{Fault}
+use Rattle.history.specs.declared.step.Step.TheVariants as step
+use Rattle.monitor.specs.Acquire.{IsAcquire}
+use Rattle.monitor.specs.AwaitOn.{IsAwait}
+use Rattle.monitor.specs.Shown.{Shown}
+use Rattle.monitor.specs.Stepping.{IsEntered}
+use Rattle.script.specs.declared.action.Action.{Action}
+use Rattle.script.specs.declared.action.Action.TheVariants.{Acquire, TryAcquire, Release, AwaitOn, Signal, SignalAll, Drain}
+use Rattle.script.specs.declared.call.Call.{Call}
+use Rattle.script.specs.declared.call.Call.TheVariants.{On, Interrupt}
+use Rattle.word_lock.specs.Ticket.{LockId}
+
+-- a call of an object, as the call of its monitor
+abbrev pub IsActed : Action → Shown → Result Entry Fault → Shown → Type 0
+IsActed (Acquire m n how) old r new = IsAcquire old m n how r new
+IsActed (TryAcquire m n) old r new = IsEntered old (step.Try m n) r new
+IsActed (Release m n) old r new = IsEntered old (step.Give m n) r new
+IsActed (AwaitOn c how) old r new = IsAwait old c how r new
+IsActed (Signal c) old r new = IsEntered old (step.Signal c) r new
+IsActed (SignalAll c) old r new = IsEntered old (step.SignalAll c) r new
+IsActed Drain old r new = IsEntered old step.Drain r new
+
+-- how many answers of a call aren't recorded
+abbrev pub unrecorded_by : Result Entry Fault → ℕ
+unrecorded_by (Ok e) = 0
+unrecorded_by (Err f) = 1
+
+-- A call of the object at a place: it left the pass there as the monitor's call does, and the others as they
+-- were.
+pub record ActsOn (place : ℕ) (action : Action) (old : List Shown) (u : ℕ) (new : List Shown) : Type 0 where
+  pub before : Shown
+  pub there : slice_get old place ≡ Some before
+  pub reply : Result Entry Fault
+  pub after : Shown
+  pub acted : IsActed action before reply after
+  pub others : new ≡ slice_set old place after
+  pub unrecorded : u ≡ unrecorded_by reply
+
+-- what a call leaves of the passes, and how many answers weren't recorded
+abbrev pub IsCalled : Call → List Shown → ℕ → List Shown → Type 0
+IsCalled (On place action) old u new = ActsOn place action old u new
+IsCalled (Interrupt thread) old u new = (new ≡ old) × (u ≡ 0)
+
+-- what calls leave, the last of them first
+abbrev pub Made : List Call → List Shown → ℕ → List Shown → Type 0
+Made [] old u new = (new ≡ old) × (u ≡ 0)
+Made (call ∷ calls) old u new =
+    (between : List Shown) × (v : ℕ) × (w : ℕ)
+    × Made calls old v between × IsCalled call between w new × (u ≡ v + w)
+
+-- the calls of so many rounds, the last first
+abbrev pub rounds : ℕ → List Call → List Call
+rounds zero calls = []
+rounds (suc n) calls = reverse calls ++ rounds n calls
+
+-- of which monitor a pass is, and of which seat
+abbrev pub home_of : Shown → LockId × ℕ
+home_of p = (p.lock, p.seat)
+
+abbrev pub homes : List Shown → List (LockId × ℕ)
+homes = map home_of
+
+-- a seat of each monitor
+abbrev pub homes_at : List LockId → ℕ → List (LockId × ℕ)
+homes_at locks seat = map (λ lock. (lock, seat)) locks
+
+abbrev pub lock_of : Shown → LockId
+lock_of p = p.lock

@@ -1,0 +1,98 @@
+-- What a run leaves.
+use Rattle.std.specs.Prelude.{◌≡◌, ℕ, ◌+◌, zero, suc, Bool, true, false, List, [], ◌∷◌, ◌++◌, All, map, length}
+use Rattle.audit.specs.declared.verdict.Judgement.{Judgement}
+use Rattle.audit.specs.declared.verdict.Judgement.TheVariants.{Legal, NotLegal}
+use Rattle.audit.specs.Totals.{totals_of}
+use Rattle.history.specs.declared.header.Header.{Header}
+use Rattle.history.specs.Entries.{ended_calls}
+use Rattle.history.specs.Header.{IsInRange}
+use Rattle.history.specs.Legal.{IsLegal}
+use Rattle.history.specs.Start.{opening}
+use Rattle.monitor.specs.Closing.{IsWithin, left_by, shares}
+use Rattle.monitor.specs.Lawful.{IsLawful, blank}
+use Rattle.monitor.specs.Shown.{Shown, opening_pass}
+use Rattle.script.specs.Script.{ScriptView, WorkerView}
+use Rattle.word_lock.specs.Ticket.{LockId}
+use Rattle.workers.specs.declared.report.ObjectReport.{ObjectReport}
+use Rattle.workers.specs.declared.report.Report.{Report}
+use Rattle.workers.specs.Calls.{Made, homes, rounds}
+use Rattle.workers.specs.Rows.{dealt}
+
+-- What closing an object with these passes leaves: a legal history that has just their entries, which the audit
+-- calls legal, and their shares, which number its calls.
+pub record IsPart (lock : LockId) (passes : List Shown) (part : ObjectReport) : Type 0 where
+  pub header : part.header ≡ lock.header
+  pub range : IsInRange part.header
+  pub cap : part.history.cap ≡ lock.header.cap
+  pub lawful : IsLawful (left_by lock part.history)
+  pub within : All (IsWithin (left_by lock part.history)) passes
+  pub judged : part.judgement ≡ Legal (totals_of (opening lock.header) part.history.entries)
+  pub share : part.share ≡ shares passes
+  pub calls : part.share ≡ ended_calls part.history.entries
+
+abbrev pub is_legal : Judgement → Bool
+is_legal (Legal totals) = true
+is_legal (NotLegal number) = false
+
+-- the header is in range, and the history legal
+abbrev pub IsSound : ObjectReport → Type 0
+IsSound part = IsInRange part.header × IsLegal (opening part.header) part.history.entries
+
+-- a part for each object
+abbrev pub AreParts : List LockId → List (List Shown) → List ObjectReport → Type 0
+AreParts [] [] [] = Unit {0}
+AreParts (lock ∷ locks) (column ∷ columns) (part ∷ parts) = IsPart lock column part × AreParts locks columns parts
+AreParts _ _ _ = ⊥
+
+-- the passes of a worker, one of each object, as they were opened
+abbrev pub opening_row : List LockId → ℕ → List Shown
+opening_row locks seat = map (λ lock. opening_pass lock (blank lock.header) seat) locks
+
+-- the rows of so many workers, from a seat on
+abbrev pub opening_rows : List LockId → ℕ → ℕ → List (List Shown)
+opening_rows locks seat zero = []
+opening_rows locks seat (suc n) = opening_row locks seat ∷ opening_rows locks (suc seat) n
+
+-- the calls of each worker made its row of the opened one, and so many answers weren't recorded
+abbrev pub AllMade : List WorkerView → List (List Shown) → List (List Shown) → ℕ → Type 0
+AllMade [] [] [] u = u ≡ 0
+AllMade (w ∷ ws) (old ∷ olds) (new ∷ news) u =
+    (v : ℕ) × (x : ℕ) × Made (rounds w.repeat w.calls) old v new × AllMade ws olds news x × (u ≡ v + x)
+AllMade _ _ _ u = ⊥
+
+-- rows on top of columns: each adds a pass to each column
+abbrev pub dealt_all : List (List Shown) → List (List Shown) → List (List Shown)
+dealt_all [] columns = columns
+dealt_all (row ∷ rows) columns = dealt_all rows (dealt row columns)
+
+-- columns with nothing in them
+abbrev pub empties : ℕ → List (List Shown)
+empties zero = []
+empties (suc n) = [] ∷ empties n
+
+-- the seats below n of a monitor
+abbrev pub homes_below : LockId → ℕ → List (LockId × ℕ)
+homes_below lock zero = []
+homes_below lock (suc n) = homes_below lock n ++ (lock, n) ∷ []
+
+-- a column for each object, with the passes of all its seats
+abbrev pub HaveColumns : List LockId → List (List Shown) → Type 0
+HaveColumns [] [] = Unit {0}
+HaveColumns (lock ∷ locks) (column ∷ columns) =
+    (homes column ≡ homes_below lock lock.header.seats) × HaveColumns locks columns
+HaveColumns _ _ = ⊥
+
+abbrev pub header_of : LockId → Header
+header_of lock = lock.header
+
+abbrev pub headers_of : ScriptView → List Header
+headers_of s = map (λ o. o.1) s.objects
+
+-- What a run of a script leaves: its objects were opened as monitors, the calls of each worker made a row of
+-- passes, and each object was closed with its column of these rows.
+pub record IsReport (s : ScriptView) (r : Report) : Type 0 where
+  pub locks : List LockId
+  pub headers : map header_of locks ≡ headers_of s
+  pub rows : List (List Shown)
+  pub made : AllMade s.workers (opening_rows locks 0 (length s.workers)) rows r.unrecorded
+  pub parts : AreParts locks (dealt_all rows (empties (length locks))) r.objects.items

@@ -1,0 +1,37 @@
+//! A call of a worker, as a call of a monitor.
+ghost use Rattle.std.specs.Prelude.{◌≡◌, ◌≤◌};
+ghost use Rattle.monitor.specs.Stepping.{IsSame};
+ghost use Rattle.workers.specs.Calls.{IsActed};
+
+use any_object::AnyHooks;
+use history::entry::Entry;
+use history::fault::Fault;
+use monitor::{Monitor, Pass};
+use permit::ThreadParking;
+use script::Action;
+use std::sync::Wait;
+use std::time::Clock;
+
+/// Makes the call of an object that a script asks for.
+pub(crate) fn act<R: Wait + Clock>(
+    rt: &R,
+    parking: &ThreadParking,
+    monitor: &Monitor<AnyHooks>,
+    pass: &mut Pass,
+    action: Action,
+) -> Result<Entry, Fault>
+    requires is_of { pass.old.lock ≡ monitor.now }
+    requires places { monitor.now.header.seats ≤ parking.now }
+    ensures same { IsSame pass.old pass.new }
+    ensures acted { IsActed action pass.old result pass.new }
+{
+    match action {
+        Action::Acquire(mode, n, how) => monitor.acquire(rt, parking, pass, mode, n, how),
+        Action::TryAcquire(mode, n) => monitor.try_acquire(rt, parking, pass, mode, n),
+        Action::Release(mode, n) => monitor.release(rt, parking, pass, mode, n),
+        Action::AwaitOn(condition, how) => { monitor.await_on(rt, parking, pass, condition, how) }
+        Action::Signal(condition) => monitor.signal(rt, parking, pass, condition),
+        Action::SignalAll(condition) => monitor.signal_all(rt, parking, pass, condition),
+        Action::Drain => monitor.drain(rt, parking, pass),
+    }
+}

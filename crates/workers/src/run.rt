@@ -1,0 +1,158 @@
+//! The run of a script.
+ghost use Rattle.std.specs.Prelude.{◌≡◌, ◌<◌, ◌≤◌, ◌⊎◌, All, IfErr, IfOk, OnOk, Some, length, map, slice_get};
+ghost use Rattle.history.specs.Header.{IsInRange};
+ghost use Rattle.workers.specs.Reports.{AreParts, HaveColumns, IsReport, IsSound, dealt_all, empties, header_of, headers_of, opening_rows};
+ghost use Rattle.workers.specs.Works.{AddUp, HasStopped, IsTold, most_calls, passes_left};
+ghost use Rattle.workers.specs.declared.fault.RunFault.TheVariants.{Memory};
+
+use crate::fault::RunFault;
+use crate::gate::Gate;
+use crate::opened::Opened;
+use crate::passes::{Passes, deal};
+use crate::report::{ObjectReport, Report};
+use crate::start::Start;
+use crate::threads::run_all;
+use crate::work::{Shared, Worked};
+use history::header::Header;
+use permit::ThreadParking;
+use script::Script;
+use std::alloc::{AllocError, Global};
+use std::sync::Wait;
+use std::thread::Threads;
+use std::time::Clock;
+
+/// So many rows with no pass.
+#[tactic(auto, using(crate::proofs::Columns::empties_more))]
+fn empty_rows(alloc: Global, count: usize) -> Result<Vec<Passes>, AllocError>
+    ensures { IfOk result (λ rows. rows.items ≡ empties count) }
+{
+    let mut rows = Vec::new(alloc);
+    for _ in 0..count {
+        rows.push(Passes::new(alloc))?;
+    }
+    Ok(rows)
+}
+
+/// The header of the object at a place.
+fn header_at(script: &Script, place: usize) -> Header
+    requires { place < length script.now.objects }
+    ensures header { slice_get (headers_of script.now) place ≡ Some result }
+    ensures range { IsInRange result }
+    ensures seats { result.seats ≡ length script.now.workers }
+{
+    let Some((_, header)) = script.objects().get_index(place) else {
+        unreachable!()
+    };
+    *header
+}
+
+/// Opens each object of a script, and gives each worker a pass of it.
+fn open_all(alloc: Global, script: &Script) -> Result<(Vec<Opened>, Vec<Passes>), RunFault>
+    ensures headers { IfOk result (λ r. map header_of r.0.items ≡ headers_of script.now) }
+    ensures rows { IfOk result (λ r.
+        r.1.items ≡ opening_rows r.0.items 0 (length script.now.workers)) }
+    ensures err { IfErr result (λ fault. fault ≡ Memory) }
+{
+    let mut rows = empty_rows(alloc, script.workers().len())?;
+    let mut objects = Vec::new(alloc);
+    for place in 0..script.objects().len() {
+        let (object, passes) = Opened::open(alloc, header_at(script, place))?;
+        deal(passes, &mut rows)?;
+        objects.push(object)?;
+    }
+    Ok((objects, rows))
+}
+
+/// Deals the passes that the workers leave to columns, one for each object, and adds up what wasn't recorded.
+/// The lowest worker that stopped says why.
+fn settle(worked: Vec<Worked>, columns: &mut Vec<Passes>) -> Result<u64, RunFault>
+    requires rows { All (λ done. length done.passes ≤ length columns.old.items) worked.items }
+    requires few { All (λ done. IfOk done.ended (λ u. u ≤ most_calls)) worked.items }
+    requires workers { length worked.items ≤ 256 }
+    ensures sum { IfOk result (AddUp worked.items) }
+    ensures columns { OnOk result (columns.new.items
+        ≡ dealt_all (passes_left worked.items) columns.old.items) }
+    ensures fault { IfErr result (λ fault. (fault ≡ Memory) ⊎ HasStopped fault worked.items) }
+{
+    let mut unrecorded = 0;
+    for done in worked {
+        let Worked { passes, ended } = done;
+        match ended {
+            Ok(count) => unrecorded += count,
+            Err(fault) => return Err(fault),
+        }
+        deal(passes, columns)?;
+    }
+    Ok(unrecorded)
+}
+
+/// Closes each object with its column of passes.
+fn close_all<R: Wait>(
+    rt: &R,
+    alloc: Global,
+    objects: Vec<Opened>,
+    columns: Vec<Passes>,
+) -> Result<Vec<ObjectReport>, RunFault>
+    requires { HaveColumns objects.items columns.items }
+    ensures parts { IfOk result (λ parts. AreParts objects.items columns.items parts.items) }
+    ensures err { IfErr result (λ fault. fault ≡ Memory) }
+{
+    let mut parts = Vec::with_capacity(alloc, objects.len())?;
+    let mut columns = columns.into_iter();
+    for object in objects {
+        let Some(passes) = columns.next() else {
+            unreachable!()
+        };
+        parts.push(object.close(rt, alloc, passes)?)?;
+    }
+    Ok(parts)
+}
+
+/// Runs a script: a thread for each worker, all at the same objects, and gives what is left of each object.
+///
+/// Nobody makes its first call before all threads were started. `gate` is asked before each call, and told after
+/// it. A call that is answered by a fault is counted as unrecorded, and the worker goes on. It may never return,
+/// where the workers wait for each other.
+///
+/// # Errors
+///
+/// - [`RunFault::NotStarted`] if the system refuses a thread: the lowest such worker. Nobody made a call.
+/// - [`RunFault::GateShut`] if the gate didn't let a worker make a call: the lowest such worker. The others went
+///   on to their ends.
+/// - [`RunFault::Memory`] if memory is refused.
+pub fn run_threads<G: Gate + Sync, R: Threads + Wait + Clock + Sync>(
+    rt: &R,
+    alloc: Global,
+    script: &Script,
+    gate: &G,
+) -> Result<Report, RunFault>
+    ensures report { IfOk result (IsReport script.now) }
+    ensures sound { IfOk result (λ report. All IsSound report.objects.items) }
+    ensures fault { IfErr result (IsTold (G.never_shuts gate.now)) }
+{
+    let workers = script.workers();
+    let (objects, rows) = open_all(alloc, script)?;
+    let mut columns = empty_rows(alloc, objects.len())?;
+    let parking = match ThreadParking::open(rt, alloc, workers.len() as u16) {
+        Ok(parking) => parking,
+        Err(_) => return Err(RunFault::Memory),
+    };
+    let start = Start::new();
+    let shared = Shared {
+        parking,
+        objects,
+        start,
+    };
+    let worked = run_all(rt, alloc, &shared, gate, workers, rows)?;
+    let unrecorded = settle(worked, &mut columns)?;
+    let Shared {
+        parking: _,
+        objects,
+        start: _,
+    } = shared;
+    let objects = close_all(rt, alloc, objects, columns)?;
+    Ok(Report {
+        objects,
+        unrecorded,
+    })
+}

@@ -1,0 +1,54 @@
+//! The start of all workers.
+
+use std::sync::Wait;
+use std::sync::atomic::{AtomicU64, Ordering};
+
+/// Not all threads were started yet.
+const STARTING: u64 = 0;
+
+/// All threads were started.
+const GO: u64 = 1;
+
+/// Some thread couldn't be started.
+const CALLED_OFF: u64 = 2;
+
+/// Where workers wait until all threads were started.
+#[derive(Drop)]
+pub(crate) struct Start {
+    word: AtomicU64,
+}
+
+impl Start {
+    pub(crate) fn new() -> Start {
+        Start {
+            word: AtomicU64::new(STARTING),
+        }
+    }
+
+    /// Lets all workers begin.
+    pub(crate) fn go(&self) {
+        self.set(GO);
+    }
+
+    /// Lets all workers end without a call.
+    pub(crate) fn call_off(&self) {
+        self.set(CALLED_OFF);
+    }
+
+    fn set(&self, word: u64) {
+        self.word.store(word, Ordering::SeqCst);
+        self.word.wake_all();
+    }
+
+    /// Waits for either, and says whether the worker may begin.
+    pub(crate) fn wait<R: Wait>(&self, rt: &R) -> bool {
+        for _ in rt.forever() {
+            match self.word.load(Ordering::SeqCst) {
+                STARTING => self.word.park(rt, STARTING as u32),
+                GO => return true,
+                _ => return false,
+            }
+        }
+        unreachable!()
+    }
+}
