@@ -17,5 +17,7 @@ pub mod next_entry;
 
 pub use crate::fitting::fits;
 pub use crate::history_text::{read_text, write_text};
-pub use crate::law::{cut_short, legal_histories_fit, lines_are_short, one_reading, written_is_read};
+pub use crate::law::{
+    cut_short, legal_histories_fit, lines_are_short, one_reading, written_is_read,
+};
 pub use line_text::fault::{ReadFault, TextFault};

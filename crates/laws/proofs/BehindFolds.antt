@@ -108,17 +108,22 @@ pub same_point : (p : Point) → ComesBefore p p
 same_point p = inl (refl, ([], refl))
 
 grows_on : (p q r : Point) → Grows p q → Grows q r → Grows p r
-grows_on p q r v w =
-    (v.0 ∙ w.0, (w.1.0 ++ v.1.0,
-    w.1.1 ∙ ap (λ l. w.1.0 ++ l) v.1.1 ∙ sym (append_assoc w.1.0 v.1.0 p.entries)))
+grows_on p q r v w = (
+  v.0 ∙ w.0,
+  (
+    w.1.0 ++ v.1.0,
+    w.1.1 ∙ ap (λ l. w.1.0 ++ l) v.1.1 ∙ sym (append_assoc w.1.0 v.1.0 p.entries),
+  ),
+)
 
 grows_then_folds : (p q r : Point) → Grows p q → IsFolded q r → IsFolded p r
 grows_then_folds p q r v w =
     let whole : w.0 ++ q.entries ≡ (w.0 ++ v.1.0) ++ p.entries =
-    ap (λ l. w.0 ++ l) v.1.1 ∙ sym (append_assoc w.0 v.1.0 p.entries) in
-    (w.0 ++ v.1.0,
-    w.1 ∙ ap (λ s. fold s (w.0 ++ q.entries)) (sym v.0) ∙ ap (fold p.start) whole,
-    subst (IsLegal p.start) whole (subst (λ s. IsLegal s (w.0 ++ q.entries)) (sym v.0) w.2))
+    ap (λ l. w.0 ++ l) v.1.1 ∙ sym (append_assoc w.0 v.1.0 p.entries) in (
+      w.0 ++ v.1.0,
+      w.1 ∙ ap (λ s. fold s (w.0 ++ q.entries)) (sym v.0) ∙ ap (fold p.start) whole,
+      subst (IsLegal p.start) whole (subst (λ s. IsLegal s (w.0 ++ q.entries)) (sym v.0) w.2),
+    )
 
 folds_then_grows : (p q r : Point) → IsFolded p q → Grows q r → IsFolded p r
 folds_then_grows p q r v w = (v.0, sym w.0 ∙ v.1, v.2)
@@ -127,11 +132,12 @@ folds_again : (p q r : Point) → IsFolded p q → IsFolded q r → IsFolded p r
 folds_again p q r v w =
     let front : List Entry = v.0 ++ p.entries in
     let back : List Entry = w.0 ++ q.entries in
-    let whole : back ++ front ≡ (back ++ v.0) ++ p.entries = sym (append_assoc back v.0 p.entries) in
-    (back ++ v.0,
-    w.1 ∙ ap (λ s. fold s back) v.1 ∙ fold_goes_on p.start front back ∙ ap (fold p.start) whole,
-    subst (IsLegal p.start) whole
-    ((legal_goes_on p.start front back).1 (v.2, subst (λ s. IsLegal s back) v.1 w.2)))
+    let whole : back ++ front ≡ (back ++ v.0) ++ p.entries = sym (append_assoc back v.0 p.entries) in (
+      back ++ v.0,
+      w.1 ∙ ap (λ s. fold s back) v.1 ∙ fold_goes_on p.start front back ∙ ap (fold p.start) whole,
+      subst (IsLegal p.start) whole
+          ((legal_goes_on p.start front back).1 (v.2, subst (λ s. IsLegal s back) v.1 w.2)),
+    )
 
 pub further_point : (p q r : Point) → ComesBefore p q → ComesBefore q r → ComesBefore p r
 further_point p q r (inl v) (inl w) = inl (grows_on p q r v w)

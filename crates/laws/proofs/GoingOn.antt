@@ -166,9 +166,21 @@ line_entry_goes_on s g h goes i a x =
 sleeping_goes_on : (s : Start) (g h : List Entry) (i : ℕ) (x : Step) →
     sleeping_entry (fold s g) h i x ≡ sleeping_entry s (h ++ g) i x
 sleeping_goes_on s g h i step.Expire = λ j. Some (record {
-      seat = i; word = word.Lapse; mode = X; n = 0; at = (sleep_at s g h i j).condition; end = end.Timeout })
+  seat = i;
+  word = word.Lapse;
+  mode = X;
+  n = 0;
+  at = (sleep_at s g h i j).condition;
+  end = end.Timeout;
+})
 sleeping_goes_on s g h i step.Interrupt = λ j. Some (record {
-      seat = i; word = word.Lapse; mode = X; n = 0; at = (sleep_at s g h i j).condition; end = end.Interrupt })
+  seat = i;
+  word = word.Lapse;
+  mode = X;
+  n = 0;
+  at = (sleep_at s g h i j).condition;
+  end = end.Interrupt;
+})
 sleeping_goes_on s g h i _ = refl
 
 made_goes_on : (s : Start) (g h : List Entry) (i : ℕ) (x : Step) (p : Phase) →
@@ -221,5 +233,6 @@ owed_goes_on s g h =
     holds : holds_owe (fold s g) h ≡ holds_owe s (h ++ g)
     holds = λ j. cond (is_lock s.header.object)
         (total s.header.seats (λ i. held_at s g h i X j + held_at s g h i S j)) 0
+
     waits : arrival_owes (fold s g) h ≡ arrival_owes s (h ++ g)
     waits = λ j a. cond a.back ((sleep_at s g h a.seat j).holds + 1) (cond (is_lock s.header.object) 2 1)

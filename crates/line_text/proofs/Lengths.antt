@@ -51,32 +51,73 @@ part_short : (o : Object) (n c k : ℕ) → IsOpening o c → n ≤ 256 → k < 
 part_short (Lock p) n c k r l m = (
   (
     omega arith,
-    (policy_short p, (omega arith, (decimal_short n (omega (arith, l)), (omega arith,
-    (decimal_short c (omega (arith, r)), (omega arith, (decimal_short k (omega (arith, m)), tt))))))),
+    (
+      policy_short p,
+      (
+        omega arith,
+        (
+          decimal_short n (omega (arith, l)),
+          (
+            omega arith,
+            (decimal_short c (omega (arith, r)), (omega arith, (decimal_short k (omega (arith, m)), tt))),
+          ),
+        ),
+      ),
+    ),
   ),
   omega arith,
 )
 part_short (ReadWrite p) n c k r l m = (
   (
     omega arith,
-    (policy_short p, (omega arith, (decimal_short n (omega (arith, l)), (omega arith,
-    (decimal_short c (omega (arith, r)), (omega arith, (decimal_short k (omega (arith, m)), tt))))))),
+    (
+      policy_short p,
+      (
+        omega arith,
+        (
+          decimal_short n (omega (arith, l)),
+          (
+            omega arith,
+            (decimal_short c (omega (arith, r)), (omega arith, (decimal_short k (omega (arith, m)), tt))),
+          ),
+        ),
+      ),
+    ),
   ),
   omega arith,
 )
 part_short (Semaphore p z) n c k r l m = (
   (
     omega arith,
-    (policy_short p, (omega arith, (decimal_short n (omega (arith, l)), (omega arith,
-    (signed_short z r.1, (omega arith, (decimal_short k (omega (arith, m)), tt))))))),
+    (
+      policy_short p,
+      (
+        omega arith,
+        (
+          decimal_short n (omega (arith, l)),
+          (
+            omega arith,
+            (signed_short z r.1, (omega arith, (decimal_short k (omega (arith, m)), tt))),
+          ),
+        ),
+      ),
+    ),
   ),
   omega arith,
 )
 part_short (Latch q) n c k r l m = (
   (
     omega arith,
-    (omega arith, (decimal_short n (omega (arith, l)), (omega arith,
-    (decimal_short q (omega (arith, r.1)), (omega arith, (decimal_short k (omega (arith, m)), tt)))))),
+    (
+      omega arith,
+      (
+        decimal_short n (omega (arith, l)),
+        (
+          omega arith,
+          (decimal_short q (omega (arith, r.1)), (omega arith, (decimal_short k (omega (arith, m)), tt))),
+        ),
+      ),
+    ),
   ),
   omega arith,
 )
