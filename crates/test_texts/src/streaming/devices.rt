@@ -1,5 +1,7 @@
 //! The readers and writers of std.
 
+ghost use Rattle.std.specs.Prelude.{◌≡◌, IfOk};
+
 use crate::streaming::replays::{ANSWER, TEXT};
 use driver::form::Form;
 use driver::replay_stream::replay_stream;
@@ -114,7 +116,9 @@ impl FailsOnce {
     }
 
     /// What a call answers that otherwise does so much.
-    fn call(&mut self, done: usize) -> io::Result<usize> {
+    fn call(&mut self, done: usize) -> io::Result<usize>
+        ensures { IfOk result (λ n. n ≡ done) }
+    {
         if self.has_failed {
             return Ok(done);
         }
