@@ -7,8 +7,6 @@ mod asking;
 mod calls;
 #[cfg(test)]
 mod handing_over;
-#[cfg(test)]
-mod memory;
 pub mod noted;
 pub mod opened;
 #[cfg(test)]
