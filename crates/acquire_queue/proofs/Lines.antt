@@ -30,7 +30,8 @@ absent_behind i a line p = by (eqb a.seat i) refl p
 pub place_of-push_other : (i : ℕ) (a : Arrival) (line : List Arrival) → eqb a.seat i ≡ false →
     place_of i (line ++ a ∷ []) ≡ place_of i line
 place_of-push_other i a [] e = rw e refl
-place_of-push_other i a (b ∷ line) e = ap (λ r. cond (eqb b.seat i) (Some b) r) (place_of-push_other i a line e)
+place_of-push_other i a (b ∷ line) e =
+    ap (λ r. cond (eqb b.seat i) (Some b) r) (place_of-push_other i a line e)
 
 pub place_of-push_same : (a : Arrival) (line : List Arrival) → place_of a.seat line ≡ None →
     place_of a.seat (line ++ a ∷ []) ≡ Some a
@@ -73,7 +74,8 @@ place_of-left s i (a ∷ line) =
     there m (inl f) = rw (eq-eqb s i f) (rw (ne_eqb a.seat i (λ g. m (f ∙ sym g))) refl)
     there m (inr n) = rw (ne_eqb s i n) refl
 
-pub once-left : (s : ℕ) (line : List Arrival) → StandOnce line → StandOnce (filter (λ a. not (eqb s a.seat)) line)
+pub once-left : (s : ℕ) (line : List Arrival) → StandOnce line →
+    StandOnce (filter (λ a. not (eqb s a.seat)) line)
 once-left s [] once = tt
 once-left s (a ∷ line) once = by (eqb s a.seat) (once-left s line once.1)
   where
@@ -157,7 +159,8 @@ length-left s [] once p = cc
 length-left s (a ∷ line) once p = by (cases_eq s a.seat) (length-left s line once.1)
   where
     by : (s ≡ a.seat) ⊎ (s ≡ a.seat → ⊥) →
-        (is_some (place_of s line) ≡ true → length (filter (λ b. not (eqb s b.seat)) line) + 1 ≡ length line) →
+        (is_some (place_of s line) ≡ true →
+        length (filter (λ b. not (eqb s b.seat)) line) + 1 ≡ length line) →
         length (filter (λ b. not (eqb s b.seat)) (a ∷ line)) + 1 ≡ length (a ∷ line)
     by (inl e) ih =
         rw (eq-eqb s a.seat e)

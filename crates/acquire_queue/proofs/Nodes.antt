@@ -1,18 +1,18 @@
 -- What joining and leaving make of the nodes and of the table beside them.
 use Rattle.std.proofs.Common.{◌≡◌, ◌≢◌, ◌⊎◌, ⊎_elim, inl, inr, ℕ, ◌+◌, ◌<◌, ◌≤◌, ◌^◌, Bool, true, false, not, cond, eqb, zero, suc, List, [], ◌∷◌, ◌++◌, length, map, filter, drop, get_or, set, Option, Some, None, IsSome, OnSome, is_some, slice_get, leb, ◌||◌, ◌-◌, add-one, refl, ap, ◌∙◌, sym, subst, arith}
-use Rattle.std.proofs.lemmas.Bool.{cases_eq, cases_lt, eq-eqb, ne_eqb, eqb-true, cond-true, cond-false, le-leb, lt-leb}
+use Rattle.std.proofs.lemmas.Bool.{cases_eq, cases_lt, eq-eqb, ne_eqb, eqb-true, cond-true, cond-false, le-leb, lt-leb, lt-ltb, le-ltb}
 use Rattle.std.proofs.Math.Dec.{leb-zero}
 use Rattle.std.specs.List.{position, position_from}
 use Rattle.std.proofs.lemmas.Iterator.Adapters.{position_from-zero}
 use Rattle.std.proofs.lemmas.List.{get_or-set_same, get_or-set_other, get_or_past, length-set, length-map, length_push, drop_all}
 use Rattle.std.proofs.lemmas.Option.{none-some, same_Some}
 use Rattle.history.specs.declared.arrival.Arrival.{Arrival}
-use Rattle.history.specs.Line.{place_of}
+use Rattle.history.specs.Line.{first_of, place_of}
 use Rattle.node_arena.specs.declared.node.Node.{Node}
 use Rattle.node_arena.specs.declared.node.NodeNo.{NodeNo}
 use Rattle.node_arena.specs.declared.node.Standing.{Standing}
 use Rattle.node_arena.specs.NodeList.{Nodes, is_at, at_place, under, of_number, without_place, cancelled, cancel_at, StandApart}
-use Rattle.acquire_queue.specs.Line.{StandOnce, is_live, live, number_of, trimmed, swept, LiveHead, left_by, IsKept}
+use Rattle.acquire_queue.specs.Line.{StandOnce, is_live, live, number_of, trimmed, swept, LiveHead, left_by, standing_behind, IsKept}
 use Rattle.acquire_queue.proofs.Lines.{eqb_swap, place_of-push_other, place_of-push_same, once-push, place_of-left, once-left, left_absent, length-left, length-few}
 
 -- a node that isn't cancelled, and what it asks for
@@ -36,7 +36,8 @@ either true = inl refl
 either false = inr refl
 
 -- a seat has a number exactly where it stands in line
-pub numbered : (i : ℕ) (nodes : List Standing) → is_some (number_of i nodes) ≡ is_some (place_of i (live nodes))
+pub numbered : (i : ℕ) (nodes : List Standing) →
+    is_some (number_of i nodes) ≡ is_some (place_of i (live nodes))
 numbered i [] = refl
 numbered i (x ∷ rest) =
     elim (either x.node.cancelled) [
@@ -86,15 +87,19 @@ number-push_other i x (y ∷ nodes) e n =
     (number-push_other i x nodes e n)
 
 number-push_same : (x : Standing) (nodes : List Standing) → x.node.cancelled ≡ false →
-    number_of x.node.arrival.seat nodes ≡ None → number_of x.node.arrival.seat (nodes ++ x ∷ []) ≡ Some x.number
+    number_of x.node.arrival.seat nodes ≡ None →
+    number_of x.node.arrival.seat (nodes ++ x ∷ []) ≡ Some x.number
 number-push_same x [] e p =
-    number_by x.node.arrival.seat x [] e ∙ cond-true _ _ _ (eq-eqb x.node.arrival.seat x.node.arrival.seat refl)
+    number_by x.node.arrival.seat x [] e
+    ∙ cond-true _ _ _ (eq-eqb x.node.arrival.seat x.node.arrival.seat refl)
 number-push_same x (y ∷ nodes) e p =
     by y.node.cancelled (eqb y.node.arrival.seat x.node.arrival.seat) p (λ q. number-push_same x nodes e q)
   where
     by : (b d : Bool) →
-        cond b (number_of x.node.arrival.seat nodes) (cond d (Some y.number) (number_of x.node.arrival.seat nodes)) ≡ None →
-        (number_of x.node.arrival.seat nodes ≡ None → number_of x.node.arrival.seat (nodes ++ x ∷ []) ≡ Some x.number) →
+        cond b (number_of x.node.arrival.seat nodes)
+        (cond d (Some y.number) (number_of x.node.arrival.seat nodes)) ≡ None →
+        (number_of x.node.arrival.seat nodes ≡ None →
+        number_of x.node.arrival.seat (nodes ++ x ∷ []) ≡ Some x.number) →
         cond b (number_of x.node.arrival.seat (nodes ++ x ∷ []))
         (cond d (Some y.number) (number_of x.node.arrival.seat (nodes ++ x ∷ []))) ≡ Some x.number
     by true d p ih = ih p
@@ -144,7 +149,8 @@ pub trimmed_number : (i : ℕ) (nodes : List Standing) → number_of i (trimmed 
 trimmed_number i [] = refl
 trimmed_number i (x ∷ rest) =
     elim (either x.node.cancelled) [
-      | inl gone ↦ ap (number_of i) (cond-true _ _ _ gone) ∙ trimmed_number i rest ∙ sym (number_past i x rest gone)
+      | inl gone ↦ ap (number_of i) (cond-true _ _ _ gone) ∙ trimmed_number i rest
+          ∙ sym (number_past i x rest gone)
       | inr stays ↦ ap (number_of i) (cond-false _ _ _ stays)
     ]
 
@@ -160,7 +166,8 @@ pub trimmed_head : (nodes : List Standing) → LiveHead (trimmed nodes)
 trimmed_head [] = tt
 trimmed_head (x ∷ rest) = by x.node.cancelled refl (trimmed_head rest)
   where
-    by : (b : Bool) → x.node.cancelled ≡ b → LiveHead (trimmed rest) → LiveHead (cond b (trimmed rest) (x ∷ rest))
+    by : (b : Bool) → x.node.cancelled ≡ b → LiveHead (trimmed rest) →
+        LiveHead (cond b (trimmed rest) (x ∷ rest))
     by true e ih = ih
     by false e ih = e
 
@@ -189,7 +196,8 @@ swept_number i [] = refl
 swept_number i (x ∷ rest) =
     elim (either x.node.cancelled) [
       | inl gone ↦
-          ap (number_of i) (cond-false _ _ _ (ap not gone)) ∙ swept_number i rest ∙ sym (number_past i x rest gone)
+          ap (number_of i) (cond-false _ _ _ (ap not gone)) ∙ swept_number i rest
+          ∙ sym (number_past i x rest gone)
       | inr stays ↦
           ap (number_of i) (cond-true _ _ _ (ap not stays)) ∙ number_by i x (swept rest) stays
           ∙ ap (λ o. cond (eqb x.node.arrival.seat i) (Some x.number) o) (swept_number i rest)
@@ -283,7 +291,8 @@ find_node i number (x ∷ rest) apart e =
                   is = f.is;
                   stays = f.stays;
                   seat = f.seat;
-                  place = ap (place_of i) (live_by x rest stays) ∙ cond-false _ _ _ (ne_eqb _ _ differs) ∙ f.place;
+                  place = ap (place_of i) (live_by x rest stays) ∙ cond-false _ _ _ (ne_eqb _ _ differs)
+                      ∙ f.place;
                 }
           ]
     ]
@@ -307,7 +316,8 @@ stands_live p x (y ∷ rest) e stays =
     elim (cases_eq y.number.place p) [
       | inl same ↦
           let is : y ≡ x = same_Some _ _ (sym (cond-true _ _ _ (eq-eqb _ _ same)) ∙ e) in
-          ap (λ l. is_some (place_of x.node.arrival.seat l)) (live_by y rest (ap (λ (z : Standing). z.node.cancelled) is ∙ stays))
+          ap (λ l. is_some (place_of x.node.arrival.seat l))
+          (live_by y rest (ap (λ (z : Standing). z.node.cancelled) is ∙ stays))
           ∙ ap is_some (cond-true _ _ _ (eq-eqb _ _ (ap (λ (z : Standing). z.node.arrival.seat) is)))
       | inr differs ↦
           let ih = stands_live p x rest (sym (cond-false _ _ _ (ne_eqb _ _ differs)) ∙ e) stays in
@@ -351,7 +361,8 @@ left_head x rest once apart stays =
   where
     number : (i : ℕ) → (x.node.arrival.seat ≡ i) ⊎ (x.node.arrival.seat ≡ i → ⊥) →
         place_of x.node.arrival.seat (live rest) ≡ None → number_of i rest
-        ≡ cond (eqb x.node.arrival.seat i) None (cond (eqb x.node.arrival.seat i) (Some x.number) (number_of i rest))
+        ≡ cond (eqb x.node.arrival.seat i) None (cond (eqb x.node.arrival.seat i) (Some x.number)
+        (number_of i rest))
     number i (inl e) none =
         rw (eq-eqb x.node.arrival.seat i e)
         (ap (λ k. number_of k rest) (sym e) ∙ no_number x.node.arrival.seat rest none)
@@ -363,7 +374,8 @@ cancel_absent p (x ∷ rest) e =
     let b = absent_behind p x rest e in
     ap (λ y. y ∷ cancel_at p rest) (cond-false _ _ _ b.0) ∙ ap (λ l. x ∷ l) (cancel_absent p rest b.1)
 
-cancel_keeps_place : (p q : ℕ) (nodes : List Standing) → at_place q nodes ≡ None → at_place q (cancel_at p nodes) ≡ None
+cancel_keeps_place : (p q : ℕ) (nodes : List Standing) → at_place q nodes ≡ None →
+    at_place q (cancel_at p nodes) ≡ None
 cancel_keeps_place p q [] e = refl
 cancel_keeps_place p q (x ∷ rest) e =
     let b = absent_behind q x rest e in by (is_at p x) b.0 (cancel_keeps_place p q rest b.1)
@@ -388,7 +400,8 @@ module _ (p : ℕ) (x : Standing) (stays : x.node.cancelled ≡ false) where
   -- what marking makes of the line and of the numbers
   record Marked (nodes : List Standing) : Type 0 where
     arrivals : live (cancel_at p nodes) ≡ filter (λ a. not (eqb x.node.arrival.seat a.seat)) (live nodes)
-    numbers : (i : ℕ) → number_of i (cancel_at p nodes) ≡ cond (eqb x.node.arrival.seat i) None (number_of i nodes)
+    numbers : (i : ℕ) → number_of i (cancel_at p nodes)
+        ≡ cond (eqb x.node.arrival.seat i) None (number_of i nodes)
 
   mark_here : (y : Standing) (rest : List Standing) → y ≡ x → y.number.place ≡ p →
       StandOnce (live (y ∷ rest)) → StandApart (y ∷ rest) → Marked (y ∷ rest)
@@ -396,7 +409,8 @@ module _ (p : ℕ) (x : Standing) (stays : x.node.cancelled ≡ false) where
       let y_stays : y.node.cancelled ≡ false = ap (λ (z : Standing). z.node.cancelled) is ∙ stays in
       let seat : y.node.arrival.seat ≡ x.node.arrival.seat = ap (λ (z : Standing). z.node.arrival.seat) is in
       let first : StandOnce (y.node.arrival ∷ live rest) = subst StandOnce (live_by y rest y_stays) once in
-      let none : place_of x.node.arrival.seat (live rest) ≡ None = ap (λ k. place_of k (live rest)) (sym seat) ∙ first.0 in
+      let none : place_of x.node.arrival.seat (live rest) ≡ None = ap (λ k. place_of k (live rest)) (sym seat)
+      ∙ first.0 in
       let now : cancel_at p (y ∷ rest) ≡ cancelled y ∷ rest =
       ap (λ z. z ∷ cancel_at p rest) (cond-true _ _ _ (eq-eqb _ _ same))
       ∙ ap (λ l. cancelled y ∷ l) (cancel_absent p rest (ap (λ q. at_place q rest) (sym same) ∙ apart.0)) in
@@ -409,9 +423,11 @@ module _ (p : ℕ) (x : Standing) (stays : x.node.cancelled ≡ false) where
             ∙ ap (λ o. cond (eqb x.node.arrival.seat i) None o) (sym (number_by i y rest y_stays));
       }
     where
-      by : (i : ℕ) → y.node.arrival.seat ≡ x.node.arrival.seat → place_of x.node.arrival.seat (live rest) ≡ None →
+      by : (i : ℕ) → y.node.arrival.seat ≡ x.node.arrival.seat →
+          place_of x.node.arrival.seat (live rest) ≡ None →
           (x.node.arrival.seat ≡ i) ⊎ (x.node.arrival.seat ≡ i → ⊥) → number_of i rest
-          ≡ cond (eqb x.node.arrival.seat i) None (cond (eqb y.node.arrival.seat i) (Some y.number) (number_of i rest))
+          ≡ cond (eqb x.node.arrival.seat i) None (cond (eqb y.node.arrival.seat i) (Some y.number)
+          (number_of i rest))
       by i seat none (inl e) =
           rw (eq-eqb x.node.arrival.seat i e)
           (ap (λ k. number_of k rest) (sym e) ∙ no_number x.node.arrival.seat rest none)
@@ -436,8 +452,10 @@ module _ (p : ℕ) (x : Standing) (stays : x.node.cancelled ≡ false) where
       }
     where
       by : (i : ℕ) → (x.node.arrival.seat ≡ i) ⊎ (x.node.arrival.seat ≡ i → ⊥) →
-          cond (eqb y.node.arrival.seat i) (Some y.number) (cond (eqb x.node.arrival.seat i) None (number_of i rest))
-          ≡ cond (eqb x.node.arrival.seat i) None (cond (eqb y.node.arrival.seat i) (Some y.number) (number_of i rest))
+          cond (eqb y.node.arrival.seat i) (Some y.number)
+          (cond (eqb x.node.arrival.seat i) None (number_of i rest))
+          ≡ cond (eqb x.node.arrival.seat i) None (cond (eqb y.node.arrival.seat i) (Some y.number)
+          (number_of i rest))
       by i (inl e) =
           rw (eq-eqb x.node.arrival.seat i e)
           (cond-false _ _ _ (ne_eqb y.node.arrival.seat i (λ f. others (f ∙ sym e))))
@@ -470,9 +488,11 @@ module _ (p : ℕ) (x : Standing) (stays : x.node.cancelled ≡ false) where
                   mark_past y rest differs gone
                   (mark rest later (subst StandOnce (live_past y rest gone) once) apart.1)
               | inr y_stays ↦
-                  let first : StandOnce (y.node.arrival ∷ live rest) = subst StandOnce (live_by y rest y_stays) once in
+                  let first : StandOnce (y.node.arrival ∷ live rest) =
+                  subst StandOnce (live_by y rest y_stays) once in
                   let others : y.node.arrival.seat ≢ x.node.arrival.seat = λ same.
-                  no (ap (λ k. place_of k (live rest)) (sym same) ∙ first.0) (stands_live p x rest later stays) in
+                  no (ap (λ k. place_of k (live rest)) (sym same)
+                  ∙ first.0) (stands_live p x rest later stays) in
                   mark_behind y rest differs y_stays others (mark rest later first.1 apart.1)
             ]
       ]
@@ -482,7 +502,8 @@ module _ (p : ℕ) (x : Standing) (stays : x.node.cancelled ≡ false) where
       no none some = let f : false ≡ true = sym (ap is_some none) ∙ some in cc
 
   pub left_marked : (nodes : List Standing) → at_place p nodes ≡ Some x → StandOnce (live nodes) →
-      StandApart nodes → LiveHead (cancel_at p nodes) → LeftNodes x.node.arrival.seat nodes (cancel_at p nodes)
+      StandApart nodes → LiveHead (cancel_at p nodes) →
+      LeftNodes x.node.arrival.seat nodes (cancel_at p nodes)
   left_marked nodes e once apart head =
       let marked = mark nodes e once apart in
       record {
@@ -510,7 +531,27 @@ left_by_number s number (x ∷ rest) once apart head e =
           subst (λ l. LeftNodes s (x ∷ rest) l) (sym (cond-false _ _ _ (ne_eqb _ _ differs)))
           (subst (λ k. LeftNodes k (x ∷ rest) (cancel_at number.place (x ∷ rest))) f.seat
           (left_marked number.place f.node f.stays (x ∷ rest) f.at once apart
-          (subst (λ z. LiveHead (z ∷ cancel_at number.place rest)) (sym (cond-false _ _ _ (ne_eqb _ _ differs))) head)))
+          (subst (λ z. LiveHead (z ∷ cancel_at number.place rest))
+          (sym (cond-false _ _ _ (ne_eqb _ _ differs))) head)))
+    ]
+
+-- a node that leaves from between others stays as a marked one
+pub left_between : (s : ℕ) (number : NodeNo) (nodes : List Standing) → StandApart nodes → LiveHead nodes →
+    number_of s nodes ≡ Some number → (first : Arrival) → first_of (live nodes) ≡ Some first →
+    (first.seat ≡ s → ⊥) → length (left_by number nodes) ≡ length nodes
+left_between s number [] apart head e first is other = absurd (none-some number e)
+left_between s number (x ∷ rest) apart head e first is other =
+    elim (cases_eq x.number.place number.place) [
+      | inl same ↦
+          let f = find_node s number (x ∷ rest) apart e in
+          let found : x ≡ f.node = same_Some _ _ (sym (cond-true _ _ _ (eq-eqb _ _ same)) ∙ f.at) in
+          let own : first ≡ x.node.arrival =
+          same_Some _ _ (sym is ∙ ap first_of (live_by x rest head)) in
+          absurd (other (ap (λ (a : Arrival). a.seat) own ∙ ap (λ (z : Standing). z.node.arrival.seat) found
+          ∙ f.seat))
+      | inr differs ↦
+          ap length (cond-false _ _ _ (ne_eqb _ _ differs))
+          ∙ length-map (x ∷ rest) (λ z. cond (is_at number.place z) (cancelled z) z)
     ]
 
 pub left_swept : (s : ℕ) (old new : List Standing) → LeftNodes s old new → LeftNodes s old (swept new)
@@ -531,6 +572,21 @@ left_swept s old new left =
             length (cond b (live rest) (x.node.arrival ∷ live rest)) ≤ length (x ∷ rest)
         by true ih = omega (arith, ih)
         by false ih = omega (arith, ih)
+
+-- how many nodes stand once one left from between others, and all cancelled ones were freed or none
+pub standing_swept : (seats : ℕ) (old left new : List Standing) → length left ≡ length old →
+    new ≡ swept left → length (live new) + seats < length left →
+    length new ≡ standing_behind seats (length (live new)) (length old)
+standing_swept seats old left new same is more =
+    ap length is ∙ swept_length left ∙ ap length (sym (swept_live left))
+    ∙ ap (λ l. length (live l)) (sym is)
+    ∙ sym (cond-true _ _ _ (lt-ltb (length (live new) + seats) (length old) (omega (arith, same, more))))
+
+pub standing_left : (seats : ℕ) (old left : List Standing) → length left ≡ length old →
+    length left ≤ length (live left) + seats →
+    length left ≡ standing_behind seats (length (live left)) (length old)
+standing_left seats old left same few =
+    same ∙ sym (cond-false _ _ _ (le-ltb (length (live left) + seats) (length old) (omega (arith, same, few))))
 
 -- ---- freeing all cancelled ones, place by place
 
@@ -604,7 +660,8 @@ swept_gone p (x ∷ rest) gone =
     elim (cases_eq x.number.place p) [
       | inl same ↦
           let here : leb p x.number.place ≡ true = le-leb p x.number.place (omega (arith, same)) in
-          let past : leb (p + 1) x.number.place ≡ false = lt-leb (p + 1) x.number.place (omega (arith, same)) in
+          let past : leb (p + 1) x.number.place ≡ false =
+          lt-leb (p + 1) x.number.place (omega (arith, same)) in
           let now : is_live x ≡ false = ap not (gone.0 same) in
           ap (without_place p) (cond-true _ _ _ (ap (λ b. b || leb p x.number.place) now ∙ here))
           ∙ cond-false _ _ _ (ap not (eq-eqb _ _ same)) ∙ swept_gone p rest gone.1
@@ -612,7 +669,8 @@ swept_gone p (x ∷ rest) gone =
       | inr differs ↦
           let same_test : stays_from p x ≡ stays_from (p + 1) x =
           ap (λ b. is_live x || b) (from_other p x.number.place differs) in
-          by (stays_from p x) (stays_from (p + 1) x) same_test (ap not (ne_eqb _ _ differs)) (swept_gone p rest gone.1)
+          by (stays_from p x) (stays_from (p + 1) x) same_test (ap not (ne_eqb _ _ differs))
+          (swept_gone p rest gone.1)
     ]
   where
     by : (b d : Bool) → b ≡ d → not (is_at p x) ≡ true →
@@ -624,7 +682,8 @@ swept_gone p (x ∷ rest) gone =
     by false true e n ih = cc
     by false false e n ih = ih
 
-swept_stay : (p : ℕ) (nodes : List Standing) → AllAt p false nodes → swept_below p nodes ≡ swept_below (p + 1) nodes
+swept_stay : (p : ℕ) (nodes : List Standing) → AllAt p false nodes →
+    swept_below p nodes ≡ swept_below (p + 1) nodes
 swept_stay p [] stay = refl
 swept_stay p (x ∷ rest) stay =
     by (stays_from p x) (stays_from (p + 1) x)
@@ -663,7 +722,9 @@ pub swept_all : (p : ℕ) (nodes : List Standing) →
 swept_all p [] below = refl
 swept_all p (x ∷ rest) below =
     let low : x.number.place < p =
-    below x.number.place (subst IsSome (sym (cond-true _ (Some x) (at_place x.number.place rest) (eq-eqb x.number.place x.number.place refl))) refl) in
+    below x.number.place (subst IsSome
+    (sym (cond-true _ (Some x) (at_place x.number.place rest)
+    (eq-eqb x.number.place x.number.place refl))) refl) in
     by (is_live x) (lt-leb p x.number.place low) (swept_all p rest (λ q some. below q (more q some)))
   where
     more : (q : ℕ) → IsSome (at_place q rest) → IsSome (at_place q (x ∷ rest))
@@ -681,7 +742,8 @@ swept_all p (x ∷ rest) below =
 
 -- ---- the head
 
-pub without_head : (p : ℕ) (x : Standing) (rest : List Standing) → StandApart (x ∷ rest) → x.number.place ≡ p →
+pub without_head : (p : ℕ) (x : Standing) (rest : List Standing) → StandApart (x ∷ rest) →
+    x.number.place ≡ p →
     without_place p (x ∷ rest) ≡ rest
 without_head p x rest apart same =
     cond-false _ _ _ (ap not (eq-eqb _ _ same))
@@ -700,7 +762,8 @@ head_is (y ∷ rest) x e = let same : y ≡ x = same_Some _ _ (sym e) in ap (λ 
 
 pub head_under : (x : Standing) (rest : List Standing) → under x.number (x ∷ rest) ≡ Some x.node
 head_under x rest =
-    ap (of_number x.number) (cond-true _ (Some x) (at_place x.number.place rest) (eq-eqb x.number.place x.number.place refl))
+    ap (of_number x.number) (cond-true _ (Some x) (at_place x.number.place rest)
+    (eq-eqb x.number.place x.number.place refl))
     ∙ cond-true _ _ _ (eq-eqb x.number.generation x.number.generation refl)
 
 pub nobody : (nodes : List Standing) → None ≡ slice_get nodes 0 → nodes ≡ []
@@ -709,118 +772,128 @@ nobody (x ∷ rest) e = cc
 
 -- ---- the table beside the nodes
 
-module _ (seats waiting : ℕ) (n : Nodes) (table : List (Option NodeNo)) (kept : IsKept seats waiting n table) where
-  pub below : (i : ℕ) → is_some (place_of i (live n.nodes)) ≡ true → i < seats
-  below i p =
-      elim (cases_lt i seats) [
-        | inl low ↦ low
-        | inr high ↦
-            let past : number_of i n.nodes ≡ None =
-            sym (kept.tabled i) ∙ get_or_past table i None (omega (arith, kept.one_a_seat, high)) in
-            let no : false ≡ true = ap is_some (sym past) ∙ numbered i n.nodes ∙ p in
-            cc
-      ]
+module _ (seats waiting : ℕ) (n : Nodes) (table : List (Option NodeNo)) (kept : IsKept seats waiting n table)
+  where
+    pub below : (i : ℕ) → is_some (place_of i (live n.nodes)) ≡ true → i < seats
+    below i p =
+        elim (cases_lt i seats) [
+          | inl low ↦ low
+          | inr high ↦
+              let past : number_of i n.nodes ≡ None =
+              sym (kept.tabled i) ∙ get_or_past table i None (omega (arith, kept.one_a_seat, high)) in
+              let no : false ≡ true = ap is_some (sym past) ∙ numbered i n.nodes ∙ p in
+              cc
+        ]
 
-  pub few_wait : waiting ≤ seats
-  few_wait = omega (arith, kept.counted, length-few seats (live n.nodes) kept.once below)
+    pub few_wait : waiting ≤ seats
+    few_wait = omega (arith, kept.counted, length-few seats (live n.nodes) kept.once below)
 
-  pub head_stands : (x : Standing) → Some x ≡ slice_get n.nodes 0 → x.node.cancelled ≡ false
-  head_stands x e = subst LiveHead (head_is n.nodes x e) kept.headed
+    pub head_stands : (x : Standing) → Some x ≡ slice_get n.nodes 0 → x.node.cancelled ≡ false
+    head_stands x e = subst LiveHead (head_is n.nodes x e) kept.headed
 
-  -- a seat that stands in line
-  pub find_seat : (s : ℕ) (number : NodeNo) → number_of s n.nodes ≡ Some number → Found s number n.nodes
-  find_seat s number e = find_node s number n.nodes kept.apart e
+    -- a seat that stands in line
+    pub find_seat : (s : ℕ) (number : NodeNo) → number_of s n.nodes ≡ Some number → Found s number n.nodes
+    find_seat s number e = find_node s number n.nodes kept.apart e
 
-  pub seat_below : (s : ℕ) (number : NodeNo) → number_of s n.nodes ≡ Some number → s < seats
-  seat_below s number e = below s (ap is_some (find_seat s number e).place)
+    pub seat_below : (s : ℕ) (number : NodeNo) → number_of s n.nodes ≡ Some number → s < seats
+    seat_below s number e = below s (ap is_some (find_seat s number e).place)
 
-  module _ (a : Arrival) (low : a.seat < seats) (absent : place_of a.seat (live n.nodes) ≡ None) where
-    pub room : waiting + 1 ≤ seats
-    room =
-        let more = length-few seats (live n.nodes ++ a ∷ []) (once-push a (live n.nodes) kept.once absent)
-        (λ i p. by i (cases_eq a.seat i) p) in
-        omega (arith, more, length_push (live n.nodes) a, kept.counted)
-      where
-        by : (i : ℕ) → (a.seat ≡ i) ⊎ (a.seat ≡ i → ⊥) → is_some (place_of i (live n.nodes ++ a ∷ [])) ≡ true → i < seats
-        by i (inl e) p = omega (arith, e, low)
-        by i (inr m) p =
-            below i (sym (ap is_some (place_of-push_other i a (live n.nodes) (ne_eqb a.seat i m))) ∙ p)
+    module _ (a : Arrival) (low : a.seat < seats) (absent : place_of a.seat (live n.nodes) ≡ None) where
+      pub room : waiting + 1 ≤ seats
+      room =
+          let more = length-few seats (live n.nodes ++ a ∷ []) (once-push a (live n.nodes) kept.once absent)
+          (λ i p. by i (cases_eq a.seat i) p) in
+          omega (arith, more, length_push (live n.nodes) a, kept.counted)
+        where
+          by : (i : ℕ) → (a.seat ≡ i) ⊎ (a.seat ≡ i → ⊥) →
+              is_some (place_of i (live n.nodes ++ a ∷ [])) ≡ true → i < seats
+          by i (inl e) p = omega (arith, e, low)
+          by i (inr m) p =
+              below i (sym (ap is_some (place_of-push_other i a (live n.nodes) (ne_eqb a.seat i m))) ∙ p)
 
-    pub place_free : length n.nodes < n.places
-    place_free = omega (arith, room, kept.bounded, kept.reserved)
+      pub place_free : length n.nodes < n.places
+      place_free = omega (arith, room, kept.bounded, kept.reserved)
 
-    pub kept_joined : (m : Nodes) (number : NodeNo) →
-        m.nodes ≡ n.nodes ++ record { number = number; node = record { arrival = a; cancelled = false } } ∷ [] →
-        at_place number.place n.nodes ≡ None → m.places ≡ n.places →
-        IsKept seats (waiting + 1) m (set table a.seat (Some number))
-    kept_joined m number is vacant places =
-        let x : Standing = record { number = number; node = record { arrival = a; cancelled = false } } in
-        let line : live m.nodes ≡ live n.nodes ++ a ∷ [] = ap live is ∙ live-push x n.nodes refl in
+      -- the node of who joins, under a number
+      abbrev pub newcomer : NodeNo → Standing
+      newcomer number = record { number = number; node = record { arrival = a; cancelled = false } }
+
+      pub kept_joined : (m : Nodes) (number : NodeNo) → m.nodes ≡ n.nodes ++ newcomer number ∷ [] →
+          at_place number.place n.nodes ≡ None → m.places ≡ n.places →
+          IsKept seats (waiting + 1) m (set table a.seat (Some number))
+      kept_joined m number is vacant places =
+          let x = newcomer number in
+          let line : live m.nodes ≡ live n.nodes ++ a ∷ [] = ap live is ∙ live-push x n.nodes refl in
+          record {
+            once = subst StandOnce (sym line) (once-push a (live n.nodes) kept.once absent);
+            tabled = λ i. by i (cases_eq i a.seat) ∙ ap (number_of i) (sym is);
+            one_a_seat = length-set table a.seat (Some number) ∙ kept.one_a_seat;
+            apart = subst StandApart (sym is) (apart-push x n.nodes kept.apart vacant);
+            headed = subst LiveHead (sym is) (head-push x n.nodes refl kept.headed);
+            counted = omega (arith, ap length line, length_push (live n.nodes) a, kept.counted);
+            bounded = omega (arith, ap length is, length_push n.nodes x, kept.bounded);
+            reserved = omega (arith, kept.reserved, places);
+            few = kept.few;
+          }
+        where
+          by : (i : ℕ) → (i ≡ a.seat) ⊎ (i ≡ a.seat → ⊥) →
+              get_or (set table a.seat (Some number)) i None ≡ number_of i (n.nodes ++ newcomer number ∷ [])
+          by i (inl e) =
+              rw e (get_or-set_same table a.seat (Some number) None (omega (arith, kept.one_a_seat, low))
+              ∙ sym (number-push_same (newcomer number) n.nodes refl (no_number a.seat n.nodes absent)))
+          by i (inr m) =
+              get_or-set_other table a.seat i (Some number) None m ∙ kept.tabled i
+              ∙ sym (number-push_other i (newcomer number) n.nodes refl (ne_eqb a.seat i (λ e. m (sym e))))
+
+    module _ (s fewer : ℕ) (stands : is_some (place_of s (live n.nodes)) ≡ true)
+        (one : fewer ≡ waiting - 1) where
+      pub some_wait : 1 ≤ waiting
+      some_wait = omega (arith, length-left s (live n.nodes) kept.once stands, kept.counted)
+
+      pub kept_left : (m : Nodes) → LeftNodes s n.nodes m.nodes → length m.nodes ≤ fewer + seats →
+          m.places ≡ n.places → IsKept seats fewer m (set table s None)
+      kept_left m left bounded places =
+          record {
+            once = subst StandOnce (sym left.arrivals) (once-left s (live n.nodes) kept.once);
+            tabled = λ i. by i (cases_eq i s) ∙ sym (left.numbers i);
+            one_a_seat = length-set table s None ∙ kept.one_a_seat;
+            apart = left.apart;
+            headed = left.headed;
+            counted = omega (
+              arith,
+              ap length left.arrivals,
+              length-left s (live n.nodes) kept.once stands,
+              kept.counted,
+              one,
+            );
+            bounded = bounded;
+            reserved = omega (arith, kept.reserved, places);
+            few = kept.few;
+          }
+        where
+          by : (i : ℕ) → (i ≡ s) ⊎ (i ≡ s → ⊥) →
+              get_or (set table s None) i None ≡ cond (eqb s i) None (number_of i n.nodes)
+          by i (inl e) =
+              rw e (rw (eq-eqb s s refl)
+              (get_or-set_same table s None None (omega (arith, kept.one_a_seat, below s stands))))
+          by i (inr m) =
+              rw (ne_eqb s i (λ e. m (sym e))) (get_or-set_other table s i None None m ∙ kept.tabled i)
+
+    pub kept_swept : (m : Nodes) → m.nodes ≡ swept n.nodes → m.places ≡ n.places →
+        IsKept seats waiting m table
+    kept_swept m is places =
+        let line : live m.nodes ≡ live n.nodes = ap live is ∙ swept_live n.nodes in
         record {
-          once = subst StandOnce (sym line) (once-push a (live n.nodes) kept.once absent);
-          tabled = λ i. by x i (cases_eq i a.seat) ∙ ap (number_of i) (sym is);
-          one_a_seat = length-set table a.seat (Some number) ∙ kept.one_a_seat;
-          apart = subst StandApart (sym is) (apart-push x n.nodes kept.apart vacant);
-          headed = subst LiveHead (sym is) (head-push x n.nodes refl kept.headed);
-          counted = omega (arith, ap length line, length_push (live n.nodes) a, kept.counted);
-          bounded = omega (arith, ap length is, length_push n.nodes x, kept.bounded);
+          once = subst StandOnce (sym line) kept.once;
+          tabled = λ i. kept.tabled i ∙ sym (ap (number_of i) is ∙ swept_number i n.nodes);
+          one_a_seat = kept.one_a_seat;
+          apart = subst StandApart (sym is) (swept_apart n.nodes kept.apart);
+          headed = subst LiveHead (sym is) (swept_head n.nodes);
+          counted = ap length line ∙ kept.counted;
+          bounded = omega (arith, ap length is, swept_length n.nodes, kept.counted);
           reserved = omega (arith, kept.reserved, places);
           few = kept.few;
         }
-      where
-        by : (x : Standing) → (i : ℕ) → (i ≡ a.seat) ⊎ (i ≡ a.seat → ⊥) →
-            get_or (set table a.seat (Some number)) i None
-            ≡ number_of i (n.nodes ++ record { number = number; node = record { arrival = a; cancelled = false } } ∷ [])
-        by x i (inl e) =
-            rw e (get_or-set_same table a.seat (Some number) None (omega (arith, kept.one_a_seat, low))
-            ∙ sym (number-push_same (record { number = number; node = record { arrival = a; cancelled = false } }) n.nodes refl
-            (no_number a.seat n.nodes absent)))
-        by x i (inr m) =
-            get_or-set_other table a.seat i (Some number) None m ∙ kept.tabled i
-            ∙ sym (number-push_other i (record { number = number; node = record { arrival = a; cancelled = false } }) n.nodes refl
-            (ne_eqb a.seat i (λ e. m (sym e))))
-
-  module _ (s fewer : ℕ) (stands : is_some (place_of s (live n.nodes)) ≡ true) (one : fewer ≡ waiting - 1) where
-    pub some_wait : 1 ≤ waiting
-    some_wait = omega (arith, length-left s (live n.nodes) kept.once stands, kept.counted)
-
-    pub kept_left : (m : Nodes) → LeftNodes s n.nodes m.nodes → length m.nodes ≤ fewer + seats →
-        m.places ≡ n.places → IsKept seats fewer m (set table s None)
-    kept_left m left bounded places =
-        record {
-          once = subst StandOnce (sym left.arrivals) (once-left s (live n.nodes) kept.once);
-          tabled = λ i. by i (cases_eq i s) ∙ sym (left.numbers i);
-          one_a_seat = length-set table s None ∙ kept.one_a_seat;
-          apart = left.apart;
-          headed = left.headed;
-          counted = omega (arith, ap length left.arrivals, length-left s (live n.nodes) kept.once stands, kept.counted, one);
-          bounded = bounded;
-          reserved = omega (arith, kept.reserved, places);
-          few = kept.few;
-        }
-      where
-        by : (i : ℕ) → (i ≡ s) ⊎ (i ≡ s → ⊥) →
-            get_or (set table s None) i None ≡ cond (eqb s i) None (number_of i n.nodes)
-        by i (inl e) =
-            rw e (rw (eq-eqb s s refl)
-            (get_or-set_same table s None None (omega (arith, kept.one_a_seat, below s stands))))
-        by i (inr m) =
-            rw (ne_eqb s i (λ e. m (sym e))) (get_or-set_other table s i None None m ∙ kept.tabled i)
-
-  pub kept_swept : (m : Nodes) → m.nodes ≡ swept n.nodes → m.places ≡ n.places → IsKept seats waiting m table
-  kept_swept m is places =
-      let line : live m.nodes ≡ live n.nodes = ap live is ∙ swept_live n.nodes in
-      record {
-        once = subst StandOnce (sym line) kept.once;
-        tabled = λ i. kept.tabled i ∙ sym (ap (number_of i) is ∙ swept_number i n.nodes);
-        one_a_seat = kept.one_a_seat;
-        apart = subst StandApart (sym is) (swept_apart n.nodes kept.apart);
-        headed = subst LiveHead (sym is) (swept_head n.nodes);
-        counted = ap length line ∙ kept.counted;
-        bounded = omega (arith, ap length is, swept_length n.nodes, kept.counted);
-        reserved = omega (arith, kept.reserved, places);
-        few = kept.few;
-      }
 
 -- ---- walking over the nodes
 
@@ -833,15 +906,18 @@ at_found p nodes x e =
           ∙ cond-true _ _ _ (eq-eqb x.number.generation x.number.generation refl),
     )
   where
-    place_found : (p : ℕ) (nodes : List Standing) (x : Standing) → at_place p nodes ≡ Some x → x.number.place ≡ p
+    place_found : (p : ℕ) (nodes : List Standing) (x : Standing) → at_place p nodes ≡ Some x →
+        x.number.place ≡ p
     place_found p [] x e = absurd (none-some x e)
     place_found p (y ∷ rest) x e =
         elim (cases_eq y.number.place p) [
-          | inl same ↦ ap (λ (z : Standing). z.number.place) (sym (same_Some _ _ (sym (cond-true _ _ _ (eq-eqb _ _ same)) ∙ e))) ∙ same
+          | inl same ↦ ap (λ (z : Standing). z.number.place)
+              (sym (same_Some _ _ (sym (cond-true _ _ _ (eq-eqb _ _ same)) ∙ e))) ∙ same
           | inr differs ↦ place_found p rest x (sym (cond-false _ _ _ (ne_eqb _ _ differs)) ∙ e)
         ]
 
-pub at_index : (nodes : List Standing) (k : ℕ) (x : Standing) → StandApart nodes → slice_get nodes k ≡ Some x →
+pub at_index : (nodes : List Standing) (k : ℕ) (x : Standing) → StandApart nodes →
+    slice_get nodes k ≡ Some x →
     at_place x.number.place nodes ≡ Some x
 at_index [] k x apart e = absurd (none-some x e)
 at_index (y ∷ rest) zero x apart e =
@@ -849,7 +925,8 @@ at_index (y ∷ rest) zero x apart e =
     cond-true _ _ _ (eq-eqb _ _ (ap (λ (z : Standing). z.number.place) same)) ∙ ap Some same
 at_index (y ∷ rest) (suc k) x apart e =
     let later = at_index rest k x apart.1 e in
-    cond-false _ _ _ (ne_eqb _ _ (λ same. none-some x (sym (ap (λ q. at_place q rest) (sym same) ∙ apart.0) ∙ later)))
+    cond-false _ _ _ (ne_eqb _ _ (λ same. none-some x (sym (ap (λ q. at_place q rest) (sym same) ∙ apart.0)
+    ∙ later)))
     ∙ later
 
 pub drop_at : (nodes : List Standing) (k : ℕ) (x : Standing) → slice_get nodes k ≡ Some x →
@@ -920,7 +997,8 @@ module _ (s : ℕ) (nodes : List Standing) (k before : ℕ)
         Some before ≡ position (λ a. eqb a.seat s) (live nodes)
     walk_found stays same =
         sym (in_all
-        ∙ ap (λ l. position_from (λ a. eqb a.seat s) before l) (ap live (drop_at nodes k x at) ∙ live_by x (drop (suc k) nodes) stays)
+        ∙ ap (λ l. position_from (λ a. eqb a.seat s) before l) (ap live (drop_at nodes k x at)
+        ∙ live_by x (drop (suc k) nodes) stays)
         ∙ cond-true _ _ _ (eq-eqb _ _ same))
 
     pub walk_live : x.node.cancelled ≡ false → x.node.arrival.seat ≢ s →
@@ -928,7 +1006,8 @@ module _ (s : ℕ) (nodes : List Standing) (k before : ℕ)
         ≡ position_from (λ a. eqb a.seat s) 0 (live nodes)
     walk_live stays differs =
         sym (ap (λ l. position_from (λ a. eqb a.seat s) before l)
-        (ap live (drop_at nodes k x at ∙ ap (λ j. x ∷ drop j nodes) (sym (add-one k))) ∙ live_by x (drop (k + 1) nodes) stays)
+        (ap live (drop_at nodes k x at ∙ ap (λ j. x ∷ drop j nodes) (sym (add-one k)))
+        ∙ live_by x (drop (k + 1) nodes) stays)
         ∙ cond-false _ _ _ (ne_eqb _ _ differs))
         ∙ before_is
 
@@ -937,104 +1016,117 @@ module _ (s : ℕ) (nodes : List Standing) (k before : ℕ)
         ≡ position_from (λ a. eqb a.seat s) 0 (live nodes)
     walk_past gone =
         sym (ap (λ l. position_from (λ a. eqb a.seat s) before l)
-        (ap live (drop_at nodes k x at ∙ ap (λ j. x ∷ drop j nodes) (sym (add-one k))) ∙ live_past x (drop (k + 1) nodes) gone))
+        (ap live (drop_at nodes k x at ∙ ap (λ j. x ∷ drop j nodes) (sym (add-one k)))
+        ∙ live_past x (drop (k + 1) nodes) gone))
         ∙ before_is
 
 pub live_one : (nodes : List Standing) (k : ℕ) (x : Standing) → slice_get nodes k ≡ Some x →
     x.node.cancelled ≡ false → length (live (drop k nodes)) ≡ length (live (drop (k + 1) nodes)) + 1
 live_one nodes k x at stays =
-    let e = ap live (drop_at nodes k x at ∙ ap (λ j. x ∷ drop j nodes) (sym (add-one k))) ∙ live_by x (drop (k + 1) nodes) stays in
+    let e = ap live (drop_at nodes k x at ∙ ap (λ j. x ∷ drop j nodes) (sym (add-one k)))
+    ∙ live_by x (drop (k + 1) nodes) stays in
     omega (arith, ap length e)
 
 pub live_none : (nodes : List Standing) (k : ℕ) (x : Standing) → slice_get nodes k ≡ Some x →
     x.node.cancelled ≡ true → length (live (drop k nodes)) ≡ length (live (drop (k + 1) nodes))
 live_none nodes k x at gone =
-    ap length (ap live (drop_at nodes k x at ∙ ap (λ j. x ∷ drop j nodes) (sym (add-one k))) ∙ live_past x (drop (k + 1) nodes) gone)
+    ap length (ap live (drop_at nodes k x at ∙ ap (λ j. x ∷ drop j nodes) (sym (add-one k)))
+    ∙ live_past x (drop (k + 1) nodes) gone)
 
 -- ---- what leaving makes of the table and the nodes
 
-module _ (seats waiting : ℕ) (n : Nodes) (table : List (Option NodeNo)) (kept : IsKept seats waiting n table) where
-  module _ (s : ℕ) (number : NodeNo) (e : number_of s n.nodes ≡ Some number) where
-    pub stands_by : is_some (place_of s (live n.nodes)) ≡ true
-    stands_by = ap is_some (find_seat seats waiting n table kept s number e).place
+module _ (seats waiting : ℕ) (n : Nodes) (table : List (Option NodeNo)) (kept : IsKept seats waiting n table)
+  where
+    module _ (s : ℕ) (number : NodeNo) (e : number_of s n.nodes ≡ Some number) where
+      pub stands_by : is_some (place_of s (live n.nodes)) ≡ true
+      stands_by = ap is_some (find_seat seats waiting n table kept s number e).place
 
-    pub under_by : IsSome (under number n.nodes)
-    under_by = subst IsSome (sym (found_under s number n.nodes (find_seat seats waiting n table kept s number e))) refl
+      pub under_by : IsSome (under number n.nodes)
+      under_by = subst IsSome
+          (sym (found_under s number n.nodes (find_seat seats waiting n table kept s number e))) refl
 
-    pub left_node : (m : Nodes) → m.nodes ≡ left_by number n.nodes → LeftNodes s n.nodes m.nodes
-    left_node m is =
-        subst (LeftNodes s n.nodes) (sym is) (left_by_number s number n.nodes kept.once kept.apart kept.headed e)
+      pub left_node : (m : Nodes) → m.nodes ≡ left_by number n.nodes → LeftNodes s n.nodes m.nodes
+      left_node m is =
+          subst (LeftNodes s n.nodes) (sym is) (left_by_number s number n.nodes kept.once kept.apart
+          kept.headed
+          e)
 
-    pub kept_gone : (m : Nodes) (fewer : ℕ) → fewer ≡ waiting - 1 → m.nodes ≡ left_by number n.nodes →
-        m.places ≡ n.places → length m.nodes ≤ fewer + seats → IsKept seats fewer m (set table s None)
-    kept_gone m fewer one is places bounded =
-        kept_left seats waiting n table kept s fewer stands_by one m (left_node m is) bounded places
+      pub kept_gone : (m : Nodes) (fewer : ℕ) → fewer ≡ waiting - 1 → m.nodes ≡ left_by number n.nodes →
+          m.places ≡ n.places → length m.nodes ≤ fewer + seats → IsKept seats fewer m (set table s None)
+      kept_gone m fewer one is places bounded =
+          kept_left seats waiting n table kept s fewer stands_by one m (left_node m is) bounded places
 
-    pub kept_gone_swept : (m o : Nodes) (fewer : ℕ) → fewer ≡ waiting - 1 → m.nodes ≡ left_by number n.nodes →
-        m.places ≡ n.places → o.nodes ≡ swept m.nodes → o.places ≡ m.places → IsKept seats fewer o (set table s None)
-    kept_gone_swept m o fewer one is places all more =
-        let left = left_node m is in
-        kept_left seats waiting n table kept s fewer stands_by one o
-        (subst (LeftNodes s n.nodes) (sym all) (left_swept s n.nodes m.nodes left))
-        (omega (
-          arith,
-          ap length all,
-          swept_length m.nodes,
-          ap length left.arrivals,
-          length-left s (live n.nodes) kept.once stands_by,
-          kept.counted,
-          one,
-        ))
-        (more ∙ places)
+      pub kept_gone_swept : (m o : Nodes) (fewer : ℕ) → fewer ≡ waiting - 1 →
+          m.nodes ≡ left_by number n.nodes →
+          m.places ≡ n.places → o.nodes ≡ swept m.nodes → o.places ≡ m.places →
+          IsKept seats fewer o (set table s None)
+      kept_gone_swept m o fewer one is places all more =
+          let left = left_node m is in
+          kept_left seats waiting n table kept s fewer stands_by one o
+          (subst (LeftNodes s n.nodes) (sym all) (left_swept s n.nodes m.nodes left))
+          (omega (
+            arith,
+            ap length all,
+            swept_length m.nodes,
+            ap length left.arrivals,
+            length-left s (live n.nodes) kept.once stands_by,
+            kept.counted,
+            one,
+          ))
+          (more ∙ places)
 
-    pub line_gone_swept : (m o : Nodes) → m.nodes ≡ left_by number n.nodes → o.nodes ≡ swept m.nodes →
-        live o.nodes ≡ filter (λ a. not (eqb s a.seat)) (live n.nodes)
-    line_gone_swept m o is all = ap live all ∙ swept_live m.nodes ∙ (left_node m is).arrivals
+      pub line_gone_swept : (m o : Nodes) → m.nodes ≡ left_by number n.nodes → o.nodes ≡ swept m.nodes →
+          live o.nodes ≡ filter (λ a. not (eqb s a.seat)) (live n.nodes)
+      line_gone_swept m o is all = ap live all ∙ swept_live m.nodes ∙ (left_node m is).arrivals
 
-  module _ (x : Standing) (e : Some x ≡ slice_get n.nodes 0) where
-    pub first_stays : x.node.cancelled ≡ false
-    first_stays = head_stands seats waiting n table kept x e
+    module _ (x : Standing) (e : Some x ≡ slice_get n.nodes 0) where
+      pub first_stays : x.node.cancelled ≡ false
+      first_stays = head_stands seats waiting n table kept x e
 
-    pub first_is : live n.nodes ≡ x.node.arrival ∷ live (drop 1 n.nodes)
-    first_is = ap live (head_is n.nodes x e) ∙ live_by x (drop 1 n.nodes) first_stays
+      pub first_is : live n.nodes ≡ x.node.arrival ∷ live (drop 1 n.nodes)
+      first_is = ap live (head_is n.nodes x e) ∙ live_by x (drop 1 n.nodes) first_stays
 
-    pub first_stands : is_some (place_of x.node.arrival.seat (live n.nodes)) ≡ true
-    first_stands =
-        ap (λ l. is_some (place_of x.node.arrival.seat l)) first_is
-        ∙ ap is_some (cond-true _ (Some x.node.arrival) (place_of x.node.arrival.seat (live (drop 1 n.nodes))) (eq-eqb x.node.arrival.seat x.node.arrival.seat refl))
+      pub first_stands : is_some (place_of x.node.arrival.seat (live n.nodes)) ≡ true
+      first_stands =
+          ap (λ l. is_some (place_of x.node.arrival.seat l)) first_is
+          ∙ ap is_some (cond-true _ (Some x.node.arrival)
+          (place_of x.node.arrival.seat (live (drop 1 n.nodes)))
+          (eq-eqb x.node.arrival.seat x.node.arrival.seat refl))
 
-    pub first_seat : x.node.arrival.seat < seats
-    first_seat = below seats waiting n table kept x.node.arrival.seat first_stands
+      pub first_seat : x.node.arrival.seat < seats
+      first_seat = below seats waiting n table kept x.node.arrival.seat first_stands
 
-    pub left_at_head : (m : Nodes) → m.nodes ≡ trimmed (drop 1 n.nodes) →
-        LeftNodes x.node.arrival.seat n.nodes m.nodes
-    left_at_head m is =
-        let split = head_is n.nodes x e in
-        subst (LeftNodes x.node.arrival.seat n.nodes) (sym is)
-        (subst (λ l. LeftNodes x.node.arrival.seat l (trimmed (drop 1 n.nodes))) (sym split)
-        (left_head x (drop 1 n.nodes) (subst (λ l. StandOnce (live l)) split kept.once)
-        (subst StandApart split kept.apart) first_stays))
+      pub left_at_head : (m : Nodes) → m.nodes ≡ trimmed (drop 1 n.nodes) →
+          LeftNodes x.node.arrival.seat n.nodes m.nodes
+      left_at_head m is =
+          let split = head_is n.nodes x e in
+          subst (LeftNodes x.node.arrival.seat n.nodes) (sym is)
+          (subst (λ l. LeftNodes x.node.arrival.seat l (trimmed (drop 1 n.nodes))) (sym split)
+          (left_head x (drop 1 n.nodes) (subst (λ l. StandOnce (live l)) split kept.once)
+          (subst StandApart split kept.apart) first_stays))
 
-    pub kept_taken : (m : Nodes) (fewer : ℕ) → fewer ≡ waiting - 1 → m.nodes ≡ trimmed (drop 1 n.nodes) →
-        m.places ≡ n.places → IsKept seats fewer m (set table x.node.arrival.seat None)
-    kept_taken m fewer one is places =
-        kept_left seats waiting n table kept x.node.arrival.seat fewer first_stands one m (left_at_head m is)
-        (omega (
-          arith,
-          ap length is,
-          trimmed_length (drop 1 n.nodes),
-          ap length (head_is n.nodes x e),
-          kept.bounded,
-          one,
-        ))
-        places
+      pub kept_taken : (m : Nodes) (fewer : ℕ) → fewer ≡ waiting - 1 → m.nodes ≡ trimmed (drop 1 n.nodes) →
+          m.places ≡ n.places → IsKept seats fewer m (set table x.node.arrival.seat None)
+      kept_taken m fewer one is places =
+          kept_left seats waiting n table kept x.node.arrival.seat fewer first_stands one m
+          (left_at_head m is)
+          (omega (
+            arith,
+            ap length is,
+            trimmed_length (drop 1 n.nodes),
+            ap length (head_is n.nodes x e),
+            kept.bounded,
+            one,
+          ))
+          places
 
-    pub line_taken : (m : Nodes) → m.nodes ≡ trimmed (drop 1 n.nodes) → live m.nodes ≡ drop 1 (live n.nodes)
-    line_taken m is = ap live is ∙ trimmed_live (drop 1 n.nodes) ∙ sym (ap (drop 1) first_is)
+      pub line_taken : (m : Nodes) → m.nodes ≡ trimmed (drop 1 n.nodes) → live m.nodes ≡ drop 1 (live n.nodes)
+      line_taken m is = ap live is ∙ trimmed_live (drop 1 n.nodes) ∙ sym (ap (drop 1) first_is)
 
 -- what a removal that finds its node makes
 pub some_removed : (o : Option Node) (number : NodeNo) (old new : List Standing) → o ≡ under number old →
-    IsSome (under number old) → OnSome o (new ≡ without_place number.place old) → new ≡ without_place number.place old
+    IsSome (under number old) → OnSome o (new ≡ without_place number.place old) →
+    new ≡ without_place number.place old
 some_removed None number old new found some gone = absurd (nothing (subst IsSome (sym found) some))
   where
     nothing : IsSome {T = Node} None → ⊥

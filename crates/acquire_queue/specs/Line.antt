@@ -1,5 +1,5 @@
 -- The line as contracts see it, and how the fields of a queue hold it.
-use Rattle.std.specs.Prelude.{◌≡◌, ℕ, ◌+◌, ◌<◌, ◌≤◌, ◌^◌, ◌==◌, Bool, true, false, not, ◌&&◌, if◌then◌else◌, List, [], ◌∷◌, length, filter, slice_index_or, Option, Some, None}
+use Rattle.std.specs.Prelude.{◌≡◌, ℕ, ◌+◌, ◌<◌, ◌≤◌, ◌^◌, ◌==◌, Bool, true, false, not, ◌&&◌, if◌then◌else◌, List, [], ◌∷◌, length, filter, slice_index_or, Option, Some, None, nat_lt}
 use Rattle.history.specs.declared.arrival.Arrival.{Arrival}
 use Rattle.history.specs.Line.{place_of}
 use Rattle.node_arena.specs.declared.node.NodeNo.{NodeNo}
@@ -54,6 +54,11 @@ abbrev pub left_by : NodeNo → List Standing → List Standing
 left_by number [] = []
 left_by number (x ∷ rest) =
     if x.number.place == number.place then trimmed rest else cancel_at number.place (x ∷ rest)
+
+-- How many nodes stand once a seat leaves from between others: as many as before, or those who wait alone, where
+-- more than `seats` cancelled ones would stand.
+abbrev pub standing_behind : ℕ → ℕ → ℕ → ℕ
+standing_behind seats waiting standing = if nat_lt (waiting + seats) standing then waiting else standing
 
 -- The table has the number of the node of each seat in line, at most one node is cancelled for each seat, and
 -- there are two places for each seat. Since a seat stands in line once at most, a place is free for one that

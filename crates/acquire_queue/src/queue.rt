@@ -1,9 +1,10 @@
 //! A queue of arrivals.
 
-ghost use Rattle.std.specs.Prelude.{◌≡◌, ℕ, ◌+◌, ◌^◌, ◌<◌, ◌≤◌, ◌==◌, not, List, [], ◌∷◌, ◌++◌, length, drop, filter, position, is_some, is_none, IfOk, IfErr, IfSome, IsSome};
+ghost use Rattle.std.specs.Prelude.{◌≡◌, ◌≢◌, ℕ, ◌+◌, ◌^◌, ◌<◌, ◌≤◌, ◌==◌, not, List, [], ◌∷◌, ◌++◌, length, drop, filter, position, Some, is_some, is_none, IfOk, IfErr, IfSome, IsSome};
 ghost use Rattle.std.specs.Bool.{OnFalse};
 ghost use Rattle.history.specs.Line.{first_of, place_of};
-ghost use Rattle.acquire_queue.specs.Line.{StandOnce, live, number_of, left_by, trimmed, swept};
+ghost use Rattle.history.specs.declared.arrival.Arrival.{Arrival};
+ghost use Rattle.acquire_queue.specs.Line.{StandOnce, live, number_of, left_by, standing_behind, trimmed, swept};
 ghost use Rattle.node_arena.specs.NodeList.{under};
 
 use history::arrival::Arrival;
@@ -119,6 +120,9 @@ impl Queue {
         ensures stood { result ≡ is_some (place_of seat self.old.arrivals) }
         ensures line { self.new.arrivals ≡ filter (λ a. not (seat == a.seat)) self.old.arrivals }
         ensures absent { OnFalse result (self.new ≡ self.old) }
+        ensures standing { (first : Arrival) → first_of self.old.arrivals ≡ Some first → first.seat ≢ seat →
+            length self.new.nodes
+            ≡ standing_behind self.old.seats (length self.new.arrivals) (length self.old.nodes) }
         ensures joined { self.new.joined ≡ self.old.joined }
         ensures seats { self.new.seats ≡ self.old.seats }
     {

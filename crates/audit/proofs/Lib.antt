@@ -1,10 +1,8 @@
 pub mod HoldsLemmas
 pub mod HoldsFollow
-pub mod WaitingLemmas
 pub mod WaitingFollow
 pub mod PermitsFollow
 pub mod Outcomes
-pub mod SleepsLemmas
 pub mod Limits
 pub mod Making
 pub mod Fronts

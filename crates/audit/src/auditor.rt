@@ -59,7 +59,7 @@ impl Auditor {
         match self.wrong {
             Some(_) => {}
             None => if self.ledger.admits(entry) {
-                self.ledger.note(entry)?;
+                self.ledger.follow(entry);
             } else {
                 self.wrong = Some(self.count);
             }

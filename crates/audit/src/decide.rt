@@ -14,12 +14,10 @@ ghost use Rattle.history.specs.Steps.{acquired, at_least_none, awaits, entry_for
 ghost use Rattle.history.specs.declared.entry.Entry.{Entry};
 ghost use Rattle.history.specs.declared.entry.Mode.TheVariants.{X};
 ghost use Rattle.audit.specs.Ledger.{HasSeat, LedgerStand};
-ghost use Rattle.audit.specs.Waiting.{seats_on};
 ghost use Rattle.deciding.specs.Checks.{in_phase, refused_as};
 ghost use Rattle.deciding.specs.Sleep.{sleep_of};
 
 use crate::ledger::Ledger;
-use crate::waiting::Sleeper;
 use deciding::checks::{refused_as, waits};
 use deciding::entries::{back, plain, queued_entry, sleeping_entry};
 use deciding::sleep::LastSleep;
@@ -189,7 +187,7 @@ impl Ledger {
         ensures { (s : Start) (h : List Entry) → LedgerStand s h self.now →
             result ≡ length (sleepers s h condition) }
     {
-        count_on(&self.waiting.asleep, condition)
+        u32::from(self.waiting.asleep.len(condition))
     }
 
     /// All free permits of a semaphore.
@@ -309,18 +307,4 @@ impl Ledger {
             None => self.entry_in_phase(seat, step),
         }
     }
-}
-
-/// How many sleep on a condition.
-pub(crate) fn count_on(asleep: &[Sleeper], condition: u8) -> u32
-    requires { length asleep.now < 2 ^ 32 }
-    ensures { result ≡ length (seats_on condition asleep.now) }
-{
-    let mut count: u32 = 0;
-    for x in asleep {
-        if x.condition == condition {
-            count += 1;
-        }
-    }
-    count
 }

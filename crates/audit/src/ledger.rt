@@ -1,9 +1,7 @@
-//! All that a front of a history says, kept so that each question about the next entry is one step, but for
-//! searches in the line and among the sleepers.
+//! All that a front of a history says, kept so that each question about the next entry is one step.
 
-ghost use Rattle.std.specs.Prelude.{◌≡◌, ◌<◌, ◌≤◌, ◌∷◌, ◌+◌, ◌^◌, [], List, ℕ, IfOk, OnOk, OnErr, IsOkUnless, IsTrue, Some, None, length, Ok, nat_lt, ◌&&◌, ◌==◌};
+ghost use Rattle.std.specs.Prelude.{◌≡◌, ◌<◌, ◌≤◌, ◌∷◌, ◌+◌, ◌^◌, [], List, ℕ, IfOk, OnOk, OnErr, IsOkUnless, IsTrue, Some, None, length, Ok};
 ghost use Rattle.history.specs.Object.{is_fair_policy};
-ghost use Rattle.std.specs.List.{list_any};
 ghost use Rattle.history.specs.Could.{could, limit, held_back, is_seat, is_none_or, is_reentrant, line_blocks};
 ghost use Rattle.history.specs.Counts.{counts, owner};
 ghost use Rattle.history.specs.Line.{line, place_of, first_mode};
@@ -18,7 +16,7 @@ ghost use Rattle.audit.specs.Ledger.{HasSeat, IsNext, LedgerStand};
 
 use crate::holds::Holds;
 use crate::permits::Permits;
-use crate::waiting::{Sleeper, Waiting};
+use crate::waiting::Waiting;
 use history::arrival::Arrival;
 use history::entry::{Entry, Mode};
 use history::fault::Fault;
@@ -53,7 +51,7 @@ impl Ledger {
         ensures memory { IsOkUnless result Fault.OutOfMemory }
     {
         let holds = Holds::open(alloc, header.seats)?;
-        let waiting = Waiting::open(alloc, header.seats)?;
+        let waiting = Waiting::open(alloc, header)?;
         Ok(Ledger {
             header,
             holds,
@@ -73,12 +71,25 @@ impl Ledger {
             LedgerStand s h self.new) }
         ensures memory { IsOkUnless result Fault.OutOfMemory }
     {
+        if self.admits(entry) {
+            self.follow(entry);
+        }
+        Ok(())
+    }
+
+    /// Follows one more entry, which a step of its seat makes. It takes no memory.
+    #[inline(always)]
+    pub(crate) fn follow(&mut self, entry: Entry)
+        requires seat { HasSeat self.old entry.seat }
+        requires next { (s : Start) (h : List Entry) → LedgerStand s h self.old → IsNext s h entry }
+        ensures { (s : Start) (h : List Entry) → LedgerStand s h self.old → entry.seat < s.header.seats →
+            LedgerStand s (entry ∷ h) self.new }
+    {
         let object = self.header.object;
         let had = self.holds_in(entry.seat, entry.mode);
-        self.waiting.note(entry)?;
+        self.waiting.note(entry);
         self.holds.note(object, entry);
         self.permits.note(object, entry, had);
-        Ok(())
     }
 
     pub(crate) fn owns(&self, seat: u16) -> bool
@@ -183,7 +194,7 @@ impl Ledger {
         ensures { (s : Start) (h : List Entry) → LedgerStand s h self.now →
             result ≡ place_of seat (line s h) }
     {
-        place_in(&self.waiting.line, seat)
+        self.waiting.line.arrival_of(seat)
     }
 
     /// Whether the seat sleeps on one of the object's conditions.
@@ -191,7 +202,7 @@ impl Ledger {
         ensures { (s : Start) (h : List Entry) → LedgerStand s h self.now →
             result ≡ sleeps_below s.header.conditions s h seat }
     {
-        sleeps_in(&self.waiting.asleep, self.header.conditions, seat)
+        self.waiting.asleep.sleeper_of(seat).is_some()
     }
 }
 
@@ -199,25 +210,4 @@ fn is_fair(policy: Policy) -> bool
     ensures { result ≡ is_fair_policy policy }
 {
     matches!(policy, Policy::Fair)
-}
-
-/// What a seat asks for in line.
-fn place_in(line: &[Arrival], seat: u16) -> Option<Arrival>
-    ensures { result ≡ place_of seat line.now }
-{
-    for a in line {
-        if a.seat == seat {
-            return Some(*a);
-        }
-    }
-    None
-}
-
-/// Whether a seat is among the sleepers of one of so many conditions.
-fn sleeps_in(asleep: &[Sleeper], conditions: u8, seat: u16) -> bool
-    ensures { result ≡ list_any (λ x. nat_lt x.condition conditions && (x.seat == seat)) asleep.now }
-{
-    asleep
-        .iter()
-        .any(|x| x.condition < conditions && x.seat == seat)
 }

@@ -6,12 +6,12 @@
 //! - [`check`](verdict::check) gives the verdict alone, and [`totals`](totals::totals) the sums alone.
 //! - [`Ledger`](ledger::Ledger) is what is kept of the entries so far.
 //!
-//! The audit stands on `deciding` and `history` alone. It keeps counts and lists of its own, entry by entry,
-//! and asks of each entry whether some step of its seat makes it: so it judges histories of any source. A
-//! history is only read, in one pass; each entry is compared with those in line and asleep, of whom there
-//! are no more than seats.
+//! The audit stands on `deciding`, `history` and the queues, and on no core. It keeps counts, a queue and
+//! waiters of its own, entry by entry, and asks of each entry whether some step of its seat makes it: so it
+//! judges histories of any source. A history is only read, in one pass, and no entry costs more where there
+//! are many seats.
 //!
-//! Memory is asked for three tables with a place for each seat, for a line and for a list of sleepers. Where
+//! All memory is reserved at the opening: tables with a place for each seat, the queue and the waiters. Where
 //! it is refused the answer is [`OutOfMemory`](history::fault::Fault::OutOfMemory), and there is no other
 //! fault.
 #![tactic(auto)]

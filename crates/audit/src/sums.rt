@@ -10,11 +10,10 @@ ghost use Rattle.history.specs.declared.entry.Entry.{Entry};
 ghost use Rattle.history.specs.declared.entry.Mode.TheVariants.{X};
 ghost use Rattle.audit.specs.Ledger.{IsLedger, LedgerStand};
 ghost use Rattle.audit.specs.Totals.{no_totals, totals_of};
-ghost use Rattle.audit.specs.Waiting.{seats_on};
+ghost use Rattle.condition_queue.specs.Sleepers.{asleep_on};
 
-use crate::decide::count_on;
 use crate::ledger::Ledger;
-use crate::waiting::Sleeper;
+use condition_queue::waiters::Waiters;
 use history::header::Object;
 
 /// The numbers behind a history's last entry. Those that an object of the header's kind doesn't have are 0.
@@ -73,7 +72,7 @@ impl Ledger {
     fn line_length(&self) -> u64
         ensures { (s : Start) (h : List Entry) → LedgerStand s h self.now → result ≡ length (line s h) }
     {
-        self.waiting.line.len() as u64
+        u64::from(self.waiting.line.live_len())
     }
 
     /// The exclusive holds of all seats of a lock.
@@ -126,13 +125,12 @@ fn sum(numbers: &[u64]) -> u64
 }
 
 /// How many sleep on the conditions below a number.
-fn count_below(asleep: &[Sleeper], conditions: u8) -> u64
-    requires { length asleep.now < 2 ^ 32 }
-    ensures { result ≡ total conditions (λ c. length (seats_on c asleep.now)) }
+fn count_below(asleep: &Waiters, conditions: u8) -> u64
+    ensures { result ≡ total conditions (λ c. length (asleep_on asleep.now c)) }
 {
     let mut count: u64 = 0;
     for condition in 0..conditions {
-        count += u64::from(count_on(asleep, condition));
+        count += u64::from(asleep.len(condition));
     }
     count
 }

@@ -1,5 +1,5 @@
 -- What falling asleep and leaving make of the lists, the counts and the table beside them.
-use Rattle.std.proofs.Common.{◌≡◌, ◌≢◌, ◌⊎◌, inl, inr, ℕ, zero, suc, ◌+◌, ◌^◌, ◌<◌, ◌≤◌, Bool, true, false, not, ◌||◌, ◌&&◌, cond, eqb, List, [], ◌∷◌, ◌++◌, length, drop, get_or, set, Option, Some, None, refl, ap, ◌∙◌, sym, subst, arith}
+use Rattle.std.proofs.Common.{◌≡◌, ◌≢◌, ◌⊎◌, inl, inr, ℕ, ◌+◌, ◌^◌, ◌<◌, ◌≤◌, Bool, true, false, not, ◌||◌, ◌&&◌, cond, eqb, List, [], ◌∷◌, ◌++◌, length, get_or, set, Option, Some, None, refl, ap, ◌∙◌, sym, subst, arith}
 use Rattle.std.specs.Prelude.{slice_get, IfSome}
 use Rattle.std.proofs.lemmas.Bool.{cases_eq, cases_lt, eqb-true, eq-eqb, ne_eqb, cond-true, cond-false}
 use Rattle.std.proofs.lemmas.List.{get_or_past, length-set, length_push}
@@ -7,7 +7,7 @@ use Rattle.history.specs.Sleepers.{has, without}
 use Rattle.node_arena.specs.LinkedLists.{LinkedLists, items, list_of, list_count, key_limit, Moves}
 use Rattle.condition_queue.specs.declared.sleeper.Sleeper.{Sleeper}
 use Rattle.condition_queue.specs.Sleepers.{IsKept, SleepOnce, sleeps_on, condition_of}
-use Rattle.condition_queue.proofs.Lists.{has-append, has-without, once-push, once-without, length-once, has_first, without_first, without_absent, at_set}
+use Rattle.condition_queue.proofs.Lists.{has-append, has-without, once-push, once-without, length-once, has_first, without_absent, at_set}
 
 -- a seat sleeps on one condition at most
 pub sleeps_elsewhere : (c d : ℕ) (o : Option Sleeper) → sleeps_on c o ≡ true → d ≢ c → sleeps_on d o ≡ false
@@ -137,7 +137,8 @@ module _ (seats : ℕ) (l : LinkedLists) (counts : List ℕ) (table : List (Opti
         at_set counts c d n 0 (omega (arith, low, kept.each_counted)) ∙ cond-true _ _ _ (eq-eqb c d e) ∙ long
         ∙ ap (λ k. length (items m k)) e
     counted_now d (inr x) =
-        at_set counts c d n 0 (omega (arith, low, kept.each_counted)) ∙ cond-false _ _ _ (ne_eqb c d x) ∙ kept.counted d
+        at_set counts c d n 0 (omega (arith, low, kept.each_counted)) ∙ cond-false _ _ _ (ne_eqb c d x)
+        ∙ kept.counted d
         ∙ ap length (sym (others d (λ e. x (sym e))))
 
     pub kept_changed : IsKept seats m (set counts c n) (set table s o)
@@ -154,9 +155,11 @@ module _ (seats : ℕ) (l : LinkedLists) (counts : List ℕ) (table : List (Opti
         }
 
   -- one who is awake falls asleep
-  pub kept_joined : (c s h n : ℕ) (m : LinkedLists) → c < list_count l → s < seats → get_or table s None ≡ None →
+  pub kept_joined : (c s h n : ℕ) (m : LinkedLists) → c < list_count l → s < seats →
+      get_or table s None ≡ None →
       items m c ≡ items l c ++ s ∷ [] → ((d : ℕ) → d ≢ c → items m d ≡ items l d) → Moves l m s (Some c) →
-      n ≡ get_or counts c 0 + 1 → IsKept seats m (set counts c n) (set table s (Some (record { condition = c; holds = h })))
+      n ≡ get_or counts c 0 + 1 →
+      IsKept seats m (set counts c n) (set table s (Some (record { condition = c; holds = h })))
   kept_joined c s h n m low seat none last others moves more =
       kept_changed c s n m (Some (record { condition = c; holds = h })) low seat
       (subst SleepOnce (sym last) (once-push s (items l c) (kept.once c) (awake c s none)))
@@ -206,7 +209,8 @@ module _ (seats : ℕ) (l : LinkedLists) (counts : List ℕ) (table : List (Opti
 -- nobody sleeps in lists as they are opened
 pub kept_opened : (seats : ℕ) (l : LinkedLists) (counts : List ℕ) (table : List (Option Sleeper)) →
     ((c : ℕ) → items l c ≡ []) → ((i : ℕ) → list_of l i ≡ None) → ((i : ℕ) → get_or table i None ≡ None) →
-    ((c : ℕ) → get_or counts c 0 ≡ 0) → length counts ≡ list_count l → length table ≡ seats → seats ≤ key_limit l →
+    ((c : ℕ) → get_or counts c 0 ≡ 0) → length counts ≡ list_count l → length table ≡ seats →
+    seats ≤ key_limit l →
     seats < 2 ^ 16 → IsKept seats l counts table
 kept_opened seats l counts table empty free none zeros each long room few =
     record {

@@ -1,3 +1,4 @@
 pub mod Lists
 pub mod Kept
 pub mod Moving
+pub mod Movable

@@ -1,5 +1,5 @@
 -- Moving sleepers one after another.
-use Rattle.std.proofs.Common.{◌≡◌, ◌⊎◌, inl, inr, ℕ, zero, suc, ◌+◌, ◌<◌, ◌≤◌, Bool, true, false, ◌||◌, cond, eqb, List, [], ◌∷◌, ◌++◌, length, map, take, drop, get_or, set, Option, Some, None, refl, ap, ◌∙◌, sym, arith}
+use Rattle.std.proofs.Common.{◌≡◌, ◌⊎◌, inl, inr, ℕ, zero, suc, ◌+◌, ◌<◌, ◌≤◌, Bool, true, false, ◌||◌, cond, eqb, List, [], ◌∷◌, ◌++◌, length, map, take, drop, Option, Some, None, refl, ap, ◌∙◌, sym, arith}
 use Rattle.std.specs.Prelude.{slice_get}
 use Rattle.std.proofs.lemmas.Bool.{cases_eq, eq-eqb, ne_eqb, cond-true, cond-false}
 use Rattle.std.proofs.lemmas.List.{append_assoc, append-nil, drop-drop, length-drop, map-append}
@@ -47,7 +47,8 @@ nobody_first [] p = refl
 nobody_first (x ∷ xs) p = cc
 
 -- the lists and the sleepers, once the first on a condition is awake
-pub moved_lists : (c s : ℕ) (old new : ℕ → List ℕ) (o : Option Sleeper) → ((d : ℕ) → new d ≡ without s (old d)) →
+pub moved_lists : (c s : ℕ) (old new : ℕ → List ℕ) (o : Option Sleeper) →
+    ((d : ℕ) → new d ≡ without s (old d)) →
     SleepOnce (old c) → Some s ≡ slice_get (old c) 0 → sleeps_on c o ≡ true →
     ((d : ℕ) → has s (old d) ≡ sleeps_on d o) → (d : ℕ) → new d ≡ cond (eqb c d) (drop 1 (old d)) (old d)
 moved_lists c s old new o left once first asleep listed d = by (cases_eq c d)
@@ -127,7 +128,8 @@ one_more c k n old mid new before line after first next low e =
         next.sleepers i
         ∙ ap (λ o. cond (has i (take n (asleep_on mid c))) None o) (first.sleepers i)
         ∙ ap (λ l. cond (has i l) None (cond (has i (take k (asleep_on old c))) None (sleeper_of old i))) rest
-        ∙ two (has i (take k (asleep_on old c))) (has i (take 1 (drop k (asleep_on old c)))) (sleeper_of old i)
+        ∙ two (has i (take k (asleep_on old c))) (has i (take 1 (drop k (asleep_on old c))))
+        (sleeper_of old i)
         ∙ ap (λ b. cond b None (sleeper_of old i))
         (sym (has-append i (take k (asleep_on old c)) (take 1 (drop k (asleep_on old c))))
         ∙ ap (has i) (sym parts))

@@ -1,6 +1,6 @@
 -- Who is ready, who sleeps, and the entry that a step makes.
 use Rattle.std.proofs.Common.{◌≡◌, ℕ, ◌<◌, arith, Bool, true, false, List, [], ◌∷◌, Option, Some, None, Ok, refl, ap, ◌∙◌, sym, subst}
-use Rattle.std.specs.Prelude.{is_some, Result, Err, IfOk, IfSome}
+use Rattle.std.specs.Prelude.{Result, Err, IfOk, IfSome}
 use Rattle.history.specs.declared.arrival.Arrival.{Arrival}
 use Rattle.history.specs.declared.entry.Entry.{Entry}
 use Rattle.history.specs.declared.fault.Fault.{Fault}
@@ -12,14 +12,8 @@ use Rattle.history.proofs.WhoWaits.{LineSeated, line_seated}
 use Rattle.history.specs.Could.{could}
 use Rattle.history.specs.Counts.{Counts}
 use Rattle.history.specs.Naming.{ready_by}
-use Rattle.history.specs.Sleepers.{sleepers, has, sleeps_below}
 use Rattle.history.specs.Start.{Start, opening}
-use Rattle.condition_queue.specs.declared.sleeper.Sleeper.{Sleeper}
-use Rattle.condition_queue.specs.Sleepers.{Sleepers, asleep_on, sleeps_on}
 use Rattle.history.proofs.Answering.{entry_seat}
-use Rattle.history.proofs.OneWait.{Waits}
-use Rattle.history.proofs.SleepLemmas.{sleeps_at, sleeps_there}
-use Rattle.std.proofs.lemmas.Bool.{eq-eqb}
 use Rattle.history.specs.Steps.{entry_for}
 use Rattle.frame.specs.Core.{CoreView, start_of, IsNext}
 
@@ -31,26 +25,6 @@ ready_goes k o a p q = rw p (rw q refl)
 pub ready_waits : (k : Counts) (o : Option Arrival) (a : Arrival) → o ≡ Some a →
     could k a.seat a.mode a.n ≡ false → None ≡ ready_by k o
 ready_waits k o a p q = rw p (rw q refl)
-
--- who sleeps, by what the waiters say of a seat
-pub sleeps_is : (s : Start) (h : List Entry) (i : ℕ) (w : Sleepers) (r : Option Sleeper) → Waits s h →
-    ((c : ℕ) → asleep_on w c ≡ sleepers s h c) → ((c : ℕ) → has i (asleep_on w c) ≡ sleeps_on c r) →
-    is_some r ≡ sleeps_below s.header.conditions s h i
-sleeps_is s h i w None v lists listed = by (sleeps_below s.header.conditions s h i) refl
-  where
-    by : (b : Bool) → sleeps_below s.header.conditions s h i ≡ b → false ≡ b
-    by true t =
-        let at = sleeps_at s.header.conditions s h i t in
-        let z : true ≡ false = sym at.2 ∙ ap (has i) (sym (lists at.0)) ∙ listed at.0 in
-        cc
-    by false t = refl
-sleeps_is s h i w (Some x) v lists listed =
-    let t : has i (sleepers s h x.condition) ≡ true =
-    ap (has i) (sym (lists x.condition)) ∙ listed x.condition ∙ eq-eqb x.condition x.condition refl in
-    let on = v.sleepers x.condition i t in
-    let below : x.condition < s.header.conditions = let l = on.saved.condition in let d = on.condition in
-    omega (arith, l, d) in
-    sym (sleeps_there s.header.conditions s h i x.condition below t)
 
 -- the entry that a step makes may be added now
 pub step_next : (v : CoreView) (i : ℕ) (step : Step) (e : Entry) → i < v.header.seats →

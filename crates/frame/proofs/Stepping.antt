@@ -23,7 +23,8 @@ use Rattle.history.proofs.Entering.{Known, known}
 use Rattle.history.proofs.OneWait.{waits}
 use Rattle.history.proofs.Owing.{owed_step}
 use Rattle.frame.specs.declared.seat.Seat.{Seat}
-use Rattle.frame.specs.Core.{CoreView, Stands, Keeps, IsNext, IsAdded, with_history}
+use Rattle.condition_queue.specs.Following.{Keeps}
+use Rattle.frame.specs.Core.{CoreView, Stands, IsNext, IsAdded, with_history}
 use Rattle.frame.specs.Effects.{IsAllowed, counts_after}
 use Rattle.frame.specs.Seat.{seat_of, seat_after, no_holds}
 use Rattle.frame.proofs.Bounds.{exclusive_fits, shared_fits}
@@ -274,7 +275,7 @@ pub stands_next : (agrees agrees' : Counts → Type 0)
     (waiters waiters' : Sleepers) (table table' : List Seat) (e : Entry) →
     Stands agrees k kept queue waiters table → Next k kept.entries e →
     agrees' (counts_after e.word (counts (opening k) kept.entries) e) →
-    Keeps k (e ∷ kept.entries) queue' waiters' →
+    Keeps (opening k) (e ∷ kept.entries) queue' waiters' →
     table' ≡ set table e.seat (seat_after k.object e (get_or table e.seat no_holds)) →
     Grown k e kept kept' → Stands agrees' k kept' queue' waiters' table'
 stands_next agrees agrees' k kept kept' queue queue' waiters waiters' table table' e s n told waiting is new =
@@ -283,7 +284,7 @@ stands_next agrees agrees' k kept kept' queue queue' waiters waiters' table tabl
     record {
       range = s.range;
       hooks = subst agrees' (sym n.counts ∙ ap (counts (opening k)) (sym entries)) told;
-      waiting = subst (λ g. Keeps k g queue' waiters') (sym entries) waiting;
+      waiting = subst (λ g. Keeps (opening k) g queue' waiters') (sym entries) waiting;
       seats = ap length is ∙ length-set table e.seat _ ∙ s.seats;
       tabled = λ i l.
           ap (λ t. slice_get t i) is ∙ tabled_next k h e table s.seats n.seat s.tabled i l

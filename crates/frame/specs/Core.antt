@@ -1,7 +1,8 @@
 -- What a core is to its callers, and how its fields stand for it.
-use Rattle.std.specs.Prelude.{◌≡◌, ◌⊎◌, ◌≤◌, ◌<◌, ℕ, ◌+◌, ◌*◌, max, Bool, true, false, List, [], ◌∷◌, length, slice_get, Result, Ok, Err, Option, Some, IfSome}
+use Rattle.std.specs.Prelude.{◌≡◌, ◌⊎◌, ◌≤◌, ◌<◌, ℕ, ◌+◌, max, Bool, true, false, List, [], ◌∷◌, length, slice_get, Result, Ok, Err, Option, Some, IfSome}
 use Rattle.acquire_queue.specs.Line.{Line}
-use Rattle.condition_queue.specs.Sleepers.{Sleepers, asleep_on}
+use Rattle.condition_queue.specs.Following.{Keeps}
+use Rattle.condition_queue.specs.Sleepers.{Sleepers}
 use Rattle.history.specs.declared.entry.Entry.{Entry}
 use Rattle.history.specs.declared.entry.Mode.{Mode}
 use Rattle.history.specs.declared.entry.Word.TheVariants.{Refused}
@@ -17,12 +18,12 @@ use Rattle.history.specs.Counts.{Counts, counts, held}
 use Rattle.history.specs.Entries.{HistoryView}
 use Rattle.history.specs.Header.{IsInRange}
 use Rattle.history.specs.Legal.{IsLegal, AreSeated}
-use Rattle.history.specs.Line.{line, first_mode}
+use Rattle.history.specs.Line.{first_mode}
 use Rattle.history.specs.Naming.{ready}
 use Rattle.history.specs.Pages.{whole_pages}
 use Rattle.history.specs.Phase.{Phase, phase}
 use Rattle.history.specs.Room.{owed, has_room, was_owed}
-use Rattle.history.specs.Sleepers.{sleepers, sleeps_below}
+use Rattle.history.specs.Sleepers.{sleeps_below}
 use Rattle.history.specs.Start.{Start, opening}
 use Rattle.history.specs.Steps.{entry_for}
 use Rattle.frame.specs.declared.seat.Seat.{Seat}
@@ -63,22 +64,13 @@ phase_of v i = phase (start_of v) v.entries i
 abbrev pub is_asleep : CoreView → ℕ → Bool
 is_asleep v i = sleeps_below v.header.conditions (start_of v) v.entries i
 
--- The line and the sleepers are those of the history.
-pub record Keeps (k : Header) (h : List Entry) (queue : Line) (waiters : Sleepers) : Type 0 where
-  pub line : queue.arrivals ≡ line (opening k) h
-  pub places : queue.seats ≡ k.seats
-  pub joins : queue.joined ≤ 65536 * length h
-  pub sleepers : (c : ℕ) → asleep_on waiters c ≡ sleepers (opening k) h c
-  pub conditions : waiters.conditions ≡ k.conditions
-  pub beds : waiters.seats ≡ k.seats
-
 -- The fields stand for the history: hooks, line, sleepers and seats are as its entries make them, and room is
 -- kept as it asks.
 pub record Stands (agrees : Counts → Type 0) (k : Header) (kept : HistoryView) (queue : Line)
     (waiters : Sleepers) (table : List Seat) : Type 0 where
   pub range : IsInRange k
   pub hooks : agrees (counts (opening k) kept.entries)
-  pub waiting : Keeps k kept.entries queue waiters
+  pub waiting : Keeps (opening k) kept.entries queue waiters
   pub seats : length table ≡ k.seats
   pub tabled : (i : ℕ) → i < k.seats → slice_get table i ≡ Some (seat_of k.object kept.entries i)
   pub cap : kept.cap ≡ k.cap

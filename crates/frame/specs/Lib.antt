@@ -1,7 +1,6 @@
 pub mod Hooks
 pub mod Seat
 pub mod Effects
-pub mod Waiting
 pub mod Observed
 pub mod Core
 pub mod Owners

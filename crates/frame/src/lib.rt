@@ -55,6 +55,5 @@ pub mod hooks;
 pub mod machine;
 pub mod run;
 pub mod seat;
-mod waiting;
 
 pub use history::step::{Answer, Step};

@@ -28,7 +28,8 @@ at_place-in slots [] p found = absurd found
 at_place-in slots (first ∷ rest) p found =
     elim (cases_eq first p) [
       | inl same ↦
-          cond-true _ _ _ (eq-eqb _ p (place_at slots first ∙ same)) ∙ ap (λ q. Some (standing_at slots q)) same
+          cond-true _ _ _ (eq-eqb _ p (place_at slots first ∙ same))
+          ∙ ap (λ q. Some (standing_at slots q)) same
       | inr differs ↦
           cond-false _ _ _ (ne_eqb _ p (λ e. differs (sym (place_at slots first) ∙ e)))
           ∙ at_place-in slots rest p (elim found [ inl here ↦ absurd (differs here) | inr there ↦ there ])
@@ -87,7 +88,9 @@ module _ (old new : List (Option Slot)) (p : ℕ)
       map (standing_at new) keys ≡ cancel_at p (map (standing_at old) keys)
   nodes-cancel [] changed = refl
   nodes-cancel (first ∷ rest) changed =
-      let here : standing_at new first ≡ cond (is_at p (standing_at old first)) (cancelled (standing_at old first)) (standing_at old first) =
+      let here : standing_at new first
+      ≡ cond (is_at p (standing_at old first)) (cancelled (standing_at old first))
+      (standing_at old first) =
       elim (cases_eq first p) [
         | inl same ↦
             ap (standing_at new) same ∙ changed ∙ ap (λ q. cancelled (standing_at old q)) (sym same)
@@ -97,7 +100,8 @@ module _ (old new : List (Option Slot)) (p : ℕ)
             ∙ sym (cond-false _ _ _ (ne_eqb _ p (λ e. differs (sym (place_at old first) ∙ e))))
       ] in
       ap (λ x. x ∷ map (standing_at new) rest) here
-      ∙ ap (λ xs. cond (is_at p (standing_at old first)) (cancelled (standing_at old first)) (standing_at old first) ∷ xs)
+      ∙ ap (λ xs. cond (is_at p (standing_at old first)) (cancelled (standing_at old first))
+      (standing_at old first) ∷ xs)
       (nodes-cancel rest changed)
 
 -- ---- an arena and the list that links its places
@@ -121,12 +125,14 @@ module _ (a : Places) (l : LinkedLists) (is : IsLinked a l) where
   under_is number = by (slot_at a number.place) refl
     where
       by : (o : Option Slot) → slot_at a number.place ≡ o →
-          of_number number (at_place number.place (nodes_of a l)) ≡ of_generation number.generation (slot_at a number.place)
+          of_number number (at_place number.place (nodes_of a l))
+          ≡ of_generation number.generation (slot_at a number.place)
       by None e =
           ap (of_number number) (at_place-out a.slots (items l 0) number.place (not_listed number.place e))
           ∙ ap (of_generation number.generation) (sym e)
       by (Some s) e =
-          ap (of_number number) (at_place-in a.slots (items l 0) number.place (is.listed number.place (is_some_by _ s e))
+          ap (of_number number)
+          (at_place-in a.slots (items l 0) number.place (is.listed number.place (is_some_by _ s e))
           ∙ ap (λ o. Some (standing_by number.place o)) e)
           ∙ ap (of_generation number.generation) (sym e)
 
@@ -141,8 +147,10 @@ module _ (a : Places) (l : LinkedLists) (is : IsLinked a l) where
       record {
         linked = λ q.
             elim (cases_eq q p) [
-              | inl same ↦ ap (list_of m) same ∙ moves.moved ∙ ap list_by (sym changes.changed ∙ ap (slot_at b) (sym same))
-              | inr differs ↦ moves.others q differs ∙ is.linked q ∙ ap list_by (sym (changes.others q differs))
+              | inl same ↦ ap (list_of m) same ∙ moves.moved
+                  ∙ ap list_by (sym changes.changed ∙ ap (slot_at b) (sym same))
+              | inr differs ↦ moves.others q differs ∙ is.linked q
+                  ∙ ap list_by (sym (changes.others q differs))
             ];
         stands = λ q found.
             elim (cases_eq q p) [
@@ -157,7 +165,8 @@ module _ (a : Places) (l : LinkedLists) (is : IsLinked a l) where
             subst (IsIn q) (sym pushed)
             (elim (cases_eq q p) [
               | inl same ↦ subst (λ k. IsIn k (items l 0 ++ p ∷ [])) (sym same) (IsIn-push_last p (items l 0))
-              | inr differs ↦ IsIn-push_kept p q (items l 0) (is.listed q (subst IsSome (changes.others q differs) some))
+              | inr differs ↦ IsIn-push_kept p q (items l 0)
+                  (is.listed q (subst IsSome (changes.others q differs) some))
             ]);
         apart = subst IsApart (sym pushed) (IsApart-push p (items l 0) is.apart absent);
         counted = more ∙ omega (arith, is.counted, ap length pushed, length_push (items l 0) p);
@@ -171,18 +180,29 @@ module _ (a : Places) (l : LinkedLists) (is : IsLinked a l) where
       record {
         linked = λ q.
             elim (cases_eq q p) [
-              | inl same ↦ ap (list_of m) same ∙ moves.moved ∙ ap list_by (sym changes.changed ∙ ap (slot_at b) (sym same))
-              | inr differs ↦ moves.others q differs ∙ is.linked q ∙ ap list_by (sym (changes.others q differs))
+              | inl same ↦ ap (list_of m) same ∙ moves.moved
+                  ∙ ap list_by (sym changes.changed ∙ ap (slot_at b) (sym same))
+              | inr differs ↦ moves.others q differs ∙ is.linked q
+                  ∙ ap list_by (sym (changes.others q differs))
             ];
         stands = λ q found.
             let was = IsIn-without p q (items l 0) (subst (IsIn q) left found) in
             subst IsSome (sym (changes.others q was.1)) (is.stands q was.0);
         listed = λ q there.
-            let differs : q ≢ p = λ same. none_not (slot_at b q) (ap (slot_at b) same ∙ changes.changed) there in
+            let differs : q ≢ p = λ same. none_not (slot_at b q) (ap (slot_at b) same
+            ∙ changes.changed) there in
             subst (IsIn q) (sym left)
-            (IsIn-without_kept p q (items l 0) (is.listed q (subst IsSome (changes.others q differs) there)) differs);
+            (IsIn-without_kept p q (items l 0) (is.listed q (subst IsSome (changes.others q differs) there))
+            differs);
         apart = subst IsApart (sym left) (IsApart-without p (items l 0) is.apart);
-        counted = omega (arith, fewer, is.counted, ap length left, length-without p (items l 0) is.apart (is.listed p some));
+        counted = omega (
+          arith,
+          fewer,
+          is.counted,
+          ap length left,
+          length-without p (items l 0) is.apart
+              (is.listed p some),
+        );
         one = moves.count ∙ is.one;
         room = omega (arith, is.room, changes.limit, moves.limit);
       }
@@ -268,7 +288,8 @@ index_in [] k q found = absurd (none-some q found)
 index_in (first ∷ rest) zero q found = inl (same_Some first q found)
 index_in (first ∷ rest) (suc k) q found = inr (index_in rest k q found)
 
-get_map : {X Y : Type 0} (f : X → Y) (xs : List X) (k : ℕ) → slice_get (map f xs) k ≡ option_map f (slice_get xs k)
+get_map : {X Y : Type 0} (f : X → Y) (xs : List X) (k : ℕ) →
+    slice_get (map f xs) k ≡ option_map f (slice_get xs k)
 get_map f [] k = refl
 get_map f (x ∷ xs) zero = refl
 get_map f (x ∷ xs) (suc k) = get_map f xs k
@@ -285,12 +306,15 @@ module _ (a : Places) (l : LinkedLists) (is : IsLinked a l) where
   pub index_place : (k : ℕ) (number : NodeNo) (node : Node) →
       slice_get (nodes_of a l) k ≡ Some (record { number = number; node = node }) →
       slice_get (items l 0) k ≡ Some number.place
-  index_place k number node found = by (slice_get (items l 0) k) (sym (get_map (standing_at a.slots) (items l 0) k) ∙ found)
+  index_place k number node found =
+      by (slice_get (items l 0) k) (sym (get_map (standing_at a.slots) (items l 0) k) ∙ found)
     where
-      by : (o : Option ℕ) → option_map (standing_at a.slots) o ≡ Some (record { number = number; node = node }) →
+      by : (o : Option ℕ) →
+          option_map (standing_at a.slots) o ≡ Some (record { number = number; node = node }) →
           o ≡ Some number.place
       by None e = cc
-      by (Some q) e = ap Some (sym (place_at a.slots q) ∙ ap (λ (x : Standing). x.number.place) (same_Some _ _ e))
+      by (Some q) e = ap Some (sym (place_at a.slots q)
+          ∙ ap (λ (x : Standing). x.number.place) (same_Some _ _ e))
 
   pub found_index : (k q : ℕ) → Some q ≡ slice_get (items l 0) k →
       standing_in q (slot_at a q) ≡ slice_get (nodes_of a l) k

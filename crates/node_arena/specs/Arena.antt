@@ -23,7 +23,8 @@ no_node = record { arrival = record { seat = 0; mode = X; n = 0; back = false };
 
 abbrev pub standing_by : ℕ → Option Slot → Standing
 standing_by place None = record { number = record { place = place; generation = 0 }; node = no_node }
-standing_by place (Some s) = record { number = record { place = place; generation = s.generation }; node = s.node }
+standing_by place (Some s) =
+    record { number = record { place = place; generation = s.generation }; node = s.node }
 
 abbrev pub standing_in : ℕ → Option Slot → Option Standing
 standing_in place None = None

@@ -140,7 +140,8 @@ impl Arena {
         self.nodes.len()
     }
 
-    /// Frees the node under a number and gives it back; `None`, and nothing changes, where it was freed before.
+    /// Frees the node under a number and gives it back; `None`, and nothing changes, where it was freed
+    /// before.
     pub fn free(&mut self, number: NodeNo) -> Option<Node>
         ensures found { result ≡ find self.old number }
         ensures gone { find self.new number ≡ None }

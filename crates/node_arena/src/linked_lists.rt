@@ -1,7 +1,7 @@
 //! Lists of keys that are linked by index, so that a key leaves its list in constant time.
 //!
-//! The links and their proof are those of `util::linked_list` in the kit's `futures`, which tells no key before
-//! or behind another.
+//! The links and their proof are those of `util::linked_list` in the kit's `futures`, which tells no key
+//! before or behind another.
 ghost use Rattle.std.specs.Prelude.{◌≡◌, ◌≢◌, ℕ, ◌+◌, ◌^◌, ◌<◌, ◌≤◌, [], ◌∷◌, ◌++◌, length, IfSome, IfNone, IfOk, OnOk, IsOk, slice_get, IsSome, vec_len};
 ghost use Rattle.node_arena.specs.LinkedLists.{items, list_of, list_count, key_limit, one_before, without, IsIn, IsApart, IsEmpty, SameLists, Moves};
 ghost use Rattle.node_arena.specs.Links.{next_of, prev_of, Skips, Splices};

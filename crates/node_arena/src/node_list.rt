@@ -106,7 +106,8 @@ impl NodeList {
     /// The node right behind another.
     pub fn behind(&self, number: NodeNo) -> Option<Standing>
         requires { IsSome (under number self.now.nodes) }
-        ensures { (k : ℕ) (node : Node) → slice_get self.now.nodes k ≡ Some (record { number = number; node = node }) →
+        ensures { (k : ℕ) (node : Node) →
+            slice_get self.now.nodes k ≡ Some (record { number = number; node = node }) →
             result ≡ slice_get self.now.nodes (k + 1) }
     {
         let place = self.links.behind(number.place)?;
@@ -116,7 +117,8 @@ impl NodeList {
     /// The node right before another.
     pub fn before(&self, number: NodeNo) -> Option<Standing>
         requires { IsSome (under number self.now.nodes) }
-        ensures { (k : ℕ) (node : Node) → slice_get self.now.nodes k ≡ Some (record { number = number; node = node }) →
+        ensures { (k : ℕ) (node : Node) →
+            slice_get self.now.nodes k ≡ Some (record { number = number; node = node }) →
             result ≡ standing_before self.now.nodes k }
     {
         let place = self.links.before(number.place)?;
@@ -130,7 +132,8 @@ impl NodeList {
         self.arena.get(number)
     }
 
-    /// Frees the node under a number, wherever it stands, and gives it back; `None` where it was freed before.
+    /// Frees the node under a number, wherever it stands, and gives it back; `None` where it was freed
+    /// before.
     pub fn remove(&mut self, number: NodeNo) -> Option<Node>
         ensures found { result ≡ under number self.old.nodes }
         ensures nodes { OnSome result (self.new.nodes ≡ without_place number.place self.old.nodes) }
@@ -143,7 +146,8 @@ impl NodeList {
         Some(node)
     }
 
-    /// Marks the node under a number as cancelled and leaves it where it stands; false where it was freed before.
+    /// Marks the node under a number as cancelled and leaves it where it stands; false where it was freed
+    /// before.
     pub fn cancel(&mut self, number: NodeNo) -> bool
         ensures found { result ≡ is_some (under number self.old.nodes) }
         ensures nodes { OnTrue result (self.new.nodes ≡ cancel_at number.place self.old.nodes) }

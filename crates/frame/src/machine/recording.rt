@@ -11,7 +11,7 @@ use super::Core;
 use crate::effects::change;
 use crate::hooks::Hooks;
 use crate::seat::update;
-use crate::waiting::move_waiters;
+use condition_queue::following::move_waiters;
 use deciding::entries::named;
 use deciding::room::owed_behind;
 use history::entry::{Entry, Word};

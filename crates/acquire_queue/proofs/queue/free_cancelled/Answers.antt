@@ -18,7 +18,8 @@ loop-place-preserved c =
           let r : w.remove.result ≡ Some w.in-Some.standing.node = w.remove.ensures.found ∙ found.1 in (
             ap (λ (n : Nodes). n.nodes) w.nodes-is ∙ (rw r at w.remove.ensures.nodes)
                 ∙ ap (λ p. without_place p c.loop-place.nodes.nodes) found.0
-                ∙ swept_one c.loop-place.place _ _ _ c.limit-place-end.ensures.apart c.loop-place.invariant.0 at w.if-standing.true,
+                ∙ swept_one c.loop-place.place _ _ _ c.limit-place-end.ensures.apart c.loop-place.invariant.0
+                at w.if-standing.true,
             ap (λ (n : Nodes). n.placed) w.nodes-is ∙ w.remove.ensures.placed ∙ c.loop-place.invariant.1,
             ap (λ (n : Nodes). n.places) w.nodes-is ∙ w.remove.ensures.places ∙ c.loop-place.invariant.2,
           )
@@ -26,7 +27,8 @@ loop-place-preserved c =
           let at = sym c.at.ensures.at ∙ w.in-Some.is in (
             ap (λ (n : Nodes). n.nodes) w.nodes-is
                 ∙ swept_skip c.loop-place.place _ _ c.limit-place-end.ensures.apart c.loop-place.invariant.0
-                (λ x e. ap (λ (y : Standing). y.node.cancelled) (same_Some _ _ (sym e ∙ at)) ∙ w.if-standing.false),
+                (λ x e. ap (λ (y : Standing). y.node.cancelled) (same_Some _ _ (sym e ∙ at))
+                ∙ w.if-standing.false),
             ap (λ (n : Nodes). n.placed) w.nodes-is ∙ c.loop-place.invariant.1,
             ap (λ (n : Nodes). n.places) w.nodes-is ∙ c.loop-place.invariant.2,
           )

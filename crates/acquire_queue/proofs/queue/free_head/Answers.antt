@@ -8,7 +8,8 @@ removed : (c : After-remove) → c.remove.new.self.nodes ≡ drop 1 c.loop-first
 removed c =
     let r : c.remove.result ≡ Some c.in-Some.first.node =
     c.remove.ensures.found ∙ first_under _ c.in-Some.first c.in-Some.ensures.first in
-    (rw r at c.remove.ensures.nodes) ∙ first_without _ c.in-Some.first c.in-Some.ensures.first c.in-Some.ensures.apart
+    (rw r at c.remove.ensures.nodes)
+    ∙ first_without _ c.in-Some.first c.in-Some.ensures.first c.in-Some.ensures.apart
 
 pub loop-first-smaller : goal.loop-first-smaller
 loop-first-smaller c =
@@ -18,14 +19,16 @@ loop-first-smaller c =
 pub loop-first-preserved : goal.loop-first-preserved
 loop-first-preserved c = (
   ap trimmed (removed (goal.at.loop-first-preserved c).After-remove)
-      ∙ trimmed_past _ c.in-Some.first c.in-Some.ensures.first (unnot_false _ c.if-not-first.false) ∙ c.loop-first.invariant.0,
+      ∙ trimmed_past _ c.in-Some.first c.in-Some.ensures.first (unnot_false _ c.if-not-first.false)
+      ∙ c.loop-first.invariant.0,
   c.remove.ensures.placed ∙ c.loop-first.invariant.1,
   c.remove.ensures.places ∙ c.loop-first.invariant.2,
 )
 
 pub returns-then-not-first-clause-nodes : goal.returns-then-not-first-clause-nodes
 returns-then-not-first-clause-nodes c =
-    trimmed_by _ c.in-Some.first c.in-Some.ensures.first (unnot_true _ c.if-not-first.true) ∙ c.loop-first.invariant.0
+    trimmed_by _ c.in-Some.first c.in-Some.ensures.first (unnot_true _ c.if-not-first.true)
+    ∙ c.loop-first.invariant.0
 
 pub returns-in_default-clause-nodes : goal.returns-in_default-clause-nodes
 returns-in_default-clause-nodes c = trimmed_none _ c.in_default.ensures.first ∙ c.loop-first.invariant.0

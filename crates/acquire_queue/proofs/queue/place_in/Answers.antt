@@ -6,11 +6,13 @@ use Rattle.acquire_queue.proofs.queue.place_in.Goals.{then-not-standing+else-sta
 pub returns-then-standing-seat : goal.returns-then-standing-seat
 returns-then-standing-seat c =
     walk_found c.args.seat _ c.loop.counter c.loop.before c.loop.invariant.2 c.in_ok-standing.standing
-    (sym c.loop.invariant.0 ∙ c.in_ok-standing.was) (unnot_true _ c.if-not-standing.true) c.if-standing-seat.true
+    (sym c.loop.invariant.0
+    ∙ c.in_ok-standing.was) (unnot_true _ c.if-not-standing.true) c.if-standing-seat.true
 
 pub overflow_add-before : goal.overflow_add-before
 overflow_add-before c =
-    let one = live_one _ c.loop.counter c.in_ok-standing.standing (sym c.loop.invariant.0 ∙ c.in_ok-standing.was)
+    let one = live_one _ c.loop.counter c.in_ok-standing.standing (sym c.loop.invariant.0
+    ∙ c.in_ok-standing.was)
     (unnot_true _ c.if-not-standing.true) in
     omega (arith, c.loop.invariant.1, one, c.requires)
 

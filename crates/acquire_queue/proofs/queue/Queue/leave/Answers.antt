@@ -1,8 +1,8 @@
-use Rattle.std.proofs.Common.{◌≡◌, Some, None, sym, ap, ◌∙◌, refl, arith}
+use Rattle.std.proofs.Common.{◌≡◌, length, Some, None, sym, ap, ◌∙◌, refl, arith}
 use Rattle.std.specs.Prelude.{is_some}
 use Rattle.acquire_queue.specs.Line.{number_of}
 use Rattle.acquire_queue.proofs.Lines.{left_absent}
-use Rattle.acquire_queue.proofs.Nodes.{no_place, stands_by, under_by, left_node, kept_gone, kept_gone_swept, line_gone_swept}
+use Rattle.acquire_queue.proofs.Nodes.{no_place, stands_by, under_by, left_node, left_between, kept_gone, kept_gone_swept, line_gone_swept, standing_left, standing_swept}
 use Rattle.acquire_queue.proofs.queue.Queue.leave.Goals as goal
 use Rattle.acquire_queue.proofs.queue.Queue.leave.Goals.{In-Some, In_default}
 
@@ -24,18 +24,22 @@ returns-in_default-clause-line c =
 
 pub leave_node-requires : goal.leave_node-requires
 leave_node-requires c =
-    under_by _ _ _ _ c.self.invariant c.args.seat c.in-Some.number (found (goal.at.leave_node-requires c).In-Some)
+    under_by _ _ _ _ c.self.invariant c.args.seat c.in-Some.number
+    (found (goal.at.leave_node-requires c).In-Some)
 
 pub invariant_of-self : goal.invariant_of-self
 invariant_of-self c =
-    kept_gone_swept _ _ _ _ c.self.invariant c.args.seat c.in-Some.number (found (goal.at.invariant_of-self c).In-Some)
-    c.leave_node.new.nodes c.free_cancelled.new.nodes _ refl c.leave_node.ensures.nodes c.leave_node.ensures.places
+    kept_gone_swept _ _ _ _ c.self.invariant c.args.seat c.in-Some.number
+    (found (goal.at.invariant_of-self c).In-Some)
+    c.leave_node.new.nodes c.free_cancelled.new.nodes _ refl c.leave_node.ensures.nodes
+    c.leave_node.ensures.places
     c.free_cancelled.ensures.nodes c.free_cancelled.ensures.places
 
 pub invariant_of-self-else-len-self : goal.invariant_of-self-else-len-self
 invariant_of-self-else-len-self c =
     kept_gone _ _ _ _ c.self.invariant c.args.seat c.in-Some.number
-    (found (goal.at.invariant_of-self-else-len-self c).In-Some) c.leave_node.new.nodes _ refl c.leave_node.ensures.nodes
+    (found (goal.at.invariant_of-self-else-len-self c).In-Some) c.leave_node.new.nodes _ refl
+    c.leave_node.ensures.nodes
     c.leave_node.ensures.places (omega (arith, c.len.ensures, c.if-len-self.false))
 
 pub returns-then-len-self-clause-stood : goal.returns-then-len-self-clause-stood
@@ -48,7 +52,8 @@ pub returns-then-len-self-clause-line : goal.returns-then-len-self-clause-line
 returns-then-len-self-clause-line c =
     rw (← c.self.view_is)
     (line_gone_swept _ _ _ _ c.self.invariant c.args.seat c.in-Some.number
-    (found (goal.at.returns-then-len-self-clause-line c).In-Some) c.leave_node.new.nodes c.free_cancelled.new.nodes
+    (found (goal.at.returns-then-len-self-clause-line c).In-Some) c.leave_node.new.nodes
+    c.free_cancelled.new.nodes
     c.leave_node.ensures.nodes c.free_cancelled.ensures.nodes)
 
 pub returns-else-len-self-clause-stood : goal.returns-else-len-self-clause-stood
@@ -61,4 +66,35 @@ pub returns-else-len-self-clause-line : goal.returns-else-len-self-clause-line
 returns-else-len-self-clause-line c =
     rw (← c.self.view_is)
     ((left_node _ _ _ _ c.self.invariant c.args.seat c.in-Some.number
-    (found (goal.at.returns-else-len-self-clause-line c).In-Some) c.leave_node.new.nodes c.leave_node.ensures.nodes).arrivals)
+    (found (goal.at.returns-else-len-self-clause-line c).In-Some) c.leave_node.new.nodes
+    c.leave_node.ensures.nodes).arrivals)
+
+pub returns-then-len-self-clause-standing : goal.returns-then-len-self-clause-standing
+returns-then-len-self-clause-standing c =
+    let i = c.self.invariant in
+    let nodes = c.self.inside.nodes.nodes in
+    let stood = found (goal.at.returns-then-len-self-clause-standing c).In-Some in
+    let kept =
+    kept_gone_swept _ _ _ _ i c.args.seat c.in-Some.number stood c.leave_node.new.nodes
+    c.free_cancelled.new.nodes _ refl c.leave_node.ensures.nodes c.leave_node.ensures.places
+    c.free_cancelled.ensures.nodes c.free_cancelled.ensures.places in
+    rw (← c.self.view_is) (λ first is other.
+    let same = ap length c.leave_node.ensures.nodes
+    ∙ left_between c.args.seat c.in-Some.number nodes i.apart i.headed stood first is other in
+    standing_swept c.self.inside.seats nodes _ _ same c.free_cancelled.ensures.nodes
+    (omega (arith, kept.counted, c.len.ensures, c.if-len-self.true)))
+
+pub returns-else-len-self-clause-standing : goal.returns-else-len-self-clause-standing
+returns-else-len-self-clause-standing c =
+    let i = c.self.invariant in
+    let nodes = c.self.inside.nodes.nodes in
+    let stood = found (goal.at.returns-else-len-self-clause-standing c).In-Some in
+    let kept =
+    kept_gone _ _ _ _ i c.args.seat c.in-Some.number stood c.leave_node.new.nodes _ refl
+    c.leave_node.ensures.nodes c.leave_node.ensures.places
+    (omega (arith, c.len.ensures, c.if-len-self.false)) in
+    rw (← c.self.view_is) (λ first is other.
+    let same = ap length c.leave_node.ensures.nodes
+    ∙ left_between c.args.seat c.in-Some.number nodes i.apart i.headed stood first is other in
+    standing_left c.self.inside.seats nodes _ same
+    (omega (arith, kept.counted, c.len.ensures, c.if-len-self.false)))

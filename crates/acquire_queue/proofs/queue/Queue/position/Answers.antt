@@ -15,7 +15,8 @@ absent c =
 pub returns-in_err-_number-clause-position : goal.returns-in_err-_number-clause-position
 returns-in_err-_number-clause-position c =
     c.from_residual.ensures
-    ∙ sym (found_none c.args.seat _ (absent (goal.at.returns-in_err-_number-clause-position c).In_err-_number))
+    ∙ sym (found_none c.args.seat _
+    (absent (goal.at.returns-in_err-_number-clause-position c).In_err-_number))
 
 pub returns-in_err-_number-clause-stands : goal.returns-in_err-_number-clause-stands
 returns-in_err-_number-clause-stands c =
@@ -23,7 +24,8 @@ returns-in_err-_number-clause-stands c =
     ∙ sym (ap is_some (absent (goal.at.returns-in_err-_number-clause-stands c).In_err-_number))
 
 pub place_in-requires : goal.place_in-requires
-place_in-requires c = omega (arith, c.self.invariant.counted, few_wait _ _ _ _ c.self.invariant, c.self.invariant.few)
+place_in-requires c =
+    omega (arith, c.self.invariant.counted, few_wait _ _ _ _ c.self.invariant, c.self.invariant.few)
 
 pub returns-clause-stands : goal.returns-clause-stands
 returns-clause-stands c =

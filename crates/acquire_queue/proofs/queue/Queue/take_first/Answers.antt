@@ -10,7 +10,8 @@ taken c =
     let e = c.in_ok-first.ensures.first in
     let some = subst IsSome (sym (first_under _ c.in_ok-first.first e)) refl in
     c.free_head.ensures.nodes
-    ∙ ap trimmed (some_removed _ c.in_ok-first.first.number _ _ c.remove.ensures.found some c.remove.ensures.nodes
+    ∙ ap trimmed (some_removed _ c.in_ok-first.first.number _ _ c.remove.ensures.found some
+    c.remove.ensures.nodes
     ∙ first_without _ c.in_ok-first.first e c.in_ok-first.ensures.apart)
 
 pub index_mut-requires : goal.index_mut-requires
@@ -21,8 +22,10 @@ index_mut-requires c =
 
 pub invariant_of-self : goal.invariant_of-self
 invariant_of-self c =
-    kept_taken _ _ _ _ c.self.invariant c.in_ok-first.first c.in_ok-first.ensures.first c.free_head.new.nodes _ refl
-    (taken (goal.at.invariant_of-self c).After-free_head) (c.free_head.ensures.places ∙ c.remove.ensures.places)
+    kept_taken _ _ _ _ c.self.invariant c.in_ok-first.first c.in_ok-first.ensures.first c.free_head.new.nodes
+    _ refl
+    (taken (goal.at.invariant_of-self c).After-free_head) (c.free_head.ensures.places
+    ∙ c.remove.ensures.places)
 
 pub returns-clause-line : goal.returns-clause-line
 returns-clause-line c =
@@ -33,5 +36,6 @@ returns-clause-line c =
 pub returns-clause-left : goal.returns-clause-left
 returns-clause-left c =
     rw (← c.self.view_is)
-    ((left_at_head _ _ _ _ c.self.invariant c.in_ok-first.first c.in_ok-first.ensures.first c.free_head.new.nodes
+    ((left_at_head _ _ _ _ c.self.invariant c.in_ok-first.first c.in_ok-first.ensures.first
+    c.free_head.new.nodes
     (taken (goal.at.returns-clause-left c).After-free_head)).arrivals)

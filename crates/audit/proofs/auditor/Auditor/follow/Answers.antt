@@ -1,10 +1,9 @@
-use Rattle.std.proofs.Common.{rules, arith, sym, ◌∙◌}
+use Rattle.std.proofs.Common.{arith, sym, ◌∙◌}
 use Rattle.std.proofs.lemmas.Bool.{false≢true}
 use Rattle.history.specs.Start.{opening}
 use Rattle.audit.proofs.Fronts.{has_seat, wrong_now, wrong_still}
-use Rattle.audit.proofs.Limits.{one_signalled}
 use Rattle.audit.proofs.auditor.Auditor.follow.Goals as goal
-use Rattle.audit.proofs.auditor.Auditor.follow.Goals.{in-Some, in-None+then-admits+in_ok-note-in-None, in-None+else-admits}
+use Rattle.audit.proofs.auditor.Auditor.follow.Goals.{in-Some, in-None+then-admits, in-None+else-admits}
 
 pub admits-requires : goal.admits-requires
 admits-requires c =
@@ -12,11 +11,8 @@ admits-requires c =
     has_seat (opening r.header) r.entries c.args.self.now.ledger c.args.entry.seat
     (rw c.in-None.is at r.judged.so_far) r.seat r.room
 
-pub note-requires-clause-signal : goal.note-requires-clause-signal
-note-requires-clause-signal c =
-    let r = c.requires in
-    let admitted = c.admits.ensures (opening r.header) r.entries (rw c.in-None.is at r.judged.so_far) in
-    one_signalled (opening r.header) r.entries c.args.entry (admitted.0 c.if-admits.true)
+pub follow-requires-clause-next : goal.follow-requires-clause-next
+follow-requires-clause-next c = λ s h st. (c.admits.ensures s h st).0 c.if-admits.true
 
 pub returns-clause-judged : goal.returns-clause-judged
 returns-clause-judged c = λ k h was seat.
@@ -29,12 +25,11 @@ returns-clause-judged c = λ k h was seat.
             count = omega (arith, was.count);
             so_far = rw w.in-Some.is (wrong_still k h e _ so_far.0 so_far.1);
           })
-      | in-None+then-admits+in_ok-note-in-None w ↦
+      | in-None+then-admits w ↦
           let stands = rw w.in-None.is at was.so_far in
-          let next = (w.admits.ensures s h stands).0 w.if-admits.true in
           rw w.self-is (record {
             count = omega (arith, was.count);
-            so_far = rw w.in-None.is (w.in_ok-note-in-None.ensures.stand s h stands seat next);
+            so_far = rw w.in-None.is (w.follow.ensures s h stands seat);
           })
       | in-None+else-admits w ↦
           let stands = rw w.in-None.is at was.so_far in
@@ -43,9 +38,3 @@ returns-clause-judged c = λ k h was seat.
           ∙ (w.admits.ensures s h stands).1 next)) in
           rw w.self-is (record { count = omega (arith, was.count); so_far = rw was.count wrong })
     ]
-
-pub returns-in_err-note-in-None-clause-uncounted : goal.returns-in_err-note-in-None-clause-uncounted
-returns-in_err-note-in-None-clause-uncounted c = search rules
-
-pub returns-in_err-note-in-None-clause-err : goal.returns-in_err-note-in-None-clause-err
-returns-in_err-note-in-None-clause-err c = search rules

@@ -6,7 +6,7 @@ returns-clause-stand c =
     record {
       header = refl;
       holding = c.in_ok-holds.ensures.stand c.args.header refl;
-      waits = c.in_ok-waiting.ensures.stand c.args.header refl;
+      waits = c.in_ok-waiting.ensures.stand;
       numbers = c.open-3.ensures c.args.header refl;
       opened = refl;
       range = c.requires;

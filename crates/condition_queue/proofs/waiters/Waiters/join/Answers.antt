@@ -1,4 +1,4 @@
-use Rattle.std.proofs.Common.{◌≡◌, ◌+◌, ap, ◌∙◌, sym, arith, get_or}
+use Rattle.std.proofs.Common.{◌≡◌, ◌+◌, ap, arith, get_or}
 use Rattle.std.proofs.lemmas.List.{get_or_read}
 use Rattle.condition_queue.proofs.Kept.{kept_joined, room_to_join}
 use Rattle.condition_queue.proofs.waiters.Waiters.join.Goals as goal
@@ -13,7 +13,8 @@ count c =
 
 pub overflow_add-index_mut : goal.overflow_add-index_mut
 overflow_add-index_mut c =
-    let room = room_to_join _ _ _ _ c.self.invariant c.args.c c.args.seat (rw (← c.self.view_is) at c.requires.seat)
+    let room = room_to_join _ _ _ _ c.self.invariant c.args.c c.args.seat
+    (rw (← c.self.view_is) at c.requires.seat)
     (rw (← c.self.view_is) at c.requires.awake) in
     omega (
       arith,

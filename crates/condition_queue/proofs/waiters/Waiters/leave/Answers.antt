@@ -1,4 +1,4 @@
-use Rattle.std.proofs.Common.{◌≡◌, ◌≢◌, ◌+◌, ◌<◌, ℕ, get_or, length, Some, None, ap, ◌∙◌, sym, arith}
+use Rattle.std.proofs.Common.{◌≡◌, ◌≢◌, ℕ, get_or, Some, None, ◌∙◌, sym, arith}
 use Rattle.std.proofs.lemmas.List.{get_or_read}
 use Rattle.std.proofs.lemmas.Option.{same_Some}
 use Rattle.node_arena.specs.LinkedLists.{items}
@@ -43,4 +43,5 @@ returns-in-Some-clause-left c d =
     let at = (goal.at.returns-in-Some-clause-left c).After-unlink in
     rw (← c.self.view_is)
     (left_all _ _ _ _ c.self.invariant c.args.seat c.in-Some.sleeper c.unlink.new.self
-    (told (goal.at.returns-in-Some-clause-left c).In-Some) (rw (unlinked at) at c.unlink.ensures.left) (others at) d)
+    (told (goal.at.returns-in-Some-clause-left c).In-Some) (rw (unlinked at) at c.unlink.ensures.left)
+    (others at) d)

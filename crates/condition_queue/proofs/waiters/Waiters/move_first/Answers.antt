@@ -1,4 +1,4 @@
-use Rattle.std.proofs.Common.{◌≡◌, ◌++◌, ◌∷◌, [], map, ap, ◌∙◌, sym}
+use Rattle.std.proofs.Common.{◌++◌, ◌∷◌, [], map, ap, ◌∙◌, sym}
 use Rattle.history.specs.declared.arrival.Arrival.{Arrival}
 use Rattle.history.specs.Line.{coming_back, place_of}
 use Rattle.condition_queue.specs.Sleepers.{asleep_on, sleeper_of}
@@ -17,7 +17,8 @@ returns-in-None-clause-moved c =
 
 pub returns-in-Some-clause-moves : goal.returns-in-Some-clause-moves
 returns-in-Some-clause-moves c =
-    let alone = take_first c.in-Some.seat (asleep_on c.args.self.now c.args.c) (sym c.in-Some.ensures.first) in
+    let alone = take_first c.in-Some.seat (asleep_on c.args.self.now c.args.c) (sym c.in-Some.ensures.first)
+    in
     record {
       arrivals =
           c.join.ensures.line
@@ -26,7 +27,8 @@ returns-in-Some-clause-moves c =
       lists = moved_lists c.args.c c.in-Some.seat (asleep_on c.args.self.now) (asleep_on c.leave.new.self)
           (sleeper_of c.args.self.now c.in-Some.seat) c.leave.ensures.left c.in-Some.ensures.once
           c.in-Some.ensures.first c.in-Some.ensures.asleep (λ d. c.in-Some.ensures.listed d c.in-Some.seat);
-      sleepers = moved_sleepers c.in-Some.seat (asleep_on c.args.self.now c.args.c) (sleeper_of c.args.self.now)
+      sleepers = moved_sleepers c.in-Some.seat (asleep_on c.args.self.now c.args.c)
+          (sleeper_of c.args.self.now)
           (sleeper_of c.leave.new.self) c.leave.ensures.sleepers alone;
       joined = c.join.ensures.joined;
       line_seats = c.join.ensures.seats;

@@ -3,7 +3,7 @@ use Rattle.history.specs.Sleepers.{sleeps_below}
 use Rattle.history.specs.Start.{opening}
 use Rattle.history.proofs.OneWait.{waits}
 use Rattle.frame.specs.Core.{CoreView, start_of}
-use Rattle.frame.proofs.Deciding.{sleeps_is}
+use Rattle.condition_queue.proofs.Movable.{sleeps_is}
 use Rattle.frame.proofs.machine.Core.sleeps.Goals as goal
 
 pub returns : goal.returns

@@ -1,9 +1,9 @@
-use Rattle.std.proofs.Common.{◌≡◌, ◌≤◌, length, Result, Ok, Err, ◌∙◌, subst, arith, rules}
+use Rattle.std.proofs.Common.{◌≡◌, ◌<◌, ◌≤◌, length, Result, Ok, Err, ◌∙◌, subst, arith, rules}
 use Rattle.history.specs.Counts.{counts}
 use Rattle.history.specs.declared.fault.Fault.{Fault}
 use Rattle.history.specs.Start.{opening}
 use Rattle.frame.specs.Core.{CoreView, IsAdded, with_history}
-use Rattle.frame.proofs.Moving.{movable, keeps_next}
+use Rattle.condition_queue.proofs.Movable.{movable, keeps_next}
 use Rattle.frame.proofs.Stepping.{next_seen, within, needs, refused, grown, is_added, stands_next, tabled, exclusive_next, shared_next}
 use Rattle.frame.proofs.machine.Core.write.Goals as goal
 
@@ -58,7 +58,7 @@ move_waiters-requires g c =
     let e = c.args.entry in
     let s = c.self.invariant in
     let n = next_seen k a.history e _ s c.self.view_is c.requires in
-    let short : length h ≤ k.cap = let r = s.room in omega (arith, r) in
+    let short : length h < 4294967296 = let r = s.room in let c = s.range.cap in omega (arith, r, c) in
     record { movable = movable k h e a.queue a.waiters s.waiting s.range s.legal s.seated short n.seat n.known }
 
 pub update-requires-clause-exclusive : goal.update-requires-clause-exclusive
@@ -96,7 +96,7 @@ invariant_of-self-2 g c =
     let roomy = c.in_ok-make_room.ensures in
     let moved = c.move_waiters.ensures in
     let waiting =
-    keeps_next k h e a.queue c.move_waiters.new.queue a.waiters c.move_waiters.new.waiters s.waiting
+    keeps_next (opening k) h e a.queue c.move_waiters.new.queue a.waiters c.move_waiters.new.waiters s.waiting
     moved.line moved.sleepers moved.joined moved.places moved.beds moved.conditions in
     stands_next (g.H.Hooks.agrees a.hooks) (g.H.Hooks.agrees c.change.new.hooks) k a.history new a.queue
     c.move_waiters.new.queue

@@ -8,28 +8,37 @@ index-requires c =
 
 pub overflow_sub-result : goal.overflow_sub-result
 overflow_sub-result c =
-    (front_some _ _ _ c.self.invariant c.args.list _ (rw (← c.self.view_is) at c.requires) c.index.ensures c.if-first-list.false).0
+    (front_some _ _ _ c.self.invariant c.args.list _ (rw (← c.self.view_is) at c.requires) c.index.ensures
+    c.if-first-list.false).0
 
 pub returns-then-first-list-clause-value : goal.returns-then-first-list-clause-value
 returns-then-first-list-clause-value c =
-    rw (← c.self.view_is) (front_none _ _ _ c.self.invariant c.args.list _ (rw (← c.self.view_is) at c.requires) c.index.ensures c.if-first-list.true).0
+    rw (← c.self.view_is) (front_none _ _ _ c.self.invariant c.args.list _
+    (rw (← c.self.view_is) at c.requires) c.index.ensures c.if-first-list.true).0
 
 pub returns-then-first-list-clause-empty : goal.returns-then-first-list-clause-empty
 returns-then-first-list-clause-empty c =
-    simp (← c.self.view_is) (front_none _ _ _ c.self.invariant c.args.list _ (rw (← c.self.view_is) at c.requires) c.index.ensures c.if-first-list.true).1
+    simp (← c.self.view_is) (front_none _ _ _ c.self.invariant c.args.list _
+    (rw (← c.self.view_is) at c.requires) c.index.ensures c.if-first-list.true).1
 
 pub returns-else-first-list-clause-value : goal.returns-else-first-list-clause-value
 returns-else-first-list-clause-value c =
-    rw (← c.self.view_is) (front_some _ _ _ c.self.invariant c.args.list _ (rw (← c.self.view_is) at c.requires) c.index.ensures c.if-first-list.false).1
+    rw (← c.self.view_is) (front_some _ _ _ c.self.invariant c.args.list _
+    (rw (← c.self.view_is) at c.requires) c.index.ensures c.if-first-list.false).1
 
 pub returns-else-first-list-clause-member : goal.returns-else-first-list-clause-member
 returns-else-first-list-clause-member c =
-    rw (← c.self.view_is) (front_some _ _ _ c.self.invariant c.args.list _ (rw (← c.self.view_is) at c.requires) c.index.ensures c.if-first-list.false).2
+    rw (← c.self.view_is) (front_some _ _ _ c.self.invariant c.args.list _
+    (rw (← c.self.view_is) at c.requires) c.index.ensures c.if-first-list.false).2
 
 pub returns-then-first-list-clause-apart : goal.returns-then-first-list-clause-apart
 returns-then-first-list-clause-apart c =
-    rw (← c.self.view_is) (items_apart _ _ _ c.self.invariant c.args.list (head_within _ _ _ c.self.invariant c.args.list (rw (← c.self.view_is) at c.requires)).0)
+    rw (← c.self.view_is)
+    (items_apart _ _ _ c.self.invariant c.args.list
+    (head_within _ _ _ c.self.invariant c.args.list (rw (← c.self.view_is) at c.requires)).0)
 
 pub returns-else-first-list-clause-apart : goal.returns-else-first-list-clause-apart
 returns-else-first-list-clause-apart c =
-    rw (← c.self.view_is) (items_apart _ _ _ c.self.invariant c.args.list (head_within _ _ _ c.self.invariant c.args.list (rw (← c.self.view_is) at c.requires)).0)
+    rw (← c.self.view_is)
+    (items_apart _ _ _ c.self.invariant c.args.list
+    (head_within _ _ _ c.self.invariant c.args.list (rw (← c.self.view_is) at c.requires)).0)

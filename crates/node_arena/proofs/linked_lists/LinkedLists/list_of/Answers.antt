@@ -11,9 +11,12 @@ returns-in-Some-clause-in_range c =
 pub returns-in-Some-clause-absent : goal.returns-in-Some-clause-absent
 returns-in-Some-clause-absent c list other =
     let read : c.in-Some.owner.now ≡ get_or c.self.inside.owners.items c.args.key None = search rules in
-    simp (← c.self.view_is) (absent_elsewhere _ _ _ c.self.invariant c.args.key list (λ owned. other (read ∙ owned)))
+    simp (← c.self.view_is) (absent_elsewhere _ _ _ c.self.invariant c.args.key list (λ owned. other (read
+    ∙ owned)))
 
 pub returns-in-None-clause-absent : goal.returns-in-None-clause-absent
 returns-in-None-clause-absent c list other =
-    let read : None ≡ get_or c.self.inside.owners.items c.args.key None = sym (get_or_past _ c.args.key None (search rules)) in
-    simp (← c.self.view_is) (absent_elsewhere _ _ _ c.self.invariant c.args.key list (λ owned. other (read ∙ owned)))
+    let read : None ≡ get_or c.self.inside.owners.items c.args.key None =
+    sym (get_or_past _ c.args.key None (search rules)) in
+    simp (← c.self.view_is) (absent_elsewhere _ _ _ c.self.invariant c.args.key list (λ owned. other (read
+    ∙ owned)))

@@ -8,30 +8,46 @@ use Rattle.node_arena.proofs.linked_lists.LinkedLists.unlink.Goals.{After-index_
 
 pub skip-requires-clause-prev_in : goal.skip-requires-clause-prev_in
 skip-requires-clause-prev_in c =
-    omega (arith, before_within _ _ _ c.self.invariant c.in_ok-list.list c.args.key (rw (← c.self.view_is) at (sym c.in_ok-list.ensures.value)))
+    omega (
+      arith,
+      before_within _ _ _ c.self.invariant c.in_ok-list.list c.args.key
+          (rw (← c.self.view_is) at (sym c.in_ok-list.ensures.value)),
+    )
 
 pub skip-requires-clause-next_in : goal.skip-requires-clause-next_in
 skip-requires-clause-next_in c =
-    omega (arith, after_within _ _ _ c.self.invariant c.in_ok-list.list c.args.key (rw (← c.self.view_is) at (sym c.in_ok-list.ensures.value)))
+    omega (
+      arith,
+      after_within _ _ _ c.self.invariant c.in_ok-list.list c.args.key
+          (rw (← c.self.view_is) at (sym c.in_ok-list.ensures.value)),
+    )
 
 -- what the skip and the write of the owner make of the fields
-changes : (c : After-index_mut) → Changes c.self.inside.links.items c.skip.new.links.items c.self.inside.owners.items (set c.self.inside.owners.items c.args.key None) c.self.inside.heads c.in_ok-list.list (without c.args.key (items (lists_of c.self.inside.links.items c.self.inside.owners.items c.self.inside.heads) c.in_ok-list.list))
+changes : (c : After-index_mut) →
+    Changes c.self.inside.links.items c.skip.new.links.items c.self.inside.owners.items
+    (set c.self.inside.owners.items c.args.key None) c.self.inside.heads c.in_ok-list.list
+    (without c.args.key (items (lists_of c.self.inside.links.items c.self.inside.owners.items
+    c.self.inside.heads) c.in_ok-list.list))
 changes c =
-    Changes-skip _ _ _ _ c.in_ok-list.list c.args.key c.self.invariant (omega arith) (rw (← c.self.view_is) at (sym c.in_ok-list.ensures.value)) c.skip.ensures.skips
+    Changes-skip _ _ _ _ c.in_ok-list.list c.args.key c.self.invariant (omega arith)
+    (rw (← c.self.view_is) at (sym c.in_ok-list.ensures.value)) c.skip.ensures.skips
 
 pub invariant_of-self : goal.invariant_of-self
 invariant_of-self c = (changes (goal.at.invariant_of-self c).After-index_mut).sound
 
 pub returns-clause-left : goal.returns-clause-left
-returns-clause-left c = rw (← c.self.view_is) (changes (goal.at.returns-clause-left c).After-index_mut).changed
+returns-clause-left c =
+    rw (← c.self.view_is) (changes (goal.at.returns-clause-left c).After-index_mut).changed
 
 pub returns-clause-shorter : goal.returns-clause-shorter
 returns-clause-shorter c =
     rw (← c.self.view_is)
     (ap (λ keys. length keys + 1) (changes (goal.at.returns-clause-shorter c).After-index_mut).changed
-    ∙ shorter_after_skip _ c.skip.new.links.items _ _ c.in_ok-list.list c.args.key c.self.invariant (omega arith) (rw (← c.self.view_is) at (sym c.in_ok-list.ensures.value)))
+    ∙ shorter_after_skip _ c.skip.new.links.items _ _ c.in_ok-list.list c.args.key c.self.invariant
+    (omega arith) (rw (← c.self.view_is) at (sym c.in_ok-list.ensures.value)))
 
 pub returns-clause-others : goal.returns-clause-others
 returns-clause-others c other differs =
     rw (← c.self.view_is)
-    ((changes (goal.at.returns-clause-others c).After-index_mut).others other (λ same. differs (ap Some (sym same))))
+    ((changes (goal.at.returns-clause-others c).After-index_mut).others other
+    (λ same. differs (ap Some (sym same))))

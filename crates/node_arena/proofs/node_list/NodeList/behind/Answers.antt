@@ -15,4 +15,5 @@ pub returns : goal.returns
 returns c k node found =
     let at = index_place _ _ c.self.invariant k c.args.number node (rw (← c.self.view_is) at found) in
     rw (← c.self.view_is)
-    (c.at.ensures ∙ found_index _ _ c.self.invariant (k + 1) c.in_ok-place.place (c.in_ok-place.ensures 0 k at))
+    (c.at.ensures ∙ found_index _ _ c.self.invariant (k + 1) c.in_ok-place.place
+    (c.in_ok-place.ensures 0 k at))

@@ -5,7 +5,8 @@ use Rattle.node_arena.proofs.node_list.NodeList.push_back.Goals as goal
 pub invariant_of-self : goal.invariant_of-self
 invariant_of-self c =
     linked-push c.self.inside.arena c.self.inside.links c.self.invariant _ _ c.place-number.result.place _
-    c.place-number.ensures.vacant c.place-number.ensures.changes c.place-number.ensures.taken c.push_back.ensures.moves
+    c.place-number.ensures.vacant c.place-number.ensures.changes c.place-number.ensures.taken
+    c.push_back.ensures.moves
     c.push_back.ensures.last
 
 pub returns-clause-nodes : goal.returns-clause-nodes
@@ -17,4 +18,5 @@ returns-clause-nodes c =
 pub returns-clause-vacant : goal.returns-clause-vacant
 returns-clause-vacant c =
     rw (← c.self.view_is)
-    (at_place-out _ _ c.place-number.result.place (not_listed _ _ c.self.invariant _ c.place-number.ensures.vacant))
+    (at_place-out _ _ c.place-number.result.place
+    (not_listed _ _ c.self.invariant _ c.place-number.ensures.vacant))

@@ -9,7 +9,8 @@ returns-in_err-node-clause-found c =
     rw (← c.self.view_is, under_is _ _ c.self.invariant c.args.number)
     (c.from_residual.ensures ∙ c.in_err-node.ensures.found)
 
-left : (c : After-unlink) → items c.unlink.new.self 0 ≡ without c.args.number.place (items c.self.inside.links 0)
+left : (c : After-unlink) →
+    items c.unlink.new.self 0 ≡ without c.args.number.place (items c.self.inside.links 0)
 left c =
     let r : c.unlink.result ≡ Some 0 =
     c.unlink.ensures.value ∙ in_list _ _ c.self.invariant c.args.number _ (sym c.in_ok-node.ensures.found) in
@@ -18,7 +19,8 @@ left c =
 pub invariant_of-self-2 : goal.invariant_of-self-2
 invariant_of-self-2 c =
     linked-without c.self.inside.arena c.self.inside.links c.self.invariant _ _ c.args.number.place
-    (found_some c.self.inside.arena c.args.number _ (sym c.in_ok-node.ensures.found)) c.in_ok-node.ensures.changes
+    (found_some c.self.inside.arena c.args.number _ (sym c.in_ok-node.ensures.found))
+    c.in_ok-node.ensures.changes
     c.in_ok-node.ensures.taken c.unlink.ensures.moves (left (goal.at.invariant_of-self-2 c).After-unlink)
 
 pub returns-clause-found : goal.returns-clause-found

@@ -3,10 +3,10 @@
 ghost use Rattle.std.specs.Prelude.{◌≡◌, ◌≤◌, ◌+◌, ◌==◌, if◌then◌else◌, ℕ};
 ghost use Rattle.history.specs.Sleepers.{sleepers_after};
 ghost use Rattle.condition_queue.specs.Sleepers.{asleep_on, sleeper_of};
-ghost use Rattle.frame.specs.Waiting.{IsMovable, line_behind, sleeper_behind};
+ghost use Rattle.condition_queue.specs.Following.{IsMovable, line_behind, sleeper_behind};
 
+use crate::waiters::Waiters;
 use acquire_queue::queue::Queue;
-use condition_queue::waiters::Waiters;
 use deciding::arrivals::{coming_back, queued};
 use history::entry::{Entry, Word};
 

@@ -1,6 +1,7 @@
--- What an entry makes of those who wait, and that they are as it needs them.
+-- That queue and waiters stand for one entry more, and are as it needs them.
 use Rattle.std.proofs.Common.{◌≡◌, ◌⊎◌, ⊎_elim, ℕ, zero, suc, ◌+◌, ◌<◌, ◌≤◌, Bool, true, false, cond, eqb, List, ◌∷◌, ◌++◌, length, Option, Some, None, refl, ap, ◌∙◌, sym, arith}
 use Rattle.std.specs.List.{filter}
+use Rattle.std.specs.Prelude.{is_some}
 use Rattle.std.proofs.lemmas.Bool.{cases_eq, cases_lt, eq-eqb, false≢true}
 use Rattle.std.proofs.lemmas.List.{append-nil, length-append}
 use Rattle.acquire_queue.specs.Line.{Line}
@@ -21,10 +22,9 @@ use Rattle.history.proofs.Changes.{all_stay}
 use Rattle.history.proofs.Entering.{Known, KnownBy, OnCondition}
 use Rattle.history.proofs.LineLemmas.{line_after, stays}
 use Rattle.history.proofs.OneWait.{Waits, waits}
-use Rattle.history.proofs.SleepLemmas.{idle_parts, sleeping_parts, sleeps_there}
+use Rattle.history.proofs.SleepLemmas.{idle_parts, sleeping_parts, sleeps_at, sleeps_there}
 use Rattle.history.proofs.WhoWaits.{asleep_out_of_line, sleeper_condition, no_sleepers_above, few_wait, line_seated}
-use Rattle.frame.specs.Core.{Keeps}
-use Rattle.frame.specs.Waiting.{line_behind, IsMovable, IsMovableBy, MayJoin, MayMove}
+use Rattle.condition_queue.specs.Following.{Keeps, line_behind, IsMovable, IsMovableBy, MayJoin, MayMove}
 
 -- the line
 line_by : (s : Start) (h : List Entry) (e : Entry) (w : Word) →
@@ -96,7 +96,7 @@ few_sleepers k h legal seated c = by (cases_lt c k.conditions)
         p
 
 joins_line : (k : Header) (h : List Entry) (e : Entry) (queue : Line) (waiters : Sleepers) →
-    Keeps k h queue waiters →
+    Keeps (opening k) h queue waiters →
     e.seat < k.seats → place_of e.seat (line (opening k) h) ≡ None → MayJoin e queue
 joins_line k h e queue waiters kept seat absent =
     record {
@@ -105,7 +105,7 @@ joins_line k h e queue waiters kept seat absent =
     }
 
 moves : (k : Header) (h : List Entry) (e : Entry) (queue : Line) (waiters : Sleepers) (n : ℕ) →
-    Keeps k h queue waiters →
+    Keeps (opening k) h queue waiters →
     Waits (opening k) h → OnCondition (opening k) h e → e.n ≡ n → MayMove n e queue waiters
 moves k h e queue waiters n kept v on is =
     record {
@@ -119,7 +119,7 @@ moves k h e queue waiters n kept v on is =
     }
 
 movable_by : (k : Header) (h : List Entry) (e : Entry) (queue : Line) (waiters : Sleepers) (w : Word) →
-    Keeps k h queue waiters →
+    Keeps (opening k) h queue waiters →
     Waits (opening k) h → e.seat < k.seats → KnownBy (opening k) h e w → IsMovableBy w e queue waiters
 movable_by k h e queue waiters word.Queued kept v seat m =
     joins_line k h e queue waiters kept seat (idle_parts _ _ m.idle).0
@@ -155,8 +155,8 @@ movable_by k h e queue waiters word.Counted kept v seat m = tt
 movable_by k h e queue waiters word.Drained kept v seat m = tt
 
 pub movable : (k : Header) (h : List Entry) (e : Entry) (queue : Line) (waiters : Sleepers) →
-    Keeps k h queue waiters →
-    IsInRange k → IsLegal (opening k) h → AreSeated (opening k) h → length h ≤ k.cap → e.seat < k.seats →
+    Keeps (opening k) h queue waiters →
+    IsInRange k → IsLegal (opening k) h → AreSeated (opening k) h → length h < 4294967296 → e.seat < k.seats →
     Known (opening k) h e → IsMovable e queue waiters
 movable k h e queue waiters kept range legal seated short seat m =
     record {
@@ -167,23 +167,23 @@ movable k h e queue waiters kept range legal seated short seat m =
           let l = ap length (kept.sleepers e.at) in
           let r = range.seats in
           omega (arith, f, l, r);
-      countable = let j = kept.joins in let c = range.cap in omega (arith, j, c, short);
+      countable = let j = kept.joins in omega (arith, j, short);
     }
 
-pub keeps_next : (k : Header) (h : List Entry) (e : Entry) (queue queue' : Line) (waiters waiters' : Sleepers) →
-    Keeps k h queue waiters →
+pub keeps_next : (s : Start) (h : List Entry) (e : Entry) (queue queue' : Line)
+    (waiters waiters' : Sleepers) → Keeps s h queue waiters →
     queue'.arrivals ≡ line_behind e.word e queue.arrivals (asleep_on waiters e.at) →
     ((c : ℕ) → asleep_on waiters' c ≡ cond (eqb e.at c)
     (sleepers_after e.word e.seat e.n (asleep_on waiters c)) (asleep_on waiters c)) →
     queue'.joined ≤ queue.joined + 65536 → queue'.seats ≡ queue.seats → waiters'.seats ≡ waiters.seats →
-    waiters'.conditions ≡ waiters.conditions → Keeps k (e ∷ h) queue' waiters'
-keeps_next k h e queue queue' waiters waiters' kept arrivals lists joined places beds conditions =
+    waiters'.conditions ≡ waiters.conditions → Keeps s (e ∷ h) queue' waiters'
+keeps_next s h e queue queue' waiters waiters' kept arrivals lists joined places beds conditions =
     record {
       line =
           arrivals
           ∙ ap (λ l. line_behind e.word e l (asleep_on waiters e.at)) kept.line
-          ∙ ap (line_behind e.word e (line (opening k) h)) (kept.sleepers e.at)
-          ∙ sym (line_next (opening k) h e);
+          ∙ ap (line_behind e.word e (line s h)) (kept.sleepers e.at)
+          ∙ sym (line_next s h e);
       places = places ∙ kept.places;
       joins = let j = kept.joins in omega (arith, j, joined);
       sleepers =
@@ -201,3 +201,23 @@ awake_none w i (Some x) is awake listed =
     let t : true ≡ false = sym (eq-eqb x.condition x.condition refl) ∙ sym (listed x.condition)
     ∙ awake x.condition in
     absurd (false≢true (sym t))
+
+-- who sleeps, by what the waiters say of a seat
+pub sleeps_is : (s : Start) (h : List Entry) (i : ℕ) (w : Sleepers) (r : Option Sleeper) → Waits s h →
+    ((c : ℕ) → asleep_on w c ≡ sleepers s h c) → ((c : ℕ) → has i (asleep_on w c) ≡ sleeps_on c r) →
+    is_some r ≡ sleeps_below s.header.conditions s h i
+sleeps_is s h i w None v lists listed = by (sleeps_below s.header.conditions s h i) refl
+  where
+    by : (b : Bool) → sleeps_below s.header.conditions s h i ≡ b → false ≡ b
+    by true t =
+        let at = sleeps_at s.header.conditions s h i t in
+        let z : true ≡ false = sym at.2 ∙ ap (has i) (sym (lists at.0)) ∙ listed at.0 in
+        cc
+    by false t = refl
+sleeps_is s h i w (Some x) v lists listed =
+    let t : has i (sleepers s h x.condition) ≡ true =
+    ap (has i) (sym (lists x.condition)) ∙ listed x.condition ∙ eq-eqb x.condition x.condition refl in
+    let on = v.sleepers x.condition i t in
+    let below : x.condition < s.header.conditions = let l = on.saved.condition in let d = on.condition in
+    omega (arith, l, d) in
+    sym (sleeps_there s.header.conditions s h i x.condition below t)

@@ -1,5 +1,5 @@
--- What an entry makes of those who wait, and what it asks of them.
-use Rattle.std.specs.Prelude.{◌≡◌, ◌≤◌, ◌<◌, ◌+◌, ◌^◌, ℕ, ◌==◌, not, true, false, List, [], ◌∷◌, ◌++◌, if◌then◌else◌, filter, map, take, length, Option, Some, None}
+-- That queue and waiters stand for a history, what an entry makes of them, and what it asks of them.
+use Rattle.std.specs.Prelude.{◌≡◌, ◌≤◌, ◌<◌, ◌+◌, ◌*◌, ◌^◌, ℕ, ◌==◌, not, true, false, List, [], ◌∷◌, ◌++◌, if◌then◌else◌, filter, map, take, length, Option, Some, None}
 use Rattle.acquire_queue.specs.Line.{Line}
 use Rattle.condition_queue.specs.declared.sleeper.Sleeper.{Sleeper}
 use Rattle.condition_queue.specs.Sleepers.{Sleepers, asleep_on}
@@ -7,9 +7,19 @@ use Rattle.history.specs.declared.arrival.Arrival.{Arrival}
 use Rattle.history.specs.declared.entry.Entry.{Entry}
 use Rattle.history.specs.declared.entry.Word.{Word}
 use Rattle.history.specs.declared.entry.Word.TheVariants.{Queued, Granted, Left, Await, Lapse, Signal, SignalAll, Back}
-use Rattle.history.specs.Line.{coming_back, place_of}
-use Rattle.history.specs.Sleepers.{has}
+use Rattle.history.specs.Line.{coming_back, line, place_of}
+use Rattle.history.specs.Sleepers.{has, sleepers}
+use Rattle.history.specs.Start.{Start}
 use Rattle.history.specs.Steps.{at_most_one}
+
+-- The line and the sleepers are those of the history.
+pub record Keeps (s : Start) (h : List Entry) (queue : Line) (waiters : Sleepers) : Type 0 where
+  pub line : queue.arrivals ≡ line s h
+  pub places : queue.seats ≡ s.header.seats
+  pub joins : queue.joined ≤ 65536 * length h
+  pub sleepers : (c : ℕ) → asleep_on waiters c ≡ sleepers s h c
+  pub conditions : waiters.conditions ≡ s.header.conditions
+  pub beds : waiters.seats ≡ s.header.seats
 
 abbrev pub line_without : ℕ → List Arrival → List Arrival
 line_without i arrivals = filter (λ a. not (i == a.seat)) arrivals
