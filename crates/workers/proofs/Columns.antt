@@ -19,7 +19,7 @@ use Rattle.workers.specs.declared.work.Worked.{Worked}
 use Rattle.workers.specs.Calls.{homes, homes_at, home_of, lock_of}
 use Rattle.workers.specs.Reports.{AreParts, HaveColumns, IsPart, IsSound, dealt_all, header_of, empties, homes_below, opening_row, opening_rows}
 use Rattle.workers.specs.Rows.{dealt}
-use Rattle.workers.specs.Works.{AllWorked, HasWorked, passes_left}
+use Rattle.workers.specs.Works.{AllWorked, passes_left}
 
 -- one object more in a row
 row_more : (locks : List LockId) (lock : LockId) (seat : ℕ) →
@@ -121,19 +121,19 @@ below_more n (lock ∷ locks) (p ∷ row) (column ∷ columns) same (first, rest
 )
 
 -- the rows of all workers from a seat on
-below_all : (ns : Type 0) (ws : List WorkerView) (locks : List LockId) (seat n : ℕ) (dones : List Worked)
-    (columns : List (List Shown)) → AllWorked ns ws (opening_rows locks seat n) dones →
+below_all : (answers : ℕ → ℕ → Bool → Type 0) (ws : List WorkerView) (locks : List LockId) (seat n : ℕ)
+    (dones : List Worked) (columns : List (List Shown)) → AllWorked answers seat ws (opening_rows locks seat n) dones →
     HaveBelow seat locks columns → HaveBelow (seat + n) locks (dealt_all (passes_left dones) columns)
-below_all ns [] locks seat zero [] columns worked below =
+below_all answers [] locks seat zero [] columns worked below =
     let same : seat ≡ seat + 0 = omega arith in subst (λ (z : ℕ). HaveBelow z locks columns) same below
-below_all ns [] locks seat zero (done ∷ dones) columns worked below = absurd worked
-below_all ns (w ∷ ws) locks seat zero dones columns worked below = absurd worked
-below_all ns [] locks seat (suc n) dones columns worked below = absurd worked
-below_all ns (w ∷ ws) locks seat (suc n) [] columns worked below = absurd worked
-below_all ns (w ∷ ws) locks seat (suc n) (done ∷ dones) columns (first, rest) below =
+below_all answers [] locks seat zero (done ∷ dones) columns worked below = absurd worked
+below_all answers (w ∷ ws) locks seat zero dones columns worked below = absurd worked
+below_all answers [] locks seat (suc n) dones columns worked below = absurd worked
+below_all answers (w ∷ ws) locks seat (suc n) [] columns worked below = absurd worked
+below_all answers (w ∷ ws) locks seat (suc n) (done ∷ dones) columns (first, rest) below =
     let up : suc seat + n ≡ seat + suc n = omega arith in
     subst (λ (z : ℕ). HaveBelow z locks (dealt_all (passes_left dones) (dealt done.passes columns))) up
-    (below_all ns ws locks (suc seat) n dones (dealt done.passes columns) rest
+    (below_all answers ws locks (suc seat) n dones (dealt done.passes columns) rest
     (below_more seat locks done.passes columns (first.same ∙ row_homes locks seat) below))
 
 have_columns : (n : ℕ) (locks : List LockId) (columns : List (List Shown)) →
@@ -148,14 +148,15 @@ have_columns n (lock ∷ locks) (column ∷ columns) seats (first, rest) =
     )
 
 -- the rows that all workers leave give each object the passes of all its seats
-pub all_columns : (ns : Type 0) (ws : List WorkerView) (locks : List LockId) (n : ℕ) (dones : List Worked) →
-    All (λ (l : LockId). l.header.seats ≡ n) locks → AllWorked ns ws (opening_rows locks 0 n) dones →
+pub all_columns : (answers : ℕ → ℕ → Bool → Type 0) (ws : List WorkerView) (locks : List LockId) (n : ℕ)
+    (dones : List Worked) →
+    All (λ (l : LockId). l.header.seats ≡ n) locks → AllWorked answers 0 ws (opening_rows locks 0 n) dones →
     HaveColumns locks (dealt_all (passes_left dones) (empties (length locks)))
-all_columns ns ws locks n dones seats worked =
+all_columns answers ws locks n dones seats worked =
     let up : 0 + n ≡ n = omega arith in
     have_columns n locks (dealt_all (passes_left dones) (empties (length locks))) seats
     (subst (λ (z : ℕ). HaveBelow z locks (dealt_all (passes_left dones) (empties (length locks)))) up
-    (below_all ns ws locks 0 n dones (empties (length locks)) worked (below_none locks)))
+    (below_all answers ws locks 0 n dones (empties (length locks)) worked (below_none locks)))
 
 -- a row has a pass for each object
 row_length : (ps : List Shown) (locks : List LockId) (seat : ℕ) → homes ps ≡ homes (opening_row locks seat) →
@@ -163,17 +164,18 @@ row_length : (ps : List Shown) (locks : List LockId) (seat : ℕ) → homes ps �
 row_length ps locks seat same =
     sym (homes_each ps) ∙ ap length (same ∙ row_homes locks seat) ∙ homes_at_each locks seat
 
-pub rows_fit : (ns : Type 0) (ws : List WorkerView) (locks : List LockId) (seat n k : ℕ) (dones : List Worked) →
-    k ≡ length locks → AllWorked ns ws (opening_rows locks seat n) dones →
+pub rows_fit : (answers : ℕ → ℕ → Bool → Type 0) (ws : List WorkerView) (locks : List LockId) (seat n k : ℕ)
+    (dones : List Worked) →
+    k ≡ length locks → AllWorked answers seat ws (opening_rows locks seat n) dones →
     All (λ (done : Worked). length done.passes ≤ k) dones
-rows_fit ns ws locks seat n k [] is worked = All-nil (λ (done : Worked). length done.passes ≤ k)
-rows_fit ns [] locks seat zero k (done ∷ dones) is worked = absurd worked
-rows_fit ns (w ∷ ws) locks seat zero k (done ∷ dones) is worked = absurd worked
-rows_fit ns [] locks seat (suc n) k (done ∷ dones) is worked = absurd worked
-rows_fit ns (w ∷ ws) locks seat (suc n) k (done ∷ dones) is (first, rest) =
+rows_fit answers ws locks seat n k [] is worked = All-nil (λ (done : Worked). length done.passes ≤ k)
+rows_fit answers [] locks seat zero k (done ∷ dones) is worked = absurd worked
+rows_fit answers (w ∷ ws) locks seat zero k (done ∷ dones) is worked = absurd worked
+rows_fit answers [] locks seat (suc n) k (done ∷ dones) is worked = absurd worked
+rows_fit answers (w ∷ ws) locks seat (suc n) k (done ∷ dones) is (first, rest) =
     let same = row_length done.passes locks seat first.same in
     All-cons (λ (d : Worked). length d.passes ≤ k) done dones (omega (arith, same, is))
-    (rows_fit ns ws locks (suc seat) n k dones is rest)
+    (rows_fit answers ws locks (suc seat) n k dones is rest)
 
 -- the passes of an object's column
 below_own : (lock : LockId) (n : ℕ) → All (λ (h : LockId × ℕ). h.0 ≡ lock) (homes_below lock n)

@@ -1,5 +1,5 @@
 -- The objects of a script.
-use Rattle.std.proofs.Common.{◌≡◌, ℕ, List, length, map, Some, Option, refl, ap, sym, subst, ◌∙◌}
+use Rattle.std.proofs.Common.{◌≡◌, ℕ, List, length, Some, ap, sym, subst, ◌∙◌}
 use Rattle.std.specs.declared.alloc.Global.{Global}
 use Rattle.std.specs.Prelude.{String, string_bytes}
 use Rattle.std.specs.List.{All, slice_get}
@@ -7,7 +7,6 @@ use Rattle.std.specs.Option.{option_map}
 use Rattle.std.proofs.lemmas.List.Elements.{All-get_or}
 use Rattle.std.proofs.lemmas.Option.{slice_get-map, slice_get_within, get_or_from_slice_get}
 use Rattle.history.specs.declared.header.Header.{Header}
-use Rattle.history.specs.Header.{IsInRange}
 use Rattle.script.specs.Script.{IsObject, IsScript, Named, ScriptView, named}
 use Rattle.workers.specs.Reports.{headers_of}
 

@@ -1,5 +1,5 @@
 -- The passes of a worker behind its calls.
-use Rattle.std.proofs.Common.{◌≡◌, ℕ, zero, suc, ◌+◌, ◌<◌, List, [], ◌∷◌, ◌++◌, length, map, reverse, take, Some, Result, refl, ap, sym, subst, arith, ◌∙◌, get_or, set}
+use Rattle.std.proofs.Common.{◌≡◌, ℕ, zero, suc, ◌+◌, ◌<◌, List, [], ◌∷◌, ◌++◌, length, map, reverse, take, Result, refl, ap, sym, subst, arith, ◌∙◌, get_or, set}
 use Rattle.std.proofs.lemmas.List.{reverse-append, take_more}
 use Rattle.std.proofs.lemmas.Option.{slice_get_read}
 use Rattle.history.specs.declared.entry.Entry.{Entry}
@@ -8,9 +8,9 @@ use Rattle.monitor.specs.Shown.{Shown}
 use Rattle.monitor.specs.Stepping.{IsSame}
 use Rattle.script.specs.declared.action.Action.{Action}
 use Rattle.script.specs.declared.call.Call.{Call}
-use Rattle.script.specs.declared.call.Call.TheVariants.{On, Interrupt}
+use Rattle.script.specs.declared.call.Call.TheVariants.{On}
 use Rattle.word_lock.specs.Ticket.{LockId}
-use Rattle.workers.specs.Calls.{IsActed, IsCalled, ActsOn, Made, homes, home_of, lock_of, rounds, unrecorded_by}
+use Rattle.workers.specs.Calls.{IsActed, IsCalled, Made, homes, home_of, lock_of, rounds, unrecorded_by}
 
 -- one pass that is of the same monitor and seat
 pub set_homes : (ps : List Shown) (k : ℕ) (was now : Shown) → k < length ps → was ≡ get_or ps k was →

@@ -37,7 +37,7 @@ settles_more all first rest columns u done others v grown cut ended is s =
     let small : v ≤ most_calls = subst (λ z. IfOk z (λ n. n ≤ most_calls)) ended few in
     let many : length rest ≡ length (done ∷ others) = ap length cut in
     let bound = s.5 in (
-      (λ f stopped. s.0 f (subst (λ (z : List Worked). HasStopped f z) (sym cut) (inr stopped))),
+      (λ f stopped. s.0 f (subst (λ (z : List Worked). HasStopped f z) (sym cut) (inr (v, ended, stopped)))),
       (λ x sum.
           let same : u + (v + x) ≡ u + v + x = omega arith in
           subst (λ (z : ℕ). AddUp all z) same

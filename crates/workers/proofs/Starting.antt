@@ -1,5 +1,5 @@
 -- Threads that were started one by one.
-use Rattle.std.proofs.Common.{◌≡◌, ℕ, zero, suc, ◌+◌, ◌<◌, List, [], ◌∷◌, ◌++◌, length, drop, Some, refl, ap, sym, subst, arith, ◌∙◌, get_or}
+use Rattle.std.proofs.Common.{◌≡◌, ℕ, zero, suc, ◌+◌, ◌<◌, List, [], ◌∷◌, ◌++◌, length, drop, Some, sym, subst, arith, get_or}
 use Rattle.std.specs.List.{slice_get}
 
 each_next : {H : Type 0} (P : ℕ → H → Type 0) (hs : List H) (h : H) (k : ℕ) → length hs ≡ k →

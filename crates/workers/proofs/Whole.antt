@@ -1,5 +1,5 @@
 -- A run as a whole.
-use Rattle.std.proofs.Common.{◌≡◌, ℕ, ◌<◌, ◌≤◌, ◌⊎◌, List, [], ◌∷◌, length, map, suc, refl, ap, sym, subst, arith, ◌∙◌, get_or, inl, inr}
+use Rattle.std.proofs.Common.{◌≡◌, ℕ, ◌<◌, ◌≤◌, ◌⊎◌, Bool, List, [], ◌∷◌, length, map, suc, refl, ap, sym, subst, arith, ◌∙◌, get_or, inl, inr}
 use Rattle.std.specs.List.{All}
 use Rattle.std.proofs.lemmas.List.Elements.{All-nil, All-cons, All-head, All-tail, All-same, All-weaker}
 use Rattle.history.specs.declared.header.Header.{Header}
@@ -7,7 +7,7 @@ use Rattle.monitor.specs.Shown.{Shown}
 use Rattle.script.specs.Script.{IsObject, IsScript, IsWorker, Named, ScriptView, WorkerView}
 use Rattle.word_lock.specs.Ticket.{LockId}
 use Rattle.workers.specs.declared.fault.RunFault.{RunFault}
-use Rattle.workers.specs.declared.fault.RunFault.TheVariants.{Memory, GateShut, NotStarted}
+use Rattle.workers.specs.declared.fault.RunFault.TheVariants.{Memory}
 use Rattle.workers.specs.declared.work.Worked.{Worked}
 use Rattle.workers.specs.Calls.{lock_of}
 use Rattle.workers.specs.Reports.{header_of, headers_of, opening_rows}
@@ -68,36 +68,33 @@ pub all_own : (locks : List LockId) (rows : List (List Shown)) (n : ℕ) → row
 all_own locks rows n is =
     All-same (λ (row : List Shown). map lock_of row ≡ locks) rows (opening_rows locks 0 n) is (rows_own locks 0 n)
 
-pub all_few : (ns : Type 0) (ws : List WorkerView) (olds : List (List Shown)) (dones : List Worked) →
-    AllWorked ns ws olds dones → All IsFew dones
-all_few ns [] [] [] worked = All-nil IsFew
-all_few ns [] [] (done ∷ dones) worked = absurd worked
-all_few ns [] (old ∷ olds) dones worked = absurd worked
-all_few ns (w ∷ ws) [] dones worked = absurd worked
-all_few ns (w ∷ ws) (old ∷ olds) [] worked = absurd worked
-all_few ns (w ∷ ws) (old ∷ olds) (done ∷ dones) (first, rest) =
-    All-cons IsFew done dones first.few (all_few ns ws olds dones rest)
-
--- a fault that no gate tells
-pub told_by : (ns : Type 0) (fault : RunFault) → IsTold (Unit {0}) fault → IsTold ns fault
-told_by ns (GateShut k) told = absurd (told tt)
-told_by ns (NotStarted k) told = tt
-told_by ns Memory told = tt
+pub all_few : (answers : ℕ → ℕ → Bool → Type 0) (seat : ℕ) (ws : List WorkerView) (olds : List (List Shown))
+    (dones : List Worked) → AllWorked answers seat ws olds dones → All IsFew dones
+all_few answers seat [] [] [] worked = All-nil IsFew
+all_few answers seat [] [] (done ∷ dones) worked = absurd worked
+all_few answers seat [] (old ∷ olds) dones worked = absurd worked
+all_few answers seat (w ∷ ws) [] dones worked = absurd worked
+all_few answers seat (w ∷ ws) (old ∷ olds) [] worked = absurd worked
+all_few answers seat (w ∷ ws) (old ∷ olds) (done ∷ dones) (first, rest) =
+    All-cons IsFew done dones first.few (all_few answers (suc seat) ws olds dones rest)
 
 -- all workers, as they were opened
-pub ran : (ns : Type 0) (s : ScriptView) (ws : List WorkerView) (locks : List LockId) (rows : List (List Shown))
-    (dones : List Worked) → ws ≡ s.workers → rows ≡ opening_rows locks 0 (length s.workers) →
-    length dones ≡ length ws →
-    ((i : ℕ) (d : Worked) → i < length ws → WorksAt ns ws rows i (get_or dones i d)) →
-    AllWorked ns s.workers (opening_rows locks 0 (length s.workers)) dones
-ran ns s ws locks rows dones same opened count each =
+pub ran : (answers : ℕ → ℕ → Bool → Type 0) (s : ScriptView) (ws : List WorkerView) (locks : List LockId)
+    (rows : List (List Shown)) (dones : List Worked) → ws ≡ s.workers →
+    rows ≡ opening_rows locks 0 (length s.workers) → length dones ≡ length ws →
+    ((i : ℕ) (d : Worked) → i < length ws → WorksAt answers 0 ws rows i (get_or dones i d)) →
+    AllWorked answers 0 s.workers (opening_rows locks 0 (length s.workers)) dones
+ran answers s ws locks rows dones same opened count each =
     let as_many : length rows ≡ length ws =
     ap length opened ∙ rows_count locks 0 (length s.workers) ∙ sym (ap length same) in
-    subst (λ (z : List (List Shown)). AllWorked ns s.workers z dones) opened
-    (subst (λ (z : List WorkerView). AllWorked ns z rows dones) same (all_worked ns ws rows dones as_many count each))
+    subst (λ (z : List (List Shown)). AllWorked answers 0 s.workers z dones) opened
+    (subst (λ (z : List WorkerView). AllWorked answers 0 z rows dones) same
+    (all_worked answers 0 ws rows dones as_many count each))
 
 -- why a run stopped
-pub told_stop : (ns : Type 0) (ws : List WorkerView) (olds : List (List Shown)) (dones : List Worked)
-    (fault : RunFault) → AllWorked ns ws olds dones → (fault ≡ Memory) ⊎ HasStopped fault dones → IsTold ns fault
-told_stop ns ws olds dones fault worked (inl memory) = subst (IsTold ns) (sym memory) tt
-told_stop ns ws olds dones fault worked (inr stopped) = stopped_told ns ws olds dones fault worked stopped
+pub told_stop : (answers : ℕ → ℕ → Bool → Type 0) (ws : List WorkerView) (olds : List (List Shown))
+    (dones : List Worked) (fault : RunFault) → AllWorked answers 0 ws olds dones →
+    (fault ≡ Memory) ⊎ HasStopped fault dones → IsTold answers ws fault
+told_stop answers ws olds dones fault worked (inl memory) = subst (IsTold answers ws) (sym memory) tt
+told_stop answers ws olds dones fault worked (inr stopped) =
+    stopped_told answers ws olds dones fault worked stopped

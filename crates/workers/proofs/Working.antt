@@ -1,7 +1,6 @@
 -- What all workers leave.
-use Rattle.std.proofs.Common.{◌≡◌, ℕ, zero, suc, ◌+◌, ◌<◌, ◌⊎◌, List, [], ◌∷◌, length, map, Some, Ok, Err, Result, refl, ap, sym, subst, arith, ◌∙◌, inl, inr, get_or}
-use Rattle.std.specs.List.{All, slice_get}
-use Rattle.std.proofs.lemmas.List.Elements.{All-nil, All-cons}
+use Rattle.std.proofs.Common.{◌≡◌, ℕ, suc, ◌+◌, ◌*◌, ◌<◌, ◌≤◌, Bool, true, false, List, [], ◌∷◌, length, Some, Ok, Err, Result, ap, sym, subst, arith, ◌∙◌, inl, inr, ⊎_elim, get_or}
+use Rattle.std.proofs.Math.Nat.{eq-or-lt_of_le, mul-le-mul_right, suc-mul}
 use Rattle.monitor.specs.Shown.{Shown}
 use Rattle.script.specs.Script.{WorkerView}
 use Rattle.workers.specs.declared.fault.RunFault.{RunFault}
@@ -9,78 +8,187 @@ use Rattle.workers.specs.declared.fault.RunFault.TheVariants.{Memory, GateShut, 
 use Rattle.workers.specs.declared.work.Worked.{Worked}
 use Rattle.workers.specs.Calls.{Made, rounds}
 use Rattle.workers.specs.Reports.{AllMade}
-use Rattle.workers.specs.Works.{AddUp, AllWorked, Ends, HasStopped, HasWorked, IsTold, WorksAt, passes_left}
+use Rattle.workers.specs.Works.{AddUp, AllWorked, Ends, HasStopped, HasWorked, IsRefused, IsTold, LetsAll, LetsBelow, StopsBelow, StopsFirst, WorksAt, calls_of, passes_left}
 
 same_some : {A : Type 0} (x y : A) → Some x ≡ Some y → x ≡ y
 same_some x y same = cc
 
-at_first : (ns : Type 0) (w : WorkerView) (ws : List WorkerView) (old : List Shown) (olds : List (List Shown))
-    (done : Worked) → WorksAt ns (w ∷ ws) (old ∷ olds) 0 done → HasWorked ns w old done
-at_first ns w ws old olds done at =
-    subst (λ (z : WorkerView). HasWorked ns z old done) (sym (same_some w at.worker at.worker_is))
-    (subst (λ (z : List Shown). HasWorked ns at.worker z done) (sym (same_some old at.old at.old_is)) at.worked)
+at_first : (answers : ℕ → ℕ → Bool → Type 0) (seat : ℕ) (w : WorkerView) (ws : List WorkerView)
+    (old : List Shown) (olds : List (List Shown)) (done : Worked) →
+    WorksAt answers seat (w ∷ ws) (old ∷ olds) 0 done → HasWorked answers seat w old done
+at_first answers seat w ws old olds done at =
+    let is = at.seat_is in
+    let here : at.seat ≡ seat = omega (arith, is) in
+    subst (λ (z : ℕ). HasWorked answers z w old done) here
+    (subst (λ (z : WorkerView). HasWorked answers at.seat z old done) (sym (same_some w at.worker at.worker_is))
+    (subst (λ (z : List Shown). HasWorked answers at.seat at.worker z done) (sym (same_some old at.old at.old_is))
+    at.worked))
 
-at_rest : (ns : Type 0) (w : WorkerView) (ws : List WorkerView) (old : List Shown) (olds : List (List Shown))
-    (place : ℕ) (done : Worked) → WorksAt ns (w ∷ ws) (old ∷ olds) (suc place) done → WorksAt ns ws olds place done
-at_rest ns w ws old olds place done at =
+at_rest : (answers : ℕ → ℕ → Bool → Type 0) (seat : ℕ) (w : WorkerView) (ws : List WorkerView)
+    (old : List Shown) (olds : List (List Shown)) (place : ℕ) (done : Worked) →
+    WorksAt answers seat (w ∷ ws) (old ∷ olds) (suc place) done → WorksAt answers (suc seat) ws olds place done
+at_rest answers seat w ws old olds place done at =
+    let is = at.seat_is in
     record {
       worker = at.worker;
       worker_is = at.worker_is;
       old = at.old;
       old_is = at.old_is;
+      seat = at.seat;
+      seat_is = omega (arith, is);
       worked = at.worked;
     }
 
 -- each worker at its place is all of them
-pub all_worked : (ns : Type 0) (ws : List WorkerView) (olds : List (List Shown)) (dones : List Worked) →
-    length olds ≡ length ws → length dones ≡ length ws →
-    ((i : ℕ) (d : Worked) → i < length ws → WorksAt ns ws olds i (get_or dones i d)) → AllWorked ns ws olds dones
-all_worked ns [] [] [] rows worked each = tt
-all_worked ns [] [] (done ∷ dones) rows worked each = absurd (omega (arith, worked))
-all_worked ns [] (old ∷ olds) dones rows worked each = absurd (omega (arith, rows))
-all_worked ns (w ∷ ws) [] dones rows worked each = absurd (omega (arith, rows))
-all_worked ns (w ∷ ws) (old ∷ olds) [] rows worked each = absurd (omega (arith, worked))
-all_worked ns (w ∷ ws) (old ∷ olds) (done ∷ dones) rows worked each = (
-  at_first ns w ws old olds done (each 0 done (omega arith)),
-  all_worked ns ws olds dones (omega (arith, rows)) (omega (arith, worked))
-      (λ i d below. at_rest ns w ws old olds i (get_or dones i d) (each (suc i) d (omega (arith, below)))),
+pub all_worked : (answers : ℕ → ℕ → Bool → Type 0) (seat : ℕ) (ws : List WorkerView) (olds : List (List Shown))
+    (dones : List Worked) → length olds ≡ length ws → length dones ≡ length ws →
+    ((i : ℕ) (d : Worked) → i < length ws → WorksAt answers seat ws olds i (get_or dones i d)) →
+    AllWorked answers seat ws olds dones
+all_worked answers seat [] [] [] rows worked each = tt
+all_worked answers seat [] [] (done ∷ dones) rows worked each = absurd (omega (arith, worked))
+all_worked answers seat [] (old ∷ olds) dones rows worked each = absurd (omega (arith, rows))
+all_worked answers seat (w ∷ ws) [] dones rows worked each = absurd (omega (arith, rows))
+all_worked answers seat (w ∷ ws) (old ∷ olds) [] rows worked each = absurd (omega (arith, worked))
+all_worked answers seat (w ∷ ws) (old ∷ olds) (done ∷ dones) rows worked each = (
+  at_first answers seat w ws old olds done (each 0 done (omega arith)),
+  all_worked answers (suc seat) ws olds dones (omega (arith, rows)) (omega (arith, worked))
+      (λ i d below.
+      at_rest answers seat w ws old olds i (get_or dones i d) (each (suc i) d (omega (arith, below)))),
 )
 
-made_by : (ns : Type 0) (w : WorkerView) (old : List Shown) (ended : Result ℕ RunFault) (new : List Shown)
-    (u : ℕ) → ended ≡ Ok u → Ends ns w old ended new → Made (rounds w.repeat w.calls) old u new
-made_by ns w old ended new u is ends = subst (λ (z : Result ℕ RunFault). Ends ns w old z new) is ends
+ended_well : (answers : ℕ → ℕ → Bool → Type 0) (seat : ℕ) (w : WorkerView) (old : List Shown)
+    (ended : Result ℕ RunFault) (new : List Shown) (u : ℕ) → ended ≡ Ok u → Ends answers seat w old ended new →
+    Made (rounds w.repeat w.calls) old u new × LetsBelow answers seat (calls_of w)
+ended_well answers seat w old ended new u is ends =
+    subst (λ (z : Result ℕ RunFault). Ends answers seat w old z new) is ends
 
-pub all_made : (ns : Type 0) (ws : List WorkerView) (olds : List (List Shown)) (dones : List Worked) (u : ℕ) →
-    AllWorked ns ws olds dones → AddUp dones u → AllMade ws olds (passes_left dones) u
-all_made ns [] [] [] u worked sum = sum
-all_made ns [] [] (done ∷ dones) u worked sum = absurd worked
-all_made ns [] (old ∷ olds) dones u worked sum = absurd worked
-all_made ns (w ∷ ws) [] dones u worked sum = absurd worked
-all_made ns (w ∷ ws) (old ∷ olds) [] u worked sum = absurd worked
-all_made ns (w ∷ ws) (old ∷ olds) (done ∷ dones) u (first, rest) (v, x, ended, others, sum) = (
+pub all_made : (answers : ℕ → ℕ → Bool → Type 0) (seat : ℕ) (ws : List WorkerView) (olds : List (List Shown))
+    (dones : List Worked) (u : ℕ) → AllWorked answers seat ws olds dones → AddUp dones u →
+    AllMade ws olds (passes_left dones) u
+all_made answers seat [] [] [] u worked sum = sum
+all_made answers seat [] [] (done ∷ dones) u worked sum = absurd worked
+all_made answers seat [] (old ∷ olds) dones u worked sum = absurd worked
+all_made answers seat (w ∷ ws) [] dones u worked sum = absurd worked
+all_made answers seat (w ∷ ws) (old ∷ olds) [] u worked sum = absurd worked
+all_made answers seat (w ∷ ws) (old ∷ olds) (done ∷ dones) u (first, rest) (v, x, ended, others, sum) = (
   v,
   x,
-  made_by ns w old done.ended done.passes v ended first.ended,
-  all_made ns ws olds dones x rest others,
+  (ended_well answers seat w old done.ended done.passes v ended first.ended).0,
+  all_made answers (suc seat) ws olds dones x rest others,
   sum,
 )
 
-ends_told : (ns : Type 0) (w : WorkerView) (old : List Shown) (fault : RunFault) (new : List Shown) →
-    Ends ns w old (Err fault) new → IsTold ns fault
-ends_told ns w old (GateShut k) new ends = ends
-ends_told ns w old (NotStarted k) new ends = tt
-ends_told ns w old Memory new ends = tt
+-- nobody was stopped
+pub all_let : (answers : ℕ → ℕ → Bool → Type 0) (seat : ℕ) (ws : List WorkerView) (olds : List (List Shown))
+    (dones : List Worked) (u : ℕ) → AllWorked answers seat ws olds dones → AddUp dones u → LetsAll answers seat ws
+all_let answers seat [] [] [] u worked sum = tt
+all_let answers seat [] [] (done ∷ dones) u worked sum = absurd worked
+all_let answers seat [] (old ∷ olds) dones u worked sum = absurd worked
+all_let answers seat (w ∷ ws) [] dones u worked sum = absurd worked
+all_let answers seat (w ∷ ws) (old ∷ olds) [] u worked sum = absurd worked
+all_let answers seat (w ∷ ws) (old ∷ olds) (done ∷ dones) u (first, rest) (v, x, ended, others, sum) = (
+  (ended_well answers seat w old done.ended done.passes v ended first.ended).1,
+  all_let answers (suc seat) ws olds dones x rest others,
+)
+
+-- why the first that stopped did, of workers from a seat on
+abbrev Told : (ℕ → ℕ → Bool → Type 0) → ℕ → List WorkerView → RunFault → Type 0
+Told answers seat ws (GateShut k) = StopsFirst answers seat ws k
+Told answers seat ws (NotStarted k) = k < seat + length ws
+Told answers seat ws Memory = Unit {0}
+
+told_first : (answers : ℕ → ℕ → Bool → Type 0) (seat : ℕ) (w : WorkerView) (ws : List WorkerView)
+    (old : List Shown) (fault : RunFault) (new : List Shown) → Ends answers seat w old (Err fault) new →
+    Told answers seat (w ∷ ws) fault
+told_first answers seat w ws old (GateShut k) new ends = inl ends
+told_first answers seat w ws old (NotStarted k) new ends = omega (arith, ends)
+told_first answers seat w ws old Memory new ends = tt
+
+told_later : (answers : ℕ → ℕ → Bool → Type 0) (seat : ℕ) (w : WorkerView) (ws : List WorkerView)
+    (fault : RunFault) → LetsBelow answers seat (calls_of w) → Told answers (suc seat) ws fault →
+    Told answers seat (w ∷ ws) fault
+told_later answers seat w ws (GateShut k) lets told = inr (lets, told)
+told_later answers seat w ws (NotStarted k) lets told = omega (arith, told)
+told_later answers seat w ws Memory lets told = tt
+
+stopped_from : (answers : ℕ → ℕ → Bool → Type 0) (seat : ℕ) (ws : List WorkerView) (olds : List (List Shown))
+    (dones : List Worked) (fault : RunFault) → AllWorked answers seat ws olds dones → HasStopped fault dones →
+    Told answers seat ws fault
+stopped_from answers seat [] [] [] fault worked stopped = absurd stopped
+stopped_from answers seat [] [] (done ∷ dones) fault worked stopped = absurd worked
+stopped_from answers seat [] (old ∷ olds) dones fault worked stopped = absurd worked
+stopped_from answers seat (w ∷ ws) [] dones fault worked stopped = absurd worked
+stopped_from answers seat (w ∷ ws) (old ∷ olds) [] fault worked stopped = absurd worked
+stopped_from answers seat (w ∷ ws) (old ∷ olds) (done ∷ dones) fault (first, rest) (inl ended) =
+    told_first answers seat w ws old fault done.passes
+    (subst (λ (z : Result ℕ RunFault). Ends answers seat w old z done.passes) ended first.ended)
+stopped_from answers seat (w ∷ ws) (old ∷ olds) (done ∷ dones) fault (first, rest) (inr (v, ended, others)) =
+    told_later answers seat w ws fault
+    (ended_well answers seat w old done.ended done.passes v ended first.ended).1
+    (stopped_from answers (suc seat) ws olds dones fault rest others)
+
+told_from : (answers : ℕ → ℕ → Bool → Type 0) (ws : List WorkerView) (fault : RunFault) →
+    Told answers 0 ws fault → IsTold answers ws fault
+told_from answers ws (GateShut k) told = told
+told_from answers ws (NotStarted k) told = omega (arith, told)
+told_from answers ws Memory told = tt
 
 -- why a worker stopped
-pub stopped_told : (ns : Type 0) (ws : List WorkerView) (olds : List (List Shown)) (dones : List Worked)
-    (fault : RunFault) → AllWorked ns ws olds dones → HasStopped fault dones → IsTold ns fault
-stopped_told ns [] [] [] fault worked stopped = absurd stopped
-stopped_told ns [] [] (done ∷ dones) fault worked stopped = absurd worked
-stopped_told ns [] (old ∷ olds) dones fault worked stopped = absurd worked
-stopped_told ns (w ∷ ws) [] dones fault worked stopped = absurd worked
-stopped_told ns (w ∷ ws) (old ∷ olds) [] fault worked stopped = absurd worked
-stopped_told ns (w ∷ ws) (old ∷ olds) (done ∷ dones) fault (first, rest) (inl ended) =
-    ends_told ns w old fault done.passes
-    (subst (λ (z : Result ℕ RunFault). Ends ns w old z done.passes) ended first.ended)
-stopped_told ns (w ∷ ws) (old ∷ olds) (done ∷ dones) fault (first, rest) (inr others) =
-    stopped_told ns ws olds dones fault rest others
+pub stopped_told : (answers : ℕ → ℕ → Bool → Type 0) (ws : List WorkerView) (olds : List (List Shown))
+    (dones : List Worked) (fault : RunFault) → AllWorked answers 0 ws olds dones → HasStopped fault dones →
+    IsTold answers ws fault
+stopped_told answers ws olds dones fault worked stopped =
+    told_from answers ws fault (stopped_from answers 0 ws olds dones fault worked stopped)
+
+-- why no worker made a call
+pub refused_told : (answers : ℕ → ℕ → Bool → Type 0) (ws : List WorkerView) (n : ℕ) (fault : RunFault) →
+    n ≡ length ws → IsRefused n fault → IsTold answers ws fault
+refused_told answers ws n (GateShut k) same refused = absurd refused
+refused_told answers ws n (NotStarted k) same refused = omega (arith, same, refused)
+refused_told answers ws n Memory same refused = tt
+
+-- no call yet
+pub lets_none : (answers : ℕ → ℕ → Bool → Type 0) (seat : ℕ) → LetsBelow answers seat 0
+lets_none answers seat call below = absurd (omega (arith, below))
+
+-- one call more
+pub lets_more : (answers : ℕ → ℕ → Bool → Type 0) (seat n : ℕ) (answer : Bool) → answer ≡ true →
+    answers seat n answer → LetsBelow answers seat n → LetsBelow answers seat (n + 1)
+lets_more answers seat n answer allowed here lets call below =
+    let up : call ≤ n = omega (arith, below) in
+    ⊎_elim
+    (λ (same : call ≡ n). subst (λ (z : ℕ). answers seat z true) (sym same) (subst (answers seat n) allowed here))
+    (λ less. lets call less) (eq-or-lt_of_le up)
+
+-- the same calls, by another number
+pub lets_same : (answers : ℕ → ℕ → Bool → Type 0) (seat n m : ℕ) → n ≡ m → LetsBelow answers seat n →
+    LetsBelow answers seat m
+lets_same answers seat n m same lets = subst (LetsBelow answers seat) same lets
+
+-- it is stopped at the next call
+pub stops_here : (answers : ℕ → ℕ → Bool → Type 0) (seat n all : ℕ) (answer : Bool) → answer ≡ false →
+    answers seat n answer → LetsBelow answers seat n → n < all → StopsBelow answers seat all
+stops_here answers seat n all answer barred here lets below = (n, below, lets, subst (answers seat n) barred here)
+
+-- among more calls
+pub stops_among : (answers : ℕ → ℕ → Bool → Type 0) (seat n all : ℕ) → n ≤ all → StopsBelow answers seat n →
+    StopsBelow answers seat all
+stops_among answers seat n all more (call, below, lets, barred) = (call, omega (arith, more, below), lets, barred)
+
+-- the calls of one round more
+pub calls_more : (rounds calls first len : ℕ) → first ≡ rounds * calls → len ≡ calls →
+    first + len ≡ (rounds + 1) * calls
+calls_more rounds calls first len is same =
+    let up : suc rounds ≡ rounds + 1 = omega arith in
+    let more = suc-mul rounds calls in
+    let one : first + len ≡ suc rounds * calls = omega (arith, is, same, more) in
+    one ∙ ap (λ (z : ℕ). z * calls) up
+
+-- the calls of the rounds before, and of this one
+pub calls_within : (rounds repeat calls first len : ℕ) → first ≡ rounds * calls → len ≡ calls → rounds < repeat →
+    first + len ≤ repeat * calls
+calls_within rounds repeat calls first len is same below =
+    let more = calls_more rounds calls first len is same in
+    let up : rounds + 1 ≤ repeat = omega (arith, below) in
+    let all = mul-le-mul_right calls up in
+    omega (arith, more, all)

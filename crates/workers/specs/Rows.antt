@@ -1,5 +1,5 @@
 -- Passes in rows, of which each is a worker's, and in columns, of which each is an object's.
-use Rattle.std.specs.Prelude.{ℕ, List, [], ◌∷◌, ◌++◌}
+use Rattle.std.specs.Prelude.{List, [], ◌∷◌, ◌++◌}
 use Rattle.monitor.specs.Shown.{Shown}
 
 -- one pass more for each row

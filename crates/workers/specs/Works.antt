@@ -1,5 +1,5 @@
 -- What a worker leaves.
-use Rattle.std.specs.Prelude.{◌≡◌, ◌≤◌, ℕ, ◌+◌, ◌⊎◌, List, [], ◌∷◌, Some, Result, Ok, Err, IfOk, map, slice_get}
+use Rattle.std.specs.Prelude.{◌≡◌, ◌≤◌, ◌<◌, ℕ, suc, ◌+◌, ◌*◌, ◌⊎◌, Bool, true, false, List, [], ◌∷◌, Some, Result, Ok, Err, IfOk, length, map, slice_get}
 use Rattle.monitor.specs.Shown.{Shown}
 use Rattle.script.specs.Script.{WorkerView}
 use Rattle.workers.specs.declared.fault.RunFault.{RunFault}
@@ -7,54 +7,95 @@ use Rattle.workers.specs.declared.fault.RunFault.TheVariants.{Memory, GateShut, 
 use Rattle.workers.specs.declared.work.Worked.{Worked}
 use Rattle.workers.specs.Calls.{Made, homes, rounds}
 
--- all its calls were made; or it stopped, at a gate that may shut or before its first call
-abbrev pub Ends : Type 0 → WorkerView → List Shown → Result ℕ RunFault → List Shown → Type 0
-Ends never_shuts w old (Ok u) new = Made (rounds w.repeat w.calls) old u new
-Ends never_shuts w old (Err (GateShut k)) new = never_shuts → ⊥
-Ends never_shuts w old (Err (NotStarted k)) new = Unit {0}
-Ends never_shuts w old (Err Memory) new = ⊥
+-- how many calls a worker makes
+abbrev pub calls_of : WorkerView → ℕ
+calls_of w = w.repeat * length w.calls
+
+-- Below, `answers seat call answer` says that a gate may answer this to the worker of a seat before its call of a
+-- number.
+
+-- the gate let a worker make all its calls below a number
+abbrev pub LetsBelow : (ℕ → ℕ → Bool → Type 0) → ℕ → ℕ → Type 0
+LetsBelow answers seat n = (call : ℕ) → call < n → answers seat call true
+
+-- the gate let a worker make some of these calls, and stopped it at the next
+abbrev pub StopsBelow : (ℕ → ℕ → Bool → Type 0) → ℕ → ℕ → Type 0
+StopsBelow answers seat n =
+    (call : ℕ) × (call < n) × LetsBelow answers seat call × answers seat call false
+
+-- all its calls were made; or it stopped, at a gate or before its first call
+abbrev pub Ends : (ℕ → ℕ → Bool → Type 0) → ℕ → WorkerView → List Shown → Result ℕ RunFault → List Shown →
+    Type 0
+Ends answers seat w old (Ok u) new =
+    Made (rounds w.repeat w.calls) old u new × LetsBelow answers seat (calls_of w)
+Ends answers seat w old (Err (GateShut k)) new = (k ≡ seat) × StopsBelow answers seat (calls_of w)
+Ends answers seat w old (Err (NotStarted k)) new = k ≡ seat
+Ends answers seat w old (Err Memory) new = ⊥
 
 -- no worker makes more calls
 abbrev pub most_calls : ℕ
 most_calls = 10000000000
 
--- what a worker leaves of its passes
-pub record HasWorked (never_shuts : Type 0) (w : WorkerView) (old : List Shown) (done : Worked) : Type 0 where
+-- what the worker of a seat leaves of its passes
+pub record HasWorked (answers : ℕ → ℕ → Bool → Type 0) (seat : ℕ) (w : WorkerView) (old : List Shown)
+    (done : Worked) : Type 0 where
   pub same : homes done.passes ≡ homes old
-  pub ended : Ends never_shuts w old done.ended done.passes
+  pub ended : Ends answers seat w old done.ended done.passes
   pub few : IfOk done.ended (λ u. u ≤ most_calls)
 
--- the same of the worker at a place
-pub record WorksAt (never_shuts : Type 0) (ws : List WorkerView) (olds : List (List Shown)) (place : ℕ)
-    (done : Worked) : Type 0 where
+-- the same of the worker at a place, if the first has this seat
+pub record WorksAt (answers : ℕ → ℕ → Bool → Type 0) (first : ℕ) (ws : List WorkerView)
+    (olds : List (List Shown)) (place : ℕ) (done : Worked) : Type 0 where
   pub worker : WorkerView
   pub worker_is : slice_get ws place ≡ Some worker
   pub old : List Shown
   pub old_is : slice_get olds place ≡ Some old
-  pub worked : HasWorked never_shuts worker old done
+  pub seat : ℕ
+  pub seat_is : seat ≡ first + place
+  pub worked : HasWorked answers seat worker old done
 
 -- the same of all workers
-abbrev pub AllWorked : Type 0 → List WorkerView → List (List Shown) → List Worked → Type 0
-AllWorked never_shuts [] [] [] = Unit {0}
-AllWorked never_shuts (w ∷ ws) (old ∷ olds) (done ∷ dones) =
-    HasWorked never_shuts w old done × AllWorked never_shuts ws olds dones
-AllWorked never_shuts _ _ _ = ⊥
+abbrev pub AllWorked : (ℕ → ℕ → Bool → Type 0) → ℕ → List WorkerView → List (List Shown) → List Worked →
+    Type 0
+AllWorked answers seat [] [] [] = Unit {0}
+AllWorked answers seat (w ∷ ws) (old ∷ olds) (done ∷ dones) =
+    HasWorked answers seat w old done × AllWorked answers (suc seat) ws olds dones
+AllWorked answers seat _ _ _ = ⊥
 
 -- all workers made all their calls, and together so many answers weren't recorded
 abbrev pub AddUp : List Worked → ℕ → Type 0
 AddUp [] u = u ≡ 0
 AddUp (done ∷ dones) u = (v : ℕ) × (x : ℕ) × (done.ended ≡ Ok v) × AddUp dones x × (u ≡ v + x)
 
--- a worker stopped for this reason
+-- the first worker that stopped did so for this reason
 abbrev pub HasStopped : RunFault → List Worked → Type 0
 HasStopped fault [] = ⊥
-HasStopped fault (done ∷ dones) = (done.ended ≡ Err fault) ⊎ HasStopped fault dones
+HasStopped fault (done ∷ dones) =
+    (done.ended ≡ Err fault) ⊎ ((v : ℕ) × (done.ended ≡ Ok v) × HasStopped fault dones)
 
 abbrev pub passes_left : List Worked → List (List Shown)
 passes_left = map (λ (done : Worked). done.passes)
 
--- no gate that never shuts stopped a run
-abbrev pub IsTold : Type 0 → RunFault → Type 0
-IsTold never_shuts (GateShut k) = never_shuts → ⊥
-IsTold never_shuts (NotStarted k) = Unit {0}
-IsTold never_shuts Memory = Unit {0}
+-- the gate let each of these workers make all its calls; the first of them has this seat
+abbrev pub LetsAll : (ℕ → ℕ → Bool → Type 0) → ℕ → List WorkerView → Type 0
+LetsAll answers seat [] = Unit {0}
+LetsAll answers seat (w ∷ ws) = LetsBelow answers seat (calls_of w) × LetsAll answers (suc seat) ws
+
+-- the gate stopped this worker, and let all workers before it make all their calls
+abbrev pub StopsFirst : (ℕ → ℕ → Bool → Type 0) → ℕ → List WorkerView → ℕ → Type 0
+StopsFirst answers seat [] k = ⊥
+StopsFirst answers seat (w ∷ ws) k =
+    ((k ≡ seat) × StopsBelow answers seat (calls_of w))
+    ⊎ (LetsBelow answers seat (calls_of w) × StopsFirst answers (suc seat) ws k)
+
+-- why a run of these workers gave no report
+abbrev pub IsTold : (ℕ → ℕ → Bool → Type 0) → List WorkerView → RunFault → Type 0
+IsTold answers ws (GateShut k) = StopsFirst answers 0 ws k
+IsTold answers ws (NotStarted k) = k < length ws
+IsTold answers ws Memory = Unit {0}
+
+-- no gate stopped it
+abbrev pub IsRefused : ℕ → RunFault → Type 0
+IsRefused n (GateShut k) = ⊥
+IsRefused n (NotStarted k) = k < n
+IsRefused n Memory = Unit {0}

@@ -6,14 +6,17 @@ use std::time::Clock;
 
 /// What a worker asks before each call and tells after it: a place to hold threads up, for tests.
 ///
-/// Calls are numbered from 0, over all rounds of a worker.
+/// Calls are numbered from 0, over all rounds of a worker. A worker asks before each call in order, up to the last
+/// or to the first that it may not make.
 pub trait Gate {
-    /// The gate lets each call through.
-    ghost never_shuts: { Self → Type 0 };
+    ghost use Rattle.std.specs.Prelude.{ℕ, Bool};
 
-    /// Whether the worker may make the call. Where it may not, it makes no more calls.
+    /// Whether the gate may answer this to a worker before its call of this number.
+    ghost answers: { Self → ℕ → ℕ → Bool → Type 0 };
+
+    /// Whether the worker may make the call. If it may not, it makes no more calls.
     fn before<R: Wait + Clock>(&self, rt: &R, worker: u16, call: u64) -> bool
-        ensures { never_shuts self.now → result ≡ true };
+        ensures { answers self.now worker call result };
 
     /// The call was answered.
     fn after<R: Wait + Clock>(&self, rt: &R, worker: u16, call: u64);
@@ -24,7 +27,7 @@ pub trait Gate {
 pub struct OpenGate;
 
 impl Gate for OpenGate {
-    ghost never_shuts = { λ _. Unit {0} };
+    ghost answers = { λ _ _ _ answer. answer ≡ true };
 
     fn before<R: Wait + Clock>(&self, _rt: &R, _worker: u16, _call: u64) -> bool {
         true

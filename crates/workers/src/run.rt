@@ -2,7 +2,7 @@
 ghost use Rattle.std.specs.Prelude.{◌≡◌, ◌<◌, ◌≤◌, ◌⊎◌, All, IfErr, IfOk, OnOk, Some, length, map, slice_get};
 ghost use Rattle.history.specs.Header.{IsInRange};
 ghost use Rattle.workers.specs.Reports.{AreParts, HaveColumns, IsReport, IsSound, dealt_all, empties, header_of, headers_of, opening_rows};
-ghost use Rattle.workers.specs.Works.{AddUp, HasStopped, IsTold, most_calls, passes_left};
+ghost use Rattle.workers.specs.Works.{AddUp, HasStopped, IsTold, LetsAll, most_calls, passes_left};
 ghost use Rattle.workers.specs.declared.fault.RunFault.TheVariants.{Memory};
 
 use crate::fault::RunFault;
@@ -116,10 +116,11 @@ fn close_all<R: Wait>(
 ///
 /// # Errors
 ///
-/// - [`RunFault::NotStarted`] if the system refuses a thread: the lowest such worker. Nobody made a call.
+/// - [`RunFault::NotStarted`] if the system refuses a thread: the lowest such worker. Nobody made a call. It is
+///   proved only that the script has this worker, since no contract tells whether the system refused a thread.
 /// - [`RunFault::GateShut`] if the gate didn't let a worker make a call: the lowest such worker. The others went
 ///   on to their ends.
-/// - [`RunFault::Memory`] if memory is refused.
+/// - [`RunFault::Memory`] if memory is refused, before the calls or behind them. No contract says when.
 pub fn run_threads<G: Gate + Sync, R: Threads + Wait + Clock + Sync>(
     rt: &R,
     alloc: Global,
@@ -128,7 +129,8 @@ pub fn run_threads<G: Gate + Sync, R: Threads + Wait + Clock + Sync>(
 ) -> Result<Report, RunFault>
     ensures report { IfOk result (IsReport script.now) }
     ensures sound { IfOk result (λ report. All IsSound report.objects.items) }
-    ensures fault { IfErr result (IsTold (G.never_shuts gate.now)) }
+    ensures asked { IfOk result (λ _. LetsAll (G.answers gate.now) 0 script.now.workers) }
+    ensures fault { IfErr result (IsTold (G.answers gate.now) script.now.workers) }
 {
     let workers = script.workers();
     let (objects, rows) = open_all(alloc, script)?;

@@ -2,7 +2,7 @@
 ghost use Rattle.std.specs.Prelude.{◌≡◌, ◌<◌, ◌≤◌, ℕ, All, IfErr, IfOk, Some, length, map, slice_get, slice_index_or, vec_len};
 ghost use Rattle.script.specs.Script.{IsWorker};
 ghost use Rattle.workers.specs.Calls.{lock_of};
-ghost use Rattle.workers.specs.Works.{HasWorked, IsTold, WorksAt};
+ghost use Rattle.workers.specs.Works.{HasWorked, IsRefused, WorksAt};
 
 use crate::fault::RunFault;
 use crate::gate::Gate;
@@ -20,6 +20,7 @@ use std::time::Clock;
 #[derive(Drop)]
 struct Works<'s, G> {
     gate: &'s G,
+    seat: u16,
     worker: &'s Worker,
     passes: Snapshot<Passes>,
 }
@@ -27,7 +28,7 @@ struct Works<'s, G> {
 impl<'s, G: Gate> Promise<Worked> for Works<'s, G> {
     ghost use Rattle.workers.specs.Works.{HasWorked};
 
-    ghost kept_by = { λ p done. HasWorked (G.never_shuts p.gate.now) p.worker.now p.passes.value done };
+    ghost kept_by = { λ p done. HasWorked (G.answers p.gate.now) p.seat p.worker.now p.passes.value done };
 }
 
 /// Starts a thread for each worker. Where the system refuses one the others were started.
@@ -48,11 +49,13 @@ fn start_all<'s, E: 's, G: Gate + Sync, R: Threads + Wait + Clock + Sync>(
     ensures len { IfOk result (λ handles. vec_len handles ≡ length workers.now) }
     ensures gates { IfOk result (λ handles. (i : ℕ) (d : _) → i < length workers.now →
         (slice_index_or handles.items i d).promise.gate.now ≡ gate.now) }
+    ensures seats { IfOk result (λ handles. (i : ℕ) (d : _) → i < length workers.now →
+        (slice_index_or handles.items i d).promise.seat ≡ i) }
     ensures workers { IfOk result (λ handles. (i : ℕ) (d : _) → i < length workers.now →
         slice_get workers.now i ≡ Some (slice_index_or handles.items i d).promise.worker.now) }
     ensures rows { IfOk result (λ handles. (i : ℕ) (d : _) → i < length workers.now →
         slice_get rows.items i ≡ Some (slice_index_or handles.items i d).promise.passes.value) }
-    ensures fault { IfErr result (IsTold (Unit {0})) }
+    ensures fault { IfErr result (IsRefused (length workers.now)) }
 {
     let mut handles = Vec::with_capacity(alloc, workers.len())?;
     let mut place = 0;
@@ -61,6 +64,7 @@ fn start_all<'s, E: 's, G: Gate + Sync, R: Threads + Wait + Clock + Sync>(
         let worker = &workers[place];
         let promise = Works {
             gate,
+            seat,
             worker,
             passes: Snapshot::of(&passes),
         };
@@ -70,7 +74,7 @@ fn start_all<'s, E: 's, G: Gate + Sync, R: Threads + Wait + Clock + Sync>(
                 requires { (map lock_of passes ≡ shared.now.objects.items)
                     × All (λ m. m.header.seats ≤ shared.now.parking) shared.now.objects.items
                     × IsWorker (length shared.now.objects.items) shared.now.parking worker.now }
-                ensures { HasWorked (G.never_shuts gate.entry.now) worker.entry.now passes result }
+                ensures { HasWorked (G.answers gate.entry.now) seat worker.entry.now passes result }
             { work(rt, shared, gate, passes, seat, worker) },
         );
         let Ok(handle) = child else {
@@ -98,9 +102,9 @@ pub(crate) fn run_all<G: Gate + Sync, R: Threads + Wait + Clock + Sync>(
     requires few { length workers.now ≤ 256 }
     ensures worked { IfOk result (λ worked. (vec_len worked ≡ length workers.now)
         × ((i : ℕ) (d : _) → i < length workers.now →
-        WorksAt (G.never_shuts gate.now) workers.now rows.items i
+        WorksAt (G.answers gate.now) 0 workers.now rows.items i
         (slice_index_or worked.items i d))) }
-    ensures fault { IfErr result (IsTold (Unit {0})) }
+    ensures fault { IfErr result (IsRefused (length workers.now)) }
 {
     thread::scope(
         thread::scope_env(),
@@ -112,9 +116,9 @@ pub(crate) fn run_all<G: Gate + Sync, R: Threads + Wait + Clock + Sync>(
                 × (vec_len rows ≡ length workers.now) × (length workers.now ≤ 256) }
             ensures worked { IfOk result (λ worked. (vec_len worked ≡ length workers.entry.now)
                 × ((i : ℕ) (d : _) → i < length workers.entry.now →
-                WorksAt (G.never_shuts gate.entry.now) workers.entry.now rows.items i
+                WorksAt (G.answers gate.entry.now) 0 workers.entry.now rows.items i
                 (slice_index_or worked.items i d))) }
-            ensures fault { IfErr result (IsTold (Unit {0})) }
+            ensures fault { IfErr result (IsRefused (length workers.entry.now)) }
         {
             match start_all(rt, alloc, scope, shared, gate, workers, rows) {
                 Ok(handles) => {

@@ -1,8 +1,8 @@
 //! What a worker does.
-ghost use Rattle.std.specs.Prelude.{◌≡◌, ◌+◌, ◌<◌, ◌≤◌, ◌^◌, None, All, IfOk, IfSome, length, map, reverse};
+ghost use Rattle.std.specs.Prelude.{◌≡◌, ◌+◌, ◌<◌, ◌≤◌, ◌^◌, All, IfNone, IfOk, IfSome, length, map, reverse};
 ghost use Rattle.script.specs.Script.{IsCall, IsWorker};
 ghost use Rattle.workers.specs.Calls.{IsCalled, Made, homes, lock_of, rounds, unrecorded_by};
-ghost use Rattle.workers.specs.Works.{HasWorked};
+ghost use Rattle.workers.specs.Works.{HasWorked, LetsBelow, StopsBelow, calls_of};
 
 use crate::act::act;
 use crate::fault::RunFault;
@@ -80,10 +80,12 @@ fn make_round<G: Gate, R: Wait + Clock>(
     requires places { All (λ m. m.header.seats ≤ shared.now.parking) shared.now.objects.items }
     requires calls { All (IsCall (length shared.now.objects.items) shared.now.parking) calls.now }
     requires few { first + length calls.now < 2 ^ 63 }
+    requires asked { LetsBelow (G.answers gate.now) seat first }
     ensures same { homes passes.new ≡ homes passes.old }
     ensures made { IfSome result (λ u. Made (reverse calls.now) passes.old u passes.new) }
     ensures few { IfSome result (λ u. u ≤ length calls.now) }
-    ensures shut { result ≡ None → G.never_shuts gate.now → ⊥ }
+    ensures asked { IfSome result (λ _. LetsBelow (G.answers gate.now) seat (first + length calls.now)) }
+    ensures shut { IfNone result (StopsBelow (G.answers gate.now) seat (first + length calls.now)) }
 {
     let mut number = first;
     let mut unrecorded = 0;
@@ -114,7 +116,8 @@ fn make_rounds<G: Gate, R: Wait + Clock>(
     ensures made { IfSome result (λ u.
         Made (rounds worker.now.repeat worker.now.calls) passes.old u passes.new) }
     ensures few { IfSome result (λ u. u ≤ 10000000000) }
-    ensures shut { result ≡ None → G.never_shuts gate.now → ⊥ }
+    ensures asked { IfSome result (λ _. LetsBelow (G.answers gate.now) seat (calls_of worker.now)) }
+    ensures shut { IfNone result (StopsBelow (G.answers gate.now) seat (calls_of worker.now)) }
 {
     let calls = worker.calls();
     let mut first = 0;
@@ -138,7 +141,7 @@ pub(crate) fn work<G: Gate, R: Wait + Clock>(
     requires own { map lock_of passes ≡ shared.now.objects.items }
     requires places { All (λ m. m.header.seats ≤ shared.now.parking) shared.now.objects.items }
     requires worker { IsWorker (length shared.now.objects.items) shared.now.parking worker.now }
-    ensures { HasWorked (G.never_shuts gate.now) worker.now passes result }
+    ensures { HasWorked (G.answers gate.now) seat worker.now passes result }
 {
     let mut passes = passes;
     if !shared.start.wait(rt) {

@@ -1,4 +1,4 @@
-use Rattle.std.proofs.Common.{◌≡◌, List, ◌++◌}
+use Rattle.std.proofs.Common.{List, ◌++◌}
 use Rattle.workers.specs.declared.report.ObjectReport.{ObjectReport}
 use Rattle.workers.specs.Reports.{AreParts, HaveColumns}
 use Rattle.workers.proofs.run.close_all.Given as goal

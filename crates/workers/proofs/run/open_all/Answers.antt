@@ -1,4 +1,4 @@
-use Rattle.std.proofs.Common.{◌≡◌, length, ap, sym, arith, ◌∙◌, map}
+use Rattle.std.proofs.Common.{length, ap, sym, arith, ◌∙◌, map}
 use Rattle.monitor.specs.Lawful.{blank}
 use Rattle.monitor.specs.Shown.{opening_passes}
 use Rattle.workers.specs.Reports.{empties, header_of, headers_of, opening_rows}

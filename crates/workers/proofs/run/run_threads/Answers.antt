@@ -1,9 +1,9 @@
-use Rattle.std.proofs.Common.{rules, ◌≡◌, length, ap, sym, subst, arith, ◌∙◌, Err, Result, IfErr}
+use Rattle.std.proofs.Common.{rules, ◌≡◌, length, ap, sym, subst, arith, ◌∙◌, Err, IfErr}
 use Rattle.workers.specs.Reports.{AreParts, HaveColumns, dealt_all, empties, opening_rows}
 use Rattle.workers.specs.Works.{IsTold, passes_left}
 use Rattle.workers.proofs.Columns.{all_columns, empties_count, parts_sound, rows_count, rows_fit}
 use Rattle.workers.proofs.Whole.{all_own, all_places, all_seats, ran, told_stop}
-use Rattle.workers.proofs.Working.{all_made}
+use Rattle.workers.proofs.Working.{all_let, all_made}
 use Rattle.workers.proofs.run.run_threads.Goals as goal
 
 pub run_all-requires-clause-own : goal.run_all-requires-clause-own
@@ -27,46 +27,46 @@ run_all-requires-clause-all g c =
 
 pub settle-requires-clause-rows : goal.settle-requires-clause-rows
 settle-requires-clause-rows g c =
-    let ns = g.G.Gate.never_shuts c.args.gate.now in
+    let answers = g.G.Gate.answers c.args.gate.now in
     let s = c.args.script.now in
     let objects = c.in_ok-objects.objects.items in
     let dones = c.in_ok-worked.worked.items in
     let all = c.in_ok-worked.ensures.worked.0 in
     let fits = c.in_ok-worked.worked.ok.0 in
-    let worked = ran ns s c.workers-workers.result.now objects c.in_ok-objects.rows.items dones
+    let worked = ran answers s c.workers-workers.result.now objects c.in_ok-objects.rows.items dones
     c.workers-workers.ensures.value c.in_ok-objects.ensures.rows (omega (arith, all, fits))
     c.in_ok-worked.ensures.worked.1 in
     let made = ap length c.in_ok-columns.ensures ∙ empties_count c.len.result in
     let len = c.len.ensures in
     let many = c.in_ok-objects.objects.ok.0 in
-    rows_fit ns s.workers objects 0 (length s.workers) (length c.in_ok-columns.columns.items) dones
+    rows_fit answers s.workers objects 0 (length s.workers) (length c.in_ok-columns.columns.items) dones
     (omega (arith, made, len, many)) worked
 
 pub returns-in_err-unrecorded-clause-fault : goal.returns-in_err-unrecorded-clause-fault
 returns-in_err-unrecorded-clause-fault g c =
-    let ns = g.G.Gate.never_shuts c.args.gate.now in
+    let answers = g.G.Gate.answers c.args.gate.now in
     let s = c.args.script.now in
     let objects = c.in_ok-objects.objects.items in
     let dones = c.in_ok-worked.worked.items in
     let all = c.in_ok-worked.ensures.worked.0 in
     let fits = c.in_ok-worked.worked.ok.0 in
-    let worked = ran ns s c.workers-workers.result.now objects c.in_ok-objects.rows.items dones
+    let worked = ran answers s c.workers-workers.result.now objects c.in_ok-objects.rows.items dones
     c.workers-workers.ensures.value c.in_ok-objects.ensures.rows (omega (arith, all, fits))
     c.in_ok-worked.ensures.worked.1 in
-    let told = told_stop ns s.workers (opening_rows objects 0 (length s.workers)) dones
+    let told = told_stop answers s.workers (opening_rows objects 0 (length s.workers)) dones
     c.in_err-unrecorded.field-0.0 worked c.in_err-unrecorded.ensures.fault in
     let same : c.from_residual-in_err-unrecorded.result ≡ Err c.in_err-unrecorded.field-0.0 = search rules in
-    subst (λ z. IfErr z (IsTold ns)) (sym same) told
+    subst (λ z. IfErr z (IsTold answers s.workers)) (sym same) told
 
 pub close_all-requires : goal.close_all-requires
 close_all-requires g c =
-    let ns = g.G.Gate.never_shuts c.args.gate.now in
+    let answers = g.G.Gate.answers c.args.gate.now in
     let s = c.args.script.now in
     let objects = c.in_ok-objects.objects.items in
     let dones = c.in_ok-worked.worked.items in
     let all = c.in_ok-worked.ensures.worked.0 in
     let fits = c.in_ok-worked.worked.ok.0 in
-    let worked = ran ns s c.workers-workers.result.now objects c.in_ok-objects.rows.items dones
+    let worked = ran answers s c.workers-workers.result.now objects c.in_ok-objects.rows.items dones
     c.workers-workers.ensures.value c.in_ok-objects.ensures.rows (omega (arith, all, fits))
     c.in_ok-worked.ensures.worked.1 in
     let len = c.len.ensures in
@@ -75,18 +75,18 @@ close_all-requires g c =
     let left = c.in_ok-unrecorded.ensures.columns
     ∙ ap (dealt_all (passes_left dones)) (c.in_ok-columns.ensures ∙ ap empties len_is) in
     subst (HaveColumns objects) (sym left)
-    (all_columns ns s.workers objects (length s.workers) dones
+    (all_columns answers s.workers objects (length s.workers) dones
     (all_seats s objects c.in_ok-objects.ensures.headers c.workers-workers.ensures.limits) worked)
 
 pub returns-clause-report : goal.returns-clause-report
 returns-clause-report g c =
-    let ns = g.G.Gate.never_shuts c.args.gate.now in
+    let answers = g.G.Gate.answers c.args.gate.now in
     let s = c.args.script.now in
     let objects = c.in_ok-objects.objects.items in
     let dones = c.in_ok-worked.worked.items in
     let all = c.in_ok-worked.ensures.worked.0 in
     let fits = c.in_ok-worked.worked.ok.0 in
-    let worked = ran ns s c.workers-workers.result.now objects c.in_ok-objects.rows.items dones
+    let worked = ran answers s c.workers-workers.result.now objects c.in_ok-objects.rows.items dones
     c.workers-workers.ensures.value c.in_ok-objects.ensures.rows (omega (arith, all, fits))
     c.in_ok-worked.ensures.worked.1 in
     let len = c.len.ensures in
@@ -99,7 +99,7 @@ returns-clause-report g c =
       headers = c.in_ok-objects.ensures.headers;
       rows = passes_left dones;
       made =
-          all_made ns s.workers (opening_rows objects 0 (length s.workers)) dones c.in_ok-unrecorded.unrecorded worked
+          all_made answers 0 s.workers (opening_rows objects 0 (length s.workers)) dones c.in_ok-unrecorded.unrecorded worked
           c.in_ok-unrecorded.ensures.sum;
       parts =
           subst (λ z. AreParts objects z c.in_ok-objects-2.objects.items) left c.in_ok-objects-2.ensures.parts;
@@ -109,3 +109,17 @@ pub returns-clause-sound : goal.returns-clause-sound
 returns-clause-sound g c =
     parts_sound c.in_ok-objects.objects.items c.settle.new.columns.items c.in_ok-objects-2.objects.items
     c.in_ok-objects-2.ensures.parts
+
+pub returns-clause-asked : goal.returns-clause-asked
+returns-clause-asked g c =
+    let answers = g.G.Gate.answers c.args.gate.now in
+    let s = c.args.script.now in
+    let objects = c.in_ok-objects.objects.items in
+    let dones = c.in_ok-worked.worked.items in
+    let all = c.in_ok-worked.ensures.worked.0 in
+    let fits = c.in_ok-worked.worked.ok.0 in
+    let worked = ran answers s c.workers-workers.result.now objects c.in_ok-objects.rows.items dones
+    c.workers-workers.ensures.value c.in_ok-objects.ensures.rows (omega (arith, all, fits))
+    c.in_ok-worked.ensures.worked.1 in
+    all_let answers 0 s.workers (opening_rows objects 0 (length s.workers)) dones c.in_ok-unrecorded.unrecorded worked
+    c.in_ok-unrecorded.ensures.sum

@@ -1,4 +1,4 @@
-use Rattle.std.proofs.Common.{rules, ◌≡◌, [], ◌∷◌, arith, length, inr}
+use Rattle.std.proofs.Common.{rules, ◌≡◌, ◌∷◌, arith, inr}
 use Rattle.workers.proofs.Columns.{none_left}
 use Rattle.workers.proofs.Settling.{first_fits, first_stops, settles_end, settles_more}
 use Rattle.workers.proofs.run.settle.Goals as goal

@@ -1,4 +1,4 @@
-use Rattle.std.proofs.Common.{rules, ◌≡◌, ℕ, ◌∷◌, Some, arith, length, ap, refl, sym, ◌∙◌, vec_items}
+use Rattle.std.proofs.Common.{rules, ◌≡◌, ◌∷◌, Some, arith, length, ap, refl, sym, ◌∙◌}
 use Rattle.std.proofs.lemmas.Option.{slice_get_read}
 use Rattle.std.specs.List.{slice_get}
 use Rattle.std.specs.declared.thread.PromisedHandle.{PromisedHandle}
@@ -30,11 +30,13 @@ loop-passes-preserved g c =
       omega (arith, count, whole),
       each_more (λ n (h : PromisedHandle Worked (Works g.row.G.Denot)). h.promise.gate.now ≡ c.args.gate.now) old
           c.in-Ok.handle k all pushed as_many i.3 (ap (λ (p : Works g.row.G.Denot). p.gate.now) promise),
+      each_more (λ n (h : PromisedHandle Worked (Works g.row.G.Denot)). h.promise.seat ≡ n) old c.in-Ok.handle k all
+          pushed as_many i.4 (ap (λ (p : Works g.row.G.Denot). p.seat) promise),
       each_more (λ n (h : PromisedHandle Worked (Works g.row.G.Denot)).
-          slice_get c.args.workers.now n ≡ Some h.promise.worker.now) old c.in-Ok.handle k all pushed as_many i.4
+          slice_get c.args.workers.now n ≡ Some h.promise.worker.now) old c.in-Ok.handle k all pushed as_many i.5
           (worker ∙ ap Some (sym (ap (λ (p : Works g.row.G.Denot). p.worker.now) promise))),
       each_more (λ n (h : PromisedHandle Worked (Works g.row.G.Denot)).
-          slice_get c.args.rows.items n ≡ Some h.promise.passes.value) old c.in-Ok.handle k all pushed as_many i.5
+          slice_get c.args.rows.items n ≡ Some h.promise.passes.value) old c.in-Ok.handle k all pushed as_many i.6
           (left_at c.args.rows.items k c.in-Some.passes rest left
           ∙ ap Some (sym (ap (λ (p : Works g.row.G.Denot). p.passes.value) promise ∙ c.of.ensures))),
     )

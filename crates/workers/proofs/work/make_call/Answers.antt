@@ -1,4 +1,4 @@
-use Rattle.std.proofs.Common.{rules, ◌≡◌, ◌<◌, length, ap, sym, subst, ◌∙◌, set}
+use Rattle.std.proofs.Common.{rules, ◌≡◌, ◌<◌, length, ap, subst, ◌∙◌, set}
 use Rattle.script.specs.Script.{IsCall}
 use Rattle.script.specs.declared.call.Call.{Call}
 use Rattle.workers.proofs.Passing.{set_homes, acts_on, place_below}

@@ -1,5 +1,7 @@
-use Rattle.std.proofs.Common.{◌≡◌, length, ap, arith, ◌∙◌}
+use Rattle.std.proofs.Common.{rules, ◌≡◌, ◌+◌, ◌<◌, length, ap, sym, subst, arith, ◌∙◌, None, IfNone}
 use Rattle.workers.proofs.Passing.{same_locks, rounds_more}
+use Rattle.workers.specs.Works.{StopsBelow, calls_of}
+use Rattle.workers.proofs.Working.{calls_more, calls_within, stops_among}
 use Rattle.workers.proofs.work.make_rounds.Goals as goal
 
 pub make_round-requires-clause-own : goal.make_round-requires-clause-own
@@ -20,4 +22,22 @@ loop-preserved g c =
       rounds_more c.loop.counter c.args.worker.now.calls c.calls-calls.result.now c.args.passes.now
           c.loop.unrecorded c.loop.passes c.in_ok-unrecorded.field-0 c.make_round.new.passes here i.3
           c.in_ok-unrecorded.ensures.made,
+      calls_more c.loop.counter (length c.args.worker.now.calls) c.loop.first (length c.calls-calls.result.now) i.4
+          as_many,
+      c.in_ok-unrecorded.ensures.asked,
     )
+
+pub returns-in_err-unrecorded-clause-shut : goal.returns-in_err-unrecorded-clause-shut
+returns-in_err-unrecorded-clause-shut g c =
+    let answers = g.G.Gate.answers c.args.gate.now in
+    let calls = length c.args.worker.now.calls in
+    let as_many : length c.calls-calls.result.now ≡ calls = ap length c.calls-calls.ensures in
+    let some : c.make_round.result ≡ None = search rules in
+    let none : c.from_residual.result ≡ None = search rules in
+    let below : c.loop.counter < c.args.worker.now.repeat = search rules in
+    let shut = subst (λ z. IfNone z (StopsBelow answers c.args.seat (c.loop.first + length c.calls-calls.result.now)))
+    some c.make_round.ensures.shut in
+    subst (λ z. IfNone z (StopsBelow answers c.args.seat (calls_of c.args.worker.now))) (sym none)
+    (stops_among answers c.args.seat (c.loop.first + length c.calls-calls.result.now) (calls_of c.args.worker.now)
+    (calls_within c.loop.counter c.args.worker.now.repeat calls c.loop.first (length c.calls-calls.result.now)
+    c.loop.invariant.4 as_many below) shut)
