@@ -6,9 +6,8 @@ ghost use Rattle.script.specs.declared.fault.ScriptFault.TheVariants.{OutOfMemor
 use std::alloc::{AllocError, AllocFailed};
 use thiserror::Error;
 
-/// The first fault of a script, in the order in which its parts are looked at: the text, the top, each
-/// object,
-/// then each thread, with its calls.
+/// The first fault of a script. Its parts are looked at in this order: the text, the top, each object, then
+/// each thread with its calls.
 ///
 /// Objects, threads and calls are counted from 0.
 #[derive(Clone, Copy, Debug, PartialEq, Eq, Error)]
@@ -16,16 +15,15 @@ pub enum ScriptFault {
     /// The bytes aren't the text of a JSON value.
     #[error("not JSON")]
     NotJson,
-    /// The value isn't an object with exactly the keys `objects` and `threads`, lists of 1 to 64 and of 1 to
-    /// 256.
+    /// The value isn't an object with exactly the keys `objects`, a list of 1 to 64, and `threads`, a list of
+    /// 1 to 256.
     #[error("bad top")]
     BadTop,
     /// This member of `objects` isn't a new name and a header with as many seats as there are threads.
     #[error("bad object {0}")]
     BadObject(usize),
     /// This member of `threads` isn't an object with exactly the keys `repeat`, 1 to 1000000, and `calls`, a
-    /// list
-    /// of at most 10000.
+    /// list of at most 10000.
     #[error("bad thread {0}")]
     BadThread(usize),
     /// Of this thread this member of `calls` isn't a call.

@@ -56,23 +56,26 @@ fn top_of(value: &Value) -> Option<Top<'_>>
 
 /// The script that a text says, or its first fault.
 ///
-/// The text is a JSON object with two keys. `objects` has a list of 1 to 64 pairs, a name and the object part
-/// of a
-/// header as in a steps text, whose seats are as many as the threads. A name has 1 to 32 of `a` to `z`, `0`
-/// to `9`
-/// and `-`, isn't `interrupt`, and stands there once. `threads` has a list of 1 to 256 objects, each with two
-/// keys:
+/// The text is a JSON object with two keys. `objects` has a list of 1 to 64 pairs: a name, and the object part
+/// of a header, whose seats are as many as the threads. A name has 1 to 32 of `a` to `z`, `0` to `9` and `-`,
+/// isn't `interrupt`, and stands there once. `threads` has a list of 1 to 256 objects with two keys each:
 /// `repeat`, a whole number from 1 to 1000000 without fraction and exponent, and `calls`, a list of at most
-/// 10000
-/// texts. What a text of a call says is [`Action`](crate::Action)'s matter.
+/// 10000 texts. What a text of a call says is [`Action`](crate::Action)'s matter.
 ///
-/// A key that stands in an object twice has its last value, as in `serde_json`. Text that nests deeper than
-/// 127
-/// levels isn't JSON here, and neither is a number that is too large for a float. The error tells what comes
-/// first:
-/// the text, the top, the objects in their order, then each thread with its calls. It is OutOfMemory only
-/// where
-/// memory was refused. Time and memory grow linearly with the text.
+/// A key that stands in an object twice has its last value, as in `serde_json`. Time and memory grow linearly
+/// with the text.
+///
+/// # Errors
+///
+/// The first of these that applies:
+/// - [`ScriptFault::NotJson`] if the text isn't JSON. Neither is one that nests deeper than 127 levels, or that
+///   has a number too large for a float.
+/// - [`ScriptFault::BadTop`] if the value doesn't have just those two keys, with lists of those lengths.
+/// - [`ScriptFault::BadObject`] of the first object that isn't such a pair.
+/// - [`ScriptFault::BadThread`] or [`ScriptFault::BadCall`] of the first thread that isn't such an object, or
+///   that has a call which isn't one of those objects' or an interrupt of one of those threads.
+///
+/// [`ScriptFault::OutOfMemory`] comes in place of any of them if memory is refused, and never otherwise.
 pub fn read_script(alloc: Global, text: &[u8]) -> Result<Script, ScriptFault>
     ensures { Reads text.now result }
 {

@@ -11,8 +11,7 @@ use std::marker::Model;
 /// Objects by their names, and threads with the calls that each makes of them.
 ///
 /// The thread at a place is the worker of that number, counted from 0, and has the seat of that number in
-/// every
-/// object. [`read_script`](crate::read_script) makes scripts and nothing else does, so each meets all limits.
+/// every object. Only [`read_script`](crate::read_script) makes scripts, so each meets all limits.
 #[derive(Debug, Drop)]
 pub struct Script {
     objects: IndexMap<String, Header>,

@@ -227,8 +227,7 @@ fn calls_have_one_spelling(rt: HostRuntime) -> Result<(), Fail> {
     Ok(())
 }
 
-/// Two objects and two threads: an object comes before a thread, a thread's calls before the next thread, and
-/// a
+/// Two objects and two threads: an object comes before a thread, and a thread's calls before the next thread. A
 /// call may be of a later object.
 const ORDER: [(&str, &str, &str, Option<ScriptFault>); 6] = [
     ("b", "[\"b drain\",\"interrupt 1\"]", "[\"a drain\"]", None),

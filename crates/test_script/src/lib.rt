@@ -1,6 +1,5 @@
-//! Tests of scripts: that the definitions say what was meant, the words of the faults, that scripts are read
-//! where
-//! there is memory, and that nothing is where it is refused.
+//! Tests of scripts: that the definitions say what was meant, the words of the faults, that scripts are read if
+//! there is memory, and that nothing is read if it is refused.
 #![tactic(auto)]
 
 pub mod callers;
@@ -10,6 +9,8 @@ mod changes;
 mod examples;
 #[cfg(test)]
 mod faults;
+#[cfg(test)]
+mod hostile;
 #[cfg(test)]
 mod limits;
 #[cfg(test)]
