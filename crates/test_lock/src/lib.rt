@@ -7,6 +7,8 @@ mod adds;
 #[cfg(test)]
 mod keeping;
 #[cfg(test)]
+mod meanwhile;
+#[cfg(test)]
 mod memory;
 #[cfg(test)]
 mod notes;

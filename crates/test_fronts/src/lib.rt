@@ -1,0 +1,17 @@
+//! Tests of the front types of a monitor, called by one thread and by two.
+#![tactic(auto)]
+
+#[cfg(test)]
+mod asking;
+#[cfg(test)]
+mod latches;
+#[cfg(test)]
+mod locks;
+#[cfg(test)]
+mod one_thread;
+#[cfg(test)]
+mod read_write_locks;
+#[cfg(test)]
+mod semaphores;
+#[cfg(test)]
+mod two_threads;
