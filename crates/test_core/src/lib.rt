@@ -1,11 +1,5 @@
-//! Tests of what decides steps: cores, the hooks of the four objects, and the queues of those who wait.
+//! Tests of what decides steps: cores of all four objects.
 #![tactic(auto)]
 
 #[cfg(test)]
 mod cores;
-#[cfg(test)]
-mod hooks;
-#[cfg(test)]
-mod queues;
-#[cfg(test)]
-mod refusals;

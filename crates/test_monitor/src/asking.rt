@@ -16,7 +16,7 @@ use std::test::Fail;
 use std::time::Clock;
 
 /// A call of a monitor.
-#[derive(Clone, Copy, Debug, PartialEq, Eq)]
+#[derive(Clone, Copy)]
 pub enum Ask {
     Acquire(Mode, u32, How),
     Try(Mode, u32),
@@ -67,19 +67,23 @@ fn reply_to<H: Hooks + Drop, P: Parking, R: Wait + Clock>(
     Ok(Some(entry))
 }
 
-fn words_of(alloc: Global, reply: Result<Option<Entry>, Fault>) -> Result<Vec<u8>, Fail> {
-    let mut words = Vec::new(alloc);
-    match reply {
-        Ok(Some(entry)) => {
-            if !entry.is_spelt() {
-                return Err(Fail::new("an entry that has no words"));
-            }
-            entry.write_words(&mut words)?;
-        }
-        Ok(None) => {}
-        Err(fault) => words.extend_from_slice(fault.name().as_bytes())?,
+/// Whether an entry is spelt so.
+fn is_spelt_as(alloc: Global, entry: &Entry, told: &str) -> Result<bool, Fault> {
+    if !entry.is_spelt() {
+        return Ok(false);
     }
-    Ok(words)
+    let mut words = Vec::new(alloc);
+    entry.write_words(&mut words)?;
+    Ok(words.as_slice() == told.as_bytes())
+}
+
+/// Whether a reply is told so.
+fn is_told(alloc: Global, reply: &Result<Option<Entry>, Fault>, told: &str) -> Result<bool, Fault> {
+    match reply {
+        Ok(Some(entry)) => is_spelt_as(alloc, entry, told),
+        Ok(None) => Ok(told.is_empty()),
+        Err(fault) => Ok(fault.name() == told),
+    }
 }
 
 fn ask_all<H: Hooks + Drop, P: Parking, R: Abort + AllocGlobal + Wait + Clock>(
@@ -89,7 +93,7 @@ fn ask_all<H: Hooks + Drop, P: Parking, R: Abort + AllocGlobal + Wait + Clock>(
     zero: &mut Pass,
     one: &mut Pass,
     calls: &[Asked],
-) -> Result<(), Fail>
+) -> Result<(), Fault>
     requires is_of { (zero.old.lock ≡ monitor.now) × (one.old.lock ≡ monitor.now) }
     requires places { monitor.now.header.seats ≤ P.seats parking.now }
     ensures zero { IsSame zero.old zero.new }
@@ -101,14 +105,14 @@ fn ask_all<H: Hooks + Drop, P: Parking, R: Abort + AllocGlobal + Wait + Clock>(
         } else {
             reply_to(rt, monitor, parking, one, *ask)
         };
-        let words = words_of(rt.alloc(), reply)?;
-        assert!(rt; words.as_slice() == told.as_bytes(), "{seat} {ask:?}");
+        let same = is_told(rt.alloc(), &reply, told)?;
+        assert!(rt; same, "{seat} {told}");
     }
     Ok(())
 }
 
 /// What the observers tell, the holds as those of seat 0 and the sleepers as those of condition 0.
-#[derive(Clone, Copy, Debug, PartialEq, Eq)]
+#[derive(Clone, Copy, PartialEq, Eq)]
 pub struct Observed {
     pub holds: [u64; 2],
     pub is_held: bool,

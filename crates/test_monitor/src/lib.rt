@@ -7,6 +7,8 @@ mod asking;
 mod calls;
 #[cfg(test)]
 mod handing_over;
+#[cfg(test)]
+mod memory;
 pub mod noted;
 pub mod opened;
 #[cfg(test)]

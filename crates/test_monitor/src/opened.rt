@@ -8,6 +8,7 @@ use history::entries::History;
 use history::entry::Entry;
 use history::fault::Fault;
 use history::header::Header;
+use history::number::put_number;
 use monitor::{Closed, Monitor, Pass};
 use std::alloc::Global;
 use std::sync::Wait;
@@ -96,25 +97,30 @@ pub fn of_three<H: Hooks + Drop>(
     }
 }
 
-fn put_line(alloc: Global, lines: &mut Vec<u8>, entry: &Entry) -> Result<(), Fail> {
+fn put_line(lines: &mut Vec<u8>, entry: &Entry) -> Result<(), Fault> {
     if !entry.is_spelt() {
-        return Err(Fail::new("an entry that has no words"));
+        return Err(Fault::BadAmount);
     }
-    let seat = format!(in alloc; "{} ", entry.seat)?;
-    lines.extend_from_slice(seat.as_bytes())?;
+    put_number(lines, u64::from(entry.seat))?;
+    lines.extend_from_slice(b" ")?;
     entry.write_words(lines)?;
-    lines.push(b'\n')?;
+    lines.extend_from_slice(b"\n")?;
+    Ok(())
+}
+
+fn put_lines(lines: &mut Vec<u8>, history: &History) -> Result<(), Fault> {
+    for number in 0..history.len() {
+        if let Some(entry) = history.get(number) {
+            put_line(lines, &entry)?;
+        }
+    }
     Ok(())
 }
 
 /// The entries of a history, each a line of its seat and its words.
-pub fn lines(alloc: Global, history: &History) -> Result<Vec<u8>, Fail> {
+pub fn lines(alloc: Global, history: &History) -> Result<Vec<u8>, Fault> {
     let mut lines = Vec::new(alloc);
-    for number in 0..history.len() {
-        if let Some(entry) = history.get(number) {
-            put_line(alloc, &mut lines, &entry)?;
-        }
-    }
+    put_lines(&mut lines, history)?;
     Ok(lines)
 }
 
@@ -129,5 +135,25 @@ pub fn closed<H: Hooks + Drop, R: Wait>(
     match monitor.close(rt, passes) {
         Ok(closed) => Ok(closed),
         Err(_) => Err(Fail::new("a pass is missing")),
+    }
+}
+
+/// The lines of the history that a monitor of three seats leaves.
+pub fn lines_of_three<H: Hooks + Drop, R: Wait + AllocGlobal>(
+    rt: &R,
+    monitor: Monitor<H>,
+    zero: Pass,
+    one: Pass,
+    two: Pass,
+) -> Result<Vec<u8>, Fault>
+    requires first { (zero.lock ≡ monitor) × (one.lock ≡ monitor) }
+    requires last { two.lock ≡ monitor }
+{
+    let Ok(passes) = vec![in rt.alloc(); zero, one, two] else {
+        return Err(Fault::OutOfMemory);
+    };
+    match monitor.close(rt, passes) {
+        Ok(closed) => lines(rt.alloc(), &closed.history),
+        Err(_) => Err(Fault::OutOfPhase),
     }
 }

@@ -2,43 +2,36 @@
 //!
 //! What a core is to answer is told by one that lacks no memory.
 
-use crate::cores::answers::{are_same, is_recorded, is_same, lacks_memory};
+use crate::cores::answers::{is_recorded, lacks_memory};
 use crate::cores::any_core::{AnyCore, PIECE, assert_tells};
 use crate::cores::texts::{long_situation, steps_of};
 use history::fault::Fault;
-use history::header::Header;
 use history::step::{Answer, Step};
-use std::alloc::Global;
+use std::alloc::{AllocError, Global};
 use std::process::Abort;
 use std::test::Fail;
 use steps::StepsText;
 use test_support::examples::{Example, situations};
 use test_support::memory::Memory;
 
-/// A core that lacks memory at times, beside one that never does.
-#[derive(Drop)]
-struct Pair {
-    scarce: AnyCore,
-    rich: AnyCore,
-}
-
-impl Pair {
-    fn open(alloc: Global, header: &Header) -> Result<Pair, Fault> {
-        let scarce = AnyCore::open(alloc, header)?;
-        let rich = AnyCore::open(alloc, header)?;
-        Ok(Pair { scarce, rich })
-    }
-
-    /// Has both run the steps; whether they answer and tell the same.
-    fn run(&mut self, alloc: Global, steps: &[(u16, Step)]) -> Result<bool, Fault> {
-        let answers = self.scarce.run(alloc, steps)?;
-        let wanted = self.rich.run(alloc, steps)?;
-        Ok(are_same(&answers, &wanted) && self.scarce.told() == self.rich.told())
-    }
+/// Whether a core that lacks memory at times runs the steps as one that never does, and tells the same then.
+fn run_both(
+    alloc: Global,
+    scarce: &mut AnyCore,
+    rich: &mut AnyCore,
+    steps: &[(u16, Step)],
+) -> Result<bool, Fault> {
+    let answers = scarce.run(alloc, steps)?;
+    let wanted = rich.run(alloc, steps)?;
+    Ok(answers == wanted && scarce.told() == rich.told())
 }
 
 /// Whether a run is refused where there is no memory.
-fn is_run_refused(alloc: Global, core: &mut AnyCore, steps: &[(u16, Step)]) -> Result<bool, Fail> {
+fn is_run_refused(
+    alloc: Global,
+    core: &mut AnyCore,
+    steps: &[(u16, Step)],
+) -> Result<bool, AllocError> {
     let _memory = Memory::take_all(alloc, PIECE)?;
     match core.run(alloc, steps) {
         Ok(_answers) => Ok(false),
@@ -49,38 +42,34 @@ fn is_run_refused(alloc: Global, core: &mut AnyCore, steps: &[(u16, Step)]) -> R
 /// A run that lacks memory for its list of answers makes no step, and answers afterwards as if it came first.
 fn refuse_run<R: Abort + AllocGlobal>(
     rt: &R,
-    pair: &mut Pair,
+    scarce: &mut AnyCore,
+    rich: &mut AnyCore,
     steps: &[(u16, Step)],
-) -> Result<(), Fail> {
-    let before = pair.scarce.told();
-    assert!(rt; is_run_refused(rt.alloc(), &mut pair.scarce, steps)?);
-    assert_tells(rt, &pair.scarce, &before);
-    assert!(rt; pair.run(rt.alloc(), steps)?);
-    Ok(())
+) {
+    let before = scarce.told();
+    let refused = is_run_refused(rt.alloc(), scarce, steps);
+    assert!(rt; refused == Ok(true));
+    assert_tells(rt, scarce, &before);
+    let same = run_both(rt.alloc(), scarce, rich, steps);
+    assert!(rt; same == Ok(true));
 }
 
 /// Behind what was recorded before, and again behind the steps.
-fn refuse_two_runs<R: Abort + AllocGlobal>(
-    rt: &R,
-    pair: &mut Pair,
-    steps: &[(u16, Step)],
-) -> Result<(), Fail> {
-    refuse_run(rt, pair, steps)?;
-    refuse_run(rt, pair, steps)
-}
-
-fn refuse_from_open<R: Abort + AllocGlobal>(rt: &R, said: &StepsText) -> Result<(), Fail> {
-    let mut pair = Pair::open(rt.alloc(), &said.header)?;
-    refuse_two_runs(rt, &mut pair, &said.steps)
+fn refuse_from_open<R: Abort + AllocGlobal>(rt: &R, said: &StepsText) -> Result<(), Fault> {
+    let mut scarce = AnyCore::open(rt.alloc(), &said.header)?;
+    let mut rich = AnyCore::open(rt.alloc(), &said.header)?;
+    refuse_run(rt, &mut scarce, &mut rich, &said.steps);
+    refuse_run(rt, &mut scarce, &mut rich, &said.steps);
+    Ok(())
 }
 
 /// A run of no steps asks for no memory, so it is left out.
 fn refuse_runs<R: Abort + AllocGlobal>(rt: &R, example: &Example) -> Result<(), Fail> {
     let said = steps_of(rt.alloc(), example.steps)?;
-    if said.steps.is_empty() {
-        return Ok(());
+    if !said.steps.is_empty() {
+        refuse_from_open(rt, &said)?;
     }
-    refuse_from_open(rt, &said)
+    Ok(())
 }
 
 #[test]
@@ -97,15 +86,15 @@ const MANY_PLACES: u64 = 1024;
 /// More steps than fill such a page.
 const MANY_STEPS: usize = 65_536;
 
-/// Runs the steps over and over until the history has so many places.
-fn grow(alloc: Global, core: &mut AnyCore, steps: &[(u16, Step)]) -> Result<(), Fail> {
+/// Runs the steps over and over until the history has so many places; whether it has.
+fn grow(alloc: Global, core: &mut AnyCore, steps: &[(u16, Step)]) -> Result<bool, Fault> {
     for _ in 0..MANY_STEPS {
-        if MANY_PLACES <= core.told().places {
-            return Ok(());
+        if MANY_PLACES <= core.history().places() {
+            return Ok(true);
         }
-        core.run(alloc, steps)?;
+        let _answers = core.run(alloc, steps)?;
     }
-    Err(Fail::from("too few places"))
+    Ok(false)
 }
 
 /// Steps that were made where there was no memory, with their answers, and those that are asked for again.
@@ -117,7 +106,7 @@ struct Log {
 }
 
 impl Log {
-    fn open(alloc: Global) -> Result<Log, Fail> {
+    fn open(alloc: Global) -> Result<Log, AllocError> {
         Ok(Log {
             steps: Vec::with_capacity(alloc, MANY_STEPS)?,
             answers: Vec::with_capacity(alloc, MANY_STEPS)?,
@@ -125,25 +114,24 @@ impl Log {
         })
     }
 
-    fn add(&mut self, step: (u16, Step), answer: Result<Answer, Fault>) -> Result<(), Fail> {
+    fn add(&mut self, step: (u16, Step), answer: Result<Answer, Fault>) -> Result<(), AllocError> {
         self.steps.push(step)?;
         self.answers.push(answer)?;
         Ok(())
     }
 }
 
-/// Makes the steps over and over until one is refused, which is then the first to be asked for again.
-fn starve(core: &mut AnyCore, steps: &[(u16, Step)], log: &mut Log) -> Result<(), Fail> {
+/// Makes the steps over and over until one is refused; whether one is.
+fn starve(core: &mut AnyCore, steps: &[(u16, Step)], log: &mut Log) -> Result<bool, AllocError> {
     for step in steps.iter().cycle().take(MANY_STEPS) {
         let answer = core.step(step.0, step.1);
         log.add(*step, answer)?;
         if lacks_memory(&answer) {
             log.again.push(*step)?;
-            log.again.extend_from_slice(steps)?;
-            return Ok(());
+            return Ok(true);
         }
     }
-    Err(Fail::from("never refused"))
+    Ok(false)
 }
 
 /// A run while memory is given back piece by piece, until there is enough for its list of answers.
@@ -152,19 +140,18 @@ fn run_starved<R: Abort + AllocGlobal>(
     core: &mut AnyCore,
     memory: &mut Memory,
     steps: &[(u16, Step)],
-) -> Result<Vec<Result<Answer, Fault>>, Fail> {
+) -> Result<Vec<Result<Answer, Fault>>, Fault> {
     let before = core.told();
     for _ in 0..65_536 {
         match core.run(rt.alloc(), steps) {
             Ok(answers) => return Ok(answers),
             Err(fault) => {
-                assert!(rt; fault == Fault::OutOfMemory);
-                assert_tells(rt, core, &before);
-                assert!(rt; memory.give_piece());
+                let given = memory.give_piece();
+                assert!(rt; given && fault == Fault::OutOfMemory && core.told() == before);
             }
         }
     }
-    Err(Fail::from("never run"))
+    Err(Fault::OutOfMemory)
 }
 
 /// Plays until a step is refused, and then runs it and the situation, with memory for the answers alone.
@@ -173,9 +160,11 @@ fn play_starved<R: Abort + AllocGlobal>(
     core: &mut AnyCore,
     steps: &[(u16, Step)],
     log: &mut Log,
-) -> Result<Vec<Result<Answer, Fault>>, Fail> {
+) -> Result<Vec<Result<Answer, Fault>>, Fault> {
     let mut memory = Memory::take_all(rt.alloc(), PIECE)?;
-    starve(core, steps, log)?;
+    let is_refused = starve(core, steps, log)?;
+    assert!(rt; is_refused);
+    log.again.extend_from_slice(steps)?;
     run_starved(rt, core, &mut memory, &log.again)
 }
 
@@ -192,7 +181,7 @@ fn follow<R: Abort>(
     for (step, answer) in steps.iter().zip(answers.iter()) {
         if !lacks_memory(answer) {
             let other = rich.step(step.0, step.1);
-            assert!(rt; is_same(&other, answer));
+            assert!(rt; other == *answer);
             recorded = recorded.saturating_add(u32::from(is_recorded(answer)));
         }
     }
@@ -202,43 +191,48 @@ fn follow<R: Abort>(
 /// What a core made where there was no memory is what another makes that lacks none.
 fn follow_log<R: Abort + AllocGlobal>(
     rt: &R,
-    pair: &mut Pair,
+    scarce: &mut AnyCore,
+    rich: &mut AnyCore,
     log: &Log,
     answers: &[Result<Answer, Fault>],
-) -> Result<u32, Fail> {
+) -> u32 {
     assert!(rt; answers.first().is_some_and(lacks_memory));
-    follow(rt, &mut pair.rich, &log.steps, &log.answers);
-    let recorded = follow(rt, &mut pair.rich, &log.again, answers);
-    assert_tells(rt, &pair.scarce, &pair.rich.told());
-    assert!(rt; pair.run(rt.alloc(), &log.again)?);
-    Ok(recorded)
+    follow(rt, rich, &log.steps, &log.answers);
+    let recorded = follow(rt, rich, &log.again, answers);
+    assert_tells(rt, scarce, &rich.told());
+    let same = run_both(rt.alloc(), scarce, rich, &log.again);
+    assert!(rt; same == Ok(true));
+    recorded
 }
 
 /// A run whose first step is refused goes on with the others; how many it records.
 fn run_past_refusals<R: Abort + AllocGlobal>(
     rt: &R,
-    pair: &mut Pair,
+    scarce: &mut AnyCore,
+    rich: &mut AnyCore,
     steps: &[(u16, Step)],
-) -> Result<u32, Fail> {
+) -> Result<u32, Fault> {
     let mut log = Log::open(rt.alloc())?;
-    let answers = play_starved(rt, &mut pair.scarce, steps, &mut log)?;
-    follow_log(rt, pair, &log, &answers)
+    let answers = play_starved(rt, scarce, steps, &mut log)?;
+    Ok(follow_log(rt, scarce, rich, &log, &answers))
 }
 
 /// The same behind a history of many places.
 fn refuse_behind_growth<R: Abort + AllocGlobal>(
     rt: &R,
-    pair: &mut Pair,
+    scarce: &mut AnyCore,
+    rich: &mut AnyCore,
     steps: &[(u16, Step)],
-) -> Result<u32, Fail> {
-    grow(rt.alloc(), &mut pair.scarce, steps)?;
-    grow(rt.alloc(), &mut pair.rich, steps)?;
-    run_past_refusals(rt, pair, steps)
+) -> Result<u32, Fault> {
+    let has_grown = grow(rt.alloc(), scarce, steps)? && grow(rt.alloc(), rich, steps)?;
+    assert!(rt; has_grown);
+    run_past_refusals(rt, scarce, rich, steps)
 }
 
-fn grow_from_open<R: Abort + AllocGlobal>(rt: &R, said: &StepsText) -> Result<u32, Fail> {
-    let mut pair = Pair::open(rt.alloc(), &said.header)?;
-    refuse_behind_growth(rt, &mut pair, &said.steps)
+fn grow_from_open<R: Abort + AllocGlobal>(rt: &R, said: &StepsText) -> Result<u32, Fault> {
+    let mut scarce = AnyCore::open(rt.alloc(), &said.header)?;
+    let mut rich = AnyCore::open(rt.alloc(), &said.header)?;
+    refuse_behind_growth(rt, &mut scarce, &mut rich, &said.steps)
 }
 
 fn refuse_within_run<R: Abort + AllocGlobal>(rt: &R, example: &Example) -> Result<u32, Fail> {
@@ -246,7 +240,8 @@ fn refuse_within_run<R: Abort + AllocGlobal>(rt: &R, example: &Example) -> Resul
     if said.steps.is_empty() {
         return Ok(0);
     }
-    grow_from_open(rt, &said)
+    let recorded = grow_from_open(rt, &said)?;
+    Ok(recorded)
 }
 
 /// Some of the runs record what is owed to those who hold or wait.

@@ -2,14 +2,14 @@
 //!
 //! What a core is to answer is told by one that lacks no memory.
 
-use crate::cores::answers::{is_same, lacks_memory};
+use crate::cores::answers::lacks_memory;
 use crate::cores::any_core::{AnyCore, PIECE, Told, assert_tells};
 use crate::cores::texts::{long_situation, steps_of};
 use history::entry::{Entry, Word};
 use history::fault::Fault;
 use history::header::{Header, Object};
 use history::step::{Answer, Step};
-use std::alloc::Global;
+use std::alloc::{AllocError, Global};
 use std::process::Abort;
 use std::test::Fail;
 use steps::StepsText;
@@ -35,7 +35,11 @@ struct Played {
 }
 
 /// Makes the steps once more, and adds what came of them.
-fn play(core: &mut AnyCore, steps: &[(u16, Step)], played: &mut Vec<Played>) -> Result<(), Fail> {
+fn play(
+    core: &mut AnyCore,
+    steps: &[(u16, Step)],
+    played: &mut Vec<Played>,
+) -> Result<(), AllocError> {
     for (seat, asked) in steps {
         let answer = core.step(*seat, *asked);
         played.push(Played {
@@ -50,25 +54,26 @@ fn play(core: &mut AnyCore, steps: &[(u16, Step)], played: &mut Vec<Played>) -> 
 
 /// The steps, over and over, but no longer than until the history has three pages.
 fn play_rounds(
-    alloc: Global,
     core: &mut AnyCore,
     steps: &[(u16, Step)],
     rounds: u32,
-) -> Result<Vec<Played>, Fail> {
-    let mut played = Vec::new(alloc);
+    played: &mut Vec<Played>,
+) -> Result<(), AllocError> {
     for _ in 0..rounds {
-        if MANY_PLACES <= core.told().places {
+        if MANY_PLACES <= core.history().places() {
             break;
         }
-        play(core, steps, &mut played)?;
+        play(core, steps, played)?;
     }
-    Ok(played)
+    Ok(())
 }
 
 /// The steps of a situation, over and over.
-fn play_situation(alloc: Global, said: &StepsText, rounds: u32) -> Result<Vec<Played>, Fail> {
+fn play_situation(alloc: Global, said: &StepsText, rounds: u32) -> Result<Vec<Played>, Fault> {
+    let mut played = Vec::new(alloc);
     let mut core = AnyCore::open(alloc, &said.header)?;
-    play_rounds(alloc, &mut core, &said.steps, rounds)
+    play_rounds(&mut core, &said.steps, rounds, &mut played)?;
+    Ok(played)
 }
 
 /// Whether room and memory for an entry were reserved before it came.
@@ -89,77 +94,85 @@ fn may_lack_memory(object: Object, answer: &Result<Answer, Fault>) -> bool {
     }
 }
 
-/// A core, with all memory that it doesn't have.
-#[derive(Drop)]
-struct Starved {
-    core: AnyCore,
-    memory: Memory,
-}
-
-impl Starved {
-    fn open(alloc: Global, header: &Header) -> Result<Starved, Fail> {
-        let core = AnyCore::open(alloc, header)?;
-        let memory = Memory::take_all(alloc, PIECE)?;
-        Ok(Starved { core, memory })
-    }
-
-    /// Asks for a step while memory is given back piece by piece, until it is enough. Each refusal leaves all
-    /// as it was.
-    fn step<R: Abort>(&mut self, rt: &R, seat: u16, asked: Step) -> Result<Answer, Fault> {
-        let before = self.core.told();
-        let mut answer = self.core.step(seat, asked);
-        for _ in 0..65_536 {
-            if !lacks_memory(&answer) {
-                break;
-            }
-            assert_tells(rt, &self.core, &before);
-            assert!(rt; self.memory.give_piece());
-            answer = self.core.step(seat, asked);
+/// Asks for a step while memory is given back piece by piece, until it is enough. Each refusal leaves all as it
+/// was.
+fn step_fed<R: Abort>(
+    rt: &R,
+    core: &mut AnyCore,
+    memory: &mut Memory,
+    played: &Played,
+    before: &Told,
+) -> Result<Answer, Fault> {
+    for _ in 0..65_536 {
+        let answer = core.step(played.seat, played.asked);
+        if !lacks_memory(&answer) {
+            return answer;
         }
-        answer
+        let given = memory.give_piece();
+        assert!(rt; given && core.told() == *before);
     }
+    Err(Fault::OutOfMemory)
 }
 
 /// A step that was refused changed nothing, and is answered in the end as if it came first.
 fn compare_refused<R: Abort>(
     rt: &R,
-    starved: &mut Starved,
+    core: &mut AnyCore,
+    memory: &mut Memory,
     played: &Played,
     before: &Told,
-) -> Result<(), Fail> {
-    assert_tells(rt, &starved.core, before);
-    assert!(rt; may_lack_memory(starved.core.header().object, &played.answer));
-    let answer = starved.step(rt, played.seat, played.asked);
-    assert!(rt; is_same(&answer, &played.answer));
-    assert_tells(rt, &starved.core, &played.told);
-    assert!(rt; before.places < played.told.places);
-    starved.memory.take_rest()?;
-    Ok(())
+) -> Result<(), AllocError> {
+    assert_tells(rt, core, before);
+    assert!(rt; may_lack_memory(core.header().object, &played.answer));
+    let answer = step_fed(rt, core, memory, played, before);
+    assert!(rt; answer == played.answer && before.places < played.told.places);
+    assert_tells(rt, core, &played.told);
+    memory.take_rest()
 }
 
 /// A step where there is no memory is refused exactly where its history wants a page, and is answered in the end
 /// as if it came first. Whether it was refused.
-fn compare_step<R: Abort>(rt: &R, starved: &mut Starved, played: &Played) -> Result<bool, Fail> {
-    let before = starved.core.told();
-    let first = starved.core.step(played.seat, played.asked);
+fn compare_step<R: Abort>(
+    rt: &R,
+    core: &mut AnyCore,
+    memory: &mut Memory,
+    played: &Played,
+) -> Result<bool, AllocError> {
+    let before = core.told();
+    let first = core.step(played.seat, played.asked);
     if lacks_memory(&first) {
-        compare_refused(rt, starved, played, &before)?;
+        compare_refused(rt, core, memory, played, &before)?;
         return Ok(true);
     }
-    assert!(rt; is_same(&first, &played.answer));
-    assert_tells(rt, &starved.core, &played.told);
-    assert!(rt; before.places == played.told.places);
+    assert!(rt; first == played.answer && before.places == played.told.places);
+    assert_tells(rt, core, &played.told);
     Ok(false)
 }
 
 /// How many steps were refused.
-fn compare_steps<R: Abort>(rt: &R, starved: &mut Starved, played: &[Played]) -> Result<u32, Fail> {
+fn compare_steps<R: Abort>(
+    rt: &R,
+    core: &mut AnyCore,
+    memory: &mut Memory,
+    played: &[Played],
+) -> Result<u32, AllocError> {
     let mut refused: u32 = 0;
     for step in played {
-        if compare_step(rt, starved, step)? {
-            refused = refused.saturating_add(1);
-        }
+        let is_refused = compare_step(rt, core, memory, step)?;
+        refused = refused.saturating_add(u32::from(is_refused));
     }
+    Ok(refused)
+}
+
+/// Makes the steps with all memory taken that the core doesn't have; how many were refused.
+fn play_starved<R: Abort + AllocGlobal>(
+    rt: &R,
+    header: &Header,
+    played: &[Played],
+) -> Result<u32, Fault> {
+    let mut core = AnyCore::open(rt.alloc(), header)?;
+    let mut memory = Memory::take_all(rt.alloc(), PIECE)?;
+    let refused = compare_steps(rt, &mut core, &mut memory, played)?;
     Ok(refused)
 }
 
@@ -168,10 +181,9 @@ fn refuse_growth<R: Abort + AllocGlobal>(
     rt: &R,
     said: &StepsText,
     rounds: u32,
-) -> Result<u32, Fail> {
+) -> Result<u32, Fault> {
     let played = play_situation(rt.alloc(), said, rounds)?;
-    let mut starved = Starved::open(rt.alloc(), &said.header)?;
-    compare_steps(rt, &mut starved, &played)
+    play_starved(rt, &said.header, &played)
 }
 
 /// A situation within its cap, whose history takes one page. A history without steps takes none.

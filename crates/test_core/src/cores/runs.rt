@@ -1,6 +1,6 @@
 //! The known situations through `run`.
 
-use crate::cores::any_core::{AnyCore, Told, assert_tells};
+use crate::cores::any_core::{AnyCore, Told};
 use crate::cores::texts::{history_text, replay_text, steps_of};
 use history::entry::Mode;
 use history::fault::Fault;
@@ -9,90 +9,80 @@ use history::step::{Answer, Step};
 use std::alloc::Global;
 use std::process::Abort;
 use std::test::Fail;
-use steps::StepsText;
+use steps::{ReadFault, StepsText};
 use test_support::examples::{Example, situations};
 
-/// A core answered the steps of a situation, and recorded them, as its texts say.
-fn compare_replay<R: Abort + AllocGlobal>(
-    rt: &R,
+/// Whether a core answered the steps of a situation as its text says.
+fn is_replay(
+    alloc: Global,
     example: &Example,
     core: &AnyCore,
     steps: &[(u16, Step)],
     answers: &[Result<Answer, Fault>],
-) -> Result<(), Fail> {
-    assert!(rt; answers.len() == steps.len());
-    let replay = replay_text(rt.alloc(), core, steps, answers)?;
-    assert!(rt;
-        replay.as_slice() == example.replay.as_bytes(),
-        "{}",
-        example.name
-    );
-    Ok(())
+) -> Result<bool, Fault> {
+    let replay = replay_text(alloc, core, steps, answers)?;
+    Ok(answers.len() == steps.len() && replay.as_slice() == example.replay.as_bytes())
 }
 
-fn compare_history<R: Abort + AllocGlobal>(
-    rt: &R,
-    example: &Example,
-    core: &AnyCore,
-) -> Result<(), Fail> {
-    let history = history_text(rt.alloc(), core)?;
-    assert!(rt;
-        history.as_slice() == example.history.as_bytes(),
-        "{}",
-        example.name
-    );
-    Ok(())
+/// Whether a core recorded a situation as its text says.
+fn is_history(alloc: Global, example: &Example, core: &AnyCore) -> Result<bool, Fault> {
+    let history = history_text(alloc, core)?;
+    Ok(history.as_slice() == example.history.as_bytes())
 }
 
-/// Steps in one run.
-fn run_whole<R: Abort + AllocGlobal>(
-    rt: &R,
+/// Whether steps in one run are answered as a situation's text says.
+fn runs_whole(
+    alloc: Global,
     example: &Example,
     core: &mut AnyCore,
     steps: &[(u16, Step)],
-) -> Result<(), Fail> {
-    let answers = core.run(rt.alloc(), steps)?;
-    compare_replay(rt, example, core, steps, &answers)?;
-    compare_history(rt, example, core)
+) -> Result<bool, Fault> {
+    let answers = core.run(alloc, steps)?;
+    is_replay(alloc, example, core, steps, &answers)
 }
 
-/// Steps, each in a run of its own: a run goes on from where the one before it ended.
-fn run_stepwise<R: Abort + AllocGlobal>(
-    rt: &R,
-    example: &Example,
+/// The answers to steps, each in a run of its own: a run goes on from where the one before it ended.
+fn run_each(
+    alloc: Global,
     core: &mut AnyCore,
     steps: &[(u16, Step)],
-) -> Result<(), Fail> {
-    let mut answers = Vec::new(rt.alloc());
+) -> Result<Vec<Result<Answer, Fault>>, Fault> {
+    let mut answers = Vec::new(alloc);
     for step in steps {
-        let answer = core.run(rt.alloc(), &[*step])?;
+        let answer = core.run(alloc, &[*step])?;
         answers.extend_from_slice(&answer)?;
     }
-    compare_replay(rt, example, core, steps, &answers)
+    Ok(answers)
 }
 
-fn play_whole<R: Abort + AllocGlobal>(
-    rt: &R,
+/// Whether they are answered as a situation's text says.
+fn runs_stepwise(
+    alloc: Global,
     example: &Example,
-    said: &StepsText,
-) -> Result<(), Fail> {
-    let mut core = AnyCore::open(rt.alloc(), &said.header)?;
-    run_whole(rt, example, &mut core, &said.steps)
+    core: &mut AnyCore,
+    steps: &[(u16, Step)],
+) -> Result<bool, Fault> {
+    let answers = run_each(alloc, core, steps)?;
+    is_replay(alloc, example, core, steps, &answers)
 }
 
-fn play_stepwise<R: Abort + AllocGlobal>(
-    rt: &R,
-    example: &Example,
-    said: &StepsText,
-) -> Result<(), Fail> {
-    let mut core = AnyCore::open(rt.alloc(), &said.header)?;
-    run_stepwise(rt, example, &mut core, &said.steps)
+fn play_whole(alloc: Global, example: &Example, said: &StepsText) -> Result<bool, Fault> {
+    let mut core = AnyCore::open(alloc, &said.header)?;
+    let is_answered = runs_whole(alloc, example, &mut core, &said.steps)?;
+    Ok(is_answered && is_history(alloc, example, &core)?)
 }
 
-fn play_both_ways<R: Abort + AllocGlobal>(rt: &R, example: &Example) -> Result<(), Fail> {
+fn play_stepwise(alloc: Global, example: &Example, said: &StepsText) -> Result<bool, Fault> {
+    let mut core = AnyCore::open(alloc, &said.header)?;
+    runs_stepwise(alloc, example, &mut core, &said.steps)
+}
+
+fn play_both_ways<R: Abort + AllocGlobal>(rt: &R, example: &Example) -> Result<(), ReadFault> {
     let said = steps_of(rt.alloc(), example.steps)?;
-    play_whole(rt, example, &said)?;
-    play_stepwise(rt, example, &said)
+    let whole = play_whole(rt.alloc(), example, &said) == Ok(true);
+    let stepwise = play_stepwise(rt.alloc(), example, &said) == Ok(true);
+    assert!(rt; whole && stepwise, "{}", example.name);
+    Ok(())
 }
 
 #[test]
@@ -104,23 +94,29 @@ fn run_answers_each_known_situation(rt: HostRuntime) -> Result<(), Fail> {
 }
 
 /// Runs the steps, and says what the core tells then.
-fn run_and_tell(alloc: Global, core: &mut AnyCore, steps: &[(u16, Step)]) -> Result<Told, Fail> {
-    core.run(alloc, steps)?;
+fn run_and_tell(alloc: Global, core: &mut AnyCore, steps: &[(u16, Step)]) -> Result<Told, Fault> {
+    let _answers = core.run(alloc, steps)?;
     Ok(core.told())
 }
 
-/// Of three permits that were released by who held none, who waits may take one.
-fn release<R: Abort + AllocGlobal>(rt: &R, core: &mut AnyCore) -> Result<(), Fail> {
-    let release = (1, Step::Give(Mode::S, 1));
-    let steps = [(0, Step::Acquire(Mode::S, 1)), release, release, release];
-    let told = run_and_tell(rt.alloc(), core, &steps)?;
+/// One waits, and three permits are released by another, who held none.
+const RELEASED: [(u16, Step); 4] = [
+    (0, Step::Acquire(Mode::S, 1)),
+    (1, Step::Give(Mode::S, 1)),
+    (1, Step::Give(Mode::S, 1)),
+    (1, Step::Give(Mode::S, 1)),
+];
+
+/// Who waits may take one of them.
+fn release<R: Abort + AllocGlobal>(rt: &R, core: &mut AnyCore) -> Result<(), Fault> {
+    let told = run_and_tell(rt.alloc(), core, &RELEASED)?;
     assert!(rt; told.line == 1 && told.available == 1);
     Ok(())
 }
 
-fn take<R: Abort + AllocGlobal>(rt: &R, core: &mut AnyCore) -> Result<(), Fail> {
-    core.run(rt.alloc(), &[(0, Step::Look)])?;
-    let told = Told {
+fn take<R: Abort + AllocGlobal>(rt: &R, core: &mut AnyCore) -> Result<(), Fault> {
+    let told = run_and_tell(rt.alloc(), core, &[(0, Step::Look)])?;
+    let wanted = Told {
         entries: 5,
         calls: 4,
         owed: 0,
@@ -133,12 +129,14 @@ fn take<R: Abort + AllocGlobal>(rt: &R, core: &mut AnyCore) -> Result<(), Fail> 
         available: 0,
         count: 0,
     };
-    assert_tells(rt, core, &told);
+    assert!(rt; told == wanted);
     Ok(())
 }
 
-fn available(core: &AnyCore) -> i64 {
-    core.told().available
+fn release_and_take<R: Abort + AllocGlobal>(rt: &R, core: &mut AnyCore) -> Result<(), Fault> {
+    assert!(rt; core.told().available == -2);
+    release(rt, core)?;
+    take(rt, core)
 }
 
 /// Permits that began below none.
@@ -151,22 +149,23 @@ fn a_semaphore_tells_its_permits(rt: HostRuntime) -> Result<(), Fail> {
         cap: 64,
     };
     let mut core = AnyCore::open(rt.alloc(), &header)?;
-    assert!(rt; available(&core) == -2);
-    release(&rt, &mut core)?;
-    take(&rt, &mut core)
-}
-
-/// Who waits is in line until the count is none.
-fn count_to_one<R: Abort + AllocGlobal>(rt: &R, core: &mut AnyCore) -> Result<(), Fail> {
-    let steps = [(0, Step::Acquire(Mode::S, 1)), (1, Step::Give(Mode::S, 1))];
-    let told = run_and_tell(rt.alloc(), core, &steps)?;
-    assert!(rt; told.count == 1 && told.line == 1 && told.available == 0);
+    release_and_take(&rt, &mut core)?;
     Ok(())
 }
 
-fn count_to_none<R: Abort + AllocGlobal>(rt: &R, core: &mut AnyCore) -> Result<(), Fail> {
-    let steps = [(1, Step::Give(Mode::S, 1)), (0, Step::Look)];
-    let told = run_and_tell(rt.alloc(), core, &steps)?;
+/// One waits, and another counts down.
+const COUNTED_TO_ONE: [(u16, Step); 2] = [
+    (0, Step::Acquire(Mode::S, 1)),
+    (1, Step::Give(Mode::S, 1)),
+];
+
+const COUNTED_TO_NONE: [(u16, Step); 2] = [(1, Step::Give(Mode::S, 1)), (0, Step::Look)];
+
+/// Who waits is in line until the count is none.
+fn count_down<R: Abort + AllocGlobal>(rt: &R, core: &mut AnyCore) -> Result<(), Fault> {
+    let told = run_and_tell(rt.alloc(), core, &COUNTED_TO_ONE)?;
+    assert!(rt; told.count == 1 && told.line == 1 && told.available == 0);
+    let told = run_and_tell(rt.alloc(), core, &COUNTED_TO_NONE)?;
     assert!(rt; told.count == 0 && told.line == 0 && told.owed == 0);
     Ok(())
 }
@@ -180,6 +179,6 @@ fn a_latch_tells_its_count(rt: HostRuntime) -> Result<(), Fail> {
         cap: 16,
     };
     let mut core = AnyCore::open(rt.alloc(), &header)?;
-    count_to_one(&rt, &mut core)?;
-    count_to_none(&rt, &mut core)
+    count_down(&rt, &mut core)?;
+    Ok(())
 }

@@ -1,7 +1,6 @@
 //! Memory that is refused to an open, and memory that is there.
 
 use crate::cores::any_core::{PIECE, history_left, told_opened};
-use crate::refusals::refusals;
 use history::entry::Mode;
 use history::fault::Fault;
 use history::header::{Header, Object, Policy};
@@ -9,6 +8,7 @@ use history::step::Step;
 use read_write::hooks::RwHooks;
 use std::process::Abort;
 use std::test::Fail;
+use test_queues::refusals::refusals;
 use test_support::memory::Memory;
 
 fn header_of(object: Object, seats: u16, conditions: u8) -> Header {
@@ -79,7 +79,12 @@ fn first_steps(header: &Header) -> [(u16, Step); 2] {
 fn open_and_step<R: Abort + AllocGlobal>(rt: &R, header: &Header) -> Result<(), Fault> {
     let left = history_left(rt.alloc(), header, &first_steps(header))?;
     let recorded = if header.conditions == 0 { 1 } else { 2 };
-    assert_eq!(rt; left.len(), recorded, "{:?}", *header);
+    assert!(rt;
+        left.len() == recorded,
+        "{} {}",
+        header.seats,
+        header.conditions
+    );
     Ok(())
 }
 

@@ -5,7 +5,6 @@ use history::fault::Fault;
 use history::step::Answer;
 use std::alloc::{AllocError, Global};
 use std::process::Abort;
-use std::test::Fail;
 
 /// More than there are words.
 const WORDS: usize = 64;
@@ -30,7 +29,7 @@ impl Seen {
         })
     }
 
-    pub fn note(&mut self, answer: &Result<Answer, Fault>) -> Result<(), Fail> {
+    pub fn note(&mut self, answer: &Result<Answer, Fault>) -> Result<(), AllocError> {
         match answer {
             Ok(Answer::Recorded(entry, named)) => {
                 self.named = self.named || named.is_some();

@@ -1,87 +1,126 @@
 //! Steps texts, replay texts and history texts.
 
+use crate::cores::answers::is_recorded;
 use crate::cores::any_core::AnyCore;
+use history::entries::History;
 use history::entry::Entry;
 use history::fault::Fault;
 use history::header::Header;
+use history::number::put_number;
 use history::step::{Answer, Step};
-use std::alloc::Global;
-use std::test::Fail;
-use steps::{StepsText, read_steps};
+use std::alloc::{AllocError, Global};
+use steps::{ReadFault, StepsText, read_steps};
 use test_support::examples::Example;
 
 /// What a steps text says.
-pub fn steps_of(alloc: Global, text: &str) -> Result<StepsText, Fail> {
-    let said = read_steps(alloc, text.as_bytes())?;
-    Ok(said)
+pub fn steps_of(alloc: Global, text: &str) -> Result<StepsText, ReadFault> {
+    read_steps(alloc, text.as_bytes())
 }
 
 /// A cap that no history here comes near.
 const LONG: u32 = 1_000_000;
 
 /// A situation with a cap that its history doesn't come near.
-pub fn long_situation(alloc: Global, example: &Example) -> Result<StepsText, Fail> {
+pub fn long_situation(alloc: Global, example: &Example) -> Result<StepsText, ReadFault> {
     let mut said = steps_of(alloc, example.steps)?;
     said.header.cap = LONG;
     Ok(said)
 }
 
-fn put_header(out: &mut Vec<u8>, format: &[u8], header: &Header) -> Result<(), Fail> {
+fn put_header(out: &mut Vec<u8>, format: &[u8], header: &Header) -> Result<(), Fault> {
     if !header.in_range() {
-        return Err(Fail::from("a header that no object has"));
+        return Err(Fault::BadAmount);
     }
     out.extend_from_slice(format)?;
     header.write_part(out)?;
-    out.push(b'\n')?;
+    out.extend_from_slice(b"\n")?;
     Ok(())
 }
 
-fn put_entry(alloc: Global, out: &mut Vec<u8>, number: u64, entry: &Entry) -> Result<(), Fail> {
-    if !entry.is_spelt() {
-        return Err(Fail::from("an entry that has no words"));
+/// The start of a line: a number, if there is one, and a seat.
+fn put_start(out: &mut Vec<u8>, number: Option<u64>, seat: u16) -> Result<(), AllocError> {
+    match number {
+        Some(number) => put_number(out, number)?,
+        None => out.extend_from_slice(b"-")?,
     }
-    let start = format!(in alloc; "{number} {} ", entry.seat)?;
-    out.extend_from_slice(start.as_bytes())?;
-    entry.write_words(out)?;
+    out.extend_from_slice(b" ")?;
+    put_number(out, u64::from(seat))?;
+    out.extend_from_slice(b" ")
+}
+
+fn put_entry(out: &mut Vec<u8>, number: u64, entry: &Entry) -> Result<(), Fault> {
+    if !entry.is_spelt() {
+        return Err(Fault::BadAmount);
+    }
+    put_start(out, Some(number), entry.seat)?;
+    entry.write_words(out)
+}
+
+fn put_named(out: &mut Vec<u8>, named: Option<u16>) -> Result<(), AllocError> {
+    if let Some(named) = named {
+        out.extend_from_slice(b" wakes ")?;
+        put_number(out, u64::from(named))?;
+    }
     Ok(())
 }
 
-/// Appends the line of an answer, where the history had so many entries before it, and says how many it
-/// has then.
+/// The words of an answer that made no entry.
+fn words_of(answer: &Result<Answer, Fault>) -> &'static str {
+    match answer {
+        Ok(_) => "sleep",
+        Err(fault) => fault.name(),
+    }
+}
+
+/// Appends an answer, where the history had so many entries before it.
 fn put_answer(
-    alloc: Global,
     out: &mut Vec<u8>,
     number: u64,
     seat: u16,
     answer: &Result<Answer, Fault>,
-) -> Result<u64, Fail> {
-    match answer {
-        Ok(Answer::Recorded(entry, named)) => {
-            put_entry(alloc, out, number, entry)?;
-            if let Some(named) = named {
-                let wakes = format!(in alloc; " wakes {named}")?;
-                out.extend_from_slice(wakes.as_bytes())?;
-            }
-            out.push(b'\n')?;
-            Ok(number.saturating_add(1))
-        }
-        Ok(Answer::Sleep) => {
-            let line = format!(in alloc; "- {seat} sleep\n")?;
-            out.extend_from_slice(line.as_bytes())?;
-            Ok(number)
-        }
-        Err(fault) => {
-            let line = format!(in alloc; "- {seat} {fault}\n")?;
-            out.extend_from_slice(line.as_bytes())?;
-            Ok(number)
-        }
+) -> Result<(), Fault> {
+    if let Ok(Answer::Recorded(entry, named)) = answer {
+        put_entry(out, number, entry)?;
+        put_named(out, *named)?;
+    } else {
+        put_start(out, None, seat)?;
+        out.extend_from_slice(words_of(answer).as_bytes())?;
     }
+    out.extend_from_slice(b"\n")?;
+    Ok(())
 }
 
-fn put_end(alloc: Global, out: &mut Vec<u8>, core: &AnyCore) -> Result<(), Fail> {
-    let (entries, calls) = (core.history().len(), core.history().calls());
-    let end = format!(in alloc; "end {entries} {calls}\n")?;
-    out.extend_from_slice(end.as_bytes())?;
+/// Appends the answers to the steps.
+fn put_answers(
+    out: &mut Vec<u8>,
+    steps: &[(u16, Step)],
+    answers: &[Result<Answer, Fault>],
+) -> Result<(), Fault> {
+    let mut number: u64 = 0;
+    for (step, answer) in steps.iter().zip(answers) {
+        put_answer(out, number, step.0, answer)?;
+        number = number.saturating_add(u64::from(is_recorded(answer)));
+    }
+    Ok(())
+}
+
+fn put_end(out: &mut Vec<u8>, core: &AnyCore) -> Result<(), AllocError> {
+    out.extend_from_slice(b"end ")?;
+    put_number(out, core.history().len())?;
+    out.extend_from_slice(b" ")?;
+    put_number(out, core.history().calls())?;
+    out.extend_from_slice(b"\n")
+}
+
+fn put_replay(
+    out: &mut Vec<u8>,
+    core: &AnyCore,
+    steps: &[(u16, Step)],
+    answers: &[Result<Answer, Fault>],
+) -> Result<(), Fault> {
+    put_header(out, b"aqs-replay 1 ", core.header())?;
+    put_answers(out, steps, answers)?;
+    put_end(out, core)?;
     Ok(())
 }
 
@@ -91,28 +130,32 @@ pub fn replay_text(
     core: &AnyCore,
     steps: &[(u16, Step)],
     answers: &[Result<Answer, Fault>],
-) -> Result<Vec<u8>, Fail> {
+) -> Result<Vec<u8>, Fault> {
     let mut out = Vec::new(alloc);
-    put_header(&mut out, b"aqs-replay 1 ", core.header())?;
-    let mut number = 0;
-    for (step, answer) in steps.iter().zip(answers) {
-        number = put_answer(alloc, &mut out, number, step.0, answer)?;
-    }
-    put_end(alloc, &mut out, core)?;
+    put_replay(&mut out, core, steps, answers)?;
     Ok(out)
 }
 
-/// The history text of a core.
-pub fn history_text(alloc: Global, core: &AnyCore) -> Result<Vec<u8>, Fail> {
-    let mut out = Vec::new(alloc);
-    put_header(&mut out, b"aqs-history 1 ", core.header())?;
-    let history = core.history();
+fn put_entries(out: &mut Vec<u8>, history: &History) -> Result<(), Fault> {
     for number in 0..history.len() {
         if let Some(entry) = history.get(number) {
-            put_entry(alloc, &mut out, number, &entry)?;
-            out.push(b'\n')?;
+            put_entry(out, number, &entry)?;
+            out.extend_from_slice(b"\n")?;
         }
     }
-    put_end(alloc, &mut out, core)?;
+    Ok(())
+}
+
+fn put_history(out: &mut Vec<u8>, core: &AnyCore) -> Result<(), Fault> {
+    put_header(out, b"aqs-history 1 ", core.header())?;
+    put_entries(out, core.history())?;
+    put_end(out, core)?;
+    Ok(())
+}
+
+/// The history text of a core.
+pub fn history_text(alloc: Global, core: &AnyCore) -> Result<Vec<u8>, Fault> {
+    let mut out = Vec::new(alloc);
+    put_history(&mut out, core)?;
     Ok(out)
 }

@@ -42,7 +42,7 @@ fn a_lock_is_taken_signalled_and_given_back(rt: HostRuntime) -> Result<(), Fail>
         is_held: true,
         ..IDLE
     };
-    assert_eq!(rt; left.observed, observed);
+    assert!(rt; left.observed == observed);
     assert!(rt; left.parked.is_empty());
     Ok(())
 }
@@ -115,7 +115,7 @@ fn a_sleeper_is_counted_at_its_condition(rt: HostRuntime) -> Result<(), Fail> {
         waiters: 1,
         ..IDLE
     };
-    assert_eq!(rt; left.observed, observed);
+    assert!(rt; left.observed == observed);
     Ok(())
 }
 
@@ -135,7 +135,7 @@ fn one_who_was_signalled_stands_in_line(rt: HostRuntime) -> Result<(), Fail> {
         queue_length: 1,
         ..IDLE
     };
-    assert_eq!(rt; left.observed, observed);
+    assert!(rt; left.observed == observed);
     assert!(rt; left.parked.is_empty());
     Ok(())
 }

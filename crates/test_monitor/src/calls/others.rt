@@ -32,7 +32,7 @@ fn a_read_write_lock_is_shared_by_readers_and_kept_by_its_writer(
         is_held: true,
         ..IDLE
     };
-    assert_eq!(rt; left.observed, observed);
+    assert!(rt; left.observed == observed);
     Ok(())
 }
 
@@ -60,7 +60,7 @@ fn a_semaphore_takes_gives_and_drains(rt: HostRuntime) -> Result<(), Fail> {
         available: 7,
         ..IDLE
     };
-    assert_eq!(rt; left.observed, observed);
+    assert!(rt; left.observed == observed);
     Ok(())
 }
 
@@ -82,8 +82,8 @@ const OPENED: [Asked; 4] = [
 #[test]
 fn a_latch_is_counted_down_and_opens(rt: HostRuntime) -> Result<(), Fail> {
     let left = left_behind(&rt, LatchHooks::open(2), 0, Vec::new(rt.alloc()), &LATCH)?;
-    assert_eq!(rt; left.observed, Observed { count: 1, ..IDLE });
+    assert!(rt; left.observed == Observed { count: 1, ..IDLE });
     let left = left_behind(&rt, LatchHooks::open(2), 0, Vec::new(rt.alloc()), &OPENED)?;
-    assert_eq!(rt; left.observed, IDLE);
+    assert!(rt; left.observed == IDLE);
     Ok(())
 }

@@ -1,5 +1,5 @@
 //! Passes that meet, passes that are dropped, and the end of a monitor.
-ghost use Rattle.std.specs.Prelude.{◌≡◌, ◌≤◌, IfOk};
+ghost use Rattle.std.specs.Prelude.{◌≡◌, ◌≤◌};
 ghost use Rattle.monitor.specs.Stepping.{IsSame};
 
 use crate::opened::{closed, lines, of_three, of_two};
@@ -15,34 +15,33 @@ use std::test::Fail;
 use std::time::Clock;
 
 /// One takes the lock and both meet. The other then misses it, and the first gives it back.
-fn meet_between<R: Wait + Clock>(
+fn meet_between<R: Wait + Clock + Abort>(
     rt: &R,
     monitor: &Monitor<LockHooks>,
     parking: &ScriptedParking,
-    zero: Pass,
+    mut zero: Pass,
     one: Pass,
-) -> Result<(Pass, Pass), Fault>
+) -> (Pass, Pass)
     requires is_of { (zero.lock ≡ monitor.now) × (one.lock ≡ monitor.now) }
     requires places { monitor.now.header.seats ≤ 256 }
-    ensures { IfOk result (λ r. IsSame zero r.0 × IsSame one r.1) }
+    ensures { IsSame zero result.0 × IsSame one result.1 }
 {
-    let mut zero = zero;
-    monitor.acquire(rt, parking, &mut zero, Mode::X, 1, How::Plain)?;
+    let taken = monitor.acquire(rt, parking, &mut zero, Mode::X, 1, How::Plain);
     let (mut zero, mut one) = monitor.meet(zero, one);
-    monitor.try_acquire(rt, parking, &mut one, Mode::X, 1)?;
-    monitor.release(rt, parking, &mut zero, Mode::X, 1)?;
-    Ok((zero, one))
+    let missed = monitor.try_acquire(rt, parking, &mut one, Mode::X, 1);
+    let given = monitor.release(rt, parking, &mut zero, Mode::X, 1);
+    assert!(rt; taken.is_ok() && missed.is_ok() && given.is_ok());
+    (zero, one)
 }
 
 #[test]
 fn passes_that_met_go_on_and_one_misses_what_the_other_holds(rt: HostRuntime) -> Result<(), Fail> {
     let parking = ScriptedParking::open(rt.alloc(), Vec::new(rt.alloc()), 4)?;
     let (monitor, zero, one) = of_two(rt.alloc(), LockHooks::open(Policy::Fair), 0, 64)?;
-    let (zero, one) = meet_between(&rt, &monitor, &parking, zero, one)?;
-    assert_eq!(rt; (zero.seat(), zero.share()), (0, 2));
-    assert_eq!(rt; (one.seat(), one.share()), (1, 1));
+    let (zero, one) = meet_between(&rt, &monitor, &parking, zero, one);
+    assert!(rt; is_so(&zero, 0, 2) && is_so(&one, 1, 1));
     let closed = closed(&rt, monitor, vec![in rt.alloc(); one, zero]?)?;
-    assert_eq!(rt; (closed.share, closed.history.calls()), (3, 3));
+    assert!(rt; closed.share == 3 && closed.history.calls() == 3);
     assert!(rt;
         lines(rt.alloc(), &closed.history)?.as_slice()
             == b"0 got x 1\n1 missed x 1\n0 gave x 1\n".as_slice()
@@ -76,14 +75,20 @@ fn misses<R: Wait + Clock>(
     rt: &R,
     monitor: &Monitor<LockHooks>,
     parking: &ScriptedParking,
-    pass: Pass,
-) -> Result<bool, Fault>
-    requires is_of { pass.lock ≡ monitor.now }
+    pass: &mut Pass,
+) -> bool
+    requires is_of { pass.old.lock ≡ monitor.now }
     requires places { monitor.now.header.seats ≤ 256 }
 {
-    let mut pass = pass;
-    let missed = monitor.try_acquire(rt, parking, &mut pass, Mode::X, 1)?;
-    Ok(monitor.is_held(rt, &mut pass) && missed.word == Word::Missed)
+    match monitor.try_acquire(rt, parking, pass, Mode::X, 1) {
+        Ok(entry) => entry.word == Word::Missed && monitor.is_held(rt, pass),
+        Err(_) => false,
+    }
+}
+
+/// A pass of this seat and share.
+fn is_so(pass: &Pass, seat: u16, share: u64) -> bool {
+    pass.seat() == seat && pass.share() == share
 }
 
 // Both are still of their monitor: one goes on with the passes that come back.
@@ -97,13 +102,11 @@ fn a_monitor_whose_pass_was_dropped_goes_on_and_isnt_closed(rt: HostRuntime) -> 
     else {
         return Err(Fail::new("closed without the pass of a seat"));
     };
-    assert_eq!(rt; fault, CloseFault::MissingPass);
-    assert_eq!(rt; passes.len(), 2);
-    assert_eq!(rt; (passes[0].seat(), passes[0].share()), (2, 1));
-    assert_eq!(rt; (passes[1].seat(), passes[1].share()), (0, 2));
-    let Some(zero) = passes.pop() else {
+    assert!(rt; fault == CloseFault::MissingPass && passes.len() == 2);
+    assert!(rt; is_so(&passes[0], 2, 1) && is_so(&passes[1], 0, 2));
+    let Some(mut zero) = passes.pop() else {
         return Err(Fail::new("no pass came back"));
     };
-    assert!(rt; misses(&rt, &monitor, &parking, zero)?);
+    assert!(rt; misses(&rt, &monitor, &parking, &mut zero));
     Ok(())
 }

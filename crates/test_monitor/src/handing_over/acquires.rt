@@ -1,9 +1,9 @@
 //! One who waits for a lock, and its owner who releases it.
-ghost use Rattle.std.specs.Prelude.{◌≡◌, ◌≤◌, IfOk};
+ghost use Rattle.std.specs.Prelude.{◌≡◌, ◌≤◌};
 ghost use Rattle.monitor.specs.Stepping.{IsSame};
 
 use crate::noted::NotedParking;
-use crate::opened::{closed, lines, of_three};
+use crate::opened::{lines_of_three, of_three};
 use history::entry::Mode;
 use history::fault::Fault;
 use history::header::Policy;
@@ -16,21 +16,23 @@ use std::test::Fail;
 use std::thread::{Threads, join};
 use std::time::Clock;
 
+/// What the two threads answer, and the passes that they end with.
+type HandedOver = ((Pass, Result<(), Fault>), (Pass, Result<(), Fault>));
+
 /// Releases once somebody parks.
 fn release_once_parked<R: Wait + Clock>(
     rt: &R,
     monitor: &Monitor<LockHooks>,
     parking: &NotedParking,
-    pass: Pass,
-) -> Result<Pass, Fault>
-    requires is_of { pass.lock ≡ monitor.now }
+    pass: &mut Pass,
+) -> Result<(), Fault>
+    requires is_of { pass.old.lock ≡ monitor.now }
     requires places { monitor.now.header.seats ≤ 256 }
-    ensures { IfOk result (IsSame pass) }
+    ensures { IsSame pass.old pass.new }
 {
-    let mut pass = pass;
     let _parked = parking.wait_for_parks(rt, 1);
-    monitor.release(rt, parking, &mut pass, Mode::X, 1)?;
-    Ok(pass)
+    monitor.release(rt, parking, pass, Mode::X, 1)?;
+    Ok(())
 }
 
 /// Waits for the lock, and gives it back.
@@ -38,17 +40,43 @@ fn acquire_and_release<R: Wait + Clock>(
     rt: &R,
     monitor: &Monitor<LockHooks>,
     parking: &NotedParking,
-    pass: Pass,
+    pass: &mut Pass,
     how: How,
-) -> Result<Pass, Fault>
-    requires is_of { pass.lock ≡ monitor.now }
+) -> Result<(), Fault>
+    requires is_of { pass.old.lock ≡ monitor.now }
     requires places { monitor.now.header.seats ≤ 256 }
-    ensures { IfOk result (IsSame pass) }
+    ensures { IsSame pass.old pass.new }
 {
-    let mut pass = pass;
-    monitor.acquire(rt, parking, &mut pass, Mode::X, 1, how)?;
-    monitor.release(rt, parking, &mut pass, Mode::X, 1)?;
-    Ok(pass)
+    monitor.acquire(rt, parking, pass, Mode::X, 1, how)?;
+    monitor.release(rt, parking, pass, Mode::X, 1)?;
+    Ok(())
+}
+
+fn own<R: Wait + Clock>(
+    rt: &R,
+    monitor: &Monitor<LockHooks>,
+    parking: &NotedParking,
+    mut owner: Pass,
+) -> (Pass, Result<(), Fault>)
+    requires { (owner.lock ≡ monitor.now) × (monitor.now.header.seats ≤ 256) }
+    ensures { IsSame owner result.0 }
+{
+    let answer = release_once_parked(rt, monitor, parking, &mut owner);
+    (owner, answer)
+}
+
+fn wait<R: Wait + Clock>(
+    rt: &R,
+    monitor: &Monitor<LockHooks>,
+    parking: &NotedParking,
+    mut waiter: Pass,
+    how: How,
+) -> (Pass, Result<(), Fault>)
+    requires { (waiter.lock ≡ monitor.now) × (monitor.now.header.seats ≤ 256) }
+    ensures { IsSame waiter result.0 }
+{
+    let answer = acquire_and_release(rt, monitor, parking, &mut waiter, how);
+    (waiter, answer)
 }
 
 fn hand_over<R: Threads + Wait + Clock + Sync>(
@@ -58,39 +86,56 @@ fn hand_over<R: Threads + Wait + Clock + Sync>(
     owner: Pass,
     waiter: Pass,
     how: How,
-) -> (Result<Pass, Fault>, Result<Pass, Fault>)
+) -> HandedOver
     requires own { (owner.lock ≡ monitor.now) × (waiter.lock ≡ monitor.now) }
     requires places { monitor.now.header.seats ≤ 256 }
-    ensures owner { IfOk result.0 (IsSame owner) }
-    ensures waiter { IfOk result.1 (IsSame waiter) }
+    ensures owner { IsSame owner result.0.0 }
+    ensures waiter { IsSame waiter result.1.0 }
 {
     join(
         rt,
-        move || -> Result<Pass, Fault>
+        move || -> (Pass, Result<(), Fault>)
             requires { (owner.lock ≡ monitor.now) × (monitor.now.header.seats ≤ 256) }
-            ensures { IfOk result (IsSame owner) }
-        { release_once_parked(rt, monitor, parking, owner) },
-        move || -> Result<Pass, Fault>
+            ensures { IsSame owner result.0 }
+        { own(rt, monitor, parking, owner) },
+        move || -> (Pass, Result<(), Fault>)
             requires { (waiter.lock ≡ monitor.now) × (monitor.now.header.seats ≤ 256) }
-            ensures { IfOk result (IsSame waiter) }
-        { acquire_and_release(rt, monitor, parking, waiter, how) },
+            ensures { IsSame waiter result.0 }
+        { wait(rt, monitor, parking, waiter, how) },
     )
 }
 
+/// Takes the lock, hands it over, and gives the passes back that were handed in.
+fn take_and_hand_over<R: Threads + Wait + Clock + Sync + Abort>(
+    rt: &R,
+    monitor: &Monitor<LockHooks>,
+    parking: &NotedParking,
+    mut owner: Pass,
+    waiter: Pass,
+    how: How,
+) -> (Pass, Pass)
+    requires own { (owner.lock ≡ monitor.now) × (waiter.lock ≡ monitor.now) }
+    requires places { monitor.now.header.seats ≤ 256 }
+    ensures owner { IsSame owner result.0 }
+    ensures waiter { IsSame waiter result.1 }
+{
+    let taken = monitor.acquire(rt, parking, &mut owner, Mode::X, 1, How::Plain);
+    let (owner, waiter) = hand_over(rt, monitor, parking, owner, waiter, how);
+    assert!(rt; taken.is_ok() && owner.1.is_ok() && waiter.1.is_ok());
+    (owner.0, waiter.0)
+}
+
 /// What is noted, and the lines of the history, if seat 1 waits for a lock that seat 0 has. Seat 2 is idle.
-fn noted<R: Threads + Wait + Clock + Sync + AllocGlobal>(
+fn noted<R: Threads + Wait + Clock + Sync + AllocGlobal + Abort>(
     rt: &R,
     answers: Vec<Woke>,
     how: How,
-) -> Result<(Vec<Call>, Vec<u8>), Fail> {
+) -> Result<(Vec<Call>, Vec<u8>), Fault> {
     let parking = NotedParking::open(rt.alloc(), answers, 16)?;
     let hooks = LockHooks::open(Policy::NonFair);
-    let (monitor, mut zero, one, two) = of_three(rt.alloc(), hooks, 0, 64)?;
-    monitor.acquire(rt, &parking, &mut zero, Mode::X, 1, How::Plain)?;
-    let (zero, one) = hand_over(rt, &monitor, &parking, zero, one, how);
-    let (zero, one) = (zero?, one?);
-    let closed = closed(rt, monitor, vec![in rt.alloc(); zero, one, two]?)?;
-    let lines = lines(rt.alloc(), &closed.history)?;
+    let (monitor, zero, one, two) = of_three(rt.alloc(), hooks, 0, 64)?;
+    let (zero, one) = take_and_hand_over(rt, &monitor, &parking, zero, one, how);
+    let lines = lines_of_three(rt, monitor, zero, one, two)?;
     Ok((parking.calls(), lines))
 }
 

@@ -8,7 +8,7 @@ use std::test::Fail;
 use std::time::Clock;
 
 /// What seat 0 is answered after an interrupt and two unparks, call by call.
-#[derive(Clone, Copy, Debug, PartialEq, Eq)]
+#[derive(Clone, Copy, PartialEq, Eq)]
 struct Answers {
     interruptible: Woke,
     is_flag_left: bool,
@@ -79,8 +79,8 @@ fn an_interrupt_comes_before_a_permit_and_a_permit_before_a_deadline(
     let Ok(parking) = ThreadParking::open(&rt, rt.alloc(), 1) else {
         panic!(rt; "memory")
     };
-    assert_eq!(rt; ask_in_turn(&rt, &parking), IN_ORDER);
-    assert_eq!(rt; ask_in_turn(&rt, &parking), IN_ORDER, "once more");
+    assert!(rt; ask_in_turn(&rt, &parking) == IN_ORDER);
+    assert!(rt; ask_in_turn(&rt, &parking) == IN_ORDER, "once more");
     Ok(())
 }
 

@@ -12,7 +12,7 @@ use std::time::{Clock, Duration};
 const SIGNALS: u32 = 600;
 
 /// How often each answer came.
-#[derive(Clone, Copy, Debug, PartialEq, Eq)]
+#[derive(Clone, Copy)]
 struct Tally {
     permits: u32,
     interrupts: u32,
@@ -85,8 +85,7 @@ fn each_signal_is_answered_once_among_600_as_deadlines_pass(rt: HostRuntime) -> 
         panic!(rt; "memory")
     };
     let tally = storm(&rt, &parking, SIGNALS);
-    assert_eq!(rt; (tally.permits, tally.interrupts), (400, 200));
-    assert!(rt; 0 < tally.deadlines);
+    assert!(rt; tally.permits == 400 && tally.interrupts == 200 && 0 < tally.deadlines);
     assert_eq!(rt; parking.park(&rt, 0, Some(0), true), Woke::Deadline);
     assert_eq!(rt; parking.park(&rt, 1, Some(0), true), Woke::Deadline);
     Ok(())

@@ -4,14 +4,18 @@ ghost use Rattle.std.specs.Thread.{IsSync};
 
 use permit::{Parking, ThreadParking, Woke};
 use std::process::Abort;
+use std::rt::Files;
 use std::sync::Wait;
 use std::test::Fail;
-use std::thread;
 use std::thread::{Threads, join};
 use std::time::{Clock, Duration};
+use std::{fs, thread};
 
 /// So many milliseconds a thread waits before it wakes another, which sleeps by then.
 const LATER: u64 = 30;
+
+/// So many nanoseconds: less than a thread takes that spins so long, even where others have most of the processors.
+const LITTLE: u64 = 5_000_000;
 
 #[derive(Clone, Copy, PartialEq, Eq)]
 enum Signal {
@@ -81,6 +85,37 @@ fn one_who_sleeps_is_woken_by_an_interrupt(rt: HostRuntime) -> Result<(), Fail> 
         Woke::Interrupted
     );
     assert!(rt; !parking.take_interrupt(0));
+    Ok(())
+}
+
+/// The processor time that the calling thread has had, in nanoseconds.
+fn processor_time<R: Files + AllocGlobal>(rt: &R) -> Option<u64> {
+    let told = fs::read_to_string(rt, "/proc/thread-self/schedstat").ok()?;
+    told.split(' ').next()?.parse::<u64>().ok()
+}
+
+/// How much of it a park at seat 0 takes.
+fn time_parked<R: Wait + Clock + Files + AllocGlobal>(
+    rt: &R,
+    parking: &ThreadParking,
+    until: Option<u64>,
+) -> Option<u64>
+    requires { 0 < parking.now }
+{
+    let before = processor_time(rt)?;
+    let _woke = parking.park(rt, 0, until, true);
+    Some(processor_time(rt)?.saturating_sub(before))
+}
+
+#[test]
+fn one_who_sleeps_takes_no_processor_time(rt: HostRuntime) -> Result<(), Fail> {
+    let Ok(parking) = ThreadParking::open(&rt, rt.alloc(), 1) else {
+        panic!(rt; "memory")
+    };
+    let until = parking.now(&rt).saturating_add(LATER);
+    let time = time_parked(&rt, &parking, Some(until));
+    assert!(rt; time.is_some_and(|time| time < LITTLE), "{time:?}");
+    assert!(rt; until <= parking.now(&rt));
     Ok(())
 }
 

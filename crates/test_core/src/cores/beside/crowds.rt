@@ -4,7 +4,9 @@ use super::{compare_totals, step_beside};
 use crate::cores::any_core::AnyCore;
 use crate::cores::chance::Chance;
 use crate::cores::seen::{COUNTED, OWNED, PERMITTED, Seen, TAKEN, assert_seen};
+use history::fault::Fault;
 use history::header::{Header, Object, Policy};
+use std::alloc::AllocError;
 use std::process::Abort;
 use std::test::Fail;
 
@@ -26,22 +28,31 @@ fn header_of(object: Object, seats: u16) -> Header {
     }
 }
 
+/// A step by chance.
+fn step<R: Abort + AllocGlobal>(
+    rt: &R,
+    core: &mut AnyCore,
+    chance: &mut Chance,
+    seen: &mut Seen,
+) -> Result<(), AllocError> {
+    let (seat, asked) = chance.step(core);
+    let answer = step_beside(rt, core, seat, asked);
+    chance.hear(&answer);
+    seen.note(&answer)
+}
+
 /// Steps by chance. The most that stood in line at a time.
 fn play<R: Abort + AllocGlobal>(
     rt: &R,
     core: &mut AnyCore,
-    mut chance: Chance,
+    chance: &mut Chance,
     seen: &mut Seen,
-) -> Result<u16, Fail> {
+) -> Result<u16, AllocError> {
     let mut longest = 0;
     for _ in 0..STEPS {
-        let (seat, asked) = chance.step(core);
-        let answer = step_beside(rt, core, seat, asked);
-        chance.hear(&answer);
-        seen.note(&answer)?;
+        step(rt, core, chance, seen)?;
         longest = longest.max(core.queue_length());
     }
-    compare_totals(rt, core)?;
     Ok(longest)
 }
 
@@ -50,9 +61,26 @@ fn play_crowd<R: Abort + AllocGlobal>(
     object: Object,
     seats: u16,
     seen: &mut Seen,
-) -> Result<u16, Fail> {
+) -> Result<u16, Fault> {
     let mut core = AnyCore::open(rt.alloc(), &header_of(object, seats))?;
-    play(rt, &mut core, Chance::from_seed(u64::from(seats)), seen)
+    let mut chance = Chance::from_seed(u64::from(seats));
+    let longest = play(rt, &mut core, &mut chance, seen)?;
+    compare_totals(rt, &core);
+    Ok(longest)
+}
+
+/// The steps of each crowd, with what comes up.
+fn fill<R: Abort + AllocGlobal>(
+    rt: &R,
+    object: Object,
+    crowds: &[(u16, u16)],
+    seen: &mut Seen,
+) -> Result<(), Fault> {
+    for (seats, in_line) in crowds {
+        let longest = play_crowd(rt, object, *seats, seen)?;
+        assert!(rt; *in_line <= longest, "{seats}");
+    }
+    Ok(())
 }
 
 /// What comes up among so many seats, of whom at least so many stand in line at a time.
@@ -60,12 +88,9 @@ fn play_crowds<R: Abort + AllocGlobal>(
     rt: &R,
     object: Object,
     crowds: &[(u16, u16)],
-) -> Result<Seen, Fail> {
+) -> Result<Seen, Fault> {
     let mut seen = Seen::open(rt.alloc())?;
-    for (seats, in_line) in crowds {
-        let longest = play_crowd(rt, object, *seats, &mut seen)?;
-        assert!(rt; *in_line <= longest, "{object:?} {seats} {longest}");
-    }
+    fill(rt, object, crowds, &mut seen)?;
     Ok(seen)
 }
 

@@ -3,7 +3,7 @@
 ghost use Rattle.std.specs.Prelude.{◌≡◌, ◌↔◌, IsTrue, ℕ};
 ghost use Rattle.frame.specs.Hooks.{hold_limit};
 ghost use Rattle.history.specs.Counts.{Counts};
-ghost use Rattle.test_core.specs.Seated.{IsSeated};
+ghost use Rattle.test_queues.specs.Seated.{IsSeated};
 
 use crate::hooks::calls::{Call, Reply, truth};
 use frame::hooks::Hooks;
@@ -113,6 +113,17 @@ fn reply<H: Hooks>(hooks: &mut H, seats: u16, call: Call) -> Reply
     }
 }
 
+fn reply_all<H: Hooks, R: Abort>(rt: &R, hooks: &mut H, seats: u16, rows: &[(Call, Reply)])
+    requires { IsSeated (H.agrees hooks.old) seats }
+{
+    let mut number: u32 = 0;
+    for (call, want) in rows {
+        let got = reply(hooks, seats, *call);
+        assert!(rt; got == *want, "call {number}");
+        number = number.saturating_add(1);
+    }
+}
+
 /// Plays the calls on hooks as an open makes them, where there is no memory.
 pub fn play<H: Hooks + Drop>(
     rt: &(impl Abort + AllocGlobal),
@@ -120,15 +131,10 @@ pub fn play<H: Hooks + Drop>(
     seats: u16,
     rows: &[(Call, Reply)],
 ) {
-    let opened = hooks.as_opened(seats);
-    assert!(rt; opened, "as opened");
-    if !opened {
-        return;
-    }
     let taken = Memory::take_all(rt.alloc(), PIECE);
-    assert!(rt; taken.is_ok());
-    for (call, want) in rows {
-        let got = reply(&mut hooks, seats, *call);
-        assert_eq!(rt; got, *want, "{call:?}");
+    let opened = hooks.as_opened(seats);
+    assert!(rt; opened && taken.is_ok());
+    if opened {
+        reply_all(rt, &mut hooks, seats, rows);
     }
 }

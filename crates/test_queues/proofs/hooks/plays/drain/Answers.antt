@@ -1,5 +1,5 @@
 use Rattle.history.specs.Changes.{drained}
-use Rattle.test_core.proofs.hooks.plays.drain.Goals as goal
+use Rattle.test_queues.proofs.hooks.plays.drain.Goals as goal
 
 pub returns : goal.returns
 returns g c =

@@ -5,7 +5,7 @@ use history::entry::Mode;
 use history::fault::Fault;
 use history::header::Object;
 
-#[derive(Clone, Copy, Debug, PartialEq, Eq)]
+#[derive(Clone, Copy)]
 pub enum Call {
     Could(u16, Mode, u32),
     AtLimit(u16, Mode),
@@ -24,7 +24,7 @@ pub enum Call {
     Level,
 }
 
-#[derive(Clone, Copy, Debug, PartialEq, Eq)]
+#[derive(Clone, Copy, PartialEq, Eq)]
 pub enum Reply {
     Yes,
     No,

@@ -1,4 +1,0 @@
-//! Those who wait: in line, and on conditions.
-
-mod line;
-mod sleepers;
