@@ -28,9 +28,9 @@ const PIECE: usize = 16;
 /// More pieces than an audit needs.
 const MOST: usize = 4096;
 
-/// What an audit of the history below asks memory for: two tables of holds, one of last sleeps, a list of
-/// sleepers and a line.
-const REQUESTS: usize = 5;
+/// What an audit of the history below asks memory for: two tables of holds, one of last sleeps, and four each for
+/// the line and for the sleepers.
+const REQUESTS: usize = 11;
 
 /// The verdict, once there is memory for it, and how often memory was refused before.
 fn fed_check(alloc: Global, header: &Header, history: &History) -> Result<(Verdict, usize), Fail>
