@@ -1,7 +1,6 @@
 //! How often memory is refused to what opens something.
 
 use history::fault::Fault;
-use std::process::Abort;
 use std::test::Fail;
 use test_support::memory::Memory;
 
@@ -10,7 +9,7 @@ const MOST: u32 = 4096;
 
 /// How often an open is refused while memory is given back piece by piece, until there is enough. One that kept
 /// memory when refused would never be granted.
-pub fn refusals<R: Abort + AllocGlobal, T: Drop, F: Fn() -> Result<T, Fault>>(
+pub fn refusals<R: AllocGlobal, T: Drop, F: Fn() -> Result<T, Fault>>(
     rt: &R,
     piece: usize,
     make: F,
@@ -21,7 +20,11 @@ pub fn refusals<R: Abort + AllocGlobal, T: Drop, F: Fn() -> Result<T, Fault>>(
     for refused in 0..MOST {
         match make() {
             Ok(_opened) => return Ok(refused),
-            Err(fault) => assert!(rt; fault == Fault::OutOfMemory && memory.give_piece()),
+            Err(fault) => {
+                if fault != Fault::OutOfMemory || !memory.give_piece() {
+                    return Err(Fail::from("refused though there was memory"));
+                }
+            }
         }
     }
     Err(Fail::from("never opened"))
