@@ -1,6 +1,6 @@
 //! The entries of a history, judged one after another.
 
-ghost use Rattle.std.specs.Prelude.{◌≡◌, ◌<◌, ◌∷◌, [], List, None, IfOk, OnOk, OnErr, IsErr, IsOkUnless};
+ghost use Rattle.std.specs.Prelude.{◌≡◌, ◌<◌, ◌∷◌, [], List, None, IfOk, OnOk, OnErr, IsErr, IsOk, IsOkUnless};
 ghost use Rattle.history.specs.Header.{IsInRange};
 ghost use Rattle.history.specs.declared.entry.Entry.{Entry};
 ghost use Rattle.history.specs.declared.header.Header.{Header};
@@ -42,8 +42,7 @@ impl Auditor {
         }
     }
 
-    /// Follows one more entry of one of the seats. Where memory is refused the answer is `OutOfMemory`, and
-    /// the entry isn't followed: it may be tried again. No memory is wanted behind a wrong entry.
+    /// Follows one more entry of one of the seats. It takes no memory, so the answer is always Ok.
     #[inline(always)]
     pub fn follow(&mut self, entry: Entry) -> Result<(), Fault>
         requires { CanFollow self.old entry }
@@ -55,6 +54,7 @@ impl Auditor {
         ensures err { OnErr result ((k : Header) (h : List Entry) → HasJudged k h self.old →
             HasJudged k h self.new) }
         ensures wanted { IsErr result → self.old.wrong ≡ None }
+        ensures sure { IsOk result }
     {
         match self.wrong {
             Some(_) => {}

@@ -1,6 +1,6 @@
 //! All that a front of a history says, kept so that each question about the next entry is one step.
 
-ghost use Rattle.std.specs.Prelude.{◌≡◌, ◌<◌, ◌≤◌, ◌∷◌, ◌+◌, ◌^◌, [], List, ℕ, IfOk, OnOk, OnErr, IsOkUnless, IsTrue, Some, None, length, Ok};
+ghost use Rattle.std.specs.Prelude.{◌≡◌, ◌<◌, ◌≤◌, ◌∷◌, ◌+◌, ◌^◌, [], List, ℕ, IfOk, OnOk, OnErr, IsOk, IsOkUnless, IsTrue, Some, None, length, Ok};
 ghost use Rattle.history.specs.Object.{is_fair_policy};
 ghost use Rattle.history.specs.Could.{could, limit, held_back, is_seat, is_none_or, is_reentrant, line_blocks};
 ghost use Rattle.history.specs.Counts.{counts, owner};
@@ -60,8 +60,8 @@ impl Ledger {
         })
     }
 
-    /// Follows one more entry, one that a step of its seat makes. Where memory is refused the answer is
-    /// `OutOfMemory`, and the ledger stands for the entries before.
+    /// Follows one more entry, one that a step of its seat makes; any other is passed over. It takes no memory,
+    /// so the answer is always Ok.
     pub fn note(&mut self, entry: Entry) -> Result<(), Fault>
         requires seat { HasSeat self.old entry.seat }
         requires signal { entry.word ≡ Signal → entry.n ≤ 1 }
@@ -70,6 +70,7 @@ impl Ledger {
         ensures err { OnErr result ((s : Start) (h : List Entry) → LedgerStand s h self.old →
             LedgerStand s h self.new) }
         ensures memory { IsOkUnless result Fault.OutOfMemory }
+        ensures sure { IsOk result }
     {
         if self.admits(entry) {
             self.follow(entry);
