@@ -93,8 +93,8 @@ impl Answers {
         }
     }
 
-    /// Writes what was gathered, and all that follows the first line.
-    fn put_all<W: Sink>(
+    /// Writes what was gathered, and all that follows the first line. No memory is taken.
+    pub fn put_all<W: Sink>(
         &self,
         lines: &mut LineWriter,
         writer: &mut W,
@@ -105,6 +105,7 @@ impl Answers {
             (lines.old.bytes ++ text_behind form self.now)) }
         ensures err { OnErr result (AppendsFront (W.held writer.old) (W.held writer.new)
             (lines.old.bytes ++ text_behind form self.now)) }
+        ensures none { OnOk result (lines.new.bytes ≡ []) }
         ensures failing { IsTrue (W.failed writer.new) ↔ IsErr result }
     {
         let history = &self.history;
@@ -115,7 +116,7 @@ impl Answers {
 }
 
 /// The first line of what is written.
-fn first_line(alloc: Global, form: Form, header: &Header) -> Result<Vec<u8>, StreamFault>
+pub fn first_line(alloc: Global, form: Form, header: &Header) -> Result<Vec<u8>, StreamFault>
     requires { IsInRange header.now }
     ensures ok { IfOk result (λ out. out.items ≡ ended (first_line form header.now)) }
     ensures err { IfErr result (λ fault. fault ≡ Memory) }

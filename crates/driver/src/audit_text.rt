@@ -58,7 +58,7 @@ fn legal_text(
 }
 
 /// Appends a line of a name and a number, or a front of it.
-fn put_line(out: &mut Vec<u8>, name: &[u8], number: u64) -> Result<(), AllocError>
+pub fn put_line(out: &mut Vec<u8>, name: &[u8], number: u64) -> Result<(), AllocError>
     ensures { OnOk result (out.new.items ≡ out.old.items ++ ended (number_line name.now number)) }
 {
     out.extend_from_slice(name)?;

@@ -10,6 +10,7 @@
 pub mod device;
 pub mod memory_sink;
 pub mod memory_source;
+pub mod rest;
 pub mod sink;
 pub mod source;
 pub mod stream_fault;
