@@ -3,10 +3,12 @@
 mod audits;
 mod changes;
 mod devices;
+mod lines;
 mod memory;
 mod pages;
 mod pieces;
 mod plain;
+mod readers;
 mod replays;
 mod spoiled;
 mod streamed;

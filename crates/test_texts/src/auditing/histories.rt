@@ -11,14 +11,21 @@ use history::fault::Fault;
 use history::header::Header;
 use std::alloc::Global;
 
-pub fn history_of(alloc: Global, header: &Header, entries: &[Entry]) -> Result<History, Fault>
-    ensures { IfOk result (λ history. history.cap ≡ header.now.cap) }
+fn add_all(history: &mut History, entries: &[Entry]) -> Result<(), Fault>
+    ensures { history.new.cap ≡ history.old.cap }
 {
-    let mut history = History::open(alloc, header.cap);
     for entry in entries {
         history.make_room(1)?;
         history.add(*entry, 0);
     }
+    Ok(())
+}
+
+pub fn history_of(alloc: Global, header: &Header, entries: &[Entry]) -> Result<History, Fault>
+    ensures { IfOk result (λ history. history.cap ≡ header.now.cap) }
+{
+    let mut history = History::open(alloc, header.cap);
+    add_all(&mut history, entries)?;
     Ok(history)
 }
 

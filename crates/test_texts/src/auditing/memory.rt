@@ -42,9 +42,10 @@ fn fed_check(alloc: Global, header: &Header, history: &History) -> Result<(Verdi
     for refused in 0..MOST {
         match check(alloc, header, history) {
             Ok(verdict) => return Ok((verdict, refused)),
-            Err(_) => {
+            Err(Fault::OutOfMemory) => {
                 let _was_left = memory.give_piece();
             }
+            Err(_) => return Err(Fail::new("another fault")),
         }
     }
     Err(Fail::new("memory was refused to the end"))
@@ -64,9 +65,10 @@ fn fed_totals(alloc: Global, header: &Header, history: &History) -> Result<(Tota
     for refused in 0..MOST {
         match totals(alloc, header, history) {
             Ok(totals) => return Ok((totals, refused)),
-            Err(_) => {
+            Err(Fault::OutOfMemory) => {
                 let _was_left = memory.give_piece();
             }
+            Err(_) => return Err(Fail::new("another fault")),
         }
     }
     Err(Fail::new("memory was refused to the end"))

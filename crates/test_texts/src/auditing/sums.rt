@@ -30,6 +30,16 @@ fn audited(alloc: Global, header: &Header, history: &History) -> Result<Totals, 
     }
 }
 
+/// The same of these entries; `BadAmount` where the header has no place for them.
+fn totals_of(alloc: Global, header: &Header, entries: &[Entry]) -> Result<Totals, Fault> {
+    let history = history_of(alloc, header, entries)?;
+    if header.in_range() && are_seated(header, &history) {
+        audited(alloc, header, &history)
+    } else {
+        Err(Fault::BadAmount)
+    }
+}
+
 const NOTHING: Totals = Totals {
     x: 0,
     s: 0,
@@ -66,19 +76,14 @@ fn a_read_write_lock_has_holds_a_line_and_sleepers(rt: HostRuntime) -> Result<()
         plain(1, Word::Got, Mode::S, 1),
         plain(2, Word::Queued, Mode::S, 1),
     ];
-    let history = history_of(rt.alloc(), &header, &entries)?;
-    assert!(rt; header.in_range());
-    assert!(rt; are_seated(&header, &history));
-    assert_eq!(rt;
-        audited(rt.alloc(), &header, &history),
-        Ok(Totals {
-            x: 2,
-            s: 1,
-            line: 1,
-            sleepers: 1,
-            ..NOTHING
-        })
-    );
+    let wanted = Totals {
+        x: 2,
+        s: 1,
+        line: 1,
+        sleepers: 1,
+        ..NOTHING
+    };
+    assert!(rt; totals_of(rt.alloc(), &header, &entries) == Ok(wanted));
     Ok(())
 }
 
@@ -96,20 +101,15 @@ fn a_semaphore_has_permits_held_free_and_unheld(rt: HostRuntime) -> Result<(), F
         plain(1, Word::Gave, Mode::S, 3),
         plain(2, Word::Queued, Mode::S, 5),
     ];
-    let history = history_of(rt.alloc(), &header, &entries)?;
-    assert!(rt; header.in_range());
-    assert!(rt; are_seated(&header, &history));
-    assert_eq!(rt;
-        audited(rt.alloc(), &header, &history),
-        Ok(Totals {
-            held: 1,
-            free: 4,
-            created: 2,
-            unheld: 3,
-            line: 1,
-            ..NOTHING
-        })
-    );
+    let wanted = Totals {
+        held: 1,
+        free: 4,
+        created: 2,
+        unheld: 3,
+        line: 1,
+        ..NOTHING
+    };
+    assert!(rt; totals_of(rt.alloc(), &header, &entries) == Ok(wanted));
     Ok(())
 }
 
@@ -126,16 +126,11 @@ fn a_latch_has_a_count_and_a_line(rt: HostRuntime) -> Result<(), Fail> {
         plain(1, Word::Queued, Mode::S, 1),
         plain(0, Word::Counted, Mode::S, 1),
     ];
-    let history = history_of(rt.alloc(), &header, &entries)?;
-    assert!(rt; header.in_range());
-    assert!(rt; are_seated(&header, &history));
-    assert_eq!(rt;
-        audited(rt.alloc(), &header, &history),
-        Ok(Totals {
-            count: 1,
-            line: 1,
-            ..NOTHING
-        })
-    );
+    let wanted = Totals {
+        count: 1,
+        line: 1,
+        ..NOTHING
+    };
+    assert!(rt; totals_of(rt.alloc(), &header, &entries) == Ok(wanted));
     Ok(())
 }

@@ -3,8 +3,10 @@
 use crate::auditing::histories::{are_seated, history_of};
 use audit::verdict::{Verdict, check};
 use deciding::entries::plain;
-use history::entry::{Mode, Word};
+use history::entry::{Entry, Mode, Word};
+use history::fault::Fault;
 use history::header::{Header, Object, Policy};
+use std::alloc::Global;
 use std::test::Fail;
 
 const LOCK: Header = Header {
@@ -13,6 +15,16 @@ const LOCK: Header = Header {
     conditions: 1,
     cap: 64,
 };
+
+/// The verdict on a history of these entries; `BadAmount` where the header has no place for them.
+fn verdict_on(alloc: Global, header: &Header, entries: &[Entry]) -> Result<Verdict, Fault> {
+    let history = history_of(alloc, header, entries)?;
+    if header.in_range() && are_seated(header, &history) {
+        check(alloc, header, &history)
+    } else {
+        Err(Fault::BadAmount)
+    }
+}
 
 /// A waiter takes the lock that its owner gave back.
 #[test]
@@ -23,10 +35,7 @@ fn a_lock_handed_over_is_legal(rt: HostRuntime) -> Result<(), Fail> {
         plain(0, Word::Gave, Mode::X, 1),
         plain(1, Word::Granted, Mode::X, 1),
     ];
-    let history = history_of(rt.alloc(), &LOCK, &entries)?;
-    assert!(rt; LOCK.in_range());
-    assert!(rt; are_seated(&LOCK, &history));
-    assert_eq!(rt; check(rt.alloc(), &LOCK, &history), Ok(Verdict::Legal));
+    assert!(rt; verdict_on(rt.alloc(), &LOCK, &entries) == Ok(Verdict::Legal));
     Ok(())
 }
 
@@ -40,13 +49,7 @@ fn barging_in_a_fair_lock_is_the_first_wrong_entry(rt: HostRuntime) -> Result<()
         plain(2, Word::Got, Mode::X, 1),
         plain(0, Word::Gave, Mode::X, 1),
     ];
-    let history = history_of(rt.alloc(), &LOCK, &entries)?;
-    assert!(rt; LOCK.in_range());
-    assert!(rt; are_seated(&LOCK, &history));
-    assert_eq!(rt;
-        check(rt.alloc(), &LOCK, &history),
-        Ok(Verdict::NotLegal(3))
-    );
+    assert!(rt; verdict_on(rt.alloc(), &LOCK, &entries) == Ok(Verdict::NotLegal(3)));
     Ok(())
 }
 
@@ -59,9 +62,6 @@ fn a_try_past_the_line_is_legal(rt: HostRuntime) -> Result<(), Fail> {
         plain(0, Word::Gave, Mode::X, 1),
         plain(2, Word::TryGot, Mode::X, 1),
     ];
-    let history = history_of(rt.alloc(), &LOCK, &entries)?;
-    assert!(rt; LOCK.in_range());
-    assert!(rt; are_seated(&LOCK, &history));
-    assert_eq!(rt; check(rt.alloc(), &LOCK, &history), Ok(Verdict::Legal));
+    assert!(rt; verdict_on(rt.alloc(), &LOCK, &entries) == Ok(Verdict::Legal));
     Ok(())
 }

@@ -31,7 +31,8 @@ fn told(history: &History) -> (u64, u64, u64, u64) {
 /// A list tells so much. It stands apart from what its caller knows of the list, as does all that is only
 /// compared: the proofs stay small.
 pub fn tells<R: Abort>(rt: &R, history: &History, wanted: (u64, u64, u64, u64)) {
-    assert_eq!(rt; told(history), wanted);
+    let tells = told(history) == wanted;
+    assert!(rt; tells);
 }
 
 /// Whether the cap leaves no room for so many.
@@ -41,11 +42,11 @@ fn is_full(history: &mut History, count: u64) -> bool {
 
 /// A list has this entry with the number.
 pub fn has<R: Abort>(rt: &R, history: &History, number: u64, entry: Entry) {
-    assert_eq!(rt; history.get(number), Some(entry));
+    assert!(rt; history.get(number) == Some(entry));
 }
 
 /// Adds three entries, of which the second was owed.
-fn add_three<R: Abort>(rt: &R, history: &mut History) -> Result<(), Fail> {
+fn add_three<R: Abort>(rt: &R, history: &mut History) -> Result<(), Fault> {
     history.make_room(3)?;
     assert!(rt; 3 <= history.places());
     history.add(of(0, Word::Got), 1);
@@ -61,7 +62,7 @@ fn entries_are_kept_in_their_order(rt: HostRuntime) -> Result<(), Fail> {
     let mut history = History::open(rt.alloc(), 16);
     assert!(rt; history.is_empty() && history.cap() == 16);
     tells(&rt, &history, (0, 0, 0, 0));
-    add_three(&rt, &mut history)?;
+    assert!(rt; add_three(&rt, &mut history) == Ok(()));
     has_three(&rt, &history);
     Ok(())
 }
@@ -105,13 +106,13 @@ fn ended_by(alloc: Global, word: Word) -> Result<u64, Fault> {
 #[test]
 fn each_word_ends_a_call_but_three(rt: HostRuntime) -> Result<(), Fail> {
     for (word, ended) in &ENDS {
-        assert_eq!(rt; ended_by(rt.alloc(), *word)?, *ended, "{word:?}");
+        assert!(rt; ended_by(rt.alloc(), *word) == Ok(*ended), "{word:?}");
     }
     Ok(())
 }
 
 /// Asks an empty list with a cap of 16 for more than its room, and for all.
-fn reserve_all<R: Abort>(rt: &R, history: &mut History) -> Result<(), Fail> {
+fn reserve_all<R: Abort>(rt: &R, history: &mut History) -> Result<(), Fault> {
     assert!(rt; is_full(history, 17));
     assert!(rt; is_full(history, 18_446_744_073_709_551_615));
     tells(rt, history, (0, 0, 0, 0));
@@ -124,7 +125,7 @@ fn reserve_all<R: Abort>(rt: &R, history: &mut History) -> Result<(), Fail> {
 }
 
 /// Asks for the place that is left where 14 are owed, and for more.
-fn fill<R: Abort>(rt: &R, history: &mut History) -> Result<(), Fail> {
+fn fill<R: Abort>(rt: &R, history: &mut History) -> Result<(), Fault> {
     assert!(rt; is_full(history, 2));
     tells(rt, history, (1, 14, 1024, 1));
     history.make_room(1)?;
@@ -139,31 +140,54 @@ fn fill<R: Abort>(rt: &R, history: &mut History) -> Result<(), Fail> {
 #[test]
 fn room_ends_at_the_cap(rt: HostRuntime) -> Result<(), Fail> {
     let mut history = History::open(rt.alloc(), 16);
-    reserve_all(&rt, &mut history)?;
-    fill(&rt, &mut history)
+    assert!(rt; reserve_all(&rt, &mut history) == Ok(()));
+    assert!(rt; fill(&rt, &mut history) == Ok(()));
+    Ok(())
 }
 
-/// A list of so many entries, each with its own number in it.
-fn numbered(alloc: Global, count: u32) -> Result<History, Fault> {
-    let mut history = History::open(alloc, 4096);
+/// Adds an entry with this number in it.
+fn add_number(history: &mut History, n: u32) -> Result<(), Fault> {
+    history.make_room(1)?;
+    let entry = Entry {
+        n,
+        ..of(0, Word::Got)
+    };
+    history.add(entry, 0);
+    Ok(())
+}
+
+/// Adds so many entries, each with its own number in it.
+fn add_numbers(history: &mut History, count: u32) -> Result<(), Fault> {
     for n in 0..count {
-        history.make_room(1)?;
-        let entry = Entry {
-            n,
-            ..of(0, Word::Got)
-        };
-        history.add(entry, 0);
+        add_number(history, n)?;
     }
-    Ok(history)
+    Ok(())
+}
+
+/// Whether an entry with this number in it stands there.
+fn has_number(history: &History, n: u32) -> bool {
+    match history.get(u64::from(n)) {
+        Some(entry) => entry.n == n,
+        None => false,
+    }
 }
 
 /// Each entry stands at its number, and none behind them.
 fn has_numbers<R: Abort>(rt: &R, history: &History, count: u32) {
     for n in 0..count {
-        let found = history.get(u64::from(n));
-        assert!(rt; found.is_some_and(|entry| entry.n == n), "{n} of {count}");
+        assert!(rt; has_number(history, n), "{n} of {count}");
     }
     assert!(rt; history.get(u64::from(count)).is_none());
+}
+
+/// So many entries take so many places, and stand in them.
+fn has_places<R: Abort + AllocGlobal>(rt: &R, count: u32, places: u64) {
+    let mut history = History::open(rt.alloc(), 4096);
+    let is_added = add_numbers(&mut history, count).is_ok();
+    assert!(rt; is_added);
+    let added = u64::from(count);
+    tells(rt, &history, (added, 0, places, added));
+    has_numbers(rt, &history, count);
 }
 
 #[test]
@@ -176,28 +200,27 @@ fn entries_stand_on_both_sides_of_the_border_of_a_page(rt: HostRuntime) -> Resul
         (2048, 2048),
         (2049, 3072),
     ] {
-        let history = numbered(rt.alloc(), count)?;
-        tells(
-            &rt,
-            &history,
-            (u64::from(count), 0, places, u64::from(count)),
-        );
-        has_numbers(&rt, &history, count);
+        has_places(&rt, count, places);
     }
     Ok(())
 }
 
 /// Room for many at once is reserved in whole pages, and what is owed counts.
+fn reserve_pages<R: Abort>(rt: &R, history: &mut History) -> Result<(), Fault> {
+    history.make_room(2500)?;
+    tells(rt, history, (0, 0, 3072, 0));
+    history.add(of(0, Word::Got), 2499);
+    history.make_room(572)?;
+    tells(rt, history, (1, 2499, 3072, 1));
+    history.make_room(573)?;
+    tells(rt, history, (1, 2499, 4096, 1));
+    Ok(())
+}
+
 #[test]
 fn as_many_pages_are_reserved_as_the_entries_take(rt: HostRuntime) -> Result<(), Fail> {
     let mut history = History::open(rt.alloc(), 4_294_967_295);
-    history.make_room(2500)?;
-    tells(&rt, &history, (0, 0, 3072, 0));
-    history.add(of(0, Word::Got), 2499);
-    history.make_room(572)?;
-    tells(&rt, &history, (1, 2499, 3072, 1));
-    history.make_room(573)?;
-    tells(&rt, &history, (1, 2499, 4096, 1));
+    assert!(rt; reserve_pages(&rt, &mut history) == Ok(()));
     Ok(())
 }
 
@@ -210,17 +233,20 @@ fn grows(history: &mut History) -> Result<bool, Fault> {
     Ok(has_grown)
 }
 
+/// How often a list grows for so many entries.
+fn growths(history: &mut History, count: u32) -> Result<u64, Fault> {
+    let mut grown: u64 = 0;
+    for _ in 0..count {
+        grown = grown.saturating_add(u64::from(grows(history)?));
+    }
+    Ok(grown)
+}
+
 /// 100,000 entries that ask for room one by one take 98 pages, each reserved once.
 #[test]
 fn many_entries_reserve_each_page_once(rt: HostRuntime) -> Result<(), Fail> {
     let mut history = History::open(rt.alloc(), 100_000);
-    let mut grown: u64 = 0;
-    for _ in 0..100_000 {
-        if grows(&mut history)? {
-            grown = grown.saturating_add(1);
-        }
-    }
+    assert!(rt; growths(&mut history, 100_000) == Ok(98));
     tells(&rt, &history, (100_000, 0, 100_352, 100_000));
-    assert!(rt; grown == 98, "grown {grown} times");
     Ok(())
 }

@@ -13,13 +13,13 @@ use std::marker::Model;
 use std::process::Abort;
 use std::test::Fail;
 use steps::TextFault;
+use streams::device::Device;
 use streams::memory_sink::MemorySink;
-use streams::memory_source::MemorySource;
 use streams::sink::Sink;
 use streams::source::Source;
 use streams::stream_fault::StreamFault;
 use test_support::examples::situations;
-use test_support::memory::all_memory;
+use test_support::memory::Memory;
 
 /// More places than any answer here takes.
 const AMPLE: usize = 256;
@@ -391,19 +391,28 @@ fn is_good(at: usize, byte: u8) -> bool {
         .any(|(place, bytes)| *place == at && bytes.contains(&byte))
 }
 
+/// Whether the history text is read, and written as it is, with this byte in this place.
+fn is_read_changed(alloc: Global, at: usize, byte: u8) -> Result<bool, Fault> {
+    let mut changed = Vec::from_slice(alloc, CHANGED)?;
+    if let Some(place) = changed.get_mut(at) {
+        *place = byte;
+    }
+    match written_again(alloc, &changed)? {
+        Some(written) if written == changed => Ok(true),
+        Some(_) => Err(Fault::BadAmount),
+        None => Ok(false),
+    }
+}
+
 /// Whatever one of its bytes becomes, a history text is refused, or read and written as it is; and it is read
 /// where the change gives a good text.
 #[test]
 fn a_changed_history_is_refused_or_read_as_it_is(rt: HostRuntime) -> Result<(), Fail> {
     for at in 0..CHANGED.len() {
         for byte in 0..=255u8 {
-            let mut changed = Vec::from_slice(rt.alloc(), CHANGED)?;
-            let is_read = changed[at] == byte || is_good(at, byte);
-            changed[at] = byte;
-            match written_again(rt.alloc(), &changed)? {
-                Some(written) => assert!(rt; is_read && written == changed, "{at} {byte}"),
-                None => assert!(rt; !is_read, "{at} {byte}"),
-            }
+            let is_good = CHANGED[at] == byte || is_good(at, byte);
+            let is_read = is_read_changed(rt.alloc(), at, byte)?;
+            assert!(rt; is_read == is_good, "{at} {byte}");
         }
     }
     Ok(())
@@ -450,9 +459,6 @@ fn an_audit_writes_while_places_are_free(rt: HostRuntime) {
     }
 }
 
-/// More blocks than an audit needs.
-const BLOCKS: usize = 4096;
-
 /// A history of so many seats that tables of them take more than what a text does.
 const WIDE: &[u8] = b"aqs-history 1 lock fair seats 256 conditions 0 cap 64\n\
 0 255 got x 1\n\
@@ -463,61 +469,36 @@ entries 1\n\
 calls 1\n\
 holds x 1 s 0 line 0 sleepers 0\n";
 
-fn wide_source(alloc: Global) -> Result<MemorySource, AllocError> {
-    let bytes = Vec::from_slice(alloc, WIDE)?;
-    Ok(MemorySource::new(bytes, 64, None))
+/// Whether an audit finds memory, and is answered; if not, it lacks memory and writes nothing.
+fn finds_memory<R: Abort + AllocGlobal>(rt: &R, written: &mut Vec<u8>) -> bool {
+    let verdict = audit_stream(
+        rt.alloc(),
+        &mut Device::new(WIDE),
+        &mut Device::new(&mut *written),
+    );
+    let lacks_memory = verdict == Err(StreamFault::Memory) && written.is_empty();
+    let is_answered = verdict == Ok(Verdict::Legal) && written.as_slice() == WIDE_ANSWER;
+    assert!(rt; lacks_memory || is_answered);
+    is_answered
 }
 
-/// A source for each audit, which are there before memory is taken.
-fn wide_sources(alloc: Global) -> Result<Vec<MemorySource>, AllocError> {
-    let mut sources = Vec::with_capacity(alloc, BLOCKS)?;
-    for _ in 0..BLOCKS {
-        sources.push(wide_source(alloc)?)?;
-    }
-    Ok(sources)
-}
-
-/// Whether an audit lacks memory, and then writes nothing; else it is answered.
-fn lacks_memory<R: Abort + AllocGlobal>(
-    rt: &R,
-    source: MemorySource,
-    sink: &mut MemorySink,
-) -> bool {
-    let mut source = source;
-    assert!(rt; !source.has_failed() && !sink.has_failed());
-    let verdict = audit_stream(rt.alloc(), &mut source, sink);
-    if verdict == Err(StreamFault::Memory) {
-        assert!(rt; sink.bytes().is_empty());
-        return true;
-    }
-    assert!(rt; verdict == Ok(Verdict::Legal) && sink.bytes() == WIDE_ANSWER);
-    false
-}
-
-/// How many audits lack memory where all is taken and comes back block by block.
-fn audits_without_memory<R: Abort + AllocGlobal>(
-    rt: &R,
-    sources: Vec<MemorySource>,
-    sink: &mut MemorySink,
-) -> Result<u64, Fail> {
-    let mut taken = all_memory(rt.alloc(), 64)?;
-    let mut refused: u64 = 0;
-    for source in sources {
-        if !lacks_memory(rt, source, sink) {
+/// How often an audit lacks memory where all is taken and comes back piece by piece.
+fn refusals<R: Abort + AllocGlobal>(rt: &R, written: &mut Vec<u8>) -> Result<usize, Fail> {
+    let mut memory = Memory::take_all(rt.alloc(), 64)?;
+    for refused in 0..4096 {
+        if finds_memory(rt, written) {
             return Ok(refused);
         }
-        refused = refused.saturating_add(1);
-        drop(taken.pop());
+        let _was_left = memory.give_piece();
     }
-    Err(Fail::from("never audited"))
+    Err(Fail::new("never audited"))
 }
 
-/// Nothing is written before there is memory enough.
+/// Nothing is written before there is memory enough: for the window, which takes most, and then for each table.
 #[test]
 fn an_audit_that_lacks_memory_writes_nothing(rt: HostRuntime) -> Result<(), Fail> {
-    let sources = wide_sources(rt.alloc())?;
-    let mut sink = MemorySink::with_places(rt.alloc(), AMPLE, 64, None)?;
-    let refused = audits_without_memory(&rt, sources, &mut sink)?;
-    assert!(rt; 2 < refused);
+    let mut written = Vec::with_capacity(rt.alloc(), AMPLE)?;
+    let refused = refusals(&rt, &mut written)?;
+    assert!(rt; 820 <= refused, "refused {refused} times");
     Ok(())
 }

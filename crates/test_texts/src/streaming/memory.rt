@@ -1,7 +1,7 @@
 //! Memory that is refused.
 //!
-//! A test takes all memory first, so that the next request is refused for true, and lets it go block by
-//! block: one request after the other is refused then, until all are met.
+//! A test takes all memory first, a part of it as small pieces side by side, and lets these go one by one: one
+//! request after the other is refused for true then, until all are met.
 
 ghost use Rattle.std.specs.Prelude.{◌≡◌, [], IfOk};
 ghost use Rattle.history.specs.Header.{IsInRange};
@@ -24,7 +24,7 @@ use std::process::Abort;
 use std::test::Fail;
 use streams::device::Device;
 use streams::stream_fault::StreamFault;
-use test_support::memory::all_memory;
+use test_support::memory::Memory;
 
 /// What is written for a text.
 fn answer_to(alloc: Global, text: &[u8], form: Form) -> Result<Vec<u8>, Fail> {
@@ -55,19 +55,22 @@ fn finds_memory<R: Abort + AllocGlobal>(
     answer.is_ok()
 }
 
-/// Has a text answered with no memory left, and then with a block more each time.
+/// Each request takes a piece of this size or more.
+const PIECE: usize = 256;
+
+/// Has a text answered with no memory left, and then with a piece more each time.
 ///
 /// How often memory was refused.
 fn refusals<R: Abort + AllocGlobal>(rt: &R, text: &[u8], form: Form) -> Result<usize, Fail> {
     let expected = answer_to(rt.alloc(), text, form)?;
     let mut written = Vec::with_capacity(rt.alloc(), expected.len())?;
-    let mut taken = all_memory(rt.alloc(), 16)?;
-    for refused in 0..65_536 {
+    let mut memory = Memory::take_all(rt.alloc(), PIECE)?;
+    for refused in 0..4096 {
         if finds_memory(rt, text, form, &mut written) {
             assert!(rt; written == expected);
             return Ok(refused);
         }
-        drop(taken.pop());
+        let _was_left = memory.give_piece();
     }
     Err(Fail::new("memory was refused to the end"))
 }
@@ -85,7 +88,7 @@ fn each_request_for_memory_is_refused(rt: HostRuntime) -> Result<(), Fail> {
     for text in TEXTS {
         for form in [Form::Replay, Form::History] {
             let refused = refusals(&rt, text, form)?;
-            assert!(rt; 1 <= refused);
+            assert!(rt; 240 <= refused, "refused {refused} times");
         }
     }
     Ok(())
@@ -104,7 +107,7 @@ fn a_growth_of_the_history_is_refused(rt: HostRuntime) -> Result<(), Fail> {
     text.push_str("end 20000\n")?;
     for form in [Form::Replay, Form::History] {
         let refused = refusals(&rt, text.as_bytes(), form)?;
-        assert!(rt; 1 <= refused);
+        assert!(rt; 1100 <= refused, "refused {refused} times");
     }
     Ok(())
 }

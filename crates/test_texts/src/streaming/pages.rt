@@ -3,7 +3,9 @@
 use crate::streaming::audits::{is_legal, legal, written_again};
 use crate::streaming::streamed::streamed;
 use driver::form::Form;
+use history::fault::Fault;
 use std::alloc::{AllocError, Global};
+use std::process::Abort;
 use std::test::Fail;
 
 /// More places than any answer here takes.
@@ -35,30 +37,51 @@ fn history_of_pairs(alloc: Global, pairs: u64) -> Result<String, AllocError> {
     Ok(text)
 }
 
+/// Whether the steps of so many pairs are answered by this history.
+fn is_answered<R: Abort + AllocGlobal>(
+    rt: &R,
+    pairs: u64,
+    history: &str,
+) -> Result<bool, AllocError> {
+    let steps = steps_of_pairs(rt.alloc(), pairs)?;
+    let steps = steps.as_bytes();
+    let outcome = streamed(rt, steps, Form::History, 4096, (None, None), AMPLE);
+    Ok(outcome.is_answered(history.as_bytes()))
+}
+
+/// Whether a history of so many entries is legal, and nobody holds or waits in the end.
+fn is_legal_and_free<R: Abort + AllocGlobal>(
+    rt: &R,
+    history: &str,
+    entries: u64,
+) -> Result<bool, AllocError> {
+    let totals = "holds x 0 s 0 line 0 sleepers 0";
+    let expected = legal(rt.alloc(), entries, entries, totals)?;
+    Ok(is_legal(rt, history, 64, &expected))
+}
+
+/// Whether a history is read and written as it is.
+fn is_written_again(alloc: Global, history: &str) -> Result<bool, Fault> {
+    match written_again(alloc, history.as_bytes())? {
+        Some(written) => Ok(written.as_slice() == history.as_bytes()),
+        None => Ok(false),
+    }
+}
+
 #[test]
 fn a_history_that_ends_at_the_border_of_a_page_is_whole(rt: HostRuntime) -> Result<(), Fail> {
     for (pairs, entries) in [(511, 1022), (512, 1024), (513, 1026)] {
-        let steps = steps_of_pairs(rt.alloc(), pairs)?;
-        let text = history_of_pairs(rt.alloc(), pairs)?;
-        let outcome = streamed(
-            &rt,
-            steps.as_bytes(),
-            Form::History,
-            4096,
-            (None, None),
-            AMPLE,
-        );
-        assert!(rt; outcome.is_answered(text.as_bytes()), "{pairs} pairs");
-        let totals = legal(
-            rt.alloc(),
-            entries,
-            entries,
-            "holds x 0 s 0 line 0 sleepers 0",
-        )?;
-        assert!(rt; is_legal(&rt, &text, 64, &totals), "{pairs} pairs");
-        let written = written_again(rt.alloc(), text.as_bytes())?;
+        let history = history_of_pairs(rt.alloc(), pairs)?;
         assert!(rt;
-            written.is_some_and(|bytes| bytes.as_slice() == text.as_bytes()),
+            is_answered(&rt, pairs, &history) == Ok(true),
+            "{pairs} pairs"
+        );
+        assert!(rt;
+            is_legal_and_free(&rt, &history, entries) == Ok(true),
+            "{pairs} pairs"
+        );
+        assert!(rt;
+            is_written_again(rt.alloc(), &history) == Ok(true),
             "{pairs} pairs"
         );
     }
