@@ -1,4 +1,4 @@
-//! Tests of the front types of a monitor, called by one thread and by two.
+//! Tests of the front types of a monitor, called by one thread and by two, and storms: many calls by chance.
 #![tactic(auto)]
 
 #[cfg(test)]
@@ -13,5 +13,7 @@ mod one_thread;
 mod read_write_locks;
 #[cfg(test)]
 mod semaphores;
+#[cfg(test)]
+mod storms;
 #[cfg(test)]
 mod two_threads;

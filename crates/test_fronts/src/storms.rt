@@ -1,0 +1,9 @@
+//! Storms: some thousand calls by chance at one monitor, the same from the same seed. Each ends though nobody
+//! else does anything.
+
+mod calls;
+mod chance;
+mod choice;
+mod scripts;
+mod steps;
+mod threads;
