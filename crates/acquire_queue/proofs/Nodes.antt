@@ -1,6 +1,6 @@
 -- What joining and leaving make of the nodes and of the table beside them.
-use Rattle.std.proofs.Common.{◌≡◌, ◌≢◌, ◌⊎◌, ⊎_elim, inl, inr, ℕ, ◌+◌, ◌<◌, ◌≤◌, ◌^◌, Bool, true, false, not, cond, eqb, zero, suc, List, [], ◌∷◌, ◌++◌, length, map, filter, drop, get_or, set, Option, Some, None, IsSome, OnSome, is_some, slice_get, leb, ◌||◌, ◌-◌, add-one, refl, ap, ◌∙◌, sym, subst, arith}
-use Rattle.std.proofs.lemmas.Bool.{cases_eq, cases_lt, eq-eqb, ne_eqb, eqb-true, cond-true, cond-false, le-leb, lt-leb, lt-ltb, le-ltb}
+use Rattle.std.proofs.Common.{◌≡◌, ◌≢◌, ◌⊎◌, inl, inr, ℕ, ◌+◌, ◌<◌, ◌≤◌, Bool, true, false, not, cond, eqb, zero, suc, List, [], ◌∷◌, ◌++◌, length, filter, drop, get_or, set, Option, Some, None, IsSome, OnSome, is_some, slice_get, leb, ◌||◌, ◌-◌, add-one, refl, ap, ◌∙◌, sym, subst, arith}
+use Rattle.std.proofs.lemmas.Bool.{cases_eq, cases_lt, eq-eqb, ne_eqb, cond-true, cond-false, le-leb, lt-leb, lt-ltb, le-ltb}
 use Rattle.std.proofs.Math.Dec.{leb-zero}
 use Rattle.std.specs.List.{position, position_from}
 use Rattle.std.proofs.lemmas.Iterator.Adapters.{position_from-zero}
@@ -13,7 +13,7 @@ use Rattle.node_arena.specs.declared.node.NodeNo.{NodeNo}
 use Rattle.node_arena.specs.declared.node.Standing.{Standing}
 use Rattle.node_arena.specs.NodeList.{Nodes, is_at, at_place, under, of_number, without_place, cancelled, cancel_at, StandApart}
 use Rattle.acquire_queue.specs.Line.{StandOnce, is_live, live, number_of, trimmed, swept, LiveHead, left_by, standing_behind, IsKept}
-use Rattle.acquire_queue.proofs.Lines.{eqb_swap, place_of-push_other, place_of-push_same, once-push, place_of-left, once-left, left_absent, length-left, length-few}
+use Rattle.acquire_queue.proofs.Lines.{eqb_swap, place_of-push_other, once-push, once-left, left_absent, length-left, length-few}
 
 -- a node that isn't cancelled, and what it asks for
 pub live_by : (x : Standing) (rest : List Standing) → x.node.cancelled ≡ false →
@@ -27,11 +27,11 @@ number_by : (i : ℕ) (x : Standing) (rest : List Standing) → x.node.cancelled
     number_of i (x ∷ rest) ≡ cond (eqb x.node.arrival.seat i) (Some x.number) (number_of i rest)
 number_by i x rest e = rw e refl
 
-number_past : (i : ℕ) (x : Standing) (rest : List Standing) → x.node.cancelled ≡ true →
+pub number_past : (i : ℕ) (x : Standing) (rest : List Standing) → x.node.cancelled ≡ true →
     number_of i (x ∷ rest) ≡ number_of i rest
 number_past i x rest e = rw e refl
 
-either : (b : Bool) → (b ≡ true) ⊎ (b ≡ false)
+pub either : (b : Bool) → (b ≡ true) ⊎ (b ≡ false)
 either true = inl refl
 either false = inr refl
 
@@ -112,7 +112,7 @@ at_place-push q x [] n = cond-false _ _ _ n
 at_place-push q x (y ∷ nodes) n = ap (λ o. cond (is_at q y) (Some y) o) (at_place-push q x nodes n)
 
 -- a place that is neither the first nor behind it
-absent_behind : (q : ℕ) (x : Standing) (rest : List Standing) → at_place q (x ∷ rest) ≡ None →
+pub absent_behind : (q : ℕ) (x : Standing) (rest : List Standing) → at_place q (x ∷ rest) ≡ None →
     (eqb x.number.place q ≡ false) × (at_place q rest ≡ None)
 absent_behind q x rest e = by (eqb x.number.place q) refl e
   where
@@ -309,7 +309,7 @@ found_under i number nodes f =
     ap (of_number number) f.at ∙ cond-true _ _ _ (eq-eqb _ _ (ap (λ (n : NodeNo). n.generation) f.is))
 
 -- a node that isn't cancelled stands in line
-stands_live : (p : ℕ) (x : Standing) (nodes : List Standing) → at_place p nodes ≡ Some x →
+pub stands_live : (p : ℕ) (x : Standing) (nodes : List Standing) → at_place p nodes ≡ Some x →
     x.node.cancelled ≡ false → is_some (place_of x.node.arrival.seat (live nodes)) ≡ true
 stands_live p x [] e stays = absurd (none-some x e)
 stands_live p x (y ∷ rest) e stays =

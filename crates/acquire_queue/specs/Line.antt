@@ -1,10 +1,10 @@
 -- The line as contracts see it, and how the fields of a queue hold it.
-use Rattle.std.specs.Prelude.{◌≡◌, ℕ, ◌+◌, ◌<◌, ◌≤◌, ◌^◌, ◌==◌, Bool, true, false, not, ◌&&◌, if◌then◌else◌, List, [], ◌∷◌, length, filter, slice_index_or, Option, Some, None, nat_lt}
+use Rattle.std.specs.Prelude.{◌≡◌, ℕ, ◌+◌, ◌<◌, ◌≤◌, ◌^◌, ◌==◌, Bool, false, not, ◌&&◌, if◌then◌else◌, List, [], ◌∷◌, length, filter, slice_get, slice_index_or, Option, Some, None, nat_lt}
 use Rattle.history.specs.declared.arrival.Arrival.{Arrival}
 use Rattle.history.specs.Line.{place_of}
 use Rattle.node_arena.specs.declared.node.NodeNo.{NodeNo}
 use Rattle.node_arena.specs.declared.node.Standing.{Standing}
-use Rattle.node_arena.specs.NodeList.{Nodes, StandApart, cancel_at}
+use Rattle.node_arena.specs.NodeList.{Nodes, StandApart, cancel_at, standing_before}
 
 -- Who stands in line, the longest waiter first, how many seats there are, how often anybody joined, and the
 -- nodes that stand, those of seats that left among them.
@@ -44,6 +44,22 @@ trimmed (x ∷ rest) = if x.node.cancelled then trimmed rest else x ∷ rest
 abbrev pub swept : List Standing → List Standing
 swept = filter is_live
 
+-- whether the first that waits is of a seat
+abbrev pub is_first : ℕ → List Arrival → Bool
+is_first i [] = false
+is_first i (a ∷ rest) = a.seat == i
+
+-- the nodes without the cancelled ones right before the node of a seat that waits
+abbrev pub tidied : ℕ → List Standing → List Standing
+tidied i [] = []
+tidied i (x ∷ rest) = if x.node.cancelled && is_first i (live rest) then tidied i rest else x ∷ tidied i rest
+
+-- what stands right before the node of a seat that waits isn't cancelled
+abbrev pub IsTidy : ℕ → List Standing → Type 0
+IsTidy i nodes = (k : ℕ) (before x : Standing) → standing_before nodes k ≡ Some before →
+    slice_get nodes k ≡ Some x →
+    x.node.cancelled ≡ false → x.node.arrival.seat ≡ i → before.node.cancelled ≡ false
+
 -- the first node isn't cancelled
 abbrev pub LiveHead : List Standing → Type 0
 LiveHead [] = Unit {0}
@@ -55,8 +71,8 @@ left_by number [] = []
 left_by number (x ∷ rest) =
     if x.number.place == number.place then trimmed rest else cancel_at number.place (x ∷ rest)
 
--- How many nodes stand once a seat leaves from between others: as many as before, or those who wait alone, where
--- more than `seats` cancelled ones would stand.
+-- How many nodes stand once a seat leaves from between others: as many as before, or those who wait alone,
+-- where more than `seats` cancelled ones would stand.
 abbrev pub standing_behind : ℕ → ℕ → ℕ → ℕ
 standing_behind seats waiting standing = if nat_lt (waiting + seats) standing then waiting else standing
 

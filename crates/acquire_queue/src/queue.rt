@@ -4,8 +4,8 @@ ghost use Rattle.std.specs.Prelude.{◌≡◌, ◌≢◌, ℕ, ◌+◌, ◌^◌,
 ghost use Rattle.std.specs.Bool.{OnFalse};
 ghost use Rattle.history.specs.Line.{first_of, place_of};
 ghost use Rattle.history.specs.declared.arrival.Arrival.{Arrival};
-ghost use Rattle.acquire_queue.specs.Line.{StandOnce, live, number_of, left_by, standing_behind, trimmed, swept};
-ghost use Rattle.node_arena.specs.NodeList.{under};
+ghost use Rattle.acquire_queue.specs.Line.{StandOnce, live, number_of, left_by, standing_behind, trimmed, swept, tidied, IsTidy};
+ghost use Rattle.node_arena.specs.NodeList.{under, StandApart};
 
 use history::arrival::Arrival;
 use history::fault::Fault;
@@ -17,8 +17,8 @@ use std::marker::Model;
 /// The line of an object: one place at most for each of its seats, the longest waiter first.
 ///
 /// A seat that leaves from between others leaves its node behind, marked as cancelled, so nobody has to be
-/// looked for and nothing is moved. A cancelled node is freed once it comes to the head, and all of them as
-/// soon as more stand than there are seats.
+/// looked for and nothing is moved. A cancelled node is freed once it comes to the head, or once the next seat
+/// that waits looks. All of them are freed as soon as more stand than there are seats.
 #[derive(Drop)]
 pub struct Queue {
     seats: u16,
@@ -188,6 +188,24 @@ impl Queue {
         free_cancelled(&mut self.nodes);
     }
 
+    /// Frees the nodes of those who left right before a seat that waits. The line is as it was.
+    pub fn tidy_before(&mut self, seat: u16)
+        ensures nodes { self.new.nodes ≡ tidied seat self.old.nodes }
+        ensures tidy { IsTidy seat self.new.nodes }
+
+        // Nothing changes if none left right before it, or if the seat doesn't wait.
+        ensures kept { IsTidy seat self.old.nodes → self.new ≡ self.old }
+        ensures absent { place_of seat self.old.arrivals ≡ None → self.new ≡ self.old }
+        ensures number { number_of seat self.new.nodes ≡ number_of seat self.old.nodes }
+        ensures line { self.new.arrivals ≡ self.old.arrivals }
+        ensures joined { self.new.joined ≡ self.old.joined }
+        ensures seats { self.new.seats ≡ self.old.seats }
+    {
+        if let Some(number) = self.number_of(seat) {
+            free_before(&mut self.nodes, seat, number);
+        }
+    }
+
     /// How many nodes stand, those of seats that left among them.
     pub fn standing(&self) -> u16
         requires { self.now.seats < 2 ^ 15 }
@@ -227,6 +245,23 @@ fn free_head(nodes: &mut NodeList)
             break;
         }
         nodes.remove(first.number);
+    }
+}
+
+/// Frees the cancelled nodes right before the node of a seat that waits.
+fn free_before(nodes: &mut NodeList, seat: u16, number: NodeNo)
+    requires number { number_of seat nodes.old.nodes ≡ Some number }
+    requires once { StandOnce (live nodes.old.nodes) }
+    requires apart { StandApart nodes.old.nodes }
+    ensures nodes { nodes.new.nodes ≡ tidied seat nodes.old.nodes }
+    ensures placed { nodes.new.placed ≡ nodes.old.placed }
+    ensures places { nodes.new.places ≡ nodes.old.places }
+{
+    while let Some(before) = nodes.before(number) {
+        if !before.node.cancelled {
+            return;
+        }
+        nodes.remove(before.number);
     }
 }
 

@@ -1,5 +1,4 @@
-use Rattle.std.proofs.Common.{◌≡◌, ℕ, length}
-use Rattle.acquire_queue.specs.Line.{swept}
+use Rattle.std.proofs.Common.{◌≡◌}
 use Rattle.acquire_queue.proofs.Nodes.{swept_below}
 use Rattle.acquire_queue.proofs.queue.free_cancelled.Given as goal
 

@@ -1,4 +1,4 @@
-use Rattle.std.proofs.Common.{◌≡◌, Some, drop, true, sym, ap, ◌∙◌, arith, length}
+use Rattle.std.proofs.Common.{◌≡◌, Some, drop, ap, ◌∙◌, arith, length}
 use Rattle.acquire_queue.specs.Line.{trimmed}
 use Rattle.acquire_queue.proofs.Nodes.{first_under, first_without, trimmed_past, shorter_past, trimmed_by, trimmed_none, unnot_true, unnot_false}
 use Rattle.acquire_queue.proofs.queue.free_head.Goals as goal

@@ -1,5 +1,4 @@
-use Rattle.std.proofs.Common.{◌≡◌, ℕ, length}
-use Rattle.node_arena.specs.NodeList.{StandApart}
+use Rattle.std.proofs.Common.{◌≡◌, length}
 use Rattle.acquire_queue.specs.Line.{trimmed}
 use Rattle.acquire_queue.proofs.queue.free_head.Given as goal
 

@@ -1,5 +1,4 @@
-use Rattle.std.proofs.Common.{◌≡◌, Some, drop, sym, ap, ◌∙◌}
-use Rattle.node_arena.specs.declared.node.Standing.{Standing}
+use Rattle.std.proofs.Common.{sym, ap, ◌∙◌}
 use Rattle.node_arena.specs.NodeList.{without_place}
 use Rattle.acquire_queue.specs.Line.{trimmed}
 use Rattle.acquire_queue.proofs.Nodes.{left_first, first_without, some_removed}

@@ -1,4 +1,4 @@
-use Rattle.std.proofs.Common.{◌≡◌, ◌+◌, ◌<◌, Some, refl, sym, ap, ◌∙◌, arith, IsSome, subst}
+use Rattle.std.proofs.Common.{refl, sym, ◌∙◌, arith, IsSome, subst}
 use Rattle.acquire_queue.proofs.Nodes.{at_index, at_found, unnot_true, unnot_false, live_one, live_none, walk_found, walk_live, walk_past, walk_end}
 use Rattle.acquire_queue.proofs.queue.place_in.Goals as goal
 use Rattle.acquire_queue.proofs.queue.place_in.Goals.{then-not-standing+else-standing-seat, else-not-standing}

@@ -1,4 +1,4 @@
-use Rattle.std.proofs.Common.{◌≡◌, ◌+◌, ◌≤◌, ℕ, length, drop, slice_get, eqb}
+use Rattle.std.proofs.Common.{◌≡◌, ◌+◌, length, drop, slice_get, eqb}
 use Rattle.std.specs.List.{position_from}
 use Rattle.acquire_queue.specs.Line.{live}
 use Rattle.acquire_queue.proofs.queue.place_in.Given as goal

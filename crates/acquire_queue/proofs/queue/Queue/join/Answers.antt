@@ -1,6 +1,4 @@
-use Rattle.std.proofs.Common.{◌≡◌, ◌<◌, None, false, refl, ap, ◌∙◌, arith}
-use Rattle.history.specs.Line.{place_of}
-use Rattle.acquire_queue.specs.Line.{Line, live}
+use Rattle.std.proofs.Common.{false, refl, arith}
 use Rattle.acquire_queue.proofs.Nodes.{room, place_free, kept_joined, live-push}
 use Rattle.acquire_queue.proofs.queue.Queue.join.Goals as goal
 

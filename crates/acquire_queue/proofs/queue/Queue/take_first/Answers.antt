@@ -1,4 +1,4 @@
-use Rattle.std.proofs.Common.{◌≡◌, ◌-◌, Some, drop, sym, ap, ◌∙◌, refl, arith, subst, IsSome}
+use Rattle.std.proofs.Common.{◌≡◌, drop, sym, ap, ◌∙◌, refl, arith, subst, IsSome}
 use Rattle.acquire_queue.specs.Line.{trimmed}
 use Rattle.acquire_queue.proofs.Nodes.{first_under, first_without, some_removed, first_seat, left_at_head, kept_taken, line_taken}
 use Rattle.acquire_queue.proofs.queue.Queue.take_first.Goals as goal
