@@ -57,6 +57,13 @@ impl<H: Hooks + Drop> Core<H> {
         Ok(Answer::Recorded(entry, named(before, after, entry.seat)))
     }
 
+    /// A seat waits on. If it stands in line, the nodes of those who left right before it are freed.
+    fn wait_on(&mut self, seat: u16)
+        ensures { self.new ≡ self.old }
+    {
+        self.queue.tidy_before(seat);
+    }
+
     /// One step of a seat.
     ///
     /// - `Recorded`: the one entry that the step makes, and whom it names. The first five faults come so.
@@ -86,7 +93,10 @@ impl<H: Hooks + Drop> Core<H> {
         let _header = &self.header;
         match self.decide(seat, step) {
             Err(fault) => Err(fault),
-            Ok(None) => Ok(Answer::Sleep),
+            Ok(None) => {
+                self.wait_on(seat);
+                Ok(Answer::Sleep)
+            }
             // A copy for each of the commonest words: in each the word is known, and what it leaves as it was
             // isn't asked.
             Ok(Some(entry)) => match entry.word {
