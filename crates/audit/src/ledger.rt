@@ -27,7 +27,7 @@ use std::alloc::Global;
 const MAX_HOLDS: u64 = 2_147_483_647;
 
 /// The most write holds of a read-write lock, and the most read holds of all seats together.
-const MAX_SHARED: u64 = 65_535;
+const MAX_READ_WRITE_HOLDS: u64 = 65_535;
 
 /// What a front of a legal history says: who holds what, who waits and who sleeps, the numbers of permits,
 /// and how many calls ended.
@@ -117,13 +117,13 @@ impl Ledger {
             }
             (Object::ReadWrite(_), Mode::X) => {
                 if self.owns(seat) {
-                    self.holds.exclusive[seat as usize] < MAX_SHARED
+                    self.holds.exclusive[seat as usize] < MAX_READ_WRITE_HOLDS
                 } else {
                     self.is_free_for(seat) && self.holds.readers == 0
                 }
             }
             (Object::ReadWrite(_), Mode::S) => self.is_free_for(seat)
-                && self.holds.readers < MAX_SHARED,
+                && self.holds.readers < MAX_READ_WRITE_HOLDS,
             (Object::Semaphore(_, _permits), Mode::S) => self.permits.free >= i128::from(n),
             (Object::Latch(count), Mode::S) => u64::from(count) <= self.permits.counted,
             _ => false,
@@ -138,9 +138,10 @@ impl Ledger {
     {
         match (self.header.object, mode) {
             (Object::Lock(_), Mode::X) => self.holds.exclusive[seat as usize] == MAX_HOLDS,
-            (Object::ReadWrite(_), Mode::X) => self.holds.exclusive[seat as usize] == MAX_SHARED,
+            (Object::ReadWrite(_), Mode::X) => self.holds.exclusive[seat as usize]
+                == MAX_READ_WRITE_HOLDS,
             (Object::ReadWrite(_), Mode::S) => self.is_free_for(seat)
-                && self.holds.readers == MAX_SHARED,
+                && self.holds.readers == MAX_READ_WRITE_HOLDS,
             _ => false,
         }
     }

@@ -14,7 +14,7 @@ use history::header::{Object, Policy};
 use std::alloc::Global;
 
 /// The greatest number of write holds, and of read holds of all seats together.
-const MAX_HOLDS: u16 = 65_535;
+const MAX_READ_WRITE_HOLDS: u16 = 65_535;
 
 /// The hooks of a read-write lock: as in ReentrantReadWriteLock, the owner's write holds, each seat's read
 /// holds, and the read holds of all. An owner may read too, and so give up writing for reading.
@@ -94,7 +94,7 @@ impl RwHooks {
         ensures { result ≡ could_by self.now.owner self.now.writes self.now.readers who X }
     {
         if self.owns(who) {
-            self.writes < MAX_HOLDS
+            self.writes < MAX_READ_WRITE_HOLDS
         } else {
             self.admits(who) && self.readers == 0
         }
@@ -103,21 +103,21 @@ impl RwHooks {
     fn could_read(&self, who: u16) -> bool
         ensures { result ≡ could_by self.now.owner self.now.writes self.now.readers who S }
     {
-        self.admits(who) && self.readers < MAX_HOLDS
+        self.admits(who) && self.readers < MAX_READ_WRITE_HOLDS
     }
 
     /// Whether nobody but the reader could read on: no read hold is left, or it writes too.
     fn is_last_read(&self, who: u16) -> bool
         ensures { result ≡ ((self.now.readers == max_shared) || is_seat self.now.owner who) }
     {
-        self.readers == MAX_HOLDS || self.owns(who)
+        self.readers == MAX_READ_WRITE_HOLDS || self.owns(who)
     }
 
     /// Whether a read hold less lets somebody write, or read again.
     fn opens_by_read(&self) -> bool
         ensures { result ≡ ((self.now.readers == 1) || (self.now.readers == max_shared)) }
     {
-        self.readers == 1 || self.readers == MAX_HOLDS
+        self.readers == 1 || self.readers == MAX_READ_WRITE_HOLDS
     }
 
     /// A reader that asks to write isn't reentrant.
@@ -171,8 +171,8 @@ impl Hooks for RwHooks {
 
     fn at_limit(&self, who: u16, mode: Mode) -> bool {
         match mode {
-            Mode::X => self.holds(who, Mode::X) == MAX_HOLDS,
-            Mode::S => self.admits(who) && self.readers == MAX_HOLDS,
+            Mode::X => self.holds(who, Mode::X) == MAX_READ_WRITE_HOLDS,
+            Mode::S => self.admits(who) && self.readers == MAX_READ_WRITE_HOLDS,
         }
     }
 
