@@ -1,0 +1,50 @@
+-- What a report says of each object.
+use Rattle.std.proofs.Common.{◌≡◌, List, [], ◌∷◌, length, map, suc, refl, ap, sym, subst, arith, ◌∙◌}
+use Rattle.std.specs.List.{All}
+use Rattle.std.proofs.lemmas.List.{length-map}
+use Rattle.std.proofs.lemmas.List.Elements.{All-nil, All-cons, All-head, All-tail}
+use Rattle.audit.specs.Totals.{totals_of}
+use Rattle.audit.specs.Verdict.{IsJudgement}
+use Rattle.audit.specs.declared.verdict.Judgement.TheVariants.{Legal}
+use Rattle.history.specs.declared.header.Header.{Header}
+use Rattle.history.specs.Start.{opening}
+use Rattle.monitor.specs.Shown.{Shown}
+use Rattle.script.specs.Script.{ScriptView}
+use Rattle.word_lock.specs.Ticket.{LockId}
+use Rattle.workers.specs.declared.report.ObjectReport.{ObjectReport}
+use Rattle.workers.specs.declared.report.Report.{Report}
+use Rattle.workers.specs.Reports.{AreParts, IsPart, IsReport, IsSound, header_of}
+use Rattle.run_text.specs.RunText.{IsJudged}
+
+part_judged : (lock : LockId) (passes : List Shown) (part : ObjectReport) → IsPart lock passes part →
+    IsSound part → IsJudged part
+part_judged lock passes part is sound =
+    let judged = subst (λ (k : Header). part.judgement ≡ Legal (totals_of (opening k) part.history.entries)) (sym is.header) is.judged in
+    (sound.0, sound.1, subst (IsJudgement part.header part.history.entries) (sym judged) (sound.1, refl))
+
+-- each part's judgement is the audit's
+pub parts_judged : (locks : List LockId) (columns : List (List Shown)) (parts : List ObjectReport) →
+    AreParts locks columns parts → All IsSound parts → All IsJudged parts
+parts_judged [] [] [] are sound = All-nil IsJudged
+parts_judged [] [] (part ∷ parts) are sound = absurd are
+parts_judged [] (column ∷ columns) parts are sound = absurd are
+parts_judged (lock ∷ locks) [] parts are sound = absurd are
+parts_judged (lock ∷ locks) (column ∷ columns) [] are sound = absurd are
+parts_judged (lock ∷ locks) (column ∷ columns) (part ∷ parts) are sound =
+    All-cons IsJudged part parts (part_judged lock column part are.0 (All-head IsSound part parts sound))
+    (parts_judged locks columns parts are.1 (All-tail IsSound part parts sound))
+
+parts_count : (locks : List LockId) (columns : List (List Shown)) (parts : List ObjectReport) →
+    AreParts locks columns parts → length parts ≡ length locks
+parts_count [] [] [] are = refl
+parts_count [] [] (part ∷ parts) are = absurd are
+parts_count [] (column ∷ columns) parts are = absurd are
+parts_count (lock ∷ locks) [] parts are = absurd are
+parts_count (lock ∷ locks) (column ∷ columns) [] are = absurd are
+parts_count (lock ∷ locks) (column ∷ columns) (part ∷ parts) are = ap suc (parts_count locks columns parts are.1)
+
+-- each part has a name
+pub parts_named : (s : ScriptView) (r : Report) → IsReport s r → length r.objects.items ≡ length s.objects
+parts_named s r is =
+    parts_count is.locks _ r.objects.items is.parts ∙ sym (length-map is.locks header_of)
+    ∙ ap length is.headers ∙ length-map s.objects (λ o. o.1)
