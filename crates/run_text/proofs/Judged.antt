@@ -1,5 +1,5 @@
 -- What a report says of each object.
-use Rattle.std.proofs.Common.{◌≡◌, List, [], ◌∷◌, length, map, suc, refl, ap, sym, subst, arith, ◌∙◌}
+use Rattle.std.proofs.Common.{◌≡◌, List, [], ◌∷◌, length, map, suc, true, refl, ap, sym, subst, arith, ◌∙◌}
 use Rattle.std.specs.List.{All}
 use Rattle.std.proofs.lemmas.List.{length-map}
 use Rattle.std.proofs.lemmas.List.Elements.{All-nil, All-cons, All-head, All-tail}
@@ -13,7 +13,7 @@ use Rattle.script.specs.Script.{ScriptView}
 use Rattle.word_lock.specs.Ticket.{LockId}
 use Rattle.workers.specs.declared.report.ObjectReport.{ObjectReport}
 use Rattle.workers.specs.declared.report.Report.{Report}
-use Rattle.workers.specs.Reports.{AreParts, IsPart, IsReport, IsSound, header_of}
+use Rattle.workers.specs.Reports.{AreParts, IsPart, IsReport, IsSound, header_of, is_legal}
 use Rattle.run_text.specs.RunText.{IsJudged}
 
 part_judged : (lock : LockId) (passes : List Shown) (part : ObjectReport) → IsPart lock passes part →
@@ -48,3 +48,21 @@ pub parts_named : (s : ScriptView) (r : Report) → IsReport s r → length r.ob
 parts_named s r is =
     parts_count is.locks _ r.objects.items is.parts ∙ sym (length-map is.locks header_of)
     ∙ ap length is.headers ∙ length-map s.objects (λ o. o.1)
+
+abbrev IsLegalPart : ObjectReport → Type 0
+IsLegalPart part = is_legal part.judgement ≡ true
+
+parts_legal : (locks : List LockId) (columns : List (List Shown)) (parts : List ObjectReport) →
+    AreParts locks columns parts → All IsLegalPart parts
+parts_legal [] [] [] are = All-nil IsLegalPart
+parts_legal [] [] (part ∷ parts) are = absurd are
+parts_legal [] (column ∷ columns) parts are = absurd are
+parts_legal (lock ∷ locks) [] parts are = absurd are
+parts_legal (lock ∷ locks) (column ∷ columns) [] are = absurd are
+parts_legal (lock ∷ locks) (column ∷ columns) (part ∷ parts) are =
+    All-cons IsLegalPart part parts (ap is_legal are.0.judged) (parts_legal locks columns parts are.1)
+
+-- each part is judged legal
+pub histories_legal : (s : ScriptView) (r : Report) → IsReport s r →
+    All (λ part. is_legal part.judgement ≡ true) r.objects.items
+histories_legal s r is = parts_legal is.locks _ r.objects.items is.parts

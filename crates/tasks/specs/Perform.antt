@@ -8,7 +8,7 @@ use Rattle.driver.specs.ReplayStream.{Replays, StepsReadOut}
 use Rattle.tasks.specs.declared.task.Task.{Task}
 use Rattle.tasks.specs.declared.task.Task.TheVariants.{Replay, Audit}
 use Rattle.tasks.specs.declared.fault.Fault.{Fault}
-use Rattle.tasks.specs.declared.fault.Fault.TheVariants.{Usage, Memory, Stream}
+use Rattle.tasks.specs.declared.fault.Fault.TheVariants.{Usage, Memory, Stream, Script, Run}
 
 -- a history that isn't legal ends the program with 1
 abbrev pub status_for : Verdict → ℕ
@@ -21,11 +21,15 @@ Performs (Replay form) left old new (Ok status) = (status ≡ 0) × Replays form
 Performs (Replay form) left old new (Err (Stream fault)) = Replays form left old new (Err fault)
 Performs (Replay form) left old new (Err Usage) = ⊥
 Performs (Replay form) left old new (Err Memory) = ⊥
+Performs (Replay form) left old new (Err (Script fault)) = ⊥
+Performs (Replay form) left old new (Err (Run fault)) = ⊥
 Performs Audit left old new (Ok status) =
     (verdict : Verdict) × (status ≡ status_for verdict) × Audits left old new (Ok verdict)
 Performs Audit left old new (Err (Stream fault)) = Audits left old new (Err fault)
 Performs Audit left old new (Err Usage) = ⊥
 Performs Audit left old new (Err Memory) = ⊥
+Performs Audit left old new (Err (Script fault)) = ⊥
+Performs Audit left old new (Err (Run fault)) = ⊥
 
 -- How far a task reads, from what the source had left to what it has left: as its stream does.
 abbrev pub IsReadOutFor : Task → Option (List ℕ) → Result ℕ Fault → Option (List ℕ) → Type 0
@@ -34,3 +38,5 @@ IsReadOutFor (Replay form) text (Err (Stream fault)) left = StepsReadOut text (E
 IsReadOutFor Audit text (Err (Stream fault)) left = HistoryReadOut text (Err fault) left
 IsReadOutFor task text (Err Usage) left = ⊥
 IsReadOutFor task text (Err Memory) left = ⊥
+IsReadOutFor task text (Err (Script fault)) left = ⊥
+IsReadOutFor task text (Err (Run fault)) left = ⊥

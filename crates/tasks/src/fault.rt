@@ -2,10 +2,12 @@
 
 ghost use Rattle.std.specs.Prelude.{◌≡◌};
 ghost use Rattle.tasks.specs.Fault.{status_of};
-ghost use Rattle.tasks.specs.declared.fault.Fault.TheVariants.{Memory, Stream};
+ghost use Rattle.tasks.specs.declared.fault.Fault.TheVariants.{Memory, Run, Script, Stream};
 
+use script::ScriptFault;
 use std::alloc::AllocError;
 use streams::stream_fault::StreamFault;
+use workers::RunFault;
 
 /// A fault, which the program tells in one line.
 #[derive(Clone, Copy, Debug, PartialEq, Eq, thiserror::Error)]
@@ -17,18 +19,25 @@ pub enum Fault {
     Memory,
     #[error("{0}")]
     Stream(StreamFault),
+    #[error("{0}")]
+    Script(ScriptFault),
+    #[error("{0}")]
+    Run(RunFault),
 }
 
 impl Fault {
-    /// The exit status: 2 for the command line, 3 for a text, 4 for a device, 5 for memory.
+    /// The exit status: 2 for the command line, 3 for a text, 4 for a device or a thread, 5 for memory.
     pub fn status(&self) -> u8
         ensures { result ≡ status_of self.now }
     {
         match self {
             Fault::Usage => 2,
-            Fault::Stream(StreamFault::Text(_)) => 3,
-            Fault::Stream(StreamFault::ReadFailed | StreamFault::WriteFailed) => 4,
-            Fault::Stream(StreamFault::Memory) | Fault::Memory => 5,
+            Fault::Stream(StreamFault::Memory)
+            | Fault::Memory
+            | Fault::Script(ScriptFault::OutOfMemory)
+            | Fault::Run(RunFault::Memory) => 5,
+            Fault::Stream(StreamFault::Text(_)) | Fault::Script(_) => 3,
+            Fault::Stream(StreamFault::ReadFailed | StreamFault::WriteFailed) | Fault::Run(_) => 4,
         }
     }
 }
@@ -46,5 +55,21 @@ impl From<StreamFault> for Fault {
 
     fn from(fault: StreamFault) -> Fault {
         Fault::Stream(fault)
+    }
+}
+
+impl From<ScriptFault> for Fault {
+    ghost from_gives = { λ fault e. e ≡ Script fault };
+
+    fn from(fault: ScriptFault) -> Fault {
+        Fault::Script(fault)
+    }
+}
+
+impl From<RunFault> for Fault {
+    ghost from_gives = { λ fault e. e ≡ Run fault };
+
+    fn from(fault: RunFault) -> Fault {
+        Fault::Run(fault)
     }
 }

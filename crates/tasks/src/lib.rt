@@ -4,5 +4,6 @@
 
 pub mod fault;
 pub mod perform;
+pub mod run_script;
 pub mod task;
 pub mod told;

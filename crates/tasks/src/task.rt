@@ -2,7 +2,16 @@
 
 use driver::form::Form;
 
-/// What is done with what is read.
+/// What is done for a command line.
+#[derive(Clone, Copy, Debug, PartialEq, Eq)]
+pub enum Job {
+    /// A text is answered, by one thread.
+    Answer(Task),
+    /// The threads of a script are run.
+    Run,
+}
+
+/// What is done with a text that is read.
 #[derive(Clone, Copy, Debug, PartialEq, Eq)]
 pub enum Task {
     /// A steps text is replayed.

@@ -1,0 +1,2 @@
+pub mod OpenGates
+pub mod Runs

@@ -1,0 +1,66 @@
+-- What the run of a script reads, writes and answers.
+use Rattle.std.specs.Prelude.{◌≡◌, ◌<◌, ℕ, List, Option, Result, Ok, Err, IfSome, length, true}
+use Rattle.std.specs.Io.KnownBytes.{Appends, IsAtEnd, Keeps}
+use Rattle.run_text.specs.RunText.{run_text}
+use Rattle.script.specs.Reading.{IsFault, Reads}
+use Rattle.script.specs.Script.{ScriptView}
+use Rattle.script.specs.declared.fault.ScriptFault.TheVariants.{OutOfMemory}
+use Rattle.streams.specs.declared.stream_fault.StreamFault.TheVariants.{Text, ReadFailed, WriteFailed, Memory as StreamMemory}
+use Rattle.streams.specs.Whole.{AppendsFront}
+use Rattle.tasks.specs.declared.fault.Fault.{Fault}
+use Rattle.tasks.specs.declared.fault.Fault.TheVariants.{Usage, Memory, Stream, Script, Run}
+use Rattle.workers.specs.declared.fault.RunFault.TheVariants.{GateShut, NotStarted, Memory as RunMemory}
+use Rattle.workers.specs.declared.report.ObjectReport.{ObjectReport}
+use Rattle.workers.specs.declared.report.Report.{Report}
+use Rattle.workers.specs.Reports.{IsReport, is_legal}
+
+-- the audit calls the history of an object legal
+abbrev pub EndsWell : ObjectReport → Type 0
+EndsWell part = is_legal part.judgement ≡ true
+
+-- The text is that of a script, a run of it has left this report, and this is written of it.
+pub record IsRun (text : List ℕ) (Written : List ℕ → Type 0) : Type 0 where
+  pub script : ScriptView
+  pub reads : Reads text (Ok script)
+  pub report : Report
+  pub is : IsReport script report
+  pub written : Written (run_text script.objects report.objects.items report.unrecorded)
+
+-- The text is that of a script, which has this worker.
+pub record HasWorker (text : List ℕ) (worker : ℕ) : Type 0 where
+  pub script : ScriptView
+  pub reads : Reads text (Ok script)
+  pub among : worker < length script.workers
+
+-- From the bytes that a source has, and what a sink held before and holds after. No gate shuts.
+abbrev pub Runs : Option (List ℕ) → Option (List ℕ) → Option (List ℕ) → Result ℕ Fault → Type 0
+Runs left old new (Ok status) = (status ≡ 0) × IfSome left (λ text. IsRun text (Appends old new))
+Runs left old new (Err (Stream WriteFailed)) = IfSome left (λ text. IsRun text (AppendsFront old new))
+Runs left old new (Err (Stream ReadFailed)) = Keeps old new
+Runs left old new (Err (Stream StreamMemory)) = Keeps old new
+Runs left old new (Err (Stream (Text fault))) = ⊥
+Runs left old new (Err (Script fault)) = IfSome left (λ text. IsFault text fault) × Keeps old new
+Runs left old new (Err (Run (NotStarted worker))) = IfSome left (λ text. HasWorker text worker) × Keeps old new
+Runs left old new (Err (Run RunMemory)) = Keeps old new
+Runs left old new (Err (Run (GateShut worker))) = ⊥
+Runs left old new (Err Usage) = ⊥
+Runs left old new (Err Memory) = Keeps old new
+
+-- what keeps a script from being read
+abbrev pub IsFaultOfScript : Option (List ℕ) → Fault → Type 0
+IsFaultOfScript left (Script fault) = IfSome left (λ text. IsFault text fault)
+IsFaultOfScript left (Stream ReadFailed) = Unit {0}
+IsFaultOfScript left (Stream StreamMemory) = Unit {0}
+IsFaultOfScript left (Stream WriteFailed) = ⊥
+IsFaultOfScript left (Stream (Text fault)) = ⊥
+IsFaultOfScript left (Run fault) = ⊥
+IsFaultOfScript left Usage = ⊥
+IsFaultOfScript left Memory = ⊥
+
+-- a script was read to its end, unless reading it failed or memory was refused for its text
+abbrev pub IsReadOut : {T : Type 0} → Result T Fault → Option (List ℕ) → Type 0
+IsReadOut (Ok done) left = IsAtEnd left
+IsReadOut (Err (Stream WriteFailed)) left = IsAtEnd left
+IsReadOut (Err (Script fault)) left = IsAtEnd left
+IsReadOut (Err (Run fault)) left = IsAtEnd left
+IsReadOut (Err fault) left = Unit {0}
