@@ -2,17 +2,21 @@
 """Runs every example through the program: checks/examples.py PROGRAM [FOLDER].
 
 Each pair NAME.steps and NAME.answers is replayed, and each pair NAME.history and NAME.answers audited, from the
-file, and one of each kind from standard input too. A file NAME.script has no answers: what its threads do depends
-on their schedule. Then faults of each kind are tried. Compared are the exit status, standard output and standard
-error. The last line is 'N passed, M failed', and the status is 0 only if nothing failed and something passed.
+file, and one of each kind from standard input too. Each NAME.script is run: the lines outside its histories are as
+NAME.answers has them, where * stands for a number that depends on the schedule, and `aqs audit` says the same of
+each history. Then faults of each kind are tried. Compared are the exit status, standard output and standard error.
+The last line is 'N passed, M failed', and the status is 0 only if nothing failed and something passed.
 """
 
 import pathlib
+import re
 import subprocess
 import sys
 import tempfile
 
 SECONDS = 60
+
+INPUTS = (".steps", ".history", ".script")
 
 
 def run(program, words, given=b""):
@@ -36,14 +40,50 @@ def pairs(folder):
 
 
 def unpaired(folder):
-    """Files that are neither an input with its answers, nor answers with their input, nor a script."""
+    """Files that are neither an input with its answers, nor answers with their input."""
     for file in sorted(folder.iterdir()):
-        if file.suffix == ".script":
-            continue
-        read = file.suffix in (".steps", ".history") and file.with_suffix(".answers").exists()
-        told = file.suffix == ".answers" and any(file.with_suffix(s).exists() for s in (".steps", ".history"))
+        read = file.suffix in INPUTS and file.with_suffix(".answers").exists()
+        told = file.suffix == ".answers" and any(file.with_suffix(s).exists() for s in INPUTS)
         if not (read or told):
             yield file
+
+
+def parts(text):
+    """The lines of a run text that stand outside its histories, and for each history its text and its audit text."""
+    outside, audits, is_history, is_audit = [], [], False, False
+    for line in text.decode().splitlines(keepends=True):
+        if line.startswith("aqs-history "):
+            audits.append(["", ""])
+            is_history = True
+        is_audit = is_audit and not line.startswith("shares ")
+        if is_history:
+            audits[-1][0] += line
+        else:
+            outside.append(line.rstrip("\n"))
+        if is_audit:
+            audits[-1][1] += line
+        if is_history and line.startswith("end "):
+            is_history, is_audit = False, True
+    return outside, audits
+
+
+def is_told(line, told):
+    """Whether a line is as it was told, where each * stands for a number."""
+    return re.fullmatch(re.escape(told).replace(r"\*", r"-?\d+"), line) is not None
+
+
+def runs(program, folder, scratch):
+    """Each script is run: the lines outside its histories are as told, and each history's audit says the same."""
+    for file in sorted(folder.glob("*.script")):
+        status, text, error = run(program, ["run", file])
+        outside, audits = parts(text)
+        told = file.with_suffix(".answers").read_text().splitlines()
+        good = len(outside) == len(told) and all(map(is_told, outside, told))
+        yield f"run {file.name}", (status, error, good) == (0, b"", True)
+        kept = scratch / "run.history"
+        for number, (history, audit) in enumerate(audits):
+            kept.write_text(history)
+            yield f"run {file.name}, audit of object {number}", run(program, ["audit", kept]) == (0, audit.encode(), b"")
 
 
 def round_trips(program, folder, scratch):
@@ -94,6 +134,13 @@ def long_lines(scratch):
     yield ["audit", scratch / "long_line"], (3, b"", b"aqs: bad header\n")
 
 
+LATCH = b'["a","latch seats 1 count 1 cap 16"]'
+
+
+def script(objects, calls):
+    return b'{"objects":[%s],"threads":[{"repeat":1, "calls":[%s]}]}' % (objects, calls)
+
+
 def faults(scratch):
     header = b"aqs-steps 1 lock fair seats 2 conditions 0 cap 16\n"
     texts = {
@@ -112,6 +159,21 @@ def faults(scratch):
     yield ["replay", scratch / "missing"], (4, b"", b"aqs: read failed\n")
     yield ["audit", scratch / "missing"], (4, b"", b"aqs: read failed\n")
     yield ["replay", scratch], (4, b"", b"aqs: read failed\n")
+    scripts = {
+        "no_json": (b"{", b"not JSON"),
+        "bad_top": (b"{}", b"bad top"),
+        "bad_object": (script(b'["interrupt","latch seats 1 count 1 cap 16"]', b""), b"bad object 0"),
+        "other_seats": (script(b'["a","latch seats 2 count 1 cap 16"]', b""), b"bad object 0"),
+        "bad_thread": (script(LATCH, b"").replace(b"1,", b"1.0,"), b"bad thread 0"),
+        "bad_call": (script(LATCH, b'"a give s 1","b give s 1"'), b"bad call 0 1"),
+        "deep": (b"[" * 100_000 + b"]" * 100_000, b"not JSON"),
+    }
+    for name, (text, fault) in scripts.items():
+        (scratch / name).write_bytes(text)
+        yield ["run", scratch / name], (3, b"", b"aqs: " + fault + b"\n")
+    yield ["run", scratch / "missing"], (4, b"", b"aqs: read failed\n")
+    yield ["run", scratch], (4, b"", b"aqs: read failed\n")
+    yield ["run", "--history"], (2, b"", b"aqs: usage\n")
     yield ["replay", "--unknown"], (2, b"", b"aqs: usage\n")
     yield ["audit", "--history"], (2, b"", b"aqs: usage\n")
     yield ["--help"], (2, b"", b"aqs: usage\n")
@@ -122,6 +184,7 @@ def results(program, folder, scratch):
         yield " ".join(pathlib.Path(w).name for w in map(str, words)), run(program, words) == wanted
     yield from from_input(program, folder)
     yield from round_trips(program, folder, scratch)
+    yield from runs(program, folder, scratch)
     for file in unpaired(folder):
         yield f"{file.name} has its pair", False
 

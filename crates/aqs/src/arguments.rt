@@ -6,12 +6,12 @@ use driver::form::Form;
 use std::alloc::Global;
 use std::convert::AsStr;
 use tasks::fault::Fault;
-use tasks::task::Task;
+use tasks::task::{Job, Task};
 
 /// What a command line asks for.
 #[derive(Debug, Drop)]
 pub struct Asked {
-    pub task: Task,
+    pub job: Job,
     /// The file to read, or none for standard input.
     pub file: Option<String>,
 }
@@ -33,29 +33,30 @@ pub fn arguments<S: AsStr>(alloc: Global, words: &[S]) -> Result<Asked, Fault> {
         .arg(Arg::new(alloc, "file"))?
         .arg(history)?;
     let audit = Command::new(alloc, "audit").arg(Arg::new(alloc, "file"))?;
+    let run = Command::new(alloc, "run").arg(Arg::new(alloc, "file"))?;
     let command = Command::new(alloc, "aqs")
         .subcommand(replay)?
-        .subcommand(audit)?;
+        .subcommand(audit)?
+        .subcommand(run)?;
     let matches = command.try_get_matches_from(words).map_err(fault_of)?;
     let Some((name, asked)) = matches.subcommand() else {
         return Ok(Asked {
-            task: Task::Replay(Form::Replay),
+            job: Job::Answer(Task::Replay(Form::Replay)),
             file: None,
         });
     };
-    let task = if name == "audit" {
-        Task::Audit
-    } else if asked.get_flag("history") {
-        Task::Replay(Form::History)
-    } else {
-        Task::Replay(Form::Replay)
+    let job = match name {
+        "run" => Job::Run,
+        "audit" => Job::Answer(Task::Audit),
+        _ if asked.get_flag("history") => Job::Answer(Task::Replay(Form::History)),
+        _ => Job::Answer(Task::Replay(Form::Replay)),
     };
     match asked.get_str("file") {
-        None => Ok(Asked { task, file: None }),
+        None => Ok(Asked { job, file: None }),
         // Behind `--` the parser lets it through.
         Some(file) if file.starts_with('-') => Err(Fault::Usage),
         Some(file) => Ok(Asked {
-            task,
+            job,
             file: Some(String::from_str(alloc, file)?),
         }),
     }

@@ -1,10 +1,11 @@
-//! The program `aqs`: replays the steps of a synchroniser's seats, and audits histories.
+//! The program `aqs`: replays the steps of a synchroniser's seats, audits histories, and runs threads.
 //!
 //! `aqs replay [FILE]` reads a steps text, from standard input where no file is named, and writes its
 //! replay text to standard output, or with `--history` its history text. `aqs audit [FILE]` reads a history
-//! text and writes its audit text; the status is 1 where the history isn't legal. With no words at all it
-//! replays. A fault is one line on standard error, and nothing has been written then, but for a fault of
-//! writing itself.
+//! text and writes its audit text; the status is 1 where the history isn't legal. `aqs run [FILE]` reads a
+//! script, runs its threads, and writes the history of each of its objects with what the audit says of it. With
+//! no words at all it replays. A fault is one line on standard error, and nothing has been written then, but for
+//! a fault of writing itself.
 #![tactic(auto)]
 
 mod arguments;
@@ -16,25 +17,44 @@ use std::fs::File;
 use std::io::{self, Read, Write};
 use std::process::ExitCode;
 use std::rt::{Env, Files};
+use std::sync::Wait;
+use std::thread::Threads;
+use std::time::Clock;
 use streams::device::Device;
 use streams::stream_fault::StreamFault;
 use tasks::fault::Fault;
 use tasks::perform::perform;
+use tasks::run_script::run_script;
+use tasks::task::Job;
 use tasks::told::told;
 
-/// Does what the words ask for, with a file's text or else with the input.
-fn run<R: Files + AllocGlobal, S: AsStr, I: Read + Drop, O: Write + Drop>(
+/// Does a job with what a reader gives.
+fn finish<R: AllocGlobal + Threads + Wait + Clock + Sync, I: Read + Drop, O: Write + Drop>(
     rt: &R,
-    words: &[S],
+    job: Job,
     input: I,
     output: O,
 ) -> Result<u8, Fault> {
-    let Asked { task, file } = arguments(rt.alloc(), words)?;
+    let mut reader = Device::new(input);
     let mut writer = Device::new(output);
+    match job {
+        Job::Answer(task) => perform(rt.alloc(), &mut reader, &mut writer, task),
+        Job::Run => run_script(rt, &mut reader, &mut writer),
+    }
+}
+
+/// Does what the words ask for, with a file's text or else with the input.
+fn run<
+    R: Files + AllocGlobal + Threads + Wait + Clock + Sync,
+    S: AsStr,
+    I: Read + Drop,
+    O: Write + Drop,
+>(rt: &R, words: &[S], input: I, output: O) -> Result<u8, Fault> {
+    let Asked { job, file } = arguments(rt.alloc(), words)?;
     match file {
-        None => perform(rt.alloc(), &mut Device::new(input), &mut writer, task),
+        None => finish(rt, job, input, output),
         Some(file) => match File::open(rt, file.as_str()) {
-            Ok(file) => perform(rt.alloc(), &mut Device::new(file), &mut writer, task),
+            Ok(file) => finish(rt, job, file, output),
             Err(_) => Err(Fault::Stream(StreamFault::ReadFailed)),
         },
     }

@@ -3,6 +3,7 @@
 use crate::arguments::arguments;
 use crate::run;
 use driver::form::Form;
+use script::ScriptFault;
 use std::cell::RefCell;
 use std::fmt::{Display, Write};
 use std::io;
@@ -10,16 +11,22 @@ use std::test::Fail;
 use steps::TextFault;
 use streams::stream_fault::StreamFault;
 use tasks::fault::Fault;
-use tasks::task::Task;
+use tasks::task::{Job, Task};
 use tasks::told::told;
+use workers::RunFault;
 
 #[test]
 fn asks_for_a_file_or_standard_input(rt: HostRuntime) -> Result<(), Fail> {
-    let plain: [&[&str]; 3] = [&["aqs"], &["aqs", "replay"], &["aqs", "audit"]];
+    let plain: [&[&str]; 4] = [
+        &["aqs"],
+        &["aqs", "replay"],
+        &["aqs", "audit"],
+        &["aqs", "run"],
+    ];
     for words in &plain {
         assert!(rt; arguments(rt.alloc(), words)?.file.is_none());
     }
-    for name in ["replay", "audit"] {
+    for name in ["replay", "audit", "run"] {
         let file = arguments(rt.alloc(), &["aqs", name, "file.txt"])?.file;
         assert!(rt; file.ok_or("no file")?.as_str() == "file.txt");
     }
@@ -30,26 +37,34 @@ fn asks_for_a_file_or_standard_input(rt: HostRuntime) -> Result<(), Fail> {
 
 #[test]
 fn asks_for_a_task(rt: HostRuntime) -> Result<(), Fail> {
-    let asked: [(&[&str], Task); 6] = [
-        (&["aqs"], Task::Replay(Form::Replay)),
-        (&["aqs", "replay", "steps.txt"], Task::Replay(Form::Replay)),
-        (&["aqs", "replay", "--history"], Task::Replay(Form::History)),
+    let asked: [(&[&str], Job); 8] = [
+        (&["aqs"], Job::Answer(Task::Replay(Form::Replay))),
+        (
+            &["aqs", "replay", "steps.txt"],
+            Job::Answer(Task::Replay(Form::Replay)),
+        ),
+        (
+            &["aqs", "replay", "--history"],
+            Job::Answer(Task::Replay(Form::History)),
+        ),
         (
             &["aqs", "replay", "steps.txt", "--history"],
-            Task::Replay(Form::History),
+            Job::Answer(Task::Replay(Form::History)),
         ),
-        (&["aqs", "audit"], Task::Audit),
-        (&["aqs", "audit", "history.txt"], Task::Audit),
+        (&["aqs", "audit"], Job::Answer(Task::Audit)),
+        (&["aqs", "audit", "history.txt"], Job::Answer(Task::Audit)),
+        (&["aqs", "run"], Job::Run),
+        (&["aqs", "run", "threads.script"], Job::Run),
     ];
-    for (words, task) in &asked {
-        assert!(rt; arguments(rt.alloc(), words)?.task == *task);
+    for (words, job) in &asked {
+        assert!(rt; arguments(rt.alloc(), words)?.job == *job);
     }
     Ok(())
 }
 
 #[test]
 fn refuses_other_command_lines(rt: HostRuntime) {
-    let others: [&[&str]; 19] = [
+    let others: [&[&str]; 22] = [
         &["aqs", "--history"],
         &["aqs", "replay", "--history", "--history"],
         &["aqs", "--help"],
@@ -62,7 +77,10 @@ fn refuses_other_command_lines(rt: HostRuntime) {
         &["aqs", "audit", "a", "b"],
         &["aqs", "audit", "-"],
         &["aqs", "audit", "--", "-x"],
-        &["aqs", "run"],
+        &["aqs", "run", "--help"],
+        &["aqs", "run", "--history"],
+        &["aqs", "run", "a", "b"],
+        &["aqs", "run", "-"],
         &["aqs", "steps.txt"],
         &["aqs", "replay", "a", "b"],
         &["aqs", "replay", "-"],
@@ -98,6 +116,18 @@ fn tells_each_fault(rt: HostRuntime) -> Result<(), Fail> {
         (Fault::Stream(StreamFault::WriteFailed), "write failed", 4),
         (Fault::Stream(StreamFault::Memory), "out of memory", 5),
         (Fault::Memory, "out of memory", 5),
+        (Fault::Script(ScriptFault::NotJson), "not JSON", 3),
+        (Fault::Script(ScriptFault::BadTop), "bad top", 3),
+        (Fault::Script(ScriptFault::BadObject(3)), "bad object 3", 3),
+        (Fault::Script(ScriptFault::BadThread(4)), "bad thread 4", 3),
+        (Fault::Script(ScriptFault::BadCall(5, 6)), "bad call 5 6", 3),
+        (Fault::Script(ScriptFault::OutOfMemory), "out of memory", 5),
+        (
+            Fault::Run(RunFault::NotStarted(7)),
+            "thread 7 not started",
+            4,
+        ),
+        (Fault::Run(RunFault::Memory), "out of memory", 5),
     ];
     for (fault, line, status) in &told {
         let text = format!(in rt.alloc(); "{fault}")?;
@@ -144,6 +174,10 @@ impl Eprint for Noted {
 
 const STEPS: &[u8] = b"aqs-steps 1 lock fair seats 1 conditions 0 cap 16\n0 acquire x 1\nend 1\n";
 
+/// One thread, whose run text doesn't depend on the schedule.
+const SCRIPT: &[u8] = b"{\"objects\":[[\"a\",\"lock fair seats 1 conditions 0 cap 16\"]],\
+    \"threads\":[{\"repeat\":1,\"calls\":[\"a acquire x 1\",\"a give x 2\",\"a give x 1\"]}]}";
+
 /// From the command line and the input to the exit status, the output and what standard error was told.
 #[test]
 fn ends_with_a_status(rt: HostRuntime) -> Result<(), Fail> {
@@ -153,7 +187,10 @@ fn ends_with_a_status(rt: HostRuntime) -> Result<(), Fail> {
     let recorded = "aqs-history 1 lock fair seats 1 conditions 0 cap 16\n0 0 got x 1\nend 1 1\n";
     let given = b"aqs-history 1 lock fair seats 1 conditions 0 cap 16\n0 0 gave x 1\nend 1 1\n";
     let legal = "legal\nentries 1\ncalls 1\nholds x 1 s 0 line 0 sleepers 0\n";
-    let ends: [(&[&str], &[u8], u8, &str, &str); 13] = [
+    let ran =
+        "object a\naqs-history 1 lock fair seats 1 conditions 0 cap 16\n0 0 got x 1\n1 0 gave x 1\nend 2 2\n\
+        legal\nentries 2\ncalls 2\nholds x 0 s 0 line 0 sleepers 0\nshares 2\nunrecorded 1\n";
+    let ends: [(&[&str], &[u8], u8, &str, &str); 17] = [
         (&["aqs"], STEPS, 0, replayed, ""),
         (&["aqs", "replay"], STEPS, 0, replayed, ""),
         (&["aqs", "replay", "--history"], STEPS, 0, recorded, ""),
@@ -161,6 +198,10 @@ fn ends_with_a_status(rt: HostRuntime) -> Result<(), Fail> {
         (&["aqs", "audit"], given, 1, "not legal at 0\n", ""),
         (&["aqs", "audit"], STEPS, 3, "", "aqs: bad header\n"),
         (&["aqs", "replay", "-"], STEPS, 2, "", "aqs: usage\n"),
+        (&["aqs", "run"], SCRIPT, 0, ran, ""),
+        (&["aqs", "run"], STEPS, 3, "", "aqs: not JSON\n"),
+        (&["aqs", "run"], b"[]", 3, "", "aqs: bad top\n"),
+        (&["aqs", "run", "/"], SCRIPT, 4, "", "aqs: read failed\n"),
         (&["aqs"], header, 3, "", "aqs: bad header\n"),
         (&["aqs"], line, 3, "", "aqs: bad line 2\n"),
         (&["aqs"], b"", 3, "", "aqs: cut short\n"),
