@@ -1,5 +1,5 @@
 //! Tests of scripts that threads run: what reports say of scripts whose outcome is known, what gates see and
-//! stop, and runs that lack memory.
+//! stop, runs that lack memory, and runs from bytes to bytes.
 #![tactic(auto)]
 
 #[cfg(test)]
@@ -14,3 +14,5 @@ mod reports;
 mod running;
 #[cfg(test)]
 mod texts;
+#[cfg(test)]
+mod whole_runs;

@@ -1,0 +1,159 @@
+//! Scripts run from bytes to bytes: what is written of a run, devices that fail, and memory that is refused.
+
+use run_text::RunText;
+use script::{ScriptFault, read_script};
+use std::process::Abort;
+use std::sync::Wait;
+use std::test::Fail;
+use std::thread::Threads;
+use std::time::Clock;
+use streams::memory_sink::MemorySink;
+use streams::memory_source::MemorySource;
+use streams::stream_fault::StreamFault;
+use tasks::fault::Fault;
+use tasks::run_script::run_script;
+use test_support::memory::Memory;
+use workers::{OpenGate, run_threads};
+
+/// The calls of one thread, whose order is known. One answer in each round is recorded nowhere.
+const SCRIPT: &str = "{\"objects\":[[\"a\",\"lock fair seats 1 conditions 0 cap 16\"],\
+    [\"b\",\"semaphore nonfair seats 1 permits 2 cap 16\"]],\"threads\":[{\"repeat\":2,\
+    \"calls\":[\"a acquire x 1\",\"b drain\",\"a give x 2\",\"b give s 2\",\"a give x 1\"]}]}";
+
+/// The run text of that script.
+const WRITTEN: &str = "object a\n\
+    aqs-history 1 lock fair seats 1 conditions 0 cap 16\n\
+    0 0 got x 1\n1 0 gave x 1\n2 0 got x 1\n3 0 gave x 1\nend 4 4\n\
+    legal\nentries 4\ncalls 4\nholds x 0 s 0 line 0 sleepers 0\nshares 4\n\
+    object b\n\
+    aqs-history 1 semaphore nonfair seats 1 permits 2 cap 16\n\
+    0 0 drained s 2\n1 0 gave s 2\n2 0 drained s 2\n3 0 gave s 2\nend 4 4\n\
+    legal\nentries 4\ncalls 4\nheld 0 free 2 created 2 unheld 0 line 0\nshares 4\n\
+    unrecorded 2\n";
+
+/// Places for more than is ever written.
+const PLACES: usize = 4096;
+
+/// So many bytes go through a device at once.
+const PIECE: usize = 64;
+
+/// How a run ended, and what the sink was given.
+#[derive(Drop)]
+struct Ran {
+    ended: Result<u8, Fault>,
+    sink: MemorySink,
+}
+
+/// Runs the script of a text, from a source and to a sink whose calls of these numbers fail.
+fn ran<R: Threads + Wait + Clock + AllocGlobal + Sync>(
+    rt: &R,
+    text: &str,
+    failing_read: Option<u64>,
+    failing_write: Option<u64>,
+) -> Result<Ran, Fail> {
+    let bytes = Vec::from_slice(rt.alloc(), text.as_bytes())?;
+    let mut source = MemorySource::new(bytes, PIECE, failing_read);
+    let mut sink = MemorySink::with_places(rt.alloc(), PLACES, PIECE, failing_write)?;
+    let ended = run_script(rt, &mut source, &mut sink);
+    Ok(Ran { ended, sink })
+}
+
+#[test]
+fn a_run_is_written(rt: HostRuntime) -> Result<(), Fail> {
+    let Ran { ended, sink } = ran(&rt, SCRIPT, None, None)?;
+    assert!(rt; ended == Ok(0));
+    assert!(rt; sink.bytes() == WRITTEN.as_bytes());
+    Ok(())
+}
+
+/// Each read of the script fails in turn; then nothing is written.
+#[test]
+fn a_failed_read_is_told(rt: HostRuntime) -> Result<(), Fail> {
+    for number in 0..100 {
+        let Ran { ended, sink } = ran(&rt, SCRIPT, Some(number), None)?;
+        if ended == Ok(0) {
+            assert!(rt; 4 <= number && sink.bytes() == WRITTEN.as_bytes());
+            return Ok(());
+        }
+        assert!(rt; ended == Err(Fault::Stream(StreamFault::ReadFailed)));
+        assert!(rt; sink.bytes().is_empty());
+    }
+    Err(Fail::from("each read failed"))
+}
+
+/// Each write fails in turn; then a front of the text was written.
+#[test]
+fn a_failed_write_is_told(rt: HostRuntime) -> Result<(), Fail> {
+    for number in 0..100 {
+        let Ran { ended, sink } = ran(&rt, SCRIPT, None, Some(number))?;
+        if ended == Ok(0) {
+            assert!(rt; 7 <= number && sink.bytes() == WRITTEN.as_bytes());
+            return Ok(());
+        }
+        assert!(rt; ended == Err(Fault::Stream(StreamFault::WriteFailed)));
+        assert!(rt; WRITTEN.as_bytes().starts_with(sink.bytes()));
+    }
+    Err(Fail::from("each write failed"))
+}
+
+/// Scripts of each fault. Nothing is written, and there is no call that could be.
+#[test]
+fn a_bad_script_is_told(rt: HostRuntime) -> Result<(), Fail> {
+    let lock = "[\"a\",\"lock fair seats 1 conditions 0 cap 16\"]";
+    let calls = "{\"repeat\":1,\"calls\":[\"a acquire x 1\",\"b give x 1\"]}";
+    let named_twice = format!(in rt.alloc();
+        "{{\"objects\":[{lock},{lock}],\"threads\":[{calls}]}}"
+    )?;
+    let no_rounds = format!(in rt.alloc();
+        "{{\"objects\":[{lock}],\"threads\":[{{\"repeat\":0,\"calls\":[]}}]}}"
+    )?;
+    let no_object = format!(in rt.alloc(); "{{\"objects\":[{lock}],\"threads\":[{calls}]}}")?;
+    let bad = [
+        ("{", ScriptFault::NotJson),
+        ("{}", ScriptFault::BadTop),
+        (named_twice.as_str(), ScriptFault::BadObject(1)),
+        (no_rounds.as_str(), ScriptFault::BadThread(0)),
+        (no_object.as_str(), ScriptFault::BadCall(0, 1)),
+    ];
+    for (text, fault) in &bad {
+        let Ran { ended, sink } = ran(&rt, text, None, None)?;
+        assert!(rt; ended == Err(Fault::Script(*fault)), "{text}");
+        assert!(rt; sink.bytes().is_empty());
+    }
+    Ok(())
+}
+
+/// Whether the text of a run finds its memory in so many pieces of 256 bytes. It is written with no memory left.
+fn is_spelt<R: Threads + Wait + Clock + AllocGlobal + Sync + Abort>(
+    rt: &R,
+    pieces: usize,
+) -> Result<bool, Fail> {
+    let script = read_script(rt.alloc(), SCRIPT.as_bytes())?;
+    let report = run_threads(rt, rt.alloc(), &script, &OpenGate)?;
+    let mut sink = MemorySink::with_places(rt.alloc(), PLACES, PIECE, None)?;
+    let mut memory = Memory::take_all(rt.alloc(), 256)?;
+    memory.give_pieces(pieces);
+    match RunText::of(rt.alloc(), &script, report) {
+        Ok(text) => {
+            memory.take_rest()?;
+            assert!(rt; text.write(&mut sink).is_ok() && sink.bytes() == WRITTEN.as_bytes());
+            Ok(true)
+        }
+        Err(fault) => {
+            assert!(rt; fault == StreamFault::Memory);
+            Ok(false)
+        }
+    }
+}
+
+/// The pieces are adjacent, so each one more makes a larger request possible.
+#[test]
+fn the_text_of_a_run_lacks_memory(rt: HostRuntime) -> Result<(), Fail> {
+    for pieces in 0..1000 {
+        if is_spelt(&rt, pieces)? {
+            assert!(rt; 256 <= pieces, "{pieces}");
+            return Ok(());
+        }
+    }
+    Err(Fail::from("never spelt"))
+}
