@@ -69,6 +69,8 @@ enum Call {
     TakeFirst,
     Leave(u16),
     Sweep,
+    TidyBefore(u16),
+    Standing,
     First,
     ArrivalOf(u16),
     Position(u16),
@@ -129,6 +131,13 @@ fn sweep(queue: &mut Queue) -> Reply
     Reply::Done
 }
 
+fn tidy_before(queue: &mut Queue, seat: u16) -> Reply
+    ensures { queue.new.seats ≡ queue.old.seats }
+{
+    queue.tidy_before(seat);
+    Reply::Done
+}
+
 fn answer_to(queue: &mut Queue, call: Call) -> Reply
     requires { queue.old.seats ≡ SEATS }
     ensures { queue.new.seats ≡ SEATS }
@@ -138,6 +147,8 @@ fn answer_to(queue: &mut Queue, call: Call) -> Reply
         Call::TakeFirst => told(queue.take_first()),
         Call::Leave(seat) => truth(queue.leave(seat)),
         Call::Sweep => sweep(queue),
+        Call::TidyBefore(seat) => tidy_before(queue, seat),
+        Call::Standing => Reply::Number(u64::from(queue.standing())),
         Call::First => told(queue.first()),
         Call::ArrivalOf(seat) => told(queue.arrival_of(seat)),
         Call::Position(seat) => place(queue.position(seat)),
@@ -210,13 +221,50 @@ fn a_seat_leaves_from_the_middle_and_joins_at_the_end(rt: HostRuntime) -> Result
     Ok(())
 }
 
+const RIGHT_BEFORE: [(Call, Reply); 24] = [
+    (Call::Join(1, 1), Reply::Done),
+    (Call::Join(2, 2), Reply::Done),
+    (Call::Join(3, 3), Reply::Done),
+    (Call::Leave(2), Reply::Yes),
+    (Call::TidyBefore(2), Reply::Done),
+    (Call::TidyBefore(SEATS), Reply::Done),
+    (Call::Standing, Reply::Number(3)),
+    (Call::TidyBefore(3), Reply::Done),
+    (Call::Standing, Reply::Number(2)),
+    (Call::LiveLen, Reply::Number(2)),
+    (Call::Position(3), Reply::Number(1)),
+    (Call::Join(2, 4), Reply::Done),
+    (Call::Join(4, 5), Reply::Done),
+    (Call::Join(5, 6), Reply::Done),
+    (Call::Leave(3), Reply::Yes),
+    (Call::Leave(2), Reply::Yes),
+    (Call::TidyBefore(5), Reply::Done),
+    (Call::TidyBefore(1), Reply::Done),
+    (Call::Standing, Reply::Number(5)),
+    (Call::TidyBefore(4), Reply::Done),
+    (Call::Standing, Reply::Number(3)),
+    (Call::First, Reply::Asks(1, 1)),
+    (Call::ArrivalOf(4), Reply::Asks(4, 5)),
+    (Call::Position(5), Reply::Number(2)),
+];
+
+/// All that left right before a seat that waits are freed, and no others.
+#[test]
+fn a_seat_that_looks_frees_the_nodes_right_before_it(rt: HostRuntime) -> Result<(), Fail> {
+    play(&rt, &RIGHT_BEFORE)?;
+    Ok(())
+}
+
 /// Joins, leaves or takes the first, by an arbitrary number, in the queue and in the list beside it.
 fn change(queue: &mut Queue, list: &mut Vec<Arrival>, number: u64) -> Result<(), AllocError>
     requires { queue.old.seats ≡ SEATS }
     ensures { queue.new.seats ≡ SEATS }
 {
     let seat = (number / 4 % 8) as u16;
-    queue.sweep();
+    if number / 32_768 % 8 == 0 {
+        queue.sweep();
+    }
+    queue.tidy_before((number / 4096 % 8) as u16);
     if number % 4 == 0 {
         let first = queue.take_first();
         list.retain(|a| Some(*a) != first);
