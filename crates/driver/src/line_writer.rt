@@ -85,6 +85,7 @@ impl LineWriter {
         ensures room { OnOk result (136 ≤ self.new.room) }
         ensures ready { 136 ≤ self.old.room → (self.new ≡ self.old) × (writer.new ≡ writer.old) }
         ensures adds { Gathers (W.held writer.old) self.old.bytes result (W.held writer.new) self.new.bytes [] }
+        ensures places { length self.new.bytes + self.new.room ≡ length self.old.bytes + self.old.room }
         ensures failing { IsTrue (W.failed writer.new) ↔ IsErr result }
     {
         if MOST_BYTES <= self.bytes.len() - self.at {
@@ -93,7 +94,7 @@ impl LineWriter {
         self.flush(writer)
     }
 
-    /// Adds the line of the answer to a seat's step.
+    /// Adds the line of the answer to a seat's step. The places for bytes stay as many as they were.
     #[inline(always)]
     pub fn put_answer<W: Sink>(
         &mut self,
@@ -107,6 +108,7 @@ impl LineWriter {
         ensures adds { Gathers (W.held writer.old) self.old.bytes result (W.held writer.new) self.new.bytes
             (ended (answer_line number seat answer.now)) }
         ensures gathers { 136 ≤ self.old.room → writer.new ≡ writer.old }
+        ensures places { length self.new.bytes + self.new.room ≡ length self.old.bytes + self.old.room }
         ensures failing { IsTrue (W.failed writer.new) ↔ IsErr result }
     {
         self.make_room(writer)?;
@@ -125,6 +127,7 @@ impl LineWriter {
         ensures adds { Gathers (W.held writer.old) self.old.bytes result (W.held writer.new) self.new.bytes
             (ended (counts_line entries calls)) }
         ensures gathers { 136 ≤ self.old.room → writer.new ≡ writer.old }
+        ensures places { length self.new.bytes + self.new.room ≡ length self.old.bytes + self.old.room }
         ensures failing { IsTrue (W.failed writer.new) ↔ IsErr result }
     {
         self.make_room(writer)?;
@@ -137,7 +140,8 @@ impl LineWriter {
     fn spell_answer(&mut self, number: u64, seat: u16, answer: &Result<Answer, Fault>)
         requires spelt { HasLine answer.now }
         requires room { 136 ≤ self.old.room }
-        ensures { self.new.bytes ≡ self.old.bytes ++ ended (answer_line number seat answer.now) }
+        ensures bytes { self.new.bytes ≡ self.old.bytes ++ ended (answer_line number seat answer.now) }
+        ensures places { length self.new.bytes + self.new.room ≡ length self.old.bytes + self.old.room }
     {
         let line = self.bytes.as_mut_slice();
         self.at = spell_answer(line, self.at, &mut self.numbering, number, seat, answer);
@@ -146,7 +150,8 @@ impl LineWriter {
     /// Adds an end line, for which there is room.
     fn spell_counts(&mut self, entries: u64, calls: u64)
         requires { 136 ≤ self.old.room }
-        ensures { self.new.bytes ≡ self.old.bytes ++ ended (counts_line entries calls) }
+        ensures bytes { self.new.bytes ≡ self.old.bytes ++ ended (counts_line entries calls) }
+        ensures places { length self.new.bytes + self.new.room ≡ length self.old.bytes + self.old.room }
     {
         let line = self.bytes.as_mut_slice();
         let entries_at = put_bytes(line, self.at, b"end ");

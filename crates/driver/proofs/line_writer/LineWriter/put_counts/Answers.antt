@@ -14,4 +14,4 @@ returns-in_err-make_room-clause-adds g c =
 pub returns-clause-adds : goal.returns-clause-adds
 returns-clause-adds g c =
     gathered_added _ _ c.args.self.now.bytes c.make_room.new.self.bytes _ _ c.in_ok-make_room.ensures.adds
-    c.spell_counts.ensures
+    c.spell_counts.ensures.bytes

@@ -1,6 +1,0 @@
-use Rattle.std.proofs.Common.{◌≡◌}
-use Rattle.test_texts.proofs.auditing.histories.history_of.Given as goal
-
--- the cap stays
-abbrev pub invariant-loop-entry : goal.invariant-loop-entry
-invariant-loop-entry l = l.history.cap ≡ l.header.cap
