@@ -5,12 +5,12 @@ use Rattle.monitor.specs.Shown.{Shown}
 use Rattle.word_lock.specs.Ticket.{LockId}
 use Rattle.latch_workers.specs.Worker.{IsAt}
 use Rattle.latch_workers.specs.declared.worker.Worker.{Worker}
-use Rattle.latch_workers.proofs.shift.Shift.pair_up.Goals as goal
+use Rattle.latch_workers.proofs.worker.pair_up.Goals as goal
 
 pub loop-end-preserved : goal.loop-end-preserved
 loop-end-preserved c =
-    let s : LockId = c.args.self.now.start.monitor.now in
-    let e : LockId = c.args.self.now.end.monitor.now in
+    let s : LockId = c.args.shift.now.start in
+    let e : LockId = c.args.shift.now.end in
     let starts : c.loop-end.starts.rest.items ≡ c.in-Some-next.start ∷ c.next-in-loop-end.new.self.rest.items =
     search rules in
     let ends : c.loop-end.end-iterator.rest.items ≡ c.in-Some.end ∷ c.next.new.self.rest.items = search rules in

@@ -4,12 +4,12 @@ use Rattle.std.proofs.lemmas.List.Elements.{All-head, All-tail, All-same, All-pu
 use Rattle.monitor.specs.Shown.{Shown}
 use Rattle.word_lock.specs.Ticket.{LockId}
 use Rattle.latch_workers.specs.Worker.{IsAt}
-use Rattle.latch_workers.proofs.shift.Shift.part.Goals as goal
+use Rattle.latch_workers.proofs.worker.part.Goals as goal
 
 pub loop-worker-preserved : goal.loop-worker-preserved
 loop-worker-preserved c =
-    let s : LockId = c.args.self.now.start.monitor.now in
-    let e : LockId = c.args.self.now.end.monitor.now in
+    let s : LockId = c.args.shift.now.start in
+    let e : LockId = c.args.shift.now.end in
     let cut : c.loop-worker.worker-iterator.rest.items ≡ c.in-Some.worker ∷ c.next.new.self.rest.items = search rules in
     let all : All (IsAt s e) (c.in-Some.worker ∷ c.next.new.self.rest.items) =
     All-same (IsAt s e) _ _ (sym cut) c.loop-worker.invariant.0 in

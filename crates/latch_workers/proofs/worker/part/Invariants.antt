@@ -1,0 +1,11 @@
+use Rattle.std.proofs.Common.{◌≡◌}
+use Rattle.std.specs.List.{All}
+use Rattle.monitor.specs.Shown.{Shown}
+use Rattle.latch_workers.specs.Worker.{IsAt}
+use Rattle.latch_workers.proofs.worker.part.Given as goal
+
+abbrev pub invariant-loop-worker : goal.invariant-loop-worker
+invariant-loop-worker l =
+    All (IsAt l.shift.start l.shift.end) l.worker-iterator.rest.items
+    × All (λ (p : Shown). p.lock ≡ l.shift.start) l.starts.items
+    × All (λ (p : Shown). p.lock ≡ l.shift.end) l.ends.items
