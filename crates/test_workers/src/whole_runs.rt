@@ -45,7 +45,7 @@ struct Ran {
 }
 
 /// Runs the script of a text, from a source and to a sink whose calls of these numbers fail.
-fn ran<R: Threads + Wait + Clock + AllocGlobal + Sync>(
+fn run_over<R: Threads + Wait + Clock + AllocGlobal + Sync>(
     rt: &R,
     text: &str,
     failing_read: Option<u64>,
@@ -60,7 +60,7 @@ fn ran<R: Threads + Wait + Clock + AllocGlobal + Sync>(
 
 #[test]
 fn a_run_is_written(rt: HostRuntime) -> Result<(), Fail> {
-    let Ran { ended, sink } = ran(&rt, SCRIPT, None, None)?;
+    let Ran { ended, sink } = run_over(&rt, SCRIPT, None, None)?;
     assert!(rt; ended == Ok(0));
     assert!(rt; sink.bytes() == WRITTEN.as_bytes());
     Ok(())
@@ -70,7 +70,7 @@ fn a_run_is_written(rt: HostRuntime) -> Result<(), Fail> {
 #[test]
 fn a_failed_read_is_told(rt: HostRuntime) -> Result<(), Fail> {
     for number in 0..100 {
-        let Ran { ended, sink } = ran(&rt, SCRIPT, Some(number), None)?;
+        let Ran { ended, sink } = run_over(&rt, SCRIPT, Some(number), None)?;
         if ended == Ok(0) {
             assert!(rt; 4 <= number && sink.bytes() == WRITTEN.as_bytes());
             return Ok(());
@@ -85,7 +85,7 @@ fn a_failed_read_is_told(rt: HostRuntime) -> Result<(), Fail> {
 #[test]
 fn a_failed_write_is_told(rt: HostRuntime) -> Result<(), Fail> {
     for number in 0..100 {
-        let Ran { ended, sink } = ran(&rt, SCRIPT, None, Some(number))?;
+        let Ran { ended, sink } = run_over(&rt, SCRIPT, None, Some(number))?;
         if ended == Ok(0) {
             assert!(rt; 7 <= number && sink.bytes() == WRITTEN.as_bytes());
             return Ok(());
@@ -116,7 +116,7 @@ fn a_bad_script_is_told(rt: HostRuntime) -> Result<(), Fail> {
         (no_object.as_str(), ScriptFault::BadCall(0, 1)),
     ];
     for (text, fault) in &bad {
-        let Ran { ended, sink } = ran(&rt, text, None, None)?;
+        let Ran { ended, sink } = run_over(&rt, text, None, None)?;
         assert!(rt; ended == Err(Fault::Script(*fault)), "{text}");
         assert!(rt; sink.bytes().is_empty());
     }
