@@ -1,0 +1,6 @@
+mod Walks
+mod TablesFollow
+mod StretchesFollow
+mod TracksSeated
+mod BarsExact
+mod Examples
