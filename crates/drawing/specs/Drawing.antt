@@ -5,6 +5,8 @@ use Rattle.history.specs.declared.header.Header.{Header}
 use Rattle.history.specs.Start.{opening}
 use Rattle.drawing.specs.declared.drawing.Drawing.{Drawing}
 use Rattle.drawing.specs.Bars.{ended}
+use Rattle.drawing.specs.Curve.{AreAmounts, curve}
+use Rattle.drawing.specs.Marks.{marks}
 use Rattle.drawing.specs.Standings.{AreStanding}
 use Rattle.drawing.specs.Stretches.{stretches}
 
@@ -14,8 +16,11 @@ pub record HasDrawn (k : Header) (from : ℕ) (h : List Entry) (d : Drawing) : T
   pub begins : d.from ≡ from
   pub count : d.count ≡ length h
   pub standing : AreStanding (opening k) h d.standings
+  pub numbers : AreAmounts (opening k) h d.amounts
   pub under_way : d.stretches.items ≡ stretches (opening k) from h
   pub ended : d.bars.items ≡ ended (opening k) from h
+  pub marked : d.marks.items ≡ marks from h
+  pub points : d.curve.items ≡ curve (opening k) from h
 
 -- one that has followed some entries, of which there may be one more, of one of the seats
 pub record CanDraw (d : Drawing) (e : Entry) : Type 0 where

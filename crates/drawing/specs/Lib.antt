@@ -4,4 +4,6 @@ pub mod Bars
 pub mod Woken
 pub mod Standings
 pub mod Stretches
+pub mod Marks
+pub mod Curve
 pub mod Drawing

@@ -16,8 +16,8 @@ end_all-requires c =
     (stretches (opening r.header) r.from r.entries) (c.deref.ensures.value ∙ r.drawn.under_way)
     (stretches_before (opening r.header) r.from r.entries c.args.self.count r.drawn.count)
 
-pub returns : goal.returns
-returns c k from h was =
+pub returns-clause-bars : goal.returns-clause-bars
+returns-clause-bars c k from h was =
     let s = opening k in
     c.in_ok-end_all.ensures
     ∙ ap (λ xs. xs ++ flat_map (bar_of c.args.self.count) c.deref.result.now) was.ended
@@ -25,3 +25,9 @@ returns c k from h was =
     (c.deref.ensures.value ∙ was.under_way)
     ∙ ap (λ n. ended s from h ++ flat_map (bar_of n) (stretches s from h)) was.count
     ∙ ap (λ xs. ended s from h ++ xs) (all_bars s from h)
+
+pub returns-clause-marks : goal.returns-clause-marks
+returns-clause-marks c k from h was = was.marked
+
+pub returns-clause-curve : goal.returns-clause-curve
+returns-clause-curve c k from h was = was.points

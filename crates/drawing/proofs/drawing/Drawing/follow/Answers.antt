@@ -7,6 +7,9 @@ use Rattle.drawing.specs.declared.bar.Stretch.{Stretch}
 use Rattle.drawing.specs.Bars.{ended}
 use Rattle.drawing.specs.Stretches.{ending, going_on, stretches}
 use Rattle.drawing.proofs.StretchesFollow.{all_end, all_go_on, none_ends, none_goes_on}
+use Rattle.drawing.specs.Curve.{amount_of, curve, point}
+use Rattle.drawing.specs.Marks.{mark_of, marks, sign_of}
+use Rattle.drawing.proofs.MarksFollow.{no_mark, no_point, one_mark, one_point}
 use Rattle.drawing.proofs.TracksSeated.{stretches_before, stretches_seated}
 use Rattle.drawing.proofs.drawing.Drawing.follow.Goals as goal
 
@@ -40,8 +43,11 @@ returns-then-number-self c = λ k from h was seat.
       begins = was.begins;
       count = omega (arith, was.count);
       standing = c.in_ok-note.ensures s h was.standing (ap (λ (x : Header). x.object) (sym was.header)) seat;
+      numbers = c.note-2.ensures s h was.numbers;
       under_way = was.under_way ∙ none_goes_on s from e h less;
       ended = was.ended ∙ none_ends s from e h less;
+      marked = was.marked ∙ no_mark from e h less;
+      points = was.points ∙ no_point s from e h less;
     }
 
 pub returns : goal.returns
@@ -66,4 +72,18 @@ returns c = λ k from h was seat.
           ∙ ap (λ xs. ended s from h ++ flat_map (ending s (e ∷ h) old.count) xs) was.under_way
           ∙ ap (λ n. ended s from h ++ flat_map (ending s (e ∷ h) n) (stretches s from h)) was.count
           ∙ all_end s from e h drawn;
+      numbers = c.note-2.ensures s h was.numbers;
+      marked = c.in_ok-put_mark.ensures
+          ∙ ap (λ xs. xs ++ mark_of old.count e.seat (sign_of e.word)) was.marked
+          ∙ ap (λ n. marks from h ++ mark_of n e.seat (sign_of e.word)) was.count
+          ∙ one_mark from e h drawn;
+      points = c.in_ok-put_point.ensures s (e ∷ h) (c.note-2.ensures s h was.numbers)
+          (ap (λ (x : Header). x.object) (sym was.header))
+          ∙ ap (λ xs. xs ++ point (amount_of old.header.object s (e ∷ h))) was.points
+          ∙ ap (λ (x : Header). curve s from h ++ point (amount_of x.object s (e ∷ h))) was.header
+          ∙ one_point s from e h drawn;
     }
+
+pub note-requires-2 : goal.note-requires-2
+note-requires-2 c =
+    let r = c.requires in (opening r.header, r.entries, r.drawn.numbers, r.room)

@@ -17,5 +17,8 @@ returns c =
       under_way = c.in_ok-stretches.ensures
           ∙ sym (map_same (stretch s c.args.from []) (fresh c.args.from) (tracks k)
           (λ t. not_yet s c.args.from [] t (omega arith)));
+      numbers = c.open-2.ensures k refl;
       ended = c.new.ensures.items;
+      marked = c.new-2.ensures.items;
+      points = c.new-3.ensures.items;
     }

@@ -1,10 +1,10 @@
-use Rattle.std.proofs.Common.{◌≡◌, ◌+◌, ◌<◌, ◌≤◌, ℕ, List, ◌∷◌, length, get_or, reverse, take, ap, ◌∙◌, sym, subst, arith}
+use Rattle.std.proofs.Common.{◌≡◌, ◌+◌, ◌<◌, ℕ, List, ◌∷◌, length, get_or, reverse, take, ap, ◌∙◌, sym, subst, arith}
 use Rattle.std.specs.Prelude.{Result, Ok, Err, IfOk}
 use Rattle.std.proofs.lemmas.List.{length-reverse, length-take-le, take_all, take_more}
 use Rattle.history.proofs.Lists.{reverse_push}
 use Rattle.history.specs.declared.entry.Entry.{Entry}
 use Rattle.drawing.specs.Drawing.{HasDrawn}
-use Rattle.drawing.proofs.whole.bars_of.Goals as goal
+use Rattle.drawing.proofs.whole.drawn_of.Goals as goal
 
 -- the entries up to the next, the newest first
 one_more : (xs : List Entry) (i : ℕ) (d : Entry) → i < length xs →
@@ -49,11 +49,26 @@ finish-requires c =
       drawn = c.loop-entry.invariant;
     }
 
-pub returns : goal.returns
-returns c =
+-- all entries were followed
+all_drawn : (c : goal.After-finish) → HasDrawn c.args.header c.args.from (reverse c.args.entries.now)
+    c.loop-entry.drawing
+all_drawn c =
     let xs = c.args.entries.now in
     let i = c.loop-entry.entry-index in
-    let all : length xs ≤ i = omega (arith, c.loop-entry-test.false) in
-    let drawn = subst (λ h. HasDrawn c.args.header c.args.from (reverse h) c.loop-entry.drawing)
-    (take_all i xs all) c.loop-entry.invariant in
-    weaker c.finish.result (λ bars is. is c.args.header c.args.from (reverse xs) drawn) c.finish.ensures
+    subst (λ h. HasDrawn c.args.header c.args.from (reverse h) c.loop-entry.drawing)
+    (take_all i xs (omega (arith, c.loop-entry-test.false))) c.loop-entry.invariant
+
+pub returns-clause-bars : goal.returns-clause-bars
+returns-clause-bars c =
+    weaker c.finish.result (λ drawn is. is c.args.header c.args.from (reverse c.args.entries.now) (all_drawn c))
+    c.finish.ensures.bars
+
+pub returns-clause-marks : goal.returns-clause-marks
+returns-clause-marks c =
+    weaker c.finish.result (λ drawn is. is c.args.header c.args.from (reverse c.args.entries.now) (all_drawn c))
+    c.finish.ensures.marks
+
+pub returns-clause-curve : goal.returns-clause-curve
+returns-clause-curve c =
+    weaker c.finish.result (λ drawn is. is c.args.header c.args.from (reverse c.args.entries.now) (all_drawn c))
+    c.finish.ensures.curve
