@@ -1,0 +1,478 @@
+-- That the bars of a history are exactly its longest stretches.
+use Rattle.std.proofs.Common.{◌≡◌, ◌≢◌, ◌⊎◌, ◌↔◌, inl, inr, ⊎_elim, ℕ, zero, suc, ◌+◌, ◌-◌, ◌<◌, ◌≤◌, Bool, true, false, cond, eqb, ltb, List, [], ◌∷◌, length, get_or, drop, refl, ap, ◌∙◌, sym, subst, arith}
+use Rattle.std.specs.List.{Contains, flat_map}
+use Rattle.std.proofs.lemmas.Bool.{cases_eq, cases_lt, eq-eqb, ne_eqb, eqb-false, lt-ltb, le-ltb, ltb-true}
+use Rattle.std.proofs.lemmas.List.Elements.{Contains-append_left, Contains-append_right, Contains-append_cases}
+use Rattle.history.specs.declared.entry.Entry.{Entry}
+use Rattle.history.specs.Start.{Start}
+use Rattle.drawing.specs.declared.bar.Bar.{Bar}
+use Rattle.drawing.specs.declared.kind.Kind.{Kind}
+use Rattle.drawing.specs.declared.kind.Kind.TheVariants.{Exclusive, Shared, InLine, Asleep}
+use Rattle.drawing.specs.Bars.{bar_at, bars, ended, ended_by, lasting}
+use Rattle.drawing.specs.IsBar.{IsBar, IsKind, level_behind}
+use Rattle.drawing.specs.Levels.{Track, asleep_tracks, level, level_of, track, tracks, tracks_below, tracks_of_seat}
+use Rattle.drawing.proofs.StretchesFollow.{lasting_none}
+
+-- who stands in lists that are joined
+nothing_in : {X : Type 0} (x : X) → Contains [] x → ⊥
+nothing_in x c = let l = c.1 in omega (arith, l)
+
+one_in : {X : Type 0} (y x : X) → Contains (y ∷ []) x → y ≡ x
+one_in y x c = by c.0 c.1 c.2
+  where
+    by : (k : ℕ) → k < 1 → get_or (y ∷ []) k x ≡ x → y ≡ x
+    by zero l q = q
+    by (suc k) l q = absurd (omega (arith, l))
+
+alone_in : {X : Type 0} (y x : X) → y ≡ x → Contains (y ∷ []) x
+alone_in y x q = (0, omega arith, q)
+
+first_in : {X : Type 0} (x : X) (xs : List X) → Contains (x ∷ xs) x
+first_in x xs = (0, omega arith, refl)
+
+later_in : {X : Type 0} (y x : X) (xs : List X) → Contains xs x → Contains (y ∷ xs) x
+later_in y x xs c = (suc c.0, (let l = c.1 in omega (arith, l)), c.2)
+
+cons_cases : {X : Type 0} (y x : X) (xs : List X) → Contains (y ∷ xs) x → (y ≡ x) ⊎ Contains xs x
+cons_cases y x xs c = by c.0 c.1 c.2
+  where
+    by : (k : ℕ) → k < suc (length xs) → get_or (y ∷ xs) k x ≡ x → (y ≡ x) ⊎ Contains xs x
+    by zero l q = inl q
+    by (suc k) l q = inr (k, omega (arith, l), q)
+
+in_flat : {X Y : Type 0} (f : X → List Y) (xs : List X) (x : X) (y : Y) → Contains xs x → Contains (f x) y →
+    Contains (flat_map f xs) y
+in_flat f [] x y c d = absurd (nothing_in x c)
+in_flat f (z ∷ xs) x y c d =
+    ⊎_elim (λ q. Contains-append_left (f z) (flat_map f xs) y (subst (λ w. Contains (f w) y) (sym q) d))
+    (λ later. Contains-append_right (f z) (flat_map f xs) y (in_flat f xs x y later d))
+    (cons_cases z x xs c)
+
+flat_in : {X Y : Type 0} (f : X → List Y) (xs : List X) (y : Y) → Contains (flat_map f xs) y →
+    (x : X) × Contains xs x × Contains (f x) y
+flat_in f [] y c = absurd (nothing_in y c)
+flat_in f (z ∷ xs) y c =
+    ⊎_elim (λ here. (z, first_in z xs, here))
+    (λ there. let r = flat_in f xs y there in (r.0, later_in z r.0 xs r.1, r.2))
+    (Contains-append_cases (f z) (flat_map f xs) y c)
+
+-- the tracks of an object
+abbrev IsTrack : ℕ → ℕ → Track → Type 0
+IsTrack seats conditions t = (t.seat < seats) × IsKind conditions t.kind
+
+asleep_in : (i c d : ℕ) → d < c → Contains (asleep_tracks i c) (track i (Asleep d))
+asleep_in i zero d l = absurd (omega (arith, l))
+asleep_in i (suc c) d l =
+    ⊎_elim
+    (λ q. Contains-append_right (asleep_tracks i c) (track i (Asleep c) ∷ []) (track i (Asleep d))
+    (alone_in (track i (Asleep c)) (track i (Asleep d)) (ap (λ n. track i (Asleep n)) q)))
+    (λ ne. Contains-append_left (asleep_tracks i c) (track i (Asleep c) ∷ []) (track i (Asleep d))
+    (asleep_in i c d (omega (arith, l, ne))))
+    (cases_eq c d)
+
+in_asleep : (i c : ℕ) (t : Track) → Contains (asleep_tracks i c) t → (t.seat ≡ i) × IsKind c t.kind
+in_asleep i zero t x = absurd (nothing_in t x)
+in_asleep i (suc c) t x =
+    ⊎_elim
+    (λ old. let r = in_asleep i c t old in (r.0, wider c t.kind r.1))
+    (λ new. let q = one_in (track i (Asleep c)) t new in
+    (ap (λ (y : Track). y.seat) (sym q), subst (λ (y : Track). IsKind (suc c) y.kind) q (omega arith)))
+    (Contains-append_cases (asleep_tracks i c) (track i (Asleep c) ∷ []) t x)
+  where
+    wider : (c : ℕ) (kind : Kind) → IsKind c kind → IsKind (suc c) kind
+    wider c Exclusive p = tt
+    wider c Shared p = tt
+    wider c InLine p = tt
+    wider c (Asleep d) p = omega (arith, p)
+
+seat_in : (i c : ℕ) (kind : Kind) → IsKind c kind → Contains (tracks_of_seat c i) (track i kind)
+seat_in i c Exclusive p = first_in (track i Exclusive) (track i Shared ∷ track i InLine ∷ asleep_tracks i c)
+seat_in i c Shared p =
+    later_in (track i Exclusive) (track i Shared) (track i Shared ∷ track i InLine ∷ asleep_tracks i c)
+    (first_in (track i Shared) (track i InLine ∷ asleep_tracks i c))
+seat_in i c InLine p =
+    later_in (track i Exclusive) (track i InLine) (track i Shared ∷ track i InLine ∷ asleep_tracks i c)
+    (later_in (track i Shared) (track i InLine) (track i InLine ∷ asleep_tracks i c)
+    (first_in (track i InLine) (asleep_tracks i c)))
+seat_in i c (Asleep d) p =
+    later_in (track i Exclusive) (track i (Asleep d)) (track i Shared ∷ track i InLine ∷ asleep_tracks i c)
+    (later_in (track i Shared) (track i (Asleep d)) (track i InLine ∷ asleep_tracks i c)
+    (later_in (track i InLine) (track i (Asleep d)) (asleep_tracks i c) (asleep_in i c d p)))
+
+in_seat : (i c : ℕ) (t : Track) → Contains (tracks_of_seat c i) t → (t.seat ≡ i) × IsKind c t.kind
+in_seat i c t x =
+    ⊎_elim (λ q. same Exclusive q tt)
+    (λ x. ⊎_elim (λ q. same Shared q tt)
+    (λ x. ⊎_elim (λ q. same InLine q tt) (λ x. in_asleep i c t x)
+    (cons_cases (track i InLine) t (asleep_tracks i c) x))
+    (cons_cases (track i Shared) t (track i InLine ∷ asleep_tracks i c) x))
+    (cons_cases (track i Exclusive) t (track i Shared ∷ track i InLine ∷ asleep_tracks i c) x)
+  where
+    same : (kind : Kind) → track i kind ≡ t → IsKind c kind → (t.seat ≡ i) × IsKind c t.kind
+    same kind q p = (ap (λ (y : Track). y.seat) (sym q), subst (λ (y : Track). IsKind c y.kind) q p)
+
+below_in : (c n i : ℕ) (kind : Kind) → i < n → IsKind c kind → Contains (tracks_below c n) (track i kind)
+below_in c zero i kind l p = absurd (omega (arith, l))
+below_in c (suc n) i kind l p =
+    ⊎_elim
+    (λ q. Contains-append_right (tracks_below c n) (tracks_of_seat c n) (track i kind)
+    (subst (λ j. Contains (tracks_of_seat c j) (track i kind)) (sym q) (seat_in i c kind p)))
+    (λ ne. Contains-append_left (tracks_below c n) (tracks_of_seat c n) (track i kind)
+    (below_in c n i kind (omega (arith, l, ne)) p))
+    (cases_eq n i)
+
+in_below : (c n : ℕ) (t : Track) → Contains (tracks_below c n) t → IsTrack n c t
+in_below c zero t x = absurd (nothing_in t x)
+in_below c (suc n) t x =
+    ⊎_elim (λ old. let r = in_below c n t old in ((let l = r.0 in omega (arith, l)), r.1))
+    (λ new. let r = in_seat n c t new in ((let q = r.0 in omega (arith, q)), r.1))
+    (Contains-append_cases (tracks_below c n) (tracks_of_seat c n) t x)
+
+-- what an entry more leaves of the levels behind those before it
+behind_same : (s : Start) (e : Entry) (h : List Entry) (i : ℕ) (kind : Kind) (n : ℕ) → n < length h →
+    level_behind s (e ∷ h) i kind n ≡ level_behind s h i kind n
+behind_same s e h i kind n l =
+    let one : length (e ∷ h) - (n + 1) ≡ suc (length h - (n + 1)) = omega (arith, l) in
+    ap (λ m. level s (drop m (e ∷ h)) i kind) one
+
+behind_last : (s : Start) (h : List Entry) (i : ℕ) (kind : Kind) (n : ℕ) → n + 1 ≡ length h →
+    level_behind s h i kind n ≡ level s h i kind
+behind_last s h i kind n q =
+    let none : length h - (n + 1) ≡ 0 = omega (arith, q) in ap (λ m. level s (drop m h) i kind) none
+
+-- A bar, but for what stands behind it.
+record IsRun (s : Start) (from : ℕ) (h : List Entry) (b : Bar) : Type 0 where
+  seat : b.seat < s.header.seats
+  kind : IsKind s.header.conditions b.kind
+  some : 0 < b.holds
+  begins_within : from ≤ b.first
+  order : b.first ≤ b.last
+  ends_within : b.last < length h
+  throughout : (number : ℕ) → b.first ≤ number → number ≤ b.last →
+      level_behind s h b.seat b.kind number ≡ b.holds
+  before : (b.first ≡ from) ⊎ (level_behind s h b.seat b.kind (b.first - 1) ≢ b.holds)
+
+run_later : (s : Start) (from : ℕ) (e : Entry) (h : List Entry) (b : Bar) → IsRun s from h b →
+    IsRun s from (e ∷ h) b
+run_later s from e h b r =
+    record {
+      seat = r.seat;
+      kind = r.kind;
+      some = r.some;
+      begins_within = r.begins_within;
+      order = r.order;
+      ends_within = omega (arith, r.ends_within);
+      throughout = λ n l m. behind_same s e h b.seat b.kind n (omega (arith, m, r.ends_within))
+          ∙ r.throughout n l m;
+      before = ⊎_elim (λ q. inl q)
+          (λ ne. inr (λ q. ne (sym (behind_same s e h b.seat b.kind (b.first - 1)
+          (omega (arith, r.order, r.ends_within))) ∙ q))) r.before;
+    }
+
+run_earlier : (s : Start) (from : ℕ) (e : Entry) (h : List Entry) (b : Bar) → b.last < length h →
+    IsRun s from (e ∷ h) b → IsRun s from h b
+run_earlier s from e h b l r =
+    record {
+      seat = r.seat;
+      kind = r.kind;
+      some = r.some;
+      begins_within = r.begins_within;
+      order = r.order;
+      ends_within = l;
+      throughout = λ n f m. sym (behind_same s e h b.seat b.kind n (omega (arith, m, l)))
+          ∙ r.throughout n f m;
+      before = ⊎_elim (λ q. inl q)
+          (λ ne. inr (λ q. ne (behind_same s e h b.seat b.kind (b.first - 1) (omega (arith, r.order, l)) ∙ q)))
+          r.before;
+    }
+
+-- what one entry makes of how long a level has lasted
+lasting_too_early : (s : Start) (from : ℕ) (e : Entry) (h : List Entry) (t : Track) (n : ℕ) →
+    length h < from → lasting s from (e ∷ h) t n ≡ 0
+lasting_too_early s from e h t n l = rw (lt-ltb (length h) from l) refl
+
+lasting_on : (s : Start) (from : ℕ) (e : Entry) (h : List Entry) (t : Track) (n : ℕ) → from ≤ length h →
+    level_of s (e ∷ h) t ≡ n → lasting s from (e ∷ h) t n ≡ lasting s from h t n + 1
+lasting_on s from e h t n l q =
+    rw (le-ltb (length h) from l) (rw (eq-eqb (level_of s (e ∷ h) t) n q) refl)
+
+lasting_off : (s : Start) (from : ℕ) (e : Entry) (h : List Entry) (t : Track) (n : ℕ) →
+    (level_of s (e ∷ h) t ≡ n → ⊥) → lasting s from (e ∷ h) t n ≡ 0
+lasting_off s from e h t n ne = lasting_none s from (e ∷ h) t n (λ l. ne)
+
+-- a run that reaches the newest entry has lasted since its first
+lasts : (s : Start) (from : ℕ) (h : List Entry) (t : Track) (n first : ℕ) → from ≤ first → first < length h →
+    ((number : ℕ) → first ≤ number → number < length h → level_behind s h t.seat t.kind number ≡ n) →
+    (first ≡ from) ⊎ (level_behind s h t.seat t.kind (first - 1) ≢ n) →
+    lasting s from h t n + first ≡ length h
+lasts s from [] t n first f l all before = absurd (omega (arith, l))
+lasts s from (e ∷ h) t n first f l all before =
+    ⊎_elim
+    (λ more.
+    let ih = lasts s from h t n first f more
+    (λ k a b. sym (behind_same s e h t.seat t.kind k b) ∙ all k a (omega (arith, b)))
+    (⊎_elim (λ q. inl q)
+    (λ ne. inr (λ q. ne (behind_same s e h t.seat t.kind (first - 1) (omega (arith, more)) ∙ q))) before) in
+    omega (arith, ih, on))
+    (λ less.
+    let z = lasting_none s from h t n (λ m same. now less m same) in
+    omega (arith, z, on, less, l))
+    (cases_lt first (length h))
+  where
+    on : lasting s from (e ∷ h) t n ≡ lasting s from h t n + 1
+    on = lasting_on s from e h t n (omega (arith, f, l))
+        (sym (behind_last s (e ∷ h) t.seat t.kind (length h) (omega arith))
+        ∙ all (length h) (omega (arith, l)) (omega arith))
+
+    now : length h ≤ first → from < length h → level_of s h t ≡ n → ⊥
+    now less m same = ⊎_elim (λ q. absurd (omega (arith, q, less, m)))
+        (λ ne. ne (behind_same s e h t.seat t.kind (first - 1) (omega (arith, m, less, l))
+        ∙ behind_last s h t.seat t.kind (first - 1) (omega (arith, m, less, l)) ∙ same)) before
+
+-- and what has lasted is a run
+lasting_within : (s : Start) (from : ℕ) (h : List Entry) (t : Track) (n : ℕ) →
+    lasting s from h t n ≤ length h - from
+lasting_within s from [] t n = omega arith
+lasting_within s from (e ∷ h) t n =
+    ⊎_elim (λ early. let z = lasting_too_early s from e h t n early in omega (arith, z))
+    (λ l. ⊎_elim
+    (λ q. let m = lasting_on s from e h t n l q in
+    let ih = lasting_within s from h t n in omega (arith, m, ih, l))
+    (λ ne. let z = lasting_off s from e h t n ne in omega (arith, z))
+    (cases_eq (level_of s (e ∷ h) t) n))
+    (cases_lt (length h) from)
+
+lasting_throughout : (s : Start) (from : ℕ) (h : List Entry) (t : Track) (n k : ℕ) →
+    length h - lasting s from h t n ≤ k → k < length h → level_behind s h t.seat t.kind k ≡ n
+lasting_throughout s from [] t n k a b = absurd (omega (arith, b))
+lasting_throughout s from (e ∷ h) t n k a b =
+    ⊎_elim (λ early. let z = lasting_too_early s from e h t n early in absurd (omega (arith, z, a, b)))
+    (λ l. ⊎_elim
+    (λ q. let m = lasting_on s from e h t n l q in
+    ⊎_elim
+    (λ old. behind_same s e h t.seat t.kind k old
+    ∙ lasting_throughout s from h t n k (omega (arith, m, a)) old)
+    (λ new. behind_last s (e ∷ h) t.seat t.kind k (omega (arith, new, b)) ∙ q)
+    (cases_lt k (length h)))
+    (λ ne. let z = lasting_off s from e h t n ne in absurd (omega (arith, z, a, b)))
+    (cases_eq (level_of s (e ∷ h) t) n))
+    (cases_lt (length h) from)
+
+lasting_before : (s : Start) (from : ℕ) (h : List Entry) (t : Track) (n : ℕ) →
+    from < length h - lasting s from h t n →
+    level_behind s h t.seat t.kind (length h - lasting s from h t n - 1) ≡ n → ⊥
+lasting_before s from [] t n a q = absurd (omega (arith, a))
+lasting_before s from (e ∷ h) t n a q =
+    ⊎_elim (λ early. let z = lasting_too_early s from e h t n early in absurd (omega (arith, z, a, early)))
+    (λ l. ⊎_elim
+    (λ same. let m = lasting_on s from e h t n l same in
+    let place : length (e ∷ h) - lasting s from (e ∷ h) t n - 1 ≡ length h - lasting s from h t n - 1 =
+    omega (arith, m) in
+    lasting_before s from h t n (omega (arith, m, a))
+    (sym (behind_same s e h t.seat t.kind (length h - lasting s from h t n - 1) (omega (arith, m, a)))
+    ∙ sym (ap (level_behind s (e ∷ h) t.seat t.kind) place) ∙ q))
+    (λ ne. let z = lasting_off s from e h t n ne in
+    let place : length (e ∷ h) - lasting s from (e ∷ h) t n - 1 ≡ length h = omega (arith, z) in
+    ne (sym (behind_last s (e ∷ h) t.seat t.kind (length h) (omega arith))
+    ∙ sym (ap (level_behind s (e ∷ h) t.seat t.kind) place) ∙ q))
+    (cases_eq (level_of s (e ∷ h) t) n))
+    (cases_lt (length h) from)
+
+-- the bar of a track that reaches the newest entry
+abbrev reaching : Start → ℕ → List Entry → Track → Bar
+reaching s from h t =
+    record {
+      seat = t.seat;
+      kind = t.kind;
+      first = length h - lasting s from h t (level_of s h t);
+      last = length h - 1;
+      holds = level_of s h t;
+    }
+
+bar_at_is : (s : Start) (from : ℕ) (h : List Entry) (t : Track) → 0 < level_of s h t → from < length h →
+    bar_at s from h t ≡ reaching s from h t ∷ []
+bar_at_is s from h t p l =
+    rw (ne_eqb (level_of s h t) 0 (λ q. absurd (omega (arith, q, p)))) (rw (lt-ltb from (length h) l) refl)
+
+in_bar_at : (s : Start) (from : ℕ) (h : List Entry) (t : Track) (b : Bar) → Contains (bar_at s from h t) b →
+    (reaching s from h t ≡ b) × (0 < level_of s h t) × (from < length h)
+in_bar_at s from h t b c = by (eqb (level_of s h t) 0) (ltb from (length h)) refl refl c
+  where
+    by : (x y : Bool) → eqb (level_of s h t) 0 ≡ x → ltb from (length h) ≡ y →
+        Contains (cond x [] (cond y (reaching s from h t ∷ []) [])) b →
+        (reaching s from h t ≡ b) × (0 < level_of s h t) × (from < length h)
+    by true y p q c = absurd (nothing_in b c)
+    by false true p q c =
+        let ne = eqb-false (level_of s h t) 0 p in
+        (one_in (reaching s from h t) b c, omega (arith, ne), ltb-true from (length h) q)
+    by false false p q c = absurd (nothing_in b c)
+
+reaching_run : (s : Start) (from : ℕ) (h : List Entry) (t : Track) →
+    IsTrack s.header.seats s.header.conditions t → 0 < level_of s h t → from < length h →
+    IsRun s from h (reaching s from h t)
+reaching_run s from h t is p l =
+    let n = level_of s h t in
+    let within = lasting_within s from h t n in
+    let some : 0 < lasting s from h t n = lasted h p l in
+    record {
+      seat = is.0;
+      kind = is.1;
+      some = p;
+      begins_within = omega (arith, within, l);
+      order = omega (arith, some);
+      ends_within = omega (arith, l);
+      throughout = λ k a b. lasting_throughout s from h t n k a (omega (arith, b, l));
+      before = ⊎_elim (λ later. inr (λ q. lasting_before s from h t n later q))
+          (λ early. inl (omega (arith, early, within, l)))
+          (cases_lt from (length h - lasting s from h t n));
+    }
+  where
+    lasted : (h : List Entry) → 0 < level_of s h t → from < length h →
+        0 < lasting s from h t (level_of s h t)
+    lasted [] p l = absurd (omega (arith, l))
+    lasted (e ∷ h) p l =
+        let m = lasting_on s from e h t (level_of s (e ∷ h) t) (omega (arith, l)) refl in omega (arith, m)
+
+-- a run that reaches the newest entry is the bar of its track
+run_reaching : (s : Start) (from : ℕ) (h : List Entry) (b : Bar) → IsRun s from h b → b.last + 1 ≡ length h →
+    Contains (bar_at s from h (track b.seat b.kind)) b
+run_reaching s from h b r q =
+    let t = track b.seat b.kind in
+    let now : level_of s h t ≡ b.holds =
+    sym (behind_last s h b.seat b.kind b.last q) ∙ r.throughout b.last r.order (omega arith) in
+    let some : 0 < level_of s h t = omega (arith, now, r.some) in
+    let since = lasts s from h t b.holds b.first r.begins_within (omega (arith, r.order, r.ends_within))
+    (λ k f l. r.throughout k f (omega (arith, l, q))) r.before in
+    let first : length h - lasting s from h t (level_of s h t) ≡ b.first =
+    ap (λ n. length h - lasting s from h t n) now ∙ omega (arith, since) in
+    let last : length h - 1 ≡ b.last = omega (arith, q) in
+    subst (λ xs. Contains xs b)
+    (sym (bar_at_is s from h t some (omega (arith, r.begins_within, r.order, r.ends_within))))
+    (alone_in (reaching s from h t) b (same b first last now))
+  where
+    same : (b : Bar) → length h - lasting s from h (track b.seat b.kind) (level_of s h (track b.seat b.kind))
+        ≡ b.first → length h - 1 ≡ b.last → level_of s h (track b.seat b.kind) ≡ b.holds →
+        reaching s from h (track b.seat b.kind) ≡ b
+    same b f l n = rw (f, l, n) refl
+
+-- the bars that have ended: runs with another level behind them
+record HasEnded (s : Start) (from : ℕ) (h : List Entry) (b : Bar) : Type 0 where
+  run : IsRun s from h b
+  more : b.last + 1 < length h
+  behind : level_behind s h b.seat b.kind (b.last + 1) ≢ b.holds
+
+ended_run : (s : Start) (from : ℕ) (h : List Entry) (b : Bar) → Contains (ended s from h) b →
+    HasEnded s from h b
+ended_run s from [] b c = absurd (nothing_in b c)
+ended_run s from (e ∷ h) b c =
+    ⊎_elim
+    (λ old. let r = ended_run s from h b old in
+    record {
+      run = run_later s from e h b r.run;
+      more = omega (arith, r.more);
+      behind = λ q. r.behind (sym (behind_same s e h b.seat b.kind (b.last + 1) r.more) ∙ q);
+    })
+    (λ new. let x = flat_in (ended_by s from e h) (tracks s.header) b new in
+    fresh x.0 (in_below s.header.conditions s.header.seats x.0 x.1)
+    (eqb (level_of s (e ∷ h) x.0) (level_of s h x.0)) refl x.2)
+    (Contains-append_cases (ended s from h) (flat_map (ended_by s from e h) (tracks s.header)) b c)
+  where
+    fresh : (t : Track) → IsTrack s.header.seats s.header.conditions t → (x : Bool) →
+        eqb (level_of s (e ∷ h) t) (level_of s h t) ≡ x → Contains (cond x [] (bar_at s from h t)) b →
+        HasEnded s from (e ∷ h) b
+    fresh t is true p c = absurd (nothing_in b c)
+    fresh t is false p c =
+        let r = in_bar_at s from h t b c in
+        let run = run_later s from e h (reaching s from h t) (reaching_run s from h t is r.1 r.2) in
+        subst (HasEnded s from (e ∷ h)) r.0 (record {
+          run = run;
+          more = (let l = r.2 in omega (arith, l));
+          behind = λ q. eqb-false (level_of s (e ∷ h) t) (level_of s h t) p
+              (sym (behind_last s (e ∷ h) t.seat t.kind (length h - 1 + 1)
+              (let l = r.2 in omega (arith, l))) ∙ q);
+        })
+
+run_ended : (s : Start) (from : ℕ) (h : List Entry) (b : Bar) → HasEnded s from h b →
+    Contains (ended s from h) b
+run_ended s from [] b r = absurd (omega (arith, r.more))
+run_ended s from (e ∷ h) b r =
+    let before = run_earlier s from e h b (omega (arith, r.more)) r.run in
+    ⊎_elim
+    (λ old. Contains-append_left (ended s from h) (flat_map (ended_by s from e h) (tracks s.header)) b
+    (run_ended s from h b (record {
+      run = before;
+      more = old;
+      behind = λ q. r.behind (behind_same s e h b.seat b.kind (b.last + 1) old ∙ q);
+    })))
+    (λ new. let last : b.last + 1 ≡ length h = omega (arith, new, r.more) in
+    Contains-append_right (ended s from h) (flat_map (ended_by s from e h) (tracks s.header)) b
+    (in_flat (ended_by s from e h) (tracks s.header) (track b.seat b.kind) b
+    (below_in s.header.conditions s.header.seats b.seat b.kind r.run.seat r.run.kind)
+    (subst (λ xs. Contains xs b) (sym (changed before last)) (run_reaching s from h b before last))))
+    (cases_lt (b.last + 1) (length h))
+  where
+    changed : IsRun s from h b → b.last + 1 ≡ length h →
+        ended_by s from e h (track b.seat b.kind) ≡ bar_at s from h (track b.seat b.kind)
+    changed before last =
+        let was : level_of s h (track b.seat b.kind) ≡ b.holds =
+        sym (behind_last s h b.seat b.kind b.last last) ∙ before.throughout b.last before.order (omega arith) in
+        rw (ne_eqb (level_of s (e ∷ h) (track b.seat b.kind)) (level_of s h (track b.seat b.kind))
+        (λ q. r.behind (behind_last s (e ∷ h) b.seat b.kind (b.last + 1) (omega (arith, last)) ∙ q ∙ was)))
+        refl
+
+-- the bars are those, and those that reach the newest entry
+pub bars_exact : (s : Start) (from : ℕ) (h : List Entry) (b : Bar) →
+    Contains (bars s from h) b ↔ IsBar s from h b
+bars_exact s from h b = (to, back)
+  where
+    whole : IsRun s from h b
+        → (b.last + 1 ≡ length h) ⊎ (level_behind s h b.seat b.kind (b.last + 1) ≢ b.holds)
+        → IsBar s from h b
+    whole r behind =
+        record {
+          seat = r.seat;
+          kind = r.kind;
+          some = r.some;
+          begins_within = r.begins_within;
+          order = r.order;
+          ends_within = r.ends_within;
+          throughout = r.throughout;
+          before = r.before;
+          behind = behind;
+        }
+
+    to : Contains (bars s from h) b → IsBar s from h b
+    to c = ⊎_elim (λ old. let r = ended_run s from h b old in whole r.run (inr r.behind))
+        (λ new. let x = flat_in (bar_at s from h) (tracks s.header) b new in
+        let r = in_bar_at s from h x.0 b x.2 in
+        let is = in_below s.header.conditions s.header.seats x.0 x.1 in
+        let run = subst (IsRun s from h) r.0 (reaching_run s from h x.0 is r.1 r.2) in
+        let last : length h - 1 ≡ b.last = ap (λ (y : Bar). y.last) r.0 in
+        whole run (inl (let l = r.2 in omega (arith, l, last))))
+        (Contains-append_cases (ended s from h) (flat_map (bar_at s from h) (tracks s.header)) b c)
+
+    reaches : IsRun s from h b → b.last + 1 ≡ length h → Contains (bars s from h) b
+    reaches run last = Contains-append_right (ended s from h) (flat_map (bar_at s from h) (tracks s.header)) b
+        (in_flat (bar_at s from h) (tracks s.header) (track b.seat b.kind) b
+        (below_in s.header.conditions s.header.seats b.seat b.kind run.seat run.kind)
+        (run_reaching s from h b run last))
+
+    back : IsBar s from h b → Contains (bars s from h) b
+    back r =
+        let run : IsRun s from h b = record {
+          seat = r.seat;
+          kind = r.kind;
+          some = r.some;
+          begins_within = r.begins_within;
+          order = r.order;
+          ends_within = r.ends_within;
+          throughout = r.throughout;
+          before = r.before;
+        } in
+        ⊎_elim (λ last. reaches run last)
+        (λ ne. ⊎_elim
+        (λ more. Contains-append_left (ended s from h) (flat_map (bar_at s from h) (tracks s.header)) b
+        (run_ended s from h b (record { run = run; more = more; behind = ne })))
+        (λ less. reaches run (omega (arith, less, r.ends_within)))
+        (cases_lt (b.last + 1) (length h)))
+        r.behind

@@ -1,0 +1,7 @@
+mod Walks
+mod TablesFollow
+mod StretchesFollow
+mod MarksFollow
+mod TracksSeated
+mod BarsExact
+mod Examples

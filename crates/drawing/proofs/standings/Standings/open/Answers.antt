@@ -1,0 +1,37 @@
+use Rattle.std.proofs.Common.{◌≡◌, ℕ, zero, suc, Bool, false, List, [], length, get_or, replicate, refl, ap, ◌∙◌, sym, arith, rules}
+use Rattle.std.proofs.lemmas.List.{length-replicate, get_or-replicate}
+use Rattle.std.proofs.lemmas.List.Elements.{All-nil}
+use Rattle.drawing.proofs.standings.Standings.open.Goals as goal
+
+zeros : (n i : ℕ) → ◌≡◌ {A = ℕ} (get_or (replicate n 0) i 0) 0
+zeros zero i = refl
+zeros (suc n) zero = refl
+zeros (suc n) (suc i) = zeros n i
+
+nobody : (n i : ℕ) → ◌≡◌ {A = Bool} (get_or (replicate n false) i false) false
+nobody zero i = refl
+nobody (suc n) zero = refl
+nobody (suc n) (suc i) = nobody n i
+
+pub returns : goal.returns
+returns c k seats =
+    let x : c.in_ok-exclusive.exclusive.items ≡ replicate c.args.seats 0 =
+    c.in_ok-exclusive.ensures.items_if_clones_equal (λ y q. search rules) in
+    let s : c.in_ok-shared.shared.items ≡ replicate c.args.seats 0 =
+    c.in_ok-shared.ensures.items_if_clones_equal (λ y q. search rules) in
+    let w : c.in_ok-in_line.in_line.items ≡ replicate c.args.seats false =
+    c.in_ok-in_line.ensures.items_if_clones_equal (λ y q. search rules) in
+    let a : c.in_ok-asleep.asleep.items ≡ replicate 256 [] = c.in_ok-asleep.ensures in
+    record {
+      exclusive_seats = ap length x ∙ length-replicate c.args.seats 0 ∙ sym seats;
+      shared_seats = ap length s ∙ length-replicate c.args.seats 0 ∙ sym seats;
+      line_seats = ap length w ∙ length-replicate c.args.seats false ∙ sym seats;
+      conditions = ap length a ∙ length-replicate {A = List ℕ} 256 [];
+      exclusive = λ i. ap (λ l. get_or l i 0) x ∙ zeros c.args.seats i;
+      shared = λ i. ap (λ l. get_or l i 0) s ∙ zeros c.args.seats i;
+      waits = λ i l. ap (λ l. get_or l i false) w ∙ nobody c.args.seats i;
+      sleeps = λ i l. ap (λ l. get_or l i []) a ∙ get_or-replicate {A = List ℕ} 256 i [] [] l;
+      seated = λ i. All-nil _;
+      exclusive_bound = λ i. omega arith;
+      shared_bound = λ i. omega arith;
+    }

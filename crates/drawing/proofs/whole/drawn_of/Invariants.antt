@@ -1,0 +1,7 @@
+use Rattle.std.proofs.Common.{reverse, take}
+use Rattle.drawing.specs.Drawing.{HasDrawn}
+use Rattle.drawing.proofs.whole.drawn_of.Given as goal
+
+-- the entries so far were followed
+abbrev pub invariant-loop-entry : goal.invariant-loop-entry
+invariant-loop-entry l = HasDrawn l.fn.header l.from (reverse (take l.entry-index l.entries)) l.drawing

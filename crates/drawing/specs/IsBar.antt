@@ -1,0 +1,37 @@
+-- What a bar of a history is.
+use Rattle.std.specs.Prelude.{◌≡◌, ◌≢◌, ◌<◌, ◌≤◌, ◌⊎◌, ℕ, ◌+◌, ◌-◌, List, length, drop}
+use Rattle.history.specs.declared.entry.Entry.{Entry}
+use Rattle.history.specs.Start.{Start}
+use Rattle.drawing.specs.declared.bar.Bar.{Bar}
+use Rattle.drawing.specs.declared.kind.Kind.{Kind}
+use Rattle.drawing.specs.declared.kind.Kind.TheVariants.{Exclusive, Shared, InLine, Asleep}
+use Rattle.drawing.specs.Levels.{level}
+
+-- the entries up to the one of a number: the newest stands first, and numbers count from the oldest, from 0
+abbrev pub up_to : ℕ → List Entry → List Entry
+up_to number h = drop (length h - (number + 1)) h
+
+-- the level of a seat behind the entry of a number
+abbrev pub level_behind : Start → List Entry → ℕ → Kind → ℕ → ℕ
+level_behind s h i kind number = level s (up_to number h) i kind
+
+-- the kinds of an object with so many conditions
+abbrev pub IsKind : ℕ → Kind → Type 0
+IsKind conditions Exclusive = Unit {0}
+IsKind conditions Shared = Unit {0}
+IsKind conditions InLine = Unit {0}
+IsKind conditions (Asleep c) = c < conditions
+
+-- A bar of the entries from a number on: a stretch of entries behind each of which the seat has these holds, as
+-- many as the bar says and at least one, and which is part of no longer one.
+pub record IsBar (s : Start) (from : ℕ) (h : List Entry) (b : Bar) : Type 0 where
+  pub seat : b.seat < s.header.seats
+  pub kind : IsKind s.header.conditions b.kind
+  pub some : 0 < b.holds
+  pub begins_within : from ≤ b.first
+  pub order : b.first ≤ b.last
+  pub ends_within : b.last < length h
+  pub throughout : (number : ℕ) → b.first ≤ number → number ≤ b.last →
+      level_behind s h b.seat b.kind number ≡ b.holds
+  pub before : (b.first ≡ from) ⊎ (level_behind s h b.seat b.kind (b.first - 1) ≢ b.holds)
+  pub behind : (b.last + 1 ≡ length h) ⊎ (level_behind s h b.seat b.kind (b.last + 1) ≢ b.holds)

@@ -1,0 +1,47 @@
+-- The stretches that a drawing keeps, one for each track, and what an entry makes of them.
+use Rattle.std.specs.Prelude.{ℕ, ◌-◌, ◌==◌, nat_lt, if◌then◌else◌, List, [], ◌∷◌, length, map}
+use Rattle.history.specs.declared.entry.Entry.{Entry}
+use Rattle.history.specs.Start.{Start}
+use Rattle.drawing.specs.declared.bar.Bar.{Bar}
+use Rattle.drawing.specs.declared.bar.Stretch.{Stretch}
+use Rattle.drawing.specs.Levels.{Track, level, level_of, tracks}
+use Rattle.drawing.specs.Bars.{lasting}
+
+-- a stretch begins with no holds at the first entry that is drawn
+abbrev pub fresh : ℕ → Track → Stretch
+fresh from t = record { seat = t.seat; kind = t.kind; first = from; holds = 0 }
+
+-- the level of a track, and the number of the entry since which it has been the same
+abbrev pub stretch : Start → ℕ → List Entry → Track → Stretch
+stretch s from h t =
+    if nat_lt from (length h) then
+    record {
+      seat = t.seat;
+      kind = t.kind;
+      first = length h - lasting s from h t (level_of s h t);
+      holds = level_of s h t;
+    }
+    else fresh from t
+
+abbrev pub stretches : Start → ℕ → List Entry → List Stretch
+stretches s from h = map (stretch s from h) (tracks s.header)
+
+-- the bar of a stretch that ends before the entry of a number, where it is one of holds
+abbrev pub bar_of : ℕ → Stretch → List Bar
+bar_of number x =
+    if x.holds == 0 then []
+    else
+    record { seat = x.seat; kind = x.kind; first = x.first; last = number - 1; holds = x.holds } ∷ []
+
+-- the level behind a history, in place of which a stretch has another, or the same
+abbrev pub level_now : Start → List Entry → Stretch → ℕ
+level_now s h x = level s h x.seat x.kind
+
+-- a stretch behind the entry of a number, which is the newest, and the bar that ends with it
+abbrev pub going_on : Start → List Entry → ℕ → Stretch → Stretch
+going_on s h number x =
+    if level_now s h x == x.holds then x
+    else record { seat = x.seat; kind = x.kind; first = number; holds = level_now s h x }
+
+abbrev pub ending : Start → List Entry → ℕ → Stretch → List Bar
+ending s h number x = if level_now s h x == x.holds then [] else bar_of number x

@@ -1,0 +1,105 @@
+//! What is drawn of a history whose entries come one after another.
+
+ghost use Rattle.std.specs.Prelude.{◌≡◌, ℕ, ◌+◌, ◌<◌, ◌^◌, ◌∷◌, [], List, IfOk, OnOk};
+ghost use Rattle.history.specs.Header.{IsInRange};
+ghost use Rattle.history.specs.Start.{opening};
+ghost use Rattle.history.specs.declared.entry.Entry.{Entry};
+ghost use Rattle.history.specs.declared.header.Header.{Header};
+ghost use Rattle.drawing.specs.Bars.{bars};
+ghost use Rattle.drawing.specs.Curve.{curve};
+ghost use Rattle.drawing.specs.Drawing.{CanDraw, HasDrawn, IsDrawing};
+ghost use Rattle.drawing.specs.Marks.{marks};
+
+use crate::amounts::Amounts;
+use crate::bar::{Bar, Stretch};
+use crate::mark::{Mark, put_mark};
+use crate::standings::Standings;
+use crate::stretches::{begin_all, end_all, go_on};
+use history::entry::Entry;
+use history::header::Header;
+use std::alloc::{AllocError, Global};
+
+/// What is drawn of a history.
+#[derive(Drop)]
+pub struct Drawn {
+    /// By their last entries, then by seats and kinds.
+    pub bars: Vec<Bar>,
+    pub marks: Vec<Mark>,
+    /// A semaphore's free permits, or a latch's count, behind each entry; nothing of a lock.
+    pub curve: Vec<i128>,
+}
+
+/// Follows the entries of a history one after another, and keeps what is drawn from one of them on.
+#[derive(Drop)]
+pub struct Drawing {
+    pub(crate) header: Header,
+    pub(crate) from: u64,
+    pub(crate) count: u64,
+    pub(crate) standings: Standings,
+    pub(crate) amounts: Amounts,
+    pub(crate) stretches: Vec<Stretch>,
+    pub(crate) bars: Vec<Bar>,
+    pub(crate) marks: Vec<Mark>,
+    pub(crate) curve: Vec<i128>,
+}
+
+impl Drawing {
+    /// What is drawn of an object as opened, from the entry of a number on.
+    pub fn open(alloc: Global, header: Header, from: u64) -> Result<Self, AllocError>
+        ensures { IfOk result (HasDrawn header from []) }
+    {
+        let standings = Standings::open(alloc, header.seats)?;
+        let stretches = begin_all(alloc, header, from)?;
+        Ok(Drawing {
+            header,
+            from,
+            count: 0,
+            standings,
+            amounts: Amounts::open(header.object),
+            stretches,
+            bars: Vec::new(alloc),
+            marks: Vec::new(alloc),
+            curve: Vec::new(alloc),
+        })
+    }
+
+    /// Follows one more entry of one of the seats, whether it is legal or not. Behind an Err nothing more can be
+    /// drawn.
+    pub fn follow(&mut self, entry: Entry) -> Result<(), AllocError>
+        requires { CanDraw self.old entry }
+        ensures { OnOk result ((k : Header) (from : ℕ) (h : List Entry) → HasDrawn k from h self.old →
+            entry.seat < k.seats → HasDrawn k from (entry ∷ h) self.new) }
+    {
+        let object = self.header.object;
+        self.standings.note(object, entry)?;
+        self.amounts.note(entry);
+        let number = self.count;
+        self.count += 1;
+        if number < self.from {
+            return Ok(());
+        }
+        go_on(&mut self.stretches, &mut self.bars, &self.standings, number)?;
+        put_mark(&mut self.marks, number, entry)?;
+        self.amounts.put_point(object, &mut self.curve)?;
+        Ok(())
+    }
+
+    /// What is drawn of the entries that were followed.
+    pub fn finish(self) -> Result<Drawn, AllocError>
+        requires { IsDrawing self }
+        ensures bars { IfOk result (λ drawn. (k : Header) (from : ℕ) (h : List Entry) →
+            HasDrawn k from h self → drawn.bars.items ≡ bars (opening k) from h) }
+        ensures marks { IfOk result (λ drawn. (k : Header) (from : ℕ) (h : List Entry) →
+            HasDrawn k from h self → drawn.marks.items ≡ marks from h) }
+        ensures curve { IfOk result (λ drawn. (k : Header) (from : ℕ) (h : List Entry) →
+            HasDrawn k from h self → drawn.curve.items ≡ curve (opening k) from h) }
+    {
+        let mut bars = self.bars;
+        end_all(&self.stretches, &mut bars, self.count)?;
+        Ok(Drawn {
+            bars,
+            marks: self.marks,
+            curve: self.curve,
+        })
+    }
+}

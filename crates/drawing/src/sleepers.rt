@@ -1,0 +1,96 @@
+//! The sleepers of one condition, and who of them joins the line.
+
+ghost use Rattle.std.specs.Prelude.{◌≡◌, ℕ, ◌<◌, ◌≤◌, ◌||◌, [], false, length, drop, slice_index_or, OnOk};
+ghost use Rattle.std.specs.List.{All};
+ghost use Rattle.history.specs.Sleepers.{has, sleepers_after, without};
+ghost use Rattle.drawing.specs.Woken.{woken};
+
+use history::entry::{Entry, Word};
+use std::alloc::{AllocError, Global};
+use std::marker::Model;
+
+/// The seats that sleep on one condition, the longest sleeper first.
+#[derive(Drop)]
+pub(crate) struct Sleepers {
+    seats: Vec<u16>,
+}
+
+impl Model for Sleepers {
+    ghost use Rattle.std.specs.Prelude.{ℕ, List};
+
+    ghost Value = { List ℕ };
+
+    ghost view = { λ a. a.seats.items };
+}
+
+impl Sleepers {
+    /// Nobody sleeps.
+    pub(crate) fn open(alloc: Global) -> Self
+        ensures { result ≡ [] }
+    {
+        Sleepers {
+            seats: Vec::new(alloc),
+        }
+    }
+
+    /// Whether a seat sleeps there.
+    pub(crate) fn contains(&self, seat: u16) -> bool
+        ensures { result ≡ has seat self.now }
+    {
+        self.seats.contains(&seat)
+    }
+
+    /// Follows an entry on the condition, and has those whom it wakes stand in line.
+    pub(crate) fn note(&mut self, in_line: &mut Vec<bool>, entry: Entry) -> Result<(), AllocError>
+        requires { All (λ i. i < length in_line.old.items) self.old }
+        ensures sleepers { OnOk result (self.new ≡ sleepers_after entry.word entry.seat entry.n self.old) }
+        ensures line { OnOk result ((i : ℕ) → slice_index_or in_line.new.items i false
+            ≡ (slice_index_or in_line.old.items i false || has i (woken entry.word entry.n self.old))) }
+        ensures seats { length in_line.new.items ≡ length in_line.old.items }
+    {
+        match entry.word {
+            Word::Await => self.seats.push(entry.seat)?,
+            Word::Lapse => leave(&mut self.seats, entry.seat),
+            Word::Signal => {
+                let woken = self.seats.len().min(entry.n as usize);
+                mark_all(in_line, &self.seats[..woken]);
+                drop_front(&mut self.seats, woken);
+            }
+            Word::SignalAll => {
+                mark_all(in_line, &self.seats);
+                self.seats.clear();
+            }
+            _ => {}
+        }
+        Ok(())
+    }
+}
+
+/// Lets a seat leave a list.
+fn leave(seats: &mut Vec<u16>, leaver: u16)
+    ensures { seats.new.items ≡ without leaver seats.old.items }
+{
+    seats.retain(|seat| *seat != leaver);
+}
+
+/// Removes so many seats from the front of a list.
+fn drop_front(seats: &mut Vec<u16>, most: usize)
+    requires { most ≤ length seats.old.items }
+    ensures { seats.new.items ≡ drop most seats.old.items }
+{
+    for _ in 0..most {
+        seats.remove(0);
+    }
+}
+
+/// Has all these seats stand in line.
+fn mark_all(in_line: &mut Vec<bool>, seats: &[u16])
+    requires { All (λ i. i < length in_line.old.items) seats.now }
+    ensures marked { (i : ℕ) → slice_index_or in_line.new.items i false
+        ≡ (slice_index_or in_line.old.items i false || has i seats.now) }
+    ensures seats { length in_line.new.items ≡ length in_line.old.items }
+{
+    for seat in seats {
+        in_line[*seat as usize] = true;
+    }
+}
