@@ -13,6 +13,7 @@ use streams::stream_fault::StreamFault;
 use tasks::fault::Fault;
 use tasks::task::{Job, Task};
 use tasks::told::told;
+use test_support::memory::Memory;
 use workers::RunFault;
 
 #[test]
@@ -223,6 +224,29 @@ fn ends_with_a_status(rt: HostRuntime) -> Result<(), Fail> {
         assert!(rt; output.as_slice() == expected.as_bytes());
         assert!(rt; noted.0.into_inner().as_str() == *error);
     }
+    Ok(())
+}
+
+/// Memory comes back piece by piece, and each time the program says that it lacks memory and writes nothing, until
+/// there is enough. The words of its command line take some of it, what it reads and writes most.
+#[test]
+fn a_program_that_lacks_memory_says_so(rt: HostRuntime) -> Result<(), Fail> {
+    let mut output = Vec::with_capacity(rt.alloc(), 256)?;
+    let mut memory = Memory::take_all(rt.alloc(), 64)?;
+    let mut refused: u32 = 0;
+    for _ in 0..4096 {
+        let Err(fault) = run(&rt, &["aqs", "replay"], STEPS, &mut output) else {
+            break;
+        };
+        assert!(rt; fault.status() == 5 && output.is_empty(), "{refused}");
+        refused = refused.saturating_add(1);
+        let _was_left = memory.give_piece();
+    }
+    assert!(rt;
+        1000 <= refused && refused < 4096,
+        "refused {refused} times"
+    );
+    assert!(rt; output.starts_with(b"aqs-replay 1 "));
     Ok(())
 }
 

@@ -3,6 +3,7 @@
 mod audits;
 mod changes;
 mod devices;
+mod keeping;
 mod lines;
 mod memory;
 mod pages;
@@ -12,4 +13,5 @@ mod readers;
 mod replays;
 mod spoiled;
 mod streamed;
+mod whole;
 mod windows;

@@ -6,7 +6,7 @@
 
 ghost use Rattle.std.specs.Prelude.{◌≡◌, IfOk};
 ghost use Rattle.history.specs.Header.{IsInRange};
-ghost use Rattle.history.specs.Legal.{AreSeated};
+ghost use Rattle.history.specs.Legal.{AreSeated, IsLegal};
 ghost use Rattle.history.specs.Start.{opening};
 
 use crate::auditing::histories::{are_seated, history_of};
@@ -32,46 +32,80 @@ const MOST: usize = 4096;
 /// the line and for the sleepers.
 const REQUESTS: usize = 11;
 
-/// The verdict, once there is memory for it, and how often memory was refused before.
-fn fed_check(alloc: Global, header: &Header, history: &History) -> Result<(Verdict, usize), Fail>
+/// The verdict, once there is memory for it that comes back piece by piece, and how often it was refused before.
+fn fed_check(
+    alloc: Global,
+    header: &Header,
+    history: &History,
+    memory: &mut Memory,
+) -> Result<(Verdict, usize), Fault>
+    requires range { IsInRange header.now }
+    requires cap { history.now.cap ≡ header.now.cap }
+    requires seated { AreSeated (opening header.now) history.now.entries }
+{
+    for refused in 0..MOST {
+        match check(alloc, header, history) {
+            Ok(verdict) => return Ok((verdict, refused)),
+            Err(Fault::OutOfMemory) => {}
+            Err(fault) => return Err(fault),
+        }
+        let _was_left = memory.give_piece();
+    }
+    Err(Fault::OutOfMemory)
+}
+
+/// The same where all memory is taken at first.
+fn check_from_none(
+    alloc: Global,
+    header: &Header,
+    history: &History,
+) -> Result<(Verdict, usize), Fault>
     requires range { IsInRange header.now }
     requires cap { history.now.cap ≡ header.now.cap }
     requires seated { AreSeated (opening header.now) history.now.entries }
 {
     let mut memory = Memory::take_all(alloc, PIECE)?;
-    for refused in 0..MOST {
-        match check(alloc, header, history) {
-            Ok(verdict) => return Ok((verdict, refused)),
-            Err(Fault::OutOfMemory) => {
-                let _was_left = memory.give_piece();
-            }
-            Err(_) => return Err(Fail::new("another fault")),
-        }
-    }
-    Err(Fail::new("memory was refused to the end"))
+    fed_check(alloc, header, history, &mut memory)
 }
 
-/// The totals of a legal history, once there is memory for them, and how often memory was refused before.
-fn fed_totals(alloc: Global, header: &Header, history: &History) -> Result<(Totals, usize), Fail>
+/// The totals of a legal history, once there is memory for them, and how often it was refused before.
+fn fed_totals(
+    alloc: Global,
+    header: &Header,
+    history: &History,
+    memory: &mut Memory,
+) -> Result<(Totals, usize), Fault>
+    requires range { IsInRange header.now }
+    requires seated { AreSeated (opening header.now) history.now.entries }
+    requires legal { IsLegal (opening header.now) history.now.entries }
+{
+    for refused in 0..MOST {
+        match totals(alloc, header, history) {
+            Ok(totals) => return Ok((totals, refused)),
+            Err(Fault::OutOfMemory) => {}
+            Err(fault) => return Err(fault),
+        }
+        let _was_left = memory.give_piece();
+    }
+    Err(Fault::OutOfMemory)
+}
+
+/// The same where all memory is taken at first.
+fn totals_from_none(
+    alloc: Global,
+    header: &Header,
+    history: &History,
+) -> Result<(Totals, usize), Fault>
     requires range { IsInRange header.now }
     requires cap { history.now.cap ≡ header.now.cap }
     requires seated { AreSeated (opening header.now) history.now.entries }
 {
     match check(alloc, header, history)? {
-        Verdict::NotLegal(_) => return Err(Fail::new("the history is not legal")),
+        Verdict::NotLegal(_) => return Err(Fault::OutOfPhase),
         Verdict::Legal => {}
     }
     let mut memory = Memory::take_all(alloc, PIECE)?;
-    for refused in 0..MOST {
-        match totals(alloc, header, history) {
-            Ok(totals) => return Ok((totals, refused)),
-            Err(Fault::OutOfMemory) => {
-                let _was_left = memory.give_piece();
-            }
-            Err(_) => return Err(Fail::new("another fault")),
-        }
-    }
-    Err(Fail::new("memory was refused to the end"))
+    fed_totals(alloc, header, history, &mut memory)
 }
 
 const HEADER: Header = Header {
@@ -110,9 +144,8 @@ fn each_request_of_a_check_is_refused(rt: HostRuntime) -> Result<(), Fail> {
     let history = signalled(rt.alloc())?;
     assert!(rt; HEADER.in_range());
     assert!(rt; are_seated(&HEADER, &history));
-    let (verdict, refused) = fed_check(rt.alloc(), &HEADER, &history)?;
-    assert_eq!(rt; verdict, Verdict::Legal);
-    assert!(rt; REQUESTS <= refused);
+    let checked = check_from_none(rt.alloc(), &HEADER, &history);
+    assert!(rt; matches!(checked, Ok((Verdict::Legal, refused)) if REQUESTS <= refused));
     Ok(())
 }
 
@@ -126,9 +159,8 @@ fn each_request_of_a_check_that_finds_a_wrong_entry_is_refused(
     history.add(plain(0, Word::TryGot, Mode::X, 1), 0);
     assert!(rt; HEADER.in_range());
     assert!(rt; are_seated(&HEADER, &history));
-    let (verdict, refused) = fed_check(rt.alloc(), &HEADER, &history)?;
-    assert_eq!(rt; verdict, Verdict::NotLegal(4));
-    assert!(rt; REQUESTS <= refused);
+    let checked = check_from_none(rt.alloc(), &HEADER, &history);
+    assert!(rt; matches!(checked, Ok((Verdict::NotLegal(4), refused)) if REQUESTS <= refused));
     Ok(())
 }
 
@@ -137,8 +169,8 @@ fn each_request_of_totals_is_refused(rt: HostRuntime) -> Result<(), Fail> {
     let history = signalled(rt.alloc())?;
     assert!(rt; HEADER.in_range());
     assert!(rt; are_seated(&HEADER, &history));
-    let (totals, refused) = fed_totals(rt.alloc(), &HEADER, &history)?;
-    assert_eq!(rt; (totals.x, totals.line, totals.sleepers), (1, 1, 0));
+    let (totals, refused) = totals_from_none(rt.alloc(), &HEADER, &history)?;
+    assert!(rt; totals.x == 1 && totals.line == 1 && totals.sleepers == 0);
     assert!(rt; REQUESTS <= refused);
     Ok(())
 }

@@ -6,7 +6,7 @@ use deciding::entries::plain;
 use history::entry::{Entry, Mode, Word};
 use history::fault::Fault;
 use history::header::{Header, Object, Policy};
-use std::alloc::Global;
+use std::alloc::{AllocError, Global};
 use std::test::Fail;
 
 const LOCK: Header = Header {
@@ -63,5 +63,29 @@ fn a_try_past_the_line_is_legal(rt: HostRuntime) -> Result<(), Fail> {
         plain(2, Word::TryGot, Mode::X, 1),
     ];
     assert!(rt; verdict_on(rt.alloc(), &LOCK, &entries) == Ok(Verdict::Legal));
+    Ok(())
+}
+
+/// Pairs of an acquire and a release whose entries are more than a million.
+const PAIRS: u32 = 600_000;
+
+/// The entries of so many pairs.
+fn entries_of_pairs(alloc: Global, pairs: u32) -> Result<Vec<Entry>, AllocError> {
+    let mut entries = Vec::new(alloc);
+    for _ in 0..pairs {
+        entries.push(plain(0, Word::Got, Mode::X, 1))?;
+        entries.push(plain(0, Word::Gave, Mode::X, 1))?;
+    }
+    Ok(entries)
+}
+
+#[test]
+fn a_long_history_is_judged(rt: HostRuntime) -> Result<(), Fail> {
+    let entries = entries_of_pairs(rt.alloc(), PAIRS)?;
+    let header = Header {
+        cap: 4_294_967_295,
+        ..LOCK
+    };
+    assert!(rt; verdict_on(rt.alloc(), &header, &entries) == Ok(Verdict::Legal));
     Ok(())
 }

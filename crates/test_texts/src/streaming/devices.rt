@@ -57,6 +57,18 @@ fn a_reader_and_a_writer_are_devices(rt: HostRuntime) -> Result<(), Fail> {
     Ok(())
 }
 
+/// As much is moved by a call as the reader gives and the writer takes.
+#[test]
+fn a_device_moves_all_that_it_can(rt: HostRuntime) -> Result<(), Fail> {
+    let mut buffer = [0; 16];
+    assert!(rt; Device::new(TEXT).read(&mut buffer) == Ok(16));
+    assert!(rt; buffer.as_slice() == &TEXT[..16]);
+    let mut written = Vec::new(rt.alloc());
+    assert!(rt; Device::new(&mut written).write(TEXT) == Ok(TEXT.len()));
+    assert!(rt; written.as_slice() == TEXT);
+    Ok(())
+}
+
 /// Any error fails, an interruption among them.
 #[test]
 fn an_error_of_reading_fails(rt: HostRuntime) -> Result<(), Fail> {

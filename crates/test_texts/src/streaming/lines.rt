@@ -4,7 +4,7 @@ ghost use Rattle.std.specs.Prelude.{◌≡◌, ◌<◌};
 ghost use Rattle.streams.specs.Window.{kept_of_line};
 
 use history::text::first_line;
-use std::alloc::Global;
+use std::alloc::{AllocError, Global};
 use std::process::Abort;
 use std::test::Fail;
 use streams::memory_sink::MemorySink;
@@ -26,36 +26,53 @@ fn read_line(window: &mut Window, source: &mut MemorySource) -> Result<(), Strea
     window.read_line(source)
 }
 
-/// A line, or what is left at the end of a source. The window lets go of it.
-fn line(alloc: Global, window: &mut Window, source: &mut MemorySource) -> Result<Vec<u8>, Fail>
+/// Whether the next line, or what is left at the end of a source, is this one. The window lets go of it.
+fn is_next(window: &mut Window, source: &mut MemorySource, line: &[u8]) -> bool
     requires { kept_of_line < window.old.places }
     ensures { window.new.places ≡ window.old.places }
 {
-    read_line(window, source)?;
-    let line = Vec::from_slice(alloc, window.bytes())?;
-    match first_line(&line) {
-        Some((line, rest)) => {
+    if read_line(window, source).is_err() {
+        return false;
+    }
+    match first_line(window.bytes()) {
+        Some((found, rest)) => {
+            let is_same = found == line;
             let left = rest.len();
             window.keep_last(left);
-            Ok(Vec::from_slice(alloc, line)?)
+            is_same
         }
         None => {
+            let is_same = window.bytes() == line;
             window.keep_last(0);
-            Ok(line)
+            is_same
         }
     }
 }
 
-/// The first three lines of a text that comes in such pieces.
-fn three_lines(alloc: Global, text: &[u8], piece: usize) -> Result<[Vec<u8>; 3], Fail> {
+/// Whether a source has these three lines.
+fn has_lines(
+    alloc: Global,
+    source: &mut MemorySource,
+    lines: &[&[u8]; 3],
+) -> Result<bool, AllocError> {
+    let mut window = Window::open(alloc)?;
+    let [first, second, third] = lines;
+    let is_first = is_next(&mut window, source, first);
+    let is_second = is_next(&mut window, source, second);
+    let is_third = is_next(&mut window, source, third);
+    Ok(is_first && is_second && is_third)
+}
+
+/// Whether the first three lines of a text that comes in such pieces are these.
+fn begins_with(
+    alloc: Global,
+    text: &[u8],
+    piece: usize,
+    lines: &[&[u8]; 3],
+) -> Result<bool, AllocError> {
     let bytes = Vec::from_slice(alloc, text)?;
     let mut source = MemorySource::new(bytes, piece.max(1), None);
-    let mut window = Window::open(alloc)?;
-    Ok([
-        line(alloc, &mut window, &mut source)?,
-        line(alloc, &mut window, &mut source)?,
-        line(alloc, &mut window, &mut source)?,
-    ])
+    has_lines(alloc, &mut source, lines)
 }
 
 /// The last is what stands behind the last line break; behind it there is nothing.
@@ -70,36 +87,58 @@ const TEXTS: [(&[u8], [&[u8]; 3]); 4] = [
 fn lines_stand_in_a_window_one_after_another(rt: HostRuntime) -> Result<(), Fail> {
     for (text, lines) in &TEXTS {
         for piece in [1, 5, 4096] {
-            let [first, second, third] = three_lines(rt.alloc(), text, piece)?;
-            assert!(rt; first.as_slice() == lines[0]);
-            assert!(rt; second.as_slice() == lines[1]);
-            assert!(rt; third.as_slice() == lines[2]);
+            assert!(rt; begins_with(rt.alloc(), text, piece, lines)?, "{piece}");
         }
     }
     Ok(())
 }
 
-/// What stands in a window that looks at one line of a text, and whether reading failed.
-fn seen(
+/// What a window that looks at one line does with a source: the bytes that stand in it, and whether reading failed.
+fn sees(
+    alloc: Global,
+    source: &mut MemorySource,
+    left: &[u8],
+    fails: bool,
+) -> Result<bool, AllocError> {
+    let mut window = Window::open(alloc)?;
+    let has_failed = read_line(&mut window, source) == Err(StreamFault::ReadFailed);
+    Ok(has_failed == fails && window.bytes() == left)
+}
+
+/// Whether it so looks at the first line of a text in such pieces, of which a read fails.
+fn looks_at(
     alloc: Global,
     text: &[u8],
     piece: usize,
     fails_at: Option<u64>,
-) -> Result<(Vec<u8>, bool), Fail> {
+    left: &[u8],
+    fails: bool,
+) -> Result<bool, AllocError> {
     let bytes = Vec::from_slice(alloc, text)?;
     let mut source = MemorySource::new(bytes, piece.max(1), fails_at);
-    let mut window = Window::open(alloc)?;
-    let answer = read_line(&mut window, &mut source);
-    let bytes = Vec::from_slice(alloc, window.bytes())?;
-    Ok((bytes, answer == Err(StreamFault::ReadFailed)))
+    sees(alloc, &mut source, left, fails)
 }
 
 /// What was read before a read failed stands in the window.
 #[test]
 fn a_failed_read_leaves_a_window_as_it_was(rt: HostRuntime) -> Result<(), Fail> {
     for (fails_at, left) in [(0, b"".as_slice()), (1, b"on"), (2, b"one ")] {
-        let (bytes, has_failed) = seen(rt.alloc(), b"one two\n", 2, Some(fails_at))?;
-        assert!(rt; has_failed && bytes.as_slice() == left, "{fails_at}");
+        assert!(rt;
+            looks_at(rt.alloc(), b"one two\n", 2, Some(fails_at), left, true)?,
+            "{fails_at}"
+        );
+    }
+    Ok(())
+}
+
+/// Once a whole line stands in the window nothing more is read: the next read would fail.
+#[test]
+fn a_line_is_read_and_nothing_behind_it(rt: HostRuntime) -> Result<(), Fail> {
+    for (piece, reads, left) in [(1, 4, b"one\n".as_slice()), (3, 2, b"one\ntw")] {
+        assert!(rt;
+            looks_at(rt.alloc(), b"one\ntwo\n", piece, Some(reads), left, false)?,
+            "{piece}"
+        );
     }
     Ok(())
 }
@@ -108,25 +147,30 @@ fn a_failed_read_leaves_a_window_as_it_was(rt: HostRuntime) -> Result<(), Fail> 
 #[test]
 fn the_front_of_a_long_line_stays(rt: HostRuntime) -> Result<(), Fail> {
     let long = [b'7'; 1000];
-    let (bytes, has_failed) = seen(rt.alloc(), &long, 100, None)?;
-    assert!(rt; !has_failed && bytes.as_slice() == &long[..256]);
+    assert!(rt; looks_at(rt.alloc(), &long, 100, None, &long[..256], false)?);
     Ok(())
 }
 
-/// What a sink of so many places is given of a piece, and whether all of it was written.
-fn written(
+/// Whether a sink is given so many bytes of a piece, and this says whether that is all.
+fn takes(sink: &mut MemorySink, piece: &[u8], count: usize) -> bool {
+    if sink.has_failed() {
+        return false;
+    }
+    let is_whole = write_all(sink, piece).is_ok();
+    let is_given = piece.get(..count) == Some(sink.bytes());
+    is_given && is_whole == (count == piece.len()) && sink.has_failed() != is_whole
+}
+
+/// The same of a sink of so many places, of which a write fails.
+fn is_written(
     alloc: Global,
     piece: &[u8],
     places: usize,
     fails_at: Option<u64>,
-) -> Result<(Vec<u8>, bool), Fail> {
+    count: usize,
+) -> Result<bool, AllocError> {
     let mut sink = MemorySink::with_places(alloc, places, 3, fails_at)?;
-    if sink.has_failed() {
-        return Err(Fail::new("failed before it was written to"));
-    }
-    let all = write_all(&mut sink, piece).is_ok();
-    let bytes = Vec::from_slice(alloc, sink.bytes())?;
-    Ok((bytes, all && !sink.has_failed()))
+    Ok(takes(&mut sink, piece, count))
 }
 
 const PIECE: &[u8] = b"a line\n";
@@ -144,14 +188,14 @@ const SINKS: [(usize, Option<u64>, usize); 6] = [
 #[test]
 fn all_is_written_or_a_front_of_it(rt: HostRuntime) -> Result<(), Fail> {
     for (places, fails_at, count) in SINKS {
-        let (bytes, is_whole) = written(rt.alloc(), PIECE, places, fails_at)?;
         assert!(rt;
-            bytes.as_slice() == &PIECE[..count],
-            "{places} {fails_at:?}"
+            is_written(rt.alloc(), PIECE, places, fails_at, count)?,
+            "{count} of {places}"
         );
-        assert!(rt; is_whole == (count == PIECE.len()), "{places} {fails_at:?}");
     }
-    let (_, is_whole) = written(rt.alloc(), b"", 0, Some(0))?;
-    assert!(rt; is_whole, "nothing is no write");
+    assert!(rt;
+        is_written(rt.alloc(), b"", 0, Some(0), 0)?,
+        "nothing is no write"
+    );
     Ok(())
 }

@@ -1,4 +1,4 @@
-//! Histories whose last entry stands on either side of the border of a page.
+//! Long histories, and those whose last entry stands on either side of the border of a page.
 
 use crate::streaming::audits::{is_legal, legal, written_again};
 use crate::streaming::streamed::streamed;
@@ -7,13 +7,13 @@ use history::fault::Fault;
 use std::alloc::{AllocError, Global};
 use std::process::Abort;
 use std::test::Fail;
-
-/// More places than any answer here takes.
-const AMPLE: usize = 65_536;
+use steps::{ReadFault, read_steps};
 
 /// The steps of so many pairs of an acquire and a release by the one seat.
-fn steps_of_pairs(alloc: Global, pairs: u64) -> Result<String, AllocError> {
-    let mut text = format!(in alloc; "aqs-steps 1 lock nonfair seats 1 conditions 0 cap 4096\n")?;
+pub fn steps_of_pairs(alloc: Global, pairs: u64) -> Result<String, AllocError> {
+    let mut text = format!(in alloc;
+        "aqs-steps 1 lock nonfair seats 1 conditions 0 cap 4294967295\n"
+    )?;
     for _ in 0..pairs {
         text.push_str("0 acquire x 1\n0 give x 1\n")?;
     }
@@ -23,8 +23,10 @@ fn steps_of_pairs(alloc: Global, pairs: u64) -> Result<String, AllocError> {
 }
 
 /// Their history: each step is one entry, and ends one call.
-fn history_of_pairs(alloc: Global, pairs: u64) -> Result<String, AllocError> {
-    let mut text = format!(in alloc; "aqs-history 1 lock nonfair seats 1 conditions 0 cap 4096\n")?;
+pub fn history_of_pairs(alloc: Global, pairs: u64) -> Result<String, AllocError> {
+    let mut text = format!(in alloc;
+        "aqs-history 1 lock nonfair seats 1 conditions 0 cap 4294967295\n"
+    )?;
     for pair in 0..pairs {
         let got = pair.saturating_mul(2);
         let gave = got.saturating_add(1);
@@ -45,7 +47,8 @@ fn is_answered<R: Abort + AllocGlobal>(
 ) -> Result<bool, AllocError> {
     let steps = steps_of_pairs(rt.alloc(), pairs)?;
     let steps = steps.as_bytes();
-    let outcome = streamed(rt, steps, Form::History, 4096, (None, None), AMPLE);
+    let places = history.len();
+    let outcome = streamed(rt, steps, Form::History, 4096, (None, None), places);
     Ok(outcome.is_answered(history.as_bytes()))
 }
 
@@ -68,22 +71,46 @@ fn is_written_again(alloc: Global, history: &str) -> Result<bool, Fault> {
     }
 }
 
+/// The history of so many pairs is answered, judged, and read and written, and all of it is there.
+fn is_whole<R: Abort + AllocGlobal>(rt: &R, pairs: u64) -> Result<(), AllocError> {
+    let history = history_of_pairs(rt.alloc(), pairs)?;
+    let entries = pairs.saturating_mul(2);
+    assert!(rt;
+        is_answered(rt, pairs, &history) == Ok(true),
+        "{pairs} pairs"
+    );
+    assert!(rt;
+        is_legal_and_free(rt, &history, entries) == Ok(true),
+        "{pairs} pairs"
+    );
+    assert!(rt;
+        is_written_again(rt.alloc(), &history) == Ok(true),
+        "{pairs} pairs"
+    );
+    Ok(())
+}
+
 #[test]
 fn a_history_that_ends_at_the_border_of_a_page_is_whole(rt: HostRuntime) -> Result<(), Fail> {
-    for (pairs, entries) in [(511, 1022), (512, 1024), (513, 1026)] {
-        let history = history_of_pairs(rt.alloc(), pairs)?;
-        assert!(rt;
-            is_answered(&rt, pairs, &history) == Ok(true),
-            "{pairs} pairs"
-        );
-        assert!(rt;
-            is_legal_and_free(&rt, &history, entries) == Ok(true),
-            "{pairs} pairs"
-        );
-        assert!(rt;
-            is_written_again(rt.alloc(), &history) == Ok(true),
-            "{pairs} pairs"
-        );
+    for pairs in [511, 512, 513] {
+        is_whole(&rt, pairs)?;
     }
+    Ok(())
+}
+
+/// Pairs whose entries are more than a million.
+const MANY: u64 = 600_000;
+
+/// How many steps are read of such a text.
+fn steps_read(alloc: Global, pairs: u64) -> Result<usize, ReadFault> {
+    let text = steps_of_pairs(alloc, pairs)?;
+    let read = read_steps(alloc, text.as_bytes())?;
+    Ok(read.steps.len())
+}
+
+#[test]
+fn a_text_of_more_than_a_million_lines_is_read(rt: HostRuntime) -> Result<(), Fail> {
+    is_whole(&rt, MANY)?;
+    assert!(rt; steps_read(rt.alloc(), MANY) == Ok(1_200_000));
     Ok(())
 }

@@ -56,8 +56,11 @@ fn length_written<R: Abort + AllocGlobal>(
     part.bytes().len()
 }
 
-/// Each piece in turn isn't written: what was written before is a beginning of the answer, and longer each
-/// time.
+/// As much is written at once as pieces have places, but for those of a last line.
+const PIECE: usize = 65_400;
+
+/// Each piece in turn isn't written: what was written before is a beginning of the answer, and longer by a piece
+/// each time.
 fn each_piece_fails<R: Abort + AllocGlobal>(rt: &R, form: Form) -> Result<(), Fail> {
     let text = many_steps(rt)?;
     let whole = written(rt, &text, form, None);
@@ -65,8 +68,8 @@ fn each_piece_fails<R: Abort + AllocGlobal>(rt: &R, form: Form) -> Result<(), Fa
     let mut least = 0;
     for call in 0..4 {
         let length = length_written(rt, &text, form, whole.bytes(), call);
-        assert!(rt; least <= length);
-        least = length.saturating_add(1);
+        assert!(rt; least <= length, "{call} writes");
+        least = length.saturating_add(PIECE);
     }
     Ok(())
 }

@@ -38,17 +38,30 @@ fn next_step(steps: &mut StepReader, source: &mut MemorySource) -> NextStep {
 }
 
 /// Three answers.
-fn three_steps(alloc: Global, lines: &str, fails_at: Option<u64>) -> Result<[NextStep; 3], Fail> {
-    let mut source = source_of(alloc, STEPS, lines, fails_at)?;
+fn next_steps(steps: &mut StepReader, source: &mut MemorySource) -> [NextStep; 3] {
+    [
+        next_step(steps, source),
+        next_step(steps, source),
+        next_step(steps, source),
+    ]
+}
+
+/// Those behind the header.
+fn steps_of(alloc: Global, source: &mut MemorySource) -> Result<[NextStep; 3], StreamFault> {
     if source.has_failed() {
-        return Err(Fail::new("failed before it was read"));
+        return Err(StreamFault::ReadFailed);
     }
-    let mut steps = StepReader::open(alloc, &mut source)?;
-    Ok([
-        next_step(&mut steps, &mut source),
-        next_step(&mut steps, &mut source),
-        next_step(&mut steps, &mut source),
-    ])
+    let mut steps = StepReader::open(alloc, source)?;
+    Ok(next_steps(&mut steps, source))
+}
+
+fn three_steps(
+    alloc: Global,
+    lines: &str,
+    fails_at: Option<u64>,
+) -> Result<[NextStep; 3], StreamFault> {
+    let mut source = source_of(alloc, STEPS, lines, fails_at)?;
+    steps_of(alloc, &mut source)
 }
 
 const TAKES: NextStep = Ok(Some((1, Step::Acquire(Mode::X, 1))));
@@ -78,10 +91,8 @@ const STEPS_ASKED_FOR: [(&str, [NextStep; 3]); 6] = [
 #[test]
 fn steps_are_read_one_by_one(rt: HostRuntime) -> Result<(), Fail> {
     for (lines, answers) in &STEPS_ASKED_FOR {
-        assert!(rt;
-            three_steps(rt.alloc(), lines, None)? == *answers,
-            "{lines}"
-        );
+        let read = three_steps(rt.alloc(), lines, None);
+        assert!(rt; read == Ok(*answers), "{lines}");
     }
     Ok(())
 }
@@ -90,8 +101,8 @@ fn steps_are_read_one_by_one(rt: HostRuntime) -> Result<(), Fail> {
 #[test]
 fn a_read_that_fails_is_told_behind_the_steps_before(rt: HostRuntime) -> Result<(), Fail> {
     let failed = Err(StreamFault::ReadFailed);
-    let steps = three_steps(rt.alloc(), "1 acquire x 1\n0 look\nend 2\n", Some(1))?;
-    assert!(rt; steps == [TAKES, failed, failed]);
+    let read = three_steps(rt.alloc(), "1 acquire x 1\n0 look\nend 2\n", Some(1));
+    assert!(rt; read == Ok([TAKES, failed, failed]));
     Ok(())
 }
 
@@ -109,22 +120,33 @@ fn next_entry(entries: &mut HistoryReader, source: &mut MemorySource) -> NextEnt
 }
 
 /// Three answers, and how many entries and ended calls were read then.
+type Entries = ([NextEntry; 3], u64, u64);
+
+fn next_entries(entries: &mut HistoryReader, source: &mut MemorySource) -> Entries {
+    let answers = [
+        next_entry(entries, source),
+        next_entry(entries, source),
+        next_entry(entries, source),
+    ];
+    (answers, entries.count(), entries.calls())
+}
+
+/// Those behind the header.
+fn entries_of(alloc: Global, source: &mut MemorySource) -> Result<Entries, StreamFault> {
+    if source.has_failed() {
+        return Err(StreamFault::ReadFailed);
+    }
+    let mut entries = HistoryReader::open(alloc, source)?;
+    Ok(next_entries(&mut entries, source))
+}
+
 fn three_entries(
     alloc: Global,
     lines: &str,
     fails_at: Option<u64>,
-) -> Result<([NextEntry; 3], u64, u64), Fail> {
+) -> Result<Entries, StreamFault> {
     let mut source = source_of(alloc, HISTORY, lines, fails_at)?;
-    if source.has_failed() {
-        return Err(Fail::new("failed before it was read"));
-    }
-    let mut entries = HistoryReader::open(alloc, &mut source)?;
-    let answers = [
-        next_entry(&mut entries, &mut source),
-        next_entry(&mut entries, &mut source),
-        next_entry(&mut entries, &mut source),
-    ];
-    Ok((answers, entries.count(), entries.calls()))
+    entries_of(alloc, &mut source)
 }
 
 const TOOK: NextEntry = Ok(Some(Entry {
@@ -185,8 +207,8 @@ const ENTRIES_ASKED_FOR: [(&str, [NextEntry; 3], u64, u64); 6] = [
 #[test]
 fn entries_are_read_one_by_one(rt: HostRuntime) -> Result<(), Fail> {
     for (lines, answers, count, calls) in &ENTRIES_ASKED_FOR {
-        let read = three_entries(rt.alloc(), lines, None)?;
-        assert!(rt; read == (*answers, *count, *calls), "{lines}");
+        let read = three_entries(rt.alloc(), lines, None);
+        assert!(rt; read == Ok((*answers, *count, *calls)), "{lines}");
     }
     Ok(())
 }
@@ -198,7 +220,7 @@ fn a_read_that_fails_is_told_behind_the_entries_before(rt: HostRuntime) -> Resul
         rt.alloc(),
         "0 1 got x 1\n1 0 queued x 1\nend 2 1\n",
         Some(1),
-    )?;
-    assert!(rt; read == ([TOOK, failed, failed], 1, 1));
+    );
+    assert!(rt; read == Ok(([TOOK, failed, failed], 1, 1)));
     Ok(())
 }

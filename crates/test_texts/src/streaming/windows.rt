@@ -41,7 +41,7 @@ fn is_refused<R: Abort + AllocGlobal>(
 
 #[test]
 fn a_line_longer_than_a_read_is_a_bad_line(rt: HostRuntime) -> Result<(), Fail> {
-    for length in [65_000, 65_486, 65_536, 200_000] {
+    for length in [65_000, 65_486, 65_536, 200_000, 1_100_000] {
         assert!(rt; is_refused(&rt, length, "\n0 give x 1\nend 2\n", TextFault::BadLine(2))?);
         assert!(rt; is_refused(&rt, length, "", TextFault::CutShort)?);
     }
