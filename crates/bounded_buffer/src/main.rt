@@ -3,7 +3,7 @@
 //! Prints the sum of what was taken, and what the audit says of the history of the lock.
 #![tactic(auto)]
 
-ghost use Rattle.std.specs.Prelude.{◌≡◌, ◌≤◌, IfOk};
+ghost use Rattle.std.specs.Prelude.{◌≡◌, ◌≤◌, IfOk, IfSome};
 ghost use Rattle.monitor.specs.Stepping.{IsSame};
 
 mod buffer;
@@ -16,10 +16,12 @@ use monitor::{Monitor, Pass};
 use permit::ThreadParking;
 use reentrant::lock::LockHooks;
 use std::alloc::Global;
-use std::io;
+use std::snapshot::Snapshot;
 use std::sync::Wait;
-use std::thread::{Threads, join};
+use std::thread::{Promise, Threads};
 use std::time::Clock;
+use std::{io, thread};
+use thiserror::Error;
 
 const ITEMS: u64 = 100;
 
@@ -30,31 +32,79 @@ const HEADER: Header = Header {
     cap: 10_000,
 };
 
-/// Both threads, and what each ends with.
+/// Why nothing is told.
+#[derive(Clone, Copy, Debug, PartialEq, Eq, Error)]
+enum Failure {
+    /// A call ended with this fault, or memory was refused.
+    #[error("{0}")]
+    Call(Fault),
+    /// The system refused the producer its thread. Nobody put or took.
+    #[error("producer not started")]
+    NotStarted,
+}
+
+impl From<Fault> for Failure {
+    fn from(fault: Fault) -> Failure {
+        Failure::Call(fault)
+    }
+}
+
+/// That the producer comes back with its pass.
+#[derive(Drop)]
+struct ComesBack {
+    producer: Snapshot<Pass>,
+}
+
+impl Promise<Result<Pass, Fault>> for ComesBack {
+    ghost use Rattle.std.specs.Prelude.{IfOk};
+    ghost use Rattle.monitor.specs.Stepping.{IsSame};
+
+    ghost kept_by = { λ p back. IfOk back (IsSame p.producer.value) };
+}
+
+/// What the producer and the consumer end with.
+type Exchanged = (Result<Pass, Fault>, Result<(Pass, u64), Fault>);
+
+/// Both threads. None if the system refuses the producer its thread: then nobody waits for what it would put.
 fn exchange<R: Threads + Wait + Clock + Sync>(
     rt: &R,
     parking: &ThreadParking,
     monitor: &Monitor<LockHooks>,
     producer: Pass,
     consumer: Pass,
-) -> (Result<Pass, Fault>, Result<(Pass, u64), Fault>)
+) -> Option<Exchanged>
     requires own { (producer.lock ≡ monitor.now) × (consumer.lock ≡ monitor.now) }
     requires places { monitor.now.header.seats ≤ parking.now }
-    ensures put { IfOk result.0 (IsSame producer) }
-    ensures taken { IfOk result.1 (λ r. IsSame consumer r.0) }
+    ensures put { IfSome result (λ r. IfOk r.0 (IsSame producer)) }
+    ensures taken { IfSome result (λ r. IfOk r.1 (λ t. IsSame consumer t.0)) }
 {
     let buffer = Buffer::new();
     let shared = &buffer;
-    join(
+    thread::scope(
+        thread::scope_env(),
         rt,
-        move || -> Result<Pass, Fault>
-            requires { (producer.lock ≡ monitor.now) × (monitor.now.header.seats ≤ parking.now) }
-            ensures { IfOk result (IsSame producer) }
-        { produce(rt, parking, monitor, shared, producer, ITEMS) },
-        move || -> Result<(Pass, u64), Fault>
-            requires { (consumer.lock ≡ monitor.now) × (monitor.now.header.seats ≤ parking.now) }
-            ensures { IfOk result (λ r. IsSame consumer r.0) }
-        { consume(rt, parking, monitor, shared, consumer, ITEMS) },
+        |scope| -> Option<Exchanged>
+            requires { (producer.lock ≡ monitor.now) × (consumer.lock ≡ monitor.now)
+                × (monitor.now.header.seats ≤ parking.now) }
+            ensures put { IfSome result (λ r. IfOk r.0 (IsSame producer)) }
+            ensures taken { IfSome result (λ r. IfOk r.1 (λ t. IsSame consumer t.0)) }
+        {
+            let promise = ComesBack {
+                producer: Snapshot::of(&producer),
+            };
+            let started = scope.spawn_with(
+                promise,
+                move || -> Result<Pass, Fault>
+                    requires { (producer.lock ≡ monitor.now) × (monitor.now.header.seats ≤ parking.now) }
+                    ensures { IfOk result (IsSame producer) }
+                { produce(rt, parking, monitor, shared, producer, ITEMS) },
+            );
+            let Ok(handle) = started else {
+                return None;
+            };
+            let taken = consume(rt, parking, monitor, shared, consumer, ITEMS);
+            Some((handle.join(rt), taken))
+        },
     )
 }
 
@@ -67,7 +117,7 @@ struct Told {
 }
 
 /// Plays, closes the lock and has its history judged.
-fn play<R: Threads + Wait + Clock + Sync>(rt: &R, alloc: Global) -> Result<Told, Fault> {
+fn play<R: Threads + Wait + Clock + Sync>(rt: &R, alloc: Global) -> Result<Told, Failure> {
     let parking = ThreadParking::open(rt, alloc, HEADER.seats)?;
     let hooks = LockHooks::open(Policy::Fair);
     let (monitor, mut passes) = Monitor::open(
@@ -83,14 +133,16 @@ fn play<R: Threads + Wait + Clock + Sync>(rt: &R, alloc: Global) -> Result<Told,
     let Some(producer) = passes.pop() else {
         unreachable!()
     };
-    let (put, taken) = exchange(rt, &parking, &monitor, producer, consumer);
+    let Some((put, taken)) = exchange(rt, &parking, &monitor, producer, consumer) else {
+        return Err(Failure::NotStarted);
+    };
     let (consumer, sum) = taken?;
     let producer = put?;
     let Ok(passes) = vec![in alloc; producer, consumer] else {
-        return Err(Fault::OutOfMemory);
+        return Err(Failure::Call(Fault::OutOfMemory));
     };
     let Ok(closed) = monitor.close(rt, passes) else {
-        return Err(Fault::OutOfPhase);
+        return Err(Failure::Call(Fault::OutOfPhase));
     };
     Ok(Told {
         sum,
@@ -100,8 +152,9 @@ fn play<R: Threads + Wait + Clock + Sync>(rt: &R, alloc: Global) -> Result<Told,
 }
 
 fn main(rt: HostRuntime) -> io::Result<()> {
-    let Ok(told) = play(&rt, rt.alloc()) else {
-        return println!(rt; "out of memory");
+    let told = match play(&rt, rt.alloc()) {
+        Ok(told) => told,
+        Err(failure) => return println!(rt; "{failure}"),
     };
     println!(rt; "taken {}", told.sum)?;
     println!(rt; "every call is in the history: {}", told.all_calls)?;

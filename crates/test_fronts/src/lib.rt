@@ -10,6 +10,8 @@ mod locks;
 #[cfg(test)]
 mod one_thread;
 #[cfg(test)]
+mod pairs;
+#[cfg(test)]
 mod read_write_locks;
 #[cfg(test)]
 mod semaphores;

@@ -83,6 +83,24 @@ pub fn close_and_audit<H: Hooks + Drop, R: Abort + AllocGlobal + Wait>(
     Ok(findings)
 }
 
+/// Closes a monitor of two seats, and has it audited.
+pub fn close_both<H: Hooks + Drop, R: Abort + AllocGlobal + Wait>(
+    rt: &R,
+    monitor: Monitor<H>,
+    header: &Header,
+    zero: Pass,
+    one: Pass,
+) -> Result<Findings, Fail>
+    requires is_of { (zero.lock ≡ monitor) × (one.lock ≡ monitor) }
+    requires header { monitor.header ≡ header.now }
+    requires range { IsInRange header.now }
+{
+    let Ok(passes) = vec![in rt.alloc(); zero, one] else {
+        panic!(rt; "memory")
+    };
+    close_and_audit(rt, monitor, header, passes)
+}
+
 /// Acts by both passes of a monitor that was opened with this header, closes it, and has it audited.
 pub fn play<H: Hooks + Drop, C: Ask<H>, R: Abort + AllocGlobal + Wait + Clock>(
     rt: &R,
@@ -95,8 +113,10 @@ pub fn play<H: Hooks + Drop, C: Ask<H>, R: Abort + AllocGlobal + Wait + Clock>(
     requires header { opened.0.header ≡ header.now }
     requires range { IsInRange header.now }
 {
-    let parking = ScriptedParking::open(rt.alloc(), answers, 0)?;
+    let Ok(parking) = ScriptedParking::open(rt.alloc(), answers, 0) else {
+        panic!(rt; "memory")
+    };
     let (monitor, mut zero, mut one) = with_both(opened);
     perform_all(rt, &monitor, &parking, &mut zero, &mut one, rows);
-    close_and_audit(rt, monitor, header, vec![in rt.alloc(); zero, one]?)
+    close_both(rt, monitor, header, zero, one)
 }

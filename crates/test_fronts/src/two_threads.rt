@@ -6,7 +6,7 @@ ghost use Rattle.monitor.specs.Shown.{opening_passes};
 ghost use Rattle.monitor.specs.Stepping.{IsSame};
 
 use crate::asking::{Act, Ask, Reply, perform};
-use crate::one_thread::{Row, close_and_audit, perform_all, with_both};
+use crate::one_thread::{Row, close_both, perform_all, with_both};
 use frame::hooks::Hooks;
 use history::header::Header;
 use monitor::{Monitor, Pass};
@@ -138,9 +138,11 @@ pub fn play<
     requires range { IsInRange header.now }
     requires seats { header.now.seats ≡ 2 }
 {
-    let parking = ThreadParking::open(rt, rt.alloc(), 2)?;
+    let Ok(parking) = ThreadParking::open(rt, rt.alloc(), 2) else {
+        panic!(rt; "memory")
+    };
     let (monitor, mut zero, mut one) = with_both(opened);
     perform_all(rt, &monitor, &parking, &mut zero, &mut one, turns.before);
     let (zero, one) = both_take_turns(rt, &monitor, &parking, zero, one, turns);
-    close_and_audit(rt, monitor, header, vec![in rt.alloc(); zero, one]?)
+    close_both(rt, monitor, header, zero, one)
 }

@@ -1,13 +1,15 @@
 //! The known situations, stepped by one thread through the passes of a monitor, beside a core.
 ghost use Rattle.std.specs.Prelude.{◌≡◌, All, IfOk};
+ghost use Rattle.monitor.specs.Stepping.{IsSame};
 
-use crate::opened::{closed, of_many};
+use crate::opened::{closed, of_many, of_one};
 use counting::latch::LatchHooks;
 use counting::semaphore::SemaphoreHooks;
 use frame::hooks::Hooks;
 use frame::machine::Core;
+use history::entry::{Mode, Word};
 use history::fault::Fault;
-use history::header::{Header, Object};
+use history::header::{Header, Object, Policy};
 use history::step::{Answer, Step};
 use monitor::{Monitor, Now, Pass};
 use read_write::hooks::RwHooks;
@@ -141,5 +143,39 @@ fn step_now_by_one_thread_answers_as_the_core_and_is_never_busy(
         let said = read_steps(rt.alloc(), example.steps.as_bytes())?;
         play_object(&rt, &said)?;
     }
+    Ok(())
+}
+
+/// So many readers a lock has at most.
+const READS: u32 = 65_535;
+
+/// The word of the entry that a read makes at once.
+fn read_now(monitor: &Monitor<RwHooks>, pass: &mut Pass) -> Option<Word>
+    requires { pass.old.lock ≡ monitor.now }
+    ensures { IsSame pass.old pass.new }
+{
+    match monitor.step_now(pass, Step::Acquire(Mode::S, 1)) {
+        Ok(Now::Done(Answer::Recorded(entry, _))) => Some(entry.word),
+        _ => None,
+    }
+}
+
+fn read_all<R: Abort>(rt: &R, monitor: &Monitor<RwHooks>, pass: &mut Pass)
+    requires { pass.old.lock ≡ monitor.now }
+    ensures { IsSame pass.old pass.new }
+{
+    for number in 0..READS {
+        assert!(rt; read_now(monitor, pass) == Some(Word::Got), "{number}");
+    }
+    let last = read_now(monitor, pass);
+    assert!(rt; last == Some(Word::Refused(Fault::TooManyHolds)));
+}
+
+#[test]
+fn step_now_reads_65535_times_and_is_then_refused(rt: HostRuntime) -> Result<(), Fail> {
+    let hooks = RwHooks::open(rt.alloc(), Policy::NonFair, 1)?;
+    let (monitor, mut pass) = of_one(rt.alloc(), hooks, 0, 200_000)?;
+    read_all(&rt, &monitor, &mut pass);
+    assert_eq!(rt; pass.share(), 65_536);
     Ok(())
 }

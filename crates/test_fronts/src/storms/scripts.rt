@@ -11,6 +11,7 @@ use crate::storms::calls::ByChance;
 use crate::storms::chance::Chance;
 use counting::semaphore::SemaphoreHooks;
 use frame::hooks::Hooks;
+use history::fault::Fault;
 use history::header::{Header, Object, Policy};
 use monitor::{Monitor, Pass};
 use monitor_fronts::{open_lock, open_read_write_lock, open_semaphore};
@@ -40,6 +41,11 @@ fn answers_by_chance(alloc: Global) -> Result<Vec<Woke>, AllocError> {
         })?;
     }
     Ok(answers)
+}
+
+fn parking_by_chance(alloc: Global) -> Result<ScriptedParking, Fault> {
+    let answers = answers_by_chance(alloc)?;
+    ScriptedParking::open(alloc, answers, 0)
 }
 
 /// A call by the pass of a seat.
@@ -90,7 +96,9 @@ fn storm<H: Hooks + Drop, C: Ask<H> + ByChance, R: Abort + AllocGlobal + Wait + 
     requires range { IsInRange header.now }
     requires places { header.now.seats ≤ 256 }
 {
-    let parking = ScriptedParking::open(rt.alloc(), answers_by_chance(rt.alloc())?, 0)?;
+    let Ok(parking) = parking_by_chance(rt.alloc()) else {
+        panic!(rt; "memory")
+    };
     let (monitor, mut passes) = opened;
     call_all::<H, C, R>(rt, &monitor, &parking, &mut passes);
     let findings = close_and_audit(rt, monitor, header, passes)?;

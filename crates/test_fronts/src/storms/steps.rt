@@ -1,5 +1,5 @@
 //! Storms of steps that wait for nobody.
-ghost use Rattle.std.specs.Prelude.{◌≡◌, ◌≤◌, All, IfOk};
+ghost use Rattle.std.specs.Prelude.{◌≡◌, ◌≤◌, All};
 ghost use Rattle.history.specs.Header.{IsInRange};
 ghost use Rattle.monitor.specs.Stepping.{IsSame};
 
@@ -12,7 +12,6 @@ use history::header::{Header, Object, Policy};
 use history::step::{Answer, Step};
 use monitor::{Monitor, Now, Pass};
 use monitor_fronts::{open_lock, open_read_write_lock, open_semaphore};
-use std::alloc::AllocError;
 use std::process::Abort;
 use std::sync::Wait;
 use std::sync::atomic::{AtomicU32, Ordering};
@@ -160,18 +159,22 @@ fn step_in_threads<H: Hooks + Drop + Send, R: Abort + Threads + Clock + Sync>(
     monitor: &Monitor<H>,
     passes: Vec<Pass>,
     storm: &Storm,
-) -> Result<Vec<Pass>, AllocError>
+) -> Vec<Pass>
     requires { All (λ p. p.lock ≡ monitor.now) passes.items }
-    ensures { IfOk result (λ v. All (λ p. p.lock ≡ monitor.now) v.items) }
+    ensures { All (λ p. p.lock ≡ monitor.now) result.items }
 {
-    thread::map_vec(
+    let worked = thread::map_vec(
         rt,
         passes,
         &|pass: Pass| -> Pass
             requires { pass.lock ≡ monitor.now }
             ensures { result.lock ≡ monitor.entry.now }
         { work(rt, monitor, pass, storm) },
-    )
+    );
+    match worked {
+        Ok(passes) => passes,
+        Err(_) => panic!(rt; "memory"),
+    }
 }
 
 /// Each seat of a monitor that was opened with this header makes so many steps in a thread of its own. Then
@@ -188,28 +191,28 @@ fn play<H: Hooks + Drop + Send, R: Abort + AllocGlobal + Threads + Wait + Clock 
 {
     let (monitor, passes) = opened;
     let storm = Storm::of(header, steps);
-    let passes = step_in_threads(rt, &monitor, passes, &storm)?;
+    let passes = step_in_threads(rt, &monitor, passes, &storm);
     let findings = close_and_audit(rt, monitor, header, passes)?;
     let all = u64::from(steps).saturating_mul(u64::from(header.seats));
     assert!(rt; all <= findings.calls.saturating_mul(16), "{findings:?}");
     Ok(())
 }
 
-const LOCK: Header = Header {
+pub const LOCK: Header = Header {
     object: Object::Lock(Policy::Fair),
     seats: 4,
     conditions: 1,
     cap: 40_000,
 };
 
-const READ_WRITE: Header = Header {
+pub const READ_WRITE: Header = Header {
     object: Object::ReadWrite(Policy::NonFair),
     seats: 4,
     conditions: 1,
     cap: 40_000,
 };
 
-const SEMAPHORE: Header = Header {
+pub const SEMAPHORE: Header = Header {
     object: Object::Semaphore(Policy::NonFair, 3),
     seats: 4,
     conditions: 0,

@@ -1,5 +1,5 @@
 //! Storms of calls by four threads that park, while a fifth one interrupts them.
-ghost use Rattle.std.specs.Prelude.{◌≡◌, ◌≤◌, ◌<◌, All, IfOk};
+ghost use Rattle.std.specs.Prelude.{◌≡◌, ◌≤◌, ◌<◌, All};
 ghost use Rattle.history.specs.Header.{IsInRange};
 ghost use Rattle.monitor.specs.Stepping.{IsSame};
 
@@ -16,7 +16,6 @@ use history::header::{Header, Object, Policy};
 use monitor::{Monitor, Pass};
 use monitor_fronts::{open_lock, open_read_write_lock, open_semaphore};
 use permit::{Parking, ThreadParking};
-use std::alloc::AllocError;
 use std::process::Abort;
 use std::sync::Wait;
 use std::sync::atomic::{AtomicU32, Ordering};
@@ -100,7 +99,7 @@ fn work<H: Hooks + Drop, C: Ask<H> + ByChance, R: Wait + Clock>(
 fn work_in_threads<
     H: Hooks + Drop + Send,
     C: Ask<H> + ByChance + Sync,
-    R: Threads + Wait + Clock + Sync,
+    R: Abort + Threads + Wait + Clock + Sync,
 >(
     rt: &R,
     monitor: &Monitor<H>,
@@ -108,19 +107,23 @@ fn work_in_threads<
     passes: Vec<Pass>,
     gives: &[C],
     done: &AtomicU32,
-) -> Result<Vec<Pass>, AllocError>
+) -> Vec<Pass>
     requires own { All (λ p. p.lock ≡ monitor.now) passes.items }
     requires places { monitor.now.header.seats ≤ parking.now }
-    ensures { IfOk result (λ v. All (λ p. p.lock ≡ monitor.now) v.items) }
+    ensures { All (λ p. p.lock ≡ monitor.now) result.items }
 {
-    thread::map_vec(
+    let worked = thread::map_vec(
         rt,
         passes,
         &|pass: Pass| -> Pass
             requires { (pass.lock ≡ monitor.now) × (monitor.now.header.seats ≤ parking.now) }
             ensures { result.lock ≡ monitor.entry.now }
         { work(rt, monitor, parking, pass, gives, done) },
-    )
+    );
+    match worked {
+        Ok(passes) => passes,
+        Err(_) => panic!(rt; "memory"),
+    }
 }
 
 /// Interrupts one after the other until all are done.
@@ -139,26 +142,26 @@ fn interrupt_all<R: Clock>(rt: &R, parking: &ThreadParking, done: &AtomicU32)
 fn work_and_interrupt<
     H: Hooks + Drop + Send,
     C: Ask<H> + ByChance + Sync,
-    R: Threads + Wait + Clock + Sync,
+    R: Abort + Threads + Wait + Clock + Sync,
 >(
     rt: &R,
     monitor: &Monitor<H>,
     parking: &ThreadParking,
     passes: Vec<Pass>,
     gives: &[C],
-) -> Result<Vec<Pass>, AllocError>
+) -> Vec<Pass>
     requires own { All (λ p. p.lock ≡ monitor.now) passes.items }
     requires places { (monitor.now.header.seats ≡ 4) × (parking.now ≡ 4) }
-    ensures { IfOk result (λ v. All (λ p. p.lock ≡ monitor.now) v.items) }
+    ensures { All (λ p. p.lock ≡ monitor.now) result.items }
 {
     let count = AtomicU32::new(0);
     let done = &count;
     let (worked, ()) = join(
         rt,
-        move || -> Result<Vec<Pass>, AllocError>
+        move || -> Vec<Pass>
             requires { All (λ p. p.lock ≡ monitor.now) passes.items
                 × (monitor.now.header.seats ≡ 4) × (parking.now ≡ 4) }
-            ensures { IfOk result (λ v. All (λ p. p.lock ≡ monitor.entry.now) v.items) }
+            ensures { All (λ p. p.lock ≡ monitor.entry.now) result.items }
         { work_in_threads(rt, monitor, parking, passes, gives, done) },
         ||
             requires { parking.now ≡ 4 }
@@ -189,9 +192,11 @@ fn storm<
     requires range { IsInRange header.now }
     requires seats { header.now.seats ≡ 4 }
 {
-    let parking = ThreadParking::open(rt, rt.alloc(), 4)?;
+    let Ok(parking) = ThreadParking::open(rt, rt.alloc(), 4) else {
+        panic!(rt; "memory")
+    };
     let (monitor, passes) = opened;
-    let passes = work_and_interrupt(rt, &monitor, &parking, passes, gives)?;
+    let passes = work_and_interrupt(rt, &monitor, &parking, passes, gives);
     let findings = close_and_audit(rt, monitor, header, passes)?;
     let least = u64::from(CALLS).saturating_mul(u64::from(SEATS));
     assert!(rt; least <= findings.calls, "{findings:?}");

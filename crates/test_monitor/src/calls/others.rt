@@ -5,6 +5,7 @@ use counting::latch::LatchHooks;
 use counting::semaphore::SemaphoreHooks;
 use history::entry::Mode;
 use history::header::Policy;
+use history::step::Step;
 use monitor::How;
 use read_write::hooks::RwHooks;
 use std::process::Abort;
@@ -36,10 +37,11 @@ fn a_read_write_lock_is_shared_by_readers_and_kept_by_its_writer(
     Ok(())
 }
 
-const SEMAPHORE: [Asked; 8] = [
+const SEMAPHORE: [Asked; 9] = [
     (0, Ask::Try(Mode::S, 1), "trygot s 1"),
     (0, Ask::Release(Mode::S, 1), "gave s 1"),
     (0, Ask::Drain, "drained s 1"),
+    (0, Ask::Step(Step::Drain), "drained s 0"),
     (1, Ask::Try(Mode::S, 1), "missed s 1"),
     (1, Ask::Release(Mode::S, 2_147_483_647), "gave s 2147483647"),
     (1, Ask::Release(Mode::S, 1), "refused s 1 TooManyPermits"),
