@@ -232,6 +232,9 @@ fn ends_with_a_status(rt: HostRuntime) -> Result<(), Fail> {
 #[test]
 fn a_program_that_lacks_memory_says_so(rt: HostRuntime) -> Result<(), Fail> {
     let mut output = Vec::with_capacity(rt.alloc(), 256)?;
+    // The stack grows to its depth first: where it finds no memory the system ends the program.
+    run(&rt, &["aqs", "replay"], STEPS, &mut output)?;
+    output.clear();
     let mut memory = Memory::take_all(rt.alloc(), 64)?;
     let mut refused: u32 = 0;
     for _ in 0..4096 {
