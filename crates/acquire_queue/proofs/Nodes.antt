@@ -586,7 +586,8 @@ pub standing_left : (seats : ℕ) (old left : List Standing) → length left ≡
     length left ≤ length (live left) + seats →
     length left ≡ standing_behind seats (length (live left)) (length old)
 standing_left seats old left same few =
-    same ∙ sym (cond-false _ _ _ (le-ltb (length (live left) + seats) (length old) (omega (arith, same, few))))
+    same ∙ sym
+    (cond-false _ _ _ (le-ltb (length (live left) + seats) (length old) (omega (arith, same, few))))
 
 -- ---- freeing all cancelled ones, place by place
 

@@ -17,8 +17,8 @@ use std::marker::Model;
 /// The line of an object: one place at most for each of its seats, the longest waiter first.
 ///
 /// A seat that leaves from between others leaves its node behind, marked as cancelled, so nobody has to be
-/// looked for and nothing is moved. A cancelled node is freed once it comes to the head, or once the next seat
-/// that waits looks. All of them are freed as soon as more stand than there are seats.
+/// looked for and nothing is moved. A cancelled node is freed once it comes to the head, or once the next
+/// seat that waits looks. All of them are freed as soon as more stand than there are seats.
 #[derive(Drop)]
 pub struct Queue {
     seats: u16,

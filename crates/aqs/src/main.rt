@@ -3,9 +3,9 @@
 //! `aqs replay [FILE]` reads a steps text, from standard input where no file is named, and writes its
 //! replay text to standard output, or with `--history` its history text. `aqs audit [FILE]` reads a history
 //! text and writes its audit text; the status is 1 where the history isn't legal. `aqs run [FILE]` reads a
-//! script, runs its threads, and writes the history of each of its objects with what the audit says of it. With
-//! no words at all it replays. A fault is one line on standard error, and nothing has been written then, but for
-//! a fault of writing itself.
+//! script, runs its threads, and writes the history of each of its objects with what the audit says of it.
+//! With no words at all it replays. A fault is one line on standard error, and nothing has been written then,
+//! but for a fault of writing itself.
 #![tactic(auto)]
 
 mod arguments;

@@ -227,8 +227,8 @@ fn ends_with_a_status(rt: HostRuntime) -> Result<(), Fail> {
     Ok(())
 }
 
-/// Memory comes back piece by piece, and each time the program says that it lacks memory and writes nothing, until
-/// there is enough. The words of its command line take some of it, what it reads and writes most.
+/// Memory comes back piece by piece, and each time the program says that it lacks memory and writes nothing,
+/// until there is enough. The words of its command line take some of it, what it reads and writes most.
 #[test]
 fn a_program_that_lacks_memory_says_so(rt: HostRuntime) -> Result<(), Fail> {
     let mut output = Vec::with_capacity(rt.alloc(), 256)?;

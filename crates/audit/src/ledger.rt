@@ -60,8 +60,8 @@ impl Ledger {
         })
     }
 
-    /// Follows one more entry, one that a step of its seat makes; any other is passed over. It takes no memory,
-    /// so the answer is always Ok.
+    /// Follows one more entry, one that a step of its seat makes; any other is passed over. It takes no
+    /// memory, so the answer is always Ok.
     pub fn note(&mut self, entry: Entry) -> Result<(), Fault>
         requires seat { HasSeat self.old entry.seat }
         requires signal { entry.word ≡ Signal → entry.n ≤ 1 }

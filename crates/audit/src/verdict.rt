@@ -48,8 +48,8 @@ impl Judgement {
 /// it. Room and whom an entry names are no part of that. What follows the first wrong entry isn't looked at,
 /// and each entry before it is looked at once.
 ///
-/// The header is in range, and each entry is of one of its seats. Where memory for what it counts is refused the
-/// answer is `OutOfMemory`.
+/// The header is in range, and each entry is of one of its seats. Where memory for what it counts is refused
+/// the answer is `OutOfMemory`.
 pub fn judge(alloc: Global, header: &Header, history: &History) -> Result<Judgement, Fault>
     requires range { IsInRange header.now }
     requires seated { AreSeated (opening header.now) history.now.entries }

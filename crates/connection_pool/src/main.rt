@@ -1,8 +1,8 @@
-//! A pool of connections: clients take one, use it and put it back, and a fair semaphore has a permit for each
-//! connection that is free.
+//! A pool of connections: clients take one, use it and put it back, and a fair semaphore has a permit for
+//! each connection that is free.
 //!
-//! First one client has all connections, and no other gets one in time. Then all clients share them. Prints how
-//! many requests were served and refused, and what the audit says of the history of the semaphore.
+//! First one client has all connections, and no other gets one in time. Then all clients share them. Prints
+//! how many requests were served and refused, and what the audit says of the history of the semaphore.
 #![tactic(auto)]
 
 ghost use Rattle.std.specs.Prelude.{◌≡◌, ◌≤◌, All, IfOk};

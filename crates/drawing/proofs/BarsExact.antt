@@ -182,7 +182,8 @@ run_earlier s from e h b l r =
       throughout = λ n f m. sym (behind_same s e h b.seat b.kind n (omega (arith, m, l)))
           ∙ r.throughout n f m;
       before = ⊎_elim (λ q. inl q)
-          (λ ne. inr (λ q. ne (behind_same s e h b.seat b.kind (b.first - 1) (omega (arith, r.order, l)) ∙ q)))
+          (λ ne.
+          inr (λ q. ne (behind_same s e h b.seat b.kind (b.first - 1) (omega (arith, r.order, l)) ∙ q)))
           r.before;
     }
 
@@ -415,7 +416,8 @@ run_ended s from (e ∷ h) b r =
         ended_by s from e h (track b.seat b.kind) ≡ bar_at s from h (track b.seat b.kind)
     changed before last =
         let was : level_of s h (track b.seat b.kind) ≡ b.holds =
-        sym (behind_last s h b.seat b.kind b.last last) ∙ before.throughout b.last before.order (omega arith) in
+        sym (behind_last s h b.seat b.kind b.last last) ∙ before.throughout b.last before.order
+        (omega arith) in
         rw (ne_eqb (level_of s (e ∷ h) (track b.seat b.kind)) (level_of s h (track b.seat b.kind))
         (λ q. r.behind (behind_last s (e ∷ h) b.seat b.kind (b.last + 1) (omega (arith, last)) ∙ q ∙ was)))
         refl

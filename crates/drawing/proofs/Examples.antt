@@ -44,7 +44,8 @@ handed_over_from = refl
 abbrev slept : List Entry
 slept =
     record { seat = 0; word = word.Back; mode = X; n = 2; at = 0; end = end.Signalled } ∷
-    plain 1 word.Gave X 1 ∷ at_condition 1 word.Signal 1 ∷ plain 1 word.Got X 1 ∷ at_condition 0 word.Await 2 ∷
+    plain 1 word.Gave X 1 ∷ at_condition 1 word.Signal 1 ∷ plain 1 word.Got X 1 ∷
+    at_condition 0 word.Await 2 ∷
     plain 0 word.Got X 1 ∷ plain 0 word.Got X 1 ∷ []
 
 slept_bars : bars (opening lock) 0 slept

@@ -173,7 +173,8 @@ none_ends s from e h l =
 pub all_bars : (s : Start) (from : ℕ) (h : List Entry) →
     flat_map (bar_of (length h)) (stretches s from h) ≡ flat_map (bar_at s from h) (tracks s.header)
 all_bars s from h =
-    flat_map_same (bar_of (length h)) (stretch s from h) (bar_at s from h) (tracks s.header) (bar_ends s from h)
+    flat_map_same (bar_of (length h)) (stretch s from h) (bar_at s from h) (tracks s.header)
+    (bar_ends s from h)
 
 -- a stretch of holds began before the newest entry
 pub some_before : (s : Start) (from : ℕ) (h : List Entry) (t : Track) →

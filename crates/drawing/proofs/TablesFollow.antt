@@ -127,7 +127,8 @@ none_left i j (a ∷ q) same = by (eqb j a.seat) refl (none_left i j q same)
         (filter (λ a. not (eqb j a.seat)) q))) ≡ false
     by true t ih = ih
     by false t ih =
-        let other : eqb a.seat i ≡ false = ne_eqb a.seat i (λ x. absurd (both t (eq-eqb j a.seat (same ∙ sym x)))) in
+        let other : eqb a.seat i ≡ false =
+        ne_eqb a.seat i (λ x. absurd (both t (eq-eqb j a.seat (same ∙ sym x)))) in
         rw other ih
       where
         both : eqb j a.seat ≡ false → eqb j a.seat ≡ true → ⊥
@@ -263,5 +264,6 @@ pub sleepers_follow : (s : Start) (e : Entry) (h : List Entry) (t : List (List �
 sleepers_follow s e h t c l is below at =
     at_set t e.at c (sleepers_after e.word e.seat e.n (get_or t e.at [])) [] l
     ∙ ⊎_elim
-    (λ q. rw (eq-eqb e.at c q) (ap (sleepers_after e.word e.seat e.n) (ap (λ k. get_or t k []) q ∙ is c below)))
+    (λ q.
+    rw (eq-eqb e.at c q) (ap (sleepers_after e.word e.seat e.n) (ap (λ k. get_or t k []) q ∙ is c below)))
     (λ ne. rw (ne_eqb e.at c ne) (is c below)) (cases_eq e.at c)

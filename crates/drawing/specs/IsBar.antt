@@ -22,8 +22,8 @@ IsKind conditions Shared = Unit {0}
 IsKind conditions InLine = Unit {0}
 IsKind conditions (Asleep c) = c < conditions
 
--- A bar of the entries from a number on: a stretch of entries behind each of which the seat has these holds, as
--- many as the bar says and at least one, and which is part of no longer one.
+-- A bar of the entries from a number on: a stretch of entries behind each of which the seat has these holds,
+-- as many as the bar says and at least one, and which is part of no longer one.
 pub record IsBar (s : Start) (from : ℕ) (h : List Entry) (b : Bar) : Type 0 where
   pub seat : b.seat < s.header.seats
   pub kind : IsKind s.header.conditions b.kind

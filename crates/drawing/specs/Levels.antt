@@ -18,8 +18,8 @@ is_there (Some a) = true
 abbrev pub one_if : Bool → ℕ
 one_if b = if b then 1 else 0
 
--- The level of a seat behind a history: its holds of the kind, or 1 where it stands in line, or where it sleeps on
--- the condition, and 0 where it doesn't.
+-- The level of a seat behind a history: its holds of the kind, or 1 where it stands in line, or where it
+-- sleeps on the condition, and 0 where it doesn't.
 abbrev pub level : Start → List Entry → ℕ → Kind → ℕ
 level s h i Exclusive = held s h i X
 level s h i Shared = held s h i S

@@ -63,8 +63,8 @@ impl Drawing {
         })
     }
 
-    /// Follows one more entry of one of the seats, whether it is legal or not. Behind an Err nothing more can be
-    /// drawn.
+    /// Follows one more entry of one of the seats, whether it is legal or not. Behind an Err nothing more can
+    /// be drawn.
     pub fn follow(&mut self, entry: Entry) -> Result<(), AllocError>
         requires { CanDraw self.old entry }
         ensures { OnOk result ((k : Header) (from : ℕ) (h : List Entry) → HasDrawn k from h self.old →

@@ -9,8 +9,8 @@ ghost use Rattle.drawing.specs.Bars.{bars};
 ghost use Rattle.drawing.specs.IsBar.{IsBar};
 ghost use Rattle.drawing.specs.declared.bar.Bar.{Bar};
 
-/// Each bar is a longest stretch of entries behind which a seat has the same holds, stands in line, or sleeps on a
-/// condition; and each such stretch has its bar.
+/// Each bar is a longest stretch of entries behind which a seat has the same holds, stands in line, or sleeps
+/// on a condition; and each such stretch has its bar.
 pub fn bars_are_the_longest_stretches()
     ensures { (k : Header) (from : ℕ) (h : List Entry) (b : Bar) →
         Contains (bars (opening k) from h) b ↔ IsBar (opening k) from h b }

@@ -84,7 +84,8 @@ pub replays : (form : Form) (left old new : Option (List ℕ)) (answers : AllAns
     (r : Result (Unit {0}) StreamFault) → AreAnswersTo left answers →
     Writes old r new (answers_text form answers) → Replays form left old new r
 replays form None old new answers (Ok done) are w = tt
-replays form (Some text) old new answers (Ok done) are w = rewritten form text _ (Appends old new) (are form) w
+replays form (Some text) old new answers (Ok done) are w =
+    rewritten form text _ (Appends old new) (are form) w
 replays form None old new answers (Err WriteFailed) are w = tt
 replays form (Some text) old new answers (Err WriteFailed) are w =
     (tt, rewritten form text _ (AppendsFront old new) (are form) w)

@@ -124,4 +124,5 @@ answering_all first now new h remarks left same all a = λ form text were.
 pub legal_behind : (first now : Progress Header (ℕ × Step)) (h : List Entry) (remarks : List Remark) →
     now.so_far.header ≡ first.so_far.header → Answering first now h remarks →
     IsLegal (opening first.so_far.header) h
-legal_behind first now h remarks same a = subst (λ (k : Header). IsLegal (opening k) h) same a.told.behind.legal
+legal_behind first now h remarks same a =
+    subst (λ (k : Header). IsLegal (opening k) h) same a.told.behind.legal

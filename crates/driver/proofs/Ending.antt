@@ -73,7 +73,8 @@ written_out form text left held after all (Err WriteFailed) w end further = end
 written_out form text left held after all (Err Memory) w end further = further
 
 -- the reading behind a fault of the text failed, or its reads can't be counted
-counted_out : {H I : Type 0} (T : Type 0) (form : Form H I) (text left after : Option (List ℕ)) (told : StreamFault) →
+counted_out : {H I : Type 0} (T : Type 0) (form : Form H I) (text left after : Option (List ℕ))
+    (told : StreamFault) →
     IsOfReading told → IsPartLeft text left → (told ≡ Memory → IfSome left IsTooLong) →
     IsReadOut {T = T} form text (Err told) after
 counted_out T form text left after ReadFailed of part long = tt
@@ -86,7 +87,8 @@ no_memory fault P other (inl same) = absurd (other same)
 no_memory fault P other (inr p) = p
 
 -- what was told for a fault
-pub told_out : {H I : Type 0} (T : Type 0) (form : Form H I) (text left after : Option (List ℕ)) (fault told : StreamFault)
+pub told_out : {H I : Type 0} (T : Type 0) (form : Form H I) (text left after : Option (List ℕ))
+    (fault told : StreamFault)
     → IsFaultOf form text left fault → IsToldFor fault told →
     (told ≡ Memory → (fault ≡ Memory) ⊎ IfSome left IsTooLong) → (fault ≡ Memory → after ≡ left) →
     IsReadTo told after → IsReadOut {T = T} form text (Err told) after

@@ -254,7 +254,8 @@ fault_ahead form (Some t) so_far old window (Some xs) (Some ys) items fault lawf
     )
 
 front_whole : {H I : Type 0} (form : Form H I) (t : List ℕ) (so_far : SoFar H I) (window more : List ℕ)
-    (items : List I) → IsLineBehind form so_far window (Ok None) → AreRead form t so_far items (window ++ more)
+    (items : List I) → IsLineBehind form so_far window (Ok None) →
+    AreRead form t so_far items (window ++ more)
     → IsText form (without form so_far.header items window) so_far.header items
 front_whole form t so_far window more items is were =
     is (without form so_far.header items window) items (front_read form t so_far window more items were)
@@ -289,7 +290,8 @@ more_ahead form (Some t) so_far window (Some more) items is some were =
 -- ---- the header
 
 header_read : {H I : Type 0} (form : Form H I) (text : Option (List ℕ))
-    (so_far : SoFar H I) (window after : List ℕ) (left : Option (List ℕ)) → AreRead form window so_far [] after
+    (so_far : SoFar H I) (window after : List ℕ) (left : Option (List ℕ)) →
+    AreRead form window so_far [] after
     → Keeps (prepend_known [] text) (prepend_known window left) →
     WereRead form text (reader_at so_far after left) []
 header_read form None so_far window after left read keeps = tt
@@ -303,7 +305,8 @@ header_read form (Some t) so_far window after (Some more) read keeps =
 
 -- the header's line is in the window, and so many bytes behind it
 pub header_ahead : {H I : Type 0} (form : Form H I) (text : Option (List ℕ))
-    (so_far : SoFar H I) (window after : List ℕ) (left : Option (List ℕ)) → AreRead form window so_far [] after
+    (so_far : SoFar H I) (window after : List ℕ) (left : Option (List ℕ)) →
+    AreRead form window so_far [] after
     → Keeps (prepend_known [] text) (prepend_known window left) →
     WereRead form text (reader_at so_far (drop (length window - length after) window) left) []
 header_ahead form text so_far window after left read keeps =
@@ -337,7 +340,8 @@ header_fault form (Some t) window (Some ys) fault lawful short is end s =
 
 -- a fault of the next line was passed on
 pub next_failed : {H I : Type 0} (form : Form H I) (so_far : SoFar H I) (old window : List ℕ)
-    (left after : Option (List ℕ)) (r : Result (Option I) StreamFault) (new : Progress H I) (fault : TextFault)
+    (left after : Option (List ℕ)) (r : Result (Option I) StreamFault) (new : Progress H I)
+    (fault : TextFault)
     → IsErr r × IsErrAnd r (λ e. e ≡ Text fault) → IsLawful form → HasShortLines form 256 →
     StaysAhead old left window after → IsLineBehind form so_far window (Err fault) →
     (fault ≡ CutShort → IsAtEnd after) → IsNext form (reader_at so_far old left) r new after
@@ -349,7 +353,8 @@ next_failed form so_far old window left after (Err e) new fault passed lawful sh
 
 -- a fault of reading was passed on
 pub read_failed : {H I : Type 0} (form : Form H I) (so_far : SoFar H I) (old : List ℕ)
-    (left after : Option (List ℕ)) (r : Result (Option I) StreamFault) (new : Progress H I) (fault : StreamFault)
+    (left after : Option (List ℕ)) (r : Result (Option I) StreamFault) (new : Progress H I)
+    (fault : StreamFault)
     → IsErr r × IsErrAnd r (λ e. e ≡ fault) → IsOfReading fault → (fault ≡ Memory → IfSome left IsTooLong) →
     IsNext form (reader_at so_far old left) r new after
 read_failed form so_far old left after (Ok next) new fault passed of long = absurd (false≢true passed.0)
@@ -359,7 +364,8 @@ read_failed form so_far old left after (Err e) new fault passed of long =
 
 -- no further item can be counted
 pub not_counted : {H I : Type 0} (form : Form H I) (so_far : SoFar H I) (old window : List ℕ)
-    (left after : Option (List ℕ)) (r : Result (Option I) StreamFault) (new : Progress H I) (fault : StreamFault)
+    (left after : Option (List ℕ)) (r : Result (Option I) StreamFault) (new : Progress H I)
+    (fault : StreamFault)
     → IsErr r × IsErrAnd r (λ e. e ≡ fault) → fault ≡ Memory → length window ≤ 65792 →
     Keeps (prepend_known old left) (prepend_known window after) →
     IsNext form (reader_at so_far old left) r new after
@@ -466,7 +472,8 @@ abbrev sure : {T : Type 0} → T → Result T StreamFault
 sure x = Ok x
 
 -- a source goes on after an answer
-pub goes_on : {T : Type 0} (x : T) (failed : Bool) → (failed ≡ true → sure x ≡ Err ReadFailed) → failed ≡ false
+pub goes_on : {T : Type 0} (x : T) (failed : Bool) → (failed ≡ true →
+    sure x ≡ Err ReadFailed) → failed ≡ false
 goes_on x true failing = absurd (no_fault x (failing refl))
   where
     no_fault : {T : Type 0} (x : T) → sure x ≡ Err ReadFailed → ⊥

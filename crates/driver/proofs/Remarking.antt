@@ -55,7 +55,8 @@ pub record Remarked (h : List Entry) (remarks : List Remark) (out : List ℕ) : 
   pub rest : out ≡ front ++ lines_of history_form number (drop number (reverse h))
 
 pub remarked_none : Remarked [] [] []
-remarked_none = record { number = 0; front = []; within = omega arith; lines = λ left more. refl; rest = refl }
+remarked_none =
+    record { number = 0; front = []; within = omega arith; lines = λ left more. refl; rest = refl }
 
 newest_last : (e : Entry) (h : List Entry) → reverse (e ∷ h) ≡ reverse h ++ e ∷ []
 newest_last e h = reverse-append (e ∷ []) h
@@ -67,7 +68,8 @@ remarked_plain h remarks out e was =
     let n = was.number in
     let old = drop n (reverse h) in
     let within : n ≤ length (reverse h) = omega (arith, was.within, length-reverse h) in
-    let last : n + length old ≡ length h = omega (arith, within, length-drop n (reverse h), length-reverse h) in
+    let last : n + length old ≡ length h =
+    omega (arith, within, length-drop n (reverse h), length-reverse h) in
     let lines : lines_of history_form n (drop n (reverse h ++ e ∷ [])) ≡ lines_of history_form n old
     ++ ended (entry_line (length h) e) =
     ap (lines_of history_form n) (drop-append-le n (reverse h) (e ∷ []) within)
@@ -83,7 +85,8 @@ remarked_plain h remarks out e was =
       rest = ap (λ (t : List ℕ). t ++ ended (entry_line (length h) e)) was.rest
           ∙ append_assoc was.front (lines_of history_form n old) (ended (entry_line (length h) e))
           ∙ ap (λ (t : List ℕ). was.front ++ t) (sym lines)
-          ∙ ap (λ (es : List Entry). was.front ++ lines_of history_form n (drop n es)) (sym (newest_last e h));
+          ∙ ap (λ (es : List Entry). was.front ++ lines_of history_form n (drop n es))
+          (sym (newest_last e h));
     }
 
 -- a remark behind all entries so far
@@ -99,7 +102,8 @@ told_behind h remarks out r here was left more =
     let line = said_line r.said r.before r.seat (slice_get all r.before) in
     let after = told_lines all (r.before + entries_said r.said) left in
     let within : n ≤ length (reverse h) = omega (arith, was.within, length-reverse h) in
-    let count : length old ≡ r.before - n = omega (arith, here, length-drop n (reverse h), length-reverse h) in
+    let count : length old ≡ r.before - n =
+    omega (arith, here, length-drop n (reverse h), length-reverse h) in
     let since : take (r.before - n) (drop n all) ≡ old =
     ap (take (r.before - n)) (drop-append-le n (reverse h) more within)
     ∙ take_at old more (r.before - n) count in
@@ -125,7 +129,8 @@ remarked_aside h remarks out r line here none says was =
       lines = λ left more. told_behind h remarks out r here was left more
           ∙ ap (λ (t : List ℕ). (out ++ t) ++ told_lines (reverse h ++ more)
           (r.before + entries_said r.said) left) (says (slice_get (reverse h ++ more) r.before))
-          ∙ ap (λ (n : ℕ). (out ++ line) ++ told_lines (reverse h ++ more) n left) (omega (arith, here, none));
+          ∙ ap (λ (n : ℕ). (out ++ line) ++ told_lines (reverse h ++ more) n left)
+          (omega (arith, here, none));
       rest = sym (append-nil (out ++ line))
           ∙ ap (λ (t : List ℕ). (out ++ line) ++ t)
           (sym (nothing_behind (reverse h) (length h) (sym (length-reverse h))));

@@ -17,7 +17,8 @@ use Rattle.streams.specs.Whole.{AppendsFront}
 use Rattle.driver.proofs.Gathering.{gathered_more, front_more, front_longer}
 
 lines_of-append : (k : ℕ) (xs ys : List Entry) →
-    lines_of history_form k (xs ++ ys) ≡ lines_of history_form k xs ++ lines_of history_form (k + length xs) ys
+    lines_of history_form k (xs ++ ys) ≡ lines_of history_form k xs ++
+    lines_of history_form (k + length xs) ys
 lines_of-append k [] ys = ap (λ (n : ℕ). lines_of history_form n ys) (omega arith)
 lines_of-append k (x ∷ xs) ys =
     let line = ended (entry_line k x) in
@@ -38,7 +39,8 @@ lines_longer xs k few many less =
     ∙ lines_of-append k (take few xs) (drop few (take many xs))
 
 -- one more entry
-pub entry_more : (xs : List Entry) (from number : ℕ) (e : Entry) → from ≤ number → slice_get xs number ≡ Some e
+pub entry_more : (xs : List Entry) (from number : ℕ) (e : Entry) → from ≤ number →
+    slice_get xs number ≡ Some e
     → lines_of history_form from (take ((number + 1) - from) (drop from xs))
     ≡ lines_of history_form from (take (number - from) (drop from xs)) ++ ended (entry_line number e)
 entry_more xs from number e since at =

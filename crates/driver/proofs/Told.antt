@@ -101,7 +101,8 @@ unfolding lines_left
 lines_left-cons s h number x steps r new p q = rw (p, q) refl
 
 entries_left-cons : (s : Start) (h : List Entry) (x : ℕ × Step) (steps : List (ℕ × Step))
-    (new : List Entry) → new ≡ (answer s h x.0 x.1).1 → entries_left s h (x ∷ steps) ≡ entries_left s new steps
+    (new : List Entry) → new ≡ (answer s h x.0 x.1).1 → entries_left s h (x ∷ steps) ≡
+    entries_left s new steps
 unfolding entries_left
 entries_left-cons s h x steps new q = rw q refl
 

@@ -25,7 +25,8 @@ abbrev pub IsKept : List Remark → Option Remark → List Remark → Type 0
 IsKept old None new = new ≡ old
 IsKept old (Some r) new = new ≡ old ++ r ∷ []
 
--- the line of an answer of which this is said of a seat, at a number, where an entry with that number may stand
+-- the line of an answer of which this is said of a seat, at a number, where an entry with that number may
+-- stand
 abbrev pub said_line : Said → ℕ → ℕ → Option Entry → List ℕ
 said_line IsNamed number seat (Some e) = ended (answer_line number seat (Ok (Recorded e (Some seat))))
 said_line IsNamed number seat None = []

@@ -20,7 +20,8 @@ header_line h = codes "aqs-replay 1 " ++ part_of h
 -- the line of an answer to a seat, where so many entries stand before it
 abbrev pub answer_line : ℕ → ℕ → Result Answer Fault → List ℕ
 answer_line number seat (Ok (Recorded e None)) = entry_line number e
-answer_line number seat (Ok (Recorded e (Some named))) = entry_line number e ++ codes " wakes " ++ decimal named
+answer_line number seat (Ok (Recorded e (Some named))) =
+    entry_line number e ++ codes " wakes " ++ decimal named
 answer_line number seat (Ok Sleep) = codes "- " ++ decimal seat ++ codes " sleep"
 answer_line number seat (Err fault) = codes "- " ++ decimal seat ++ codes " " ++ fault_name fault
 

@@ -5,8 +5,8 @@ use Rattle.history.specs.declared.step.Step.{Step}
 use Rattle.steps.specs.StepsText.{steps_so_far}
 use Rattle.driver.specs.TextReader.{Progress, reader_at}
 
--- What a reader of steps has: the header, how many steps it gave, the bytes behind them that it holds, and how
--- many places its memory has.
+-- What a reader of steps has: the header, how many steps it gave, the bytes behind them that it holds, and
+-- how many places its memory has.
 pub record Held : Type 0 where
   pub header : Header
   pub count : ℕ

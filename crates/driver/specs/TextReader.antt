@@ -68,8 +68,8 @@ IsNext {H} {I} form old (Ok None) new left =
 IsNext {H} {I} form old (Err fault) new left =
     (text : Option (List ℕ)) (items : List I) → WereRead form text old items → IsFaultOf form text left fault
 
--- Where a reader stands that gave no item, by what it held and holds and what its source had left and has: where
--- it stood. Behind a fault bytes of a line that is longer than any good one may be gone.
+-- Where a reader stands that gave no item, by what it held and holds and what its source had left and has:
+-- where it stood. Behind a fault bytes of a line that is longer than any good one may be gone.
 abbrev pub Stands : {I : Type 0} → List ℕ → Option (List ℕ) → Result (Option I) StreamFault → List ℕ →
     Option (List ℕ) → Type 0
 Stands old left (Ok (Some item)) new after = Unit {0}

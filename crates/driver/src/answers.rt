@@ -46,7 +46,8 @@ impl Model for Answers {
 
     ghost Value = { AllAnswers };
 
-    ghost view = { λ a. record { header = a.header; entries = a.history.entries; remarks = a.remarks.items } };
+    ghost view = { λ a.
+        record { header = a.header; entries = a.history.entries; remarks = a.remarks.items } };
 
     ghost invariant = { λ a. IsInRange a.header × IsLegal (opening a.header) a.history.entries };
 }

@@ -3,7 +3,7 @@
 ghost use Rattle.std.specs.Prelude.{◌≡◌, ◌<◌, ◌≤◌, ◌↔◌, [], false, length, None, Ok, IsTrue, IsErrOf, IfOk, IfErr, IfSome, OnErr};
 ghost use Rattle.std.specs.Io.KnownBytes.{IsAtEnd, Keeps, prepend_known};
 ghost use Rattle.history.specs.Header.{IsInRange};
-ghost use Rattle.history.specs.Text.{IsLine};
+ghost use Rattle.history.specs.Text.{HasNoBreak};
 ghost use Rattle.driver.specs.HistoryReader.{AreCounted, entries_read, entry_passed};
 ghost use Rattle.driver.specs.TextReader.{IsBehindEnd, IsFaultOf, IsNext, Stands, WereRead};
 ghost use Rattle.history_text.specs.HistoryText.{history_form};
@@ -144,10 +144,11 @@ impl HistoryReader {
             (entries_read self.new (R.left reader.new)) (R.left reader.new) }
         ensures stands { Stands self.old.bytes (R.left reader.old) result self.new.bytes (R.left reader.new) }
         ensures counted { IfOk result (λ next. AreCounted self.old next self.new) }
-        ensures uncounted { OnErr result ((self.new.count ≡ self.old.count) × (self.new.calls ≡ self.old.calls)) }
+        ensures uncounted { OnErr result
+            ((self.new.count ≡ self.old.count) × (self.new.calls ≡ self.old.calls)) }
         ensures places { self.new.places ≡ self.old.places }
         ensures held { length self.new.bytes ≤ room }
-        ensures ready { (IsLine self.old.bytes → ⊥) →
+        ensures ready { (HasNoBreak self.old.bytes → ⊥) →
             IfOk result (λ next. IfSome next (λ _. reader.new ≡ reader.old)) }
         ensures ended { result ≡ Ok None → IsAtEnd (R.left reader.new) }
         ensures failing { IsErrOf result StreamFault.ReadFailed ↔ IsTrue (R.failed reader.new) }
@@ -169,8 +170,8 @@ impl HistoryReader {
 
     /// The next entry, or None behind the last: nothing follows the end line.
     ///
-    /// Behind None, and behind a fault, the reader stands where it stood: only bytes of a line that is longer than
-    /// any good one may be gone.
+    /// Behind None, and behind a fault, the reader stands where it stood: only bytes of a line that is longer
+    /// than any good one may be gone.
     #[inline(always)]
     pub fn next<R: Source>(&mut self, reader: &mut R) -> Result<Option<Entry>, StreamFault>
         requires { R.failed reader.old ≡ false }
@@ -179,10 +180,11 @@ impl HistoryReader {
             (entries_read self.new (R.left reader.new)) (R.left reader.new) }
         ensures stands { Stands self.old.bytes (R.left reader.old) result self.new.bytes (R.left reader.new) }
         ensures counted { IfOk result (λ next. AreCounted self.old next self.new) }
-        ensures uncounted { OnErr result ((self.new.count ≡ self.old.count) × (self.new.calls ≡ self.old.calls)) }
+        ensures uncounted { OnErr result
+            ((self.new.count ≡ self.old.count) × (self.new.calls ≡ self.old.calls)) }
         ensures places { self.new.places ≡ self.old.places }
         ensures held { length self.new.bytes ≤ room }
-        ensures ready { (IsLine self.old.bytes → ⊥) →
+        ensures ready { (HasNoBreak self.old.bytes → ⊥) →
             IfOk result (λ next. IfSome next (λ _. reader.new ≡ reader.old)) }
         ensures ended { result ≡ Ok None → IsAtEnd (R.left reader.new) }
         ensures failing { IsErrOf result StreamFault.ReadFailed ↔ IsTrue (R.failed reader.new) }

@@ -1,8 +1,8 @@
 //! From bytes to bytes: what a stream's text asks for is answered by a text.
 //!
-//! A stream reads all and finds all its memory before it writes, so that nothing is written for a text that is
-//! refused. A replay answers each line as it is read, and keeps the answers short until they are written; an
-//! audit judges each line as it is read, and keeps none. Sources and sinks tell their bytes to the
+//! A stream reads all and finds all its memory before it writes, so that nothing is written for a text that
+//! is refused. A replay answers each line as it is read, and keeps the answers short until they are written;
+//! an audit judges each line as it is read, and keeps none. Sources and sinks tell their bytes to the
 //! contracts, where these are known.
 #![tactic(auto)]
 

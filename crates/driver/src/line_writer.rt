@@ -84,7 +84,8 @@ impl LineWriter {
         requires { W.failed writer.old ≡ false }
         ensures room { OnOk result (136 ≤ self.new.room) }
         ensures ready { 136 ≤ self.old.room → (self.new ≡ self.old) × (writer.new ≡ writer.old) }
-        ensures adds { Gathers (W.held writer.old) self.old.bytes result (W.held writer.new) self.new.bytes [] }
+        ensures adds { Gathers (W.held writer.old) self.old.bytes result
+            (W.held writer.new) self.new.bytes [] }
         ensures places { length self.new.bytes + self.new.room ≡ length self.old.bytes + self.old.room }
         ensures failing { IsTrue (W.failed writer.new) ↔ IsErr result }
     {

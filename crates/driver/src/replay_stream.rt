@@ -30,9 +30,9 @@ use streams::whole::told_at_the_end;
 /// Reads a steps text, and writes what a fresh object of its header answers to the steps.
 ///
 /// Each line is answered as it is read, and nothing is written before all was answered and all memory was
-/// found: nothing at all where the text has a fault, where reading fails or where memory is refused, to a step
-/// too. A text is read to its end where it is answered, and where it has a fault; where memory is refused nothing
-/// more is read.
+/// found: nothing at all where the text has a fault, where reading fails or where memory is refused, to a
+/// step too. A text is read to its end where it is answered, and where it has a fault; where memory is
+/// refused nothing more is read.
 pub fn replay_stream<R: Source, W: Sink>(
     alloc: Global,
     reader: &mut R,

@@ -3,7 +3,7 @@
 ghost use Rattle.std.specs.Prelude.{◌≡◌, ◌+◌, ◌^◌, ◌<◌, ◌≤◌, ◌∷◌, ◌++◌, ◌↔◌, ◌-◌, [], false, length, None, Ok, IsTrue, IsErrOf, IfOk, IfErr, IfSome, OnErr, OnOk};
 ghost use Rattle.std.specs.Io.KnownBytes.{IsAtEnd, Keeps, prepend_known};
 ghost use Rattle.history.specs.Header.{IsInRange};
-ghost use Rattle.history.specs.Text.{IsLine};
+ghost use Rattle.history.specs.Text.{HasNoBreak};
 ghost use Rattle.driver.specs.StepReader.{passed, progress};
 ghost use Rattle.driver.specs.TextReader.{IsBehindEnd, IsFaultOf, IsNext, Stands, WereRead};
 ghost use Rattle.steps.specs.StepsText.{steps_form};
@@ -139,7 +139,7 @@ impl StepReader {
         ensures uncounted { OnErr result (self.new.count ≡ self.old.count) }
         ensures places { self.new.places ≡ self.old.places }
         ensures held { length self.new.bytes ≤ room }
-        ensures ready { (IsLine self.old.bytes → ⊥) →
+        ensures ready { (HasNoBreak self.old.bytes → ⊥) →
             IfOk result (λ next. IfSome next (λ _. reader.new ≡ reader.old)) }
         ensures ended { result ≡ Ok None → IsAtEnd (R.left reader.new) }
         ensures failing { IsErrOf result StreamFault.ReadFailed ↔ IsTrue (R.failed reader.new) }
@@ -154,8 +154,8 @@ impl StepReader {
 
     /// The next seat and its step, or None behind the last: nothing follows the end line.
     ///
-    /// Behind None, and behind a fault, the reader stands where it stood: only bytes of a line that is longer than
-    /// any good one may be gone.
+    /// Behind None, and behind a fault, the reader stands where it stood: only bytes of a line that is longer
+    /// than any good one may be gone.
     #[inline(always)]
     pub fn next<R: Source>(&mut self, reader: &mut R) -> Result<Option<(u16, Step)>, StreamFault>
         requires { R.failed reader.old ≡ false }
@@ -170,7 +170,7 @@ impl StepReader {
         ensures uncounted { OnErr result (self.new.count ≡ self.old.count) }
         ensures places { self.new.places ≡ self.old.places }
         ensures held { length self.new.bytes ≤ room }
-        ensures ready { (IsLine self.old.bytes → ⊥) →
+        ensures ready { (HasNoBreak self.old.bytes → ⊥) →
             IfOk result (λ next. IfSome next (λ _. reader.new ≡ reader.old)) }
         ensures ended { result ≡ Ok None → IsAtEnd (R.left reader.new) }
         ensures failing { IsErrOf result StreamFault.ReadFailed ↔ IsTrue (R.failed reader.new) }

@@ -159,7 +159,8 @@ no_shared s t h e word.SignalAll v k a m = refl
 no_shared s t h e word.Counted v k a m = refl
 
 -- what is held fits
-pub exclusive_fits : (k : Header) (h : List Entry) → IsLegal (opening k) h → AreSeated (opening k) h → (i : ℕ) →
+pub exclusive_fits : (k : Header) (h : List Entry) → IsLegal (opening k) h →
+    AreSeated (opening k) h → (i : ℕ) →
     held (opening k) h i X ≤ 2147483647
 exclusive_fits k h legal seated i = by (is_lock k.object) refl
   where

@@ -51,7 +51,14 @@ same_counts s h e w holds permits count =
     let c : opening_count s.header.object - counted_after w (counted s h) ≡ opening_count s.header.object
     - counted s h =
     ap (λ x. opening_count s.header.object - x) count in
-    λ i. record { object = s.header.object; seats = s.header.seats; held = f i; free = permits i; count = c i }
+    λ i. record {
+      object = s.header.object;
+      seats = s.header.seats;
+      held = f i;
+      free =
+          permits i;
+      count = c i;
+    }
 
 -- a give of anything but a latch, and of a latch
 gives_back : (o : Object) (k : Counts) (i : ℕ) (m : Mode) (n : ℕ) → gave o k i m n ≡ word.Gave →
@@ -151,7 +158,8 @@ most_is (ReadWrite p) = refl
 most_is (Semaphore p c) = refl
 most_is (Latch c) = refl
 
-granted_allowed : (s : Start) (h : List Entry) (e : Entry) (a : Arrival) (w : Word) → e.seat < s.header.seats →
+granted_allowed : (s : Start) (h : List Entry) (e : Entry) (a : Arrival) (w : Word) →
+    e.seat < s.header.seats →
     place_of e.seat (line s h) ≡ Some a → e ≡ ended e.seat w a e.end →
     could (counts s h) e.seat a.mode a.n ≡ true →
     IsTakeable (counts s h) e

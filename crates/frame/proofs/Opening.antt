@@ -22,7 +22,8 @@ pub opening_stands : (agrees : Counts → Type 0) (k : Header) (kept : HistoryVi
     queue.joined ≡ 0 → ((c : ℕ) → asleep_on waiters c ≡ []) → waiters.conditions ≡ k.conditions →
     waiters.seats ≡ k.seats →
     table ≡ replicate k.seats no_holds → Stands agrees k kept queue waiters table
-opening_stands agrees k kept queue waiters table range told is line places joined asleep conditions beds free =
+opening_stands agrees k kept queue waiters table range told is line places joined asleep
+    conditions beds free =
     let n : length table ≡ k.seats = ap length free ∙ length-replicate k.seats no_holds in
     let none = nothing_owed k in
     let empty : kept.entries ≡ [] = ap (λ (y : HistoryView). y.entries) is in

@@ -41,7 +41,8 @@ all_its_own most (Some j) holds i t u =
     let e : j ≡ i = eqb-true j i u in
     rw e (at_own holds i)
 
-pub none_else : (o : Option ℕ) (holds i : ℕ) → is_none_or o i ≡ true → (j : ℕ) → j ≢ i → holds_of o holds j ≡ 0
+pub none_else : (o : Option ℕ) (holds i : ℕ) → is_none_or o i ≡ true → (j : ℕ) → j ≢ i →
+    holds_of o holds j ≡ 0
 none_else None holds i t j ne = refl
 none_else (Some q) holds i t j ne =
     let e : q ≡ i = eqb-true q i t in
@@ -99,7 +100,8 @@ changed o new holds then i change was h t u e j = ⊎_elim same other (cases_eq 
     other : (i ≡ j → ⊥) → holds_with i X change was j X ≡ holds_of new then j
     other n =
         let ne : j ≢ i = λ q. n (sym q) in
-        changed_other i X change was j ne ∙ h j ∙ none_else o holds i t j ne ∙ sym (none_else new then i u j ne)
+        changed_other i X change was j ne ∙ h j ∙ none_else o holds i t j ne ∙ sym
+        (none_else new then i u j ne)
 
 -- The owner after a take, a give and the like of exclusive holds, and after a change of shared ones.
 pub owns_took : (most : ℕ) (o : Option ℕ) (holds : ℕ) (k : Counts) (i n : ℕ) →

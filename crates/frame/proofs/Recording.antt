@@ -112,7 +112,8 @@ answered_fault v i step f q =
       places = refl;
     })
 
-pub answered_sleep : (v : CoreView) (i : ℕ) (step : Step) → entry_for (start_of v) v.entries i step ≡ Ok None →
+pub answered_sleep : (v : CoreView) (i : ℕ) (step : Step) →
+    entry_for (start_of v) v.entries i step ≡ Ok None →
     IsAnswered v i step (Ok Sleep) v
 answered_sleep v i step q =
     let made = ap (answer_by (start_of v) v.entries) q in

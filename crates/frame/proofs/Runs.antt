@@ -42,7 +42,8 @@ all_results old new (s ∷ steps) (r ∷ answers) a none =
     let rest = all_results a.0 new steps answers a.2 none.1 in
     let there : results (start_of a.0) a.0.entries steps
     ≡ results (start_of old) (answer (start_of old) old.entries s.0 s.1).1 steps =
-    ap (λ (k : Header). results (start_of (record { header = k; entries = a.0.entries; places = a.0.places })) a.0.entries steps)
+    ap (λ (k : Header). results (start_of (record { header = k; entries = a.0.entries; places = a.0.places }))
+    a.0.entries steps)
     now.header
     ∙ ap (λ h. results (start_of old) h steps) now.entries in
     record {

@@ -162,7 +162,8 @@ NamesBelow seats Sleep = Unit {0}
 -- the entry of a step was owed before it came
 abbrev pub MakesOwed : CoreView → ℕ → Step → Type 0
 MakesOwed v i step =
-    (e : Entry) × (entry_for (start_of v) v.entries i step ≡ Ok (Some e)) × (was_owed v.header.object e ≡ true)
+    (e : Entry) × (entry_for (start_of v) v.entries i step ≡ Ok (Some e)) ×
+    (was_owed v.header.object e ≡ true)
 
 -- a step's answer, or want of memory
 abbrev pub IsAnswered : CoreView → ℕ → Step → Result Answer Fault → CoreView → Type 0

@@ -3,6 +3,7 @@
 mod decide;
 mod observing;
 mod recording;
+mod stepping;
 
 ghost use Rattle.std.specs.Prelude.{◌≡◌, [], ℕ, IfOk, IfErr};
 ghost use Rattle.history.specs.Header.{IsInRange};

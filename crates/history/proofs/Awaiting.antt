@@ -251,7 +251,8 @@ sleeping_turn s h i w step r t = by step t (sleeping_made s h i w step r t)
     lapsing step how ends q = record {
       made = Some (lapse_from i w how);
       is = q ∙ ap
-          (λ (x : Sleep). (let y : Result (Option Entry) Fault = Ok (Some (lapse_from i x how)) in y)) r.saved;
+          (λ (x : Sleep). (let y : Result (Option Entry) Fault =
+          Ok (Some (lapse_from i x how)) in y)) r.saved;
       makes = lapses how ends refl r (lapse_returns s h i w how r);
       owed = λ e same. owed_entry s (lapse_from i w how) e refl same;
     }

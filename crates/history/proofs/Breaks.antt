@@ -4,14 +4,14 @@ use Rattle.std.proofs.lemmas.Bool.{eqb-true, eq-eqb}
 use Rattle.std.proofs.lemmas.List.{take_rest, take-append-drop, length-take, get_or-take, get_or_default}
 use Rattle.std.proofs.Math.Seq.{drop-cons}
 use Rattle.memchr.specs.Find.{Passes, is_byte, Nowhere, NoneBefore}
-use Rattle.history.specs.Text.{IsLine}
+use Rattle.history.specs.Text.{HasNoBreak}
 
-pub no_break : (xs : List ℕ) → Nowhere (Passes (is_byte 10) xs) 0 (length xs) → IsLine xs
+pub no_break : (xs : List ℕ) → Nowhere (Passes (is_byte 10) xs) 0 (length xs) → HasNoBreak xs
 no_break xs none = λ k d below e. none k (omega arith) below (eq-eqb _ _ (get_or_default xs k 0 d below ∙ e))
 
 pub first_break : (xs : List ℕ) (i : ℕ) → NoneBefore (Passes (is_byte 10) xs) 0 (length xs) i →
     Passes (is_byte 10) xs i → (xs ≡ take i xs ++ 10 ∷ take (length xs - (i + 1)) (drop (i + 1) xs))
-    × IsLine (take i xs)
+    × HasNoBreak (take i xs)
 first_break xs i before passes =
     let here : get_or xs i 0 ≡ 10 = eqb-true _ _ passes in
     let lt : i < length xs = before.high in

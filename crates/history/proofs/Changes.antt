@@ -68,7 +68,8 @@ either_way false x y e = refl
 pub held_same : (s : Start) (e : Entry) (h : List Entry) (i : ℕ) (m : Mode) → counts_nothing e.word ≡ true →
     held s (e ∷ h) i m ≡ held s h i m
 held_same s e h i m t =
-    either_way (eqb e.seat i && same_mode e.mode m) _ _ (held_kept s.header.object e.word e.n (held s h i m) t)
+    either_way (eqb e.seat i && same_mode e.mode m) _ _ (held_kept s.header.object e.word e.n
+    (held s h i m) t)
 
 pub counts_same : (s : Start) (e : Entry) (h : List Entry) → counts_nothing e.word ≡ true →
     counts s (e ∷ h) ≡ counts s h

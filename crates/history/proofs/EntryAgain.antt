@@ -116,7 +116,8 @@ words_are_read seat word.Lapse m n at e has le c15 = rw (has.0, has.1, lapse_aga
 words_are_read seat word.Signal m n at e has le c15 = rw (has.0, has.1, sleepers_again at n [] c15 le) refl
 words_are_read seat word.SignalAll m n at e has le c15 = rw (has.0, has.1, sleepers_again at n [] c15 le) refl
 words_are_read seat word.Back m n at e has le c15 = rw (has.0, back_again seat at n e c15 le has.1) refl
-words_are_read seat word.Counted m n at e has le c15 = rw (has.0, has.1, has.2, has.3, counted_again seat) refl
+words_are_read seat word.Counted m n at e has le c15 =
+    rw (has.0, has.1, has.2, has.3, counted_again seat) refl
 words_are_read seat word.Drained m n at e has le c15 = rw (has.0, has.1, has.2, drained_again seat n le) refl
 
 mode_plain : (m : Mode) → is_plain (mode_word m) ≡ true

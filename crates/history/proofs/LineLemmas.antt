@@ -117,7 +117,8 @@ new_stand : (s : Start) (e : Entry) (h : List Entry) (b : Bool) → ends_arrival
 new_stand s e h true p none = rw (none refl) refl
 new_stand s e h false p none =
     filter_all (stands (e ∷ h)) (length h) (arrivals_by s e.word e h) (λ a.
-    open_then (ending h a.seat (length h)) _ _ ∙ rw (ending_past h a.seat (length h) (omega arith)) (rw p refl))
+    open_then (ending h a.seat (length h)) _ _ ∙ rw (ending_past h a.seat (length h)
+    (omega arith)) (rw p refl))
 
 pub no_arrival : (s : Start) (w : Word) (e : Entry) (h : List Entry) → ends_arrival w ≡ true →
     arrivals_by s w e h ≡ []

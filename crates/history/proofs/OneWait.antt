@@ -505,7 +505,8 @@ grows s h e v k i = by e.word refl k
     before = times-waiting s h i
 
     after : times i (waiting s (e ∷ h))
-        ≡ times i (seats_of (line s (e ∷ h))) + total s.header.conditions (λ c. times i (sleepers s (e ∷ h) c))
+        ≡ times i (seats_of (line s (e ∷ h))) + total s.header.conditions
+        (λ c. times i (sleepers s (e ∷ h) c))
     after = times-waiting s (e ∷ h) i
 
     quiet : (w : Word) → e.word ≡ w → leaves_sleepers w ≡ true → arrivals_by s w e h ≡ [] → Grows s h e i

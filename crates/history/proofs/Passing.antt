@@ -81,7 +81,8 @@ all_kept e h p (x ∷ xs) all = (kept_ended e h p x all.0, all_kept e h p xs all
 gone : (h : List Entry) (a : Arrived) → stands h a ≡ false → EndedBefore h (length h) a
 gone h a f = by (ending h a.who.seat a.place) refl f
   where
-    by : (o : Option Ending) → ending h a.who.seat a.place ≡ o → is_open o ≡ false → EndedBefore h (length h) a
+    by : (o : Option Ending) → ending h a.who.seat a.place ≡ o → is_open o ≡ false →
+        EndedBefore h (length h) a
     by None q t = cc
     by (Some x) q t = record { end = x; is = q; before = ending_below h a.who.seat a.place x q }
 

@@ -4,8 +4,8 @@ use Rattle.std.specs.List.{slice_split, join_with_byte}
 use Rattle.std.specs.Borrow.{Bor}
 
 -- no line break stands in it
-abbrev pub IsLine : List ℕ → Type 0
-IsLine bytes = All (λ b. b ≢ 10) bytes
+abbrev pub HasNoBreak : List ℕ → Type 0
+HasNoBreak bytes = All (λ b. b ≢ 10) bytes
 
 -- a line with its break
 abbrev pub ended : List ℕ → List ℕ

@@ -106,7 +106,8 @@ impl Entry {
         }
     }
 
-    /// Whether it may stand in a history text: spelt, its amount at most 2147483647, its condition at most 15.
+    /// Whether it may stand in a history text: spelt, its amount at most 2147483647, its condition at most
+    /// 15.
     pub fn is_written(&self) -> bool
         ensures { IsTrue result ↔ IsWritten self.now }
     {

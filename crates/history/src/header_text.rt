@@ -63,7 +63,8 @@ fn semaphore(words: &mut Words<'_>) -> Option<Header>
 #[tactic(auto, unfolding(crate::specs::Reading::latch_at))]
 fn latch(words: &mut Words<'_>) -> Option<Header>
     ensures is { with_rest result words.new ≡ latch_at words.old }
-    ensures found { IfSome result (λ h. IsInRange h × (codes "latch" ∷ words.old ≡ part_words h ++ words.new)) }
+    ensures found { IfSome result (λ h. IsInRange h ×
+        (codes "latch" ∷ words.old ≡ part_words h ++ words.new)) }
 {
     let seats = words.named(b"seats", 1, 256)?;
     let count = words.named(b"count", 0, 2_147_483_647)?;

@@ -1,7 +1,7 @@
 //! Where a line ends and where a word ends.
 
 ghost use Rattle.std.specs.Prelude.{◌≡◌, ◌≢◌, ◌==◌, ◌∷◌, ◌++◌, List, ℕ, MatchOption, position};
-ghost use Rattle.history.specs.Text.{IsLine};
+ghost use Rattle.history.specs.Text.{HasNoBreak};
 
 use memchr::memchr;
 
@@ -16,8 +16,8 @@ pub fn place_of(byte: u8, bytes: &[u8]) -> Option<usize>
 /// The first line, without its break, and what follows the break. None where the text has no break.
 #[inline(always)]
 pub fn first_line(text: &[u8]) -> Option<(&[u8], &[u8])>
-    ensures { MatchOption result (IsLine text.now) (λ r. (text.now ≡ r.0.now ++ 10 ∷ r.1.now)
-        × IsLine r.0.now) }
+    ensures { MatchOption result (HasNoBreak text.now) (λ r. (text.now ≡ r.0.now ++ 10 ∷ r.1.now)
+        × HasNoBreak r.0.now) }
 {
     let at = memchr(b'\n', text)?;
     Some((&text[..at], &text[at + 1..]))

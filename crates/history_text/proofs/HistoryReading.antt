@@ -35,7 +35,8 @@ below_cap h k (x ∷ xs) le p = omega (arith, below_cap h (k + 1) xs (omega (ari
 
 few : (text : List ℕ) (h : Header) (entries : List Entry) (rest : List ℕ) →
     Begins history_form text h entries rest → length entries < 2 ^ 32
-few text h entries rest begun = omega (arith, below_cap h 0 entries (omega arith) begun.each, begun.header.cap)
+few text h entries rest begun =
+    omega (arith, below_cap h 0 entries (omega arith) begun.each, begun.header.cap)
 
 -- the end line of a list that stands newest first
 pub end_of : (xs : List Entry) (count calls : ℕ) → count ≡ length xs → calls ≡ ended_calls xs →
@@ -56,7 +57,8 @@ counts_end h count calls rest line is text entries read = (
 -- one more entry was read of a history, which stands newest first
 pub entry_read : (text : List ℕ) (h : Header) (entries : List Entry) (e : Entry) (rest after : List ℕ) →
     IsAhead history_form (entries_so_far h (length entries) (ended_calls entries)) rest e after
-    → AreRead history_form text (entries_so_far h (length entries) (ended_calls entries)) (reverse entries) rest
+    → AreRead history_form text (entries_so_far h (length entries) (ended_calls entries))
+    (reverse entries) rest
     → AreRead history_form text (entries_so_far h (length (e ∷ entries)) (ended_calls (e ∷ entries)))
     (reverse (e ∷ entries)) after
 entry_read text h entries e rest after ahead read =

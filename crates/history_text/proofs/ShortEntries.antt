@@ -49,25 +49,43 @@ fault_short OutOfMemory = omega arith
 
 words_short : (w : Word) (m : Mode) (n at : ℕ) (e : End) → n ≤ 2147483647 → at ≤ 15 →
     AreShort (spelt w m n at e) × (length (spelt w m n at e) ≤ 4)
-words_short word.Got m n at e lt le = ((omega arith, (mode_short m, (decimal_short n (omega (arith, lt)), tt))), omega arith)
-words_short word.TryGot m n at e lt le = ((omega arith, (mode_short m, (decimal_short n (omega (arith, lt)), tt))), omega arith)
-words_short word.Queued m n at e lt le = ((omega arith, (mode_short m, (decimal_short n (omega (arith, lt)), tt))), omega arith)
-words_short word.Granted m n at e lt le = ((omega arith, (mode_short m, (decimal_short n (omega (arith, lt)), tt))), omega arith)
-words_short word.Missed m n at e lt le = ((omega arith, (mode_short m, (decimal_short n (omega (arith, lt)), tt))), omega arith)
-words_short word.Left m n at e lt le =
-    ((omega arith, (mode_short m, (decimal_short n (omega (arith, lt)), (end_word_short e, tt)))), omega arith)
-words_short word.Gave m n at e lt le = ((omega arith, (mode_short m, (decimal_short n (omega (arith, lt)), tt))), omega arith)
+words_short word.Got m n at e lt le =
+    ((omega arith, (mode_short m, (decimal_short n (omega (arith, lt)), tt))), omega arith)
+words_short word.TryGot m n at e lt le =
+    ((omega arith, (mode_short m, (decimal_short n (omega (arith, lt)), tt))), omega arith)
+words_short word.Queued m n at e lt le =
+    ((omega arith, (mode_short m, (decimal_short n (omega (arith, lt)), tt))), omega arith)
+words_short word.Granted m n at e lt le =
+    ((omega arith, (mode_short m, (decimal_short n (omega (arith, lt)), tt))), omega arith)
+words_short word.Missed m n at e lt le =
+    ((omega arith, (mode_short m, (decimal_short n (omega (arith, lt)), tt))), omega arith)
+words_short word.Left m n at e lt le = (
+  (omega arith, (mode_short m, (decimal_short n (omega (arith, lt)), (end_word_short e, tt)))),
+  omega arith,
+)
+words_short word.Gave m n at e lt le =
+    ((omega arith, (mode_short m, (decimal_short n (omega (arith, lt)), tt))), omega arith)
 words_short (word.Refused f) m n at e lt le =
     ((omega arith, (mode_short m, (decimal_short n (omega (arith, lt)), (fault_short f, tt)))), omega arith)
-words_short word.Await m n at e lt le =
-    ((omega arith, (decimal_short at (omega (arith, le)), (decimal_short n (omega (arith, lt)), tt))), omega arith)
-words_short word.Lapse m n at e lt le = ((omega arith, (decimal_short at (omega (arith, le)), (end_word_short e, tt))), omega arith)
-words_short word.Signal m n at e lt le =
-    ((omega arith, (decimal_short at (omega (arith, le)), (decimal_short n (omega (arith, lt)), tt))), omega arith)
-words_short word.SignalAll m n at e lt le =
-    ((omega arith, (decimal_short at (omega (arith, le)), (decimal_short n (omega (arith, lt)), tt))), omega arith)
+words_short word.Await m n at e lt le = (
+  (omega arith, (decimal_short at (omega (arith, le)), (decimal_short n (omega (arith, lt)), tt))),
+  omega arith,
+)
+words_short word.Lapse m n at e lt le =
+    ((omega arith, (decimal_short at (omega (arith, le)), (end_word_short e, tt))), omega arith)
+words_short word.Signal m n at e lt le = (
+  (omega arith, (decimal_short at (omega (arith, le)), (decimal_short n (omega (arith, lt)), tt))),
+  omega arith,
+)
+words_short word.SignalAll m n at e lt le = (
+  (omega arith, (decimal_short at (omega (arith, le)), (decimal_short n (omega (arith, lt)), tt))),
+  omega arith,
+)
 words_short word.Back m n at e lt le = (
-  (omega arith, (decimal_short at (omega (arith, le)), (decimal_short n (omega (arith, lt)), (end_word_short e, tt)))),
+  (
+    omega arith,
+    (decimal_short at (omega (arith, le)), (decimal_short n (omega (arith, lt)), (end_word_short e, tt))),
+  ),
   omega arith,
 )
 words_short word.Counted m n at e lt le =

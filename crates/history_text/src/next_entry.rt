@@ -2,7 +2,7 @@
 
 ghost use Rattle.std.specs.Prelude.{◌≡◌, ◌+◌, ◌<◌, ◌≤◌, ◌^◌, Err, Ok, None, length, IfOk, IfErr, IsErrOf};
 ghost use Rattle.history.specs.Header.{IsInRange};
-ghost use Rattle.history.specs.Text.{IsLine, ended};
+ghost use Rattle.history.specs.Text.{HasNoBreak, ended};
 ghost use Rattle.line_text.specs.Reading.{IsReading};
 ghost use Rattle.line_text.specs.declared.fault.TextFault.TheVariants.{CutShort};
 ghost use Rattle.line_text.specs.UnderWay.{IsHeaderOf, IsLineBehind};
@@ -23,7 +23,7 @@ use line_text::header_line::first_header;
 pub fn header_of(text: &[u8]) -> Result<(Header, &[u8]), TextFault>
     ensures ok { IfOk result (IsHeaderOf history_form text.now) }
     ensures err { IfErr result (λ fault. IsReading history_form text.now (Err fault)) }
-    ensures cut { IsErrOf result CutShort → IsLine text.now }
+    ensures cut { IsErrOf result CutShort → HasNoBreak text.now }
     ensures shorter { IfOk result (λ r. length r.1.now ≤ length text.now) }
     ensures range { IfOk result (λ r. IsInRange r.0) }
 {
@@ -41,7 +41,7 @@ fn entry_by_words(
     requires range { IsInRange header.now }
     requires few { count + 3 < 2 ^ 64 }
     ensures line { IsLineBehind history_form (entries_so_far header.now count calls) rest.now result }
-    ensures cut { IsErrOf result CutShort → IsLine rest.now }
+    ensures cut { IsErrOf result CutShort → HasNoBreak rest.now }
     ensures last { result ≡ Ok None → rest.now ≡ ended (counts_line count calls) }
 {
     let Some((line, after)) = first_line(rest) else {
@@ -75,7 +75,7 @@ pub fn next_entry(
     requires range { IsInRange header.now }
     requires few { count + 3 < 2 ^ 64 }
     ensures line { IsLineBehind history_form (entries_so_far header.now count calls) rest.now result }
-    ensures cut { IsErrOf result CutShort → IsLine rest.now }
+    ensures cut { IsErrOf result CutShort → HasNoBreak rest.now }
     ensures last { result ≡ Ok None → rest.now ≡ ended (counts_line count calls) }
 {
     if count < u64::from(header.cap) {

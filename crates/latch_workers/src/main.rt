@@ -1,8 +1,8 @@
 //! Workers that start together at one latch, and are waited for at another.
 //!
-//! A foreman lays the work out, opens the start, and waits until each worker has counted the end down. Each worker
-//! has a thread of its own. If the system refuses one, the others are let go, and nobody works. Prints what the
-//! workers made, and what the audit says of the histories of both latches.
+//! A foreman lays the work out, opens the start, and waits until each worker has counted the end down. Each
+//! worker has a thread of its own. If the system refuses one, the others are let go, and nobody works. Prints
+//! what the workers made, and what the audit says of the histories of both latches.
 #![tactic(auto)]
 
 ghost use Rattle.std.specs.Prelude.{◌≡◌, All};

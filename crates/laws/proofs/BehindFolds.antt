@@ -98,7 +98,8 @@ waits_fold s g w =
     sleeps : (c i : ℕ) → Sleeps s g c i → Sleeps (fold s g) [] c i
     sleeps c i v = record { saved = saved_fold s g i v.saved; condition = v.condition; how = v.how }
 
-pub in_order_behind : (k : Header) (g h : List Entry) → IsLegal (opening k) g → IsLegal (fold (opening k) g) h →
+pub in_order_behind : (k : Header) (g h : List Entry) → IsLegal (opening k) g →
+    IsLegal (fold (opening k) g) h →
     IsInOrder (fold (opening k) g) h
 in_order_behind k g h front rest =
     in_order_from (fold (opening k) g) h (waits_fold (opening k) g (waits k g front)) rest

@@ -129,7 +129,8 @@ gave_never (object.Latch c) k i m n = λ t. cc
 
 awaits_never : (k : Counts) (i c : ℕ) → (awaits k i c).word ≡ word.Queued → ⊥
 awaits_never k i c =
-    never_entry (not (is_seat (owner k) i)) (plain i (word.Refused fault.NotOwner) X 1) (cond reads refusal sleep)
+    never_entry (not (is_seat (owner k) i)) (plain i (word.Refused fault.NotOwner) X 1)
+    (cond reads refusal sleep)
     (refused_never fault.NotOwner)
     (never_entry reads refusal sleep (refused_never fault.HoldsRead) await_never)
   where
@@ -146,7 +147,8 @@ signals_never : (k : Counts) (w : Word) (n i c : ℕ) → (w ≡ word.Queued →
     (signals k w n i c).word ≡ word.Queued → ⊥
 signals_never k w n i c other =
     never_entry (not (is_seat (owner k) i)) (plain i (word.Refused fault.NotOwner) X 1)
-    (record { seat = i; word = w; mode = X; n = n; at = c; end = end.None }) (refused_never fault.NotOwner) other
+    (record { seat = i; word = w; mode = X; n = n; at = c; end = end.None })
+    (refused_never fault.NotOwner) other
 
 abbrev IsHeld : Start → List Entry → Entry → Type 0
 IsHeld s h e = (held_back (counts s h) (first_mode s h) e.seat e.mode ≡ true)
@@ -235,7 +237,8 @@ queued_waits s h e w none held r = by held
     by (inr c) = true_not_false (sym takes ∙ c)
 
 -- Who stands in line behind an entry of its own and could go lapsed by it.
-leaves : (w : Word) (i : ℕ) (q : List Arrival) → ends_arrival w ≡ true → place_of i (filter (stays w i) q) ≡ None
+leaves : (w : Word) (i : ℕ) (q : List Arrival) → ends_arrival w ≡ true →
+    place_of i (filter (stays w i) q) ≡ None
 leaves w i [] t = refl
 leaves w i (a ∷ q) t = by (eqb i a.seat) refl (leaves w i q t)
   where
@@ -261,7 +264,8 @@ not_moved : (s : Start) (h : List Entry) (i c n : ℕ) (a : Arrival) → phase s
     c < s.header.conditions → place_of i (map coming_back (take n (sleepers s h c))) ≡ Some a → ⊥
 not_moved s h i c n a idle below p =
     let once = (place_once i _ a p).1 in
-    let same : times i (seats_of (map coming_back (take n (sleepers s h c)))) ≡ times i (take n (sleepers s h c)) =
+    let same : times i (seats_of (map coming_back (take n (sleepers s h c)))) ≡
+    times i (take n (sleepers s h c)) =
     ap (times i) (seats-coming_back (take n (sleepers s h c))) in
     let parts = times-take_drop i n (sleepers s h c) in
     let asleep = sleeps_there s.header.conditions s h i c below
@@ -309,7 +313,8 @@ own_lapse s h e a not_queued place k = by e.word refl k
     by word.Signal q k =
         absurd (not_moved s h e.seat e.at e.n a k.0.idle k.0.condition (arrived word.Signal q refl k.0.idle))
     by word.SignalAll q k =
-        absurd (not_all_moved s h e.seat e.at a k.0.idle k.0.condition (arrived word.SignalAll q refl k.0.idle))
+        absurd (not_all_moved s h e.seat e.at a k.0.idle k.0.condition
+        (arrived word.SignalAll q refl k.0.idle))
     by word.Counted q k = absurd (none_some (arrived word.Counted q refl k.0.idle))
     by word.Drained q k = absurd (none_some (arrived word.Drained q refl k.0))
 
@@ -397,7 +402,8 @@ results_told s h m (first ∷ steps) told =
     let now = answer s h first.0 first.1 in
     results_told s now.1 (marks_after s h first.0 now.0 m) steps (told_after s h first.0 first.1 m told)
 
-pub told_behind : (s : Start) (g h : List Entry) (m : ℕ → Bool) → AreTold s (h ++ g) m → AreTold (fold s g) h m
+pub told_behind : (s : Start) (g h : List Entry) (m : ℕ → Bool) → AreTold s (h ++ g) m →
+    AreTold (fold s g) h m
 told_behind s g h m told i r = told i (sym (ready_goes_on s g h) ∙ r)
 
 pub waiter_forgotten : AreTold (opening fair_lock) given_to_a_waiter unmarked → ⊥

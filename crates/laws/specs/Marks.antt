@@ -1,5 +1,5 @@
--- Which seats in line were told that they could go. The marks stand beside a history: a sleep changes them, and
--- is no entry.
+-- Which seats in line were told that they could go. The marks stand beside a history: a sleep changes them,
+-- and is no entry.
 use Rattle.std.specs.Prelude.{◌≡◌, ℕ, ◌==◌, Bool, true, false, ◌&&◌, ◌||◌, not, List, [], ◌∷◌, Option, Some, None, Result, Ok, Err}
 use Rattle.history.specs.declared.arrival.Arrival.{Arrival}
 use Rattle.history.specs.declared.entry.Entry.{Entry}
@@ -27,11 +27,12 @@ is_placed (Some a) = true
 abbrev pub unmarked : ℕ → Bool
 unmarked i = false
 
--- The marks behind an answer. Whom an entry names is marked, and who lapses, for it looks once without being named.
--- A mark goes with its seat's place in line, and when its seat is answered Sleep.
+-- The marks behind an answer. Whom an entry names is marked, and who lapses, for it looks once without being
+-- named. A mark goes with its seat's place in line, and when its seat is answered Sleep.
 abbrev pub marks_after : Start → List Entry → ℕ → Result Answer Fault → (ℕ → Bool) → ℕ → Bool
 marks_after s h i (Ok (Recorded e who)) marks j =
-    (marks j || is_seat who j || (is_lapse e.word && (e.seat == j))) && is_placed (place_of j (line s (e ∷ h)))
+    (marks j || is_seat who j || (is_lapse e.word && (e.seat == j))) &&
+    is_placed (place_of j (line s (e ∷ h)))
 marks_after s h i (Ok Sleep) marks j = marks j && not (j == i)
 marks_after s h i (Err fault) marks j = marks j
 

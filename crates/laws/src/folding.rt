@@ -47,7 +47,8 @@ pub fn legality_goes_on_from_a_fold()
     ensures { (s : Start) (g h : List Entry) → IsLegal s (h ++ g) ↔ (IsLegal s g × IsLegal (fold s g) h) }
 {}
 
-/// Behind a fold nobody in line is passed either. Those who stood there when it was folded came before all others.
+/// Behind a fold nobody in line is passed either. Those who stood there when it was folded came before all
+/// others.
 pub fn nobody_is_passed_behind_a_fold()
     ensures line { (k : Header) (g h : List Entry) → IsLegal (opening k) g → IsLegal (fold (opening k) g) h →
         IsInOrder (fold (opening k) g) h }
@@ -62,8 +63,8 @@ pub fn what_holds_of_a_history_holds_behind_a_fold()
     ensures once { (s : Start) (g h : List Entry) → IsOneWait s (h ++ g) → IsOneWait (fold s g) h }
 {}
 
-/// What is seen of a history grows, or is folded with legal entries behind it: an order in which nothing that was
-/// seen is unsaid.
+/// What is seen of a history grows, or is folded with legal entries behind it: an order in which nothing that
+/// was seen is unsaid.
 pub fn points_stand_in_order()
     ensures same { (p : Point) → ComesBefore p p }
     ensures further { (p q r : Point) → ComesBefore p q → ComesBefore q r → ComesBefore p r }

@@ -28,15 +28,16 @@ pub fn nobody_is_woken_for_nothing()
         named (opening k) h e ≡ Some i → i ≢ e.seat }
 {}
 
-/// Whoever could go was told: if the first in line could go, it is marked. A mark is set by an entry that names its
-/// seat or by the seat's lapse, and cleared when the seat is answered Sleep or leaves the line.
+/// Whoever could go was told: if the first in line could go, it is marked. A mark is set by an entry that
+/// names its seat or by the seat's lapse, and cleared when the seat is answered Sleep or leaves the line.
 pub fn whoever_could_go_was_told()
     ensures opening { (k : Header) → AreTold (opening k) [] unmarked }
     ensures step { (s : Start) (h : List Entry) (i : ℕ) (step : Step) (m : ℕ → Bool) → AreTold s h m →
         AreTold s (answer s h i step).1 (marks_after s h i (answer s h i step).0 m) }
     ensures steps { (s : Start) (h : List Entry) (m : ℕ → Bool) (steps : List (ℕ × Step)) → AreTold s h m →
         AreTold s (results s h steps).1 (marks s h m steps) }
-    ensures fold { (s : Start) (g h : List Entry) (m : ℕ → Bool) → AreTold s (h ++ g) m → AreTold (fold s g) h m }
+    ensures fold { (s : Start) (g h : List Entry) (m : ℕ → Bool) →
+        AreTold s (h ++ g) m → AreTold (fold s g) h m }
 {}
 
 /// With all marks cleared, one who could go is forgotten.

@@ -1,14 +1,14 @@
 -- Each proper beginning of a text of a lawful form is cut short.
 use Rattle.std.proofs.Common.{◌≡◌, ◌≢◌, ℕ, ◌+◌, List, [], ◌∷◌, ◌++◌, refl, sym, ap, ◌∙◌, inl, inr, ◌⊎◌}
 use Rattle.std.proofs.lemmas.List.Elements.{All-from_recursion}
-use Rattle.history.specs.Text.{IsLine, ended}
+use Rattle.history.specs.Text.{HasNoBreak, ended}
 use Rattle.line_text.specs.Form.{Form, lines_of, AreItems}
 use Rattle.line_text.specs.Reading.{IsText, IsCutShort}
 use Rattle.line_text.proofs.Lawful.{Lacks, IsLawful}
 use Rattle.line_text.proofs.Growing.{broken}
 use Rattle.line_text.proofs.OneReading.{head_is, tail_is, first_line}
 
-pub line_from : (xs : List ℕ) → Lacks xs → IsLine xs
+pub line_from : (xs : List ℕ) → Lacks xs → HasNoBreak xs
 line_from xs h = All-from_recursion _ xs h
 
 -- the front ends within the first line, or behind its break

@@ -14,5 +14,6 @@ pub fault_passed : {H I T : Type 0} (form : Form H I) (Keeps : T → Type 0) (te
     IsReading form text (Err fault)
     → Reads form Keeps text r
 fault_passed form Keeps text (Ok read) fault passed is = absurd (false≢true passed.0)
-fault_passed form Keeps text (Err e) fault passed is = subst (λ (f : ReadFault). Reads form Keeps text (Err f))
+fault_passed form Keeps text (Err e) fault passed is =
+    subst (λ (f : ReadFault). Reads form Keeps text (Err f))
     (sym passed.1) is

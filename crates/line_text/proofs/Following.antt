@@ -38,8 +38,14 @@ with_rest form text h xs rest more begun =
 
 header_stays : {H I : Type 0} (form : Form H I) (text more : List ℕ) → HasBadHeader form text →
     HasBadHeader form (text ++ more)
-header_stays form text more (line, rest, parts, whole, none) =
-    (line, rest ++ more, ap (λ (t : List ℕ). t ++ more) parts ∙ append_assoc line (10 ∷ rest) more, whole, none)
+header_stays form text more (line, rest, parts, whole, none) = (
+  line,
+  rest ++ more,
+  ap (λ (t : List ℕ). t ++ more) parts ∙ append_assoc line (10 ∷ rest)
+      more,
+  whole,
+  none,
+)
 
 line_stays : {H I : Type 0} (form : Form H I) (text more : List ℕ) (number : ℕ) →
     HasBadLine form text number → HasBadLine form (text ++ more) number

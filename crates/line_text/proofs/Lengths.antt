@@ -39,7 +39,8 @@ line_length (w ∷ v ∷ words) short =
 signed_short : (z : ℤ) → FitsSigned w32 z → length (signed_decimal z) ≤ 20
 signed_short (pos n) fits = decimal_short n (omega (arith, ints, fits))
 signed_short (negsuc n) fits =
-    let digits = length-decimal-le 10 (suc n) (omega arith) (omega (arith, ints, fits)) (omega (arith, ints, fits)) in
+    let digits =
+    length-decimal-le 10 (suc n) (omega arith) (omega (arith, ints, fits)) (omega (arith, ints, fits)) in
     omega (arith, digits)
 
 policy_short : (p : Policy) → length (policy_word p) ≤ 20

@@ -1,8 +1,9 @@
--- A line that is longer than any good one: to let go of some of it, behind its first bytes, changes no reading.
+-- A line that is longer than any good one: to let go of some of it, behind its first bytes, changes no
+-- reading.
 use Rattle.std.proofs.Common.{◌≡◌, ◌≢◌, ⊎_elim, ℕ, zero, suc, ◌+◌, ◌<◌, ◌≤◌, List, [], ◌∷◌, ◌++◌, length, take, Err, refl, sym, ap, subst, arith, append_assoc, inl, inr, ◌⊎◌, ◌∙◌}
 use Rattle.std.proofs.lemmas.Bool.{cases_eq, cases_order}
 use Rattle.std.proofs.lemmas.List.{length-append, length-take-le, take_all}
-use Rattle.history.specs.Text.{IsLine}
+use Rattle.history.specs.Text.{HasNoBreak}
 use Rattle.line_text.specs.declared.fault.TextFault.{TextFault}
 use Rattle.line_text.specs.declared.fault.TextFault.TheVariants.{BadHeader, BadLine, CutShort}
 use Rattle.line_text.specs.Form.{Form}
@@ -106,7 +107,7 @@ long_line form bound short t h items xs rest begun p long (inr q) =
 -- ---- what is let go of
 
 -- where a good line begins, nothing of it was let go of
-pub uncut : (bound : ℕ) (line rest good after : List ℕ) → IsLine line → length good < bound →
+pub uncut : (bound : ℕ) (line rest good after : List ℕ) → HasNoBreak line → length good < bound →
     take bound line ++ rest ≡ good ++ 10 ∷ after → take bound line ≡ line
 uncut bound line rest good after whole lt e = by (short_or_long line bound)
   where
@@ -118,7 +119,7 @@ uncut bound line rest good after whole lt e = by (short_or_long line bound)
 
 -- the fault of the first line stays
 pub header_cut : {H I : Type 0} (form : Form H I) (bound : ℕ) → IsLawful form → HasShortLines form bound →
-    (line rest : List ℕ) (fault : TextFault) → IsLine line →
+    (line rest : List ℕ) (fault : TextFault) → HasNoBreak line →
     IsReading form (take bound line ++ rest) (Err fault) → IsReading form (line ++ rest) (Err fault)
 header_cut {H} {I} form bound lawful short line rest fault whole is = by (short_or_long line bound)
   where
@@ -129,7 +130,8 @@ header_cut {H} {I} form bound lawful short line rest fault whole is = by (short_
         let k = whole_or_broken rest in
         let p = lacks line whole in
         let there =
-        long_header form bound short (take bound line) rest (lacks_take bound line p) (omega (arith, long.1)) k in
+        long_header form bound short (take bound line) rest (lacks_take bound line p)
+        (omega (arith, long.1)) k in
         let same =
         one form lawful (take bound line ++ rest) (Err fault) (Err (fault_by k BadHeader)) is there in
         subst (λ (r : Reading H I). IsReading form (line ++ rest) r) (sym same)
@@ -137,7 +139,7 @@ header_cut {H} {I} form bound lawful short line rest fault whole is = by (short_
 
 -- the fault of a line behind items stays
 pub line_cut : {H I : Type 0} (form : Form H I) (bound : ℕ) → IsLawful form → HasShortLines form bound →
-    (t cut : List ℕ) (h : H) (items : List I) (line rest : List ℕ) (fault : TextFault) → IsLine line →
+    (t cut : List ℕ) (h : H) (items : List I) (line rest : List ℕ) (fault : TextFault) → HasNoBreak line →
     Begins form t h items (line ++ rest) → Begins form cut h items (take bound line ++ rest) →
     IsReading form cut (Err fault) → IsReading form t (Err fault)
 line_cut {H} {I} form bound lawful short t cut h items line rest fault whole begun begun_cut is =

@@ -3,13 +3,13 @@ use Rattle.std.proofs.Common.{◌≡◌, ◌≢◌, ℕ, ◌+◌, ◌<◌, ◌^�
 use Rattle.std.proofs.lemmas.List.Elements.{recursion_from_All}
 use Rattle.line_text.specs.declared.fault.TextFault.{TextFault}
 use Rattle.line_text.specs.declared.fault.TextFault.TheVariants.{BadHeader, BadLine, CutShort}
-use Rattle.history.specs.Text.{IsLine, ended}
+use Rattle.history.specs.Text.{HasNoBreak, ended}
 use Rattle.line_text.specs.Form.{Form, lines_of, AreItems}
 use Rattle.line_text.specs.Reading.{Begins, HasBadHeader, IsBadLine, Reading, IsReading}
 use Rattle.line_text.proofs.Lawful.{Lacks, IsLawful}
 use Rattle.line_text.proofs.Growing.{broken}
 
-pub lacks : (xs : List ℕ) → IsLine xs → Lacks xs
+pub lacks : (xs : List ℕ) → HasNoBreak xs → Lacks xs
 lacks xs h = recursion_from_All _ xs h
 
 pub head_is : (x y : ℕ) (xs ys : List ℕ) → x ∷ xs ≡ y ∷ ys → x ≡ y
@@ -57,7 +57,8 @@ Ending form h k end tail None = (tail ≡ ended end) × (k < 2 ^ 32)
 Ending form h k end tail (Some CutShort) = Lacks tail
 Ending form h k end tail (Some BadHeader) = ⊥
 Ending form h k end tail (Some (BadLine m)) =
-    ((line : List ℕ) × (rest : List ℕ) × (tail ≡ line ++ 10 ∷ rest) × IsBadLine form h k end line × (m ≡ k + 2))
+    ((line : List ℕ) × (rest : List ℕ) × (tail ≡ line ++ 10 ∷ rest) ×
+    IsBadLine form h k end line × (m ≡ k + 2))
     ⊎ ((rest : List ℕ) × (tail ≡ ended end ++ rest) × (k < 2 ^ 32) × (rest ≢ []) × (m ≡ k + 3))
 
 -- a whole line that is the end line
@@ -229,7 +230,8 @@ kind_of form text (Err (BadLine m)) (inr p) =
 -- the header line of a text
 header_first : {H I : Type 0} (form : Form H I) (text : List ℕ) (r : Reading H I) (p : Past form text r) →
     text ≡ form.header_line p.h ++ 10 ∷ (lines_of form 0 p.items ++ p.tail)
-header_first form text r p = p.begins.parts ∙ broken (form.header_line p.h) (lines_of form 0 p.items ++ p.tail)
+header_first form text r p =
+    p.begins.parts ∙ broken (form.header_line p.h) (lines_of form 0 p.items ++ p.tail)
 
 not_bad_header : {H I : Type 0} (form : Form H I) (text : List ℕ) (r : Reading H I) → IsLawful form →
     Past form text r → HasBadHeader form text → ⊥
@@ -257,7 +259,8 @@ past_same {H} {I} form text a b lawful p q =
     let s = same_items form p.h p.items q.items 0 (form.end_line p.items) (form.end_line q.items) p.tail
     q.tail p.ending q.ending lawful p.begins.header (rw i end_p) (rw j end_q) p.begins.each each l.1
     (rw i p.ends) (rw j ends) in
-    let there : Ending form p.h (length p.items) (form.end_line p.items) p.tail q.ending = rw (s.0, s.1) ends in
+    let there : Ending form p.h (length p.items) (form.end_line p.items) p.tail q.ending =
+    rw (s.0, s.1) ends in
     p.is ∙ rw (
       same_ending form p.h (length p.items) (form.end_line p.items) p.tail p.ending q.ending lawful
           end_p p.ends there,

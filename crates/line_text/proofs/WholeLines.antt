@@ -41,7 +41,8 @@ has_no_break w = list_all (λ b. not (eqb b 10)) w
 pub literal_lacks : (w : List ℕ) → has_no_break w ≡ true → Lacks w
 literal_lacks [] e = tt
 literal_lacks (b ∷ bs) e =
-    let t = both (not (eqb b 10)) (has_no_break bs) e in (eqb-false b 10 (not-true _ t.0), literal_lacks bs t.1)
+    let t =
+    both (not (eqb b 10)) (has_no_break bs) e in (eqb-false b 10 (not-true _ t.0), literal_lacks bs t.1)
 
 -- ---- header lines
 

@@ -4,7 +4,7 @@ use Rattle.std.specs.Borrow.{Bor}
 use Rattle.history.specs.declared.header.Header.{Header}
 use Rattle.history.specs.Header.{IsInRange}
 use Rattle.history.specs.Spelling.{part_of}
-use Rattle.history.specs.Text.{IsLine, ended}
+use Rattle.history.specs.Text.{HasNoBreak, ended}
 use Rattle.line_text.specs.declared.fault.TextFault.{TextFault}
 use Rattle.line_text.specs.declared.fault.TextFault.TheVariants.{BadHeader, BadLine, CutShort}
 
@@ -14,8 +14,8 @@ BeginsWithHeader name text found = IsInRange found.0 × (text ≡ ended (name ++
 
 -- no header's line, behind the name, begins the text: it has no whole line, or its first is another
 abbrev pub LacksHeader : List ℕ → List ℕ → TextFault → Type 0
-LacksHeader name text CutShort = IsLine text
+LacksHeader name text CutShort = HasNoBreak text
 LacksHeader name text BadHeader =
-    (line : List ℕ) × (rest : List ℕ) × (text ≡ line ++ 10 ∷ rest) × IsLine line
+    (line : List ℕ) × (rest : List ℕ) × (text ≡ line ++ 10 ∷ rest) × HasNoBreak line
     × ((h : Header) → IsInRange h → line ≢ name ++ part_of h)
 LacksHeader name text (BadLine number) = ⊥

@@ -4,7 +4,7 @@ use Rattle.line_text.specs.declared.fault.TextFault.{TextFault}
 use Rattle.line_text.specs.declared.fault.TextFault.TheVariants.{BadHeader, BadLine, CutShort}
 use Rattle.line_text.specs.declared.fault.ReadFault.{ReadFault}
 use Rattle.line_text.specs.declared.fault.ReadFault.TheVariants.{Text, OutOfMemory}
-use Rattle.history.specs.Text.{IsLine, ended}
+use Rattle.history.specs.Text.{HasNoBreak, ended}
 use Rattle.line_text.specs.Form.{Form, lines_of, AreItems}
 
 -- The text begins with a header and these items, and the rest follows.
@@ -22,18 +22,19 @@ pub record IsText {H I : Type 0} (form : Form H I) (text : List ℕ) (h : H) (it
 -- Its last line is not whole, and no end line came before.
 abbrev pub IsCutShort : {H I : Type 0} → Form H I → List ℕ → Type 0
 IsCutShort {H} {I} form text =
-    IsLine text ⊎ ((h : H) × (items : List I) × (rest : List ℕ) × Begins form text h items rest × IsLine rest)
+    HasNoBreak text ⊎ ((h : H) × (items : List I) × (rest : List ℕ) × Begins form text h items rest ×
+        HasNoBreak rest)
 
 -- Its first line is no header line.
 abbrev pub HasBadHeader : {H I : Type 0} → Form H I → List ℕ → Type 0
 HasBadHeader {H} form text =
-    (line : List ℕ) × (rest : List ℕ) × (text ≡ line ++ 10 ∷ rest) × IsLine line
+    (line : List ℕ) × (rest : List ℕ) × (text ≡ line ++ 10 ∷ rest) × HasNoBreak line
     × ((h : H) → form.IsHeader h → line ≢ form.header_line h)
 
 -- Behind so many items this line is neither an item nor the right end line.
 pub record IsBadLine {H I : Type 0} (form : Form H I) (h : H)
     (count : ℕ) (end_line line : List ℕ) : Type 0 where
-  pub whole : IsLine line
+  pub whole : HasNoBreak line
   pub no_item : (x : I) → form.IsItem h count x → line ≢ form.item_line count x
   pub no_end : count < 2 ^ 32 → line ≢ end_line
 

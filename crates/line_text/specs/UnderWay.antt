@@ -35,7 +35,8 @@ abbrev pub HasFault : {H I : Type 0} → Form H I → List ℕ → SoFar H I →
 HasFault {H} {I} form text so_far rest fault =
     (items : List I) → AreRead form text so_far items rest → IsReading form text (Err fault)
 
--- what the next line says: an item, behind whose line so many bytes are left, or that there is none, or a fault
+-- what the next line says: an item, behind whose line so many bytes are left, or that there is none, or a
+-- fault
 abbrev pub IsLineOf : {H I : Type 0} → Form H I → List ℕ → SoFar H I → List ℕ →
     Result (Option (I × ℕ)) TextFault → Type 0
 IsLineOf form text so_far rest (Ok (Some line)) =

@@ -23,8 +23,8 @@ fn mode_of_four(bytes: u32) -> Option<Mode>
     }
 }
 
-/// The mode that begins the text, if 1 and a break stand behind it, and how many bytes follow them. None where
-/// the text begins otherwise.
+/// The mode that begins the text, if 1 and a break stand behind it, and how many bytes follow them. None
+/// where the text begins otherwise.
 #[inline(always)]
 pub fn mode_of_once(text: &[u8]) -> Option<(Mode, usize)>
     ensures found { IfSome result (AsksOnce text.now) }

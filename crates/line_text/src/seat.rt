@@ -36,7 +36,8 @@ fn one_byte(text: &[u8]) -> Option<u8>
 fn two_bytes(text: &[u8]) -> Option<(u8, u8)>
     ensures seat { IfSome result (λ r. text.now ≡ r.0 ∷ r.1 ∷ 32 ∷ drop 3 text.now) }
     ensures inside { IfSome result (λ r. 3 ≤ length text.now) }
-    ensures none { IfNone result ((first second : ℕ) (rest : List ℕ) → text.now ≢ first ∷ second ∷ 32 ∷ rest) }
+    ensures none { IfNone result ((first second : ℕ) (rest : List ℕ) →
+        text.now ≢ first ∷ second ∷ 32 ∷ rest) }
 {
     match text {
         [first, second, b' ', ..] => Some((*first, *second)),

@@ -79,9 +79,11 @@ acquire_words s h i how m n e q =
     let P : Word → Type 0 = AtOnce how in
     ⊎_elim (λ t. inl (refl, same ∙ t))
     (λ r. ⊎_elim (λ t. inr (subst P (sym (same ∙ t)) tt)) (λ t. inr (subst P (sym (same ∙ t)) tt)) r)
-    (acquired_words (held_back (counts s h) (first_mode s h) i m) (limit (counts s h) i m) (could (counts s h) i m n))
+    (acquired_words (held_back (counts s h) (first_mode s h) i m) (limit (counts s h) i m)
+    (could (counts s h) i m n))
 
-fairly_words : (s : Start) (h : List Entry) (i : ℕ) (how : How) (m : Mode) (n : ℕ) (e : Entry) → how ≡ Timed 0 →
+fairly_words : (s : Start) (h : List Entry) (i : ℕ) (how : How) (m : Mode) (n : ℕ) (e : Entry) →
+    how ≡ Timed 0 →
     entry_for s h i (TryFair m n) ≡ Ok (Some e) → First how m n (TryFair m n) e
 unfolding First
 fairly_words s h i how m n e zero q =
@@ -90,7 +92,8 @@ fairly_words s h i how m n e zero q =
     let P : Word → Type 0 = AtOnce how in
     ⊎_elim (λ t. inr (subst P (sym (same ∙ t)) zero))
     (λ r. ⊎_elim (λ t. inr (subst P (sym (same ∙ t)) tt)) (λ t. inr (subst P (sym (same ∙ t)) tt)) r)
-    (fair_words (held_back (counts s h) (first_mode s h) i m) (limit (counts s h) i m) (could (counts s h) i m n))
+    (fair_words (held_back (counts s h) (first_mode s h) i m) (limit (counts s h) i m)
+    (could (counts s h) i m n))
 
 first_words : (s : Start) (h : List Entry) (i : ℕ) (how : How) (m : Mode) (n : ℕ) (e : Entry) →
     entry_for s h i (first_step how m n) ≡ Ok (Some e) → First how m n (first_step how m n) e
@@ -130,10 +133,12 @@ queued_stands s h i m n e q w =
     subst (λ (z : Entry). place_of i (line s (z ∷ h)) ≡ Some (asking i m n)) (sym is) there
 
 -- what an entered step is, where its answer is an entry
-pub entered_as : (old mid : Shown) (step is : Step) (r : Result Entry Fault) (e : Entry) → step ≡ is → r ≡ Ok e →
+pub entered_as : (old mid : Shown) (step is : Step) (r : Result Entry Fault) (e : Entry) →
+    step ≡ is → r ≡ Ok e →
     IsEntered old step r mid → IsEntered old is (Ok e) mid
 entered_as old mid step is r e q t s =
-    subst (λ (z : Step). IsEntered old z (Ok e) mid) q (subst (λ (z : Result Entry Fault). IsEntered old step z mid) t s)
+    subst (λ (z : Step). IsEntered old z (Ok e) mid) q (subst
+    (λ (z : Result Entry Fault). IsEntered old step z mid) t s)
 
 -- a step that was recorded is a call of one entry
 pub at_once : (old new : Shown) (step : Step) (e : Entry) (name : Option ℕ) →
@@ -143,14 +148,16 @@ at_once old new step e name s =
     record { made = made.0; last = made.1; mine = s.mine }
 
 -- what was made behind a later pass was made behind an earlier one
-pub made_later : (old mid new : Shown) (step : Step) (e : Entry) → Before old.seen mid.seen → mid.seat ≡ old.seat →
+pub made_later : (old mid new : Shown) (step : Step) (e : Entry) → Before old.seen mid.seen →
+    mid.seat ≡ old.seat →
     IsMade mid.seen mid.seat step e new.seen → IsMade old.seen old.seat step e new.seen
 unfolding Before
 made_later old mid new step e up same x = record {
   front = x.front;
   begins = (
     x.begins.0 ++ up.1.0,
-    x.begins.1 ∙ (ap (λ (w : List Entry). x.begins.0 ++ w) up.1.1 ∙ sym (append_assoc x.begins.0 up.1.0 old.seen.list)),
+    x.begins.1 ∙ (ap (λ (w : List Entry). x.begins.0 ++ w) up.1.1 ∙ sym
+        (append_assoc x.begins.0 up.1.0 old.seen.list)),
   );
   made =
       subst (λ (i : ℕ). entry_for (opening old.seen.header) x.front i step ≡ Ok (Some e)) same
@@ -162,7 +169,8 @@ made_later old mid new step e up same x = record {
 module _ (old mid : Shown) (how : How) (m : Mode) (n : ℕ) (e : Entry) (name : Option ℕ)
     (s : IsStep old (first_step how m n) (Ok (Recorded e name)) mid) where
   rec : entry_for (opening s.found.header) s.found.list old.seat (first_step how m n) ≡ Ok (Some e)
-  rec = (records (view_of s.found s.places) (view_of mid.seen s.places_left) old.seat (first_step how m n) e name s.answered).made
+  rec = (records (view_of s.found s.places) (view_of mid.seen s.places_left) old.seat (first_step how m n) e
+      name s.answered).made
 
   first : First how m n (first_step how m n) e
   first = first_words (opening s.found.header) s.found.list old.seat how m n e rec
@@ -183,21 +191,28 @@ module _ (old mid : Shown) (how : How) (m : Mode) (n : ℕ) (e : Entry) (name : 
       by (inl x) = absurd (w x.1)
       by (inr x) = inl (first_step how m n, inl (refl, x), at_once old mid (first_step how m n) e name s)
 
-  pub stands : e.word ≡ word.Queued → IsSame old mid → WaitsAs mid.seen mid.seat (in_line (asking mid.seat m n))
+  pub stands : e.word ≡ word.Queued → IsSame old mid → WaitsAs mid.seen mid.seat
+      (in_line (asking mid.seat m n))
   stands w same =
-      let r = records (view_of s.found s.places) (view_of mid.seen s.places_left) old.seat (first_step how m n) e name s.answered in
-      let made = subst (λ (t : Step). entry_for (opening s.found.header) s.found.list old.seat t ≡ Ok (Some e)) (is_acquire w) rec in
-      let q : place_of old.seat (line (opening s.found.header) (e ∷ s.found.list)) ≡ Some (asking old.seat m n) =
+      let r = records (view_of s.found s.places) (view_of mid.seen s.places_left) old.seat
+      (first_step how m n) e name s.answered in
+      let made = subst (λ (t : Step). entry_for (opening s.found.header) s.found.list old.seat t ≡
+      Ok (Some e)) (is_acquire w) rec in
+      let q : place_of old.seat (line (opening s.found.header) (e ∷ s.found.list)) ≡
+      Some (asking old.seat m n) =
       queued_stands (opening s.found.header) s.found.list old.seat m n e made w in (
         refl,
         subst (λ (i : ℕ). StandsFor mid.seen i (asking i m n)) (sym same.seat)
-            (subst (λ (k : Header). place_of old.seat (line (opening k) mid.seen.list) ≡ Some (asking old.seat m n)) (sym r.header)
-            (subst (λ (l : List Entry). place_of old.seat (line (opening s.found.header) l) ≡ Some (asking old.seat m n)) (sym r.entries) q)),
+            (subst (λ (k : Header). place_of old.seat (line (opening k) mid.seen.list) ≡
+            Some (asking old.seat m n)) (sym r.header)
+            (subst (λ (l : List Entry). place_of old.seat (line (opening s.found.header) l) ≡
+            Some (asking old.seat m n)) (sym r.entries) q)),
       )
 
   -- and the end of the wait behind it
   pub ends_in_line : e.word ≡ word.Queued → IsSame old mid → (new : Shown) (l : Limits) (last : Entry) →
-      LimitsFor how l → Before mid.seen new.seen → IsWaited mid l last new → IsAcquire old m n how (Ok last) new
+      LimitsFor how l → Before mid.seen new.seen → IsWaited mid l last new →
+      IsAcquire old m n how (Ok last) new
   ends_in_line w same new l last for after waited =
       by (waited (in_line (asking mid.seat m n)) (stands w same))
     where
@@ -208,9 +223,11 @@ module _ (old mid : Shown) (how : How) (m : Mode) (n : ℕ) (e : Entry) (name : 
       joins = there_later old.seen mid.seen new.seen old.seat (Acquire m n) e
           (subst (λ (t : Step). IsMade old.seen old.seat t e mid.seen) (is_acquire w) made.0) after
 
-      ends_for : IsEnd l mid.seat (asking mid.seat m n) last → IsEndFor how old.seat (asking old.seat m n) last
+      ends_for : IsEnd l mid.seat (asking mid.seat m n) last →
+          IsEndFor how old.seat (asking old.seat m n) last
       ends_for x = subst (λ (i : ℕ). IsEndFor how i (asking i m n) last) same.seat
-          (⊎_elim inl (λ r. inr (⊎_elim (λ t. inl (t.0, time_left how m n (is_acquire w) (for.only_timed t.1)))
+          (⊎_elim inl
+          (λ r. inr (⊎_elim (λ t. inl (t.0, time_left how m n (is_acquire w) (for.only_timed t.1)))
           (λ t. inr (t.0, sym for.interruptible ∙ t.1)) r)) x)
 
       by : IsWait mid (in_line (asking mid.seat m n)) l last new → IsAcquire old m n how (Ok last) new
@@ -235,7 +252,8 @@ module _ (old mid : Shown) (how : How) (m : Mode) (n : ℕ) (e : Entry) (name : 
 pub refused_at_once : (old new : Shown) (m : Mode) (n : ℕ) (e : Entry) (name : Option ℕ) →
     IsStep old (EntryInterrupt m n) (Ok (Recorded e name)) new → e.word ≡ word.Refused fault.Interrupted
 refused_at_once old new m n e name s =
-    let r = records (view_of s.found s.places) (view_of new.seen s.places_left) old.seat (EntryInterrupt m n) e name s.answered in
+    let r = records (view_of s.found s.places) (view_of new.seen s.places_left) old.seat (EntryInterrupt m n)
+    e name s.answered in
     let x = idle_made (opening s.found.header) s.found.list old.seat (EntryInterrupt m n) e refl r.made in
     ap (λ (z : Entry). z.word) x.is
 

@@ -23,7 +23,8 @@ module _ (t o n : Ticket) (p : Point) (seat share : ℕ) where
     pub lawful : IsLawful p
 
   looked : Look → IsSection t n p p seat
-  looked s = section t o n p p seat s.taken s.given s.was.one s.was.seat_is s.begins s.entries (follows_same seat p)
+  looked s =
+      section t o n p p seat s.taken s.given s.was.one s.was.seat_is s.begins s.entries (follows_same seat p)
 
   mine_stays : Look → first_entries n.logs ≡ first_entries t.logs
   mine_stays s =
@@ -35,7 +36,8 @@ module _ (t o n : Ticket) (p : Point) (seat share : ℕ) where
     one = x.one;
     seat_is = x.seat_is;
     below = subst (λ (l : LockId). seat < l.header.seats) (sym x.lock) s.was.below;
-    header = sym (before_header t.seen n.seen x.begins) ∙ (s.was.header ∙ ap (λ (l : LockId). l.header) (sym x.lock));
+    header = sym (before_header t.seen n.seen x.begins) ∙
+        (s.was.header ∙ ap (λ (l : LockId). l.header) (sym x.lock));
     lawful = subst IsLawful (sym x.seen) s.lawful;
     agrees = x.agrees;
     counted = s.was.counted ∙ ap ended_calls (sym (mine_stays s));

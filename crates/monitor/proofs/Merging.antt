@@ -34,7 +34,8 @@ calls_in h (p ∷ ps) = ended_calls (filter (λ e. e.seat == p.seat) h) + calls_
 calls_in_none : (ps : List Shown) → calls_in [] ps ≡ 0
 unfolding calls_in
 calls_in_none [] = refl
-calls_in_none (p ∷ ps) = let h = calls_in_none ps in let goal : 0 + calls_in [] ps ≡ 0 = omega (arith, h) in goal
+calls_in_none (p ∷ ps) = let h = calls_in_none ps in let goal : 0 + calls_in [] ps ≡ 0 =
+    omega (arith, h) in goal
 
 counted_once : (a b : Bool) (f c d k : ℕ) → d ≡ c + cond a k 0 →
     (cond b (f + cond a 1 0) f) + d ≡ (f + c) + cond a (k + cond b 1 0) 0
@@ -79,7 +80,8 @@ shares_in q [] t agree = refl
 shares_in q (p ∷ ps) t agree =
     let here : IsTrue p = All-head (λ p. IsTrue p) p ps t in
     let a : Agrees q p.seat p.mine = All-head (λ p. Agrees q p.seat p.mine) p ps agree in
-    let share : p.share ≡ ended_calls (filter (λ e. e.seat == p.seat) q.list) = here.counted ∙ ap ended_calls a in
+    let share : p.share ≡ ended_calls (filter (λ e. e.seat == p.seat) q.list) =
+    here.counted ∙ ap ended_calls a in
     ap (λ (n : ℕ). n + shares ps) share
     ∙ ap (λ (n : ℕ). ended_calls (filter (λ e. e.seat == p.seat) q.list) + n)
     (shares_in q ps (All-tail (λ p. IsTrue p) p ps t) (All-tail (λ p. Agrees q p.seat p.mine) p ps agree))
@@ -105,8 +107,10 @@ counted_above zero p ps h = refl
 counted_above (suc n) p ps h =
     let up = counted_above n p ps (omega (arith, h)) in
     let apart : (n == p.seat) ≡ false = ne_eqb n p.seat (λ is. absurd (omega (arith, is, h))) in
-    let none : passes_of n (p ∷ ps) ≡ passes_of n ps + 0 = ap (λ (b : Bool). passes_of n ps + cond b 1 0) apart in
-    let goal : counted n (p ∷ ps) + passes_of n (p ∷ ps) ≡ counted n ps + passes_of n ps = omega (arith, up, none) in goal
+    let none : passes_of n (p ∷ ps) ≡ passes_of n ps + 0 =
+    ap (λ (b : Bool). passes_of n ps + cond b 1 0) apart in
+    let goal : counted n (p ∷ ps) + passes_of n (p ∷ ps) ≡ counted n ps + passes_of n ps =
+    omega (arith, up, none) in goal
 
 apart : (a b : ℕ) → (a == b) ≡ false → a ≡ b → ⊥
 apart a b off is = let on = eq-eqb a b is in cc
@@ -121,13 +125,15 @@ counted_below (suc n) p ps h = by (n == p.seat) refl (λ below. counted_below n 
     by true is up_to =
         let same : n ≡ p.seat = eqb-true n p.seat is in
         let up = counted_above n p ps (omega (arith, same)) in
-        let one : passes_of n (p ∷ ps) ≡ passes_of n ps + 1 = ap (λ (b : Bool). passes_of n ps + cond b 1 0) is in
+        let one : passes_of n (p ∷ ps) ≡ passes_of n ps + 1 =
+        ap (λ (b : Bool). passes_of n ps + cond b 1 0) is in
         omega (arith, up, one)
     by false is up_to =
         let other = apart n p.seat is in
         let below : p.seat < n = omega (arith, other, h) in
         let up = up_to below in
-        let none : passes_of n (p ∷ ps) ≡ passes_of n ps + 0 = ap (λ (b : Bool). passes_of n ps + cond b 1 0) is in
+        let none : passes_of n (p ∷ ps) ≡ passes_of n ps + 0 =
+        ap (λ (b : Bool). passes_of n ps + cond b 1 0) is in
         omega (arith, up, none)
 
 counted_length : (n : ℕ) (ps : List Shown) → All (λ p. p.seat < n) ps → counted n ps ≡ length ps
@@ -180,7 +186,8 @@ none_of i [] f = refl
 none_of i (p ∷ ps) f =
     let apart : (i == p.seat) ≡ false = ne_eqb i p.seat (f 0 (log_of p) refl) in
     let rest = none_of i ps (λ k l at. f (suc k) l at) in
-    let none : passes_of i (p ∷ ps) ≡ passes_of i ps + 0 = ap (λ (b : Bool). passes_of i ps + cond b 1 0) apart in
+    let none : passes_of i (p ∷ ps) ≡ passes_of i ps + 0 =
+    ap (λ (b : Bool). passes_of i ps + cond b 1 0) apart in
     omega (arith, rest, none)
 
 -- no two logs are of one seat, so no two passes are
@@ -197,16 +204,19 @@ none_twice (p ∷ ps) d i =
           d 0 (suc k) (log_of p) l refl at
               (sym (eqb-true i p.seat is) ∙ own),
         ))) in
-        let one : passes_of i (p ∷ ps) ≡ passes_of i ps + 1 = ap (λ (b : Bool). passes_of i ps + cond b 1 0) is in
+        let one : passes_of i (p ∷ ps) ≡ passes_of i ps + 1 =
+        ap (λ (b : Bool). passes_of i ps + cond b 1 0) is in
         omega (arith, none, one)
     by false is up =
-        let none : passes_of i (p ∷ ps) ≡ passes_of i ps + 0 = ap (λ (b : Bool). passes_of i ps + cond b 1 0) is in
+        let none : passes_of i (p ∷ ps) ≡ passes_of i ps + 0 =
+        ap (λ (b : Bool). passes_of i ps + cond b 1 0) is in
         omega (arith, up, none)
 
 pub all_agree : (q : Point) (ps : List Shown) → AllAgree q (logs_of ps) → All (λ p. Agrees q p.seat p.mine) ps
 all_agree q [] a = All-nil (λ p. Agrees q p.seat p.mine)
 all_agree q (p ∷ ps) a =
-    All-cons (λ p. Agrees q p.seat p.mine) p ps (a 0 (log_of p) refl) (all_agree q ps (λ k l at. a (suc k) l at))
+    All-cons (λ p. Agrees q p.seat p.mine) p ps (a 0 (log_of p) refl)
+    (all_agree q ps (λ k l at. a (suc k) l at))
 
 -- the sum so far, with one more pass
 pub shares_more : (p : Shown) (ps all : List Shown) (sum more total : ℕ) → all ≡ p ∷ ps → more ≡ p.share →
@@ -216,9 +226,11 @@ shares_more p ps all sum more total cut is h =
 
 pub all_true_more : (p : Shown) (ps all : List Shown) → all ≡ p ∷ ps → IsTrue p → All (λ p. IsTrue p) ps →
     All (λ p. IsTrue p) all
-all_true_more p ps all cut t h = subst (λ (l : List Shown). All (λ p. IsTrue p) l) (sym cut) (All-cons (λ p. IsTrue p) p ps t h)
+all_true_more p ps all cut t h =
+    subst (λ (l : List Shown). All (λ p. IsTrue p) l) (sym cut) (All-cons (λ p. IsTrue p) p ps t h)
 
-pub all_last : (P : Shown → Type 0) (all ps : List Shown) (p : Shown) → all ≡ ps ++ p ∷ [] → All P all → All P ps × P p
+pub all_last : (P : Shown → Type 0) (all ps : List Shown) (p : Shown) → all ≡ ps ++ p ∷ [] →
+    All P all → All P ps × P p
 all_last P all ps p cut a = by ps (subst (All P) cut a)
   where
     by : (ps : List Shown) → All P (ps ++ p ∷ []) → All P ps × P p
@@ -232,7 +244,8 @@ seats_below lock [] t own = All-nil (λ p. p.seat < lock.header.seats)
 seats_below lock (p ∷ ps) t own =
     let here : IsTrue p = All-head (λ p. IsTrue p) p ps t in
     let of : p.lock ≡ lock = All-head (λ p. p.lock ≡ lock) p ps own in
-    All-cons (λ p. p.seat < lock.header.seats) p ps (subst (λ (l : LockId). p.seat < l.header.seats) of here.below)
+    All-cons (λ p. p.seat < lock.header.seats) p ps (subst
+    (λ (l : LockId). p.seat < l.header.seats) of here.below)
     (seats_below lock ps (All-tail (λ p. IsTrue p) p ps t) (All-tail (λ p. p.lock ≡ lock) p ps own))
 
 pub all_seen : (one two : Point) (ps : List Shown) → Before one two → All (λ p. Before p.seen one) ps →
@@ -241,7 +254,8 @@ all_seen one two ps on a =
     All-weaker (λ (p : Shown). Before p.seen one) (λ (p : Shown). Before p.seen two)
     (λ p b. before_trans p.seen one two b on) ps a
 
-pub all_within : (q : Point) (ps : List Shown) → All (λ p. Before p.seen q) ps → All (λ p. Agrees q p.seat p.mine) ps →
+pub all_within : (q : Point) (ps : List Shown) → All (λ p. Before p.seen q) ps →
+    All (λ p. Agrees q p.seat p.mine) ps →
     All (λ p. IsWithin q p) ps
 all_within q [] b a = All-nil (λ p. IsWithin q p)
 all_within q (p ∷ ps) b a =

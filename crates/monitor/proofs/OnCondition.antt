@@ -33,7 +33,8 @@ use Rattle.monitor.proofs.Turns.{there_later}
 -- what an await records first: it sleeps, or is refused
 record AwaitsFirst (i : ℕ) (e : Entry) : Type 0 where
   seat : e.seat ≡ i
-  word : (e.word ≡ word.Await) ⊎ ((e.word ≡ word.Refused fault.NotOwner) ⊎ (e.word ≡ word.Refused fault.HoldsRead))
+  word : (e.word ≡ word.Await) ⊎ ((e.word ≡ word.Refused fault.NotOwner) ⊎
+      (e.word ≡ word.Refused fault.HoldsRead))
 
 await_words : (k : Counts) (i c : ℕ) → AwaitsFirst i (awaits k i c)
 await_words k i c = by (not (is_seat (owner k) i)) (nat_lt 0 (k.held i S))
@@ -65,7 +66,8 @@ may_for how l _ for m = absurd m
 module _ (old mid : Shown) (c : ℕ) (how : How) (e : Entry) (name : Option ℕ)
     (s : IsStep old (Await c) (Ok (Recorded e name)) mid) where
   rec : entry_for (opening s.found.header) s.found.list old.seat (Await c) ≡ Ok (Some e)
-  rec = (records (view_of s.found s.places) (view_of mid.seen s.places_left) old.seat (Await c) e name s.answered).made
+  rec = (records (view_of s.found s.places) (view_of mid.seen s.places_left) old.seat (Await c) e name
+      s.answered).made
 
   first : AwaitsFirst old.seat e
   first =
@@ -76,28 +78,37 @@ module _ (old mid : Shown) (c : ℕ) (how : How) (e : Entry) (name : Option ℕ)
   pub refuses : e.word ≢ word.Await → IsAwait old c how (Ok e) mid
   refuses w = by first.word
     where
-      by : (e.word ≡ word.Await) ⊎ ((e.word ≡ word.Refused fault.NotOwner) ⊎ (e.word ≡ word.Refused fault.HoldsRead)) →
+      by : (e.word ≡ word.Await) ⊎ ((e.word ≡ word.Refused fault.NotOwner) ⊎
+          (e.word ≡ word.Refused fault.HoldsRead)) →
           IsAwait old c how (Ok e) mid
       by (inl x) = absurd (w x)
       by (inr x) = inl (Await c, inl (refl, x), at_once old mid (Await c) e name s)
 
-  pub sleeps : e.word ≡ word.Await → IsSame old mid → WaitsAs mid.seen mid.seat (on_condition (signalled e.at e.n))
+  pub sleeps : e.word ≡ word.Await → IsSame old mid → WaitsAs mid.seen mid.seat
+      (on_condition (signalled e.at e.n))
   sleeps w same =
-      let r = records (view_of s.found s.places) (view_of mid.seen s.places_left) old.seat (Await c) e name s.answered in
+      let r = records (view_of s.found s.places) (view_of mid.seen s.places_left) old.seat (Await c) e
+      name s.answered in
       let seat : e.seat ≡ old.seat = first.seat in
       let asleep : SleepsAs (opening s.found.header) (e ∷ s.found.list) e.seat (signalled e.at e.n) =
       falls_asleep (opening s.found.header) s.found.list (Await c) e
-      (subst (λ (i : ℕ). entry_for (opening s.found.header) s.found.list i (Await c) ≡ Ok (Some e)) (sym seat) rec) w in
+      (subst (λ (i : ℕ). entry_for (opening s.found.header) s.found.list i (Await c) ≡ Ok (Some e))
+      (sym seat) rec) w in
       let here : SleepsAs (opening s.found.header) (e ∷ s.found.list) mid.seat (signalled e.at e.n) =
-      subst (λ (i : ℕ). SleepsAs (opening s.found.header) (e ∷ s.found.list) i (signalled e.at e.n)) (seat ∙ sym same.seat)
+      subst (λ (i : ℕ). SleepsAs (opening s.found.header) (e ∷ s.found.list) i (signalled e.at e.n))
+      (seat ∙ sym same.seat)
       asleep in
-      inl (subst (λ (k : Header). SleepsAs (opening k) mid.seen.list mid.seat (signalled e.at e.n)) (sym r.header)
-      (subst (λ (l : List Entry). SleepsAs (opening s.found.header) l mid.seat (signalled e.at e.n)) (sym r.entries) here))
+      inl (subst (λ (k : Header). SleepsAs (opening k) mid.seen.list mid.seat
+      (signalled e.at e.n)) (sym r.header)
+      (subst (λ (l : List Entry). SleepsAs (opening s.found.header) l mid.seat (signalled e.at e.n))
+      (sym r.entries) here))
 
   -- and the end of the wait behind it
-  pub ends_await : e.word ≡ word.Await → IsSame old mid → (new : Shown) (l : Limits) (last : Entry) → LimitsFor how l →
+  pub ends_await : e.word ≡ word.Await → IsSame old mid → (new : Shown) (l : Limits) (last : Entry) →
+      LimitsFor how l →
       Before mid.seen new.seen → IsWaited mid l last new → IsAwait old c how (Ok last) new
-  ends_await w same new l last for after waited = by (waited (on_condition (signalled e.at e.n)) (sleeps w same))
+  ends_await w same new l last for after waited =
+      by (waited (on_condition (signalled e.at e.n)) (sleeps w same))
     where
       v : Sleep
       v = signalled e.at e.n
@@ -106,15 +117,18 @@ module _ (old mid : Shown) (c : ℕ) (how : How) (e : Entry) (name : Option ℕ)
       by x = inr record {
         slept = e;
         await = w;
-        sleeps = there_later old.seen mid.seen new.seen old.seat (Await c) e (at_once old mid (Await c) e name s).made after;
+        sleeps = there_later old.seen mid.seen new.seen old.seat (Await c) e
+            (at_once old mid (Await c) e name s).made after;
         step = x.step;
         made = made_later old mid new x.step last s.after same.seat x.made;
         last = x.last;
         end = end x.end;
       }
         where
-          end : ((new.mine ≡ last ∷ mid.mine) × (last ≡ back_from mid.seat v)) ⊎ BackFromLapse mid v l last new →
-              ((last ≡ back_from old.seat v) × (new.mine ≡ last ∷ e ∷ old.mine)) ⊎ LapsesAndReturns old how e last new
+          end : ((new.mine ≡ last ∷ mid.mine) × (last ≡ back_from mid.seat v)) ⊎ BackFromLapse
+              mid v l last new →
+              ((last ≡ back_from old.seat v) × (new.mine ≡ last ∷ e ∷ old.mine)) ⊎ LapsesAndReturns
+              old how e last new
           end (inl z) = inl (
             z.1 ∙ ap (λ (i : ℕ). back_from i v) same.seat,
             z.0 ∙ ap (λ (l : List Entry). last ∷ l) s.mine,
@@ -127,7 +141,8 @@ module _ (old mid : Shown) (c : ℕ) (how : How) (e : Entry) (name : Option ℕ)
                 may = may_for how l z.how for z.lapse.may;
                 step = z.lapse.step;
                 lapse = subst (λ (y : Entry). IsMade old.seen old.seat z.lapse.step y new.seen) at
-                    (made_later old mid new z.lapse.step (lapse_from mid.seat v z.how) s.after same.seat z.lapse.made);
+                    (made_later old mid new z.lapse.step (lapse_from mid.seat v z.how) s.after
+                    same.seat z.lapse.made);
                 back = z.back ∙ ap (λ (i : ℕ). back_from i (lapsed v z.how)) same.seat;
                 mine = z.mine
                     ∙ (ap (λ (y : Entry). last ∷ y ∷ mid.mine) at

@@ -45,7 +45,8 @@ answer_grows s h i step = by (entry_for s h i step) refl
     by (Err f) q = record { grown = refl; own = All-nil (λ e. e.seat ≡ i) }
     by (Ok None) q = record { grown = refl; own = All-nil (λ e. e.seat ≡ i) }
     by (Ok (Some e)) q =
-        cond_both (has_room s h e) (Ok (Recorded e (named s h e)), e ∷ h) (Err fault.HistoryFull, h) (Grows i h)
+        cond_both (has_room s h e) (Ok (Recorded e (named s h e)), e ∷ h)
+        (Err fault.HistoryFull, h) (Grows i h)
         (λ room. record {
           grown = refl;
           own = All-cons (λ x. x.seat ≡ i) e [] (entry_seat s h i step e q) (All-nil (λ x. x.seat ≡ i));
@@ -89,19 +90,22 @@ added_step i p q m n step r a = added_more p q (made_by r) (left i p q m n step 
 pub calls_few : (es : List Entry) → ended_calls es ≤ length es
 calls_few [] = omega arith
 calls_few (e ∷ es) = let h = calls_few es in
-    cond_both (ends_call e.word) 1 0 (λ n. ended_calls es + n ≤ length (e ∷ es)) (λ t. omega (arith, h)) (λ t. omega (arith, h))
+    cond_both (ends_call e.word) 1 0 (λ n. ended_calls es + n ≤ length (e ∷ es)) (λ t. omega (arith, h))
+    (λ t. omega (arith, h))
 
 filter_few : (t : Entry → Bool) (es : List Entry) → length (filter t es) ≤ length es
 filter_few t [] = omega arith
 filter_few t (e ∷ es) = let h = filter_few t es in
-    cond_both (t e) (e ∷ filter t es) (filter t es) (λ l. length l ≤ length (e ∷ es)) (λ q. omega (arith, h)) (λ q. omega (arith, h))
+    cond_both (t e) (e ∷ filter t es) (filter t es) (λ l. length l ≤ length (e ∷ es)) (λ q. omega (arith, h))
+    (λ q. omega (arith, h))
 
 pub share_few : (p : Point) (i : ℕ) (es : List Entry) (share : ℕ) → Agrees p i es → length p.list < 2 ^ 32 →
     share ≡ ended_calls es → share < 2 ^ 63
 unfolding Agrees entries_of
 share_few p i es share agrees few is =
     let a = calls_few es in
-    let b : length es ≤ length p.list = subst (λ (l : List Entry). length l ≤ length p.list) (sym agrees) (filter_few (λ e. e.seat == i) p.list) in
+    let b : length es ≤ length p.list = subst (λ (l : List Entry). length l ≤ length p.list) (sym agrees)
+    (filter_few (λ e. e.seat == i) p.list) in
     omega (arith, a, b, few, is)
 
 pub seat_below : (p : Point) (k l : Header) (seat : ℕ) → header_of p ≡ k → k ≡ l → seat < l.seats →
@@ -144,7 +148,8 @@ module _ (t o n : Ticket) (p q : Point) (seat share : ℕ) (step : Step) (r : Re
 
   mine_grown : Section → first_entries n.logs ≡ made_by r ++ first_entries t.logs
   mine_grown s =
-      (sectioned s).grown ∙ ap (λ (l : List Entry). l ++ first_entries t.logs) (added_step seat p q s.places s.places_left step r s.answered)
+      (sectioned s).grown ∙ ap (λ (l : List Entry). l ++ first_entries t.logs)
+      (added_step seat p q s.places s.places_left step r s.answered)
 
   pub section_pass : Section → (next : ℕ) → next ≡ ended_calls (made_by r) + share → IsPass n seat next
   section_pass s next is =
@@ -153,14 +158,16 @@ module _ (t o n : Ticket) (p q : Point) (seat share : ℕ) (step : Step) (r : Re
         one = x.one;
         seat_is = x.seat_is;
         below = subst (λ (l : LockId). seat < l.header.seats) (sym x.lock) s.was.below;
-        header = sym (before_header t.seen n.seen x.begins) ∙ (s.was.header ∙ ap (λ (l : LockId). l.header) (sym x.lock));
+        header = sym (before_header t.seen n.seen x.begins) ∙
+            (s.was.header ∙ ap (λ (l : LockId). l.header) (sym x.lock));
         lawful = subst IsLawful (sym x.seen) s.lawful;
         agrees = x.agrees;
         counted = is ∙ (ap (λ k. ended_calls (made_by r) + k) s.was.counted
             ∙ (sym (calls_more (made_by r) (first_entries t.logs)) ∙ ap ended_calls (sym (mine_grown s))));
       }
 
-  pub section_true : Section → (next : ℕ) → next ≡ ended_calls (made_by r) + share → IsTrue (shown n seat next)
+  pub section_true : Section → (next : ℕ) → next ≡ ended_calls (made_by r) + share →
+      IsTrue (shown n seat next)
   section_true s next is = let z = section_pass s next is in
       record { lawful = z.lawful; header = z.header; below = z.below; agrees = z.agrees; counted = z.counted }
 
@@ -173,7 +180,8 @@ module _ (t o n : Ticket) (p q : Point) (seat share : ℕ) (step : Step) (r : Re
     agrees = own_entries t p seat s.was.one s.was.seat_is s.entries;
     places = s.places;
     places_left = s.places_left;
-    answered = subst (λ (z : Point). IsAnswered (view_of p s.places) seat step r (view_of z s.places_left)) (sym x.seen)
+    answered = subst (λ (z : Point). IsAnswered (view_of p s.places) seat step r
+        (view_of z s.places_left)) (sym x.seen)
         s.answered;
     owed = owed;
     after = x.begins;
@@ -181,7 +189,8 @@ module _ (t o n : Ticket) (p q : Point) (seat share : ℕ) (step : Step) (r : Re
   }
 
 -- a pass that has seen more is a pass
-pub met : (t n : Ticket) (p : Point) (seat share : ℕ) → n ≡ after_meet t p → IsPass t seat share → IsLawful p →
+pub met : (t n : Ticket) (p : Point) (seat share : ℕ) → n ≡ after_meet t p →
+    IsPass t seat share → IsLawful p →
     Before t.seen p → AllAgree p t.logs → IsPass n seat share
 met t n p seat share is s lawful begins agree =
     subst (λ (z : Ticket). IsPass z seat share) (sym is) record {
@@ -199,7 +208,9 @@ pub true_pass : (t : Ticket) (seat share : ℕ) → IsPass t seat share → IsTr
 true_pass t seat share z =
     record { lawful = z.lawful; header = z.header; below = z.below; agrees = z.agrees; counted = z.counted }
 
-pub as_step_now : (old new : Shown) (step : Step) (r : Result Answer Fault) (z : Result Now Fault) → z ≡ now_of r →
+pub as_step_now : (old new : Shown) (step : Step) (r : Result Answer Fault)
+    (z : Result Now Fault) → z ≡ now_of r →
     IsStep old step r new → IsStepNow old step z new
 as_step_now old new step (Ok a) z is s = subst (λ (z : Result Now Fault). IsStepNow old step z new) (sym is) s
-as_step_now old new step (Err f) z is s = subst (λ (z : Result Now Fault). IsStepNow old step z new) (sym is) s
+as_step_now old new step (Err f) z is s =
+    subst (λ (z : Result Now Fault). IsStepNow old step z new) (sym is) s

@@ -37,7 +37,8 @@ same_entries : (p q : Point) (i : ℕ) (es : List Entry) → (b : Before p q) �
 unfolding Agrees entries_of
 same_entries p q i es b was is = sym is ∙ was
 
-pub still_waiting : (p q : Point) (i : ℕ) (es : List Entry) (k : Cause) → Before p q → Agrees p i es → Agrees q i es →
+pub still_waiting : (p q : Point) (i : ℕ) (es : List Entry) (k : Cause) → Before p q → Agrees p i es →
+    Agrees q i es →
     WaitsAs p i k → WaitsAs q i k
 unfolding Before
 still_waiting p q i es (in_line a) b was is w = (w.0, still_in_line p q i es a b was is w.1)
@@ -88,7 +89,8 @@ turn_at p i (on_condition w) step r t =
     let x = await_turn (opening p.header) p.list i w step r t in
     record { made = x.made; is = x.is; owed = x.owed; makes = λ e q. by x.made x.makes e q }
   where
-    by : (made : Option Entry) → AwaitMakes (opening p.header) p.list i w step made → (e : Entry) → made ≡ Some e →
+    by : (made : Option Entry) → AwaitMakes (opening p.header) p.list i w step made → (e : Entry) →
+        made ≡ Some e →
         TurnMakes p.header (e ∷ p.list) i (on_condition w) step e
     by made (sleeps_on n) e q = absurd (none_some e (sym n ∙ q))
     by made (comes_back back n) e q = inl (some_same (back_from i w) e (sym n ∙ q))
@@ -98,7 +100,8 @@ turn_at p i (on_condition w) step r t =
           how,
           ends,
           same,
-          subst (λ (x : Entry). ReturnsAs (opening p.header) (x ∷ p.list) i (lapsed w how)) (sym same) returns,
+          subst (λ (x : Entry). ReturnsAs (opening p.header) (x ∷ p.list) i (lapsed w how))
+              (sym same) returns,
         )
 turn_at p i (on_way_back w) step r t =
     let x = await_turn (opening p.header) p.list i w step (inr r) t in
@@ -107,7 +110,8 @@ turn_at p i (on_way_back w) step r t =
     nowhere : place_of i (line (opening p.header) p.list) ≡ None → ⊥
     nowhere n = let z = r.place in cc
 
-    by : (made : Option Entry) → AwaitMakes (opening p.header) p.list i w step made → (e : Entry) → made ≡ Some e →
+    by : (made : Option Entry) → AwaitMakes (opening p.header) p.list i w step made → (e : Entry) →
+        made ≡ Some e →
         TurnMakes p.header (e ∷ p.list) i (on_way_back w) step e
     by made (sleeps_on n) e q = absurd (none_some e (sym n ∙ q))
     by made (comes_back back n) e q = some_same (back_from i w) e (sym n ∙ q)
@@ -119,9 +123,11 @@ Turn old c step (Ok answer.Sleep) new = WaitsAs new.seen old.seat c
 Turn old c step (Ok (answer.Recorded e name)) new = TurnMakes new.seen.header new.seen.list old.seat c step e
 Turn old c step (Err f) new = ⊥
 
-pub turn : (old new : Shown) (c : Cause) (step : Step) (r : Result Answer Fault) → IsStep old step r new → IsTrue old →
+pub turn : (old new : Shown) (c : Cause) (step : Step) (r : Result Answer Fault) →
+    IsStep old step r new → IsTrue old →
     WaitsAs old.seen old.seat c → waits step ≡ true → Turn old c step r new
-turn old new c step r s t stands w = by x.made refl (outcome v (view_of new.seen s.places_left) i step r x.made x.is s.answered ok)
+turn old new c step r s t stands w =
+    by x.made refl (outcome v (view_of new.seen s.places_left) i step r x.made x.is s.answered ok)
   where
     v : CoreView
     v = view_of s.found s.places
@@ -145,13 +151,16 @@ turn old new c step r s t stands w = by x.made refl (outcome v (view_of new.seen
     header : s.found.header ≡ new.seen.header
     header = (left i s.found new.seen s.places s.places_left step r s.answered).header
 
-    at : (k : Header) (l : List Entry) → s.found.header ≡ k → l ≡ s.found.list → WaitsAs (record { header = k; list = l }) i c
+    at : (k : Header) (l : List Entry) → s.found.header ≡ k → l ≡ s.found.list →
+        WaitsAs (record { header = k; list = l }) i c
     at k l q e =
         subst (λ (z : Header). WaitsAs (record { header = z; list = l }) i c) q
         (subst (λ (z : List Entry). WaitsAs (record { header = s.found.header; list = z }) i c) (sym e) here)
 
-    by : (m : Option Entry) → x.made ≡ m → Outcome v m r (view_of new.seen s.places_left) → Turn old c step r new
-    by None q o = subst (λ (z : Result Answer Fault). Turn old c step z new) (sym o.0) (at new.seen.header new.seen.list header o.1)
+    by : (m : Option Entry) → x.made ≡ m → Outcome v m r (view_of new.seen s.places_left) →
+        Turn old c step r new
+    by None q o = subst (λ (z : Result Answer Fault). Turn old c step z new) (sym o.0)
+        (at new.seen.header new.seen.list header o.1)
     by (Some e) q o =
         subst (λ (z : Result Answer Fault). Turn old c step z new) (sym o.0)
         (subst (λ (k : Header). TurnMakes k new.seen.list i c step e) header
@@ -170,15 +179,18 @@ nothing_ends l Expire a = cc
 nothing_ends l Interrupt a = cc
 nothing_ends l _ a = absurd a
 
-pub allowed_wide : (l wide : Limits) (step : Step) → IsNarrower l wide → IsAllowed l step → IsAllowed wide step
+pub allowed_wide : (l wide : Limits) (step : Step) → IsNarrower l wide → IsAllowed l step →
+    IsAllowed wide step
 allowed_wide l wide step (inl same) a = subst (λ (z : Limits). IsAllowed z step) same a
-allowed_wide l wide step (inr none) a = nothing_ends wide step (subst (λ (z : Limits). IsAllowed z step) none a)
+allowed_wide l wide step (inr none) a =
+    nothing_ends wide step (subst (λ (z : Limits). IsAllowed z step) none a)
 
 pub narrower : (a b c : Limits) → IsNarrower a b → IsNarrower b c → IsNarrower a c
 narrower a b c (inl same) y = subst (λ (z : Limits). IsNarrower z c) (sym same) y
 narrower a b c (inr none) y = inr none
 
-ends_as : (l : Limits) (step : Step) (i : ℕ) (a : Arrival) (e : Entry) → IsAllowed l step → IsEndBy step i a e → IsEnd l i a e
+ends_as : (l : Limits) (step : Step) (i : ℕ) (a : Arrival) (e : Entry) → IsAllowed l step →
+    IsEndBy step i a e → IsEnd l i a e
 ends_as l Look i a e d x = inl x
 ends_as l Expire i a e d (inl x) = inl x
 ends_as l Expire i a e d (inr x) = inr (inl (x, d))
@@ -201,7 +213,8 @@ no_lapse _ i a e x = absurd x
 true_false : (b : Bool) → b ≡ true → b ≡ false → ⊥
 true_false b t f = cc
 
-pub there_later : (p q r : Point) (i : ℕ) (step : Step) (e : Entry) → IsMade p i step e q → Before q r → IsMade p i step e r
+pub there_later : (p q r : Point) (i : ℕ) (step : Step) (e : Entry) → IsMade p i step e q → Before q r →
+    IsMade p i step e r
 unfolding Before
 there_later p q r i step e m b = record {
   front = m.front;
@@ -209,7 +222,8 @@ there_later p q r i step e m b = record {
   made = m.made;
   there = (
     b.1.0 ++ m.there.0,
-    b.1.1 ∙ (ap (λ (w : List Entry). b.1.0 ++ w) m.there.1 ∙ sym (append_assoc b.1.0 m.there.0 (e ∷ m.front))),
+    b.1.1 ∙ (ap (λ (w : List Entry). b.1.0 ++ w) m.there.1 ∙ sym
+        (append_assoc b.1.0 m.there.0 (e ∷ m.front))),
   );
 }
 
@@ -238,7 +252,8 @@ module _ (first now new : Shown) (was : Cause) (l : Limits) (step : Step) (stays
         record {
           may = x.4.may;
           step = x.4.step;
-          made = there_later first.seen now.seen new.seen first.seat x.4.step (lapse_from first.seat x.0 x.1) x.4.made b;
+          made = there_later first.seen now.seen new.seen first.seat x.4.step
+              (lapse_from first.seat x.0 x.1) x.4.made b;
         },
         mine ∙ x.5,
       )
@@ -254,7 +269,8 @@ module _ (first now new : Shown) (was : Cause) (l : Limits) (step : Step) (stays
   }
 
   -- behind its lapse a sleeper is on its way back
-  has_lapsed : (e : Entry) (name : Option ℕ) → IsStep now step (Ok (answer.Recorded e name)) new → (w : Sleep) →
+  has_lapsed : (e : Entry) (name : Option ℕ) → IsStep now step (Ok (answer.Recorded e name))
+      new → (w : Sleep) →
       (how : End) → LapsesBy step how → e ≡ lapse_from first.seat w how → HasLapsed first w l how new.seen
   has_lapsed e name s w how ends is = record {
     may = lapses_as l step how allowed ends;
@@ -271,10 +287,13 @@ module _ (first now new : Shown) (was : Cause) (l : Limits) (step : Step) (stays
   unfolding Lapsed
   after_lapse e name s lapse = by stays.cause stays.so_far (makes e name s)
     where
-      by : (k : Cause) → SoFar first was l now k → TurnMakes new.seen.header new.seen.list first.seat k step e → Lapsed e
+      by : (k : Cause) → SoFar first was l now k → TurnMakes new.seen.header new.seen.list first.seat k
+          step e → Lapsed e
       by (in_line a) f m = absurd (true_false (is_lapse e.word) lapse (no_lapse step first.seat a e m))
-      by (on_way_back w) f m = absurd (true_false (is_lapse e.word) lapse (ap (λ (z : Entry). is_lapse z.word) m))
-      by (on_condition w) f (inl m) = absurd (true_false (is_lapse e.word) lapse (ap (λ (z : Entry). is_lapse z.word) m))
+      by (on_way_back w) f m =
+          absurd (true_false (is_lapse e.word) lapse (ap (λ (z : Entry). is_lapse z.word) m))
+      by (on_condition w) f (inl m) =
+          absurd (true_false (is_lapse e.word) lapse (ap (λ (z : Entry). is_lapse z.word) m))
       by (on_condition w) (inl f) (inr m) = (
         on_way_back (lapsed w m.0),
         m.3,
@@ -289,7 +308,8 @@ module _ (first now new : Shown) (was : Cause) (l : Limits) (step : Step) (stays
       )
       by (on_condition w) (inr f) (inr m) = let z = f.3 in cc
 
-  lapses_on : (e : Entry) (name : Option ℕ) → IsSame now new → IsStep now step (Ok (answer.Recorded e name)) new →
+  lapses_on : (e : Entry) (name : Option ℕ) → IsSame now new →
+      IsStep now step (Ok (answer.Recorded e name)) new →
       is_lapse e.word ≡ true → IsTrue new → StillWaits first was l new
   unfolding Lapsed
   lapses_on e name same s lapse shows =
@@ -313,11 +333,17 @@ module _ (first now new : Shown) (was : Cause) (l : Limits) (step : Step) (stays
       alone : now.mine ≡ first.mine → new.mine ≡ e ∷ first.mine
       alone f = s.mine ∙ ap (λ (x : List Entry). e ∷ x) f
 
-      by : (k : Cause) → SoFar first was l now k → TurnMakes new.seen.header new.seen.list first.seat k step e → Ends e
+      by : (k : Cause) → SoFar first was l now k → TurnMakes new.seen.header new.seen.list first.seat k
+          step e → Ends e
       by (in_line a) (inl f) m =
-          inl (alone f.1, subst (λ (k : Cause). EndsBy l first.seat k e) f.0 (ends_as l step first.seat a e allowed m))
+          inl (
+            alone f.1,
+            subst (λ (k : Cause). EndsBy l first.seat k e) f.0
+                (ends_as l step first.seat a e allowed m),
+          )
       by (in_line a) (inr f) m = let z = f.3 in cc
-      by (on_condition w) (inl f) (inl m) = inl (alone f.1, subst (λ (k : Cause). EndsBy l first.seat k e) f.0 m)
+      by (on_condition w) (inl f) (inl m) =
+          inl (alone f.1, subst (λ (k : Cause). EndsBy l first.seat k e) f.0 m)
       by (on_condition w) (inl f) (inr m) =
           absurd (true_false (is_lapse e.word) (ap (λ (z : Entry). is_lapse z.word) m.2) lapse)
       by (on_condition w) (inr f) m = let z = f.3 in cc
@@ -329,7 +355,8 @@ module _ (first now new : Shown) (was : Cause) (l : Limits) (step : Step) (stays
             lapse = record {
               may = f.4.may;
               step = f.4.step;
-              made = there_later first.seen now.seen new.seen first.seat f.4.step (lapse_from first.seat f.0 f.1) f.4.made s.after;
+              made = there_later first.seen now.seen new.seen first.seat f.4.step
+                  (lapse_from first.seat f.0 f.1) f.4.made s.after;
             };
             back = m ∙ ap (back_from first.seat) is;
             mine = s.mine ∙ ap (λ (x : List Entry). e ∷ x) f.5;

@@ -52,7 +52,8 @@ pub record EndsAtOnce (old : Shown) (step : Step) (e : Entry) (new : Shown) : Ty
   pub mine : new.mine ≡ e ∷ old.mine
 
 -- a call whose first step was refused and not recorded
-pub record EndsUnrecorded (old : Shown) (how : How) (starts refuses : Step) (f : Fault) (new : Shown) : Type 0 where
+pub record EndsUnrecorded (old : Shown) (how : How) (starts refuses : Step) (f : Fault)
+    (new : Shown) : Type 0 where
   pub step : Step
   pub first : IsFirst how starts refuses step
   pub stepped : IsStep old step (Err f) new

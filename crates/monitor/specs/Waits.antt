@@ -61,7 +61,8 @@ step_of Permit = Look
 step_of Deadline = Expire
 step_of Interrupted = Interrupt
 
--- the steps that one who waits takes: none expires without a deadline, none is interrupted that isn't interruptible
+-- the steps that one who waits takes: none expires without a deadline, none is interrupted that isn't
+-- interruptible
 abbrev pub IsAllowed : Limits → Step → Type 0
 IsAllowed l Look = Unit {0}
 IsAllowed l Expire = IsSome l.until

@@ -43,8 +43,8 @@ impl<H: Hooks + Drop> Monitor<H> {
     /// - `Left` behind `Queued`: the time was up, or an interrupt came.
     /// - `Missed`: the call had no time, and had to wait.
     ///
-    /// A fault is the answer to the first step, and nothing was recorded. Behind `Queued` there is none. A pending
-    /// interrupt is taken and ends the call; where that couldn't be recorded, it is pending again.
+    /// A fault is the answer to the first step, and nothing was recorded. Behind `Queued` there is none. A
+    /// pending interrupt is taken and ends the call; where that couldn't be recorded, it is pending again.
     /// This is the acquire of Java SE 8's AbstractQueuedSynchronizer, with its interruptible and timed kinds.
     pub fn acquire<P: Parking, R: Wait + Clock>(
         &self,

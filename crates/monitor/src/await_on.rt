@@ -33,13 +33,13 @@ impl<H: Hooks + Drop> Monitor<H> {
     /// The answer is the entry that ended the call, the last one that the pass has seen:
     /// - `Refused`: the seat doesn't own the lock, or holds it to read, or an interrupt was pending.
     /// - `Back` behind `Await`, with the end Signalled.
-    /// - `Back` behind `Await` and `Lapse`: the time was up, or an interrupt came, before any signal. The end of
-    ///   both says which.
+    /// - `Back` behind `Await` and `Lapse`: the time was up, or an interrupt came, before any signal. The end
+    ///   of both says which.
     ///
-    /// The call waits for the lock however its sleep ended, and neither its time nor an interrupt ends that. A
-    /// fault is the answer to the first step, and nothing was recorded. Behind `Await` there is none. An interrupt
-    /// that the parking told and that didn't end the sleep is pending again.
-    /// This is the await of Java SE 8's Condition, with its uninterruptible and timed kinds.
+    /// The call waits for the lock however its sleep ended, and neither its time nor an interrupt ends that.
+    /// A fault is the answer to the first step, and nothing was recorded. Behind `Await` there is none. An
+    /// interrupt that the parking told and that didn't end the sleep is pending again. This is the await of
+    /// Java SE 8's Condition, with its uninterruptible and timed kinds.
     pub fn await_on<P: Parking, R: Wait + Clock>(
         &self,
         rt: &R,

@@ -110,7 +110,8 @@ impl<H: Hooks + Drop> Monitor<H> {
     }
 }
 
-// The sum of the shares. That it fits 64 bits is known once the lock is closed: then no two passes are of one seat.
+// The sum of the shares. That it fits 64 bits is known once the lock is closed: then no two passes are of one
+// seat.
 fn merge_shares(passes: &[Pass]) -> u128
     ensures sum { result ≡ shares passes.now }
     ensures shows { All (λ p. IsTrue p) passes.now }

@@ -108,7 +108,8 @@ fn set_again<P: Parking>(parking: &P, seat: u16, interrupted: bool, end: End)
 }
 
 impl<H: Hooks + Drop> Monitor<H> {
-    // Waits until the seat's turn comes or its wait is given up. `due` is a step to take before the first park.
+    // Waits until the seat's turn comes or its wait is given up. `due` is a step to take before the first
+    // park.
     pub(crate) fn wait<P: Parking, R: Wait + Clock>(
         &self,
         rt: &R,

@@ -1,7 +1,7 @@
 //! How the monitor of each front type is opened: the constructors of `java.util.concurrent`.
 //!
-//! Each answers the monitor with an empty history, and a pass for each seat, in order. `cap` is the greatest number of
-//! entries of the history. The only error is `OutOfMemory`.
+//! Each answers the monitor with an empty history, and a pass for each seat, in order. `cap` is the greatest
+//! number of entries of the history. The only error is `OutOfMemory`.
 
 ghost use Rattle.std.specs.Prelude.{◌≡◌, [], All, IfOk, IfErr};
 ghost use Rattle.frame.specs.Core.{header_of};

@@ -1,8 +1,8 @@
 //! Pairs of acquire and release by 1 to 8 threads, on monitors of each kind.
 //!
-//! Without arguments each thread makes a few pairs, and pairs and calls are printed. With `measure MS` the threads
-//! of a line make pairs for so many milliseconds, and the line says how many a second: `NAME hist THREADS
-//! PAIRS_PER_SECOND`. The history keeps two entries of each pair, and more of one that had to wait.
+//! Without arguments each thread makes a few pairs, and pairs and calls are printed. With `measure MS` the
+//! threads of a line make pairs for so many milliseconds, and the line says how many a second: `NAME hist
+//! THREADS PAIRS_PER_SECOND`. The history keeps two entries of each pair, and more of one that had to wait.
 #![tactic(auto)]
 
 mod kind;

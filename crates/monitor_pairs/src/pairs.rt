@@ -110,7 +110,8 @@ fn make_in_time<H: Hooks + Drop + Send, R: Threads + Wait + Clock + Sync>(
     join(
         rt,
         move || -> Result<Vec<Pass>, AllocError>
-            requires { All (λ p. p.lock ≡ monitor.now) passes.items × (monitor.now.header.seats ≤ parking.now) }
+            requires { All (λ p. p.lock ≡ monitor.now) passes.items ×
+                (monitor.now.header.seats ≤ parking.now) }
             ensures { IfOk result (λ v. All (λ p. p.lock ≡ monitor.entry.now) v.items) }
         { make_all(rt, parking, monitor, race, passes, mode) },
         || race.keep_time(rt),

@@ -8,11 +8,11 @@
 //!
 //! **No wake is lost.** A thread counts itself before it reads the word for the last time, and sleeps only if
 //! what it waits for isn't in what it read. The system compares the word with what was read as it puts the
-//! thread to sleep. A signal is set in one step, which shows the count as it was then. If the step comes before
-//! the last read, the thread sees the signal. If it comes between the read and the comparison, the word has
-//! changed and the thread doesn't sleep. If it comes later, the count that it shows isn't 0, and the sender
-//! wakes all who sleep. A sender that finds its signal set leaves it at that: whoever set it has woken, or is
-//! about to wake, all who slept then, and who comes later sees the signal.
+//! thread to sleep. A signal is set in one step, which shows the count as it was then. If the step comes
+//! before the last read, the thread sees the signal. If it comes between the read and the comparison, the
+//! word has changed and the thread doesn't sleep. If it comes later, the count that it shows isn't 0, and the
+//! sender wakes all who sleep. A sender that finds its signal set leaves it at that: whoever set it has
+//! woken, or is about to wake, all who slept then, and who comes later sees the signal.
 
 use std::sync::Wait;
 use std::sync::atomic::{AtomicU64, Ordering};

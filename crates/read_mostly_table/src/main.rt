@@ -1,7 +1,7 @@
 //! A table that is mostly read: readers share it, and a writer has it alone under a read-write lock.
 //!
-//! A writer changes the whole table, goes on as a reader without a gap, and looks at what it wrote. Prints how
-//! many updates and looks there were, and what the audit says of the history of the lock.
+//! A writer changes the whole table, goes on as a reader without a gap, and looks at what it wrote. Prints
+//! how many updates and looks there were, and what the audit says of the history of the lock.
 #![tactic(auto)]
 
 ghost use Rattle.std.specs.Prelude.{◌≡◌, ◌≤◌, All, IfOk};

@@ -194,7 +194,8 @@ pub sound_freed : (s : State) (writes : ℕ) → IsSound s → writes ≡ 0 → 
 sound_freed s writes t none = record { owned = eq-eqb writes 0 none; seated = refl; summed = t.summed }
 
 pub stands_gave_last : (s : State) (k : Counts) → IsSound s → StandsFor s k → (i n : ℕ) →
-    is_seat s.owner i ≡ true → s.writes - 1 ≡ 0 → StandsFor (owned_by s None (s.writes - 1)) (gave_back k i X n)
+    is_seat s.owner i ≡ true → s.writes - 1 ≡ 0 → StandsFor (owned_by s None (s.writes - 1))
+    (gave_back k i X n)
 stands_gave_last s k t h i n u last =
     let Q : Option ℕ → Type 0 = λ o. is_owned max_shared o s.writes ≡ true in
     let some : 0 < s.writes = owned_some max_shared i s.writes (subst Q (seat_is s.owner i u) t.owned) in

@@ -23,7 +23,8 @@ alone_by : (i w r j : ℕ) (m : Mode) → j ≢ i → could_by (Some i) w r j m 
 alone_by i w r j X ne = rw (others_not i j ne) refl
 alone_by i w r j S ne = rw (others_not i j ne) refl
 
-owned_alone : (o : Option ℕ) (i w r j : ℕ) (m : Mode) → is_seat o i ≡ true → j ≢ i → could_by o w r j m ≡ false
+owned_alone : (o : Option ℕ) (i w r j : ℕ) (m : Mode) → is_seat o i ≡ true → j ≢ i →
+    could_by o w r j m ≡ false
 owned_alone o i w r j m u ne =
     let P : Option ℕ → Type 0 = λ q. could_by q w r j m ≡ false in
     subst P (sym (seat_is o i u)) (alone_by i w r j m ne)
@@ -37,7 +38,8 @@ none_other (Some q) i j t ne =
 -- who takes a write hold could before, and its reads are as many
 writer_as_before : (o : Option ℕ) (w r i j : ℕ) (m : Mode) → could_by o w r i X ≡ true →
     is_none_or o i ≡ true → could_by o w r j m ≡ false → could_by (Some i) (w + 1) r j m ≡ false
-writer_as_before o w r i j m c t f = ⊎_elim (λ e. same m e f) (λ ne. alone_by i (w + 1) r j m ne) (cases_eq j i)
+writer_as_before o w r i j m c t f =
+    ⊎_elim (λ e. same m e f) (λ ne. alone_by i (w + 1) r j m ne) (cases_eq j i)
   where
     same : (m : Mode) → j ≡ i → could_by o w r j m ≡ false → could_by (Some i) (w + 1) r j m ≡ false
     same X e g =
@@ -109,7 +111,8 @@ pub wrote_alone : (s : State) (k : Counts) → IsSound s → StandsFor s k → (
 wrote_alone s k t h i n may seat j m b ne =
     let P : ℕ → Type 0 = λ seats. i < seats in
     let sound = sound_wrote s i t may (subst P h.seats seat) in
-    could_is (owned_by s (Some i) (s.writes + 1)) (took k i X n) sound (stands_wrote s k t h i n may seat) j m b
+    could_is (owned_by s (Some i) (s.writes + 1)) (took k i X n) sound
+    (stands_wrote s k t h i n may seat) j m b
     ∙ alone_by i (s.writes + 1) s.readers j m ne
 
 pub wrote_nobody : (s : State) (k : Counts) → IsSound s → StandsFor s k → (i n : ℕ) → MayWrite s i →
@@ -119,7 +122,8 @@ wrote_nobody s k t h i n may c seat j m b f =
     let P : ℕ → Type 0 = λ seats. i < seats in
     let sound = sound_wrote s i t may (subst P h.seats seat) in
     let before : could_by s.owner s.writes s.readers j m ≡ false = sym (could_is s k t h j m b) ∙ f in
-    could_is (owned_by s (Some i) (s.writes + 1)) (took k i X n) sound (stands_wrote s k t h i n may seat) j m b
+    could_is (owned_by s (Some i) (s.writes + 1)) (took k i X n) sound
+    (stands_wrote s k t h i n may seat) j m b
     ∙ writer_as_before s.owner s.writes s.readers i j m c may.admitted before
 
 -- After a take of S.
@@ -145,7 +149,8 @@ read_shared s k t h i n may seat j b ne =
 pub read_last : (s : State) (k : Counts) → IsSound s → StandsFor s k → (i n : ℕ) →
     (eqb (s.readers + 1) max_shared || is_seat s.owner i) ≡ true → i < k.seats → (j b : ℕ) → j ≢ i →
     could (took k i S n) j S b ≡ false
-read_last s k t h i n last seat j b ne = could_read s k t h i n seat j S b ∙ ⊎_elim full owned (either _ _ last)
+read_last s k t h i n last seat j b ne =
+    could_read s k t h i n seat j S b ∙ ⊎_elim full owned (either _ _ last)
   where
     full : eqb (s.readers + 1) max_shared ≡ true → could_by s.owner s.writes (s.readers + 1) j S ≡ false
     full e = full_alone s.owner s.writes (s.readers + 1) j (eqb-true _ _ e)
@@ -188,7 +193,8 @@ pub write_less_kept : (s : State) (k : Counts) → IsSound s → StandsFor s k �
 write_less_kept s k t h i n u some j m b ne =
     let g : given k i X n ≡ gave_back k i X n = rw h.object refl in
     let now : State = owned_by s s.owner (s.writes - 1) in
-    rw g (could_is now (gave_back k i X n) (sound_write_less s i t u some) (stands_write_less s k h i n u) j m b
+    rw g (could_is now (gave_back k i X n) (sound_write_less s i t u some)
+    (stands_write_less s k h i n u) j m b
     ∙ owned_alone s.owner i (s.writes - 1) s.readers j m u ne)
 
 pub read_less_kept : (s : State) (k : Counts) → IsSound s → StandsFor s k → (i n : ℕ) →

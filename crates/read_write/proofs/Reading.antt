@@ -96,7 +96,8 @@ by_owner None w r i t c =
     (refl, omega (arith, none))
 by_owner (Some j) w r i t c = by_some (eqb j i) w r c
 
-pub may_write : (s : State) (i : ℕ) → IsSound s → could_by s.owner s.writes s.readers i X ≡ true → MayWrite s i
+pub may_write : (s : State) (i : ℕ) → IsSound s → could_by s.owner s.writes s.readers i X ≡
+    true → MayWrite s i
 may_write s i t c =
     let both = by_owner s.owner s.writes s.readers i t.owned c in
     record { admitted = both.0; below = both.1 }

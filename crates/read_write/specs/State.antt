@@ -20,7 +20,14 @@ pub record State : Type 0 where
 
 abbrev pub state_of : RwHooks → State
 state_of s =
-    record { policy = s.policy; owner = s.owner; writes = s.writes; reads = s.reads.items; readers = s.readers }
+    record {
+      policy = s.policy;
+      owner = s.owner;
+      writes = s.writes;
+      reads =
+          s.reads.items;
+      readers = s.readers;
+    }
 
 -- The owner has a write hold and is a seat, and the readers are the sum of the table.
 pub record IsSound (s : State) : Type 0 where

@@ -19,7 +19,8 @@ use Rattle.run_text.specs.RunText.{IsJudged}
 part_judged : (lock : LockId) (passes : List Shown) (part : ObjectReport) → IsPart lock passes part →
     IsSound part → IsJudged part
 part_judged lock passes part is sound =
-    let judged = subst (λ (k : Header). part.judgement ≡ Legal (totals_of (opening k) part.history.entries)) (sym is.header) is.judged in
+    let judged = subst (λ (k : Header). part.judgement ≡ Legal (totals_of (opening k) part.history.entries))
+    (sym is.header) is.judged in
     (sound.0, sound.1, subst (IsJudgement part.header part.history.entries) (sym judged) (sound.1, refl))
 
 -- each part's judgement is the audit's
@@ -41,7 +42,8 @@ parts_count [] [] (part ∷ parts) are = absurd are
 parts_count [] (column ∷ columns) parts are = absurd are
 parts_count (lock ∷ locks) [] parts are = absurd are
 parts_count (lock ∷ locks) (column ∷ columns) [] are = absurd are
-parts_count (lock ∷ locks) (column ∷ columns) (part ∷ parts) are = ap suc (parts_count locks columns parts are.1)
+parts_count (lock ∷ locks) (column ∷ columns) (part ∷ parts) are =
+    ap suc (parts_count locks columns parts are.1)
 
 -- each part has a name
 pub parts_named : (s : ScriptView) (r : Report) → IsReport s r → length r.objects.items ≡ length s.objects

@@ -27,7 +27,8 @@ history_is header h =
 
 -- a name's line, a history text, and two texts behind it
 pub part_is : (name : List ℕ) (header : Header) (h : List Entry) (audit shares : List ℕ) →
-    (name ++ ended (first_line History header)) ++ text_behind History (answers_of header h) ++ (audit ++ shares)
+    (name ++ ended (first_line History header)) ++ text_behind History (answers_of header h) ++
+    (audit ++ shares)
     ≡ name ++ history_text header h ++ audit ++ shares
 part_is name header h audit shares =
     let first = ended (first_line History header) in
@@ -37,7 +38,8 @@ part_is name header h audit shares =
     (append_assoc name first behind ∙ ap (λ (t : List ℕ). name ++ t) (history_is header h))
 
 -- one more text of an object
-pub parts_more : (objects objects' : List Named) (o : Named) (rest rest' : List ObjectReport) (part : ObjectReport)
+pub parts_more : (objects objects' : List Named) (o : Named) (rest rest' : List ObjectReport)
+    (part : ObjectReport)
     (done : List (List ℕ)) (text all : List ℕ) → objects ≡ o ∷ objects' → rest ≡ part ∷ rest' →
     text ≡ part_text o.0 part → concat done ++ parts_text objects rest ≡ all →
     concat (done ++ text ∷ []) ++ parts_text objects' rest' ≡ all

@@ -33,5 +33,6 @@ pub front_of_all : (a b : Option (List ℕ)) (xs : List (List ℕ)) (i : ℕ) (m
 front_of_all a b xs i more front =
     let whole : concat (take i xs) ++ (concat (drop i xs) ++ more) ≡ concat xs ++ more =
     sym (append_assoc (concat (take i xs)) (concat (drop i xs)) more)
-    ∙ ap (λ (t : List ℕ). t ++ more) (sym (concat-append (take i xs) (drop i xs)) ∙ ap concat (take-append-drop i xs)) in
+    ∙ ap (λ (t : List ℕ). t ++ more) (sym (concat-append (take i xs) (drop i xs)) ∙ ap concat
+    (take-append-drop i xs)) in
     subst (AppendsFront a b) whole (front_longer a b (concat (take i xs)) (concat (drop i xs) ++ more) front)

@@ -70,7 +70,8 @@ fn foot_of(
 ) -> Result<Vec<u8>, StreamFault>
     requires { IsJudgement header.now history.now.entries judgement.now }
     ensures ok { IfOk result (λ foot.
-        foot.items ≡ audit_text header.now history.now.entries (verdict_of judgement.now) ++ ended (shares_line share)) }
+        foot.items ≡ audit_text header.now history.now.entries (verdict_of judgement.now) ++
+        ended (shares_line share)) }
     ensures err { IfErr result (λ fault. fault ≡ Memory) }
 {
     let entries = history.len();

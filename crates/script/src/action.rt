@@ -5,7 +5,8 @@ use monitor::How;
 
 /// A call of a monitor, for the seat of the thread that makes it.
 ///
-/// An amount, a condition or a mode may be one that the object doesn't have. The monitor then refuses the call.
+/// An amount, a condition or a mode may be one that the object doesn't have. The monitor then refuses the
+/// call.
 #[derive(Clone, Copy, Debug, PartialEq, Eq)]
 pub enum Action {
     /// Takes in a mode an amount, and waits for it in this way.

@@ -56,9 +56,10 @@ fn top_of(value: &Value) -> Option<Top<'_>>
 
 /// The script that a text says, or its first fault.
 ///
-/// The text is a JSON object with two keys. `objects` has a list of 1 to 64 pairs: a name, and the object part
-/// of a header, whose seats are as many as the threads. A name has 1 to 32 of `a` to `z`, `0` to `9` and `-`,
-/// isn't `interrupt`, and stands there once. `threads` has a list of 1 to 256 objects with two keys each:
+/// The text is a JSON object with two keys. `objects` has a list of 1 to 64 pairs: a name, and the object
+/// part of a header, whose seats are as many as the threads. A name has 1 to 32 of `a` to `z`, `0` to `9` and
+/// `-`, isn't `interrupt`, and stands there once. `threads` has a list of 1 to 256 objects with two keys
+/// each:
 /// `repeat`, a whole number from 1 to 1000000 without fraction and exponent, and `calls`, a list of at most
 /// 10000 texts. What a text of a call says is [`Action`](crate::Action)'s matter.
 ///
@@ -68,8 +69,8 @@ fn top_of(value: &Value) -> Option<Top<'_>>
 /// # Errors
 ///
 /// The first of these that applies:
-/// - [`ScriptFault::NotJson`] if the text isn't JSON. Neither is one that nests deeper than 127 levels, or that
-///   has a number too large for a float.
+/// - [`ScriptFault::NotJson`] if the text isn't JSON. Neither is one that nests deeper than 127 levels, or
+///   that has a number too large for a float.
 /// - [`ScriptFault::BadTop`] if the value doesn't have just those two keys, with lists of those lengths.
 /// - [`ScriptFault::BadObject`] of the first object that isn't such a pair.
 /// - [`ScriptFault::BadThread`] or [`ScriptFault::BadCall`] of the first thread that isn't such an object, or

@@ -18,12 +18,16 @@ mode_short X = omega arith
 mode_short S = omega arith
 
 words_short : (s : Step) → HasAmounts s → AreShort (step_words s) × (length (step_words s) ≤ 3)
-words_short (Acquire m n) lt = ((omega arith, (mode_short m, (decimal_short n (omega (arith, lt)), tt))), omega arith)
-words_short (Try m n) lt = ((omega arith, (mode_short m, (decimal_short n (omega (arith, lt)), tt))), omega arith)
-words_short (TryFair m n) lt = ((omega arith, (mode_short m, (decimal_short n (omega (arith, lt)), tt))), omega arith)
+words_short (Acquire m n) lt =
+    ((omega arith, (mode_short m, (decimal_short n (omega (arith, lt)), tt))), omega arith)
+words_short (Try m n) lt =
+    ((omega arith, (mode_short m, (decimal_short n (omega (arith, lt)), tt))), omega arith)
+words_short (TryFair m n) lt =
+    ((omega arith, (mode_short m, (decimal_short n (omega (arith, lt)), tt))), omega arith)
 words_short (EntryInterrupt m n) lt =
     ((omega arith, (mode_short m, (decimal_short n (omega (arith, lt)), tt))), omega arith)
-words_short (Give m n) lt = ((omega arith, (mode_short m, (decimal_short n (omega (arith, lt)), tt))), omega arith)
+words_short (Give m n) lt =
+    ((omega arith, (mode_short m, (decimal_short n (omega (arith, lt)), tt))), omega arith)
 words_short Look lt = ((omega arith, tt), omega arith)
 words_short Expire lt = ((omega arith, tt), omega arith)
 words_short Interrupt lt = ((omega arith, tt), omega arith)

@@ -96,7 +96,8 @@ whole_line seats s small fits =
 pub unread : (seats : ℕ) (line : List ℕ) → seats < 2 ^ 32 → None ≡ line_at seats (words_of line) →
     (s : ℕ × Step) → IsStep seats s → line ≡ step_line s → ⊥
 unread seats line small none s fits is =
-    none_is (s, []) (none ∙ ap (λ (p : List ℕ). line_at seats (words_of p)) is ∙ whole_line seats s small fits)
+    none_is (s, []) (none ∙ ap (λ (p : List ℕ). line_at seats (words_of p)) is ∙ whole_line
+    seats s small fits)
 
 pub not_all_read : (seats : ℕ) (line : List ℕ) (found : ℕ × Step) (w : List ℕ) (ws : Words) →
     seats < 2 ^ 32 → Some (found, w ∷ ws) ≡ line_at seats (words_of line) → (s : ℕ × Step) →

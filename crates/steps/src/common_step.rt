@@ -102,7 +102,8 @@ fn common_words(text: &[u8]) -> Option<(Step, usize)>
     }
 }
 
-/// The seat and the step whose line begins the text, if it is one of the commonest, and how many bytes follow.
+/// The seat and the step whose line begins the text, if it is one of the commonest, and how many bytes
+/// follow.
 ///
 /// A number in place of what follows: it stays in a register.
 #[inline(always)]

@@ -2,7 +2,7 @@
 
 ghost use Rattle.std.specs.Prelude.{◌≡◌, ◌+◌, ◌<◌, ◌≤◌, ◌^◌, Err, Ok, None, length, IfOk, IfErr, IsErrOf};
 ghost use Rattle.history.specs.Header.{IsInRange};
-ghost use Rattle.history.specs.Text.{IsLine, ended};
+ghost use Rattle.history.specs.Text.{HasNoBreak, ended};
 ghost use Rattle.line_text.specs.Reading.{IsReading};
 ghost use Rattle.line_text.specs.declared.fault.TextFault.TheVariants.{CutShort};
 ghost use Rattle.line_text.specs.UnderWay.{IsHeaderOf, IsLineBehind};
@@ -22,7 +22,7 @@ use line_text::header_line::first_header;
 pub fn header_of(text: &[u8]) -> Result<(Header, &[u8]), TextFault>
     ensures ok { IfOk result (IsHeaderOf steps_form text.now) }
     ensures err { IfErr result (λ fault. IsReading steps_form text.now (Err fault)) }
-    ensures cut { IsErrOf result CutShort → IsLine text.now }
+    ensures cut { IsErrOf result CutShort → HasNoBreak text.now }
     ensures shorter { IfOk result (λ r. length r.1.now ≤ length text.now) }
     ensures range { IfOk result (λ r. IsInRange r.0) }
 {
@@ -39,7 +39,7 @@ fn line_by_words(
     requires seats { 1 ≤ header.now.seats }
     requires few { count + 3 < 2 ^ 64 }
     ensures line { IsLineBehind steps_form (steps_so_far header.now count) rest.now result }
-    ensures cut { IsErrOf result CutShort → IsLine rest.now }
+    ensures cut { IsErrOf result CutShort → HasNoBreak rest.now }
     ensures last { result ≡ Ok None → rest.now ≡ ended (end_line count) }
 {
     let Some((line, after)) = first_line(rest) else {
@@ -68,7 +68,7 @@ pub fn next_line(
     requires seats { 1 ≤ header.now.seats }
     requires few { count + 3 < 2 ^ 64 }
     ensures line { IsLineBehind steps_form (steps_so_far header.now count) rest.now result }
-    ensures cut { IsErrOf result CutShort → IsLine rest.now }
+    ensures cut { IsErrOf result CutShort → HasNoBreak rest.now }
     ensures last { result ≡ Ok None → rest.now ≡ ended (end_line count) }
 {
     match common_step(rest, header.seats) {

@@ -6,7 +6,7 @@ use Rattle.std.proofs.lemmas.Bool.{cases_order, false≢true}
 use Rattle.std.proofs.lemmas.List.{length-append, length-take-le, take-append-le, take-take, take_all}
 use Rattle.std.proofs.lemmas.List.Elements.{All-append}
 use Rattle.std.proofs.Math.Seq.{drop-append_seam}
-use Rattle.history.specs.Text.{IsLine}
+use Rattle.history.specs.Text.{HasNoBreak}
 use Rattle.streams.specs.Window.{Grows, IsAhead, IsFront, IsFrontAhead, IsShorter, StaysAhead}
 
 -- the first bytes of a line and of more of it
@@ -25,10 +25,17 @@ first_of n line more = by (cases_order (length line) n)
 -- nothing was read
 pub unread : (old : List ℕ) (left : Option (List ℕ)) → StaysAhead old left old left
 unread old None = tt
-unread old (Some left) = record { line = []; rest = old; parts = refl; one_line = λ i d lt. absurd (omega (arith, lt)); seen = refl }
+unread old (Some left) = record {
+  line = [];
+  rest = old;
+  parts = refl;
+  one_line =
+      λ i d lt. absurd (omega (arith, lt));
+  seen = refl;
+}
 
 -- of one line the first bytes stay
-pub front_of : (old window : List ℕ) (left : Option (List ℕ)) → IsLine old → window ≡ take 256 old →
+pub front_of : (old window : List ℕ) (left : Option (List ℕ)) → HasNoBreak old → window ≡ take 256 old →
     IsFrontAhead old left window left
 front_of old window None line is = tt
 front_of old window (Some left) line is = record { line = old; parts = refl; one_line = line; seen = is }
@@ -80,7 +87,7 @@ last_read old new left after n g =
 
 -- a piece was read that holds no break
 pub goes_on : (old window grown new : List ℕ) (first left after : Option (List ℕ)) (n : ℕ) →
-    Grows window grown left after n → IsLine (drop (length grown - n) grown) → new ≡ take 256 grown →
+    Grows window grown left after n → HasNoBreak (drop (length grown - n) grown) → new ≡ take 256 grown →
     IsFrontAhead old first window left → IsFrontAhead old first new after
 goes_on old window grown new None left after n g whole is front = tt
 goes_on old window grown new (Some xs) None after n g whole is front = absurd front
@@ -91,7 +98,7 @@ goes_on old window grown new (Some xs) (Some ys) (Some zs) n g whole is front =
       parts = front.parts ∙ ap (λ (t : List ℕ). front.line ++ t) g.consumed
           ∙ sym (append_assoc front.line g.more zs);
       one_line = All-append (λ (b : ℕ). b ≢ 10) front.line g.more front.one_line
-          (subst IsLine (last_read window grown _ _ n g) whole);
+          (subst HasNoBreak (last_read window grown _ _ n g) whole);
       seen = is ∙ ap (take 256) (g.behind ∙ ap (λ (t : List ℕ). t ++ g.more) front.seen)
           ∙ first_of 256 front.line g.more;
     }

@@ -37,7 +37,8 @@ kept_last xs at end left ordered within few =
     let gone = length (slice_range xs at end) - left in
     let from : end - left ≡ at + gone = omega (arith, len, few, ordered) in
     let all : end - at ≡ gone + (end - (end - left)) = omega (arith, len, few, ordered) in
-    sym (ap (λ (j : ℕ). drop gone (take j (drop at xs))) all ∙ drop-take gone (end - (end - left)) (drop at xs)
+    sym (ap (λ (j : ℕ). drop gone (take j (drop at xs))) all ∙ drop-take gone
+    (end - (end - left)) (drop at xs)
     ∙ ap (take (end - (end - left))) (drop-drop gone at xs ∙ ap (λ (j : ℕ). drop j xs) (sym from)))
 
 -- so many bytes at the front are kept
@@ -56,7 +57,8 @@ kept_front xs at end most kept is =
         ∙ sym (take_all most (take (end - at) (drop at xs))
         (omega (arith, le, length-take (end - at) (drop at xs))))
 
-    some : most ≤ end - at → take (min (end - at) most) (drop at xs) ≡ take most (take (end - at) (drop at xs))
+    some : most ≤ end - at → take (min (end - at) most) (drop at xs) ≡
+        take most (take (end - at) (drop at xs))
     some le =
         let n : min (end - at) most ≡ most = omega (arith, le) in
         ap (λ (k : ℕ). take k (drop at xs)) n ∙ sym (take-take most (end - at) (drop at xs) le)

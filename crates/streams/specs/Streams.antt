@@ -41,9 +41,10 @@ abbrev pub IsReadNoFurther : {H I : Type 0} → Form H I → Option (List ℕ) �
 IsReadNoFurther form text left =
     IfSome text (λ t. IsTooLong t ⊎ IsSomeAnd left (λ rest. (rest ≡ t) ⊎ AreReadAhead form t rest))
 
--- a text was read to its end where it is answered or has a fault, and before anything is written; where memory
--- is refused, nothing more is read
-abbrev pub IsReadOut : {H I T : Type 0} → Form H I → Option (List ℕ) → Result T StreamFault → Option (List ℕ) →
+-- a text was read to its end where it is answered or has a fault, and before anything is written; where
+-- memory is refused, nothing more is read
+abbrev pub IsReadOut : {H I T : Type 0} → Form H I → Option (List ℕ) → Result T StreamFault →
+    Option (List ℕ) →
     Type 0
 IsReadOut form text (Ok answer) left = IsAtEnd left
 IsReadOut form text (Err (Text fault)) left = IsAtEnd left

@@ -1,9 +1,10 @@
 -- A window on the bytes of a source.
 use Rattle.std.specs.Prelude.{◌≡◌, ◌≤◌, ◌+◌, ℕ, List, ◌++◌, length, take, Option, None, Some}
 use Rattle.std.specs.Io.KnownBytes.{Consumes}
-use Rattle.history.specs.Text.{IsLine}
+use Rattle.history.specs.Text.{HasNoBreak}
 
--- What stands in it, how many bytes that were let go of stand before that, and how many places its memory has.
+-- What stands in it, how many bytes that were let go of stand before that, and how many places its memory
+-- has.
 pub record Seen : Type 0 where
   pub bytes : List ℕ
   pub passed : ℕ
@@ -30,7 +31,7 @@ pub record IsAhead (ahead window left : List ℕ) : Type 0 where
   pub line : List ℕ
   pub rest : List ℕ
   pub parts : ahead ≡ line ++ (rest ++ left)
-  pub one_line : IsLine line
+  pub one_line : HasNoBreak line
   pub seen : window ≡ take kept_of_line line ++ rest
 
 -- what stood in the window and was left behind it, where that is known, stays, but for bytes of a long line
@@ -43,7 +44,7 @@ StaysAhead old (Some left) window (Some after) = IsAhead (old ++ left) window af
 pub record IsFront (ahead window left : List ℕ) : Type 0 where
   pub line : List ℕ
   pub parts : ahead ≡ line ++ left
-  pub one_line : IsLine line
+  pub one_line : HasNoBreak line
   pub seen : window ≡ take kept_of_line line
 
 abbrev pub IsFrontAhead : List ℕ → Option (List ℕ) → List ℕ → Option (List ℕ) → Type 0

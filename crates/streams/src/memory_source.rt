@@ -63,7 +63,8 @@ impl Source for MemorySource {
         ensures bytes { ReadConsumes (Some self.old.left) (Some self.new.left) result buf.new }
         ensures failing { IsTrue self.new.failed ↔ IsErr result }
 
-        ensures gives { IfOk result (λ n. n ≡ min self.old.piece (min (length buf.new) (length self.old.left))) }
+        ensures gives { IfOk result (λ n.
+            n ≡ min self.old.piece (min (length buf.new) (length self.old.left))) }
         ensures fails { IsErr result ↔ (self.old.fails_at ≡ Some 0) }
         ensures turn { OnOk result (self.new.fails_at ≡ one_fewer self.old.fails_at) }
         ensures piece { self.new.piece ≡ self.old.piece }

@@ -10,8 +10,8 @@ use crate::sink::Sink;
 use crate::source::{DeviceFailed, Source};
 use crate::stream_fault::StreamFault;
 
-/// Reads what is left of a source, and keeps none of it. Reads are counted, and only a source of more bytes than
-/// a count can tell is answered by want of memory.
+/// Reads what is left of a source, and keeps none of it. Reads are counted, and only a source of more bytes
+/// than a count can tell is answered by want of memory.
 pub fn read_on<R: Source>(reader: &mut R) -> Result<(), StreamFault>
     requires { R.failed reader.old ≡ false }
     ensures end { OnOk result (IsAtEnd (R.left reader.new)) }

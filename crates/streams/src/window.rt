@@ -2,7 +2,7 @@
 
 ghost use Rattle.std.specs.Prelude.{◌≡◌, ◌+◌, ◌<◌, ◌≤◌, ◌-◌, ◌↔◌, ℕ, List, Option, [], false, drop, length, take, IsTrue, IsErrOf, IfOk, IfErr, IfSome, OnOk, OnErr};
 ghost use Rattle.std.specs.Io.KnownBytes.{IsAtEnd, Keeps};
-ghost use Rattle.history.specs.Text.{IsLine};
+ghost use Rattle.history.specs.Text.{HasNoBreak};
 ghost use Rattle.streams.specs.Whole.{IsOfReading, IsTooLong};
 ghost use Rattle.streams.specs.Window.{Grows, IsFrontAhead, IsShorter, StaysAhead, kept_of_line, room};
 ghost use Rattle.streams.specs.declared.stream_fault.StreamFault.TheVariants.{Memory, ReadFailed};
@@ -22,8 +22,8 @@ const ROOM: usize = 65_792;
 /// A window on the bytes of a source, which moves on as they are read: what stands in it was got from the
 /// source, and what was read is let go of.
 ///
-/// Its memory is taken when it is opened, and never grows. Of a line that is longer than any good one only the
-/// first bytes stay, so each line of a source can be looked at, however long it is.
+/// Its memory is taken when it is opened, and never grows. Of a line that is longer than any good one only
+/// the first bytes stay, so each line of a source can be looked at, however long it is.
 #[derive(Drop)]
 pub struct Window {
     bytes: Vec<u8>,
@@ -144,7 +144,8 @@ impl Window {
         ensures few { IfOk result (λ all. all ≡ false → length self.new.bytes ≤ kept_of_line) }
         ensures less { IfOk result (λ all. all ≡ false → IsShorter (R.left reader.old) (R.left reader.new)) }
         ensures held { length self.new.bytes ≤ self.new.places }
-        ensures whole { IfOk result (λ all. IsTrue all → IsLine self.new.bytes → IsAtEnd (R.left reader.new)) }
+        ensures whole { IfOk result (λ all. IsTrue all → HasNoBreak self.new.bytes →
+            IsAtEnd (R.left reader.new)) }
         ensures places { self.new.places ≡ self.old.places }
         ensures failing { IsErrOf result ReadFailed ↔ IsTrue (R.failed reader.new) }
         ensures kinds { IfErr result (λ fault. fault ≡ ReadFailed) }
@@ -161,19 +162,20 @@ impl Window {
         Ok(false)
     }
 
-    /// Reads on until a whole line stands in the window, or to the end of the source. Nothing is read where one
-    /// stands in it, and nothing that was read is lost, also where reading fails; but of a line without a break
-    /// only the first 256 bytes stay, and whatever was read last.
+    /// Reads on until a whole line stands in the window, or to the end of the source. Nothing is read where
+    /// one stands in it, and nothing that was read is lost, also where reading fails; but of a line without a
+    /// break only the first 256 bytes stay, and whatever was read last.
     ///
-    /// Reads are counted, and only a source of more bytes than a count can tell is answered by want of memory.
+    /// Reads are counted, and only a source of more bytes than a count can tell is answered by want of
+    /// memory.
     pub fn read_line<R: Source>(&mut self, reader: &mut R) -> Result<(), StreamFault>
         requires reader { R.failed reader.old ≡ false }
         requires room { kept_of_line < self.old.places }
         ensures ahead { StaysAhead self.old.bytes (R.left reader.old) self.new.bytes (R.left reader.new) }
-        ensures ready { (IsLine self.old.bytes → ⊥) → (self.new ≡ self.old) × (reader.new ≡ reader.old) }
+        ensures ready { (HasNoBreak self.old.bytes → ⊥) → (self.new ≡ self.old) × (reader.new ≡ reader.old) }
         ensures few { length self.new.bytes ≤ self.new.places }
         ensures places { self.new.places ≡ self.old.places }
-        ensures whole { OnOk result (IsLine self.new.bytes → IsAtEnd (R.left reader.new)) }
+        ensures whole { OnOk result (HasNoBreak self.new.bytes → IsAtEnd (R.left reader.new)) }
         ensures failing { IsErrOf result ReadFailed ↔ IsTrue (R.failed reader.new) }
         ensures kinds { IfErr result IsOfReading }
         ensures memory { IsErrOf result Memory → IfSome (R.left reader.old) IsTooLong }

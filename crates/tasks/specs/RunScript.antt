@@ -40,7 +40,8 @@ Runs left old new (Err (Stream ReadFailed)) = Keeps old new
 Runs left old new (Err (Stream StreamMemory)) = Keeps old new
 Runs left old new (Err (Stream (Text fault))) = ⊥
 Runs left old new (Err (Script fault)) = IfSome left (λ text. IsFault text fault) × Keeps old new
-Runs left old new (Err (Run (NotStarted worker))) = IfSome left (λ text. HasWorker text worker) × Keeps old new
+Runs left old new (Err (Run (NotStarted worker))) =
+    IfSome left (λ text. HasWorker text worker) × Keeps old new
 Runs left old new (Err (Run RunMemory)) = Keeps old new
 Runs left old new (Err (Run (GateShut worker))) = ⊥
 Runs left old new (Err Usage) = ⊥

@@ -10,8 +10,8 @@ use std::test::Fail;
 use test_support::memory::Memory;
 use word_lock::{Token, WordLock};
 
-/// A heap keeps each smaller block for requests of its size, also once it is given back. So whatever is cut from
-/// such a piece is missed.
+/// A heap keeps each smaller block for requests of its size, also once it is given back. So whatever is cut
+/// from such a piece is missed.
 const PIECE: usize = 1040;
 
 /// As many pieces are enough to open a lock.

@@ -1,5 +1,5 @@
-//! Tests of the word lock: tokens that take turns, threads, memory that is refused, and memory that is left as it
-//! was.
+//! Tests of the word lock: tokens that take turns, threads, memory that is refused, and memory that is left
+//! as it was.
 #![tactic(auto)]
 
 #[cfg(test)]

@@ -1,7 +1,7 @@
 //! Calls of a thread while another thread has the value out: none of them waits for it.
 //!
-//! The holder keeps the value until the other thread says that its calls have returned, for some 10 seconds at
-//! most. A call that waited for the value would return too late.
+//! The holder keeps the value until the other thread says that its calls have returned, for some 10 seconds
+//! at most. A call that waited for the value would return too late.
 
 ghost use Rattle.std.specs.Prelude.{◌≡◌, true};
 ghost use Rattle.word_lock.specs.Ready.{IsReady};

@@ -1,8 +1,9 @@
 //! Memory that is refused to a lock.
 //!
-//! A test takes all memory first, a part of it as small blocks side by side, and lets these go one by one. Each
-//! request of a lock for four tokens takes a small block or more: so each is refused for true, one after the
-//! other. And since a turn gives back one block, an opening that kept some when refused would never be granted.
+//! A test takes all memory first, a part of it as small blocks side by side, and lets these go one by one.
+//! Each request of a lock for four tokens takes a small block or more: so each is refused for true, one after
+//! the other. And since a turn gives back one block, an opening that kept some when refused would never be
+//! granted.
 
 ghost use Rattle.std.specs.Prelude.{◌≡◌, []};
 

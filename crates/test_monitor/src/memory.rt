@@ -64,8 +64,8 @@ fn refusals<R: Abort + AllocGlobal>(rt: &R, object: Object) -> Result<usize, Fai
 }
 
 // A monitor asks for its passes, for four tables of its seats, and for the tokens, the slot and the word of
-// its lock. With a condition it asks for a list of it and for a table of such lists. The hooks of a read-write
-// lock ask for one more table of seats.
+// its lock. With a condition it asks for a list of it and for a table of such lists. The hooks of a
+// read-write lock ask for one more table of seats.
 #[test]
 fn a_monitor_is_opened_whole_or_not_at_all(rt: HostRuntime) -> Result<(), Fail> {
     let lock = refusals(&rt, Object::Lock(Policy::Fair))?;

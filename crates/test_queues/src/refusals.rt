@@ -7,8 +7,8 @@ use test_support::memory::Memory;
 /// More pieces than anything here takes.
 const MOST: u32 = 4096;
 
-/// How often an open is refused while memory is given back piece by piece, until there is enough. One that kept
-/// memory when refused would never be granted.
+/// How often an open is refused while memory is given back piece by piece, until there is enough. One that
+/// kept memory when refused would never be granted.
 pub fn refusals<R: AllocGlobal, T: Drop, F: Fn() -> Result<T, Fault>>(
     rt: &R,
     piece: usize,

@@ -227,8 +227,8 @@ fn calls_have_one_spelling(rt: HostRuntime) -> Result<(), Fail> {
     Ok(())
 }
 
-/// Two objects and two threads: an object comes before a thread, and a thread's calls before the next thread. A
-/// call may be of a later object.
+/// Two objects and two threads: an object comes before a thread, and a thread's calls before the next thread.
+/// A call may be of a later object.
 const ORDER: [(&str, &str, &str, Option<ScriptFault>); 6] = [
     ("b", "[\"b drain\",\"interrupt 1\"]", "[\"a drain\"]", None),
     ("B", "[1]", "1", Some(BadObject(1))),

@@ -1,5 +1,5 @@
-//! Tests of scripts: that the definitions say what was meant, the words of the faults, that scripts are read if
-//! there is memory, and that nothing is read if it is refused.
+//! Tests of scripts: that the definitions say what was meant, the words of the faults, that scripts are read
+//! if there is memory, and that nothing is read if it is refused.
 #![tactic(auto)]
 
 pub mod callers;

@@ -11,8 +11,8 @@ use std::marker::Model;
 /// How many blocks are taken at most.
 const MOST: usize = 65_536;
 
-/// Blocks of each size up to this are taken, since a heap may keep back small blocks for requests of their size
-/// alone.
+/// Blocks of each size up to this are taken, since a heap may keep back small blocks for requests of their
+/// size alone.
 const FINE: usize = 2048;
 
 /// The smallest block of a heap.
@@ -30,8 +30,8 @@ pub fn all_memory(alloc: Global, least: usize) -> Result<Vec<Vec<u8>>, AllocErro
     Ok(blocks)
 }
 
-/// Takes what is free, down to blocks of `least` bytes: each time that one is refused one of half the size, and
-/// of 16 bytes less once it is no larger than `fine`.
+/// Takes what is free, down to blocks of `least` bytes: each time that one is refused one of half the size,
+/// and of 16 bytes less once it is no larger than `fine`.
 fn take(
     alloc: Global,
     blocks: &mut Vec<Vec<u8>>,

@@ -1,7 +1,8 @@
 //! Runs that lack memory.
 //!
-//! A test takes all memory first, a part of it as pieces, and gives these back one by one. So what a run asks for is
-//! refused for true. Since a turn gives back one piece, a run that kept memory when refused would never be whole.
+//! A test takes all memory first, a part of it as pieces, and gives these back one by one. So what a run asks
+//! for is refused for true. Since a turn gives back one piece, a run that kept memory when refused would
+//! never be whole.
 
 use crate::gates::Seen;
 use crate::reports::{NOTHING, assert_part};

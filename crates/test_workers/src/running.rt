@@ -34,8 +34,8 @@ const OWN: &str = r#"{"objects":[["late","semaphore fair seats 3 permits 2 cap 6
  "threads":[
  {"repeat":2,"calls":["late acquire s 1","late drain","late give s 2"]},
  {"repeat":2,"calls":["early acquire x 1","early await-timed 0 0","early signalall 0","early give x 1"]},
- {"repeat":1,"calls":["b try x 1","a acquire-timed s 1 0","b acquire s 1","b give x 1","a give s 1","b give s 1",
- "a acquire s 1"]}]}"#;
+ {"repeat":1,"calls":["b try x 1","a acquire-timed s 1 0","b acquire s 1","b give x 1","a give s 1",
+ "b give s 1","a acquire s 1"]}]}"#;
 
 /// What is known of the part of an object that one thread calls.
 struct Known {

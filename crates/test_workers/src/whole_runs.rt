@@ -123,7 +123,8 @@ fn a_bad_script_is_told(rt: HostRuntime) -> Result<(), Fail> {
     Ok(())
 }
 
-/// Whether the text of a run finds its memory in so many pieces of 256 bytes. It is written with no memory left.
+/// Whether the text of a run finds its memory in so many pieces of 256 bytes. It is written with no memory
+/// left.
 fn is_spelt<R: Threads + Wait + Clock + AllocGlobal + Sync + Abort>(
     rt: &R,
     pieces: usize,

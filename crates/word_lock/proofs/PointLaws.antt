@@ -35,8 +35,10 @@ before_refl p = (refl, ([], refl))
 
 pub before_trans : (p q r : Point) → Before p q → Before q r → Before p r
 unfolding Before
-before_trans p q r a b =
-    (a.0 ∙ b.0, (b.1.0 ++ a.1.0, b.1.1 ∙ (ap (λ w. b.1.0 ++ w) a.1.1 ∙ sym (append_assoc b.1.0 a.1.0 p.list))))
+before_trans p q r a b = (
+  a.0 ∙ b.0,
+  (b.1.0 ++ a.1.0, b.1.1 ∙ (ap (λ w. b.1.0 ++ w) a.1.1 ∙ sym (append_assoc b.1.0 a.1.0 p.list))),
+)
 
 -- the header stays
 pub before_header : (p q : Point) → Before p q → header_of p ≡ header_of q

@@ -163,13 +163,15 @@ pub record IsFound {T : Type 0} (point : T → Point) (fact : T → Type 0) (v :
 abbrev pub TellsTake : {T : Type 0} → (T → Point) → (T → Type 0) → Step (Maybe T) → Me (Maybe T) View → ℕ →
     Me (Maybe T) View → Type 0
 TellsTake {T} point fact st m found m' =
-    (found ≡ 0 → (x : T) × (m' ≡ (view_after_take m.0 (point x), (0, Some x) ∷ m.1)) × IsFound point fact m.0 x)
+    (found ≡ 0 → (x : T) × (m' ≡ (view_after_take m.0 (point x), (0, Some x) ∷ m.1)) ×
+    IsFound point fact m.0 x)
     × (found ≢ 0 → m' ≡ m)
 
 -- the value that was out with this seat is at home again
 abbrev pub TellsGive : {T : Type 0} → (T → Point) → Step (Maybe T) → Me (Maybe T) View → ℕ →
     Me (Maybe T) View → Type 0
-TellsGive {T} point st m found m' = (x : T) → m.1 ≡ (0, Some x) ∷ [] → m' ≡ (view_after_give m.0 (point x), [])
+TellsGive {T} point st m found m' =
+    (x : T) → m.1 ≡ (0, Some x) ∷ [] → m' ≡ (view_after_give m.0 (point x), [])
 
 -- p is what the value at home shows, or showed when it was taken
 pub record IsLookedAt (sound : Point → Type 0) (v : View) (p : Point) : Type 0 where

@@ -26,8 +26,8 @@ pub(crate) fn make_table<T: Chronicle>(
     requires some_seat { 0 < seats }
     ensures counts { IfOk result (λ r. (r.0.shared.table_id.words ≡ 1) × (r.0.shared.table_id.slots ≡ 1)) }
     ensures opened { IfOk result (λ r. r.0.shared.key.value.value ≡ value) }
-    ensures tokens { IfOk result (λ r. r.1.items ≡ opening_tickets (lock_id r.0.shared.table_id (T.point value))
-        (T.point value) 0 seats) }
+    ensures tokens { IfOk result (λ r. r.1.items ≡
+        opening_tickets (lock_id r.0.shared.table_id (T.point value)) (T.point value) 0 seats) }
     ensures back { IfErr result (λ v. v ≡ value) }
 {
     let Ok(mut tokens) = Vec::with_capacity(alloc, seats as usize) else {
@@ -84,7 +84,8 @@ pub(crate) fn split_token<T: Chronicle>(
     requires free { seat.old.me.0.holds ≡ false }
     ensures kept { (seat.new.table_id ≡ shared.now.table_id)
         × (seat.new.me ≡ (rest_of_view seat.old.me.0, seat.old.me.1)) }
-    ensures given { (result.table_id ≡ shared.now.table_id) × (result.me ≡ (front_of_view seat.old.me.0, [])) }
+    ensures given { (result.table_id ≡ shared.now.table_id) ×
+        (result.me ≡ (front_of_view seat.old.me.0, [])) }
 {
     shared.split_seat::<SplitToken>(seat)
 }

@@ -25,11 +25,14 @@
 //!
 //! | step | what happens | why the rule still holds |
 //! |---|---|---|
-//! | exchange of 0 to 1, won | the value leaves the slot, and the view has seen now | now stays; nobody held before |
+//! | exchange of 0 to 1, won | the value leaves the slot, and the view has seen now | now stays; nobody held
+//! before |
 //! | the same, lost | nothing | |
 //! | store of 0 | the value comes home, the view has seen it, and its log gains what was added | see below |
-//! | split | the logs of a view go to two views, and both have seen what the one had | each log is still in one view |
-//! | join | one view has the logs of both, and remembers what the other had seen | the other is spent and has no log |
+//! | split | the logs of a view go to two views, and both have seen what the one had | each log is still in
+//! one view |
+//! | join | one view has the logs of both, and remembers what the other had seen | the other is spent and has
+//! no log |
 //! | look | the view has seen now, and all that it remembers begins now | now stays |
 //!
 //! Only the store changes now. The one view that holds has seen exactly what it took, so what it gives

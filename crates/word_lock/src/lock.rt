@@ -140,7 +140,8 @@ impl<T: Chronicle> WordLock<T> {
     pub fn join(&self, one: Token, two: Token) -> Token
         requires own { (one.lock ≡ self.now) × (two.lock ≡ self.now) }
         requires free { (one.free ≡ true) × (two.free ≡ true) }
-        ensures token { (result.lock ≡ self.now) × (result.free ≡ true) × (result.logs ≡ one.logs ++ two.logs) }
+        ensures token { (result.lock ≡ self.now) × (result.free ≡ true) ×
+            (result.logs ≡ one.logs ++ two.logs) }
         ensures begins { Before one.seen result.seen × Before two.seen result.seen }
         ensures sound { T.sound result.seen }
         ensures entries { AllAgree result.seen result.logs }
@@ -279,7 +280,8 @@ impl<T: Chronicle> WordLock<T> {
     }
 
     // Whether the word is 1 at each of many looks. Most sections are shorter than a call of the system. Where
-    // somebody sleeps already the next one soon does too, so that few look at the word while its holder works.
+    // somebody sleeps already the next one soon does too, so that few look at the word while its holder
+    // works.
     fn stays_taken(&self) -> bool {
         for _ in 0..LOOKS {
             if self.table.shared.peek(0) == 0 {
@@ -302,8 +304,8 @@ impl<T: Chronicle> WordLock<T> {
         }
     }
 
-    // It costs one load if nobody is enlisted. Where the word is 1 again nobody is woken: whoever took it wakes at
-    // its own store.
+    // It costs one load if nobody is enlisted. Where the word is 1 again nobody is woken: whoever took it
+    // wakes at its own store.
     #[inline(always)]
     fn wake(&self) {
         if self.sleepers.are_some() && self.table.shared.peek(0) == 0 {

@@ -6,15 +6,17 @@
 //! | 32 | one who was woken is on the way |
 //! | 33 and up | how many threads are enlisted and no wake was sent for |
 //!
-//! **No wake is lost.** A thread enlists, looks at the lock once more, and then sleeps unless a wake was sent since
-//! it enlisted. So there are never more asleep than enlisted. Who gives the lock back strikes one off the list and
-//! sends a wake, unless nobody is enlisted or one is on the way. That one clears its bit as it takes the lock, and
-//! so does whoever enlists. If the bit was set while somebody slept, one of them is now awake and will clear it.
-//! If it was set while nobody slept, whoever sleeps later has cleared it. So as long as somebody sleeps, the next
-//! one to give the lock back sends a wake, or one who is awake will take the lock and give it back.
+//! **No wake is lost.** A thread enlists, looks at the lock once more, and then sleeps unless a wake was sent
+//! since it enlisted. So there are never more asleep than enlisted. Who gives the lock back strikes one off
+//! the list and sends a wake, unless nobody is enlisted or one is on the way. That one clears its bit as it
+//! takes the lock, and so does whoever enlists. If the bit was set while somebody slept, one of them is now
+//! awake and will clear it. If it was set while nobody slept, whoever sleeps later has cleared it. So as long
+//! as somebody sleeps, the next one to give the lock back sends a wake, or one who is awake will take the
+//! lock and give it back.
 //!
-//! **Few are awake.** A wake is a call of the system, and the thread that it wakes takes the lock from whoever runs.
-//! With one on the way at a time, the others sleep, and a thread that runs takes the lock many times in between.
+//! **Few are awake.** A wake is a call of the system, and the thread that it wakes takes the lock from
+//! whoever runs. With one on the way at a time, the others sleep, and a thread that runs takes the lock many
+//! times in between.
 
 use std::sync::Wait;
 use std::sync::atomic::{AtomicU64, Ordering};

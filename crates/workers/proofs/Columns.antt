@@ -23,7 +23,8 @@ use Rattle.workers.specs.Works.{AllWorked, passes_left}
 
 -- one object more in a row
 row_more : (locks : List LockId) (lock : LockId) (seat : ℕ) →
-    opening_row locks seat ++ opening_pass lock (blank lock.header) seat ∷ [] ≡ opening_row (locks ++ lock ∷ []) seat
+    opening_row locks seat ++ opening_pass lock (blank lock.header) seat ∷ [] ≡
+    opening_row (locks ++ lock ∷ []) seat
 row_more [] lock seat = refl
 row_more (l ∷ locks) lock seat =
     ap (λ z. opening_pass l (blank l.header) seat ∷ z) (row_more locks lock seat)
@@ -34,7 +35,8 @@ pub rows_more : (locks : List LockId) (lock : LockId) (seat n : ℕ) →
     ≡ opening_rows (locks ++ lock ∷ []) seat n
 rows_more locks lock seat zero = refl
 rows_more locks lock seat (suc n) =
-    ap (λ z. z ∷ dealt (opening_passes lock (blank lock.header) (suc seat) n) (opening_rows locks (suc seat) n))
+    ap (λ z. z ∷ dealt (opening_passes lock (blank lock.header) (suc seat) n)
+    (opening_rows locks (suc seat) n))
     (row_more locks lock seat)
     ∙ ap (λ z. opening_row (locks ++ lock ∷ []) seat ∷ z) (rows_more locks lock (suc seat) n)
 
@@ -122,7 +124,8 @@ below_more n (lock ∷ locks) (p ∷ row) (column ∷ columns) same (first, rest
 
 -- the rows of all workers from a seat on
 below_all : (answers : ℕ → ℕ → Bool → Type 0) (ws : List WorkerView) (locks : List LockId) (seat n : ℕ)
-    (dones : List Worked) (columns : List (List Shown)) → AllWorked answers seat ws (opening_rows locks seat n) dones →
+    (dones : List Worked) (columns : List (List Shown)) →
+    AllWorked answers seat ws (opening_rows locks seat n) dones →
     HaveBelow seat locks columns → HaveBelow (seat + n) locks (dealt_all (passes_left dones) columns)
 below_all answers [] locks seat zero [] columns worked below =
     let same : seat ≡ seat + 0 = omega arith in subst (λ (z : ℕ). HaveBelow z locks columns) same below
@@ -222,7 +225,8 @@ seats_there lock (suc m) i below =
     seats_last (eqb i m) i m (seats_in i (homes_below lock m)) _ refl
     (seats_more i (homes_below lock m) (lock, m)) (seats_there lock m i) below
 
-pub column_whole : (lock : LockId) (n : ℕ) (ps : List Shown) → homes ps ≡ homes_below lock n → (i : ℕ) → i < n →
+pub column_whole : (lock : LockId) (n : ℕ) (ps : List Shown) → homes ps ≡ homes_below lock n →
+    (i : ℕ) → i < n →
     1 ≤ passes_of i ps
 column_whole lock n ps same i below =
     let here = passes_seats i ps ∙ ap (seats_in i) same in let some = seats_there lock n i below in
@@ -241,7 +245,8 @@ no_parts [] have = tt
 no_parts (column ∷ columns) have = absurd have
 
 -- no object is left
-pub parts_end : (all locks : List LockId) (all_columns columns : List (List Shown)) (parts : List ObjectReport) →
+pub parts_end : (all locks : List LockId) (all_columns columns : List (List Shown))
+    (parts : List ObjectReport) →
     locks ≡ [] → HaveColumns locks columns →
     ((more : List ObjectReport) → AreParts locks columns more → AreParts all all_columns (parts ++ more)) →
     AreParts all all_columns parts
@@ -251,7 +256,8 @@ parts_end all locks all_columns columns parts none have so_far =
     (no_parts columns (subst (λ (z : List LockId). HaveColumns z columns) none have))))
 
 -- the headers of the objects so far
-headers_both : (locks : List LockId) (lock : LockId) → map header_of (locks ++ lock ∷ []) ≡ map header_of locks ++ lock.header ∷ []
+headers_both : (locks : List LockId) (lock : LockId) → map header_of (locks ++ lock ∷ []) ≡
+    map header_of locks ++ lock.header ∷ []
 headers_both [] lock = refl
 headers_both (l ∷ locks) lock = ap (λ z. l.header ∷ z) (headers_both locks lock)
 
@@ -269,9 +275,13 @@ passes_count lock p seat zero = refl
 passes_count lock p seat (suc n) = ap suc (passes_count lock p (suc seat) n)
 
 -- all parts are sound
-part_sound : (lock : LockId) (column : List Shown) (part : ObjectReport) → IsPart lock column part → IsSound part
-part_sound lock column part is =
-    (is.range, subst (λ (k : Header). IsLegal (opening k) part.history.entries) (sym is.header) is.lawful.legal)
+part_sound : (lock : LockId) (column : List Shown) (part : ObjectReport) →
+    IsPart lock column part → IsSound part
+part_sound lock column part is = (
+  is.range,
+  subst (λ (k : Header). IsLegal (opening k) part.history.entries) (sym is.header)
+      is.lawful.legal,
+)
 
 pub parts_sound : (locks : List LockId) (columns : List (List Shown)) (parts : List ObjectReport) →
     AreParts locks columns parts → All IsSound parts

@@ -10,7 +10,8 @@ use Rattle.history.specs.declared.header.Header.{Header}
 use Rattle.script.specs.Script.{IsObject, IsScript, Named, ScriptView, named}
 use Rattle.workers.specs.Reports.{headers_of}
 
-all_at : {A : Type 0} (P : A → Type 0) (xs : List A) (k : ℕ) (x : A) → All P xs → slice_get xs k ≡ Some x → P x
+all_at : {A : Type 0} (P : A → Type 0) (xs : List A) (k : ℕ) (x : A) → All P xs →
+    slice_get xs k ≡ Some x → P x
 all_at P xs k x all at =
     subst P (get_or_from_slice_get xs k x x at) (All-get_or P xs k x (slice_get_within xs k x at) all)
 
@@ -22,12 +23,15 @@ object_at : (s : ScriptView) (es : List (String Global × Header)) (k : ℕ) (e 
 object_at s es k e same at =
     ap (λ z. slice_get z k) (sym same) ∙ slice_get-map shown_as es k ∙ ap (option_map shown_as) (sym at)
 
-pub header_there : (s : ScriptView) (es : List (String Global × Header)) (k : ℕ) (e : String Global × Header) →
+pub header_there : (s : ScriptView) (es : List (String Global × Header)) (k : ℕ)
+    (e : String Global × Header) →
     named es ≡ s.objects → Some e ≡ slice_get es k → slice_get (headers_of s) k ≡ Some e.1
 header_there s es k e same at =
-    slice_get-map (λ (o : Named). o.1) s.objects k ∙ ap (option_map (λ (o : Named). o.1)) (object_at s es k e same at)
+    slice_get-map (λ (o : Named). o.1) s.objects k ∙ ap (option_map (λ (o : Named). o.1))
+    (object_at s es k e same at)
 
-pub object_there : (s : ScriptView) (es : List (String Global × Header)) (k : ℕ) (e : String Global × Header) →
+pub object_there : (s : ScriptView) (es : List (String Global × Header)) (k : ℕ)
+    (e : String Global × Header) →
     named es ≡ s.objects → IsScript s → Some e ≡ slice_get es k → IsObject (length s.workers) (shown_as e)
 object_there s es k e same is at =
     all_at (IsObject (length s.workers)) s.objects k (shown_as e) is.objects (object_at s es k e same at)

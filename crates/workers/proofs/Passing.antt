@@ -49,7 +49,8 @@ lock_each [] = refl
 lock_each (p ∷ ps) = ap suc (lock_each ps)
 
 -- the place of an object is one of a pass
-pub place_below : (ps : List Shown) (locks : List LockId) (k : ℕ) → map lock_of ps ≡ locks → k < length locks →
+pub place_below : (ps : List Shown) (locks : List LockId) (k : ℕ) → map lock_of ps ≡ locks →
+    k < length locks →
     k < length ps
 place_below ps locks k own below =
     let same = sym (lock_each ps) ∙ ap length own in omega (arith, same, below)
@@ -86,7 +87,8 @@ rounds_more n calls made old u between v new is first round =
     (subst (λ (z : List Call). Made (reverse z) between v new) is round))
 
 -- the call at a place
-pub made_next : (calls : List Call) (k : ℕ) (d : Call) (old : List Shown) (u : ℕ) (between : List Shown) (v : ℕ)
+pub made_next : (calls : List Call) (k : ℕ) (d : Call) (old : List Shown) (u : ℕ)
+    (between : List Shown) (v : ℕ)
     (new : List Shown) → k < length calls → Made (reverse (take k calls)) old u between →
     IsCalled (get_or calls k d) between v new → Made (reverse (take (k + 1) calls)) old (u + v) new
 made_next calls k d old u between v new below made called =

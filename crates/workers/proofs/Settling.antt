@@ -28,7 +28,8 @@ Settles all first rest columns u =
 
 pub settles_more : (all : List Worked) (first : List (List Shown)) (rest : List Worked)
     (columns : List (List Shown)) (u : ℕ) (done : Worked) (others : List Worked) (v : ℕ)
-    (grown : List (List Shown)) → rest ≡ done ∷ others → done.ended ≡ Ok v → grown ≡ dealt done.passes columns →
+    (grown : List (List Shown)) → rest ≡ done ∷ others → done.ended ≡ Ok v →
+    grown ≡ dealt done.passes columns →
     Settles all first rest columns u → Settles all first others grown (u + v)
 settles_more all first rest columns u done others v grown cut ended is s =
     let as_long : length grown ≡ length columns = ap length is ∙ dealt_length done.passes columns in
@@ -43,8 +44,10 @@ settles_more all first rest columns u done others v grown cut ended is s =
           subst (λ (z : ℕ). AddUp all z) same
           (s.1 (v + x) (subst (λ (z : List Worked). AddUp z (v + x)) (sym cut) (v, x, ended, sum, refl)))),
       ap (dealt_all (passes_left others)) is
-          ∙ subst (λ (z : List Worked). dealt_all (passes_left z) columns ≡ dealt_all (passes_left all) first) cut s.2,
-      subst (λ (k : ℕ). All (Fits k) others) (sym as_long) (All-rest (Fits (length columns)) done others rest cut s.3),
+          ∙ subst (λ (z : List Worked). dealt_all (passes_left z) columns ≡
+          dealt_all (passes_left all) first) cut s.2,
+      subst (λ (k : ℕ). All (Fits k) others) (sym as_long)
+          (All-rest (Fits (length columns)) done others rest cut s.3),
       All-rest IsFew done others rest cut s.4,
       omega (arith, small, many, bound),
     )
@@ -61,7 +64,8 @@ pub settles_columns : (all : List Worked) (first : List (List Shown)) (rest : Li
     (columns : List (List Shown)) (u : ℕ) → rest ≡ [] → Settles all first rest columns u →
     columns ≡ dealt_all (passes_left all) first
 settles_columns all first rest columns u none s =
-    subst (λ (z : List Worked). dealt_all (passes_left z) columns ≡ dealt_all (passes_left all) first) none s.2
+    subst (λ (z : List Worked). dealt_all (passes_left z) columns ≡
+    dealt_all (passes_left all) first) none s.2
 
 pub first_fits : (all : List Worked) (first : List (List Shown)) (rest : List Worked)
     (columns : List (List Shown)) (u : ℕ) (done : Worked) (others : List Worked) → rest ≡ done ∷ others →

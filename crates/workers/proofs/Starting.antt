@@ -11,7 +11,8 @@ each_next P [] h (suc k) len old here i d below = absurd (omega (arith, len))
 each_next P (x ∷ hs) h zero len old here i d below = absurd (omega (arith, len))
 each_next P (x ∷ hs) h (suc k) len old here zero d below = old 0 d (omega arith)
 each_next P (x ∷ hs) h (suc k) len old here (suc i) d below =
-    each_next (λ n. P (suc n)) hs h k (omega (arith, len)) (λ j e low. old (suc j) e (omega (arith, low))) here i d
+    each_next (λ n. P (suc n)) hs h k (omega (arith, len))
+    (λ j e low. old (suc j) e (omega (arith, low))) here i d
     (omega (arith, below))
 
 -- what holds of each holds of one more
@@ -19,7 +20,8 @@ pub each_more : {H : Type 0} (P : ℕ → H → Type 0) (hs : List H) (h : H) (k
     all ≡ hs ++ h ∷ [] → length hs ≡ k → ((i : ℕ) (d : H) → i < k → P i (get_or hs i d)) → P k h →
     (i : ℕ) (d : H) → i < k + 1 → P i (get_or all i d)
 each_more {H} P hs h k all is len old here i d below =
-    subst (λ (z : List H). P i (get_or z i d)) (sym is) (each_next P hs h k len old here i d (omega (arith, below)))
+    subst (λ (z : List H). P i (get_or z i d)) (sym is) (each_next P hs h k len old here i d
+    (omega (arith, below)))
 
 -- the first of those that are left, and the others
 pub left_at : {A : Type 0} (xs : List A) (k : ℕ) (x : A) (rest : List A) → drop k xs ≡ x ∷ rest →

@@ -25,7 +25,8 @@ tails x y xs ys same = cc
 abbrev HasSeats : ℕ → LockId → Type 0
 HasSeats n lock = lock.header.seats ≡ n
 
-seats_each : (n : ℕ) (locks : List LockId) (os : List Named) → map header_of locks ≡ map (λ (o : Named). o.1) os →
+seats_each : (n : ℕ) (locks : List LockId) (os : List Named) →
+    map header_of locks ≡ map (λ (o : Named). o.1) os →
     All (IsObject n) os → All (HasSeats n) locks
 seats_each n [] os same all = All-nil (HasSeats n)
 seats_each n (l ∷ locks) [] same all = absurd (omega (arith, ap length same))
@@ -53,20 +54,23 @@ headers_count [] [] same = refl
 headers_count [] (o ∷ os) same = absurd (omega (arith, ap length same))
 headers_count (l ∷ locks) [] same = absurd (omega (arith, ap length same))
 headers_count (l ∷ locks) (o ∷ os) same =
-    ap suc (headers_count locks os (tails l.header o.1 (map header_of locks) (map (λ (o : Named). o.1) os) same))
+    ap suc
+    (headers_count locks os (tails l.header o.1 (map header_of locks) (map (λ (o : Named). o.1) os) same))
 
 -- each worker's calls are of these objects
 pub all_workers : (s : ScriptView) (locks : List LockId) (places : ℕ) → places ≡ length s.workers →
     map header_of locks ≡ headers_of s → IsScript s → All (IsWorker (length locks) places) s.workers
 all_workers s locks places as_many same is =
     subst (λ (k : ℕ). All (IsWorker (length locks) k) s.workers) (sym as_many)
-    (subst (λ (k : ℕ). All (IsWorker k (length s.workers)) s.workers) (sym (headers_count locks s.objects same))
+    (subst (λ (k : ℕ). All (IsWorker k (length s.workers)) s.workers)
+    (sym (headers_count locks s.objects same))
     is.workers)
 
 pub all_own : (locks : List LockId) (rows : List (List Shown)) (n : ℕ) → rows ≡ opening_rows locks 0 n →
     All (λ (row : List Shown). map lock_of row ≡ locks) rows
 all_own locks rows n is =
-    All-same (λ (row : List Shown). map lock_of row ≡ locks) rows (opening_rows locks 0 n) is (rows_own locks 0 n)
+    All-same (λ (row : List Shown). map lock_of row ≡ locks) rows (opening_rows locks 0 n) is
+    (rows_own locks 0 n)
 
 pub all_few : (answers : ℕ → ℕ → Bool → Type 0) (seat : ℕ) (ws : List WorkerView) (olds : List (List Shown))
     (dones : List Worked) → AllWorked answers seat ws olds dones → All IsFew dones

@@ -20,13 +20,16 @@ at_first answers seat w ws old olds done at =
     let is = at.seat_is in
     let here : at.seat ≡ seat = omega (arith, is) in
     subst (λ (z : ℕ). HasWorked answers z w old done) here
-    (subst (λ (z : WorkerView). HasWorked answers at.seat z old done) (sym (same_some w at.worker at.worker_is))
-    (subst (λ (z : List Shown). HasWorked answers at.seat at.worker z done) (sym (same_some old at.old at.old_is))
+    (subst (λ (z : WorkerView). HasWorked answers at.seat z old done)
+    (sym (same_some w at.worker at.worker_is))
+    (subst (λ (z : List Shown). HasWorked answers at.seat at.worker z done)
+    (sym (same_some old at.old at.old_is))
     at.worked))
 
 at_rest : (answers : ℕ → ℕ → Bool → Type 0) (seat : ℕ) (w : WorkerView) (ws : List WorkerView)
     (old : List Shown) (olds : List (List Shown)) (place : ℕ) (done : Worked) →
-    WorksAt answers seat (w ∷ ws) (old ∷ olds) (suc place) done → WorksAt answers (suc seat) ws olds place done
+    WorksAt answers seat (w ∷ ws) (old ∷ olds) (suc place) done →
+    WorksAt answers (suc seat) ws olds place done
 at_rest answers seat w ws old olds place done at =
     let is = at.seat_is in
     record {
@@ -40,7 +43,8 @@ at_rest answers seat w ws old olds place done at =
     }
 
 -- each worker at its place is all of them
-pub all_worked : (answers : ℕ → ℕ → Bool → Type 0) (seat : ℕ) (ws : List WorkerView) (olds : List (List Shown))
+pub all_worked : (answers : ℕ → ℕ → Bool → Type 0) (seat : ℕ) (ws : List WorkerView)
+    (olds : List (List Shown))
     (dones : List Worked) → length olds ≡ length ws → length dones ≡ length ws →
     ((i : ℕ) (d : Worked) → i < length ws → WorksAt answers seat ws olds i (get_or dones i d)) →
     AllWorked answers seat ws olds dones
@@ -57,7 +61,8 @@ all_worked answers seat (w ∷ ws) (old ∷ olds) (done ∷ dones) rows worked e
 )
 
 ended_well : (answers : ℕ → ℕ → Bool → Type 0) (seat : ℕ) (w : WorkerView) (old : List Shown)
-    (ended : Result ℕ RunFault) (new : List Shown) (u : ℕ) → ended ≡ Ok u → Ends answers seat w old ended new →
+    (ended : Result ℕ RunFault) (new : List Shown) (u : ℕ) → ended ≡ Ok u →
+    Ends answers seat w old ended new →
     Made (rounds w.repeat w.calls) old u new × LetsBelow answers seat (calls_of w)
 ended_well answers seat w old ended new u is ends =
     subst (λ (z : Result ℕ RunFault). Ends answers seat w old z new) is ends
@@ -80,7 +85,8 @@ all_made answers seat (w ∷ ws) (old ∷ olds) (done ∷ dones) u (first, rest)
 
 -- nobody was stopped
 pub all_let : (answers : ℕ → ℕ → Bool → Type 0) (seat : ℕ) (ws : List WorkerView) (olds : List (List Shown))
-    (dones : List Worked) (u : ℕ) → AllWorked answers seat ws olds dones → AddUp dones u → LetsAll answers seat ws
+    (dones : List Worked) (u : ℕ) → AllWorked answers seat ws olds dones → AddUp dones u →
+    LetsAll answers seat ws
 all_let answers seat [] [] [] u worked sum = tt
 all_let answers seat [] [] (done ∷ dones) u worked sum = absurd worked
 all_let answers seat [] (old ∷ olds) dones u worked sum = absurd worked
@@ -157,7 +163,8 @@ pub lets_more : (answers : ℕ → ℕ → Bool → Type 0) (seat n : ℕ) (answ
 lets_more answers seat n answer allowed here lets call below =
     let up : call ≤ n = omega (arith, below) in
     ⊎_elim
-    (λ (same : call ≡ n). subst (λ (z : ℕ). answers seat z true) (sym same) (subst (answers seat n) allowed here))
+    (λ (same : call ≡ n). subst (λ (z : ℕ). answers seat z true) (sym same)
+    (subst (answers seat n) allowed here))
     (λ less. lets call less) (eq-or-lt_of_le up)
 
 -- the same calls, by another number
@@ -168,12 +175,14 @@ lets_same answers seat n m same lets = subst (LetsBelow answers seat) same lets
 -- it is stopped at the next call
 pub stops_here : (answers : ℕ → ℕ → Bool → Type 0) (seat n all : ℕ) (answer : Bool) → answer ≡ false →
     answers seat n answer → LetsBelow answers seat n → n < all → StopsBelow answers seat all
-stops_here answers seat n all answer barred here lets below = (n, below, lets, subst (answers seat n) barred here)
+stops_here answers seat n all answer barred here lets below =
+    (n, below, lets, subst (answers seat n) barred here)
 
 -- among more calls
 pub stops_among : (answers : ℕ → ℕ → Bool → Type 0) (seat n all : ℕ) → n ≤ all → StopsBelow answers seat n →
     StopsBelow answers seat all
-stops_among answers seat n all more (call, below, lets, barred) = (call, omega (arith, more, below), lets, barred)
+stops_among answers seat n all more (call, below, lets, barred) =
+    (call, omega (arith, more, below), lets, barred)
 
 -- the calls of one round more
 pub calls_more : (rounds calls first len : ℕ) → first ≡ rounds * calls → len ≡ calls →
@@ -185,7 +194,8 @@ calls_more rounds calls first len is same =
     one ∙ ap (λ (z : ℕ). z * calls) up
 
 -- the calls of the rounds before, and of this one
-pub calls_within : (rounds repeat calls first len : ℕ) → first ≡ rounds * calls → len ≡ calls → rounds < repeat →
+pub calls_within : (rounds repeat calls first len : ℕ) → first ≡ rounds * calls → len ≡ calls →
+    rounds < repeat →
     first + len ≤ repeat * calls
 calls_within rounds repeat calls first len is same below =
     let more = calls_more rounds calls first len is same in

@@ -18,8 +18,8 @@ use Rattle.workers.specs.declared.report.Report.{Report}
 use Rattle.workers.specs.Calls.{Made, homes, rounds}
 use Rattle.workers.specs.Rows.{dealt}
 
--- What closing an object with these passes leaves: a legal history that has just their entries, which the audit
--- calls legal, and their shares, which number its calls.
+-- What closing an object with these passes leaves: a legal history that has just their entries, which the
+-- audit calls legal, and their shares, which number its calls.
 pub record IsPart (lock : LockId) (passes : List Shown) (part : ObjectReport) : Type 0 where
   pub header : part.header ≡ lock.header
   pub range : IsInRange part.header
@@ -41,7 +41,8 @@ IsSound part = IsInRange part.header × IsLegal (opening part.header) part.histo
 -- a part for each object
 abbrev pub AreParts : List LockId → List (List Shown) → List ObjectReport → Type 0
 AreParts [] [] [] = Unit {0}
-AreParts (lock ∷ locks) (column ∷ columns) (part ∷ parts) = IsPart lock column part × AreParts locks columns parts
+AreParts (lock ∷ locks) (column ∷ columns) (part ∷ parts) =
+    IsPart lock column part × AreParts locks columns parts
 AreParts _ _ _ = ⊥
 
 -- the passes of a worker, one of each object, as they were opened

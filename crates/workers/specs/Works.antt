@@ -11,8 +11,8 @@ use Rattle.workers.specs.Calls.{Made, homes, rounds}
 abbrev pub calls_of : WorkerView → ℕ
 calls_of w = w.repeat * length w.calls
 
--- Below, `answers seat call answer` says that a gate may answer this to the worker of a seat before its call of a
--- number.
+-- Below, `answers seat call answer` says that a gate may answer this to the worker of a seat before its call
+-- of a number.
 
 -- the gate let a worker make all its calls below a number
 abbrev pub LetsBelow : (ℕ → ℕ → Bool → Type 0) → ℕ → ℕ → Type 0

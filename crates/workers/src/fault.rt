@@ -13,7 +13,8 @@ pub enum RunFault {
     /// Memory was refused.
     #[error("out of memory")]
     Memory,
-    /// The gate didn't let this worker make a call. It is the lowest such worker; the others went on to their ends.
+    /// The gate didn't let this worker make a call. It is the lowest such worker; the others went on to their
+    /// ends.
     #[error("gate shut for worker {0}")]
     GateShut(u16),
     /// The system refused the thread of this worker, the lowest such one. Nobody made a call.

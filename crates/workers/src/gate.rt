@@ -6,8 +6,8 @@ use std::time::Clock;
 
 /// What a worker asks before each call and tells after it: a place to hold threads up, for tests.
 ///
-/// Calls are numbered from 0, over all rounds of a worker. A worker asks before each call in order, up to the last
-/// or to the first that it may not make.
+/// Calls are numbered from 0, over all rounds of a worker. A worker asks before each call in order, up to the
+/// last or to the first that it may not make.
 pub trait Gate {
     ghost use Rattle.std.specs.Prelude.{ℕ, Bool};
 

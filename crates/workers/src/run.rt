@@ -110,16 +110,17 @@ fn close_all<R: Wait>(
 
 /// Runs a script: a thread for each worker, all at the same objects, and gives what is left of each object.
 ///
-/// Nobody makes its first call before all threads were started. `gate` is asked before each call, and told after
-/// it. A call that is answered by a fault is counted as unrecorded, and the worker goes on. It may never return,
-/// where the workers wait for each other.
+/// Nobody makes its first call before all threads were started. `gate` is asked before each call, and told
+/// after it. A call that is answered by a fault is counted as unrecorded, and the worker goes on. It may
+/// never return, where the workers wait for each other.
 ///
 /// # Errors
 ///
-/// - [`RunFault::NotStarted`] if the system refuses a thread: the lowest such worker. Nobody made a call. It is
-///   proved only that the script has this worker, since no contract tells whether the system refused a thread.
-/// - [`RunFault::GateShut`] if the gate didn't let a worker make a call: the lowest such worker. The others went
-///   on to their ends.
+/// - [`RunFault::NotStarted`] if the system refuses a thread: the lowest such worker. Nobody made a call. It
+///   is proved only that the script has this worker, since no contract tells whether the system refused a
+///   thread.
+/// - [`RunFault::GateShut`] if the gate didn't let a worker make a call: the lowest such worker. The others
+///   went on to their ends.
 /// - [`RunFault::Memory`] if memory is refused, before the calls or behind them. No contract says when.
 pub fn run_threads<G: Gate + Sync, R: Threads + Wait + Clock + Sync>(
     rt: &R,

@@ -65,8 +65,8 @@ fn make_call<R: Wait + Clock>(rt: &R, shared: &Shared, passes: &mut Passes, call
     }
 }
 
-/// Makes the calls of one round, which are numbered from `first` on, and says how many answers weren't recorded:
-/// None if the gate was shut.
+/// Makes the calls of one round, which are numbered from `first` on, and says how many answers weren't
+/// recorded: None if the gate was shut.
 fn make_round<G: Gate, R: Wait + Clock>(
     rt: &R,
     shared: &Shared,

@@ -19,7 +19,8 @@ handed_over = of 1 word.Gave ∷ of 1 word.Granted ∷ of 0 word.Gave ∷ of 1 w
 
 -- Each entry is its step's, from the last back to the first.
 handed_over_is_legal : IsLegal (opening two_seats) handed_over
-handed_over_is_legal = ((give, refl), ((look, refl), ((give, refl), ((acquire, refl), ((acquire, refl), tt)))))
+handed_over_is_legal =
+    ((give, refl), ((look, refl), ((give, refl), ((acquire, refl), ((acquire, refl), tt)))))
 
 handed_over_calls : calls (opening two_seats) handed_over ≡ 4
 handed_over_calls = refl

@@ -65,7 +65,8 @@ full_history :
     (0, give) ∷ (0, give) ∷ (1, look) ∷ (1, give) ∷ (1, give) ∷ [])
     ≡ (
       got 0 ∷ queued 1 ∷ got 0 ∷ got 0 ∷ got 0 ∷ got 0 ∷ got 0 ∷ fault HistoryFull ∷ missed 2 ∷
-          fault HistoryFull ∷ gave 0 ∷ gave 0 ∷ gave 0 ∷ gave 0 ∷ gave 0 ∷ gave 0 wakes 1 ∷ granted 1 ∷ gave 1 ∷
+          fault HistoryFull ∷ gave 0 ∷ gave 0 ∷ gave 0 ∷ gave 0 ∷ gave 0 ∷ gave 0 wakes 1 ∷
+          granted 1 ∷ gave 1 ∷
           fault HistoryFull ∷ [],
       16,
       15,

@@ -1,4 +1,5 @@
--- Worked examples of who was told: a mark comes with a name or a lapse, and goes with a sleep or the place in line.
+-- Worked examples of who was told: a mark comes with a name or a lapse, and goes with a sleep or the place in
+-- line.
 use Rattle.std.specs.Prelude.{◌≡◌, ℕ, zero, suc, ◌++◌, Bool, if◌then◌else◌, List, [], ◌∷◌, pos, refl}
 use Rattle.history.specs.declared.header.Header.{Header}
 use Rattle.history.specs.declared.header.Policy.TheVariants.{Fair, NonFair}

@@ -94,7 +94,8 @@ fn all_asleep(core: &Inner) -> u64 {
     sum
 }
 
-/// A core of the object that a header names. Clauses see nothing of it, which keeps the proofs of callers small.
+/// A core of the object that a header names. Clauses see nothing of it, which keeps the proofs of callers
+/// small.
 #[derive(Drop)]
 pub struct AnyCore {
     core: Inner,

@@ -1,7 +1,7 @@
 //! Memory that a core leaves as it was.
 //!
-//! All memory is taken but for one piece. What a step or an observer keeps, or takes and gives back, is cut from
-//! that piece, which can't be taken whole then.
+//! All memory is taken but for one piece. What a step or an observer keeps, or takes and gives back, is cut
+//! from that piece, which can't be taken whole then.
 
 use crate::cores::answers::lacks_memory;
 use crate::cores::any_core::{AnyCore, history_left};
@@ -23,8 +23,8 @@ use test_support::memory::Memory;
 /// A copy of any table of a core fits in a piece of this size.
 const WIDE: usize = 16_384;
 
-/// A heap keeps each smaller block for requests of its size, also once it is given back. So whatever is cut from
-/// such a piece is missed.
+/// A heap keeps each smaller block for requests of its size, also once it is given back. So whatever is cut
+/// from such a piece is missed.
 const NARROW: usize = 1040;
 
 /// As many pieces are enough to open a core, and for the one page of its history.

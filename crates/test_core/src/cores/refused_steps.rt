@@ -94,8 +94,8 @@ fn may_lack_memory(object: Object, answer: &Result<Answer, Fault>) -> bool {
     }
 }
 
-/// Asks for a step while memory is given back piece by piece, until it is enough. Each refusal leaves all as it
-/// was.
+/// Asks for a step while memory is given back piece by piece, until it is enough. Each refusal leaves all as
+/// it was.
 fn step_fed<R: Abort>(
     rt: &R,
     core: &mut AnyCore,
@@ -130,8 +130,8 @@ fn compare_refused<R: Abort>(
     memory.take_rest()
 }
 
-/// A step where there is no memory is refused exactly where its history wants a page, and is answered in the end
-/// as if it came first. Whether it was refused.
+/// A step where there is no memory is refused exactly where its history wants a page, and is answered in the
+/// end as if it came first. Whether it was refused.
 fn compare_step<R: Abort>(
     rt: &R,
     core: &mut AnyCore,

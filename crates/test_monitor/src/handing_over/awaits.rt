@@ -108,8 +108,8 @@ fn sleep_and_signal<R: Threads + Wait + Clock + Sync>(
     )
 }
 
-/// What is noted if seat 0 sleeps on a condition that seat 1 signals, the lines of the history, and whether an
-/// interrupt of seat 0 is pending in the end.
+/// What is noted if seat 0 sleeps on a condition that seat 1 signals, the lines of the history, and whether
+/// an interrupt of seat 0 is pending in the end.
 fn noted<R: Threads + Wait + Clock + Sync + AllocGlobal + Abort>(
     rt: &R,
     answers: Vec<Woke>,

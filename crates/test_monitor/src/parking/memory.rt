@@ -1,8 +1,8 @@
 //! Memory that is refused to a parking.
 //!
 //! A test takes all memory first, a part of it as small pieces side by side, and gives these back one by one.
-//! So the requests of an opening are refused for true, one after the other. Since a turn gives back one piece,
-//! an opening that kept memory when refused would never be granted.
+//! So the requests of an opening are refused for true, one after the other. Since a turn gives back one
+//! piece, an opening that kept memory when refused would never be granted.
 
 use history::fault::Fault;
 use permit::{ScriptedParking, ThreadParking};

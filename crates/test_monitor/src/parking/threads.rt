@@ -14,7 +14,8 @@ use std::{fs, thread};
 /// So many milliseconds a thread waits before it wakes another, which sleeps by then.
 const LATER: u64 = 30;
 
-/// So many nanoseconds: less than a thread takes that spins so long, even where others have most of the processors.
+/// So many nanoseconds: less than a thread takes that spins so long, even where others have most of the
+/// processors.
 const LITTLE: u64 = 5_000_000;
 
 #[derive(Clone, Copy, PartialEq, Eq)]
@@ -165,8 +166,8 @@ fn both_take_turns<R: Threads + Wait + Clock + Sync>(
     )
 }
 
-// They alternate strictly, so no two unparks meet in one permit. A wake that is lost leaves both asleep, and the
-// test never ends.
+// They alternate strictly, so no two unparks meet in one permit. A wake that is lost leaves both asleep, and
+// the test never ends.
 #[test]
 fn two_threads_wake_each_other_2000_times(rt: HostRuntime) -> Result<(), Fail> {
     let Ok(parking) = ThreadParking::open(&rt, rt.alloc(), 2) else {

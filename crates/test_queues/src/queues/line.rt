@@ -14,8 +14,8 @@ use test_support::memory::Memory;
 
 const SEATS: u16 = 8;
 
-/// A heap keeps each smaller block for requests of its size, also once it is given back. So whatever is cut from
-/// such a piece is missed.
+/// A heap keeps each smaller block for requests of its size, also once it is given back. So whatever is cut
+/// from such a piece is missed.
 const PIECE: usize = 1040;
 
 fn asks(seat: u16, n: u32) -> Arrival

@@ -16,7 +16,8 @@ const PLACES: usize = 3;
 /// pieces of the size of its own.
 const PIECE: usize = 2000;
 
-/// Puts a node of this seat at the tail; or frees, or cancels, the node that was the so-manieth to be put there.
+/// Puts a node of this seat at the tail; or frees, or cancels, the node that was the so-manieth to be put
+/// there.
 #[derive(Clone, Copy)]
 enum Call {
     Push(u16),

@@ -1,4 +1,5 @@
-//! Those who sleep on conditions: that their calls succeed and take no memory, and a long run beside plain lists.
+//! Those who sleep on conditions: that their calls succeed and take no memory, and a long run beside plain
+//! lists.
 
 ghost use Rattle.std.specs.Prelude.{◌≡◌, ◌<◌};
 
@@ -21,8 +22,8 @@ const CONDITIONS: u8 = 3;
 /// Less than any list of the waiters takes.
 const LEAST: usize = 16;
 
-/// A heap keeps each smaller block for requests of its size, also once it is given back. So whatever is cut from
-/// such a piece is missed.
+/// A heap keeps each smaller block for requests of its size, also once it is given back. So whatever is cut
+/// from such a piece is missed.
 const PIECE: usize = 1040;
 
 fn sleeper(condition: u8, holds: u32) -> Option<Sleeper> {
@@ -302,7 +303,8 @@ fn is_same(waiters: &Waiters, list: &[Asleep]) -> bool {
     same
 }
 
-/// Someone falls asleep or leaves, and at times those of a condition are moved; whether they arrive as they are to.
+/// Someone falls asleep or leaves, and at times those of a condition are moved; whether they arrive as they
+/// are to.
 fn turn(
     queue: &mut Queue,
     waiters: &mut Waiters,

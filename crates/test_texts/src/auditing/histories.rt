@@ -1,5 +1,5 @@
-//! Histories for tests: what no clause says is that a call succeeds, and that the definitions are those that were
-//! meant.
+//! Histories for tests: what no clause says is that a call succeeds, and that the definitions are those that
+//! were meant.
 
 ghost use Rattle.std.specs.Prelude.{◌≡◌, IfOk, IsTrue};
 ghost use Rattle.history.specs.Legal.{AreSeated};

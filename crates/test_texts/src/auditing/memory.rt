@@ -28,11 +28,12 @@ const PIECE: usize = 16;
 /// More pieces than an audit needs.
 const MOST: usize = 4096;
 
-/// What an audit of the history below asks memory for: two tables of holds, one of last sleeps, and four each for
-/// the line and for the sleepers.
+/// What an audit of the history below asks memory for: two tables of holds, one of last sleeps, and four each
+/// for the line and for the sleepers.
 const REQUESTS: usize = 11;
 
-/// The verdict, once there is memory for it that comes back piece by piece, and how often it was refused before.
+/// The verdict, once there is memory for it that comes back piece by piece, and how often it was refused
+/// before.
 fn fed_check(
     alloc: Global,
     header: &Header,

@@ -370,8 +370,8 @@ const CHANGED: &[u8] = b"aqs-history 1 lock fair seats 3 conditions 1 cap 20\n\
 1 2 queued x 1\n\
 end 2 1\n";
 
-/// The good texts with one byte of it changed, as a place and its bytes: another number of seats, of conditions
-/// or of places, another seat, the other mode, another amount.
+/// The good texts with one byte of it changed, as a place and its bytes: another number of seats, of
+/// conditions or of places, another seat, the other mode, another amount.
 const GOOD: [(usize, &[u8]); 10] = [
     (30, b"456789"),
     (43, b"023456789"),
@@ -494,7 +494,8 @@ fn refusals<R: Abort + AllocGlobal>(rt: &R, written: &mut Vec<u8>) -> Result<usi
     Err(Fail::new("never audited"))
 }
 
-/// Nothing is written before there is memory enough: for the window, which takes most, and then for each table.
+/// Nothing is written before there is memory enough: for the window, which takes most, and then for each
+/// table.
 #[test]
 fn an_audit_that_lacks_memory_writes_nothing(rt: HostRuntime) -> Result<(), Fail> {
     let mut written = Vec::with_capacity(rt.alloc(), AMPLE)?;

@@ -119,8 +119,8 @@ fn all_but(alloc: Global, pieces: usize) -> Result<Memory, AllocError> {
 /// Pairs of an acquire and a release, of which each step is an entry.
 const PAIRS: u64 = 50_000;
 
-/// The pages of the entries take 74 pieces, what is read and what is written 5 each. A list of the steps would take
-/// 49 more at least.
+/// The pages of the entries take 74 pieces, what is read and what is written 5 each. A list of the steps
+/// would take 49 more at least.
 #[test]
 fn a_replay_holds_its_history_and_little_else(rt: HostRuntime) -> Result<(), Fail> {
     let text = steps_of_pairs(rt.alloc(), PAIRS)?;

@@ -93,7 +93,8 @@ fn lines_stand_in_a_window_one_after_another(rt: HostRuntime) -> Result<(), Fail
     Ok(())
 }
 
-/// What a window that looks at one line does with a source: the bytes that stand in it, and whether reading failed.
+/// What a window that looks at one line does with a source: the bytes that stand in it, and whether reading
+/// failed.
 fn sees(
     alloc: Global,
     source: &mut MemorySource,

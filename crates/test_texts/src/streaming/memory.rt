@@ -1,7 +1,7 @@
 //! Memory that is refused.
 //!
-//! A test takes all memory first, a part of it as small pieces side by side, and lets these go one by one: one
-//! request after the other is refused for true then, until all are met.
+//! A test takes all memory first, a part of it as small pieces side by side, and lets these go one by one:
+//! one request after the other is refused for true then, until all are met.
 
 ghost use Rattle.std.specs.Prelude.{◌≡◌, [], IfOk};
 ghost use Rattle.history.specs.Header.{IsInRange};
@@ -150,8 +150,8 @@ fn lock_of(alloc: Global, header: &Header) -> Result<Core<LockHooks>, Fault>
     Core::open(alloc, hooks, header.seats, header.conditions, header.cap)
 }
 
-const ONE_LOCK: &[u8] =
-    b"aqs-steps 1 lock fair seats 2 conditions 0 cap 64\n0 acquire x 1\n1 try x 1\n1 look\n0 give x 1\nend 4\n";
+const ONE_LOCK: &[u8] = b"aqs-steps 1 lock fair seats 2 conditions 0 cap 64\n0 acquire x 1\n1 try x 1\n1 look\n\
+    0 give x 1\nend 4\n";
 
 /// A fresh fair lock of which so many steps find memory.
 fn lock_fed<R: Abort + AllocGlobal>(rt: &R, header: &Header, fed: usize) -> Result<Starving, Fail>

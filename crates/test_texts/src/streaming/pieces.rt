@@ -59,8 +59,8 @@ fn length_written<R: Abort + AllocGlobal>(
 /// As much is written at once as pieces have places, but for those of a last line.
 const PIECE: usize = 65_400;
 
-/// Each piece in turn isn't written: what was written before is a beginning of the answer, and longer by a piece
-/// each time.
+/// Each piece in turn isn't written: what was written before is a beginning of the answer, and longer by a
+/// piece each time.
 fn each_piece_fails<R: Abort + AllocGlobal>(rt: &R, form: Form) -> Result<(), Fail> {
     let text = many_steps(rt)?;
     let whole = written(rt, &text, form, None);

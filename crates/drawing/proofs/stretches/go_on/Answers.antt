@@ -58,7 +58,8 @@ loop-index-preserved c = λ s h st.
       | then-level-was+in_ok-put_bar w ↦
           let new = changed s h n x c.level-level.result level w.if-level-was.true in
           rw (w.stretches-is, w.bars-is) (
-            writes (going_on s h n) xs c.loop-index.stretches.items i x _ within inv.0 c.index-was.ensures new.0,
+            writes (going_on s h n) xs c.loop-index.stretches.items i x _ within inv.0
+                c.index-was.ensures new.0,
             gathers (ending s h n) (going_on s h n) xs c.loop-index.stretches.items c.args.bars.now.items
                 c.loop-index.bars.items _ i x within inv.0 c.index-was.ensures inv.1
                 (w.in_ok-put_bar.ensures ∙ ap (λ ys. c.loop-index.bars.items ++ ys) new.1),
@@ -66,7 +67,8 @@ loop-index-preserved c = λ s h st.
       | else-level-was w ↦
           let old = same s h n x (sym level ∙ w.if-level-was.false) in
           rw (w.stretches-is, w.bars-is) (
-            leaves (going_on s h n) xs c.loop-index.stretches.items i x within inv.0 c.index-was.ensures old.0,
+            leaves (going_on s h n) xs c.loop-index.stretches.items i x within inv.0
+                c.index-was.ensures old.0,
             gathers (ending s h n) (going_on s h n) xs c.loop-index.stretches.items c.args.bars.now.items
                 c.loop-index.bars.items _ i x within inv.0 c.index-was.ensures inv.1
                 (sym (append-nil c.loop-index.bars.items) ∙ ap (λ ys. c.loop-index.bars.items ++ ys) old.1),

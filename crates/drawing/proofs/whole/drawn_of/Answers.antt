@@ -60,15 +60,18 @@ all_drawn c =
 
 pub returns-clause-bars : goal.returns-clause-bars
 returns-clause-bars c =
-    weaker c.finish.result (λ drawn is. is c.args.header c.args.from (reverse c.args.entries.now) (all_drawn c))
+    weaker c.finish.result (λ drawn is. is c.args.header c.args.from
+    (reverse c.args.entries.now) (all_drawn c))
     c.finish.ensures.bars
 
 pub returns-clause-marks : goal.returns-clause-marks
 returns-clause-marks c =
-    weaker c.finish.result (λ drawn is. is c.args.header c.args.from (reverse c.args.entries.now) (all_drawn c))
+    weaker c.finish.result (λ drawn is. is c.args.header c.args.from
+    (reverse c.args.entries.now) (all_drawn c))
     c.finish.ensures.marks
 
 pub returns-clause-curve : goal.returns-clause-curve
 returns-clause-curve c =
-    weaker c.finish.result (λ drawn is. is c.args.header c.args.from (reverse c.args.entries.now) (all_drawn c))
+    weaker c.finish.result (λ drawn is. is c.args.header c.args.from
+    (reverse c.args.entries.now) (all_drawn c))
     c.finish.ensures.curve

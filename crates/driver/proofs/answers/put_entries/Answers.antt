@@ -33,7 +33,8 @@ loop-number-preserved g c =
     entry_more es from number c.in-Some.entry c.loop-number.invariant.since (sym c.get.ensures
     ∙ c.in-Some.is) in
     record {
-      going = not_true (g.W.Sink.failed c.put_answer.new.writer) (λ t. c.in_ok-put_answer.ensures.failing.0 t);
+      going =
+          not_true (g.W.Sink.failed c.put_answer.new.writer) (λ t. c.in_ok-put_answer.ensures.failing.0 t);
       since = omega (arith, c.loop-number.invariant.since);
       upto = omega (arith, c.loop-number.invariant.since, c.loop-number-test.true);
       added = subst (IsGathered (g.W.Sink.held c.args.writer.now) c.args.lines.now.bytes

@@ -48,7 +48,8 @@ loop-remark-preserved g c =
     gathered_more _ _ _ c.args.lines.now.bytes c.loop-remark.lines.bytes c.put_entries.new.lines.bytes
     told.0 _ told.1 (rw c.from-before.ensures at c.in_ok-put_entries.ensures.adds) in
     record {
-      going = not_true (g.W.Sink.failed c.put_remark.new.writer) (λ t. c.in_ok-put_remark.ensures.failing.0 t);
+      going =
+          not_true (g.W.Sink.failed c.put_remark.new.writer) (λ t. c.in_ok-put_remark.ensures.failing.0 t);
       added = (
         _,
         gathered_more _ _ _ c.args.lines.now.bytes c.put_entries.new.lines.bytes

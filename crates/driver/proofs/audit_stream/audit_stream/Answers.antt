@@ -28,7 +28,8 @@ returns-in-Ok-clause-write g c = (λ e. c.in-Err-write_all.ensures.failing.1 ref
 
 pub returns-clause-audits : goal.returns-clause-audits
 returns-clause-audits g c =
-    told_streams history_form Audited (g.R.Source.left c.args.reader.now) (g.R.Source.left c.audit_of.new.reader)
+    told_streams history_form Audited (g.R.Source.left c.args.reader.now)
+    (g.R.Source.left c.audit_of.new.reader)
     (g.W.Sink.held c.args.writer.now) c.in-Err.fault c.told_at_the_end.result c.in-Err.ensures.err
     c.told_at_the_end.ensures.told
 

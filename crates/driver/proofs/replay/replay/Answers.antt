@@ -34,7 +34,8 @@ loop-remarks-preserved g c =
       header = a.2;
       answering =
           answering_on _ _ _ x c.answer-answer.result old.entries new.entries c.loop-remarks.remarks.items
-          c.keep.new.remarks.items (g.R.Source.left c.next.new.reader) next same below a.0 a.1 kept c.loop-remarks.invariant.answering;
+          c.keep.new.remarks.items (g.R.Source.left c.next.new.reader) next same below a.0 a.1 kept
+          c.loop-remarks.invariant.answering;
     }
 
 pub loop-remarks-smaller : goal.loop-remarks-smaller

@@ -12,13 +12,15 @@ returns-in-Ok-clause-replays g c =
 pub returns-in-Ok-clause-end : goal.returns-in-Ok-clause-end
 returns-in-Ok-clause-end g c =
     written_out steps_form (g.R.Source.left c.args.reader.now) (g.R.Source.left c.answers_to.new.reader)
-    (g.W.Sink.held c.args.writer.now) (g.W.Sink.held c.write.new.writer) _ c.write.result c.write.ensures.writes
+    (g.W.Sink.held c.args.writer.now) (g.W.Sink.held c.write.new.writer) _ c.write.result
+    c.write.ensures.writes
     c.in-Ok.ensures.ended c.in-Ok.ensures.memory
 
 pub returns-in-Err-clause-end : goal.returns-in-Err-clause-end
 returns-in-Err-clause-end g c =
     let told = c.told_at_the_end in
-    told_out (Unit {0}) steps_form (g.R.Source.left c.args.reader.now) (g.R.Source.left c.answers_to.new.reader)
+    told_out (Unit {0}) steps_form (g.R.Source.left c.args.reader.now)
+    (g.R.Source.left c.answers_to.new.reader)
     (g.R.Source.left told.new.reader) c.in-Err.fault told.result c.in-Err.ensures.err told.ensures.told
     told.ensures.memory (λ e. ap g.R.Source.left (told.ensures.untouched e)) told.ensures.end
 

@@ -11,7 +11,8 @@ use Rattle.latch_workers.proofs.threads.join_all.Goals as goal
 pub loop-handle-preserved : goal.loop-handle-preserved
 loop-handle-preserved g c =
     let shift : Shift = c.args.shift.now in
-    let cut : c.loop-handle.handle-iterator.rest.items ≡ c.in-Some.handle ∷ c.next.new.self.rest.items = search rules in
+    let cut : c.loop-handle.handle-iterator.rest.items ≡ c.in-Some.handle ∷ c.next.new.self.rest.items =
+    search rules in
     let all : All (λ (h : PromisedHandle Worker ComesBack). h.promise.shift.now ≡ shift)
     (c.in-Some.handle ∷ c.next.new.self.rest.items) =
     All-same (λ (h : PromisedHandle Worker ComesBack). h.promise.shift.now ≡ shift) _ _ (sym cut)

@@ -12,7 +12,8 @@ pub loop-worker-preserved : goal.loop-worker-preserved
 loop-worker-preserved g c =
     let s : LockId = c.args.shift.now.start in
     let e : LockId = c.args.shift.now.end in
-    let cut : c.loop-worker.worker-iterator.rest.items ≡ c.in-Some.worker ∷ c.next.new.self.rest.items = search rules in
+    let cut : c.loop-worker.worker-iterator.rest.items ≡ c.in-Some.worker ∷ c.next.new.self.rest.items =
+    search rules in
     let all : All (IsAt s e) (c.in-Some.worker ∷ c.next.new.self.rest.items) =
     All-same (IsAt s e) _ _ (sym cut) c.loop-worker.invariant.0 in (
       All-tail (IsAt s e) _ _ all,

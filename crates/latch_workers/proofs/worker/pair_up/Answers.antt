@@ -11,10 +11,13 @@ pub loop-end-preserved : goal.loop-end-preserved
 loop-end-preserved c =
     let s : LockId = c.args.shift.now.start in
     let e : LockId = c.args.shift.now.end in
-    let starts : c.loop-end.starts.rest.items ≡ c.in-Some-next.start ∷ c.next-in-loop-end.new.self.rest.items =
+    let starts : c.loop-end.starts.rest.items ≡ c.in-Some-next.start ∷
+    c.next-in-loop-end.new.self.rest.items =
     search rules in
-    let ends : c.loop-end.end-iterator.rest.items ≡ c.in-Some.end ∷ c.next.new.self.rest.items = search rules in
-    let left : All (λ (p : Shown). p.lock ≡ s) (c.in-Some-next.start ∷ c.next-in-loop-end.new.self.rest.items) =
+    let ends : c.loop-end.end-iterator.rest.items ≡ c.in-Some.end ∷ c.next.new.self.rest.items =
+    search rules in
+    let left : All (λ (p : Shown). p.lock ≡ s) (c.in-Some-next.start ∷
+    c.next-in-loop-end.new.self.rest.items) =
     All-same (λ (p : Shown). p.lock ≡ s) _ _ (sym starts) c.loop-end.invariant.0 in
     let right : All (λ (p : Shown). p.lock ≡ e) (c.in-Some.end ∷ c.next.new.self.rest.items) =
     All-same (λ (p : Shown). p.lock ≡ e) _ _ (sym ends) c.loop-end.invariant.1 in

@@ -25,7 +25,8 @@ returns-in_err-digit_of-clause-none c = rw c.from_residual.ensures (λ seat rest
     c.in_err-digit_of.ensures.none (c.in-Some.byte - 48) (omega (arith, digit)) (omega (arith, digit)))
 
 pub returns-in_err-number_of_two-clause-none : goal.returns-in_err-number_of_two-clause-none
-returns-in_err-number_of_two-clause-none c = rw c.from_residual-in_err-number_of_two.ensures (λ seat rest lt is.
+returns-in_err-number_of_two-clause-none c =
+    rw c.from_residual-in_err-number_of_two.ensures (λ seat rest lt is.
     let spelt =
     two_before c.in-Some-two_bytes.first c.in-Some-two_bytes.second _ _ rest (decimal_plain seat lt)
     (decimal_nonempty seat lt) (λ b t same.

@@ -6,6 +6,7 @@ use Rattle.monitor.proofs.monitor.give_passes.Given as goal
 
 abbrev pub invariant-loop-token : goal.invariant-loop-token
 invariant-loop-token g l =
-    ((n : ℕ) × (l.seat + n ≡ l.seats) × (l.token-iterator.rest.items ≡ opening_tickets l.lock (blank l.lock.header) l.seat n))
+    ((n : ℕ) × (l.seat + n ≡ l.seats) × (l.token-iterator.rest.items ≡
+    opening_tickets l.lock (blank l.lock.header) l.seat n))
     × (l.passes.items ≡ opening_passes l.lock (blank l.lock.header) 0 l.seat)
     × (vec_len l.passes ≡ l.seat) × (l.seats ≤ vec_capacity l.passes)

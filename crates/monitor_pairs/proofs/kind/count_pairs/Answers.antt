@@ -4,7 +4,9 @@ pub count-requires-clause-opened : goal.count-requires-clause-opened
 count-requires-clause-opened g c κs within = c.open-hooks.ensures.opened c.args.threads
 
 pub count-requires-in-FairLock-clause-opened : goal.count-requires-in-FairLock-clause-opened
-count-requires-in-FairLock-clause-opened g c κs within = c.open-hooks-in-FairLock.ensures.opened c.args.threads
+count-requires-in-FairLock-clause-opened g c κs within =
+    c.open-hooks-in-FairLock.ensures.opened c.args.threads
 
 pub count-requires-in-Semaphore-clause-opened : goal.count-requires-in-Semaphore-clause-opened
-count-requires-in-Semaphore-clause-opened g c κs within = c.open-hooks-in-Semaphore.ensures.opened c.args.threads
+count-requires-in-Semaphore-clause-opened g c κs within =
+    c.open-hooks-in-Semaphore.ensures.opened c.args.threads

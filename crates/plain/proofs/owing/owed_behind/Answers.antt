@@ -17,4 +17,5 @@ returns-clause-is c h owes legal seated =
     (reserves o c.args.entry) (releases o c.args.entry) owes legal seated refl refl)
 
 pub returns-clause-few : goal.returns-clause-few
-returns-clause-few c = omega (arith, c.owed_behind.ensures, reserves_few c.args.header.now.object c.args.entry)
+returns-clause-few c =
+    omega (arith, c.owed_behind.ensures, reserves_few c.args.header.now.object c.args.entry)

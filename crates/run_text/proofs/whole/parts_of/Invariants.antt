@@ -9,4 +9,5 @@ abbrev pub invariant-loop-object : goal.invariant-loop-object
 invariant-loop-object l =
     let rest = l.object-iterator.rest.items in
     All IsJudged rest × (length rest ≤ length (named l.names))
-    × (concat l.parts.items ++ parts_text (named l.names) rest ≡ parts_text l.fn.script.objects l.fn.objects.items)
+    × (concat l.parts.items ++ parts_text (named l.names) rest ≡
+    parts_text l.fn.script.objects l.fn.objects.items)

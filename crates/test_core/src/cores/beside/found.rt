@@ -12,8 +12,8 @@ use std::alloc::Global;
 /// Beyond so many entries the plain program isn't asked.
 const MOST_ENTRIES: u64 = 1_000_000;
 
-/// The plain program's answer to a step; `BadAmount` of a header that no object has, `OutOfPhase` of a seat that
-/// the core doesn't have.
+/// The plain program's answer to a step; `BadAmount` of a header that no object has, `OutOfPhase` of a seat
+/// that the core doesn't have.
 pub fn answer_found(
     alloc: Global,
     core: &AnyCore,

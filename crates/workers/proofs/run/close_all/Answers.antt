@@ -9,7 +9,8 @@ close-requires-clause-own g c =
     let second : c.loop-object.columns.rest.items
     ≡ c.in-Some-next.passes ∷ c.next-in-loop-object.new.self.rest.items = search rules in
     let cut = columns_cut c.loop-object.object-iterator.rest.items c.next.new.self.rest.items c.in-Some.object
-    c.loop-object.columns.rest.items c.next-in-loop-object.new.self.rest.items c.in-Some-next.passes first second
+    c.loop-object.columns.rest.items c.next-in-loop-object.new.self.rest.items
+    c.in-Some-next.passes first second
     c.loop-object.invariant.0 in
     column_own c.in-Some.object c.in-Some.object.header.seats c.in-Some-next.passes cut.0
 
@@ -20,7 +21,8 @@ close-requires-clause-all g c =
     let second : c.loop-object.columns.rest.items
     ≡ c.in-Some-next.passes ∷ c.next-in-loop-object.new.self.rest.items = search rules in
     let cut = columns_cut c.loop-object.object-iterator.rest.items c.next.new.self.rest.items c.in-Some.object
-    c.loop-object.columns.rest.items c.next-in-loop-object.new.self.rest.items c.in-Some-next.passes first second
+    c.loop-object.columns.rest.items c.next-in-loop-object.new.self.rest.items
+    c.in-Some-next.passes first second
     c.loop-object.invariant.0 in
     column_whole c.in-Some.object c.in-Some.object.header.seats c.in-Some-next.passes cut.0
 

@@ -8,12 +8,14 @@ returns-clause-header c =
 
 pub returns-clause-range : goal.returns-clause-range
 returns-clause-range c =
-    let is = object_there c.args.script.now c.objects.result.now.entries c.args.place _ c.objects.ensures.value
+    let is =
+    object_there c.args.script.now c.objects.result.now.entries c.args.place _ c.objects.ensures.value
     c.objects.ensures.limits c.in-Some.ensures.entry in
     is.in_range
 
 pub returns-clause-seats : goal.returns-clause-seats
 returns-clause-seats c =
-    let is = object_there c.args.script.now c.objects.result.now.entries c.args.place _ c.objects.ensures.value
+    let is =
+    object_there c.args.script.now c.objects.result.now.entries c.args.place _ c.objects.ensures.value
     c.objects.ensures.limits c.in-Some.ensures.entry in
     is.seats

@@ -31,7 +31,8 @@ loop-place-preserved c =
     let pushed = c.in_ok-push.ensures.items in (
       ap (map header_of) pushed
           ∙ headers_more c.loop-place.objects.items object (headers_of c.args.script.now) c.loop-place.place
-          c.header_at.result c.loop-place.invariant.0 c.header_at.ensures.header c.in_ok-object.ensures.header,
+          c.header_at.result c.loop-place.invariant.0 c.header_at.ensures.header
+          c.in_ok-object.ensures.header,
       c.in_ok-deal.ensures
           ∙ ap (λ z. dealt z c.loop-place.rows.items) (c.in_ok-object.ensures.passes
           ∙ ap (λ k. opening_passes object (blank object.header) 0 k) c.header_at.ensures.seats)

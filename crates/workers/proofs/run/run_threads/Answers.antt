@@ -99,10 +99,12 @@ returns-clause-report g c =
       headers = c.in_ok-objects.ensures.headers;
       rows = passes_left dones;
       made =
-          all_made answers 0 s.workers (opening_rows objects 0 (length s.workers)) dones c.in_ok-unrecorded.unrecorded worked
+          all_made answers 0 s.workers (opening_rows objects 0 (length s.workers)) dones
+          c.in_ok-unrecorded.unrecorded worked
           c.in_ok-unrecorded.ensures.sum;
       parts =
-          subst (λ z. AreParts objects z c.in_ok-objects-2.objects.items) left c.in_ok-objects-2.ensures.parts;
+          subst (λ z. AreParts objects z c.in_ok-objects-2.objects.items) left
+          c.in_ok-objects-2.ensures.parts;
     }
 
 pub returns-clause-sound : goal.returns-clause-sound
@@ -121,5 +123,6 @@ returns-clause-asked g c =
     let worked = ran answers s c.workers-workers.result.now objects c.in_ok-objects.rows.items dones
     c.workers-workers.ensures.value c.in_ok-objects.ensures.rows (omega (arith, all, fits))
     c.in_ok-worked.ensures.worked.1 in
-    all_let answers 0 s.workers (opening_rows objects 0 (length s.workers)) dones c.in_ok-unrecorded.unrecorded worked
+    all_let answers 0 s.workers (opening_rows objects 0 (length s.workers)) dones
+    c.in_ok-unrecorded.unrecorded worked
     c.in_ok-unrecorded.ensures.sum

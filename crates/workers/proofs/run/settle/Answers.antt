@@ -5,7 +5,8 @@ use Rattle.workers.proofs.run.settle.Goals as goal
 
 pub deal-requires : goal.deal-requires
 deal-requires c =
-    let cut : c.loop-done.done-iterator.rest.items ≡ c.in-Some.done ∷ c.next.new.self.rest.items = search rules in
+    let cut : c.loop-done.done-iterator.rest.items ≡ c.in-Some.done ∷ c.next.new.self.rest.items =
+    search rules in
     first_fits c.args.worked.items c.args.columns.now.items c.loop-done.done-iterator.rest.items
     c.loop-done.columns.items c.loop-done.unrecorded c.in-Some.done c.next.new.self.rest.items cut
     c.loop-done.invariant
@@ -20,14 +21,17 @@ returns-clause-sum c =
 
 pub returns-in-Err-clause-fault : goal.returns-in-Err-clause-fault
 returns-in-Err-clause-fault c =
-    let cut : c.loop-done.done-iterator.rest.items ≡ c.in-Some.done ∷ c.next.new.self.rest.items = search rules in
+    let cut : c.loop-done.done-iterator.rest.items ≡ c.in-Some.done ∷ c.next.new.self.rest.items =
+    search rules in
     inr (first_stops c.args.worked.items c.args.columns.now.items c.loop-done.done-iterator.rest.items
-    c.loop-done.columns.items c.loop-done.unrecorded c.in-Some.done c.next.new.self.rest.items c.in-Err.fault cut
+    c.loop-done.columns.items c.loop-done.unrecorded c.in-Some.done c.next.new.self.rest.items
+    c.in-Err.fault cut
     c.in-Err.is c.loop-done.invariant)
 
 pub loop-done-preserved : goal.loop-done-preserved
 loop-done-preserved c =
-    let cut : c.loop-done.done-iterator.rest.items ≡ c.in-Some.done ∷ c.next.new.self.rest.items = search rules in
+    let cut : c.loop-done.done-iterator.rest.items ≡ c.in-Some.done ∷ c.next.new.self.rest.items =
+    search rules in
     settles_more c.args.worked.items c.args.columns.now.items c.loop-done.done-iterator.rest.items
     c.loop-done.columns.items c.loop-done.unrecorded c.in-Some.done c.next.new.self.rest.items c.in-Ok.count
     c.deal.new.rows.items cut c.in-Ok.is c.in_ok-deal.ensures c.loop-done.invariant

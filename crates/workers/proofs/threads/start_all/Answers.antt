@@ -23,20 +23,25 @@ loop-passes-preserved g c =
     let grown = c.in_ok-push.ensures.len in
     let as_many : length old ≡ k = omega (arith, fewer, capacity) in
     let promise = c.in-Ok.ensures.ok in
-    let worker = slice_get_read c.args.workers.now (length c.args.workers.now) k c.index-workers-place.result refl
+    let worker =
+    slice_get_read c.args.workers.now (length c.args.workers.now) k c.index-workers-place.result refl
     (omega (arith, count, whole)) c.index-workers-place.is in (
       omega (arith, fewer, grown),
       left_more c.args.rows.items k c.in-Some.passes rest left,
       omega (arith, count, whole),
-      each_more (λ n (h : PromisedHandle Worked (Works g.row.G.Denot)). h.promise.gate.now ≡ c.args.gate.now) old
+      each_more (λ n (h : PromisedHandle Worked (Works g.row.G.Denot)). h.promise.gate.now ≡
+          c.args.gate.now) old
           c.in-Ok.handle k all pushed as_many i.3 (ap (λ (p : Works g.row.G.Denot). p.gate.now) promise),
-      each_more (λ n (h : PromisedHandle Worked (Works g.row.G.Denot)). h.promise.seat ≡ n) old c.in-Ok.handle k all
+      each_more (λ n (h : PromisedHandle Worked (Works g.row.G.Denot)). h.promise.seat ≡ n) old
+          c.in-Ok.handle k all
           pushed as_many i.4 (ap (λ (p : Works g.row.G.Denot). p.seat) promise),
       each_more (λ n (h : PromisedHandle Worked (Works g.row.G.Denot)).
-          slice_get c.args.workers.now n ≡ Some h.promise.worker.now) old c.in-Ok.handle k all pushed as_many i.5
+          slice_get c.args.workers.now n ≡ Some h.promise.worker.now) old c.in-Ok.handle k all
+          pushed as_many i.5
           (worker ∙ ap Some (sym (ap (λ (p : Works g.row.G.Denot). p.worker.now) promise))),
       each_more (λ n (h : PromisedHandle Worked (Works g.row.G.Denot)).
-          slice_get c.args.rows.items n ≡ Some h.promise.passes.value) old c.in-Ok.handle k all pushed as_many i.6
+          slice_get c.args.rows.items n ≡ Some h.promise.passes.value) old c.in-Ok.handle k all
+          pushed as_many i.6
           (left_at c.args.rows.items k c.in-Some.passes rest left
           ∙ ap Some (sym (ap (λ (p : Works g.row.G.Denot). p.passes.value) promise ∙ c.of.ensures))),
     )

@@ -9,7 +9,8 @@ pub returns-in-On-clause-same : goal.returns-in-On-clause-same
 returns-in-On-clause-same g c =
     let ps = c.passes.inside.list.items in
     let place : c.in-On.place < length c.args.shared.now.objects.items =
-    subst (λ (z : Call). IsCall (length c.args.shared.now.objects.items) c.args.shared.now.parking z) c.in-On.is c.requires.call in
+    subst (λ (z : Call). IsCall (length c.args.shared.now.objects.items) c.args.shared.now.parking z)
+    c.in-On.is c.requires.call in
     let own = c.requires.own in
     let below : c.in-On.place < length ps =
     place_below ps c.args.shared.now.objects.items c.in-On.place (search rules) place in
@@ -21,12 +22,14 @@ pub returns-in-On-clause-called : goal.returns-in-On-clause-called
 returns-in-On-clause-called g c =
     let ps = c.passes.inside.list.items in
     let place : c.in-On.place < length c.args.shared.now.objects.items =
-    subst (λ (z : Call). IsCall (length c.args.shared.now.objects.items) c.args.shared.now.parking z) c.in-On.is c.requires.call in
+    subst (λ (z : Call). IsCall (length c.args.shared.now.objects.items) c.args.shared.now.parking z)
+    c.in-On.is c.requires.call in
     let below : c.in-On.place < length ps =
     place_below ps c.args.shared.now.objects.items c.in-On.place (search rules) place in
     let here : ps ≡ c.args.passes.now = search rules in
     let count : unrecorded_by c.act-reply.result ≡ c.unrecorded_by.result = search rules in
-    subst (λ z. IsCalled c.args.call z c.unrecorded_by.result (set ps c.in-On.place c.act-reply.new.pass)) here
+    subst (λ z. IsCalled c.args.call z c.unrecorded_by.result
+    (set ps c.in-On.place c.act-reply.new.pass)) here
     (subst (λ z. IsCalled c.args.call ps z (set ps c.in-On.place c.act-reply.new.pass)) count
     (acts_on c.args.call c.in-On.place c.in-On.action ps _ c.act-reply.new.pass c.act-reply.result c.in-On.is
     below c.index_mut-pass.ensures.value c.act-reply.ensures.acted))

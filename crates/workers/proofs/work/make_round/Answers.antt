@@ -18,7 +18,9 @@ loop-call-preserved g c =
       omega (arith, before, few),
       c.make_call-unrecorded.ensures.same ∙ i.2,
       made_next c.args.calls.now c.loop-call.call-index _ c.args.passes.now c.loop-call.unrecorded
-          c.loop-call.passes c.make_call-unrecorded.result c.make_call-unrecorded.new.passes below so_far called,
-      lets_more (g.G.Gate.answers c.args.gate.now) c.args.seat c.loop-call.number c.before-in-loop-call.result allowed
+          c.loop-call.passes c.make_call-unrecorded.result c.make_call-unrecorded.new.passes
+          below so_far called,
+      lets_more (g.G.Gate.answers c.args.gate.now) c.args.seat c.loop-call.number
+          c.before-in-loop-call.result allowed
           c.before-in-loop-call.ensures i.4,
     )

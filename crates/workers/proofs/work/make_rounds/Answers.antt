@@ -22,7 +22,8 @@ loop-preserved g c =
       rounds_more c.loop.counter c.args.worker.now.calls c.calls-calls.result.now c.args.passes.now
           c.loop.unrecorded c.loop.passes c.in_ok-unrecorded.field-0 c.make_round.new.passes here i.3
           c.in_ok-unrecorded.ensures.made,
-      calls_more c.loop.counter (length c.args.worker.now.calls) c.loop.first (length c.calls-calls.result.now) i.4
+      calls_more c.loop.counter (length c.args.worker.now.calls) c.loop.first
+          (length c.calls-calls.result.now) i.4
           as_many,
       c.in_ok-unrecorded.ensures.asked,
     )
@@ -35,9 +36,11 @@ returns-in_err-unrecorded-clause-shut g c =
     let some : c.make_round.result ≡ None = search rules in
     let none : c.from_residual.result ≡ None = search rules in
     let below : c.loop.counter < c.args.worker.now.repeat = search rules in
-    let shut = subst (λ z. IfNone z (StopsBelow answers c.args.seat (c.loop.first + length c.calls-calls.result.now)))
+    let shut = subst
+    (λ z. IfNone z (StopsBelow answers c.args.seat (c.loop.first + length c.calls-calls.result.now)))
     some c.make_round.ensures.shut in
     subst (λ z. IfNone z (StopsBelow answers c.args.seat (calls_of c.args.worker.now))) (sym none)
-    (stops_among answers c.args.seat (c.loop.first + length c.calls-calls.result.now) (calls_of c.args.worker.now)
+    (stops_among answers c.args.seat (c.loop.first + length c.calls-calls.result.now)
+    (calls_of c.args.worker.now)
     (calls_within c.loop.counter c.args.worker.now.repeat calls c.loop.first (length c.calls-calls.result.now)
     c.loop.invariant.4 as_many below) shut)

@@ -7,11 +7,13 @@ returns-in-Lock-clause-drained c k who stands =
 
 pub returns-in-ReadWrite-clause-drained : goal.returns-in-ReadWrite-clause-drained
 returns-in-ReadWrite-clause-drained c k who stands =
-    c.drain-in-ReadWrite.ensures.drained k who (of_rw c.args.self.now c.in-ReadWrite.hooks k c.in-ReadWrite.is stands)
+    c.drain-in-ReadWrite.ensures.drained k who (of_rw c.args.self.now c.in-ReadWrite.hooks k
+    c.in-ReadWrite.is stands)
 
 pub returns-in-Semaphore-clause-drained : goal.returns-in-Semaphore-clause-drained
 returns-in-Semaphore-clause-drained c k who stands =
-    c.drain-in-Semaphore.ensures.drained k who (of_semaphore c.args.self.now c.in-Semaphore.hooks k c.in-Semaphore.is stands)
+    c.drain-in-Semaphore.ensures.drained k who (of_semaphore c.args.self.now c.in-Semaphore.hooks k
+    c.in-Semaphore.is stands)
 
 pub returns-in-Latch-clause-drained : goal.returns-in-Latch-clause-drained
 returns-in-Latch-clause-drained c k who stands =

@@ -11,7 +11,8 @@ returns-in-ReadWrite-clause-word c k stands =
 
 pub returns-in-Semaphore-clause-word : goal.returns-in-Semaphore-clause-word
 returns-in-Semaphore-clause-word c k stands =
-    c.give-in-Semaphore.ensures.word k (of_semaphore c.args.self.now c.in-Semaphore.hooks k c.in-Semaphore.is stands)
+    c.give-in-Semaphore.ensures.word k (of_semaphore c.args.self.now c.in-Semaphore.hooks k
+    c.in-Semaphore.is stands)
 
 pub returns-in-Latch-clause-word : goal.returns-in-Latch-clause-word
 returns-in-Latch-clause-word c k stands =

@@ -10,7 +10,8 @@ note-requires-clause-movable c =
     let r = c.requires.seat in
     let seats = r.stand.holding.exclusive_seats in
     let few = r.room in
-    next_movable r.start r.front c.args.entry c.args.self.now r.stand (c.requires.next r.start r.front r.stand)
+    next_movable r.start r.front c.args.entry c.args.self.now r.stand
+    (c.requires.next r.start r.front r.stand)
     (let seat = r.exclusive in omega (arith, seat, seats)) (omega (arith, few))
 
 pub returns : goal.returns

@@ -22,7 +22,8 @@ returns-in_err-read_line-clause-next g c =
     let held = c.self.inside in
     let passed = c.from_residual in
     let failed = c.in_err-read_line.ensures in
-    rw (← c.self.view_is) (read_failed history_form (entries_so_far held.header held.count held.calls) held.window.bytes
+    rw (← c.self.view_is) (read_failed history_form (entries_so_far held.header held.count held.calls)
+    held.window.bytes
     (g.R.Source.left c.args.reader.now) (g.R.Source.left c.read_line.new.reader) passed.result _
     c.in_err-read_line.field-0.0 passed.ensures failed.kinds
     (λ e. failed.memory (ap (λ (f : StreamFault). Err f) e)))
@@ -38,7 +39,8 @@ returns-in_err-entry-clause-next g c =
     let is = rw c.bytes.ensures.bytes at c.in_err-entry.ensures.line in
     let cut = rw c.bytes.ensures.bytes at c.in_err-entry.ensures.cut in
     let passed = c.from_residual-in_err-entry in
-    rw (← c.self.view_is) (next_failed history_form (entries_so_far held.header held.count held.calls) held.window.bytes
+    rw (← c.self.view_is) (next_failed history_form (entries_so_far held.header held.count held.calls)
+    held.window.bytes
     c.read_line.new.self.bytes (g.R.Source.left c.args.reader.now) (g.R.Source.left c.read_line.new.reader)
     passed.result _ c.in_err-entry.field-0.0 passed.ensures lawful short c.in_ok-read_line.ensures.ahead is
     (λ e. c.in_ok-read_line.ensures.whole (cut (ap (λ (f : TextFault). Err f) e))))
@@ -46,12 +48,15 @@ returns-in_err-entry-clause-next g c =
 pub returns-in_err-entry-clause-stands : goal.returns-in_err-entry-clause-stands
 returns-in_err-entry-clause-stands g c =
     let passed = c.from_residual-in_err-entry in
-    rw (← c.self.view_is) (stands_failed _ _ _ _ passed.result passed.ensures.0 c.in_ok-read_line.ensures.ahead)
+    rw (← c.self.view_is) (stands_failed _ _ _ _ passed.result passed.ensures.0
+    c.in_ok-read_line.ensures.ahead)
 
 pub end-requires-clause-end : goal.end-requires-clause-end
 end-requires-clause-end g c =
     let held = c.self.inside in
-    ended_short _ held.count held.calls (few_entries held.header held.count c.self.invariant.2 c.self.invariant.0) (few_calls held.header held.count held.calls c.self.invariant.2 c.self.invariant.0 c.self.invariant.1)
+    ended_short _ held.count held.calls (few_entries held.header held.count c.self.invariant.2
+    c.self.invariant.0) (few_calls held.header held.count held.calls c.self.invariant.2 c.self.invariant.0
+    c.self.invariant.1)
     ((rw (c.in_default.is, c.bytes.ensures.bytes) at c.in_ok-entry.ensures.last) refl)
 
 pub returns-in_default-clause-next : goal.returns-in_default-clause-next
@@ -63,8 +68,12 @@ returns-in_default-clause-next g c =
     let last = (rw (c.in_default.is, c.bytes.ensures.bytes) at c.in_ok-entry.ensures.last) refl in
     let keeps =
     end_kept held.window.bytes window (counts_line held.count held.calls) (g.R.Source.left c.args.reader.now)
-    (g.R.Source.left c.read_line.new.reader) c.in_ok-read_line.ensures.ahead last (counts_short held.count held.calls (few_entries held.header held.count c.self.invariant.2 c.self.invariant.0) (few_calls held.header held.count held.calls c.self.invariant.2 c.self.invariant.0 c.self.invariant.1)) in
-    rw (← c.self.view_is) (next_kept history_form so_far _ _ c.end.result _ (g.R.Source.left c.end.new.reader) keeps
+    (g.R.Source.left c.read_line.new.reader) c.in_ok-read_line.ensures.ahead last
+    (counts_short held.count held.calls (few_entries held.header held.count c.self.invariant.2
+    c.self.invariant.0) (few_calls held.header held.count held.calls c.self.invariant.2 c.self.invariant.0
+    c.self.invariant.1)) in
+    rw (← c.self.view_is) (next_kept history_form so_far _ _ c.end.result _
+    (g.R.Source.left c.end.new.reader) keeps
     (ended_here history_form so_far window c.end.new.self.bytes (g.R.Source.left c.read_line.new.reader)
     (g.R.Source.left c.end.new.reader) c.end.result _ is c.end.ensures.behind c.end.ensures.stays))
 
@@ -75,7 +84,10 @@ returns-in_default-clause-stands g c =
     let last = (rw (c.in_default.is, c.bytes.ensures.bytes) at c.in_ok-entry.ensures.last) refl in
     let keeps =
     end_kept held.window.bytes window (counts_line held.count held.calls) (g.R.Source.left c.args.reader.now)
-    (g.R.Source.left c.read_line.new.reader) c.in_ok-read_line.ensures.ahead last (counts_short held.count held.calls (few_entries held.header held.count c.self.invariant.2 c.self.invariant.0) (few_calls held.header held.count held.calls c.self.invariant.2 c.self.invariant.0 c.self.invariant.1)) in
+    (g.R.Source.left c.read_line.new.reader) c.in_ok-read_line.ensures.ahead last
+    (counts_short held.count held.calls (few_entries held.header held.count c.self.invariant.2
+    c.self.invariant.0) (few_calls held.header held.count held.calls c.self.invariant.2 c.self.invariant.0
+    c.self.invariant.1)) in
     rw (← c.self.view_is) (stands_behind held.window.bytes window c.end.new.self.bytes
     (g.R.Source.left c.args.reader.now) (g.R.Source.left c.read_line.new.reader)
     (g.R.Source.left c.end.new.reader) c.end.result keeps c.end.ensures.stays)
@@ -97,7 +109,8 @@ returns-clause-next g c = rw (← c.self.view_is) (λ text entries were.
     let is = rw (c.in-Some.is, c.bytes.ensures.bytes) at c.in_ok-entry.ensures.line in
     let window = c.read_line.new.self.bytes in
     let keeps =
-    item_kept history_form so_far held.window.bytes window (g.R.Source.left c.args.reader.now) (g.R.Source.left c.read_line.new.reader)
+    item_kept history_form so_far held.window.bytes window (g.R.Source.left c.args.reader.now)
+    (g.R.Source.left c.read_line.new.reader)
     e c.in-Some.left short c.self.invariant.2 c.in_ok-read_line.ensures.ahead is in
     let here = kept history_form text so_far _ _ entries keeps were in
     rw c.pass.ensures

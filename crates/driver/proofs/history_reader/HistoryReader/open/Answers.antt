@@ -10,7 +10,8 @@ use Rattle.driver.proofs.history_reader.HistoryReader.open.Goals as goal
 
 pub returns-in_err-window-clause-err : goal.returns-in_err-window-clause-err
 returns-in_err-window-clause-err g c =
-    open_refused history_form (g.R.Source.left c.args.reader.now) c.from_residual.result c.from_residual.ensures
+    open_refused history_form (g.R.Source.left c.args.reader.now) c.from_residual.result
+    c.from_residual.ensures
 
 pub returns-in_err-read_line-clause-err : goal.returns-in_err-read_line-clause-err
 returns-in_err-read_line-clause-err g c =

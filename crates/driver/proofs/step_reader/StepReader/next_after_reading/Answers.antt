@@ -37,7 +37,8 @@ returns-in_err-step-clause-next g c =
 pub returns-in_err-step-clause-stands : goal.returns-in_err-step-clause-stands
 returns-in_err-step-clause-stands g c =
     let passed = c.from_residual-in_err-step in
-    rw (← c.self.view_is) (stands_failed _ _ _ _ passed.result passed.ensures.0 c.in_ok-read_line.ensures.ahead)
+    rw (← c.self.view_is) (stands_failed _ _ _ _ passed.result passed.ensures.0
+    c.in_ok-read_line.ensures.ahead)
 
 pub end-requires-clause-end : goal.end-requires-clause-end
 end-requires-clause-end g c =
@@ -54,8 +55,10 @@ returns-in_default-clause-next g c =
     let last = (rw (c.in_default.is, c.bytes.ensures.bytes) at c.in_ok-step.ensures.last) refl in
     let keeps =
     end_kept held.window.bytes window (end_line held.count) (g.R.Source.left c.args.reader.now)
-    (g.R.Source.left c.read_line.new.reader) c.in_ok-read_line.ensures.ahead last (end_short held.count (omega (arith, c.self.invariant.0))) in
-    rw (← c.self.view_is) (next_kept steps_form so_far _ _ c.end.result _ (g.R.Source.left c.end.new.reader) keeps
+    (g.R.Source.left c.read_line.new.reader) c.in_ok-read_line.ensures.ahead last
+    (end_short held.count (omega (arith, c.self.invariant.0))) in
+    rw (← c.self.view_is) (next_kept steps_form so_far _ _ c.end.result _
+    (g.R.Source.left c.end.new.reader) keeps
     (ended_here steps_form so_far window c.end.new.self.bytes (g.R.Source.left c.read_line.new.reader)
     (g.R.Source.left c.end.new.reader) c.end.result _ is c.end.ensures.behind c.end.ensures.stays))
 
@@ -66,7 +69,8 @@ returns-in_default-clause-stands g c =
     let last = (rw (c.in_default.is, c.bytes.ensures.bytes) at c.in_ok-step.ensures.last) refl in
     let keeps =
     end_kept held.window.bytes window (end_line held.count) (g.R.Source.left c.args.reader.now)
-    (g.R.Source.left c.read_line.new.reader) c.in_ok-read_line.ensures.ahead last (end_short held.count (omega (arith, c.self.invariant.0))) in
+    (g.R.Source.left c.read_line.new.reader) c.in_ok-read_line.ensures.ahead last
+    (end_short held.count (omega (arith, c.self.invariant.0))) in
     rw (← c.self.view_is) (stands_behind held.window.bytes window c.end.new.self.bytes
     (g.R.Source.left c.args.reader.now) (g.R.Source.left c.read_line.new.reader)
     (g.R.Source.left c.end.new.reader) c.end.result keeps c.end.ensures.stays)
@@ -89,7 +93,8 @@ returns-in_err-pass-clause-next g c =
     rw (← c.self.view_is) (not_counted steps_form so_far held.window.bytes window
     (g.R.Source.left c.args.reader.now) (g.R.Source.left c.read_line.new.reader) passed.result _
     c.in_err-pass.field-0.0 passed.ensures c.in_err-pass.ensures.err few
-    (item_kept steps_form so_far held.window.bytes window (g.R.Source.left c.args.reader.now) (g.R.Source.left c.read_line.new.reader)
+    (item_kept steps_form so_far held.window.bytes window (g.R.Source.left c.args.reader.now)
+    (g.R.Source.left c.read_line.new.reader)
     c.in-Some.step c.in-Some.left short c.self.invariant.1 c.in_ok-read_line.ensures.ahead is))
 
 pub returns-in_err-pass-clause-stands : goal.returns-in_err-pass-clause-stands
@@ -105,7 +110,8 @@ returns-clause-next g c = rw (← c.self.view_is) (λ text steps were.
     let window = c.read_line.new.self.bytes in
     let is = rw (c.in-Some.is, c.bytes.ensures.bytes) at c.in_ok-step.ensures.line in
     let keeps =
-    item_kept steps_form so_far held.window.bytes window (g.R.Source.left c.args.reader.now) (g.R.Source.left c.read_line.new.reader)
+    item_kept steps_form so_far held.window.bytes window (g.R.Source.left c.args.reader.now)
+    (g.R.Source.left c.read_line.new.reader)
     c.in-Some.step c.in-Some.left short c.self.invariant.1 c.in_ok-read_line.ensures.ahead is in
     let here = kept steps_form text so_far _ _ steps keeps were in
     rw c.in_ok-pass.ensures.ok

@@ -18,7 +18,8 @@ invariant_of-result g c =
     let table = c.in_ok-table.table.items in
     let filled : table ≡ replicate c.args.seats c.free.result =
     c.in_ok-table.ensures.items_if_clones_equal (λ y q. search rules) in
-    let free : table ≡ replicate c.args.seats no_holds = filled ∙ ap (replicate c.args.seats) c.free.ensures in
+    let free : table ≡ replicate c.args.seats no_holds =
+    filled ∙ ap (replicate c.args.seats) c.free.ensures in
     rw c.object.ensures
     (opening_stands (g.H.Hooks.agrees c.args.hooks) k c.open-3.result queue waiters table c.requires.range
     (g.met.H.Hooks.opens c.args.hooks c.args.seats c.requires.opened) c.open-3.ensures

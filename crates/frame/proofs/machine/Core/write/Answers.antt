@@ -59,7 +59,10 @@ move_waiters-requires g c =
     let s = c.self.invariant in
     let n = next_seen k a.history e _ s c.self.view_is c.requires in
     let short : length h < 4294967296 = let r = s.room in let c = s.range.cap in omega (arith, r, c) in
-    record { movable = movable k h e a.queue a.waiters s.waiting s.range s.legal s.seated short n.seat n.known }
+    record {
+      movable =
+          movable k h e a.queue a.waiters s.waiting s.range s.legal s.seated short n.seat n.known;
+    }
 
 pub update-requires-clause-exclusive : goal.update-requires-clause-exclusive
 update-requires-clause-exclusive g c =
@@ -80,7 +83,8 @@ update-requires-clause-shared g c =
     let s = c.self.invariant in
     let n = next_seen k a.history e _ s c.self.view_is c.requires in
     let short : length h ≤ k.cap = let r = s.room in omega (arith, r) in
-    shared_next k h e _ s.range n.legal n.seated short (tabled k h a.seats.items s.seats s.tabled e.seat n.seat)
+    shared_next k h e _ s.range n.legal n.seated short (tabled k h a.seats.items s.seats
+    s.tabled e.seat n.seat)
 
 pub invariant_of-self-2 : goal.invariant_of-self-2
 invariant_of-self-2 g c =

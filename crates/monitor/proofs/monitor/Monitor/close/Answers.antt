@@ -24,7 +24,8 @@ returns-then-len-self-clause-missing g c =
     let seats : c.self.inside.seats ≡ c.args.self.header.seats =
     c.self.invariant.0 ∙ ap (λ (l : LockId). l.header.seats) c.self.view_is in
     let true : All (λ (p : Shown). IsTrue p) c.args.passes.items =
-    subst (λ (l : List Shown). All (λ p. IsTrue p) l) c.deref.ensures.value c.merge_shares-share.ensures.shows in
+    subst (λ (l : List Shown). All (λ p. IsTrue p) l) c.deref.ensures.value
+    c.merge_shares-share.ensures.shows in
     let few : length c.args.passes.items < c.self.inside.seats = search rules in (
       refl,
       some_missing c.args.self.header.seats c.args.passes.items
@@ -37,7 +38,8 @@ loop-pass-init g c =
     let own = all_last (λ (q : Shown). q.lock ≡ c.args.self) c.args.passes.items c.pop.new.self.items p
     c.in-Some.ensures.items c.requires.is_of in
     let here : All (λ (q : Shown). q.lock ≡ c.self.inside.lock) c.pop.new.self.items =
-    subst (λ (k : LockId). All (λ (q : Shown). q.lock ≡ k) c.pop.new.self.items) (sym c.self.view_is) own.0 in (
+    subst (λ (k : LockId). All (λ (q : Shown). q.lock ≡ k) c.pop.new.self.items)
+    (sym c.self.view_is) own.0 in (
       t.lock.0 ∙ (own.1 ∙ sym c.self.view_is),
       t.lock.1,
       (
@@ -55,7 +57,8 @@ loop-pass-init g c =
 pub join-joined-requires-clause-own : goal.join-joined-requires-clause-own
 join-joined-requires-clause-own g c =
     let own = all_last (λ (q : Shown). q.lock ≡ c.self.inside.lock) c.loop-pass.passes.items
-    c.pop-in-loop-pass.new.self.items c.in-Some-pop.pass c.in-Some-pop.ensures.items c.loop-pass.invariant.3 in
+    c.pop-in-loop-pass.new.self.items c.in-Some-pop.pass c.in-Some-pop.ensures.items
+    c.loop-pass.invariant.3 in
     (c.into_token.ensures.lock.0 ∙ own.1, c.loop-pass.invariant.0)
 
 pub loop-pass-preserved : goal.loop-pass-preserved
@@ -68,7 +71,8 @@ loop-pass-preserved g c =
       j.token.1,
       (
         p ∷ i.2.0,
-        i.2.1 ∙ (ap (λ (l : List Shown). l ++ i.2.0) c.in-Some-pop.ensures.items ∙ append_assoc left (p ∷ []) i.2.0),
+        i.2.1 ∙ (ap (λ (l : List Shown). l ++ i.2.0) c.in-Some-pop.ensures.items ∙ append_assoc left
+            (p ∷ []) i.2.0),
         j.token.2 ∙ (ap (λ (l : List SeatLog). l ++ c.loop-pass.joined.logs) t.log
             ∙ ap (λ (l : List SeatLog). log_of p ∷ l) i.2.2),
         All-cons (λ (q : Shown). Before q.seen c.join-joined.result.seen) p i.2.0
@@ -97,7 +101,8 @@ ends g c =
     let is : core ≡ q =
     shown_as core c.args.self.header c.into_history-history.result.entries
     (c.close-kept.ensures.header ∙ ap (λ (l : LockId). l.header) c.self.view_is)
-    (ap (λ (v : CoreView). v.entries) (sym c.into_core-core.ensures) ∙ sym c.into_history-history.ensures.entries) in
+    (ap (λ (v : CoreView). v.entries) (sym c.into_core-core.ensures) ∙ sym
+    c.into_history-history.ensures.entries) in
     let logs : c.loop-pass.joined.logs ≡ logs_of ps = i.2.2 ∙ ap logs_of (sym all) in
     let lawful : IsLawful q = subst IsLawful is c.close-kept.ensures.fact in
     let seen : All (λ (p : Shown). Before p.seen c.loop-pass.joined.seen) ps =
@@ -106,13 +111,15 @@ ends g c =
     all_agree q ps (subst (λ (z : Point). AllAgree z (logs_of ps)) is
     (subst (λ (l : List SeatLog). AllAgree core l) logs c.close-kept.ensures.entries)) in
     let true : All (λ (p : Shown). IsTrue p) ps =
-    subst (λ (l : List Shown). All (λ p. IsTrue p) l) c.deref.ensures.value c.merge_shares-share.ensures.shows in
+    subst (λ (l : List Shown). All (λ p. IsTrue p) l) c.deref.ensures.value
+    c.merge_shares-share.ensures.shows in
     let seats : c.self.inside.seats ≡ c.args.self.header.seats =
     c.self.invariant.0 ∙ ap (λ (l : LockId). l.header.seats) c.self.view_is in
     let many : c.self.inside.seats ≤ length ps = search rules in
     let each : (i : ℕ) → i < c.args.self.header.seats → passes_of i ps ≡ 1 =
     each_once c.args.self.header.seats ps (seats_below c.args.self ps true c.requires.is_of)
-    (none_twice ps (subst AreDistinct logs c.close-kept.ensures.distinct)) (omega (arith, many, seats)) in record {
+    (none_twice ps (subst AreDistinct logs c.close-kept.ensures.distinct))
+    (omega (arith, many, seats)) in record {
       header = refl;
       lawful = lawful;
       seen = all_seen c.loop-pass.joined.seen q ps
@@ -122,7 +129,8 @@ ends g c =
       calls = shares_are_calls (opening c.args.self.header) q ps lawful.seated each true agree;
     }
 
-sum_is : (g : _) (c : goal.After-len-few g) → c.merge_shares-share.result ≡ ended_calls c.into_history-history.result.entries
+sum_is : (g : _) (c : goal.After-len-few g) → c.merge_shares-share.result ≡
+    ended_calls c.into_history-history.result.entries
 sum_is g c = c.merge_shares-share.ensures.sum ∙ (ap shares c.deref.ensures.value ∙ (ends g c).calls)
 
 pub overflow_cast-result : goal.overflow_cast-result
@@ -143,7 +151,8 @@ returns-clause-cap g c =
     let is : c.into_core-core.result.header ≡ c.close-kept.result.core.value.header =
     ap (λ (v : CoreView). v.header) c.into_core-core.ensures in
     c.into_history-history.ensures.cap
-    ∙ ap (λ (k : Header). k.cap) (is ∙ (sym (header_shown (point_of c.close-kept.result.core.value)) ∙ header))
+    ∙ ap (λ (k : Header). k.cap)
+    (is ∙ (sym (header_shown (point_of c.close-kept.result.core.value)) ∙ header))
 
 pub returns-clause-each : goal.returns-clause-each
 returns-clause-each g c = (ends g c).each

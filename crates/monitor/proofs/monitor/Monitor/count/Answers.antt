@@ -8,10 +8,12 @@ use Rattle.monitor.proofs.monitor.Monitor.count.Goals as goal
 pub unlock-requires-clause-follows : goal.unlock-requires-clause-follows
 unlock-requires-clause-follows g c =
     let p = point_of c.lock-held.result.value.core.value in
-    follows_taken _ c.pass.inside.token p p c.pass.inside.seat c.lock-held.ensures.taken.1 c.pass.invariant.seat_is
+    follows_taken _ c.pass.inside.token p p c.pass.inside.seat c.lock-held.ensures.taken.1
+    c.pass.invariant.seat_is
     (follows_same c.pass.inside.seat p)
 
-looks : (g : _) (c : goal.After-unlock g) → Look c.pass.inside.token (held_ticket c.lock-held.result) c.unlock.new.token
+looks : (g : _) (c : goal.After-unlock g) → Look c.pass.inside.token (held_ticket c.lock-held.result)
+    c.unlock.new.token
     (point_of c.lock-held.result.value.core.value) c.pass.inside.seat c.pass.inside.share
 looks g c = record {
   taken = c.lock-held.ensures.taken.1;

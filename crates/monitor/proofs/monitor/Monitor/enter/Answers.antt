@@ -10,4 +10,5 @@ pub unreachable-requires : goal.unreachable-requires
 unreachable-requires g c =
     let is : c.call.result ≡ Ok Sleep = search rules in
     no_sleep c.args.pass.now c.call.new.pass c.args.step c.requires.idle
-    (subst (λ (z : Result Answer Fault). IsStep c.args.pass.now c.args.step z c.call.new.pass) is c.call.ensures.stepped)
+    (subst (λ (z : Result Answer Fault). IsStep c.args.pass.now c.args.step z c.call.new.pass) is
+    c.call.ensures.stepped)

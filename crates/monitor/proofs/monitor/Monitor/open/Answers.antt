@@ -8,26 +8,31 @@ use Rattle.monitor.specs.Shown.{Shown}
 use Rattle.monitor.proofs.Opening.{shows_blank, header_shown, opening_own}
 use Rattle.monitor.proofs.monitor.Monitor.open.Goals as goal
 
-header_is : (g : _) (c : goal.After-passes-in-Ok-1 g) → c.in-Ok.lock.header ≡ c.in_ok-kept.kept.core.value.header
+header_is : (g : _) (c : goal.After-passes-in-Ok-1 g) → c.in-Ok.lock.header ≡
+    c.in_ok-kept.kept.core.value.header
 header_is g c = c.in-Ok.ensures.header ∙ header_shown (point_of c.in_ok-kept.kept.core.value)
 
-point_is : (g : _) (c : goal.After-passes-in-Ok-1 g) → point_of c.in_ok-kept.kept.core.value ≡ blank c.in-Ok.lock.header
+point_is : (g : _) (c : goal.After-passes-in-Ok-1 g) → point_of c.in_ok-kept.kept.core.value ≡
+    blank c.in-Ok.lock.header
 point_is g c =
-    shows_blank (point_of c.in_ok-kept.kept.core.value) c.in-Ok.lock.header (sym c.in-Ok.ensures.header) c.in_ok-kept.ensures.empty
+    shows_blank (point_of c.in_ok-kept.kept.core.value) c.in-Ok.lock.header (sym c.in-Ok.ensures.header)
+    c.in_ok-kept.ensures.empty
 
 pub give_passes-requires-clause-tokens : goal.give_passes-requires-clause-tokens
 give_passes-requires-clause-tokens g c =
     c.in-Ok.ensures.tokens ∙ ap (λ (p : Point). opening_tickets c.in-Ok.lock p 0 c.args.seats) (point_is g c)
 
 pub give_passes-requires-clause-seats : goal.give_passes-requires-clause-seats
-give_passes-requires-clause-seats g c = ap (λ (k : Header). k.seats) (header_is g c ∙ c.in_ok-kept.ensures.header)
+give_passes-requires-clause-seats g c =
+    ap (λ (k : Header). k.seats) (header_is g c ∙ c.in_ok-kept.ensures.header)
 
 pub give_passes-requires-clause-lawful : goal.give_passes-requires-clause-lawful
 give_passes-requires-clause-lawful g c = subst IsLawful (point_is g c) c.in_ok-kept.ensures.lawful
 
 pub returns-in-Ok-clause-header : goal.returns-in-Ok-clause-header
 returns-in-Ok-clause-header g c =
-    c.in-Ok.ensures.header ∙ (header_shown (point_of c.in_ok-kept.kept.core.value) ∙ c.in_ok-kept.ensures.header)
+    c.in-Ok.ensures.header ∙ (header_shown (point_of c.in_ok-kept.kept.core.value) ∙
+    c.in_ok-kept.ensures.header)
 
 pub returns-in-Ok-clause-own : goal.returns-in-Ok-clause-own
 returns-in-Ok-clause-own g c =
@@ -37,6 +42,7 @@ returns-in-Ok-clause-own g c =
 pub invariant_of-result : goal.invariant_of-result
 invariant_of-result g c =
     let header =
-    c.in-Ok.ensures.header ∙ (header_shown (point_of c.in_ok-kept.kept.core.value) ∙ c.in_ok-kept.ensures.header) in
+    c.in-Ok.ensures.header ∙ (header_shown (point_of c.in_ok-kept.kept.core.value) ∙
+    c.in_ok-kept.ensures.header) in
     let some : 1 ≤ c.args.seats = c.requires.range.some_seat in
     (sym (ap (λ (k : Header). k.seats) header), omega (arith, some))

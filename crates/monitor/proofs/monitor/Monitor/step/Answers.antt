@@ -11,14 +11,17 @@ pub step-answer-requires : goal.step-answer-requires
 step-answer-requires g c =
     let of : c.self.inside.lock ≡ c.pass.inside.token.lock =
     c.self.view_is ∙ (sym c.requires.is_of ∙ ap (λ (s : Shown). s.lock) (sym c.pass.view_is)) in
-    seat_below (point_of c.lock-held.result.value.core.value) _ c.pass.inside.token.lock.header c.pass.inside.seat
+    seat_below (point_of c.lock-held.result.value.core.value) _ c.pass.inside.token.lock.header
+    c.pass.inside.seat
     c.lock-held.ensures.header (ap (λ (l : LockId). l.header) of)
     c.pass.invariant.below
 
 pub unlock-requires-clause-follows : goal.unlock-requires-clause-follows
 unlock-requires-clause-follows g c =
-    follows_taken _ c.pass.inside.token _ _ c.pass.inside.seat c.lock-held.ensures.taken.1 c.pass.invariant.seat_is
-    (follows_step c.pass.inside.seat (point_of c.lock-held.result.value.core.value) (point_of c.step-answer.new.self.core.value)
+    follows_taken _ c.pass.inside.token _ _ c.pass.inside.seat c.lock-held.ensures.taken.1
+    c.pass.invariant.seat_is
+    (follows_step c.pass.inside.seat (point_of c.lock-held.result.value.core.value)
+    (point_of c.step-answer.new.self.core.value)
     c.lock-held.result.value.core.value.places c.step-answer.new.self.core.value.places c.args.step
     c.step-answer.result c.step-answer.ensures.answered)
 
@@ -27,8 +30,10 @@ share_behind-pass-inside-requires g c =
     share_few c.pass.inside.token.seen c.pass.inside.seat _ c.pass.inside.share c.pass.invariant.agrees
     c.pass.invariant.lawful.short c.pass.invariant.counted
 
-went : (g : _) (c : goal.After-pass-1 g) → Section c.pass.inside.token (held_ticket c.lock-held.result) c.unlock.new.token
-    (point_of c.lock-held.result.value.core.value) (point_of c.step-answer.new.self.core.value) c.pass.inside.seat c.pass.inside.share
+went : (g : _) (c : goal.After-pass-1 g) → Section c.pass.inside.token (held_ticket c.lock-held.result)
+    c.unlock.new.token
+    (point_of c.lock-held.result.value.core.value) (point_of c.step-answer.new.self.core.value)
+    c.pass.inside.seat c.pass.inside.share
     c.args.step c.step-answer.result
 went g c = record {
   taken = c.lock-held.ensures.taken.1;

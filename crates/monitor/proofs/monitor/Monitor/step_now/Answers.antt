@@ -17,8 +17,10 @@ step-answer-requires g c =
 
 pub unlock-requires-clause-follows : goal.unlock-requires-clause-follows
 unlock-requires-clause-follows g c =
-    follows_taken _ c.pass.inside.token _ _ c.pass.inside.seat c.in-Some.ensures.taken.1 c.pass.invariant.seat_is
-    (follows_step c.pass.inside.seat (point_of c.in-Some.held.value.core.value) (point_of c.step-answer.new.self.core.value)
+    follows_taken _ c.pass.inside.token _ _ c.pass.inside.seat c.in-Some.ensures.taken.1
+    c.pass.invariant.seat_is
+    (follows_step c.pass.inside.seat (point_of c.in-Some.held.value.core.value)
+    (point_of c.step-answer.new.self.core.value)
     c.in-Some.held.value.core.value.places c.step-answer.new.self.core.value.places c.args.step
     c.step-answer.result c.step-answer.ensures.answered)
 
@@ -27,8 +29,10 @@ share_behind-pass-inside-requires g c =
     share_few c.pass.inside.token.seen c.pass.inside.seat _ c.pass.inside.share c.pass.invariant.agrees
     c.pass.invariant.lawful.short c.pass.invariant.counted
 
-went : (g : _) (c : goal.After-done g) → Section c.pass.inside.token (held_ticket c.in-Some.held) c.unlock.new.token
-    (point_of c.in-Some.held.value.core.value) (point_of c.step-answer.new.self.core.value) c.pass.inside.seat c.pass.inside.share
+went : (g : _) (c : goal.After-done g) → Section c.pass.inside.token (held_ticket c.in-Some.held)
+    c.unlock.new.token
+    (point_of c.in-Some.held.value.core.value) (point_of c.step-answer.new.self.core.value) c.pass.inside.seat
+    c.pass.inside.share
     c.args.step c.step-answer.result
 went g c = record {
   taken = c.in-Some.ensures.taken.1;
@@ -48,7 +52,8 @@ invariant_of-pass-2 g c = section_pass _ _ _ _ _ _ _ _ _ (went g c) _ c.share_be
 
 pub returns-clause-stepped : goal.returns-clause-stepped
 returns-clause-stepped g c =
-    as_step_now _ _ c.args.step c.step-answer.result _ c.done.ensures (rw (← c.pass.view_is) (section_step _ _ _ _ _ _ _ _ _ (went g c) _ c.step-answer.ensures.owed))
+    as_step_now _ _ c.args.step c.step-answer.result _ c.done.ensures
+    (rw (← c.pass.view_is) (section_step _ _ _ _ _ _ _ _ _ (went g c) _ c.step-answer.ensures.owed))
 
 pub returns-clause-shows : goal.returns-clause-shows
 returns-clause-shows g c = section_true _ _ _ _ _ _ _ _ _ (went g c) _ c.share_behind-pass-inside.ensures

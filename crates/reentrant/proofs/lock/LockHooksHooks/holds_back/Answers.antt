@@ -10,7 +10,8 @@ and_true false = refl
 pub returns-in-Fair : goal.returns-in-Fair
 returns-in-Fair c k h =
     let s = c.args.self.now in
-    let e = held_back_is s.policy s.owner s.holds k s.owned h (line_mode c.args.line) c.args.who c.args._mode in
+    let e =
+    held_back_is s.policy s.owner s.holds k s.owned h (line_mode c.args.line) c.args.who c.args._mode in
     let blocked = and_true (not c.owns.result) in
     let by = rw c.owns.ensures at blocked in
     ap not c.owns.ensures

@@ -13,4 +13,5 @@ returns-clause-text c =
     let part = c.args.part in
     rw (c.in_ok-head.ensures.ok, c.in_ok-foot.ensures.ok, c.new-answers.ensures)
     (part_is (ended (name_line c.args.name.now)) part.header part.history.entries
-    (audit_text part.header part.history.entries (verdict_of part.judgement)) (ended (shares_line part.share)))
+    (audit_text part.header part.history.entries (verdict_of part.judgement))
+    (ended (shares_line part.share)))

@@ -7,6 +7,7 @@ abbrev pub invariant-loop-part : goal.invariant-loop-part
 invariant-loop-part g l = record {
   going : g.W.Sink.failed l.writer ≡ false;
   none : l.lines.bytes ≡ [];
-  written : Appends (g.W.Sink.held l.fn.writer) (g.W.Sink.held l.writer) (concat (take l.part-index l.part-items));
+  written : Appends (g.W.Sink.held l.fn.writer) (g.W.Sink.held l.writer)
+      (concat (take l.part-index l.part-items));
   whole : l.fn.self ≡ concat l.part-items ++ l.last.items;
 }

@@ -1,5 +1,5 @@
 use Rattle.std.proofs.Common.{◌≡◌, ◌≤◌, false, length}
-use Rattle.history.specs.Text.{IsLine}
+use Rattle.history.specs.Text.{HasNoBreak}
 use Rattle.streams.specs.Window.{IsFrontAhead, kept_of_line}
 use Rattle.streams.proofs.Pieces.{HasRead}
 use Rattle.streams.proofs.window.Window.read_line.Given as goal
@@ -11,5 +11,5 @@ invariant-loop g l = record {
   few : length l.self.bytes ≤ kept_of_line;
   places : l.self.places ≡ l.fn.self.places;
   read : HasRead (g.R.Source.left l.fn.reader) (g.R.Source.left l.reader) l.counter;
-  one_line : IsLine l.fn.self.bytes;
+  one_line : HasNoBreak l.fn.self.bytes;
 }

@@ -8,7 +8,8 @@ use Rattle.history_text.specs.HistoryText.{history_form}
 use Rattle.line_text.specs.Form.{AreItems}
 use Rattle.test_texts.proofs.streaming.audits.written_again.Goals as goal
 
-items_spelt : (h : Header) (k : ℕ) (xs : List Entry) → AreItems history_form h k xs → AllByRecursion IsSpelt xs
+items_spelt : (h : Header) (k : ℕ) (xs : List Entry) → AreItems history_form h k xs →
+    AllByRecursion IsSpelt xs
 items_spelt h k [] p = tt
 items_spelt h k (x ∷ xs) p = (p.0.1.written.words, items_spelt h (k + 1) xs p.1)
 
