@@ -55,8 +55,7 @@ same_counts s h e w holds permits count =
       object = s.header.object;
       seats = s.header.seats;
       held = f i;
-      free =
-          permits i;
+      free = permits i;
       count = c i;
     }
 

@@ -24,8 +24,7 @@ state_of s =
       policy = s.policy;
       owner = s.owner;
       writes = s.writes;
-      reads =
-          s.reads.items;
+      reads = s.reads.items;
       readers = s.readers;
     }
 
