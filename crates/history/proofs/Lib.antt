@@ -16,6 +16,7 @@ pub mod Sums
 pub mod Changes
 pub mod Entering
 pub mod Times
+pub mod Asking
 pub mod SleepLemmas
 pub mod Owners
 pub mod OneWait

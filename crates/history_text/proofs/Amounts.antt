@@ -25,6 +25,7 @@ use Rattle.history.specs.Sleepers.{sleepers, last_sleep}
 use Rattle.history.specs.Start.{Start, opening}
 use Rattle.history.specs.Steps.{at_least_none, at_most_one}
 use Rattle.history.specs.Waiting.{asleep}
+use Rattle.history.proofs.Asking.{asked_few, AsksFew, line_few}
 use Rattle.history.proofs.Entering.{KnownBy, known}
 use Rattle.history.proofs.LineLemmas.{line_after, stays}
 use Rattle.history.proofs.OneWait.{Saved, Waits, waits, placed, lapsing}
@@ -34,35 +35,6 @@ use Rattle.history.proofs.Times.{each-append, each-filter}
 use Rattle.history.proofs.WhoWaits.{comes_back, few_wait, line_seated}
 use Rattle.history_text.specs.EntryLines.{HasLine}
 use Rattle.history_text.proofs.Spelt.{spelt}
-
--- what is asked for
-asked_few : (o : Object) (n : ℕ) → is_bad_number o n ≡ false → n ≤ 2147483647
-asked_few o n q =
-    ltb-false 2147483647 n (or_parts (ltb 2147483647 n) (not (is_semaphore o) && not (eqb n 1)) q).0
-
--- what those in line ask for
-abbrev AsksFew : Arrival → Type 0
-AsksFew a = a.n ≤ 2147483647
-
-back_few : (xs : List ℕ) → AllByRecursion AsksFew (map coming_back xs)
-back_few [] = tt
-back_few (x ∷ xs) = (omega arith, back_few xs)
-
-arriving_few : (s : Start) (h : List Entry) (e : Entry) (w : Word) → KnownBy s h e w →
-    AllByRecursion AsksFew (arrivals_by s w e h)
-arriving_few s h e word.Queued k = (asked_few s.header.object e.n k.amount, tt)
-arriving_few s h e word.Lapse k = (omega arith, tt)
-arriving_few s h e word.Signal k = back_few (take e.n (sleepers s h e.at))
-arriving_few s h e word.SignalAll k = back_few (sleepers s h e.at)
-arriving_few s h e _ k = tt
-
-line_few : (k : Header) (h : List Entry) → IsLegal (opening k) h → AllByRecursion AsksFew (line (opening k) h)
-line_few k [] legal = tt
-line_few k (e ∷ h) legal =
-    let s = opening k in
-    subst (AllByRecursion AsksFew) (sym (line_after s e h))
-    (each-append AsksFew _ _ (each-filter AsksFew (stays e.word e.seat) (line s h) (line_few k h legal.1))
-    (arriving_few s h e e.word (known s h legal.0.0 e legal.0.1)))
 
 -- no more sleep on one condition than on all
 asleep_part : (s : Start) (h : List Entry) (c n : ℕ) → c < n → length (sleepers s h c) ≤ length (asleep n s h)

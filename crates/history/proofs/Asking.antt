@@ -1,0 +1,49 @@
+-- What those in line ask for is few enough for 32 bits.
+use Rattle.std.proofs.Common.{◌≡◌, ℕ, ◌≤◌, Bool, true, false, not, ◌&&◌, eqb, ltb, ltb-false, List, [], ◌∷◌, map, take, subst, sym, arith}
+use Rattle.std.specs.List.{AllByRecursion}
+use Rattle.std.proofs.lemmas.Bool.{or_parts}
+use Rattle.history.specs.declared.arrival.Arrival.{Arrival}
+use Rattle.history.specs.declared.entry.Entry.{Entry}
+use Rattle.history.specs.declared.entry.Word.{Word}
+use Rattle.history.specs.declared.entry.Word.TheVariants as word
+use Rattle.history.specs.declared.header.Header.{Header}
+use Rattle.history.specs.declared.header.Object.{Object}
+use Rattle.history.specs.Faults.{is_bad_number, max_amount}
+use Rattle.history.specs.Legal.{IsLegal}
+use Rattle.history.specs.Line.{line, arrivals_by, coming_back}
+use Rattle.history.specs.Object.{is_semaphore}
+use Rattle.history.specs.Sleepers.{sleepers}
+use Rattle.history.specs.Start.{Start, opening}
+use Rattle.history.proofs.Entering.{KnownBy, known}
+use Rattle.history.proofs.LineLemmas.{line_after, stays}
+use Rattle.history.proofs.Times.{each-append, each-filter}
+
+-- what is asked for
+pub asked_few : (o : Object) (n : ℕ) → is_bad_number o n ≡ false → n ≤ max_amount
+asked_few o n q =
+    ltb-false max_amount n (or_parts (ltb max_amount n) (not (is_semaphore o) && not (eqb n 1)) q).0
+
+-- what those in line ask for
+abbrev pub AsksFew : Arrival → Type 0
+AsksFew a = a.n ≤ max_amount
+
+back_few : (xs : List ℕ) → AllByRecursion AsksFew (map coming_back xs)
+back_few [] = tt
+back_few (x ∷ xs) = (omega arith, back_few xs)
+
+arriving_few : (s : Start) (h : List Entry) (e : Entry) (w : Word) → KnownBy s h e w →
+    AllByRecursion AsksFew (arrivals_by s w e h)
+arriving_few s h e word.Queued k = (asked_few s.header.object e.n k.amount, tt)
+arriving_few s h e word.Lapse k = (omega arith, tt)
+arriving_few s h e word.Signal k = back_few (take e.n (sleepers s h e.at))
+arriving_few s h e word.SignalAll k = back_few (sleepers s h e.at)
+arriving_few s h e _ k = tt
+
+pub line_few : (k : Header) (h : List Entry) → IsLegal (opening k) h →
+    AllByRecursion AsksFew (line (opening k) h)
+line_few k [] legal = tt
+line_few k (e ∷ h) legal =
+    let s = opening k in
+    subst (AllByRecursion AsksFew) (sym (line_after s e h))
+    (each-append AsksFew _ _ (each-filter AsksFew (stays e.word e.seat) (line s h) (line_few k h legal.1))
+    (arriving_few s h e e.word (known s h legal.0.0 e legal.0.1)))
