@@ -54,19 +54,7 @@ next_seat s h n e seated l q =
 -- a seat of a ledger's header
 pub has_seat : (s : Start) (h : List Entry) (l : Ledger) (i : ℕ) → LedgerStand s h l → i < s.header.seats →
     length h + 1 < 4294967296 → HasSeat l i
-has_seat s h l i st seat room =
-    let exclusive = st.holding.exclusive_seats in
-    let shared = st.holding.shared_seats in
-    let slept = st.waits.seats in
-    record {
-      exclusive = omega (arith, exclusive, seat);
-      shared = omega (arith, shared, seat);
-      slept = omega (arith, slept, seat);
-      start = s;
-      front = h;
-      stand = st;
-      room = room;
-    }
+has_seat s h l i st seat room = record { start = s; front = h; stand = st; seat = seat; room = room }
 
 -- the seat of the next entry
 pub has_seat_next : (k : Header) (h : List Entry) (n end : ℕ) (e : Entry) (l : Ledger) →

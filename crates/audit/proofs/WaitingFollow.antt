@@ -8,8 +8,6 @@ use Rattle.history.specs.declared.entry.End.TheVariants as end
 use Rattle.history.specs.declared.entry.Word.{Word}
 use Rattle.history.specs.declared.entry.Word.TheVariants as word
 use Rattle.history.specs.declared.header.Header.{Header}
-use Rattle.history.specs.Header.{IsInRange}
-use Rattle.history.specs.Legal.{IsLegal, AreSeated}
 use Rattle.history.specs.Sleepers.{sleep_after, last_sleep}
 use Rattle.history.specs.Start.{Start, opening}
 use Rattle.history.specs.Start as start
@@ -20,6 +18,7 @@ use Rattle.acquire_queue.specs.Line.{Line}
 use Rattle.condition_queue.specs.Following.{IsMovable, Keeps}
 use Rattle.condition_queue.specs.Sleepers.{Sleepers, asleep_on}
 use Rattle.condition_queue.proofs.Movable.{movable}
+use Rattle.deciding.proofs.Bounds.{at_opening}
 use Rattle.deciding.specs.Sleep.{sleep_of}
 use Rattle.deciding.specs.declared.sleep.LastSleep.{LastSleep}
 use Rattle.audit.specs.declared.ledger.Ledger.{Ledger}
@@ -122,19 +121,12 @@ keeps_opened k queue waiters line joined places asleep conditions beds =
 pub next_movable : (s : Start) (h : List Entry) (e : Entry) (l : Ledger) → LedgerStand s h l → IsNext s h e →
     e.seat < s.header.seats → length h < 4294967296 → IsMovable e l.waiting.line l.waiting.asleep
 next_movable s h e l st next seat few =
-    let k = l.header in
-    let K : Start → Type 0 = λ x. Keeps x h l.waiting.line l.waiting.asleep in
-    let L : Start → Type 0 = λ x. IsLegal x h in
-    let S : Start → Type 0 = λ x. AreSeated x h in
-    let N : Start → Type 0 = λ x. IsNext x h e in
-    let B : Start → Type 0 = λ x. e.seat < x.header.seats in
-    let made = subst N st.opened next in
-    movable k h e l.waiting.line l.waiting.asleep (subst K st.opened st.waits.kept) st.range
-    (subst L st.opened st.legal) (subst S st.opened st.seated) few (subst B st.opened seat)
-    (known (opening k) h made.0 e made.1)
+    let k = s.header in
+    let past = st.past in
+    let M : Start → Type 0 = λ x. Keeps x h l.waiting.line l.waiting.asleep → IsNext x h e →
+    IsMovable e l.waiting.line l.waiting.asleep in
+    at_opening M s h past (λ legal seated kept made. movable k h e l.waiting.line l.waiting.asleep kept
+    past.range legal seated few seat (known (opening k) h made.0 e made.1)) st.waits.kept next
 
 pub each_waits_once : (s : Start) (h : List Entry) (l : Ledger) → LedgerStand s h l → Waits s h
-each_waits_once s h l st =
-    let L : Start → Type 0 = λ x. IsLegal x h in
-    let W : Start → Type 0 = λ x. Waits x h in
-    subst W (sym st.opened) (waits l.header h (subst L st.opened st.legal))
+each_waits_once s h l st = at_opening (λ x. Waits x h) s h st.past (λ legal seated. waits s.header h legal)

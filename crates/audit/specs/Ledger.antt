@@ -2,10 +2,9 @@
 use Rattle.std.specs.Prelude.{◌≡◌, ◌<◌, ◌+◌, ◌^◌, ℕ, List, length, Ok, Some}
 use Rattle.history.specs.declared.entry.Entry.{Entry}
 use Rattle.history.specs.declared.step.Step.{Step}
-use Rattle.history.specs.Header.{IsInRange}
-use Rattle.history.specs.Legal.{IsLegal, AreSeated}
-use Rattle.history.specs.Start.{Start, opening}
+use Rattle.history.specs.Start.{Start}
 use Rattle.history.specs.Steps.{entry_for}
+use Rattle.deciding.specs.Situation.{IsHistory}
 use Rattle.audit.specs.declared.ledger.Ledger.{Ledger}
 use Rattle.audit.specs.Holds.{HoldsStand}
 use Rattle.audit.specs.Waiting.{WaitingStand}
@@ -16,19 +15,14 @@ pub record LedgerStand (s : Start) (h : List Entry) (l : Ledger) : Type 0 where
   pub holding : HoldsStand s h l.holds
   pub waits : WaitingStand s h l.waiting
   pub numbers : PermitsStand s h l.permits
-  pub opened : s ≡ opening l.header
-  pub range : IsInRange l.header
-  pub legal : IsLegal s h
-  pub seated : AreSeated s h
+  pub past : IsHistory s h
 
--- a ledger that stands for some front, and one of its seats
+-- a ledger that stands for some front with room for one more entry, and one of its seats
 pub record HasSeat (l : Ledger) (i : ℕ) : Type 0 where
-  pub exclusive : i < length l.holds.exclusive.items
-  pub shared : i < length l.holds.shared.items
-  pub slept : i < length l.waiting.last_sleep.items
   pub start : Start
   pub front : List Entry
   pub stand : LedgerStand start front l
+  pub seat : i < start.header.seats
   pub room : length front + 1 < 2 ^ 32
 
 -- a ledger that stands for some front

@@ -9,6 +9,7 @@ ghost use Rattle.audit.specs.Ledger.{HasSeat, IsNext, LedgerStand};
 use crate::candidates::possible_steps;
 use crate::ledger::Ledger;
 use crate::same::is_same;
+use deciding::decide::entry_for;
 use history::entry::Entry;
 use history::step::Step;
 
@@ -19,7 +20,7 @@ impl Ledger {
         ensures { (s : Start) (h : List Entry) → LedgerStand s h self.now →
             IsTrue result ↔ (entry_for s h entry.seat step ≡ Ok (Some entry)) }
     {
-        match self.entry_for(entry.seat, step) {
+        match entry_for(self, entry.seat, step) {
             Ok(Some(made)) => is_same(made, entry),
             Ok(None) => false,
             Err(_fault) => false,

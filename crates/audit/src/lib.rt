@@ -19,11 +19,11 @@
 mod admit;
 pub mod auditor;
 mod candidates;
-mod decide;
 mod holds;
 pub mod ledger;
 mod permits;
 mod same;
+mod situation;
 pub mod sums;
 pub mod totals;
 pub mod verdict;

@@ -7,9 +7,11 @@
 
 pub mod arrivals;
 pub mod checks;
+pub mod decide;
 pub mod entries;
 pub mod holds;
 pub mod room;
+pub mod situation;
 pub mod sleep;
 #[cfg(test)]
 mod tests;

@@ -1,4 +1,3 @@
 mod NextEntries
 mod Owes
-mod FirstReady
 mod Recording

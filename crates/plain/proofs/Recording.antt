@@ -1,8 +1,9 @@
 -- The answer to a step by what the step makes.
-use Rattle.std.proofs.Common.{◌≡◌, ℕ, ◌≤◌, ◌+◌, true, List, ◌∷◌, length, Option, Result, Ok, refl, ap, ◌∙◌, arith}
-use Rattle.std.proofs.lemmas.Bool.{le-leb}
+use Rattle.std.proofs.Common.{◌≡◌, ℕ, ◌<◌, ◌≤◌, ◌+◌, true, false, List, ◌∷◌, length, Option, Result, Ok, Err, refl, ap, ◌∙◌, arith}
+use Rattle.std.proofs.lemmas.Bool.{le-leb, lt-leb}
 use Rattle.history.specs.declared.entry.Entry.{Entry}
 use Rattle.history.specs.declared.fault.Fault.{Fault}
+use Rattle.history.specs.declared.fault.Fault.TheVariants.{HistoryFull}
 use Rattle.history.specs.declared.header.Header.{Header}
 use Rattle.history.specs.declared.step.Answer.{Answer}
 use Rattle.history.specs.declared.step.Answer.TheVariants.{Recorded}
@@ -12,6 +13,15 @@ use Rattle.history.specs.Room.{has_room, owed}
 use Rattle.history.specs.Start.{opening}
 use Rattle.plain.specs.Owing.{IsOwed}
 
+-- an entry for which there is no room
+pub full_so : (k : Header) (h : List Entry) (e : Entry) (n : ℕ) → IsOwed k (e ∷ h) n →
+    k.cap < length h + 1 + n → ◌≡◌ {A = Result Answer Fault} (Err HistoryFull) (recorded (opening k) h e).0
+full_so k h e n o l =
+    let more : k.cap < length h + 1 + owed (opening k) (e ∷ h) = let is = o.is in omega (arith, is, l) in
+    let room : has_room (opening k) h e ≡ false = lt-leb _ _ more in
+    rw room refl
+
+-- one that has room, and whom it names
 pub named_so : (k : Header) (h : List Entry) (e : Entry) (n : ℕ) (before after name : Option ℕ) →
     IsOwed k (e ∷ h) n →
     length h + 1 + n ≤ k.cap → before ≡ ready (opening k) h → after ≡ ready (opening k) (e ∷ h) →

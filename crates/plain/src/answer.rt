@@ -11,8 +11,8 @@ ghost use Rattle.plain.specs.Owing.{IsNextEntry};
 
 use crate::ledgers::ledger_of;
 use crate::owing::{owed_behind, owed_of};
-use crate::ready::ready;
 use audit::ledger::Ledger;
+use deciding::decide::{entry_for, ready};
 use deciding::entries::named;
 use history::entries::History;
 use history::entry::Entry;
@@ -38,9 +38,9 @@ fn recorded(
     if u64::from(header.cap) < history.len() + 1 + behind {
         return Err(Fault::HistoryFull);
     }
-    let before = ready(&ledger, header.seats);
+    let before = ready(&ledger);
     ledger.note(entry)?;
-    let after = ready(&ledger, header.seats);
+    let after = ready(&ledger);
     Ok(Answer::Recorded(entry, named(before, after, entry.seat)))
 }
 
@@ -63,7 +63,7 @@ pub fn answer(
     ensures { IsAnswer (answer (opening header.now) history.now.entries seat step) result }
 {
     let ledger = ledger_of(alloc, header, history)?;
-    match ledger.entry_for(seat, step) {
+    match entry_for(&ledger, seat, step) {
         Err(fault) => Err(fault),
         Ok(None) => Ok(Answer::Sleep),
         Ok(Some(entry)) => recorded(ledger, header, history, entry),

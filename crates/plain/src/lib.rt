@@ -7,4 +7,3 @@
 pub mod answer;
 mod ledgers;
 mod owing;
-mod ready;

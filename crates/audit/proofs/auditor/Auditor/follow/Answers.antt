@@ -34,7 +34,7 @@ returns-clause-judged c = λ k h was seat.
       | in-None+else-admits w ↦
           let stands = rw w.in-None.is at was.so_far in
           let wrong =
-          wrong_now k h e stands.legal (λ next. false≢true (sym w.if-admits.false
+          wrong_now k h e stands.past.legal (λ next. false≢true (sym w.if-admits.false
           ∙ (w.admits.ensures s h stands).1 next)) in
           rw w.self-is (record { count = omega (arith, was.count); so_far = rw was.count wrong })
     ]

@@ -1,9 +1,10 @@
-use Rattle.std.proofs.Common.{◌≡◌, ◌∙◌, ℕ, ap, arith, get_or, length, List}
+use Rattle.std.proofs.Common.{◌≡◌, ◌∙◌, ℕ, ap, arith, get_or, length, List, sym}
 use Rattle.history.specs.Counts.{held, total}
 use Rattle.history.specs.declared.entry.Mode.TheVariants.{X}
 use Rattle.history.specs.declared.header.Header.{Header}
+use Rattle.history.specs.Object.{is_lock}
 use Rattle.history.proofs.Sums.{total_same}
-use Rattle.audit.proofs.Limits.{exclusive_small}
+use Rattle.deciding.proofs.Bounds.{exclusive_fits}
 use Rattle.audit.proofs.ledger.Ledger.exclusive_total.Goals as goal
 
 pub sum-requires-clause-each : goal.sum-requires-clause-each
@@ -11,7 +12,8 @@ sum-requires-clause-each c i =
     let r = c.requires.ledger in
     let is : get_or c.deref.result.now i 0 ≡ held r.start r.front i X =
     ap (λ (l : List ℕ). get_or l i 0) c.deref.ensures.value ∙ r.stand.holding.exclusive i in
-    let small = exclusive_small r.start r.front c.args.self.now i r.stand c.requires.lock in
+    let object = ap (λ (k : Header). is_lock k.object) (sym r.stand.header) in
+    let small = exclusive_fits r.start r.front i r.stand.past (object ∙ c.requires.lock) in
     omega (arith, is, small)
 
 pub sum-requires-clause-few : goal.sum-requires-clause-few
@@ -19,9 +21,8 @@ sum-requires-clause-few c =
     let r = c.requires.ledger in
     let long = ap length c.deref.ensures.value in
     let seats = r.stand.holding.exclusive_seats in
-    let same = ap (λ (k : Header). k.seats) r.stand.header in
-    let most = r.stand.range.seats in
-    omega (arith, long, seats, same, most)
+    let most = r.stand.past.range.seats in
+    omega (arith, long, seats, most)
 
 pub returns : goal.returns
 returns c s h st =

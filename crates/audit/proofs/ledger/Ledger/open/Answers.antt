@@ -8,8 +8,5 @@ returns-clause-stand c =
       holding = c.in_ok-holds.ensures.stand c.args.header refl;
       waits = c.in_ok-waiting.ensures.stand;
       numbers = c.open-3.ensures c.args.header refl;
-      opened = refl;
-      range = c.requires;
-      legal = tt;
-      seated = tt;
+      past = record { opened = refl; range = c.requires; legal = tt; seated = tt };
     }

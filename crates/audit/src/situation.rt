@@ -1,0 +1,154 @@
+//! What the ledger answers to a decision.
+
+ghost use Rattle.std.specs.Prelude.{◌≡◌, ◌<◌, List, length};
+ghost use Rattle.history.specs.Could.{is_none_or, is_reentrant, is_seat, line_blocks};
+ghost use Rattle.history.specs.Counts.{counts};
+ghost use Rattle.history.specs.Line.{first_mode};
+ghost use Rattle.history.specs.Object.{is_fair_policy};
+ghost use Rattle.history.specs.Start.{Start};
+ghost use Rattle.history.specs.declared.entry.Entry.{Entry};
+ghost use Rattle.audit.specs.Ledger.{LedgerStand};
+
+use crate::ledger::Ledger;
+use deciding::situation::Situation;
+use deciding::sleep::LastSleep;
+use history::arrival::Arrival;
+use history::entry::Mode;
+use history::header::{Header, Object, Policy};
+
+/// The most holds of a lock by one seat.
+const MAX_HOLDS: u64 = 2_147_483_647;
+
+/// The most write holds of a read-write lock, and the most read holds of all seats together.
+const MAX_READ_WRITE_HOLDS: u64 = 65_535;
+
+impl Ledger {
+    fn owns(&self, seat: u16) -> bool
+        ensures { result ≡ is_seat self.now.holds.owner seat }
+    {
+        self.holds.owner == Some(seat)
+    }
+
+    fn is_free_for(&self, seat: u16) -> bool
+        ensures { result ≡ is_none_or self.now.holds.owner seat }
+    {
+        self.holds.owner.is_none_or(|owner| owner == seat)
+    }
+
+    /// Whether a call never waits behind the line.
+    fn is_reentrant(&self, seat: u16, mode: Mode) -> bool
+        requires { seat < length self.now.holds.shared.items }
+        ensures { (s : Start) (h : List Entry) → LedgerStand s h self.now →
+            result ≡ is_reentrant (counts s h) seat mode }
+    {
+        match self.header.object {
+            Object::Lock(_) => self.owns(seat),
+            Object::ReadWrite(_) => {
+                self.owns(seat) || (matches!(mode, Mode::S) && self.holds.shared[seat as usize] > 0)
+            }
+            Object::Semaphore(_, _permits) => false,
+            Object::Latch(_count) => false,
+        }
+    }
+
+    /// Whether the line holds back a new call that isn't reentrant.
+    fn line_blocks(&self, mode: Mode) -> bool
+        ensures { (s : Start) (h : List Entry) → LedgerStand s h self.now →
+            result ≡ line_blocks s.header.object mode (first_mode s h) }
+    {
+        let first = match self.waiting.line.first() {
+            None => return false,
+            Some(first) => first.mode,
+        };
+        match self.header.object {
+            Object::Lock(policy) | Object::Semaphore(policy, _) => is_fair(policy),
+            Object::ReadWrite(policy) => is_fair(policy)
+                || (matches!(mode, Mode::S) && matches!(first, Mode::X)),
+            Object::Latch(_count) => false,
+        }
+    }
+}
+
+impl Situation for Ledger {
+    ghost use Rattle.audit.specs.Ledger.{LedgerStand};
+
+    ghost stands = { LedgerStand };
+
+    ghost is_history = { λ s h ledger st. st.past };
+
+    fn header(&self) -> &Header {
+        &self.header
+    }
+
+    fn is_held_back(&self, seat: u16, mode: Mode) -> bool {
+        !self.is_reentrant(seat, mode) && self.line_blocks(mode)
+    }
+
+    fn is_at_limit(&self, seat: u16, mode: Mode) -> bool {
+        match (self.header.object, mode) {
+            (Object::Lock(_), Mode::X) => self.holds.exclusive[seat as usize] == MAX_HOLDS,
+            (Object::ReadWrite(_), Mode::X) => self.holds.exclusive[seat as usize]
+                == MAX_READ_WRITE_HOLDS,
+            (Object::ReadWrite(_), Mode::S) => self.is_free_for(seat)
+                && self.holds.readers == MAX_READ_WRITE_HOLDS,
+            _ => false,
+        }
+    }
+
+    fn could_take(&self, seat: u16, mode: Mode, n: u32) -> bool {
+        match (self.header.object, mode) {
+            (Object::Lock(_), Mode::X) => {
+                self.is_free_for(seat) && self.holds.exclusive[seat as usize] < MAX_HOLDS
+            }
+            (Object::ReadWrite(_), Mode::X) => {
+                if self.owns(seat) {
+                    self.holds.exclusive[seat as usize] < MAX_READ_WRITE_HOLDS
+                } else {
+                    self.is_free_for(seat) && self.holds.readers == 0
+                }
+            }
+            (Object::ReadWrite(_), Mode::S) => self.is_free_for(seat)
+                && self.holds.readers < MAX_READ_WRITE_HOLDS,
+            (Object::Semaphore(_, _permits), Mode::S) => self.permits.free >= i128::from(n),
+            (Object::Latch(count), Mode::S) => u64::from(count) <= self.permits.counted,
+            _ => false,
+        }
+    }
+
+    fn held(&self, seat: u16, mode: Mode) -> u64 {
+        match mode {
+            Mode::X => self.holds.exclusive[seat as usize],
+            Mode::S => self.holds.shared[seat as usize],
+        }
+    }
+
+    fn free(&self) -> i64 {
+        self.permits.free as i64
+    }
+
+    fn first(&self) -> Option<Arrival> {
+        self.waiting.line.first()
+    }
+
+    fn place_of(&self, seat: u16) -> Option<Arrival> {
+        self.waiting.line.arrival_of(seat)
+    }
+
+    fn sleeps(&self, seat: u16) -> bool {
+        self.waiting.asleep.sleeper_of(seat).is_some()
+    }
+
+    fn sleepers(&self, condition: u8) -> u16 {
+        self.waiting.asleep.len(condition)
+    }
+
+    fn last_sleep(&self, seat: u16) -> LastSleep {
+        self.waiting.last_sleep[seat as usize]
+    }
+}
+
+fn is_fair(policy: Policy) -> bool
+    ensures { result ≡ is_fair_policy policy }
+{
+    matches!(policy, Policy::Fair)
+}

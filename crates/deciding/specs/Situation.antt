@@ -1,0 +1,21 @@
+-- What a state of an object stands for: a history.
+use Rattle.std.specs.Prelude.{◌≡◌, ◌<◌, ℕ, List}
+use Rattle.history.specs.declared.entry.Entry.{Entry}
+use Rattle.history.specs.Header.{IsInRange}
+use Rattle.history.specs.Legal.{IsLegal, AreSeated}
+use Rattle.history.specs.Start.{Start, opening}
+
+-- a legal history of an object as opened
+pub record IsHistory (s : Start) (h : List Entry) : Type 0 where
+  pub opened : s ≡ opening s.header
+  pub range : IsInRange s.header
+  pub legal : IsLegal s h
+  pub seated : AreSeated s h
+
+-- a state that stands for some history
+abbrev pub HasHistory : {A : Type 0} → (Start → List Entry → A → Type 0) → A → Type 0
+HasHistory stands state = (s : Start) × (h : List Entry) × stands s h state
+
+-- and a seat of its object
+abbrev pub HasSeat : {A : Type 0} → (Start → List Entry → A → Type 0) → A → ℕ → Type 0
+HasSeat stands state i = (s : Start) × (h : List Entry) × stands s h state × (i < s.header.seats)

@@ -1,0 +1,84 @@
+//! What a decision asks of the present state of an object.
+
+ghost use Rattle.std.specs.Prelude.{◌≡◌, List, length, true};
+ghost use Rattle.history.specs.Could.{could, held_back, limit};
+ghost use Rattle.history.specs.Counts.{counts, free, held};
+ghost use Rattle.history.specs.Line.{first_mode, first_of, line, place_of};
+ghost use Rattle.history.specs.Object.{is_semaphore};
+ghost use Rattle.history.specs.Sleepers.{last_sleep, sleepers, sleeps_below};
+ghost use Rattle.history.specs.Start.{Start};
+ghost use Rattle.history.specs.declared.entry.Entry.{Entry};
+ghost use Rattle.deciding.specs.Situation.{HasHistory, HasSeat, IsHistory};
+ghost use Rattle.deciding.specs.Sleep.{sleep_of};
+
+use crate::sleep::LastSleep;
+use history::arrival::Arrival;
+use history::entry::Mode;
+use history::header::Header;
+
+/// What a decision asks of the present state of an object.
+///
+/// A state stands for a history: what it answers is what the definitions compute from that.
+pub trait Situation {
+    /// The state is the one behind this history.
+    ghost stands: { Start → List Entry → Self → Type 0 };
+
+    fn header(&self) -> &Header
+        ensures { (s : Start) (h : List Entry) → stands s h self.now → result.now ≡ s.header };
+
+    /// Whether the line holds a new call back.
+    fn is_held_back(&self, seat: u16, mode: Mode) -> bool
+        requires { HasSeat stands self.now seat }
+        ensures { (s : Start) (h : List Entry) → stands s h self.now
+            → result ≡ held_back (counts s h) (first_mode s h) seat mode };
+
+    /// Whether the seat has as many holds as it may have.
+    fn is_at_limit(&self, seat: u16, mode: Mode) -> bool
+        requires { HasSeat stands self.now seat }
+        ensures { (s : Start) (h : List Entry) → stands s h self.now
+            → result ≡ limit (counts s h) seat mode };
+
+    /// Whether the seat could take now.
+    fn could_take(&self, seat: u16, mode: Mode, n: u32) -> bool
+        requires { HasSeat stands self.now seat }
+        ensures { (s : Start) (h : List Entry) → stands s h self.now
+            → result ≡ could (counts s h) seat mode n };
+
+    /// The holds of the seat in a mode.
+    fn held(&self, seat: u16, mode: Mode) -> u64
+        requires { HasSeat stands self.now seat }
+        ensures { (s : Start) (h : List Entry) → stands s h self.now → result ≡ held s h seat mode };
+
+    /// The free permits of a semaphore, which may be below 0.
+    fn free(&self) -> i64
+        requires { (s : Start) × (h : List Entry) × stands s h self.now
+            × (is_semaphore s.header.object ≡ true) }
+        ensures { (s : Start) (h : List Entry) → stands s h self.now → result ≡ free s h };
+
+    /// The longest waiter in line.
+    fn first(&self) -> Option<Arrival>
+        ensures { (s : Start) (h : List Entry) → stands s h self.now → result ≡ first_of (line s h) };
+
+    /// What the seat asks for in line.
+    fn place_of(&self, seat: u16) -> Option<Arrival>
+        ensures { (s : Start) (h : List Entry) → stands s h self.now → result ≡ place_of seat (line s h) };
+
+    /// Whether the seat sleeps on a condition.
+    fn sleeps(&self, seat: u16) -> bool
+        ensures { (s : Start) (h : List Entry) → stands s h self.now
+            → result ≡ sleeps_below s.header.conditions s h seat };
+
+    /// How many sleep on a condition.
+    fn sleepers(&self, condition: u8) -> u16
+        ensures { (s : Start) (h : List Entry) → stands s h self.now
+            → result ≡ length (sleepers s h condition) };
+
+    /// What the seat gave up when it last slept.
+    fn last_sleep(&self, seat: u16) -> LastSleep
+        requires { HasSeat stands self.now seat }
+        ensures { (s : Start) (h : List Entry) → stands s h self.now
+            → sleep_of result ≡ last_sleep s h seat };
+
+    /// A state stands only for legal histories of an object as opened.
+    ghost is_history: { (s : Start) (h : List Entry) (state : Self) → stands s h state → IsHistory s h };
+}
