@@ -1,5 +1,5 @@
 -- Who owns behind a legal history, and that what is held and free fits.
-use Rattle.std.proofs.Common.{◌≡◌, ◌≢◌, ⊎_elim, ℕ, zero, suc, ◌<◌, ◌≤◌, ltb, Bool, true, List, [], ◌∷◌, Option, Some, None, ap, ◌∙◌, sym, subst, refl, arith, ℤ, pos, ◌≤ℤ◌}
+use Rattle.std.proofs.Common.{◌≡◌, ◌≢◌, ⊎_elim, ℕ, zero, suc, ◌<◌, ◌≤◌, ltb, true, List, [], ◌∷◌, Option, Some, None, ap, ◌∙◌, sym, subst, refl, arith, ℤ, pos, ◌≤ℤ◌}
 use Rattle.std.specs.Int.{w32, w64}
 use Rattle.std.specs.Prelude.{FitsSigned}
 use mir.Val.{to_z, of_z}

@@ -1,8 +1,8 @@
 -- Who owns, and that what is held fits.
-use Rattle.std.proofs.Common.{◌≡◌, ◌≢◌, ⊎_elim, ℕ, zero, suc, ◌+◌, ◌*◌, ◌<◌, ◌≤◌, Bool, true, false, ◌&&◌, cond, eqb, ltb, List, [], ◌∷◌, length, Option, Some, None, refl, ap, ◌∙◌, sym, subst, arith, ℤ, pos, ◌≤ℤ◌}
+use Rattle.std.proofs.Common.{◌≡◌, ℕ, zero, suc, ◌+◌, ◌*◌, ◌<◌, ◌≤◌, Bool, true, false, ◌&&◌, cond, eqb, ltb, List, [], ◌∷◌, length, Option, Some, None, refl, ap, ◌∙◌, sym, subst, arith, ℤ, pos, ◌≤ℤ◌}
 use Rattle.std.specs.Prelude.{slice_get, is_some}
 use Rattle.std.specs.List.{list_any}
-use Rattle.std.proofs.lemmas.Bool.{cases_eq, eq-eqb, ne_eqb, lt-ltb, le-ltb, or_left, or_right, or_from}
+use Rattle.std.proofs.lemmas.Bool.{lt-ltb, le-ltb, or_left, or_right, or_from}
 use Rattle.std.proofs.lemmas.Option.{slice_get_within}
 use Rattle.history.specs.declared.entry.Entry.{Entry}
 use Rattle.history.specs.declared.entry.Mode.{Mode}
@@ -19,7 +19,7 @@ use Rattle.history.specs.Faults.{max_amount}
 use Rattle.frame.specs.Hooks.{level_of, level_by}
 use Rattle.history.specs.declared.header.Object.{Object}
 use Rattle.history.specs.declared.header.Object.TheVariants.{Lock, ReadWrite, Semaphore, Latch}
-use Rattle.history.specs.Could.{could, could_of, is_seat}
+use Rattle.history.specs.Could.{could, could_of}
 use Rattle.history.specs.Counts.{Counts, counts, free, held, holds_after, owner}
 use Rattle.history.specs.Entry.{same_mode}
 use Rattle.history.specs.Header.{IsInRange}
@@ -39,26 +39,6 @@ use Rattle.frame.specs.Effects.{IsAllowed}
 use Rattle.frame.specs.Seat.{seat_of}
 use Rattle.frame.proofs.Counting.{allowed}
 use Rattle.frame.proofs.Seats.{seat_held}
-
--- the owner is the seat that holds exclusively
-pub owner_is : (k : Counts) (i : ℕ) → i < k.seats →
-    ((i j : ℕ) → 0 < k.held i X → 0 < k.held j X → i ≡ j) → is_seat (owner k) i ≡ ltb 0 (k.held i X)
-owner_is k i l one = by (owner k) refl
-  where
-    by : (o : Option ℕ) → owner k ≡ o → is_seat o i ≡ ltb 0 (k.held i X)
-    by None p = let z = nobody_holds k i p l in sym (le-ltb 0 (k.held i X) (omega (arith, z)))
-    by (Some o) p =
-        let owns = (owner_holds k o p).1 in
-        ⊎_elim
-        (λ (same : o ≡ i).
-        let d : k.held o X ≡ k.held i X = ap (λ x. k.held x X) same in
-        eq-eqb o i same ∙ sym (lt-ltb 0 (k.held i X) (omega (arith, d, owns))))
-        (λ (ne : o ≢ i). ne_eqb o i ne ∙ sym (le-ltb 0 (k.held i X) (none ne owns (k.held i X) refl)))
-        (cases_eq o i)
-      where
-        none : o ≢ i → 0 < k.held o X → (n : ℕ) → k.held i X ≡ n → n ≤ 0
-        none ne owns zero q = omega arith
-        none ne owns (suc n) q = absurd (ne (one o i owns (omega (arith, q))))
 
 -- what no entry of a legal history begins to hold stays nothing
 abbrev BeginsNothing : Start → Mode → Type 0

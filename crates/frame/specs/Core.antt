@@ -1,8 +1,9 @@
 -- What a core is to its callers, and how its fields stand for it.
-use Rattle.std.specs.Prelude.{◌≡◌, ◌⊎◌, ◌≤◌, ◌<◌, ℕ, ◌+◌, max, Bool, true, false, List, [], ◌∷◌, length, slice_get, Result, Ok, Err, Option, Some, IfSome}
+use Rattle.std.specs.Prelude.{◌≡◌, ◌⊎◌, ◌≤◌, ◌<◌, ℕ, ◌+◌, max, true, false, List, [], ◌∷◌, length, slice_get, Result, Ok, Err, Option, Some, IfSome}
 use Rattle.acquire_queue.specs.Line.{Line}
 use Rattle.condition_queue.specs.Following.{Keeps}
 use Rattle.condition_queue.specs.Sleepers.{Sleepers}
+use Rattle.deciding.specs.Situation.{IsHistory}
 use Rattle.history.specs.declared.entry.Entry.{Entry}
 use Rattle.history.specs.declared.entry.Mode.{Mode}
 use Rattle.history.specs.declared.entry.Word.TheVariants.{Refused}
@@ -21,9 +22,7 @@ use Rattle.history.specs.Legal.{IsLegal, AreSeated}
 use Rattle.history.specs.Line.{first_mode}
 use Rattle.history.specs.Naming.{ready}
 use Rattle.history.specs.Pages.{whole_pages}
-use Rattle.history.specs.Phase.{Phase, phase}
 use Rattle.history.specs.Room.{owed, has_room, was_owed}
-use Rattle.history.specs.Sleepers.{sleeps_below}
 use Rattle.history.specs.Start.{Start, opening}
 use Rattle.history.specs.Steps.{entry_for}
 use Rattle.frame.specs.declared.seat.Seat.{Seat}
@@ -47,6 +46,12 @@ with_history k kept = record { header = k; entries = kept.entries; places = kept
 abbrev pub start_of : CoreView → Start
 start_of v = opening v.header
 
+-- the one history that a core stands for, which is legal
+pub record StandsFor (s : Start) (h : List Entry) (v : CoreView) : Type 0 where
+  pub start : s ≡ start_of v
+  pub entries : h ≡ v.entries
+  pub past : IsHistory s h
+
 -- what the history says in numbers, and of its line
 abbrev pub counts_of : CoreView → Counts
 counts_of v = counts (start_of v) v.entries
@@ -56,13 +61,6 @@ first_mode_of v = first_mode (start_of v) v.entries
 
 abbrev pub ready_of : CoreView → Option ℕ
 ready_of v = ready (start_of v) v.entries
-
--- whether a seat is idle, in line or asleep
-abbrev pub phase_of : CoreView → ℕ → Phase
-phase_of v i = phase (start_of v) v.entries i
-
-abbrev pub is_asleep : CoreView → ℕ → Bool
-is_asleep v i = sleeps_below v.header.conditions (start_of v) v.entries i
 
 -- The fields stand for the history: hooks, line, sleepers and seats are as its entries make them, and room is
 -- kept as it asks.

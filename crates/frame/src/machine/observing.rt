@@ -1,19 +1,16 @@
 //! What a core tells of itself. No observer takes memory.
 
-ghost use Rattle.std.specs.Prelude.{◌≡◌, ◌<◌, ◌≤◌, ◌+◌, ◌^◌, ◌≤ℤ◌, pos, length, nat_lt};
-ghost use Rattle.std.specs.Prelude.{true, is_some, IfSome};
+ghost use Rattle.std.specs.Prelude.{◌≡◌, ◌<◌, ◌≤◌, ◌+◌, ◌^◌, ◌≤ℤ◌, pos, length, is_some};
 ghost use Rattle.history.specs.declared.entry.Mode.TheVariants.{X, S};
 ghost use Rattle.history.specs.Counts.{count, held, owner};
 ghost use Rattle.history.specs.Faults.{max_amount};
 ghost use Rattle.history.specs.Sleepers.{sleepers, last_sleep};
 ghost use Rattle.frame.specs.Observed.{available};
 ghost use Rattle.history.specs.Legal.{IsLegal, AreSeated};
-ghost use Rattle.history.specs.Line.{line, first_of, place_of};
-ghost use Rattle.history.specs.Could.{could, is_seat};
-ghost use Rattle.history.specs.Object.{is_lock};
+ghost use Rattle.history.specs.Line.{line};
 ghost use Rattle.history.specs.Order.{IsInOrder, IsFairOrder};
 ghost use Rattle.history.specs.Room.{owed};
-ghost use Rattle.frame.specs.Core.{start_of, counts_of, is_asleep, ready_of};
+ghost use Rattle.frame.specs.Core.{start_of, counts_of};
 ghost use Rattle.frame.specs.Hooks.{level_of};
 ghost use Rattle.deciding.specs.Sleep.{sleep_of};
 ghost use Rattle.frame.specs.Seat.{seat_of};
@@ -21,7 +18,6 @@ ghost use Rattle.frame.specs.Seat.{seat_of};
 use super::Core;
 use crate::hooks::Hooks;
 use crate::seat::Seat;
-use history::arrival::Arrival;
 use history::entries::History;
 use history::entry::Mode;
 use history::header::{Header, Object};
@@ -132,8 +128,6 @@ impl<H: Hooks + Drop> Core<H> {
         ensures kept { result ≡ seat_of self.now.header.object self.now.entries seat }
         ensures exclusive { result.exclusive ≡ held (start_of self.now) self.now.entries seat X }
         ensures shared { result.shared ≡ held (start_of self.now) self.now.entries seat S }
-        ensures owns { is_lock self.now.header.object ≡ true
-            → is_seat (owner (counts_of self.now)) seat ≡ nat_lt 0 result.exclusive }
         ensures sleep { sleep_of result.sleep ≡ last_sleep (start_of self.now) self.now.entries seat }
     {
         let _header = &self.header;
@@ -145,61 +139,5 @@ impl<H: Hooks + Drop> Core<H> {
         ensures { result ≡ level_of (counts_of self.now) }
     {
         self.hooks.level()
-    }
-
-    /// Whether a seat could take.
-    pub(super) fn could(&self, seat: u16, mode: Mode, n: u32) -> bool
-        ensures { result ≡ could (counts_of self.now) seat mode n }
-    {
-        self.hooks.could(seat, mode, n)
-    }
-
-    /// The longest waiter.
-    pub(super) fn first(&self) -> Option<Arrival>
-        ensures { result ≡ first_of (line (start_of self.now) self.now.entries) }
-    {
-        self.queue.first()
-    }
-
-    /// What a seat asks for in line.
-    pub(super) fn place_of(&self, seat: u16) -> Option<Arrival>
-        ensures { result ≡ place_of seat (line (start_of self.now) self.now.entries) }
-    {
-        self.queue.arrival_of(seat)
-    }
-
-    /// Whether a seat sleeps on a condition.
-    pub(super) fn sleeps(&self, seat: u16) -> bool
-        ensures { result ≡ is_asleep self.now seat }
-    {
-        self.waiters.sleeper_of(seat).is_some()
-    }
-
-    /// The seat of the first in line, where that could take what it asks for.
-    pub(super) fn ready(&self) -> Option<u16>
-        ensures ready { result ≡ ready_of self.now }
-        ensures below { IfSome result (λ seat. seat < self.now.header.seats) }
-    {
-        let _header = &self.header;
-        match self.first() {
-            None => None,
-            Some(first) => {
-                if self.could(first.seat, first.mode, first.n) {
-                    Some(first.seat)
-                } else {
-                    None
-                }
-            }
-        }
-    }
-
-    /// Whether a seat is the first in line and could go.
-    pub(super) fn is_ready(&self, seat: u16) -> bool
-        ensures { result ≡ is_seat (ready_of self.now) seat }
-    {
-        match self.ready() {
-            None => false,
-            Some(first) => first == seat,
-        }
     }
 }
