@@ -1,5 +1,5 @@
 -- Who is ready, who sleeps, and the entry that a step makes.
-use Rattle.std.proofs.Common.{◌≡◌, ℕ, ◌<◌, arith, Bool, true, false, List, [], ◌∷◌, Option, Some, None, Ok, refl, ap, ◌∙◌, sym, subst}
+use Rattle.std.proofs.Common.{◌≡◌, ℕ, ◌<◌, arith, true, false, List, [], ◌∷◌, Option, Some, None, Ok, refl, sym, subst}
 use Rattle.std.specs.Prelude.{Result, Err, IfOk, IfSome}
 use Rattle.history.specs.declared.arrival.Arrival.{Arrival}
 use Rattle.history.specs.declared.entry.Entry.{Entry}
@@ -12,7 +12,7 @@ use Rattle.history.proofs.WhoWaits.{LineSeated, line_seated}
 use Rattle.history.specs.Could.{could}
 use Rattle.history.specs.Counts.{Counts}
 use Rattle.history.specs.Naming.{ready_by}
-use Rattle.history.specs.Start.{Start, opening}
+use Rattle.history.specs.Start.{opening}
 use Rattle.history.proofs.Answering.{entry_seat}
 use Rattle.history.specs.Steps.{entry_for}
 use Rattle.frame.specs.Core.{CoreView, start_of, IsNext}
