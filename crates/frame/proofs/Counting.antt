@@ -214,7 +214,7 @@ allowed_by s h e word.Await v seat p k = let_go_allowed (counts s h) e.seat e.n 
 allowed_by s h e word.Back v seat p k =
     back_allowed s h e k.0 v seat k.1 k.2 (ready_could s h e.seat k.0 k.3 k.1) k.4
 allowed_by s h e word.Drained v seat p k =
-    ap (λ (x : Entry). x.n) k.2 ∙ drain_allowed s.header.object (counts s h) k.1
+    (k.1, ap (λ (x : Entry). x.n) k.2 ∙ drain_allowed s.header.object (counts s h) k.1)
 allowed_by s h e word.Queued v seat p k = tt
 allowed_by s h e word.Missed v seat p k = tt
 allowed_by s h e word.Left v seat p k = tt

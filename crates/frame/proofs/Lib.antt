@@ -3,6 +3,7 @@ pub mod Seats
 pub mod Counting
 pub mod Bounds
 pub mod Stepping
+pub mod Naming
 pub mod Recording
 pub mod Owners
 pub mod Tables

@@ -1,5 +1,5 @@
 -- What is answered where an entry was added, or not.
-use Rattle.std.proofs.Common.{◌≡◌, inl, inr, ⊎_elim, ℕ, ◌<◌, eqb, true, false, not, ◌&&◌, [], ◌∷◌, ◌++◌, Option, Some, None, Result, Ok, Err, refl, ap, ◌∙◌, sym, subst}
+use Rattle.std.proofs.Common.{◌≡◌, inl, inr, ⊎_elim, ℕ, ◌<◌, Bool, eqb, true, false, not, ◌&&◌, [], ◌∷◌, ◌++◌, Option, Some, None, Result, Ok, Err, refl, ap, ◌∙◌, sym, subst}
 use Rattle.std.specs.Prelude.{IfOk, IfSome}
 use Rattle.std.specs.List.{All}
 use Rattle.std.proofs.lemmas.Bool.{cond_both}
@@ -14,7 +14,7 @@ use Rattle.history.specs.declared.step.Answer.TheVariants.{Recorded, Sleep}
 use Rattle.history.specs.declared.step.Step.{Step}
 use Rattle.history.specs.Answers.{answer_by, recorded}
 use Rattle.history.specs.Counts.{held}
-use Rattle.history.specs.Naming.{ready, named, named_by}
+use Rattle.history.specs.Naming.{named, named_by}
 use Rattle.history.specs.Room.{has_room, was_owed}
 use Rattle.history.specs.Steps.{entry_for}
 use Rattle.history.proofs.Changes.{counts_nothing, held_same}
@@ -32,17 +32,10 @@ no_room_for : (v : CoreView) (e : Entry) → has_room (start_of v) v.entries e �
     recorded (start_of v) v.entries e ≡ (Err HistoryFull, v.entries)
 no_room_for v e t = rw t refl
 
-pub recorded_now : (v new : CoreView) (e : Entry) (u : Unit {0}) (before after name : Option ℕ) →
-    IsAdded v e (Ok u) new →
-    before ≡ ready (start_of v) v.entries → after ≡ ready (start_of new) new.entries →
-    name ≡ named_by before after e.seat →
+pub recorded_now : (v new : CoreView) (e : Entry) (opens : Bool) (name : Option ℕ) →
+    IsAdded v e (Ok opens) new → name ≡ named (start_of v) v.entries e →
     IsRecorded v e (Ok (Recorded e name)) new
-recorded_now v new e u before after name is b a n =
-    let there : ready (start_of new) new.entries ≡ ready (start_of v) (e ∷ v.entries) =
-    ap (λ (w : CoreView). ready (start_of w) w.entries) is.1 in
-    let names : name ≡ named (start_of v) v.entries e =
-    n ∙ ap (λ x. named_by x after e.seat) b
-    ∙ ap (λ x. named_by (ready (start_of v) v.entries) x e.seat) (a ∙ there) in
+recorded_now v new e opens name is names =
     let made = room_for v e is.0 in
     inl (record {
       answer = ap (λ x. (let r : Result Answer Fault = Ok (Recorded e x) in r)) names
@@ -168,9 +161,10 @@ owed_entry v i step e q m =
 pub grown_not : (v new : CoreView) (f : Fault) → new ≡ v → new.entries ≡ made_by (Err f) ++ v.entries
 grown_not v new f is = ap (λ (w : CoreView). w.entries) is
 
-pub grown_now : (v new : CoreView) (e : Entry) (u : Unit {0}) (name : Option ℕ) → IsAdded v e (Ok u) new →
+pub grown_now : (v new : CoreView) (e : Entry) (opens : Bool) (name : Option ℕ) →
+    IsAdded v e (Ok opens) new →
     new.entries ≡ made_by (Ok (Recorded e name)) ++ v.entries
-grown_now v new e u name is = ap (λ (w : CoreView). w.entries) is.1
+grown_now v new e opens name is = ap (λ (w : CoreView). w.entries) is.1
 
 pub own_entry : (v : CoreView) (i : ℕ) (step : Step) (made : Option Entry) (e : Entry)
     (r : Result Answer Fault) →

@@ -165,7 +165,7 @@ pub refused : (k : Header) (e : Entry) (f : Fault) (kept kept' : HistoryView) (w
 refused k e f kept kept' was owes needed n cap is within room q full which memory same =
     ⊎_elim no_room no_memory which
   where
-    err : Fault → Result (Unit {0}) Fault
+    err : Fault → Result Bool Fault
     err x = Err x
 
     P : Fault → Type 0
@@ -257,9 +257,9 @@ grown k e kept mid new was owes needed now is q fits same cap added room stays p
           ∙ ap (λ n. max kept.places (whole_pages (length kept.entries + 1 + n))) (sym o);
     }
 
-pub is_added : (k : Header) (e : Entry) (u : Unit {0}) (kept new : HistoryView) → Grown k e kept new →
-    IsAdded (with_history k kept) e (Ok u) (with_history k new)
-is_added k e u kept new n =
+pub is_added : (k : Header) (e : Entry) (opens : Bool) (kept new : HistoryView) → Grown k e kept new →
+    IsAdded (with_history k kept) e (Ok opens) (with_history k new)
+is_added k e opens kept new n =
     let o = n.owed in
     let fits = n.room in
     let places = n.places ∙ ap (λ m. max kept.places (whole_pages (length kept.entries + 1 + m))) o in (

@@ -99,8 +99,8 @@ pub record IsNext (v : CoreView) (e : Entry) : Type 0 where
 
 -- An entry was added, or there was no room, or no memory. What was owed finds both. Memory is lacking only
 -- where places are.
-abbrev pub IsAdded : CoreView → Entry → Result (Unit {0}) Fault → CoreView → Type 0
-IsAdded old e (Ok u) new =
+abbrev pub IsAdded : CoreView → Entry → Result Bool Fault → CoreView → Type 0
+IsAdded old e (Ok opens) new =
     (has_room (start_of old) old.entries e ≡ true)
     × (new ≡ record old { entries = e ∷ old.entries; places = places_with old e })
 IsAdded old e (Err HistoryFull) new =

@@ -1,13 +1,14 @@
 -- What an entry makes of the counts, and what it asks of them.
-use Rattle.std.specs.Prelude.{◌≡◌, ◌<◌, true, Ok}
+use Rattle.std.specs.Prelude.{◌≡◌, ◌<◌, ℕ, Bool, true, false, Ok}
 use Rattle.history.specs.declared.entry.Entry.{Entry}
 use Rattle.history.specs.declared.entry.Word.{Word}
-use Rattle.history.specs.declared.entry.Word.TheVariants.{Got, TryGot, Granted, Gave, Counted, Await, Back, Drained}
+use Rattle.history.specs.declared.entry.Word.TheVariants.{Got, TryGot, Granted, Gave, Counted, Await, Back, Drained, Left}
 use Rattle.history.specs.Changes.{took, given, let_go, restored, drained}
 use Rattle.history.specs.Could.{could}
 use Rattle.history.specs.Counts.{Counts}
+use Rattle.history.specs.Object.{is_semaphore}
 use Rattle.history.specs.Steps.{gave}
-use Rattle.frame.specs.Hooks.{IsRestorable, let_go_answer, drain_answer}
+use Rattle.frame.specs.Hooks.{IsRestorable, NobodyElse, NobodyElseNew, let_go_answer, drain_answer}
 
 abbrev pub counts_after : Word → Counts → Entry → Counts
 counts_after Got k e = took k e.seat e.mode e.n
@@ -34,5 +35,31 @@ IsAllowed Gave k e = gave k.object k e.seat e.mode e.n ≡ Gave
 IsAllowed Counted k e = gave k.object k e.seat e.mode e.n ≡ Counted
 IsAllowed Await k e = let_go_answer k e.seat ≡ Ok e.n
 IsAllowed Back k e = IsRestorable k e.seat e.n
-IsAllowed Drained k e = e.n ≡ drain_answer k
+IsAllowed Drained k e = (is_semaphore k.object ≡ true) × (e.n ≡ drain_answer k)
 IsAllowed _ k e = Unit {0}
+
+-- Nobody but the entry's seat could take behind it who couldn't before. Where the seat leaves the line with
+-- holds another is first, and nobody but the seat could take at all. It is never said of one who leaves with
+-- none.
+abbrev pub OpensNobody : Word → Counts → Counts → ℕ → Type 0
+OpensNobody Granted old new i = NobodyElse new i
+OpensNobody Back old new i = NobodyElse new i
+OpensNobody Left old new i = ⊥
+OpensNobody _ old new i = NobodyElseNew old new i
+
+-- the words of the entries that can name somebody
+abbrev pub may_name : Word → Bool
+may_name Granted = true
+may_name Left = true
+may_name Gave = true
+may_name Counted = true
+may_name Await = true
+may_name _ = false
+
+-- Those before which it is to be known who is ready. Before a grant it is the one who is granted.
+abbrev pub asks_before : Word → Bool
+asks_before Left = true
+asks_before Gave = true
+asks_before Counted = true
+asks_before Await = true
+asks_before _ = false

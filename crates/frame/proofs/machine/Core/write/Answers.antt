@@ -1,9 +1,12 @@
-use Rattle.std.proofs.Common.{◌≡◌, ◌<◌, ◌≤◌, length, Result, Ok, Err, ◌∙◌, subst, arith, rules}
+use Rattle.std.proofs.Common.{◌≡◌, Bool, false, ◌<◌, ◌≤◌, length, None, Result, Ok, Err, ◌∙◌, sym, subst, arith, rules}
 use Rattle.history.specs.Counts.{counts}
 use Rattle.history.specs.declared.fault.Fault.{Fault}
 use Rattle.history.specs.Start.{opening}
-use Rattle.frame.specs.Core.{CoreView, IsAdded, with_history}
+use Rattle.history.specs.Naming.{named}
+use Rattle.frame.specs.Core.{CoreView, IsAdded, start_of, with_history}
+use Rattle.frame.specs.Effects.{OpensNobody}
 use Rattle.condition_queue.proofs.Movable.{movable, keeps_next}
+use Rattle.frame.proofs.Naming.{named_nobody}
 use Rattle.frame.proofs.Stepping.{next_seen, within, needs, refused, grown, is_added, stands_next, tabled, exclusive_next, shared_next}
 use Rattle.frame.proofs.machine.Core.write.Goals as goal
 
@@ -17,8 +20,8 @@ owed_behind-owed-requires-clause-owed g c =
     let n = next_seen k a.history e _ s c.self.view_is c.requires in
     within k h e c.owed-was_owed.result n (c.owed-was_owed.ensures.value ∙ s.owed)
 
-pub returns-in_err-make_room : goal.returns-in_err-make_room
-returns-in_err-make_room g c =
+pub returns-in_err-make_room-clause-added : goal.returns-in_err-make_room-clause-added
+returns-in_err-make_room-clause-added g c =
     let a = c.self.inside in
     let k = a.header in
     let h = a.history.entries in
@@ -31,7 +34,7 @@ returns-in_err-make_room g c =
     let new = c.make_room.new.self in
     let full = c.in_err-make_room.ensures in
     let fault = c.in_err-make_room.field-0.0 in
-    let err : Fault → Result Unit Fault = λ f. Err f in
+    let err : Fault → Result Bool Fault = λ f. Err f in
     let after : CoreView = with_history k new in
     let told : err fault ≡ c.from_residual.result = search rules in
     subst (λ r. IsAdded c.args.self.now e r after) told
@@ -40,8 +43,8 @@ returns-in_err-make_room g c =
     c.owed-was_owed.ensures.value c.owed-was_owed.ensures.within_cap c.owed-was_owed.ensures.reserved
     c.saturating_sub-needed.ensures full.full full.faults full.memory full.err))
 
-pub change-requires : goal.change-requires
-change-requires g c =
+pub change-may_name-requires : goal.change-may_name-requires
+change-may_name-requires g c =
     let a = c.self.inside in
     let k = a.header in
     let h = a.history.entries in
@@ -102,16 +105,16 @@ invariant_of-self-2 g c =
     let waiting =
     keeps_next (opening k) h e a.queue c.move_waiters.new.queue a.waiters c.move_waiters.new.waiters s.waiting
     moved.line moved.sleepers moved.joined moved.places moved.beds moved.conditions in
-    stands_next (g.H.Hooks.agrees a.hooks) (g.H.Hooks.agrees c.change.new.hooks) k a.history new a.queue
+    stands_next (g.H.Hooks.agrees a.hooks) (g.H.Hooks.agrees c.change-may_name.new.hooks) k a.history new a.queue
     c.move_waiters.new.queue
     a.waiters c.move_waiters.new.waiters a.seats.items c.update.new.seats.items e s n
-    (c.change.ensures.changed (counts (opening k) h) s.hooks n.allowed) waiting c.update.ensures
+    (c.change-may_name.ensures.changed (counts (opening k) h) s.hooks n.allowed) waiting c.update.ensures
     (grown k e a.history c.make_room.new.self new _ _ _ m.owed was c.saturating_sub-needed.ensures
     roomy.within_cap roomy.same s.cap c.add.ensures c.owed-was_owed.ensures.reserved
     roomy.reserved roomy.places)
 
-pub returns : goal.returns
-returns g c =
+pub returns-clause-added : goal.returns-clause-added
+returns-clause-added g c =
     let a = c.self.inside in
     let k = a.header in
     let e = c.args.entry in
@@ -121,8 +124,25 @@ returns g c =
     let was = c.owed-was_owed.ensures.value in
     let m = needs k a.history.entries e _ _ n (was ∙ s.owed) c.owed_behind-owed.ensures in
     let roomy = c.in_ok-make_room.ensures in
-    let P : CoreView → Type 0 = λ w. IsAdded w e (Ok tt) (with_history k new) in
-    subst P c.self.view_is (is_added k e tt a.history new
+    let P : CoreView → Type 0 = λ w. IsAdded w e (Ok c.change-may_name.result) (with_history k new) in
+    subst P c.self.view_is (is_added k e c.change-may_name.result a.history new
     (grown k e a.history c.make_room.new.self new _ _ _ m.owed was c.saturating_sub-needed.ensures
     roomy.within_cap roomy.same s.cap c.add.ensures c.owed-was_owed.ensures.reserved
     roomy.reserved roomy.places))
+
+pub returns-clause-nobody : goal.returns-clause-nobody
+returns-clause-nobody g c = λ is.
+    let a = c.self.inside in
+    let k = a.header in
+    let h = a.history.entries in
+    let e = c.args.entry in
+    let s = c.self.invariant in
+    let n = next_seen k a.history e _ s c.self.view_is c.requires in
+    let opens : c.change-may_name.result ≡ false = ok_same is in
+    let none = c.change-may_name.ensures.nobody opens (counts (opening k) h) s.hooks n.allowed in
+    subst (λ (v : CoreView). named (start_of v) v.entries e ≡ None) c.self.view_is
+    (named_nobody k h e s.range n (subst (λ x. OpensNobody e.word (counts (opening k) h) x e.seat)
+    (sym n.counts) none))
+  where
+    ok_same : {x y : Bool} → ◌≡◌ {A = Result Bool Fault} (Ok x) (Ok y) → x ≡ y
+    ok_same p = cc
