@@ -1,5 +1,5 @@
 -- What a core is to its callers, and how its fields stand for it.
-use Rattle.std.specs.Prelude.{◌≡◌, ◌⊎◌, ◌≤◌, ◌<◌, ℕ, ◌+◌, max, true, false, List, [], ◌∷◌, length, slice_get, Result, Ok, Err, Option, Some, IfSome}
+use Rattle.std.specs.Prelude.{◌≡◌, Bool, ◌⊎◌, ◌≤◌, ◌<◌, ℕ, ◌+◌, max, true, false, List, [], ◌∷◌, length, slice_get, Result, Ok, Err, Option, Some, IfSome}
 use Rattle.acquire_queue.specs.Line.{Line}
 use Rattle.condition_queue.specs.Following.{Keeps}
 use Rattle.condition_queue.specs.Sleepers.{Sleepers}
