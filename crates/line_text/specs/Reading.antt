@@ -23,7 +23,7 @@ pub record IsText {H I : Type 0} (form : Form H I) (text : List ℕ) (h : H) (it
 abbrev pub IsCutShort : {H I : Type 0} → Form H I → List ℕ → Type 0
 IsCutShort {H} {I} form text =
     HasNoBreak text ⊎ ((h : H) × (items : List I) × (rest : List ℕ) × Begins form text h items rest ×
-        HasNoBreak rest)
+    HasNoBreak rest)
 
 -- Its first line is no header line.
 abbrev pub HasBadHeader : {H I : Type 0} → Form H I → List ℕ → Type 0

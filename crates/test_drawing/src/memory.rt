@@ -20,6 +20,8 @@ fn fed(alloc: Global, entries: [Entry; 2]) -> Result<(Drawn, usize), Fail> {
     if entries[0].seat >= 3 || entries[1].seat >= 3 {
         return Err(Fail::new("an entry of no seat"));
     }
+    // The stack grows to its depth first: where it finds no memory the system ends the program.
+    drawn_of(alloc, LOCK, 0, &entries)?;
     let mut memory = Memory::take_all(alloc, PIECE)?;
     for refused in 0..MOST {
         match drawn_of(alloc, LOCK, 0, &entries) {

@@ -8,6 +8,8 @@ mod latches;
 #[cfg(test)]
 mod locks;
 #[cfg(test)]
+mod memory;
+#[cfg(test)]
 mod one_thread;
 #[cfg(test)]
 mod pairs;

@@ -1,6 +1,7 @@
 //! Tests of the calls of a monitor, by one thread.
 
 mod awaits;
+mod dropped;
 mod locks;
 mod others;
 mod passes;

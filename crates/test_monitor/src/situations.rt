@@ -39,7 +39,7 @@ fn core_of<H: Hooks + Drop>(alloc: Global, hooks: H, header: &Header) -> Result<
 }
 
 /// A monitor as the header says, and its passes.
-fn monitor_of<H: Hooks + Drop>(
+pub fn monitor_of<H: Hooks + Drop>(
     alloc: Global,
     hooks: H,
     header: &Header,
@@ -53,7 +53,7 @@ fn monitor_of<H: Hooks + Drop>(
 }
 
 /// A step of the pass of a seat. The monitor is never busy if one thread alone steps it.
-fn step_now<H: Hooks + Drop>(
+pub fn step_now<H: Hooks + Drop>(
     monitor: &Monitor<H>,
     passes: &mut Vec<Pass>,
     seat: u16,

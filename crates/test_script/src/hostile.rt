@@ -74,7 +74,7 @@ fn a_capital_spoils_what_it_stands_in(rt: HostRuntime) -> Result<(), Fail> {
 }
 
 /// Texts between `{"objects":[["a","latch seats 1 count 0 cap 16"]],"threads":` and `}`.
-const THREADS: [(&str, Option<ScriptFault>); 14] = [
+const THREADS: [(&str, Option<ScriptFault>); 16] = [
     ("[{\"repeat\":01,\"calls\":[]}]", Some(NotJson)),
     ("[{\"repeat\":+1,\"calls\":[]}]", Some(NotJson)),
     ("[{\"repeat\":1.,\"calls\":[]}]", Some(NotJson)),
@@ -85,6 +85,8 @@ const THREADS: [(&str, Option<ScriptFault>); 14] = [
         Some(BadThread(0)),
     ),
     ("[{\"repeat\":10E-1,\"calls\":[]}]", Some(BadThread(0))),
+    ("[{\"repeat\":1E308,\"calls\":[]}]", Some(BadThread(0))),
+    ("[{\"repeat\":1E309,\"calls\":[]}]", Some(NotJson)),
     (
         "[{\"repeat\":1,\"calls\":[],\"calls\":1}]",
         Some(BadThread(0)),

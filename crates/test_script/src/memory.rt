@@ -6,7 +6,7 @@ use script::read_script;
 use std::test::Fail;
 use test_support::memory::Memory;
 
-const PIECE: usize = 64;
+const PIECE: usize = 16;
 
 /// Memory is given back piece by piece. The script isn't read until there is enough, and then it is whole.
 #[test]

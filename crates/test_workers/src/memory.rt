@@ -12,13 +12,16 @@ use std::process::Abort;
 use std::test::Fail;
 use test_support::memory::Memory;
 use workers::RunFault::{Memory as NoMemory, NotStarted};
-use workers::run_threads;
+use workers::{OpenGate, run_threads};
 
 /// The stack of a thread fits in a piece of this size.
 const WIDE: usize = 1 << 24;
 
 /// More pieces than a run needs.
 const MOST: u32 = 4096;
+
+/// Each request of a run takes a piece of this size or more.
+const FINE: usize = 16;
 
 const SIXTEEN: &str = "{\"repeat\":1,\"calls\":[\"a acquire x 1\",\"a give x 1\"]}";
 
@@ -29,6 +32,8 @@ fn nobody_makes_a_call_unless_all_threads_were_started(rt: HostRuntime) -> Resul
     let threads = alike(rt.alloc(), SIXTEEN, 16)?;
     let text = script_of(rt.alloc(), lock, &threads)?;
     let script = read_script(rt.alloc(), text.as_bytes())?;
+    // The stack grows to its depth first: where it finds no memory the system ends the program.
+    run_threads(&rt, rt.alloc(), &script, &OpenGate)?;
     let mut memory = Memory::take_all(rt.alloc(), WIDE)?;
     let mut last: u16 = 0;
     for _ in 0..MOST {
@@ -45,6 +50,34 @@ fn nobody_makes_a_call_unless_all_threads_were_started(rt: HostRuntime) -> Resul
                 last = last.max(worker);
             }
             Err(fault) => assert!(rt; fault == NoMemory, "{fault}"),
+        }
+        assert!(rt; memory.give_piece());
+    }
+    Err(Fail::from("never run"))
+}
+
+/// The system keeps the thread of a run that has ended, with its stack, and lends it to the next. So what is
+/// refused here is each request before the calls, of the calls, and behind them. A call that lacks memory is
+/// unrecorded.
+#[test]
+fn each_request_of_a_run_is_refused(rt: HostRuntime) -> Result<(), Fail> {
+    let lock = "[\"a\",\"lock fair seats 1 conditions 1 cap 1000\"]";
+    let text = script_of(rt.alloc(), lock, SIXTEEN)?;
+    let script = read_script(rt.alloc(), text.as_bytes())?;
+    run_threads(&rt, rt.alloc(), &script, &OpenGate)?;
+    let mut memory = Memory::take_all(rt.alloc(), FINE)?;
+    for refused in 0..MOST {
+        match run_threads(&rt, rt.alloc(), &script, &OpenGate) {
+            Ok(report) => {
+                assert_eq!(rt; report.objects.len(), 1);
+                if report.unrecorded == 0 {
+                    assert_part(&rt, &report.objects[0], 2, NOTHING);
+                    assert!(rt; 20 <= refused, "refused {refused} times");
+                    return Ok(());
+                }
+                assert_eq!(rt; report.objects[0].share, 0);
+            }
+            Err(fault) => assert!(rt; fault == NoMemory || fault == NotStarted(0), "{fault}"),
         }
         assert!(rt; memory.give_piece());
     }

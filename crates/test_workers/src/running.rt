@@ -185,3 +185,38 @@ fn as_many_threads_and_objects_as_there_may_be(rt: HostRuntime) -> Result<(), Fa
     assert_eq!(rt; report.unrecorded, 0);
     Ok(())
 }
+
+/// One object of each kind, for 64 threads.
+const FOUR: &str = r#"["lock","lock fair seats 64 conditions 1 cap 10000"],
+ ["rw","rw nonfair seats 64 conditions 0 cap 10000"],
+ ["permits","semaphore fair seats 64 permits 3 cap 10000"],
+ ["latch","latch seats 64 count 64 cap 10000"]"#;
+
+/// Calls that all return, whatever the others do.
+const EACH: &str =
+    r#"{"repeat":4,"calls":["lock acquire x 1","lock await-timed 0 1","lock signal 0",
+ "lock give x 1","rw acquire s 1","rw give s 1","rw acquire x 1","rw give x 1","permits acquire s 2",
+ "permits give s 2","latch give s 1"]}"#;
+
+#[test]
+fn sixty_four_threads_at_four_objects_lose_no_call(rt: HostRuntime) -> Result<(), Fail> {
+    let threads = alike(rt.alloc(), EACH, 64)?;
+    let report = run(&rt, &script_of(rt.alloc(), FOUR, &threads)?, &OpenGate)?;
+    assert_eq!(rt; report.objects.len(), 4);
+    let permits = Totals {
+        free: 3,
+        created: 3,
+        ..NOTHING
+    };
+    let parts = [
+        (1024, NOTHING),
+        (1024, NOTHING),
+        (512, permits),
+        (256, NOTHING),
+    ];
+    for (part, (calls, totals)) in report.objects.iter().zip(&parts) {
+        assert_part(&rt, part, *calls, *totals);
+    }
+    assert_eq!(rt; report.unrecorded, 0);
+    Ok(())
+}

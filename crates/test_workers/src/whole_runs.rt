@@ -7,13 +7,14 @@ use std::sync::Wait;
 use std::test::Fail;
 use std::thread::Threads;
 use std::time::Clock;
+use streams::device::Device;
 use streams::memory_sink::MemorySink;
 use streams::memory_source::MemorySource;
 use streams::stream_fault::StreamFault;
 use tasks::fault::Fault;
 use tasks::run_script::run_script;
 use test_support::memory::Memory;
-use workers::{OpenGate, run_threads};
+use workers::{OpenGate, RunFault, run_threads};
 
 /// The calls of one thread, whose order is known. One answer in each round is recorded nowhere.
 const SCRIPT: &str = "{\"objects\":[[\"a\",\"lock fair seats 1 conditions 0 cap 16\"],\
@@ -34,8 +35,8 @@ const WRITTEN: &str = "object a\n\
 /// Places for more than is ever written.
 const PLACES: usize = 4096;
 
-/// So many bytes go through a device at once.
-const PIECE: usize = 64;
+/// So many bytes go through a device at once: one.
+const PIECE: usize = 1;
 
 /// How a run ended, and what the sink was given.
 #[derive(Drop)]
@@ -69,10 +70,10 @@ fn a_run_is_written(rt: HostRuntime) -> Result<(), Fail> {
 /// Each read of the script fails in turn; then nothing is written.
 #[test]
 fn a_failed_read_is_told(rt: HostRuntime) -> Result<(), Fail> {
-    for number in 0..100 {
+    for number in 0..1000 {
         let Ran { ended, sink } = run_over(&rt, SCRIPT, Some(number), None)?;
         if ended == Ok(0) {
-            assert!(rt; 4 <= number && sink.bytes() == WRITTEN.as_bytes());
+            assert!(rt; SCRIPT.len() as u64 <= number && sink.bytes() == WRITTEN.as_bytes());
             return Ok(());
         }
         assert!(rt; ended == Err(Fault::Stream(StreamFault::ReadFailed)));
@@ -84,10 +85,10 @@ fn a_failed_read_is_told(rt: HostRuntime) -> Result<(), Fail> {
 /// Each write fails in turn; then a front of the text was written.
 #[test]
 fn a_failed_write_is_told(rt: HostRuntime) -> Result<(), Fail> {
-    for number in 0..100 {
+    for number in 0..1000 {
         let Ran { ended, sink } = run_over(&rt, SCRIPT, None, Some(number))?;
         if ended == Ok(0) {
-            assert!(rt; 7 <= number && sink.bytes() == WRITTEN.as_bytes());
+            assert!(rt; WRITTEN.len() as u64 <= number && sink.bytes() == WRITTEN.as_bytes());
             return Ok(());
         }
         assert!(rt; ended == Err(Fault::Stream(StreamFault::WriteFailed)));
@@ -150,6 +151,8 @@ fn is_spelt<R: Threads + Wait + Clock + AllocGlobal + Sync + Abort>(
 /// The pieces are adjacent, so each one more makes a larger request possible.
 #[test]
 fn the_text_of_a_run_lacks_memory(rt: HostRuntime) -> Result<(), Fail> {
+    // The stack grows to its depth first: where it finds no memory the system ends the program.
+    run_over(&rt, SCRIPT, None, None)?;
     for pieces in 0..1000 {
         if is_spelt(&rt, pieces)? {
             assert!(rt; 256 <= pieces, "{pieces}");
@@ -157,4 +160,42 @@ fn the_text_of_a_run_lacks_memory(rt: HostRuntime) -> Result<(), Fail> {
         }
     }
     Err(Fail::from("never spelt"))
+}
+
+/// Runs the script over bytes that take no memory of their own. How it ended; what it wrote is left.
+fn run_within<R: Threads + Wait + Clock + AllocGlobal + Sync>(
+    rt: &R,
+    written: &mut Vec<u8>,
+) -> Result<u8, Fault> {
+    written.clear();
+    let mut source = Device::new(SCRIPT.as_bytes());
+    run_script(rt, &mut source, &mut Device::new(&mut *written))
+}
+
+/// Whether a run tells that it lacked memory, or that some of its calls did.
+fn tells_want(ended: &Result<u8, Fault>, written: &[u8]) -> bool {
+    match ended {
+        Ok(status) => *status == 0 && !written.ends_with(b"unrecorded 2\n"),
+        Err(Fault::Run(RunFault::NotStarted(worker))) => *worker == 0 && written.is_empty(),
+        Err(fault) => fault.status() == 5 && written.is_empty(),
+    }
+}
+
+/// Memory comes back piece by piece until the run is whole. The thread of a run that has ended is kept by the
+/// system, with its stack, and lent to the next.
+#[test]
+fn each_request_of_a_whole_run_is_refused(rt: HostRuntime) -> Result<(), Fail> {
+    let mut written = Vec::with_capacity(rt.alloc(), PLACES)?;
+    assert!(rt; run_within(&rt, &mut written) == Ok(0));
+    let mut memory = Memory::take_all(rt.alloc(), 16)?;
+    for refused in 0..4096 {
+        let ended = run_within(&rt, &mut written);
+        if ended == Ok(0) && written.as_slice() == WRITTEN.as_bytes() {
+            assert!(rt; 40 <= refused, "refused {refused} times");
+            return Ok(());
+        }
+        assert!(rt; tells_want(&ended, &written), "{refused}");
+        assert!(rt; memory.give_piece());
+    }
+    Err(Fail::from("never run"))
 }

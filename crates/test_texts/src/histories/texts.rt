@@ -12,7 +12,7 @@ use history_text::history_text::{read_text, write_text};
 use line_text::fault::{ReadFault, TextFault};
 use std::alloc::Global;
 use std::test::Fail;
-use test_support::memory::all_memory;
+use test_support::memory::Memory;
 
 const TEXT: &[u8] = b"aqs-history 1 lock fair seats 2 conditions 1 cap 64\n\
 0 0 got x 1\n\
@@ -90,14 +90,32 @@ fn a_seat_beyond_the_header_does_not_fit(rt: HostRuntime) -> Result<(), Fail> {
     Ok(())
 }
 
+/// Whether a text is read and written again, with what memory there is.
+fn is_round_trip(alloc: Global) -> Result<bool, Fault> {
+    match read_text(alloc, TEXT) {
+        Ok((header, history)) => match written(alloc, &header, &history)? {
+            Some(text) => Ok(text.as_slice() == TEXT),
+            None => Ok(false),
+        },
+        Err(ReadFault::OutOfMemory) => Err(Fault::OutOfMemory),
+        Err(ReadFault::Text(_)) => Ok(false),
+    }
+}
+
+/// Memory comes back piece by piece: each request of reading, and then each of writing, is refused until it is
+/// met.
 #[test]
-fn a_call_without_memory_says_so(rt: HostRuntime) -> Result<(), Fail> {
-    let (header, history) = read_text(rt.alloc(), TEXT)?;
-    let taken = all_memory(rt.alloc(), 64)?;
-    let read = read_text(rt.alloc(), TEXT).err();
-    let wrote = written(rt.alloc(), &header, &history).err();
-    drop(taken);
-    assert!(rt; read == Some(ReadFault::OutOfMemory));
-    assert!(rt; wrote == Some(Fault::OutOfMemory));
-    Ok(())
+fn each_request_of_a_round_trip_is_refused(rt: HostRuntime) -> Result<(), Fail> {
+    assert!(rt; is_round_trip(rt.alloc()) == Ok(true));
+    let mut memory = Memory::take_all(rt.alloc(), 64)?;
+    for refused in 0..4096 {
+        match is_round_trip(rt.alloc()) {
+            Ok(is_same) => {
+                assert!(rt; is_same && 100 <= refused, "refused {refused} times");
+                return Ok(());
+            }
+            Err(fault) => assert!(rt; fault == Fault::OutOfMemory && memory.give_piece()),
+        }
+    }
+    Err(Fail::new("memory was refused to the end"))
 }

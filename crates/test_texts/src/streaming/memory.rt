@@ -150,7 +150,8 @@ fn lock_of(alloc: Global, header: &Header) -> Result<Core<LockHooks>, Fault>
     Core::open(alloc, hooks, header.seats, header.conditions, header.cap)
 }
 
-const ONE_LOCK: &[u8] = b"aqs-steps 1 lock fair seats 2 conditions 0 cap 64\n0 acquire x 1\n1 try x 1\n1 look\n\
+const ONE_LOCK: &[u8] =
+    b"aqs-steps 1 lock fair seats 2 conditions 0 cap 64\n0 acquire x 1\n1 try x 1\n1 look\n\
     0 give x 1\nend 4\n";
 
 /// A fresh fair lock of which so many steps find memory.

@@ -1,0 +1,181 @@
+#!/usr/bin/env python3
+"""Devices that fail, and lines and texts without end: checks/devices.py PROGRAM [GIGABYTES].
+
+For each of replay, audit and run: input that comes one byte at a time and output that is taken so, an output
+that nobody reads, a full disk, a folder and a file that may not be read as FILE, and ever less address space
+until the system does not load the program. With GIGABYTES, that much of good steps flows through `aqs replay
+--history` into `aqs audit` by pipes, and their greatest memory is told. The last line is 'N passed, M
+failed'.
+"""
+
+import os
+import pathlib
+import resource
+import subprocess
+import sys
+import tempfile
+import threading
+
+import rules
+
+STEPS = b"""aqs-steps 1 lock fair seats 2 conditions 0 cap 64
+0 acquire x 1
+1 acquire x 1
+0 give x 1
+1 look
+end 4
+"""
+SCRIPT = b"""{"objects":[["a","lock fair seats 1 conditions 0 cap 16"]],
+ "threads":[{"repeat":1,"calls":["a acquire x 1","a give x 1"]}]}"""
+RUN = b"""object a
+aqs-history 1 lock fair seats 1 conditions 0 cap 16
+0 0 got x 1
+1 0 gave x 1
+end 2 2
+legal
+entries 2
+calls 2
+holds x 0 s 0 line 0 sleepers 0
+shares 2
+unrecorded 0
+"""
+HISTORY = rules.replay(STEPS, True)[1]
+
+# The words of each command, its input, and what it writes.
+COMMANDS = [
+    (["replay"], STEPS, rules.replay(STEPS)[1]),
+    (["replay", "--history"], STEPS, HISTORY),
+    (["audit"], HISTORY, rules.audit(HISTORY)[1]),
+    (["run"], SCRIPT, RUN),
+]
+READ_FAILED = (4, b"", b"aqs: read failed\n")
+WRITE_FAILED = (4, b"aqs: write failed\n")
+
+
+def run(program, words, text=b"", **how):
+    done = subprocess.run([program, *words], input=text, capture_output=True, timeout=60, **how)
+    return done.returncode, done.stdout, done.stderr
+
+
+def byte_by_byte(program, words, text):
+    """The input is written, and the output read, one byte at a time."""
+    child = subprocess.Popen([program, *words], bufsize=0, stdin=subprocess.PIPE, stdout=subprocess.PIPE,
+                             stderr=subprocess.PIPE)
+
+    def feed():
+        for at in range(len(text)):
+            child.stdin.write(text[at:at + 1])
+        child.stdin.close()
+
+    feeder = threading.Thread(target=feed)
+    feeder.start()
+    taken = b"".join(iter(lambda: child.stdout.read(1), b""))
+    feeder.join()
+    error = child.stderr.read()
+    return child.wait(), taken, error
+
+
+def into(program, words, text, output):
+    """The status and the error of a program that writes to an output."""
+    done = subprocess.run([program, *words], input=text, stdout=output, stderr=subprocess.PIPE, timeout=60)
+    return done.returncode, done.stderr
+
+
+def closed_pipe(program, words, text):
+    reading, writing = os.pipe()
+    os.close(reading)
+    try:
+        return into(program, words, text, writing)
+    finally:
+        os.close(writing)
+
+
+def within(program, words, text, pages):
+    """The answer with so many pages of address space."""
+    size = pages * resource.getpagesize()
+    return run(program, words, text, preexec_fn=lambda: resource.setrlimit(resource.RLIMIT_AS, (size, size)))
+
+
+def little_memory(program, words, text, wanted):
+    """Whether a command with ever less address space answers as ever, or lacks memory and writes nothing, down
+    to the size at which the system does not load the program."""
+    most = next(pages for pages in range(2000, 200_000, 2000) if within(program, words, text, pages)[0] == 0)
+    lacked = 0
+    for pages in range(most, 0, -1):
+        answer = within(program, words, text, pages)
+        if answer in ((5, b"", b"aqs: out of memory\n"), (4, b"", b"aqs: thread 0 not started\n")):
+            lacked += 1
+        elif answer != (0, wanted, b""):
+            is_loading = answer[0] == 127 or answer[0] < 0 and not answer[1]
+            print(f"  {words}: {lacked} sizes lacked memory; at {pages} pages {answer[0]} {answer[2][:80]!r}")
+            return is_loading
+    return False
+
+
+def results(program, scratch):
+    hidden = scratch / "hidden"
+    hidden.write_bytes(STEPS)
+    hidden.chmod(0)
+    for words, text, wanted in COMMANDS:
+        name = " ".join(words)
+        yield f"{name}, byte by byte", byte_by_byte(program, words, text) == (0, wanted, b"")
+        yield f"{name}, nobody reads", closed_pipe(program, words, text) == WRITE_FAILED
+        with open("/dev/full", "wb") as full:
+            yield f"{name}, a full disk", into(program, words, text, full) == WRITE_FAILED
+        with open(scratch / "in", "wb") as only_written:
+            done = subprocess.run([program, *words], stdin=only_written, capture_output=True, timeout=60)
+            answer = (done.returncode, done.stdout, done.stderr)
+            yield f"{name}, an input that is not read", answer == READ_FAILED
+        with open("/dev/null", "rb") as only_read:
+            answer = into(program, words, text, only_read)
+            yield f"{name}, an output that is not written", answer == WRITE_FAILED
+        yield f"{name} of a folder", run(program, [*words, str(scratch)]) == READ_FAILED
+        yield f"{name} of no file", run(program, [*words, str(scratch / "none")]) == READ_FAILED
+        yield f"{name} below a file", run(program, [*words, str(hidden / "below")]) == READ_FAILED
+        if os.geteuid():
+            yield f"{name} of a file that may not be read", run(program, [*words, str(hidden)]) == READ_FAILED
+        yield f"{name}, no input", run(program, words)[0] == 3
+        yield f"{name}, little memory", little_memory(program, words, text, wanted)
+
+
+def flow(program, gigabytes):
+    """So much of good steps, each an entry, from a pipe into a history text and from there into its audit."""
+    line = b"255 entryinterrupt s 2147483647\n"
+    block = line * 30_000
+    blocks = gigabytes * 10**9 // len(block)
+    replay = subprocess.Popen([program, "replay", "--history"], stdin=subprocess.PIPE, stdout=subprocess.PIPE)
+    audit = subprocess.Popen([program, "audit"], stdin=replay.stdout, stdout=subprocess.PIPE)
+    replay.stdout.close()
+    replay.stdin.write(b"aqs-steps 1 semaphore fair seats 256 permits 0 cap 4294967295\n")
+    for _ in range(blocks):
+        replay.stdin.write(block)
+    entries = blocks * 30_000
+    replay.stdin.write(b"end %d\n" % entries)
+    replay.stdin.close()
+    written = audit.stdout.read()
+    for name, child in (("replay --history", replay), ("audit", audit)):
+        _, status, used = os.wait4(child.pid, 0)
+        each = used.ru_maxrss * 1024 / entries
+        print(f"  {name}: {used.ru_maxrss} kB at most, {each:.2f} bytes an entry, {used.ru_utime:.0f} s")
+        yield f"{name} of {gigabytes} GB", status == 0
+    wanted = f"legal\nentries {entries}\ncalls {entries}\nheld 0 free 0 created 0 unheld 0 line 0\n"
+    yield f"{entries} entries are legal", written == wanted.encode()
+
+
+def main(words):
+    program = str(pathlib.Path(words[0]).resolve())
+    passed = failed = 0
+    with tempfile.TemporaryDirectory() as scratch:
+        tries = flow(program, int(words[1])) if len(words) > 1 else results(program, pathlib.Path(scratch))
+        for name, good in tries:
+            passed, failed = passed + good, failed + (not good)
+            if not good:
+                print(f"failed: {name}")
+    print(f"{passed} passed, {failed} failed")
+    return 0 if passed and not failed else 1
+
+
+if __name__ == "__main__":
+    if len(sys.argv) not in (2, 3):
+        sys.exit(__doc__)
+    sys.exit(main(sys.argv[1:]))

@@ -1,0 +1,211 @@
+#!/usr/bin/env python3
+"""Random texts through the program: checks/fuzz.py PROGRAM [TEXTS [SEED [PROCESSES]]].
+
+Half of the texts are good steps: `aqs replay`, `aqs replay --history` and `aqs audit` of that history must
+answer as checks/rules.py does, and the history must be legal. A quarter are steps that were spoilt, a quarter
+histories that were, in their entries or in their bytes. Whatever disagrees is printed, and the status is 1.
+"""
+
+import collections
+import multiprocessing
+import random
+import sys
+
+import rules
+from program import Program
+
+WORDS = ("acquire", "try", "tryfair", "entryinterrupt", "give", "look", "expire", "interrupt", "await",
+         "signal", "signalall", "drain")
+AMOUNTS = (0, 1, 1, 1, 1, 2, 2, 2, 3, 4, 5, 2147483646, 2147483647, 2147483648)
+
+
+def header(chance):
+    """An object part. Most are small, so that threads meet and histories fill up."""
+    seats = chance.choice((1, 2, 2, 3, 3, 4, 5, 8, chance.randint(1, 256)))
+    cap = chance.choice((16, 17, 20, 32, 64, 100, 1000, 4294967295, chance.randint(16, 4294967295)))
+    policy = chance.choice(("fair", "nonfair"))
+    kind = chance.choice(("lock", "lock", "rw", "rw", "semaphore", "semaphore", "latch"))
+    if kind == "latch":
+        return f"latch seats {seats} count {chance.choice((0, 1, 2, 3, 2147483647))} cap {cap}"
+    if kind == "semaphore":
+        permits = chance.choice((0, 1, 1, 2, 3, 5, -1, -2, 2147483647, -2147483648, chance.randint(-9, 9)))
+        return f"semaphore {policy} seats {seats} permits {permits} cap {cap}"
+    return f"{kind} {policy} seats {seats} conditions {chance.choice((0, 1, 1, 2, 3, 16))} cap {cap}"
+
+
+def amount(chance, kind):
+    if kind != "semaphore":
+        return chance.choice((1,) * 40 + (0, 2, 4294967295))
+    return chance.choice((*AMOUNTS, chance.randint(0, 4294967295)))
+
+
+def step(chance, state):
+    """A seat and a step, most of them such that the seat's phase and the object have it."""
+    head = state.header
+    seat = chance.randrange(min(head.seats, chance.choice((2, 2, 3, 256))))
+    if chance.random() < 0.05:
+        name = chance.choice(WORDS)
+    elif state.arrival_of(seat) is not None or state.is_asleep(seat):
+        name = chance.choice(("look", "look", "look", "expire", "interrupt"))
+    else:
+        names = ["acquire"] * 3 + ["give"] * 3 + ["try", "tryfair", "entryinterrupt"]
+        names += ["await", "await", "signal", "signalall"] if head.conditions else []
+        names += ["drain"] if head.kind == "semaphore" else []
+        name = chance.choice(names)
+    if name in ("await", "signal", "signalall"):
+        is_there = head.conditions and chance.random() < 0.95
+        at = chance.randrange(head.conditions) if is_there else chance.randint(0, 255)
+        return seat, rules.Step(name, None, None, at)
+    if name in ("acquire", "try", "tryfair", "entryinterrupt", "give"):
+        mode = {"lock": "x", "rw": chance.choice("xs")}.get(head.kind, "s")
+        if chance.random() < 0.02:
+            mode = chance.choice("xs")
+        return seat, rules.Step(name, mode, amount(chance, head.kind), None)
+    return seat, rules.Step(name, None, None, None)
+
+
+def spelt(seat, asked):
+    words = [str(seat), asked.name]
+    words += [] if asked.mode is None else [asked.mode, str(asked.n)]
+    words += [] if asked.at is None else [str(asked.at)]
+    return " ".join(words)
+
+
+def steps_text(chance):
+    part = header(chance)
+    state = rules.State(rules.header_part(part.encode()))
+    lines = []
+    for _ in range(chance.choice((0, 1, 2, 5, 10, 20, 40, 40, 80))):
+        seat, asked = step(chance, state)
+        state.answer(seat, asked)
+        lines.append(spelt(seat, asked))
+    return "\n".join([f"aqs-steps 1 {part}", *lines, f"end {len(lines)}", ""]).encode()
+
+
+NUMBERS = (b"0", b"1", b"2", b"00", b"-1", b"+1", b"255", b"256", b"2147483647", b"2147483648", b"4294967295",
+           b"4294967296", b"18446744073709551615", b"18446744073709551616", b"1" * 40, b"")
+
+
+def spoilt_bytes(chance, text):
+    """One change of a text: a byte, a cut, a line, a word."""
+    at = chance.randrange(len(text))
+    way = chance.randrange(9)
+    if way == 0:
+        return text[:at] + bytes([chance.randrange(256)]) + text[at + 1:]
+    if way == 1:
+        return text[:at]
+    if way == 2:
+        return text[:at] + text[at + 1:]
+    if way == 3:
+        return text[:at] + bytes([chance.choice(b"\x00\r\n\t \x7f\x80\xc3\xff019xs-")]) + text[at:]
+    if way == 4:
+        return text + chance.choice((b"\n", b"end 0\n", b"\x00", b" ", text))
+    lines = text.split(b"\n")
+    row = chance.randrange(len(lines))
+    if way == 5:
+        lines[row:row + 1] = []
+    elif way == 6:
+        lines.insert(row, chance.choice(lines))
+    elif way == 7:
+        lines[row] += chance.choice((b"\r", b" ", b" x", b"\x00"))
+    else:
+        words = lines[row].split(b" ")
+        words[chance.randrange(len(words))] = chance.choice(NUMBERS + (b"x", b"s", chance.choice(words)))
+        lines[row] = b" ".join(words)
+    return b"\n".join(lines)
+
+
+def spoilt_entries(chance, text):
+    """A history text that still reads well, with an entry changed, left out, said twice or elsewhere."""
+    try:
+        head, entries = rules.read_history(text)
+    except rules.TextFault:
+        return text
+    if not entries:
+        return text
+    at = chance.randrange(len(entries))
+    way = chance.randrange(4)
+    if way == 0:
+        del entries[at]
+    elif way == 1:
+        entries.insert(chance.randrange(len(entries) + 1), entries[at])
+    elif way == 2:
+        other = chance.randrange(len(entries))
+        entries[at], entries[other] = entries[other], entries[at]
+    else:
+        entry = entries[at]
+        field = chance.choice(("seat", "n", "mode", "at", "end", "word"))
+        other = getattr(chance.choice(entries), field)
+        n = max(0, min(rules.LIMIT, entry.n + chance.choice((-1, 1))))
+        values = {"seat": chance.randrange(head.seats), "n": n, "at": chance.randrange(16)}
+        entries[at] = entry._replace(**{field: values.get(field, other)})
+    return history_text(head, entries)
+
+
+def history_text(head, entries):
+    lines = [f"{number} {entry.seat} {rules.spelt(entry)}" for number, entry in enumerate(entries)]
+    calls = sum(entry.word not in rules.NO_CALL for entry in entries)
+    part = head.part.decode()
+    return "\n".join([f"aqs-history 1 {part}", *lines, f"end {len(entries)} {calls}", ""]).encode()
+
+
+def tries(chance):
+    """The words, the text and the wanted answer of each run for one random text."""
+    steps = steps_text(chance)
+    way = chance.randrange(4)
+    if way == 0:
+        for _ in range(chance.choice((1, 1, 2, 3))):
+            steps = spoilt_bytes(chance, steps) or b"\n"
+        yield ["replay"], steps, rules.replay(steps)
+        return
+    history = rules.replay(steps, True)
+    if way == 1:
+        text = history[1]
+        spoil = chance.choice((spoilt_bytes, spoilt_entries, spoilt_entries))
+        for _ in range(chance.choice((1, 1, 2, 3))):
+            text = spoil(chance, text) or b"\n"
+        yield ["audit"], text, rules.audit(text)
+        return
+    audited = rules.audit(history[1])
+    assert audited[0] == 0, steps
+    yield ["replay"], steps, rules.replay(steps)
+    yield ["replay", "--history"], steps, history
+    yield ["audit"], history[1], audited
+
+
+def fuzz(path, texts, seed):
+    """How many runs there were of each kind, and those that disagree."""
+    chance = random.Random(seed)
+    program = Program(path)
+    kinds, wrong = collections.Counter(), []
+    for _ in range(texts):
+        for words, text, wanted in tries(chance):
+            answer = program.answer(words, text)
+            kinds[" ".join(words), wanted[0]] += 1
+            if answer != wanted:
+                wrong.append((words, text, wanted, answer))
+    program.close()
+    return kinds, wrong
+
+
+def main(words):
+    path = words[0]
+    texts, seed, processes = [int(word) for word in words[1:]] + [2000, 1, 2][len(words) - 1:]
+    parts = [(path, texts // processes, seed * 1000 + number) for number in range(processes)]
+    kinds, wrong = collections.Counter(), []
+    with multiprocessing.Pool(processes) as pool:
+        for some, bad in pool.starmap(fuzz, parts):
+            kinds += some
+            wrong += bad
+    for (name, status), count in sorted(kinds.items()):
+        print(f"{count} runs of {name}, status {status}")
+    for asked, text, wanted, answer in wrong[:10]:
+        print(f"disagrees: {asked} {text!r}\n  wanted {wanted!r}\n  answer {answer!r}")
+    print(f"{sum(kinds.values()) - len(wrong)} passed, {len(wrong)} failed")
+    return 1 if wrong or not kinds else 0
+
+
+if __name__ == "__main__":
+    if not 2 <= len(sys.argv) <= 5:
+        sys.exit(__doc__)
+    sys.exit(main(sys.argv[1:]))

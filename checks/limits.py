@@ -1,0 +1,162 @@
+#!/usr/bin/env python3
+"""Each limit at its value and one past it, through the program: checks/limits.py PROGRAM.
+
+The limits are those of docs/SPECIFICATION.md. What is past a limit has the fault that is told here, and
+nothing is written. What is at the limit is answered as checks/rules.py does, a script with status 0. The last line is
+'N passed, M failed'.
+"""
+
+import json
+import pathlib
+import subprocess
+import sys
+
+import rules
+
+REPLAY, AUDIT, RUN = ["replay"], ["audit"], ["run"]
+HEADERS = ((REPLAY, "aqs-steps 1 ", "end 0\n"), (AUDIT, "aqs-history 1 ", "end 0 0\n"))
+
+
+def headers():
+    """Object parts: what is within the limits, and what is past one."""
+    parts = {
+        "lock fair seats {} conditions 0 cap 16": ((1, 256), (0, 257)),
+        "lock nonfair seats 1 conditions {} cap 16": ((0, 16), (-1, 17)),
+        "lock fair seats 1 conditions 0 cap {}": ((16, 4294967295), (15, 4294967296)),
+        "rw fair seats {} conditions 0 cap 16": ((1, 256), (0, 257)),
+        "rw nonfair seats 1 conditions {} cap 16": ((0, 16), (-1, 17)),
+        "rw fair seats 1 conditions 0 cap {}": ((16, 4294967295), (15, 4294967296)),
+        "semaphore fair seats {} permits 0 cap 16": ((1, 256), (0, 257)),
+        "semaphore nonfair seats 1 permits {} cap 16": ((-2147483648, 2147483647), (-2147483649, 2147483648)),
+        "semaphore fair seats 1 permits 0 cap {}": ((16, 4294967295), (15, 4294967296)),
+        "latch seats {} count 0 cap 16": ((1, 256), (0, 257)),
+        "latch seats 1 count {} cap 16": ((0, 2147483647), (-1, 2147483648)),
+        "latch seats 1 count 0 cap {}": ((16, 4294967295), (15, 4294967296)),
+    }
+    for part, (within, past) in parts.items():
+        for words, name, end in HEADERS:
+            for value in within:
+                yield words, f"{name}{part.format(value)}\n{end}", None
+            for value in past:
+                yield words, f"{name}{part.format(value)}\n{end}", "bad header"
+        for value in within:
+            yield RUN, script([["a", part.format(value)]], value if "seats {}" in part else 1), None
+        for value in past:
+            yield RUN, script([["a", part.format(value)]], 1), "bad object 0"
+
+
+def steps(part, lines):
+    return f"aqs-steps 1 {part}\n" + "".join(f"{line}\n" for line in lines) + f"end {len(lines)}\n"
+
+
+def history(part, lines):
+    numbered = "".join(f"{number} {line}\n" for number, line in enumerate(lines))
+    return f"aqs-history 1 {part}\n{numbered}end {len(lines)} {len(lines)}\n"
+
+
+def lines():
+    """Numbers of steps and entries, and numbers of entries."""
+    semaphore, lock = "semaphore fair seats 2 permits 1 cap 32", "lock fair seats 2 conditions 16 cap 32"
+    for name in ("acquire s {}", "try s {}", "tryfair s {}", "entryinterrupt s {}", "give s {}"):
+        amounts = (0, 2147483647, 2147483648, 4294967295)
+        yield REPLAY, steps(semaphore, ["0 " + name.format(n) for n in amounts]), None
+        yield REPLAY, steps(semaphore, ["0 " + name.format(4294967296)]), "bad line 2"
+    for name in ("await {}", "signal {}", "signalall {}"):
+        yield REPLAY, steps(lock, ["0 " + name.format(c) for c in (0, 15, 16, 255)]), None
+        yield REPLAY, steps(lock, ["0 " + name.format(256)]), "bad line 2"
+    yield REPLAY, steps(lock, ["1 try x 1"]), None
+    yield REPLAY, steps(lock, ["2 try x 1"]), "bad line 2"
+    for words in ("got s {}", "refused s {} Interrupted", "left s {} timeout", "drained s {}", "signal 0 {}"):
+        yield AUDIT, history(semaphore, ["0 " + words.format(2147483647)]), None
+        yield AUDIT, history(semaphore, ["0 " + words.format(2147483648)]), "bad line 2"
+    ends_call = {"signal {} 0": 1, "await {} 1": 0, "lapse {} timeout": 0, "back {} 1 timeout": 1}
+    for words, calls in ends_call.items():
+        at_limit = history(lock, ["0 " + words.format(15)])
+        yield AUDIT, at_limit.replace("end 1 1", f"end 1 {calls}"), None
+        yield AUDIT, history(lock, ["0 " + words.format(16)]), "bad line 2"
+    for cap in (16, 20):
+        part = f"latch seats 1 count 0 cap {cap}"
+        yield AUDIT, history(part, ["0 got s 1"] * cap), None
+        yield AUDIT, history(part, ["0 got s 1"] * (cap + 1)), f"bad line {cap + 2}"
+        yield REPLAY, steps(part, ["0 acquire s 1"] * (cap + 1)), None
+
+
+def holds():
+    """Hold limits: the last that is granted, and the first that is refused."""
+    rw = "rw nonfair seats 2 conditions 0 cap 200000"
+    read = ["1 acquire s 1", "1 try s 1", "0 give s 1", "1 acquire s 1"]
+    yield REPLAY, steps(rw, ["0 acquire s 1"] * 65536 + read), None
+    write = ["0 acquire s 1", "1 try x 1", "0 give x 1", "0 try x 1"]
+    yield REPLAY, steps(rw, ["0 acquire x 1"] * 65536 + write), None
+    most = "semaphore nonfair seats 2 permits 2147483646 cap 64"
+    give = ["0 give s 1", "0 give s 1", "1 drain", "0 give s 2147483647", "0 give s 1", "1 look"]
+    yield REPLAY, steps(most, give), None
+    least = "semaphore nonfair seats 2 permits -2147483648 cap 64"
+    wait = ["0 acquire s 0", "1 give s 2147483647", "1 give s 1", "0 look", "1 give s 2147483647"]
+    yield REPLAY, steps(least, wait), None
+
+
+def script(objects, threads, calls=(), repeat=1):
+    works = [{"repeat": repeat, "calls": list(calls)}] + [{"repeat": 1, "calls": []}] * (threads - 1)
+    return json.dumps({"objects": objects, "threads": works})
+
+
+def scripts():
+    latch = "latch seats {} count 0 cap 16"
+    one = [["a", latch.format(1)]]
+    named = lambda count: [[f"o{number}", latch.format(1)] for number in range(count)]
+    permits = [["a", "semaphore fair seats 1 permits 0 cap 16"]]
+    yield RUN, script(named(64), 1), None
+    yield RUN, script(named(65), 1), "bad top"
+    yield RUN, script([], 1), "bad top"
+    yield RUN, script([["a", latch.format(256)]], 256), None
+    yield RUN, script([["a", latch.format(257)]], 257), "bad top"
+    yield RUN, script(one, 1, (), 1000000), None
+    yield RUN, script(one, 1, (), 1000001), "bad thread 0"
+    yield RUN, script(one, 1, (), 0), "bad thread 0"
+    yield RUN, script(one, 1, ["a give s 1"] * 10000), None
+    yield RUN, script(one, 1, ["a give s 1"] * 10001), "bad thread 0"
+    for length, fault in ((1, None), (32, None), (0, "bad object 0"), (33, "bad object 0")):
+        yield RUN, script([["a" * length, latch.format(1)]], 1), fault
+    for call, within, past in (
+        ("a try s {}", 4294967295, 4294967296),
+        ("a await {}", 255, 256),
+        ("interrupt {}", 0, 1),
+        ("a acquire-timed s 0 {}", 4294967295, 4294967296),
+    ):
+        yield RUN, script(permits, 1, [call.format(within)]), None
+        yield RUN, script(permits, 1, [call.format(past)]), "bad call 0 0"
+    deep = lambda levels: '{"objects":%s,"threads":1}' % ("[" * levels + "]" * levels)
+    yield RUN, deep(126), "bad top"
+    yield RUN, deep(127), "not JSON"
+    yield RUN, '{"objects":1E308}', "bad top"
+    yield RUN, '{"objects":1E309}', "not JSON"
+
+
+def is_so(program, words, text, fault):
+    done = subprocess.run([program, *words], input=text.encode(), capture_output=True, timeout=60)
+    answer = (done.returncode, done.stdout, done.stderr)
+    read = None if words == RUN else (rules.audit if words == AUDIT else rules.replay)(text.encode())
+    if fault is not None:
+        return answer == (3, b"", f"aqs: {fault}\n".encode()) and read in (None, answer)
+    if words == RUN:
+        return (answer[0], answer[2]) == (0, b"") and rules.script_fault(text.encode()) is None
+    return answer == read and answer[0] < 3
+
+
+def main(words):
+    program = str(pathlib.Path(words[0]).resolve())
+    passed = failed = 0
+    for asked, text, fault in [*headers(), *lines(), *holds(), *scripts()]:
+        good = is_so(program, asked, text, fault)
+        passed, failed = passed + good, failed + (not good)
+        if not good:
+            print(f"failed: {asked[0]} {text[:200]!r}, {fault}")
+    print(f"{passed} passed, {failed} failed")
+    return 0 if passed and not failed else 1
+
+
+if __name__ == "__main__":
+    if len(sys.argv) != 2:
+        sys.exit(__doc__)
+    sys.exit(main(sys.argv[1:]))

@@ -1,0 +1,584 @@
+"""The rules of docs/SPECIFICATION.md once more, in Python: what `aqs` must answer to a text.
+
+Written from that page alone, so that a program and a reading of it that share no line can be compared.
+`replay(text, history)` and `audit(text)` give the status, the output and the line on standard error.
+`script_fault(text)` gives the first fault of a thread script, or None.
+"""
+import json
+import re
+from collections import namedtuple
+
+LIMIT = 2147483647
+READS = 65535
+CONDITIONS = 16
+
+Header = namedtuple("Header", "kind fair seats conditions permits count cap part")
+Entry = namedtuple("Entry", "seat word mode n at end")
+Arrival = namedtuple("Arrival", "seat mode n back")
+Step = namedtuple("Step", "name mode n at")
+
+REFUSALS = ("NotOwner", "TooManyHolds", "TooManyPermits", "Interrupted", "HoldsRead")
+NO_CALL = ("queued", "await", "lapse")
+
+
+class TextFault(Exception):
+    """The first fault of a text, in the words of its line on standard error."""
+
+
+def number(word, most):
+    """The number that a word spells, if it is at most so much."""
+    if not re.fullmatch(rb"0|[1-9][0-9]*", word) or len(word) > 20:
+        return None
+    value = int(word)
+    return value if value <= most else None
+
+
+def signed(word):
+    """The opening permits that a word spells."""
+    if word.startswith(b"-"):
+        value = number(word[1:], LIMIT + 1)
+        return -value if value else None
+    return number(word, LIMIT)
+
+
+def header_part(part):
+    """The header that an object part spells, or None."""
+    words = part.split(b" ")
+    if words[0] == b"latch":
+        names, kind, fair = words[1::2], "latch", False
+        values = words[2::2]
+        wanted = [b"seats", b"count", b"cap"]
+    else:
+        kind = {b"lock": "lock", b"rw": "rw", b"semaphore": "semaphore"}.get(words[0])
+        if kind is None or len(words) < 2 or words[1] not in (b"fair", b"nonfair"):
+            return None
+        fair = words[1] == b"fair"
+        names, values = words[2::2], words[3::2]
+        wanted = [b"seats", b"permits" if kind == "semaphore" else b"conditions", b"cap"]
+    if names != wanted or len(values) != 3:
+        return None
+    seats, cap = number(values[0], 256), number(values[2], 4294967295)
+    if not seats or cap is None or cap < 16:
+        return None
+    middle = {
+        "latch": lambda word: number(word, LIMIT),
+        "semaphore": signed,
+        "lock": lambda word: number(word, CONDITIONS),
+        "rw": lambda word: number(word, CONDITIONS),
+    }[kind](values[1])
+    if middle is None:
+        return None
+    conditions = middle if kind in ("lock", "rw") else 0
+    permits = middle if kind == "semaphore" else 0
+    count = middle if kind == "latch" else 0
+    return Header(kind, fair, seats, conditions, permits, count, cap, part)
+
+
+class State:
+    """What a history says, entry by entry."""
+
+    def __init__(self, header):
+        self.header = header
+        self.holds = [{"x": 0, "s": 0} for _ in range(header.seats)]
+        self.free = header.permits
+        self.unheld = 0
+        self.count = header.count
+        self.line = []
+        self.sleepers = [[] for _ in range(header.conditions)]
+        self.saved = {}
+        self.ends = {}
+        self.entries = 0
+        self.calls = 0
+
+    def owner(self):
+        for seat, holds in enumerate(self.holds):
+            if holds["x"]:
+                return seat
+        return None
+
+    def readers(self):
+        return sum(holds["s"] for holds in self.holds)
+
+    def could(self, seat, mode, n):
+        """Whether a seat could acquire, and whether it is at the limit."""
+        kind = self.header.kind
+        if kind == "semaphore":
+            return self.free - n >= 0, False
+        if kind == "latch":
+            return self.count == 0, False
+        owner = self.owner()
+        if kind == "lock" or mode == "x":
+            most = LIMIT if kind == "lock" else READS
+            if owner == seat:
+                own = self.holds[seat]["x"]
+                return own < most, own == most
+            return owner is None and (kind == "lock" or self.readers() == 0), False
+        if owner is not None and owner != seat:
+            return False, False
+        readers = self.readers()
+        return readers < READS, readers == READS
+
+    def is_held_back(self, seat, mode):
+        kind = self.header.kind
+        if kind == "latch" or not self.line:
+            return False
+        if kind in ("lock", "rw") and self.holds[seat]["x"]:
+            return False
+        if kind == "rw" and mode == "s" and self.holds[seat]["s"]:
+            return False
+        if self.header.fair:
+            return True
+        return kind == "rw" and mode == "s" and self.line[0].mode == "x"
+
+    def arrival_of(self, seat):
+        return next((arrival for arrival in self.line if arrival.seat == seat), None)
+
+    def is_asleep(self, seat):
+        return any(seat in asleep for asleep in self.sleepers)
+
+    def fault_of(self, seat, step):
+        """The fault that is not recorded, apart from room."""
+        kind, name = self.header.kind, step.name
+        permits = kind in ("semaphore", "latch")
+        on_condition = name in ("await", "signal", "signalall")
+        if (
+            (step.mode == "s" and kind == "lock")
+            or (step.mode == "x" and permits)
+            or (on_condition and permits)
+            or (name == "try" and kind == "latch")
+            or (name == "drain" and kind != "semaphore")
+        ):
+            return "WrongMode"
+        if on_condition and step.at >= self.header.conditions:
+            return "NoSuchCondition"
+        if step.n is not None and (step.n > LIMIT or (step.n != 1 and kind != "semaphore")):
+            return "BadAmount"
+        is_idle = self.arrival_of(seat) is None and not self.is_asleep(seat)
+        if (name in ("look", "expire", "interrupt")) == is_idle:
+            return "OutOfPhase"
+        return None
+
+    def entry_of(self, seat, step):
+        """The entry that a step makes which is no unrecorded fault; None if the seat sleeps on."""
+        arrival = self.arrival_of(seat)
+        if arrival is not None:
+            return self.entry_in_line(arrival, step.name)
+        if self.is_asleep(seat):
+            if step.name == "look":
+                return None
+            end = "timeout" if step.name == "expire" else "interrupt"
+            at = self.saved[seat][0]
+            return Entry(seat, "lapse", "x", 0, at, end)
+        return self.entry_of_idle(seat, step)
+
+    def entry_in_line(self, arrival, name):
+        seat, mode, n, back = arrival
+        goes = self.line[0] == arrival and self.could(seat, mode, n)[0]
+        if back:
+            if not goes:
+                return None
+            at, held = self.saved[seat]
+            return Entry(seat, "back", "x", held, at, self.ends[seat])
+        if name == "interrupt":
+            return Entry(seat, "left", mode, n, 0, "interrupt")
+        if goes:
+            return Entry(seat, "granted", mode, n, 0, None)
+        return Entry(seat, "left", mode, n, 0, "timeout") if name == "expire" else None
+
+    def entry_of_idle(self, seat, step):
+        name, mode, n, at = step
+        plain = lambda word: Entry(seat, word, mode, n, 0, None)
+        refused = lambda fault: Entry(seat, "refused " + fault, mode or "x", n if mode else 1, 0, None)
+        if name in ("acquire", "try", "tryfair"):
+            if name != "try" and self.is_held_back(seat, mode):
+                return plain("queued" if name == "acquire" else "missed")
+            could, at_limit = self.could(seat, mode, n)
+            if at_limit:
+                return refused("TooManyHolds")
+            if could:
+                return plain("trygot" if name == "try" else "got")
+            return plain("queued" if name == "acquire" else "missed")
+        if name == "entryinterrupt":
+            return refused("Interrupted")
+        if name == "give":
+            return self.entry_of_release(seat, mode, n, plain, refused)
+        if name == "drain":
+            return Entry(seat, "drained", "s", max(self.free, 0), 0, None)
+        if self.owner() != seat:
+            return refused("NotOwner")
+        if name == "await":
+            if self.holds[seat]["s"]:
+                return refused("HoldsRead")
+            return Entry(seat, "await", "x", self.holds[seat]["x"], at, None)
+        moved = len(self.sleepers[at])
+        return Entry(seat, name, "x", min(moved, 1) if name == "signal" else moved, at, None)
+
+    def entry_of_release(self, seat, mode, n, plain, refused):
+        kind = self.header.kind
+        if kind == "latch":
+            return Entry(seat, "counted", "s", 1, 0, None)
+        if kind == "semaphore":
+            return refused("TooManyPermits") if self.free + n > LIMIT else plain("gave")
+        return plain("gave") if self.holds[seat][mode] else refused("NotOwner")
+
+    def add(self, entry):
+        """Follows an entry, and tells whom it names."""
+        first = self.line[0] if self.line else None
+        could = first is not None and self.could(first.seat, first.mode, first.n)[0]
+        self.follow(entry)
+        self.entries += 1
+        self.calls += entry.word not in NO_CALL
+        head = self.line[0] if self.line else None
+        if head is None or head.seat == entry.seat:
+            return None
+        if head == first and could or not self.could(head.seat, head.mode, head.n)[0]:
+            return None
+        return head.seat
+
+    def follow(self, entry):
+        seat, word, mode, n, at, end = entry
+        permits = self.header.kind == "semaphore"
+        if word in ("got", "trygot", "granted"):
+            if self.header.kind != "latch":
+                self.holds[seat][mode] += n if permits else 1
+            self.free -= n
+        if word in ("granted", "left", "back"):
+            self.line.remove(self.arrival_of(seat))
+        if word == "queued":
+            self.line.append(Arrival(seat, mode, n, False))
+        elif word == "gave" and permits:
+            of_own = min(n, self.holds[seat]["s"])
+            self.holds[seat]["s"] -= of_own
+            self.unheld += n - of_own
+            self.free += n
+        elif word == "gave":
+            self.holds[seat][mode] -= 1
+        elif word == "drained":
+            self.holds[seat]["s"] += n
+            self.free -= n
+        elif word == "counted":
+            self.count = max(self.count - 1, 0)
+        elif word == "await":
+            self.saved[seat] = (at, n)
+            self.holds[seat]["x"] = 0
+            self.sleepers[at].append(seat)
+        elif word == "back":
+            self.holds[seat]["x"] += n
+        elif word == "lapse":
+            self.sleepers[at].remove(seat)
+            self.arrive(seat, end)
+        elif word in ("signal", "signalall"):
+            for moved in self.sleepers[at][:n]:
+                self.arrive(moved, "signalled")
+            del self.sleepers[at][:n]
+
+    def arrive(self, seat, end):
+        self.ends[seat] = end
+        self.line.append(Arrival(seat, "x", 1, True))
+
+    def owed(self):
+        permits = self.header.kind in ("semaphore", "latch")
+        if permits:
+            return len(self.line)
+        owed = sum(holds["x"] + holds["s"] for holds in self.holds)
+        for arrival in self.line:
+            owed += self.saved[arrival.seat][1] + 1 if arrival.back else 2
+        for asleep in self.sleepers:
+            owed += sum(self.saved[seat][1] + 2 for seat in asleep)
+        return owed
+
+    def owed_behind(self, entry):
+        """What is owed after an entry."""
+        permits = self.header.kind in ("semaphore", "latch")
+        word, n, owed = entry.word, entry.n, self.owed()
+        if permits:
+            return owed + (word == "queued") - (word in ("granted", "left"))
+        change = {"got": 1, "trygot": 1, "queued": 2, "granted": -1, "left": -2, "gave": -1, "await": 2,
+                  "lapse": -1, "signal": -n, "signalall": -n, "back": -1}
+        return owed + change.get(word, 0)
+
+    def answer(self, seat, step):
+        """The answer to a step: its entry and whom it names, a fault, or sleep. Entries are followed."""
+        fault = self.fault_of(seat, step)
+        if fault is not None:
+            return fault
+        entry = self.entry_of(seat, step)
+        if entry is None:
+            return "sleep"
+        if self.entries + 1 + self.owed_behind(entry) > self.header.cap:
+            return "HistoryFull"
+        return entry, self.add(entry)
+
+    def is_entry(self, entry):
+        """Whether an entry is that of some step of its seat."""
+        steps = [Step(name, None, None, None) for name in ("look", "expire", "interrupt", "drain")]
+        for name in ("acquire", "try", "tryfair", "entryinterrupt", "give"):
+            steps.append(Step(name, entry.mode, entry.n, None))
+        for name in ("await", "signal", "signalall"):
+            steps.extend(Step(name, None, None, at) for at in range(self.header.conditions))
+        seat = entry.seat
+        return any(self.fault_of(seat, step) is None and self.entry_of(seat, step) == entry for step in steps)
+
+    def totals(self):
+        header, line = self.header, len(self.line)
+        if header.kind == "latch":
+            return f"count {self.count} line {line}\n"
+        shared = self.readers()
+        if header.kind == "semaphore":
+            created = f"created {header.permits} unheld {self.unheld}"
+            return f"held {shared} free {self.free} {created} line {line}\n"
+        exclusive = sum(holds["x"] for holds in self.holds)
+        asleep = sum(len(asleep) for asleep in self.sleepers)
+        return f"holds x {exclusive} s {shared} line {line} sleepers {asleep}\n"
+
+
+def spelt(entry):
+    """The words of an entry."""
+    word, mode, n, at, end = entry.word, entry.mode, entry.n, entry.at, entry.end
+    if word.startswith("refused "):
+        return f"refused {mode} {n} {word[8:]}"
+    if word in ("await", "signal", "signalall"):
+        return f"{word} {at} {n}"
+    if word == "lapse":
+        return f"lapse {at} {end}"
+    if word == "back":
+        return f"back {at} {n} {end}"
+    return f"{word} {mode} {n}" + (f" {end}" if word == "left" else "")
+
+
+def entry_line(entry_number, entry, named):
+    wakes = "" if named is None else f" wakes {named}"
+    return f"{entry_number} {entry.seat} {spelt(entry)}{wakes}\n"
+
+
+def step_of(words):
+    """The step that words spell, or None."""
+    name = words[0].decode("latin1")
+    if name in ("acquire", "try", "tryfair", "entryinterrupt", "give"):
+        if len(words) == 3 and words[1] in (b"x", b"s"):
+            n = number(words[2], 4294967295)
+            return None if n is None else Step(name, words[1].decode(), n, None)
+    elif name in ("await", "signal", "signalall"):
+        if len(words) == 2:
+            at = number(words[1], 255)
+            return None if at is None else Step(name, None, None, at)
+    elif name in ("look", "expire", "interrupt", "drain") and len(words) == 1:
+        return Step(name, None, None, None)
+    return None
+
+
+def entry_of(seat, words):
+    """The entry of a seat that words spell, or None."""
+    name, rest = words[0].decode("latin1"), words[1:]
+    mode = rest[0].decode() if rest and rest[0] in (b"x", b"s") else None
+    at = number(rest[0], CONDITIONS - 1) if rest else None
+    n = number(rest[1], LIMIT) if len(rest) > 1 else None
+    last = rest[-1].decode("latin1") if rest else None
+    if name in ("got", "trygot", "queued", "granted", "missed", "gave"):
+        if len(rest) == 2 and mode and n is not None:
+            return Entry(seat, name, mode, n, 0, None)
+    elif name == "left":
+        if len(rest) == 3 and mode and n is not None and last in ("timeout", "interrupt"):
+            return Entry(seat, name, mode, n, 0, last)
+    elif name == "refused":
+        if len(rest) == 3 and mode and n is not None and last in REFUSALS:
+            return Entry(seat, "refused " + last, mode, n, 0, None)
+    elif name in ("await", "signal", "signalall"):
+        if len(rest) == 2 and at is not None and n is not None:
+            return Entry(seat, name, "x", n, at, None)
+    elif name == "lapse":
+        if len(rest) == 2 and at is not None and last in ("timeout", "interrupt"):
+            return Entry(seat, name, "x", 0, at, last)
+    elif name == "back":
+        ends = ("signalled", "timeout", "interrupt")
+        if len(rest) == 3 and at is not None and n is not None and last in ends:
+            return Entry(seat, name, "x", n, at, last)
+    elif name == "counted" and rest == [b"s", b"1"]:
+        return Entry(seat, name, "s", 1, 0, None)
+    elif name == "drained" and len(rest) == 2 and mode == "s" and n is not None:
+        return Entry(seat, name, "s", n, 0, None)
+    return None
+
+
+def read(text, name, end, parse):
+    """A text line by line: its header and what its lines spell; the first fault is raised.
+
+    `end(items)` is the end line behind the items; `parse(header, items, words)` is an item or None.
+    """
+    at = text.find(b"\n")
+    if at < 0:
+        raise TextFault("cut short")
+    line, items, line_number = text[:at], [], 1
+    header = header_part(line[len(name):]) if line.startswith(name) else None
+    if header is None:
+        raise TextFault("bad header")
+    while True:
+        line_number += 1
+        start, at = at + 1, text.find(b"\n", at + 1)
+        if at < 0:
+            raise TextFault("cut short")
+        line = text[start:at]
+        if line == end(items):
+            break
+        item = parse(header, items, line.split(b" "))
+        if item is None:
+            raise TextFault(f"bad line {line_number}")
+        items.append(item)
+    if at + 1 < len(text):
+        raise TextFault(f"bad line {line_number + 1}")
+    return header, items
+
+
+def read_steps(text):
+    def parse(header, _items, words):
+        seat = number(words[0], header.seats - 1)
+        step = step_of(words[1:]) if len(words) > 1 else None
+        return None if seat is None or step is None else (seat, step)
+
+    return read(text, b"aqs-steps 1 ", lambda items: b"end %d" % len(items), parse)
+
+
+def read_history(text):
+    def parse(header, items, words):
+        if len(words) < 3 or words[0] != b"%d" % len(items) or len(items) >= header.cap:
+            return None
+        seat = number(words[1], header.seats - 1)
+        return None if seat is None else entry_of(seat, words[2:])
+
+    def end(items):
+        return b"end %d %d" % (len(items), sum(entry.word not in NO_CALL for entry in items))
+
+    return read(text, b"aqs-history 1 ", end, parse)
+
+
+def replay(text, history=False):
+    """What `aqs replay`, with `--history` or without, answers to a text."""
+    try:
+        header, steps = read_steps(text)
+    except TextFault as fault:
+        return 3, b"", f"aqs: {fault}\n".encode()
+    state = State(header)
+    lines = [("aqs-history 1 " if history else "aqs-replay 1 ") + header.part.decode() + "\n"]
+    for seat, step in steps:
+        answer = state.answer(seat, step)
+        if isinstance(answer, str):
+            lines.append("" if history else f"- {seat} {answer}\n")
+        else:
+            entry, named = answer
+            lines.append(entry_line(state.entries - 1, entry, None if history else named))
+    lines.append(f"end {state.entries} {state.calls}\n")
+    return 0, "".join(lines).encode(), b""
+
+
+def audit(text):
+    """What `aqs audit` answers to a text."""
+    try:
+        header, entries = read_history(text)
+    except TextFault as fault:
+        return 3, b"", f"aqs: {fault}\n".encode()
+    state = State(header)
+    for at, entry in enumerate(entries):
+        if not state.is_entry(entry):
+            return 1, f"not legal at {at}\n".encode(), b""
+        state.add(entry)
+    return 0, f"legal\nentries {state.entries}\ncalls {state.calls}\n{state.totals()}".encode(), b""
+
+
+def is_call(text, names, threads):
+    """Whether a text spells a call of a thread script."""
+    words = text.encode("utf-8", "surrogatepass").split(b" ")
+    if words[0] == b"interrupt":
+        return len(words) == 2 and number(words[1], threads - 1) is not None
+    if words[0].decode("utf-8", "surrogatepass") not in names or len(words) < 2:
+        return False
+    name, rest = words[1], words[2:]
+    if name in (b"acquire", b"acquire-interruptible", b"acquire-timed", b"try", b"give"):
+        wanted = ["mode", 4294967295]
+    elif name in (b"await", b"await-interruptible", b"await-timed", b"signal", b"signalall"):
+        wanted = [255]
+    elif name == b"drain":
+        wanted = []
+    else:
+        return False
+    if name.endswith(b"-timed"):
+        wanted.append(4294967295)
+    return len(rest) == len(wanted) and all(
+        word in (b"x", b"s") if most == "mode" else number(word, most) is not None
+        for word, most in zip(rest, wanted)
+    )
+
+
+def finite(word):
+    """A number of JSON; one that no double is near is refused, as the kit's reader does."""
+    value = float(word)
+    if value in (float("inf"), float("-inf")):
+        raise ValueError
+    return value
+
+
+def whole(word):
+    """A number without fraction and exponent; `-0` is none that is whole."""
+    return int(word) if len(word) < 20 and word != "-0" else finite(word)
+
+
+def no_constant(_word):
+    raise ValueError
+
+
+def depth(value):
+    within = value.values() if isinstance(value, dict) else value if isinstance(value, list) else None
+    return 0 if within is None else 1 + max(map(depth, within), default=0)
+
+
+def json_value(text):
+    """The JSON value of bytes, at most 127 lists deep. What Python reads and is none is refused."""
+    said = text.decode("utf-8")
+    if said.startswith("\ufeff"):
+        raise ValueError
+    value = json.loads(said, parse_constant=no_constant, parse_float=finite, parse_int=whole)
+    if depth(value) > 127:
+        raise ValueError
+    json.dumps(value, ensure_ascii=False).encode("utf-8")
+    return value
+
+
+def script_fault(text):
+    """The first fault of a thread script in the words of standard error, or None."""
+    try:
+        value = json_value(text)
+    except (ValueError, RecursionError):
+        return "not JSON"
+    if not isinstance(value, dict) or sorted(value) != ["objects", "threads"]:
+        return "bad top"
+    objects, threads = value["objects"], value["threads"]
+    if not all(isinstance(list_, list) for list_ in (objects, threads)):
+        return "bad top"
+    if not 1 <= len(objects) <= 64 or not 1 <= len(threads) <= 256:
+        return "bad top"
+    names = set()
+    for at, pair in enumerate(objects):
+        if not isinstance(pair, list) or len(pair) != 2 or not all(isinstance(word, str) for word in pair):
+            return f"bad object {at}"
+        name = pair[0]
+        header = header_part(pair[1].encode("utf-8"))
+        if not re.fullmatch(r"[a-z0-9-]{1,32}", name) or name == "interrupt" or name in names:
+            return f"bad object {at}"
+        if header is None or header.seats != len(threads):
+            return f"bad object {at}"
+        names.add(name)
+    return thread_fault(threads, names)
+
+
+def thread_fault(threads, names):
+    for at, thread in enumerate(threads):
+        if not isinstance(thread, dict) or sorted(thread) != ["calls", "repeat"]:
+            return f"bad thread {at}"
+        repeat, calls = thread["repeat"], thread["calls"]
+        if type(repeat) is not int or not 1 <= repeat <= 1000000:
+            return f"bad thread {at}"
+        if not isinstance(calls, list) or len(calls) > 10000:
+            return f"bad thread {at}"
+        for position, call in enumerate(calls):
+            if not isinstance(call, str) or not is_call(call, names, len(threads)):
+                return f"bad call {at} {position}"
+    return None
