@@ -1,8 +1,8 @@
-//! What each step and each entry says by itself: which steps an object refuses by their kind, which entries
-//! steps make, and what an entry makes of the holds, of the reserved room and of the line.
+//! Which entry a step makes, and what an entry makes of the holds, of the reserved room and of the line.
 //!
-//! These are functions of their arguments alone. Whoever answers steps or judges entries asks its own state
-//! what they need: the core, the audit and the plain program each by itself.
+//! [`entry_for`](decide::entry_for) decides over any state that answers the questions of the trait
+//! [`Situation`](situation::Situation). The core and the audit each answer them by a state of their own. The
+//! other functions depend on their arguments alone.
 #![tactic(auto)]
 
 pub mod arrivals;
