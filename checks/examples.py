@@ -2,7 +2,8 @@
 """Runs every example through the program: checks/examples.py PROGRAM [FOLDER].
 
 Each pair NAME.steps and NAME.answers is replayed, and each pair NAME.history and NAME.answers audited, from the
-file, and one of each kind from standard input too. Each NAME.script is run: the lines outside its histories are as
+file, and one of each kind from standard input too. Each NAME.svg is the picture of NAME.history, or of the history
+that a replay of NAME.steps gives. Each NAME.script is run: the lines outside its histories are as
 NAME.answers has them, where * stands for a number that depends on the schedule, and `aqs audit` says the same of
 each history. Then faults of each kind are tried. Compared are the exit status, standard output and standard error.
 The last line is 'N passed, M failed', and the status is 0 only if nothing failed and something passed.
@@ -43,7 +44,7 @@ def unpaired(folder):
     """Files that are neither an input with its answers, nor answers with their input."""
     for file in sorted(folder.iterdir()):
         read = file.suffix in INPUTS and file.with_suffix(".answers").exists()
-        told = file.suffix == ".answers" and any(file.with_suffix(s).exists() for s in INPUTS)
+        told = file.suffix in (".answers", ".svg") and any(file.with_suffix(s).exists() for s in INPUTS)
         if not (read or told):
             yield file
 
@@ -95,6 +96,19 @@ def round_trips(program, folder, scratch):
         verdict = run(program, ["audit", kept])
         good = (status, error) == (0, b"") and verdict[0] == 0 and verdict[1].startswith(b"legal\nentries ")
         yield f"replay {file.name} --history, audit", good and verdict[2] == b""
+
+
+def pictures(program, folder):
+    """Each picture is what the program draws of its history."""
+    for file in sorted(folder.glob("*.svg")):
+        kept = file.with_suffix(".history")
+        if kept.exists():
+            history = kept.read_bytes()
+        else:
+            history = run(program, ["replay", file.with_suffix(".steps"), "--history"])[1]
+        status = 1 if b">not legal at entry " in file.read_bytes() else 0
+        drawn = run(program, ["draw"], history)
+        yield f"draw {file.name}", history != b"" and drawn == (status, file.read_bytes(), b"")
 
 
 def from_input(program, folder):
@@ -175,6 +189,11 @@ def faults(scratch):
     yield ["run", scratch], (4, b"", b"aqs: read failed\n")
     yield ["run", "--history"], (2, b"", b"aqs: usage\n")
     yield ["replay", "--unknown"], (2, b"", b"aqs: usage\n")
+    yield ["draw", scratch / "cut_short"], (3, b"", b"aqs: bad header\n")
+    yield ["draw", scratch / "missing"], (4, b"", b"aqs: read failed\n")
+    yield ["draw", "--from", "x", scratch / "not_legal"], (2, b"", b"aqs: bad --from\n")
+    yield ["draw", "--to", "-1", scratch / "not_legal"], (2, b"", b"aqs: usage\n")
+    yield ["draw", "--from", "3", "--to", "2", scratch / "not_legal"], (2, b"", b"aqs: bad --from\n")
     yield ["audit", "--history"], (2, b"", b"aqs: usage\n")
     yield ["--help"], (2, b"", b"aqs: usage\n")
 
@@ -185,6 +204,7 @@ def results(program, folder, scratch):
     yield from from_input(program, folder)
     yield from round_trips(program, folder, scratch)
     yield from runs(program, folder, scratch)
+    yield from pictures(program, folder)
     for file in unpaired(folder):
         yield f"{file.name} has its pair", False
 

@@ -2,6 +2,7 @@
 
 use crate::arguments::arguments;
 use crate::run;
+use driver::choice::Choice;
 use driver::form::Form;
 use script::ScriptFault;
 use std::cell::RefCell;
@@ -18,16 +19,17 @@ use workers::RunFault;
 
 #[test]
 fn asks_for_a_file_or_standard_input(rt: HostRuntime) -> Result<(), Fail> {
-    let plain: [&[&str]; 4] = [
+    let plain: [&[&str]; 5] = [
         &["aqs"],
         &["aqs", "replay"],
         &["aqs", "audit"],
+        &["aqs", "draw"],
         &["aqs", "run"],
     ];
     for words in &plain {
         assert!(rt; arguments(rt.alloc(), words)?.file.is_none());
     }
-    for name in ["replay", "audit", "run"] {
+    for name in ["replay", "audit", "draw", "run"] {
         let file = arguments(rt.alloc(), &["aqs", name, "file.txt"])?.file;
         assert!(rt; file.ok_or("no file")?.as_str() == "file.txt");
     }
@@ -63,9 +65,65 @@ fn asks_for_a_task(rt: HostRuntime) -> Result<(), Fail> {
     Ok(())
 }
 
+/// The entries that a command line asks for, whose last words are these.
+fn choice_of<R: AllocGlobal>(rt: &R, words: &[&str]) -> Result<Choice, Fault> {
+    match arguments(rt.alloc(), words)?.job {
+        Job::Answer(Task::Draw(choice)) => Ok(choice),
+        _ => Err(Fault::Usage),
+    }
+}
+
+#[test]
+fn asks_for_entries(rt: HostRuntime) -> Result<(), Fail> {
+    let asked: [(&[&str], Option<u64>, Option<u64>); 5] = [
+        (&["aqs", "draw"], None, None),
+        (&["aqs", "draw", "--from", "3"], Some(3), None),
+        (&["aqs", "draw", "--to=4", "a.history"], None, Some(4)),
+        (
+            &["aqs", "draw", "a", "--from", "5", "--to", "5"],
+            Some(5),
+            Some(5),
+        ),
+        (
+            &["aqs", "draw", "--to", "18446744073709551615"],
+            None,
+            Some(u64::MAX),
+        ),
+    ];
+    for (words, from, to) in &asked {
+        let choice = choice_of(&rt, words)?;
+        assert!(rt; choice.from == *from && choice.to == *to);
+    }
+    Ok(())
+}
+
+#[test]
+fn refuses_bad_choices_by_name(rt: HostRuntime) {
+    let bad: [(&[&str], Fault); 6] = [
+        (&["aqs", "draw", "--from", "x"], Fault::BadFrom),
+        (&["aqs", "draw", "--from", "01"], Fault::BadFrom),
+        (&["aqs", "draw", "--from", ""], Fault::BadFrom),
+        (
+            &["aqs", "draw", "--to", "18446744073709551616"],
+            Fault::BadTo,
+        ),
+        (
+            &["aqs", "draw", "--from", "3", "--to", "2"],
+            Fault::BadFrom,
+        ),
+        (
+            &["aqs", "draw", "--from", "3", "--from", "4"],
+            Fault::Usage,
+        ),
+    ];
+    for (words, fault) in &bad {
+        assert!(rt; choice_of(&rt, words).err() == Some(*fault));
+    }
+}
+
 #[test]
 fn refuses_other_command_lines(rt: HostRuntime) {
-    let others: [&[&str]; 22] = [
+    let others: [&[&str]; 25] = [
         &["aqs", "--history"],
         &["aqs", "replay", "--history", "--history"],
         &["aqs", "--help"],
@@ -78,6 +136,9 @@ fn refuses_other_command_lines(rt: HostRuntime) {
         &["aqs", "audit", "a", "b"],
         &["aqs", "audit", "-"],
         &["aqs", "audit", "--", "-x"],
+        &["aqs", "draw", "--history"],
+        &["aqs", "draw", "a", "b"],
+        &["aqs", "draw", "--from"],
         &["aqs", "run", "--help"],
         &["aqs", "run", "--history"],
         &["aqs", "run", "a", "b"],
@@ -98,6 +159,8 @@ fn refuses_other_command_lines(rt: HostRuntime) {
 fn tells_each_fault(rt: HostRuntime) -> Result<(), Fail> {
     let told = [
         (Fault::Usage, "usage", 2),
+        (Fault::BadFrom, "bad --from", 2),
+        (Fault::BadTo, "bad --to", 2),
         (
             Fault::Stream(StreamFault::Text(TextFault::BadHeader)),
             "bad header",
@@ -223,6 +286,21 @@ fn ends_with_a_status(rt: HostRuntime) -> Result<(), Fail> {
         assert_eq!(rt; told(&noted, done), *status);
         assert!(rt; output.as_slice() == expected.as_bytes());
         assert!(rt; noted.0.into_inner().as_str() == *error);
+    }
+    Ok(())
+}
+
+/// A history that isn't legal is drawn too, and told by the status.
+#[test]
+fn draws_with_a_status(rt: HostRuntime) -> Result<(), Fail> {
+    let texts: [(&[u8], u8); 2] = [
+        (b"aqs-history 1 lock fair seats 1 conditions 0 cap 16\n0 0 got x 1\nend 1 1\n", 0),
+        (b"aqs-history 1 lock fair seats 1 conditions 0 cap 16\n0 0 gave x 1\nend 1 1\n", 1),
+    ];
+    for (text, status) in &texts {
+        let mut output = Vec::new(rt.alloc());
+        assert!(rt; run(&rt, &["aqs", "draw"], *text, &mut output)? == *status);
+        assert!(rt; output.starts_with(b"<svg ") && output.ends_with(b"</svg>\n"));
     }
     Ok(())
 }

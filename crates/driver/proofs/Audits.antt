@@ -12,7 +12,7 @@ use Rattle.audit.specs.declared.verdict.Judgement.{Judgement}
 use Rattle.audit.specs.declared.verdict.Verdict.{Verdict}
 use Rattle.audit.specs.Auditor.{HasJudged}
 use Rattle.audit.specs.Verdict.{IsJudgement}
-use Rattle.driver.specs.AuditStream.{Audited, IsJudged}
+use Rattle.driver.specs.AuditStream.{IsJudged, IsToldOf}
 use Rattle.driver.specs.HistoryReader.{AreCounted, EntriesHeld, entries_read}
 use Rattle.driver.specs.TextReader.{Progress, IsNext}
 use Rattle.driver.proofs.ReadingAhead.{ReadOn}
@@ -29,7 +29,7 @@ pub record Judging (first : Progress Header Entry) (now : EntriesHeld) (left : O
   pub few : length entries < 2 ^ 32
   pub range : IsInRange first.so_far.header
 
-pub judging_on : (first : Progress Header Entry) (old new : EntriesHeld) (left left' : Option (List ℕ))
+abbrev pub judging_on : (first : Progress Header Entry) (old new : EntriesHeld) (left left' : Option (List ℕ))
     (a b : Auditor) (e : Entry) →
     IsNext history_form (entries_read old left) (Ok (Some e)) (entries_read new left') left' →
     new.header ≡ old.header → AreCounted old (Some e) new →
@@ -69,11 +69,12 @@ all_judged first now new left left' a judgement all same counted judges j =
     }
 
 -- what is written is told of another way
-pub told_of : (left : Option (List ℕ)) (verdict : Verdict) (all : List ℕ) (Written : List ℕ → Type 0) →
-    IfSome left (λ text. Audited text verdict (λ written. all ≡ written)) → Written all →
-    IfSome left (λ text. Audited text verdict Written)
-told_of None verdict all Written a w = tt
-told_of (Some text) verdict all Written a w =
+pub told_of : (Tells : Header → List Entry → Verdict → List ℕ) (left : Option (List ℕ)) (verdict : Verdict)
+    (all : List ℕ) (Written : List ℕ → Type 0) →
+    IfSome left (λ text. IsToldOf Tells text verdict (λ written. all ≡ written)) → Written all →
+    IfSome left (λ text. IsToldOf Tells text verdict Written)
+told_of Tells None verdict all Written a w = tt
+told_of Tells (Some text) verdict all Written a w =
     record {
       header = a.header;
       entries = a.entries;
@@ -82,8 +83,8 @@ told_of (Some text) verdict all Written a w =
       written = subst Written a.written w;
     }
 
-pub some_told : (left : Option (List ℕ)) (verdict : Verdict) (Written : List ℕ → Type 0) →
-    IfSome left (λ text. Audited text verdict Written) →
-    IfSome left (λ text. (v : Verdict) × Audited text v Written)
-some_told None verdict Written a = tt
-some_told (Some text) verdict Written a = (verdict, a)
+pub some_told : (Tells : Header → List Entry → Verdict → List ℕ) (left : Option (List ℕ)) (verdict : Verdict)
+    (Written : List ℕ → Type 0) → IfSome left (λ text. IsToldOf Tells text verdict Written) →
+    IfSome left (λ text. (v : Verdict) × IsToldOf Tells text v Written)
+some_told Tells None verdict Written a = tt
+some_told Tells (Some text) verdict Written a = (verdict, a)

@@ -22,14 +22,19 @@ abbrev pub IsVerdict : Header → List Entry → Verdict → Type 0
 IsVerdict h entries Legal = IsLegal (opening h) entries
 IsVerdict h entries (NotLegal number) = IsFirstWrong h entries number
 
--- The text is the history text of these entries, the newest first; this is the verdict on them, and this is
--- written of it.
-pub record Audited (text : List ℕ) (verdict : Verdict) (Written : List ℕ → Type 0) : Type 0 where
+-- The text is the history text of these entries, the newest first; this is the verdict on them, and of what is
+-- told of both, this is written.
+pub record IsToldOf (Tells : Header → List Entry → Verdict → List ℕ) (text : List ℕ) (verdict : Verdict)
+    (Written : List ℕ → Type 0) : Type 0 where
   pub header : Header
   pub entries : List Entry
   pub is : IsText history_form text header (reverse entries)
   pub judged : IsVerdict header entries verdict
-  pub written : Written (audit_text header entries verdict)
+  pub written : Written (Tells header entries verdict)
+
+-- the audit text is written
+abbrev pub Audited : List ℕ → Verdict → (List ℕ → Type 0) → Type 0
+Audited = IsToldOf audit_text
 
 -- The text is a history text of this header, whose entries were judged so; the reader has counted them.
 pub record IsJudged (p : Progress Header Entry) (end : EntriesHeld) (judgement : Judgement) : Type 0 where

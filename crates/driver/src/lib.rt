@@ -2,7 +2,7 @@
 //!
 //! A stream reads all and finds all its memory before it writes, so that nothing is written for a text that
 //! is refused. A replay answers each line as it is read, and keeps the answers short until they are written;
-//! an audit judges each line as it is read, and keeps none. Sources and sinks tell their bytes to the
+//! an audit judges each line as it is read, and keeps none; a drawing keeps the entries that are drawn. Sources and sinks tell their bytes to the
 //! contracts, where these are known.
 #![tactic(auto)]
 
@@ -11,6 +11,8 @@ pub mod answering;
 pub mod answers;
 pub mod audit_stream;
 pub mod audit_text;
+pub mod choice;
+pub mod draw_stream;
 pub mod form;
 pub mod history_reader;
 pub mod line_writer;

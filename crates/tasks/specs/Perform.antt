@@ -4,11 +4,12 @@ use Rattle.std.specs.Io.KnownBytes.{IsAtEnd}
 use Rattle.audit.specs.declared.verdict.Verdict.{Verdict}
 use Rattle.audit.specs.declared.verdict.Verdict.TheVariants.{Legal, NotLegal}
 use Rattle.driver.specs.AuditStream.{Audits, HistoryReadOut}
+use Rattle.driver.specs.DrawStream.{Draws}
 use Rattle.driver.specs.ReplayStream.{Replays, StepsReadOut}
 use Rattle.tasks.specs.declared.task.Task.{Task}
-use Rattle.tasks.specs.declared.task.Task.TheVariants.{Replay, Audit}
+use Rattle.tasks.specs.declared.task.Task.TheVariants.{Replay, Audit, Draw}
 use Rattle.tasks.specs.declared.fault.Fault.{Fault}
-use Rattle.tasks.specs.declared.fault.Fault.TheVariants.{Usage, Memory, Stream, Script, Run}
+use Rattle.tasks.specs.declared.fault.Fault.TheVariants.{Usage, BadFrom, BadTo, Memory, Stream, Script, Run}
 
 -- a history that isn't legal ends the program with 1
 abbrev pub status_for : Verdict → ℕ
@@ -20,6 +21,8 @@ abbrev pub Performs : Task → Option (List ℕ) → Option (List ℕ) → Optio
 Performs (Replay form) left old new (Ok status) = (status ≡ 0) × Replays form left old new (Ok tt)
 Performs (Replay form) left old new (Err (Stream fault)) = Replays form left old new (Err fault)
 Performs (Replay form) left old new (Err Usage) = ⊥
+Performs (Replay form) left old new (Err BadFrom) = ⊥
+Performs (Replay form) left old new (Err BadTo) = ⊥
 Performs (Replay form) left old new (Err Memory) = ⊥
 Performs (Replay form) left old new (Err (Script fault)) = ⊥
 Performs (Replay form) left old new (Err (Run fault)) = ⊥
@@ -27,16 +30,30 @@ Performs Audit left old new (Ok status) =
     (verdict : Verdict) × (status ≡ status_for verdict) × Audits left old new (Ok verdict)
 Performs Audit left old new (Err (Stream fault)) = Audits left old new (Err fault)
 Performs Audit left old new (Err Usage) = ⊥
+Performs Audit left old new (Err BadFrom) = ⊥
+Performs Audit left old new (Err BadTo) = ⊥
 Performs Audit left old new (Err Memory) = ⊥
 Performs Audit left old new (Err (Script fault)) = ⊥
 Performs Audit left old new (Err (Run fault)) = ⊥
+Performs (Draw choice) left old new (Ok status) =
+    (verdict : Verdict) × (status ≡ status_for verdict) × Draws choice left old new (Ok verdict)
+Performs (Draw choice) left old new (Err (Stream fault)) = Draws choice left old new (Err fault)
+Performs (Draw choice) left old new (Err Usage) = ⊥
+Performs (Draw choice) left old new (Err BadFrom) = ⊥
+Performs (Draw choice) left old new (Err BadTo) = ⊥
+Performs (Draw choice) left old new (Err Memory) = ⊥
+Performs (Draw choice) left old new (Err (Script fault)) = ⊥
+Performs (Draw choice) left old new (Err (Run fault)) = ⊥
 
 -- How far a task reads, from what the source had left to what it has left: as its stream does.
 abbrev pub IsReadOutFor : Task → Option (List ℕ) → Result ℕ Fault → Option (List ℕ) → Type 0
 IsReadOutFor task text (Ok status) left = IsAtEnd left
 IsReadOutFor (Replay form) text (Err (Stream fault)) left = StepsReadOut text (Err fault) left
 IsReadOutFor Audit text (Err (Stream fault)) left = HistoryReadOut text (Err fault) left
+IsReadOutFor (Draw choice) text (Err (Stream fault)) left = HistoryReadOut text (Err fault) left
 IsReadOutFor task text (Err Usage) left = ⊥
+IsReadOutFor task text (Err BadFrom) left = ⊥
+IsReadOutFor task text (Err BadTo) left = ⊥
 IsReadOutFor task text (Err Memory) left = ⊥
 IsReadOutFor task text (Err (Script fault)) left = ⊥
 IsReadOutFor task text (Err (Run fault)) left = ⊥

@@ -8,7 +8,7 @@ use Rattle.script.specs.declared.fault.ScriptFault.TheVariants.{OutOfMemory}
 use Rattle.streams.specs.declared.stream_fault.StreamFault.TheVariants.{Text, ReadFailed, WriteFailed, Memory as StreamMemory}
 use Rattle.streams.specs.Whole.{AppendsFront}
 use Rattle.tasks.specs.declared.fault.Fault.{Fault}
-use Rattle.tasks.specs.declared.fault.Fault.TheVariants.{Usage, Memory, Stream, Script, Run}
+use Rattle.tasks.specs.declared.fault.Fault.TheVariants.{Usage, BadFrom, BadTo, Memory, Stream, Script, Run}
 use Rattle.workers.specs.declared.fault.RunFault.TheVariants.{GateShut, NotStarted, Memory as RunMemory}
 use Rattle.workers.specs.declared.report.ObjectReport.{ObjectReport}
 use Rattle.workers.specs.declared.report.Report.{Report}
@@ -45,6 +45,8 @@ Runs left old new (Err (Run (NotStarted worker))) =
 Runs left old new (Err (Run RunMemory)) = Keeps old new
 Runs left old new (Err (Run (GateShut worker))) = ⊥
 Runs left old new (Err Usage) = ⊥
+Runs left old new (Err BadFrom) = ⊥
+Runs left old new (Err BadTo) = ⊥
 Runs left old new (Err Memory) = Keeps old new
 
 -- what keeps a script from being read
@@ -56,6 +58,8 @@ IsFaultOfScript left (Stream WriteFailed) = ⊥
 IsFaultOfScript left (Stream (Text fault)) = ⊥
 IsFaultOfScript left (Run fault) = ⊥
 IsFaultOfScript left Usage = ⊥
+IsFaultOfScript left BadFrom = ⊥
+IsFaultOfScript left BadTo = ⊥
 IsFaultOfScript left Memory = ⊥
 
 -- a script was read to its end, unless reading it failed or memory was refused for its text

@@ -15,6 +15,12 @@ pub enum Fault {
     /// The command line asks for nothing that the program does; help and the version are no exceptions.
     #[error("usage")]
     Usage,
+    /// The first entry that is to be drawn is no number, or stands behind the last.
+    #[error("bad --from")]
+    BadFrom,
+    /// The last entry that is to be drawn is no number.
+    #[error("bad --to")]
+    BadTo,
     #[error("out of memory")]
     Memory,
     #[error("{0}")]
@@ -31,7 +37,7 @@ impl Fault {
         ensures { result ≡ status_of self.now }
     {
         match self {
-            Fault::Usage => 2,
+            Fault::Usage | Fault::BadFrom | Fault::BadTo => 2,
             Fault::Stream(StreamFault::Memory)
             | Fault::Memory
             | Fault::Script(ScriptFault::OutOfMemory)

@@ -9,6 +9,7 @@ use crate::fault::Fault;
 use crate::task::Task;
 use audit::verdict::Verdict;
 use driver::audit_stream::audit_stream;
+use driver::draw_stream::draw_stream;
 use driver::replay_stream::replay_stream;
 use std::alloc::Global;
 use streams::sink::Sink;
@@ -46,5 +47,6 @@ pub fn perform<R: Source, W: Sink>(
             Ok(0)
         }
         Task::Audit => Ok(status_for(audit_stream(alloc, reader, writer)?)),
+        Task::Draw(choice) => Ok(status_for(draw_stream(alloc, reader, writer, choice)?)),
     }
 }

@@ -1,5 +1,6 @@
 //! What a command line asks for.
 
+use driver::choice::Choice;
 use driver::form::Form;
 
 /// What is done for a command line.
@@ -18,4 +19,6 @@ pub enum Task {
     Replay(Form),
     /// A history text is audited.
     Audit,
+    /// The history of a history text is drawn.
+    Draw(Choice),
 }

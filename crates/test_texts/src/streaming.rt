@@ -3,6 +3,7 @@
 mod audits;
 mod changes;
 mod devices;
+mod draws;
 mod keeping;
 mod lines;
 mod memory;

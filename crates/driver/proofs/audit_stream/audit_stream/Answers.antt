@@ -2,6 +2,7 @@ use Rattle.std.proofs.Common.{ap, refl, rules}
 use Rattle.history_text.specs.HistoryText.{history_form}
 use Rattle.audit.specs.declared.verdict.Verdict.{Verdict}
 use Rattle.driver.specs.AuditStream.{Audited}
+use Rattle.driver.specs.AuditText.{audit_text}
 use Rattle.driver.proofs.Audits.{some_told, told_of}
 use Rattle.driver.proofs.Ending.{told_out, told_streams}
 use Rattle.streams.specs.Whole.{AppendsFront}
@@ -13,13 +14,13 @@ write_all-requires g c = c.requires.writer
 
 pub returns-in-Ok-write_all-clause-audits : goal.returns-in-Ok-write_all-clause-audits
 returns-in-Ok-write_all-clause-audits g c =
-    told_of _ c.in-Ok.audit.verdict _ (Appends (g.W.Sink.held c.args.writer.now)
+    told_of audit_text _ c.in-Ok.audit.verdict _ (Appends (g.W.Sink.held c.args.writer.now)
     (g.W.Sink.held c.write_all.new.writer)) c.in-Ok.ensures.ok
     (rw c.deref.ensures.value at c.in-Ok-write_all.ensures.ok)
 
 pub returns-in-Ok-clause-audits : goal.returns-in-Ok-clause-audits
 returns-in-Ok-clause-audits g c =
-    some_told _ c.in-Ok.audit.verdict _ (told_of _ c.in-Ok.audit.verdict _
+    some_told audit_text _ c.in-Ok.audit.verdict _ (told_of audit_text _ c.in-Ok.audit.verdict _
     (AppendsFront (g.W.Sink.held c.args.writer.now) (g.W.Sink.held c.write_all.new.writer)) c.in-Ok.ensures.ok
     (rw c.deref.ensures.value at c.in-Err-write_all.ensures.err))
 

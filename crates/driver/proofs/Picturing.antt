@@ -1,0 +1,66 @@
+-- The picture of the entries that were kept.
+use Rattle.std.proofs.Common.{◌≡◌, ℕ, ◌+◌, ◌<◌, ◌≤◌, ◌^◌, Bool, true, false, List, [], ◌∷◌, ◌++◌, length, get_or, reverse, take, Option, None, Some, refl, sym, ap, ◌∙◌, arith}
+use Rattle.std.specs.Prelude.{◌↔◌, nat_lt, if◌then◌else◌}
+use Rattle.std.specs.List.{All, Contains}
+use Rattle.std.proofs.lemmas.List.{length-take}
+use Rattle.std.proofs.lemmas.List.Elements.{All-append, All-contains_itself, All-push}
+use Rattle.audit.specs.declared.verdict.Verdict.{Verdict}
+use Rattle.audit.specs.declared.verdict.Verdict.TheVariants.{Legal, NotLegal}
+use Rattle.drawing.specs.declared.bar.Bar.{Bar}
+use Rattle.drawing.specs.declared.mark.Sign.{Sign}
+use Rattle.drawing.specs.Bars.{bars}
+use Rattle.drawing.specs.IsBar.{IsBar}
+use Rattle.drawing.specs.Marks.{mark_of, marks, sign_of}
+use Rattle.history.specs.declared.entry.Entry.{Entry}
+use Rattle.history.specs.declared.header.Header.{Header}
+use Rattle.history.specs.Start.{Start}
+use Rattle.picture.specs.Document.{svg_text}
+use Rattle.picture.specs.Layout.{IsShort}
+use Rattle.picture.specs.Marks.{IsEarly}
+use Rattle.driver.specs.declared.choice.Choice.{Choice}
+use Rattle.driver.specs.DrawStream.{legal_front, pictured}
+
+short : (s : Start) (from : ℕ) (h : List Entry) (b : Bar) → length h < 2 ^ 32 → IsBar s from h b → IsShort b
+short s from h b few is = record { order = is.order; last = omega (arith, is.ends_within, few) }
+
+-- the bars of a history are no longer than it
+pub all_short : (s : Start) (from : ℕ) (h : List Entry) → length h < 2 ^ 32 →
+    ((b : Bar) → Contains (bars s from h) b ↔ IsBar s from h b) → All IsShort (bars s from h)
+all_short s from h few law i d lt =
+    let b = get_or (bars s from h) i d in
+    short s from h b few ((law b).0 (All-contains_itself (bars s from h) i d lt))
+
+none_early : All IsEarly []
+none_early i d lt = absurd (omega (arith, lt))
+
+one_early : (n i : ℕ) (sign : Option Sign) → n < 2 ^ 32 → All IsEarly (mark_of n i sign)
+one_early n i None lt = none_early
+one_early n i (Some s) lt = All-push IsEarly [] (record { number = n; seat = i; sign = s }) none_early lt
+
+early_by : (b : Bool) (n i : ℕ) (sign : Option Sign) → n < 2 ^ 32 →
+    All IsEarly (if b then [] else mark_of n i sign)
+early_by true n i sign lt = none_early
+early_by false n i sign lt = one_early n i sign lt
+
+-- nor are its marks behind it
+pub all_early : (from : ℕ) (h : List Entry) → length h < 2 ^ 32 → All IsEarly (marks from h)
+all_early from [] few = none_early
+all_early from (e ∷ h) few =
+    All-append IsEarly (marks from h) _ (all_early from h (omega (arith, few)))
+    (early_by (nat_lt (length h) from) (length h) e.seat (sign_of e.word) (omega (arith, few)))
+
+-- the front that is legal is no longer than the entries
+pub front_short : (verdict : Verdict) (entries : List Entry) → length entries < 2 ^ 32 →
+    length (legal_front verdict entries) < 2 ^ 32
+front_short Legal entries few = few
+front_short (NotLegal number) entries few = omega (arith, few, length-take number entries)
+
+-- a picture of the same
+pub same_picture : (choice : Choice) (verdict : Verdict) (k k' : Header) (all all' : ℕ)
+    (entries others : List Entry) (text : List ℕ) → k ≡ k' → all ≡ all' → entries ≡ others →
+    text ≡ svg_text (pictured k choice all verdict (legal_front verdict entries)) →
+    text ≡ svg_text (pictured k' choice all' verdict (legal_front verdict others))
+same_picture choice verdict k k' all all' entries others text same count items is =
+    is ∙ ap (λ h. svg_text (pictured h choice all verdict (legal_front verdict entries))) same
+    ∙ ap (λ n. svg_text (pictured k' choice n verdict (legal_front verdict entries))) count
+    ∙ ap (λ xs. svg_text (pictured k' choice all' verdict (legal_front verdict xs))) items

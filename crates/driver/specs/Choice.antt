@@ -1,0 +1,29 @@
+-- Which entries of a history are drawn.
+use Rattle.std.specs.Prelude.{ℕ, ◌+◌, ◌-◌, ◌^◌, Bool, false, min, nat_lt, Option, Some, None}
+use Rattle.driver.specs.declared.choice.Choice.{Choice}
+
+abbrev pub or_zero : Option ℕ → ℕ
+or_zero None = 0
+or_zero (Some number) = number
+
+-- the number of the first
+abbrev pub first_of : Choice → ℕ
+first_of c = or_zero c.from
+
+-- the number behind the last: where nobody asks for some, the first 2,000 are drawn
+abbrev pub end_between : Option ℕ → Option ℕ → ℕ
+end_between from (Some number) = min (number + 1) (2 ^ 64 - 1)
+end_between (Some number) None = 2 ^ 64 - 1
+end_between None None = 2000
+
+abbrev pub end_of : Choice → ℕ
+end_of c = end_between c.from c.to
+
+-- some are left out though nobody asked for some
+abbrev pub is_cut_between : Option ℕ → Option ℕ → ℕ → Bool
+is_cut_between (Some from) to entries = false
+is_cut_between None (Some to) entries = false
+is_cut_between None None entries = nat_lt 2000 entries
+
+abbrev pub is_cut : Choice → ℕ → Bool
+is_cut c entries = is_cut_between c.from c.to entries

@@ -1,0 +1,12 @@
+use Rattle.std.proofs.Common.{get_or, ap, ◌∙◌, sym}
+use Rattle.std.specs.Prelude.{pos}
+use Rattle.picture.specs.Curve.{wider}
+use Rattle.picture.proofs.Appending.{folded_on}
+use Rattle.picture.proofs.curve.Range.of.Goals as goal
+
+pub loop-amount-preserved : goal.loop-amount-preserved
+loop-amount-preserved c =
+    let was = c.loop-amount in
+    let xs = c.args.amounts.now in
+    c.with-range.ensures ∙ ap (λ r. wider r (get_or xs was.amount-index (pos 0))) was.invariant
+    ∙ sym (folded_on wider _ xs was.amount-index (pos 0) c.loop-amount-test.true)

@@ -1,0 +1,54 @@
+-- The curve of free permits, or of a latch's count.
+use Rattle.std.specs.Prelude.{ℕ, ◌-◌, ◌*◌, ◌/◌, ◌^◌, max, min, List, [], ◌++◌, codes, ℤ, pos, ◌-ℤ◌, int_lt, if◌then◌else◌, unsigned_abs}
+use Rattle.std.specs.Fmt.{signed_decimal}
+use Rattle.std.specs.List.{flat_map, fold}
+use Rattle.history.specs.declared.header.Object.{Object}
+use Rattle.history.specs.declared.header.Object.TheVariants.{Lock, ReadWrite, Semaphore, Latch}
+use Rattle.picture.specs.declared.curve.Range.{Range}
+use Rattle.picture.specs.Pieces.{named, placed}
+
+-- the lowest and the highest with one more amount
+abbrev pub wider : Range → ℤ → Range
+wider r amount =
+    record {
+      low = if int_lt amount r.low then amount else r.low;
+      high = if int_lt r.high amount then amount else r.high;
+    }
+
+-- the lowest and the highest of 0 and all amounts
+abbrev pub range_of : List ℤ → Range
+range_of amounts = fold wider (record { low = pos 0; high = pos 0 }) amounts
+
+-- how far an amount stands above the lowest, of 56 pixels; no product passes 128 bits
+abbrev pub up_of : Range → ℤ → ℕ
+up_of r amount =
+    min
+    (min (unsigned_abs (amount -ℤ r.low) * 56) (2 ^ 128 - 1) / max (unsigned_abs (r.high -ℤ r.low)) 1)
+    56
+
+-- to an entry's amount, and then to the right side of the entry
+unfoldable pub run_of : Range → ℕ → ℤ → List ℕ
+run_of r step amount = named (codes "V") (144 - up_of r amount) ++ named (codes "h") step
+
+unfoldable pub runs_of : Range → ℕ → List ℤ → List ℕ
+runs_of r step amounts =
+    codes "<path class='c' d='M72 144" ++ flat_map (run_of r step) amounts ++ codes "'/>\n"
+
+unfoldable pub word_of : List ℕ → List ℕ
+word_of word = codes "<text x='8' y='118'>" ++ word ++ codes "</text>\n"
+
+unfoldable pub amount_at : ℕ → ℤ → List ℕ
+amount_at y amount =
+    placed (codes "<text class='a' x='") 68 y ++ codes "'>" ++ signed_decimal amount ++ codes "</text>\n"
+
+-- what it shows, the highest and the lowest number, and the line
+unfoldable pub curve_lines : List ℕ → Range → ℕ → List ℤ → List ℕ
+curve_lines word r step amounts =
+    word_of word ++ amount_at 92 r.high ++ amount_at 144 r.low ++ runs_of r step amounts
+
+-- locks have none
+abbrev pub curve_of : Object → ℕ → List ℤ → List ℕ
+curve_of (Lock policy) step amounts = []
+curve_of (ReadWrite policy) step amounts = []
+curve_of (Semaphore policy permits) step amounts = curve_lines (codes "free") (range_of amounts) step amounts
+curve_of (Latch count) step amounts = curve_lines (codes "count") (range_of amounts) step amounts

@@ -1,0 +1,40 @@
+-- The SVG document of a picture.
+use Rattle.std.specs.Prelude.{ℕ, ◌<◌, ◌^◌, ◌&&◌, ◌==◌, nat_le, if◌then◌else◌, List, [], ◌++◌, codes, Option, Some, None}
+use Rattle.std.specs.List.{All}
+use Rattle.history.specs.Header.{IsInRange}
+use Rattle.picture.specs.declared.layout.Layout.{Layout}
+use Rattle.picture.specs.View.{View}
+use Rattle.picture.specs.Bars.{bar_lines}
+use Rattle.picture.specs.Curve.{curve_of}
+use Rattle.picture.specs.Grid.{rows, ticks, wrong_at}
+use Rattle.picture.specs.Head.{head}
+use Rattle.picture.specs.Layout.{IsShort, layout_of}
+use Rattle.picture.specs.Marks.{IsEarly, mark_lines}
+
+-- what lies below bars and marks: rows, scale and curve
+abbrev pub ground : Layout → View → List ℕ
+ground l p =
+    rows l p.header.seats ++ ticks l l.shown ++ curve_of p.header.object l.step p.curve
+
+-- the entry that isn't legal is marked where it follows those that are shown
+abbrev pub marked_at : Layout → ℕ → ℕ → Option ℕ → List ℕ
+marked_at l from to None = []
+marked_at l from to (Some number) = if number == to && nat_le from number then wrong_at l number else []
+
+abbrev pub wrong_mark : Layout → View → List ℕ
+wrong_mark l p = marked_at l p.from p.to p.wrong
+
+abbrev pub text_in : Layout → View → List ℕ
+text_in l p =
+    head l p ++ ground l p ++ bar_lines l p.bars ++ mark_lines l p.marks
+    ++ wrong_mark l p ++ codes "</svg>\n"
+
+unfoldable pub svg_text : View → List ℕ
+svg_text p = text_in (layout_of p.header p.from p.to) p
+
+-- a picture of entries that a history may have
+pub record IsPicture (p : View) : Type 0 where
+  pub range : IsInRange p.header
+  pub few : p.to < 2 ^ 32
+  pub bars : All IsShort p.bars
+  pub marks : All IsEarly p.marks

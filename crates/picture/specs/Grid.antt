@@ -1,0 +1,43 @@
+-- The rows of seats, the scale below them, and the place of an entry that isn't legal.
+use Rattle.std.specs.Prelude.{ℕ, zero, suc, ◌+◌, ◌*◌, ◌%◌, ◌==◌, nat_lt, if◌then◌else◌, List, [], ◌++◌, codes}
+use Rattle.picture.specs.declared.layout.Layout.{Layout}
+use Rattle.picture.specs.Layout.{bottom_of, right_of, x_of, y_of}
+use Rattle.picture.specs.Pieces.{number_at, rect, upright}
+
+-- the ground of a seat's row: every other one is shaded
+abbrev pub shade : Layout → ℕ → List ℕ
+shade l seat =
+    if seat % 2 == 1 then []
+    else
+    rect (codes "<rect class='r' x='")
+    (record { x = 0; y = y_of l seat; width = right_of l; height = 40 })
+
+abbrev pub row : Layout → ℕ → List ℕ
+row l seat = shade l seat ++ number_at 8 (y_of l seat + 20) (codes "'>seat ") seat
+
+-- those of the first seats
+abbrev pub rows : Layout → ℕ → List ℕ
+rows l zero = []
+rows l (suc seat) = rows l seat ++ row l seat
+
+-- from how many entries one has its number on the scale
+abbrev pub pitch_of : ℕ → ℕ
+pitch_of step = if step == 20 then 5 else 10
+
+abbrev pub tick : Layout → ℕ → List ℕ
+tick l number =
+    if nat_lt 0 (number % pitch_of l.step) then []
+    else
+    upright (x_of l number) l.top (bottom_of l + 4)
+    ++ number_at (x_of l number + 3) (bottom_of l + 14) (codes "'>") number
+
+-- the scale of the first of the entries that are drawn
+abbrev pub ticks : Layout → ℕ → List ℕ
+ticks l zero = []
+ticks l (suc index) = ticks l index ++ tick l (l.from + index)
+
+-- the mark of an entry that isn't legal, through all rows
+abbrev pub wrong_at : Layout → ℕ → List ℕ
+wrong_at l number =
+    rect (codes "<rect class='e' x='")
+    (record { x = x_of l number; y = l.top; width = l.step; height = l.seats * 40 })

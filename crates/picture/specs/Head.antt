@@ -1,0 +1,51 @@
+-- What stands above the rows.
+use Rattle.std.specs.Prelude.{ℕ, ◌+◌, ◌-◌, ◌==◌, if◌then◌else◌, List, [], ◌++◌, codes, Option, Some, None}
+use Rattle.history.specs.declared.header.Header.{Header}
+use Rattle.history.specs.Spelling.{part_of}
+use Rattle.picture.specs.declared.layout.Layout.{Layout}
+use Rattle.picture.specs.View.{View}
+use Rattle.picture.specs.declared.head.TheConstants.{LEGEND, STYLE}
+use Rattle.picture.specs.Layout.{height_of, width_of}
+use Rattle.picture.specs.Pieces.{named}
+
+abbrev pub opening_tag : ℕ → ℕ → List ℕ
+opening_tag width height =
+    named (codes "<svg xmlns='http://www.w3.org/2000/svg' version='1.1' width='") width
+    ++ named (codes "' height='") height ++ named (codes "' viewBox='0 0 ") width ++ named (codes " ") height
+    ++ codes "'>\n"
+
+-- the header as a history text spells it: as the document's title, and as the picture's
+unfoldable pub title : Header → List ℕ
+title k =
+    codes "<title>" ++ part_of k ++ codes "</title>\n" ++ STYLE.now
+    ++ codes "<text class='h' x='8' y='18'>" ++ part_of k ++ codes "</text>\n"
+
+abbrev pub cut : ℕ → ℕ → List ℕ
+cut shown entries =
+    named (codes "the first ") shown ++ named (codes " entries of ") entries
+    ++ codes "; --from and --to choose others"
+
+abbrev pub chosen : ℕ → ℕ → ℕ → List ℕ
+chosen first last entries =
+    named (codes "entries ") first ++ named (codes " to ") last ++ named (codes " of ") entries
+
+-- which entries are shown
+abbrev pub shown_part : Layout → View → List ℕ
+shown_part l p =
+    if l.shown == 0 then named (codes "no entry is shown of ") p.entries
+    else if p.is_cut then cut l.shown p.entries
+    else chosen l.from (l.from + (l.shown - 1)) p.entries
+
+-- which isn't legal
+abbrev pub wrong_part : Option ℕ → List ℕ
+wrong_part None = []
+wrong_part (Some number) =
+    named (codes "<tspan class='f' dx='8'>not legal at entry ") number ++ codes "</tspan>"
+
+abbrev pub shown_line : Layout → View → List ℕ
+shown_line l p =
+    codes "<text x='8' y='36'>" ++ shown_part l p ++ wrong_part p.wrong ++ codes "</text>\n"
+
+unfoldable pub head : Layout → View → List ℕ
+head l p =
+    opening_tag (width_of l) (height_of l) ++ title p.header ++ shown_line l p ++ LEGEND.now

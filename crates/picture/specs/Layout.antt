@@ -1,0 +1,82 @@
+-- Where everything stands in a picture, in pixels.
+use Rattle.std.specs.Prelude.{ℕ, ◌+◌, ◌-◌, ◌*◌, ◌<◌, ◌≤◌, ◌^◌, max, min, nat_le, if◌then◌else◌}
+use Rattle.history.specs.declared.header.Header.{Header}
+use Rattle.history.specs.declared.header.Object.{Object}
+use Rattle.history.specs.declared.header.Object.TheVariants.{Lock, ReadWrite, Semaphore, Latch}
+use Rattle.drawing.specs.declared.bar.Bar.{Bar}
+use Rattle.drawing.specs.declared.kind.Kind.{Kind}
+use Rattle.drawing.specs.declared.kind.Kind.TheVariants.{Exclusive, Shared, InLine, Asleep}
+use Rattle.picture.specs.declared.layout.Layout.{Layout}
+use Rattle.picture.specs.declared.layout.Rect.{Rect}
+
+-- the left side of an entry: the names of seats stand left of the first
+abbrev pub x_of : Layout → ℕ → ℕ
+x_of l number = 72 + (number - l.from) * l.step
+
+-- the upper side of a seat's row, and the lower side of all rows
+abbrev pub y_of : Layout → ℕ → ℕ
+y_of l seat = l.top + seat * 40
+
+abbrev pub bottom_of : Layout → ℕ
+bottom_of l = l.top + l.seats * 40
+
+-- the right side of all entries, behind which there is room for one that isn't legal
+abbrev pub right_of : Layout → ℕ
+right_of l = 72 + (l.shown + 1) * l.step
+
+abbrev pub width_of : Layout → ℕ
+width_of l = max (right_of l + 16) 760
+
+abbrev pub height_of : Layout → ℕ
+height_of l = bottom_of l + 24
+
+-- shared holds stand below what else a seat is at, so that both are seen
+abbrev pub lower_by : Kind → ℕ
+lower_by Exclusive = 3
+lower_by Shared = 17
+lower_by InLine = 3
+lower_by (Asleep condition) = 3
+
+-- a bar, from the left side of its first entry to the right side of its last
+abbrev pub rect_of : Layout → Bar → Rect
+rect_of l b =
+    record {
+      x = x_of l b.first;
+      y = y_of l b.seat + lower_by b.kind;
+      width = (b.last + 1 - b.first) * l.step;
+      height = 12;
+    }
+
+-- few entries are drawn wide
+abbrev pub step_of : ℕ → ℕ
+step_of shown = if nat_le shown 200 then 20 else 8
+
+-- the rows begin below the curve, if there is one
+abbrev pub top_of : Object → ℕ
+top_of (Lock policy) = 72
+top_of (ReadWrite policy) = 72
+top_of (Semaphore policy permits) = 160
+top_of (Latch count) = 160
+
+-- the layout of the entries from a number on, before another
+abbrev pub layout_of : Header → ℕ → ℕ → Layout
+layout_of k from to =
+    record {
+      from = min from to;
+      shown = to - min from to;
+      step = step_of (to - min from to);
+      top = top_of k.object;
+      seats = k.seats;
+    }
+
+-- a layout of no more entries and seats than a history may have
+pub record IsLayout (l : Layout) : Type 0 where
+  pub few : l.from + l.shown < 2 ^ 32
+  pub step : l.step ≤ 20
+  pub top : l.top ≤ 160
+  pub seats : l.seats ≤ 65535
+
+-- a bar of entries that a history may have
+pub record IsShort (b : Bar) : Type 0 where
+  pub order : b.first ≤ b.last
+  pub last : b.last < 2 ^ 32

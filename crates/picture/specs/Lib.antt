@@ -1,0 +1,9 @@
+pub mod View
+pub mod Layout
+pub mod Pieces
+pub mod Bars
+pub mod Marks
+pub mod Grid
+pub mod Curve
+pub mod Head
+pub mod Document

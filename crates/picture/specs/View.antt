@@ -1,0 +1,32 @@
+-- What a picture shows, with lists in place of memory.
+use Rattle.std.specs.Prelude.{ℕ, ℤ, Bool, List, Option}
+use Rattle.history.specs.declared.header.Header.{Header}
+use Rattle.drawing.specs.declared.bar.Bar.{Bar}
+use Rattle.drawing.specs.declared.mark.Mark.{Mark}
+use Rattle.picture.specs.declared.picture.Picture.{Picture}
+
+-- the entries from a number on, before another, of a history of so many, and its first entry that isn't legal
+pub record View : Type 0 where
+  pub header : Header
+  pub from : ℕ
+  pub to : ℕ
+  pub entries : ℕ
+  pub is_cut : Bool
+  pub wrong : Option ℕ
+  pub bars : List Bar
+  pub marks : List Mark
+  pub curve : List ℤ
+
+abbrev pub view_of : Picture → View
+view_of p =
+    record {
+      header = p.header;
+      from = p.from;
+      to = p.to;
+      entries = p.entries;
+      is_cut = p.is_cut;
+      wrong = p.wrong;
+      bars = p.drawn.bars.items;
+      marks = p.drawn.marks.items;
+      curve = p.drawn.curve.items;
+    }

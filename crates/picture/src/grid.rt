@@ -1,0 +1,92 @@
+//! The rows of the seats, the scale below them, and the place of an entry that isn't legal.
+
+ghost use Rattle.std.specs.Prelude.{◌≡◌, ◌<◌, ◌≤◌, ◌+◌, ◌^◌, ◌++◌, OnOk, zero};
+ghost use Rattle.picture.specs.Layout.{IsLayout};
+ghost use Rattle.picture.specs.Grid.{pitch_of, row, rows, shade, tick, ticks, wrong_at};
+
+use crate::layout::{Layout, Rect};
+use crate::pieces::{put_number_at, put_rect, put_upright};
+use std::alloc::AllocError;
+
+/// Appends the rows of all seats.
+pub(crate) fn put_rows(out: &mut Vec<u8>, layout: Layout, seats: u16) -> Result<(), AllocError>
+    requires { IsLayout layout }
+    ensures { OnOk result (out.new.items ≡ out.old.items ++ rows layout seats) }
+{
+    for seat in 0..seats {
+        put_row(out, layout, seat)?;
+    }
+    Ok(())
+}
+
+/// Appends a seat's row, with its name.
+fn put_row(out: &mut Vec<u8>, layout: Layout, seat: u16) -> Result<(), AllocError>
+    requires { IsLayout layout }
+    ensures { OnOk result (out.new.items ≡ out.old.items ++ row layout seat) }
+{
+    put_shade(out, layout, seat)?;
+    put_number_at(out, 8, layout.y(seat) + 20, b"'>seat ", u64::from(seat))
+}
+
+/// Appends the ground of a seat's row: every other one is shaded.
+fn put_shade(out: &mut Vec<u8>, layout: Layout, seat: u16) -> Result<(), AllocError>
+    requires { IsLayout layout }
+    ensures { OnOk result (out.new.items ≡ out.old.items ++ shade layout seat) }
+{
+    if seat % 2 == 1 {
+        return Ok(());
+    }
+    let area = Rect {
+        x: 0,
+        y: layout.y(seat),
+        width: layout.right(),
+        height: 40,
+    };
+    put_rect(out, b"<rect class='r' x='", area)
+}
+
+/// Appends the scale: at entries of round numbers a line through all rows, and the number below.
+pub(crate) fn put_scale(out: &mut Vec<u8>, layout: Layout) -> Result<(), AllocError>
+    requires { IsLayout layout }
+    ensures { OnOk result (out.new.items ≡ out.old.items ++ ticks layout layout.shown) }
+{
+    for index in 0..layout.shown {
+        put_tick(out, layout, layout.from + index)?;
+    }
+    Ok(())
+}
+
+fn put_tick(out: &mut Vec<u8>, layout: Layout, number: u64) -> Result<(), AllocError>
+    requires { IsLayout layout × (number < 2 ^ 33) }
+    ensures { OnOk result (out.new.items ≡ out.old.items ++ tick layout number) }
+{
+    if number % pitch_of(layout.step) > 0 {
+        return Ok(());
+    }
+    let x = layout.x(number);
+    let bottom = layout.bottom();
+    put_upright(out, x, layout.top, bottom + 4)?;
+    put_number_at(out, x + 3, bottom + 14, b"'>", number)
+}
+
+/// From how many entries one has its number on the scale, so that numbers of ten digits stand apart.
+fn pitch_of(step: u64) -> u64
+    ensures is { result ≡ pitch_of step }
+    ensures some { 0 < result }
+{
+    if step == 20 { 5 } else { 10 }
+}
+
+/// Appends the mark of an entry that isn't legal, through all rows.
+pub(crate) fn put_wrong(out: &mut Vec<u8>, layout: Layout, number: u64) -> Result<(), AllocError>
+    requires { IsLayout layout × (number < 2 ^ 33) }
+    ensures { OnOk result (out.new.items ≡ out.old.items ++ wrong_at layout number) }
+{
+    let area = Rect {
+        x: layout.x(number),
+        y: layout.top,
+        width: layout.step,
+        height: layout.seats * 40,
+    };
+    put_rect(out, b"<rect class='e' x='", area)
+}

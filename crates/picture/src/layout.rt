@@ -1,0 +1,145 @@
+//! Where everything stands in a picture, in pixels.
+
+ghost use Rattle.std.specs.Prelude.{◌≡◌, ◌<◌, ◌≤◌, ◌^◌};
+ghost use Rattle.picture.specs.Layout.{IsLayout, IsShort, bottom_of, height_of, layout_of, lower_by, rect_of, right_of, step_of, top_of, width_of, x_of, y_of};
+
+use drawing::bar::Bar;
+use drawing::kind::Kind;
+use history::header::{Header, Object};
+
+/// Where the rows and the entries of a picture stand.
+#[derive(Clone, Copy, Debug)]
+pub(crate) struct Layout {
+    /// The number of the first entry that is drawn.
+    pub(crate) from: u64,
+    /// How many entries are drawn.
+    pub(crate) shown: u64,
+    /// How wide each entry is.
+    pub(crate) step: u64,
+    /// The upper side of the first row.
+    pub(crate) top: u64,
+    pub(crate) seats: u64,
+}
+
+/// The place and the size of a rectangle.
+#[derive(Clone, Copy, Debug)]
+pub(crate) struct Rect {
+    pub(crate) x: u64,
+    pub(crate) y: u64,
+    pub(crate) width: u64,
+    pub(crate) height: u64,
+}
+
+impl Layout {
+    /// The layout of the entries from a number on, before another.
+    pub(crate) fn of(header: Header, from: u64, to: u64) -> Self
+        requires { to < 2 ^ 32 }
+        ensures is { result ≡ layout_of header from to }
+        ensures sound { IsLayout result }
+    {
+        let first = from.min(to);
+        let shown = to - first;
+        Layout {
+            from: first,
+            shown,
+            step: step_of(shown),
+            top: top_of(header.object),
+            seats: u64::from(header.seats),
+        }
+    }
+
+    /// The left side of an entry.
+    pub(crate) fn x(self, number: u64) -> u64
+        requires { IsLayout self × (number < 2 ^ 33) }
+        ensures is { result ≡ x_of self number }
+        ensures bound { result < 2 ^ 40 }
+    {
+        72 + number.saturating_sub(self.from) * self.step
+    }
+
+    /// The upper side of a seat's row.
+    pub(crate) fn y(self, seat: u16) -> u64
+        requires { IsLayout self }
+        ensures is { result ≡ y_of self seat }
+        ensures bound { result < 2 ^ 24 }
+    {
+        self.top + u64::from(seat) * 40
+    }
+
+    /// The lower side of all rows.
+    pub(crate) fn bottom(self) -> u64
+        requires { IsLayout self }
+        ensures is { result ≡ bottom_of self }
+        ensures bound { result < 2 ^ 24 }
+    {
+        self.top + self.seats * 40
+    }
+
+    /// The right side of all entries. Behind them there is room for one that isn't legal.
+    pub(crate) fn right(self) -> u64
+        requires { IsLayout self }
+        ensures is { result ≡ right_of self }
+        ensures bound { result < 2 ^ 40 }
+    {
+        72 + (self.shown + 1) * self.step
+    }
+
+    pub(crate) fn width(self) -> u64
+        requires { IsLayout self }
+        ensures { result ≡ width_of self }
+    {
+        (self.right() + 16).max(760)
+    }
+
+    pub(crate) fn height(self) -> u64
+        requires { IsLayout self }
+        ensures { result ≡ height_of self }
+    {
+        self.bottom() + 24
+    }
+
+    /// The rectangle of a bar, from the left side of its first entry to the right side of its last.
+    pub(crate) fn rect(self, bar: Bar) -> Rect
+        requires layout { IsLayout self }
+        requires short { IsShort bar }
+        ensures is { result ≡ rect_of self bar }
+        ensures bound { (result.x < 2 ^ 40) × (result.y < 2 ^ 25) }
+    {
+        Rect {
+            x: self.x(bar.first),
+            y: self.y(bar.seat) + lower_by(bar.kind),
+            width: (bar.last + 1 - bar.first) * self.step,
+            height: 12,
+        }
+    }
+}
+
+/// How wide each of so many entries is: few are drawn wide.
+fn step_of(shown: u64) -> u64
+    ensures is { result ≡ step_of shown }
+    ensures bound { result ≤ 20 }
+{
+    if shown <= 200 { 20 } else { 8 }
+}
+
+/// Where the rows begin: below the curve, if there is one.
+fn top_of(object: Object) -> u64
+    ensures is { result ≡ top_of object }
+    ensures bound { result ≤ 160 }
+{
+    match object {
+        Object::Lock(_) | Object::ReadWrite(_) => 72,
+        Object::Semaphore(_, _) | Object::Latch(_) => 160,
+    }
+}
+
+/// How far below the upper side of its row a bar begins.
+fn lower_by(kind: Kind) -> u64
+    ensures is { result ≡ lower_by kind }
+    ensures bound { result ≤ 17 }
+{
+    match kind {
+        Kind::Shared => 17,
+        Kind::Exclusive | Kind::InLine | Kind::Asleep(_) => 3,
+    }
+}
