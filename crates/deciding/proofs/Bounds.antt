@@ -97,4 +97,5 @@ first_below s h a past q = by (line s h) all q
     by : (queue : List Arrival) → LineSeated s.header.seats queue → Some a ≡ first_of queue →
         a.seat < s.header.seats
     by [] each p = cc
-    by (b ∷ rest) each p = let same : b ≡ a = cc in subst (λ (x : Arrival). x.seat < s.header.seats) same each.0
+    by (b ∷ rest) each p =
+        let same : b ≡ a = cc in subst (λ (x : Arrival). x.seat < s.header.seats) same each.0

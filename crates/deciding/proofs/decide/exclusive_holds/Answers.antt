@@ -15,7 +15,8 @@ pub returns-clause-owns : goal.returns-clause-owns
 returns-clause-owns g c s h st =
     let r = c.requires.seat in
     let past = g.met.T.Situation.is_history s h c.args.state.now st in
-    let same : r.0.header ≡ s.header = sym (c.header-header.ensures r.0 r.1 r.2) ∙ c.header-header.ensures s h st in
+    let same : r.0.header ≡ s.header =
+    sym (c.header-header.ensures r.0 r.1 r.2) ∙ c.header-header.ensures s h st in
     owner_holds_any s h c.args.seat past (c.requires.lock s h st)
     (subst (λ (k : Header). c.args.seat < k.seats) same r.3)
     ∙ ap (ltb 0) (sym (c.held.ensures s h st))

@@ -9,8 +9,8 @@ pub note-requires-clause-movable : goal.note-requires-clause-movable
 note-requires-clause-movable c =
     let r = c.requires.seat in
     let few = r.room in
-    next_movable r.start r.front c.args.entry c.args.self.now r.stand (c.requires.next r.start r.front r.stand)
-    r.seat (omega (arith, few))
+    next_movable r.start r.front c.args.entry c.args.self.now r.stand
+    (c.requires.next r.start r.front r.stand) r.seat (omega (arith, few))
 
 pub returns : goal.returns
 returns c s h st seat =
