@@ -13,7 +13,7 @@ use Rattle.workers.specs.declared.report.Report.{Report}
 use Rattle.workers.specs.Reports.{IsReport}
 use Rattle.workers.specs.Works.{IsTold}
 use Rattle.tasks.specs.declared.fault.Fault.{Fault}
-use Rattle.tasks.specs.declared.fault.Fault.TheVariants.{Usage, Memory, Stream, Script, Run}
+use Rattle.tasks.specs.declared.fault.Fault.TheVariants.{Usage, BadFrom, BadTo, Memory, Stream, Script, Run}
 use Rattle.tasks.specs.RunScript.{IsFaultOfScript, IsRun, Runs}
 use Rattle.tasks.proofs.OpenGates.{lets, stops_nobody}
 
@@ -21,6 +21,8 @@ use Rattle.tasks.proofs.OpenGates.{lets, stops_nobody}
 pub not_read : (left old : Option (List ℕ)) (fault : Fault) → IsFaultOfScript left fault →
     Runs left old old (Err fault)
 not_read left old Usage is = is
+not_read left old BadFrom is = is
+not_read left old BadTo is = is
 not_read left old Memory is = absurd is
 not_read left old (Stream ReadFailed) is = Keeps-refl old
 not_read left old (Stream StreamMemory) is = Keeps-refl old

@@ -20,18 +20,18 @@ loop-kept-init g c =
     record {
       going = c.requires.reader;
       keeping = record {
-          judging = record {
-              entries = [];
-              read = λ text were. were;
-              judged = subst (λ (k : Header). HasJudged k [] c.in-Ok.auditor) c.header.ensures.value c.in-Ok.ensures.judged;
-              header = refl;
-              count = c.requires.fresh.0;
-              calls = c.requires.fresh.1;
-              few = omega arith;
-              range = c.header.ensures.range;
-          };
-          front = empty ∙ sym (take_all c.args.end [] (omega arith));
-          seated = subst (All P) (sym empty) (λ i d lt. absurd (omega (arith, lt)));
+        judging = record {
+          entries = [];
+          read = λ text were. were;
+          judged = subst (λ (k : Header). HasJudged k [] c.in-Ok.auditor) c.header.ensures.value c.in-Ok.ensures.judged;
+          header = refl;
+          count = c.requires.fresh.0;
+          calls = c.requires.fresh.1;
+          few = omega arith;
+          range = c.header.ensures.range;
+        };
+        front = empty ∙ sym (take_all c.args.end [] (omega arith));
+        seated = subst (All P) (sym empty) (λ i d lt. absurd (omega (arith, lt)));
       };
     }
 
