@@ -11,6 +11,7 @@ failed'.
 import os
 import pathlib
 import resource
+import shutil
 import subprocess
 import sys
 import tempfile
@@ -112,10 +113,21 @@ def little_memory(program, words, text, wanted):
     return False
 
 
+def as_somebody(program, scratch):
+    """The program, and how it is run by a user who may not read every file."""
+    if os.geteuid():
+        return program, {}
+    scratch.chmod(0o755)
+    own = shutil.copy(program, scratch / "aqs")
+    os.chmod(own, 0o755)
+    return own, {"user": 65534}
+
+
 def results(program, scratch):
     hidden = scratch / "hidden"
     hidden.write_bytes(STEPS)
     hidden.chmod(0)
+    own, somebody = as_somebody(program, scratch)
     for words, text, wanted in COMMANDS:
         name = " ".join(words)
         yield f"{name}, byte by byte", byte_by_byte(program, words, text) == (0, wanted, b"")
@@ -132,8 +144,8 @@ def results(program, scratch):
         yield f"{name} of a folder", run(program, [*words, str(scratch)]) == READ_FAILED
         yield f"{name} of no file", run(program, [*words, str(scratch / "none")]) == READ_FAILED
         yield f"{name} below a file", run(program, [*words, str(hidden / "below")]) == READ_FAILED
-        if os.geteuid():
-            yield f"{name} of a file that may not be read", run(program, [*words, str(hidden)]) == READ_FAILED
+        answer = run(own, [*words, str(hidden)], **somebody)
+        yield f"{name} of a file that may not be read", answer == READ_FAILED
         yield f"{name}, no input", run(program, words)[0] == 3
         yield f"{name}, little memory", little_memory(program, words, text, wanted)
 
