@@ -154,7 +154,7 @@ def flow(program, gigabytes):
     """So much of good steps, each an entry, from a pipe into a history text and from there into its audit."""
     line = b"255 entryinterrupt s 2147483647\n"
     block = line * 30_000
-    blocks = gigabytes * 10**9 // len(block)
+    blocks = int(gigabytes * 10**9) // len(block)
     replay = subprocess.Popen([program, "replay", "--history"], stdin=subprocess.PIPE, stdout=subprocess.PIPE)
     audit = subprocess.Popen([program, "audit"], stdin=replay.stdout, stdout=subprocess.PIPE)
     replay.stdout.close()
@@ -169,7 +169,7 @@ def flow(program, gigabytes):
         _, status, used = os.wait4(child.pid, 0)
         each = used.ru_maxrss * 1024 / entries
         print(f"  {name}: {used.ru_maxrss} kB at most, {each:.2f} bytes an entry, {used.ru_utime:.0f} s")
-        yield f"{name} of {gigabytes} GB", status == 0
+        yield f"{name} of {gigabytes:g} GB", status == 0
     wanted = f"legal\nentries {entries}\ncalls {entries}\nheld 0 free 0 created 0 unheld 0 line 0\n"
     yield f"{entries} entries are legal", written == wanted.encode()
 
@@ -178,7 +178,7 @@ def main(words):
     program = str(pathlib.Path(words[0]).resolve())
     passed = failed = 0
     with tempfile.TemporaryDirectory() as scratch:
-        tries = flow(program, int(words[1])) if len(words) > 1 else results(program, pathlib.Path(scratch))
+        tries = flow(program, float(words[1])) if len(words) > 1 else results(program, pathlib.Path(scratch))
         for name, good in tries:
             passed, failed = passed + good, failed + (not good)
             if not good:
