@@ -11,6 +11,7 @@ failed'.
 import os
 import pathlib
 import resource
+import shutil
 import subprocess
 import sys
 import tempfile
@@ -112,10 +113,21 @@ def little_memory(program, words, text, wanted):
     return False
 
 
+def as_somebody(program, scratch):
+    """The program, and how it is run by a user who may not read every file."""
+    if os.geteuid():
+        return program, {}
+    scratch.chmod(0o755)
+    own = shutil.copy(program, scratch / "aqs")
+    os.chmod(own, 0o755)
+    return own, {"user": 65534}
+
+
 def results(program, scratch):
     hidden = scratch / "hidden"
     hidden.write_bytes(STEPS)
     hidden.chmod(0)
+    own, somebody = as_somebody(program, scratch)
     for words, text, wanted in COMMANDS:
         name = " ".join(words)
         yield f"{name}, byte by byte", byte_by_byte(program, words, text) == (0, wanted, b"")
@@ -132,8 +144,8 @@ def results(program, scratch):
         yield f"{name} of a folder", run(program, [*words, str(scratch)]) == READ_FAILED
         yield f"{name} of no file", run(program, [*words, str(scratch / "none")]) == READ_FAILED
         yield f"{name} below a file", run(program, [*words, str(hidden / "below")]) == READ_FAILED
-        if os.geteuid():
-            yield f"{name} of a file that may not be read", run(program, [*words, str(hidden)]) == READ_FAILED
+        answer = run(own, [*words, str(hidden)], **somebody)
+        yield f"{name} of a file that may not be read", answer == READ_FAILED
         yield f"{name}, no input", run(program, words)[0] == 3
         yield f"{name}, little memory", little_memory(program, words, text, wanted)
 
@@ -142,7 +154,7 @@ def flow(program, gigabytes):
     """So much of good steps, each an entry, from a pipe into a history text and from there into its audit."""
     line = b"255 entryinterrupt s 2147483647\n"
     block = line * 30_000
-    blocks = gigabytes * 10**9 // len(block)
+    blocks = int(gigabytes * 10**9) // len(block)
     replay = subprocess.Popen([program, "replay", "--history"], stdin=subprocess.PIPE, stdout=subprocess.PIPE)
     audit = subprocess.Popen([program, "audit"], stdin=replay.stdout, stdout=subprocess.PIPE)
     replay.stdout.close()
@@ -157,7 +169,7 @@ def flow(program, gigabytes):
         _, status, used = os.wait4(child.pid, 0)
         each = used.ru_maxrss * 1024 / entries
         print(f"  {name}: {used.ru_maxrss} kB at most, {each:.2f} bytes an entry, {used.ru_utime:.0f} s")
-        yield f"{name} of {gigabytes} GB", status == 0
+        yield f"{name} of {gigabytes:g} GB", status == 0
     wanted = f"legal\nentries {entries}\ncalls {entries}\nheld 0 free 0 created 0 unheld 0 line 0\n"
     yield f"{entries} entries are legal", written == wanted.encode()
 
@@ -166,7 +178,7 @@ def main(words):
     program = str(pathlib.Path(words[0]).resolve())
     passed = failed = 0
     with tempfile.TemporaryDirectory() as scratch:
-        tries = flow(program, int(words[1])) if len(words) > 1 else results(program, pathlib.Path(scratch))
+        tries = flow(program, float(words[1])) if len(words) > 1 else results(program, pathlib.Path(scratch))
         for name, good in tries:
             passed, failed = passed + good, failed + (not good)
             if not good:

@@ -5,7 +5,7 @@
 //! never be whole.
 
 use crate::gates::Seen;
-use crate::reports::{NOTHING, assert_part};
+use crate::reports::{NOTHING, assert_part, run};
 use crate::texts::{alike, script_of};
 use script::read_script;
 use std::process::Abort;
@@ -23,6 +23,9 @@ const MOST: u32 = 4096;
 /// Each request of a run takes a piece of this size or more.
 const FINE: usize = 16;
 
+/// A lock for one thread.
+const ONE_LOCK: &str = "[\"a\",\"lock fair seats 1 conditions 1 cap 1000\"]";
+
 const SIXTEEN: &str = "{\"repeat\":1,\"calls\":[\"a acquire x 1\",\"a give x 1\"]}";
 
 /// Each piece that is given back has place for the stack of one thread or two.
@@ -32,8 +35,9 @@ fn nobody_makes_a_call_unless_all_threads_were_started(rt: HostRuntime) -> Resul
     let threads = alike(rt.alloc(), SIXTEEN, 16)?;
     let text = script_of(rt.alloc(), lock, &threads)?;
     let script = read_script(rt.alloc(), text.as_bytes())?;
-    // The stack grows to its depth first: where it finds no memory the system ends the program.
-    run_threads(&rt, rt.alloc(), &script, &OpenGate)?;
+    // The stack grows to its depth first: where it finds no memory the system ends the program. One thread is
+    // enough for that, and the system keeps no more stacks than its own.
+    run(&rt, &script_of(rt.alloc(), ONE_LOCK, SIXTEEN)?, &OpenGate)?;
     let mut memory = Memory::take_all(rt.alloc(), WIDE)?;
     let mut last: u16 = 0;
     for _ in 0..MOST {
@@ -61,8 +65,7 @@ fn nobody_makes_a_call_unless_all_threads_were_started(rt: HostRuntime) -> Resul
 /// unrecorded.
 #[test]
 fn each_request_of_a_run_is_refused(rt: HostRuntime) -> Result<(), Fail> {
-    let lock = "[\"a\",\"lock fair seats 1 conditions 1 cap 1000\"]";
-    let text = script_of(rt.alloc(), lock, SIXTEEN)?;
+    let text = script_of(rt.alloc(), ONE_LOCK, SIXTEEN)?;
     let script = read_script(rt.alloc(), text.as_bytes())?;
     run_threads(&rt, rt.alloc(), &script, &OpenGate)?;
     let mut memory = Memory::take_all(rt.alloc(), FINE)?;

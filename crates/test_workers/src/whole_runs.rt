@@ -187,7 +187,7 @@ fn tells_want(ended: &Result<u8, Fault>, written: &[u8]) -> bool {
 fn each_request_of_a_whole_run_is_refused(rt: HostRuntime) -> Result<(), Fail> {
     let mut written = Vec::with_capacity(rt.alloc(), PLACES)?;
     assert!(rt; run_within(&rt, &mut written) == Ok(0));
-    let mut memory = Memory::take_all(rt.alloc(), 16)?;
+    let mut memory = Memory::take_all(rt.alloc(), 64)?;
     for refused in 0..4096 {
         let ended = run_within(&rt, &mut written);
         if ended == Ok(0) && written.as_slice() == WRITTEN.as_bytes() {

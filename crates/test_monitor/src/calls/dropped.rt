@@ -68,6 +68,18 @@ fn lock_of(alloc: Global, policy: Policy) -> Result<(Monitor<LockHooks>, Vec<Pas
     monitor_of(alloc, LockHooks::open(policy), &header)
 }
 
+/// The last pass of a list.
+fn last_of(monitor: &Monitor<LockHooks>, passes: &mut Vec<Pass>) -> Result<Pass, Fail>
+    requires { All (λ p. p.lock ≡ monitor.now) passes.old.items }
+    ensures own { IfOk result (λ p. p.lock ≡ monitor.now) }
+    ensures rest { All (λ p. p.lock ≡ monitor.now) passes.new.items }
+{
+    match passes.pop() {
+        Some(pass) => Ok(pass),
+        None => Err(Fail::new("a seat without a pass")),
+    }
+}
+
 /// Plays until seat 1 is dropped, and then by the passes of seats 0 and 2. They are too few to close the lock,
 /// and come back with it. The last of them then tries it.
 fn abandon<R: Abort + AllocGlobal + Wait>(
@@ -79,11 +91,10 @@ fn abandon<R: Abort + AllocGlobal + Wait>(
 ) -> Result<(), Fail> {
     let (monitor, mut passes) = lock_of(rt.alloc(), policy)?;
     play(rt, &monitor, &mut passes, before)?;
-    let (Some(two), Some(one)) = (passes.pop(), passes.pop()) else {
-        return Err(Fail::new("a seat without a pass"));
-    };
-    drop(one);
-    passes.push(two)?;
+    let two = last_of(&monitor, &mut passes)?;
+    drop(last_of(&monitor, &mut passes)?);
+    let zero = last_of(&monitor, &mut passes)?;
+    let mut passes = vec![in rt.alloc(); zero, two]?;
     play(rt, &monitor, &mut passes, behind)?;
     let Err((monitor, mut passes, fault)) = monitor.close(rt, passes) else {
         return Err(Fail::new("closed without the pass of a seat"));

@@ -392,8 +392,8 @@ fn is_good(at: usize, byte: u8) -> bool {
 }
 
 /// Whether the history text is read, and written as it is, with this byte in this place.
-fn is_read_changed(alloc: Global, at: usize, byte: u8) -> Result<bool, Fault> {
-    let mut changed = Vec::from_slice(alloc, CHANGED)?;
+fn is_read_changed(alloc: Global, text: &[u8], at: usize, byte: u8) -> Result<bool, Fault> {
+    let mut changed = Vec::from_slice(alloc, text)?;
     if let Some(place) = changed.get_mut(at) {
         *place = byte;
     }
@@ -411,9 +411,40 @@ fn a_changed_history_is_refused_or_read_as_it_is(rt: HostRuntime) -> Result<(), 
     for at in 0..CHANGED.len() {
         for byte in 0..=255u8 {
             let is_good = CHANGED[at] == byte || is_good(at, byte);
-            let is_read = is_read_changed(rt.alloc(), at, byte)?;
+            let is_read = is_read_changed(rt.alloc(), CHANGED, at, byte)?;
             assert!(rt; is_read == is_good, "{at} {byte}");
         }
+    }
+    Ok(())
+}
+
+/// How many changes of a byte, that byte itself among them, a history text is read with. All others are
+/// refused.
+fn count_read(alloc: Global, text: &[u8]) -> Result<usize, Fault> {
+    let mut read: usize = 0;
+    for at in 0..text.len() {
+        for byte in 0..=255u8 {
+            if is_read_changed(alloc, text, at, byte)? {
+                read = read.saturating_add(1);
+            }
+        }
+    }
+    Ok(read)
+}
+
+/// Whatever one of their bytes becomes, the histories of the worked examples are refused, or read and written as
+/// they are. Each has changes that are read, and few.
+#[test]
+fn each_changed_example_is_refused_or_read_as_it_is(rt: HostRuntime) -> Result<(), Fail> {
+    for example in situations() {
+        let text = example.history.as_bytes();
+        let read = count_read(rt.alloc(), text)?;
+        let bytes = text.len();
+        assert!(rt;
+            bytes < read && read < bytes.saturating_mul(3),
+            "{} {read}",
+            example.name
+        );
     }
     Ok(())
 }
