@@ -1,12 +1,13 @@
-//! The program `aqs`: replays the steps of a synchroniser's seats, audits and draws histories, and runs threads.
+//! The program `aqs`: replays the steps of a synchroniser's seats, audits and draws histories, and runs
+//! threads.
 //!
 //! `aqs replay [FILE]` reads a steps text, from standard input where no file is named, and writes its
 //! replay text to standard output, or with `--history` its history text. `aqs audit [FILE]` reads a history
-//! text and writes its audit text; the status is 1 where the history isn't legal. `aqs draw [FILE]` writes a picture
-//! of a history as an SVG document, with the same status; `--from` and `--to` choose entries. `aqs run [FILE]` reads a
-//! script, runs its threads, and writes the history of each of its objects with what the audit says of it.
-//! With no words at all it replays. A fault is one line on standard error, and nothing has been written then,
-//! but for a fault of writing itself.
+//! text and writes its audit text; the status is 1 where the history isn't legal. `aqs draw [FILE]` writes a
+//! picture of a history as an SVG document, with the same status; `--from` and `--to` choose entries. `aqs
+//! run [FILE]` reads a script, runs its threads, and writes the history of each of its objects with what the
+//! audit says of it. With no words at all it replays. A fault is one line on standard error, and nothing has
+//! been written then, but for a fault of writing itself.
 #![tactic(auto)]
 
 mod arguments;

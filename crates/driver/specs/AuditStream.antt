@@ -22,8 +22,8 @@ abbrev pub IsVerdict : Header → List Entry → Verdict → Type 0
 IsVerdict h entries Legal = IsLegal (opening h) entries
 IsVerdict h entries (NotLegal number) = IsFirstWrong h entries number
 
--- The text is the history text of these entries, the newest first; this is the verdict on them, and of what is
--- told of both, this is written.
+-- The text is the history text of these entries, the newest first; this is the verdict on them, and of what
+-- is told of both, this is written.
 pub record IsToldOf (Tells : Header → List Entry → Verdict → List ℕ) (text : List ℕ) (verdict : Verdict)
     (Written : List ℕ → Type 0) : Type 0 where
   pub header : Header

@@ -59,8 +59,8 @@ drawn_text choice k entries verdict = svg_text (picture_of choice k entries verd
 abbrev pub kept_with : List Entry → Entry → ℕ → ℕ → List Entry
 kept_with kept e count end = if nat_le count end then kept ++ e ∷ [] else kept
 
--- The text is a history text of this header; this is the verdict on its entries, so many there are, and these of
--- them, the oldest first, stand before the end.
+-- The text is a history text of this header; this is the verdict on its entries, so many there are, and these
+-- of them, the oldest first, stand before the end.
 pub record IsKept (p : Progress Header Entry) (now : EntriesHeld) (end : ℕ) (k : Kept) : Type 0 where
   pub entries : List Entry
   pub is : OfText history_form p (λ text. IsText history_form text p.so_far.header (reverse entries))

@@ -3,6 +3,9 @@
 ghost use Rattle.std.specs.Prelude.{◌≡◌};
 ghost use Rattle.driver.specs.Choice.{end_of, first_of, is_cut};
 
+/// So many entries are drawn where nobody asks for some.
+const UNCHOSEN: u64 = 2000;
+
 /// The first and the last entry that are asked for, by their numbers.
 #[derive(Clone, Copy, Debug, PartialEq, Eq)]
 pub struct Choice {
@@ -31,7 +34,7 @@ impl Choice {
             Some(number) => number.saturating_add(1),
             None => match self.from {
                 Some(_) => u64::MAX,
-                None => 2000,
+                None => UNCHOSEN,
             },
         }
     }
@@ -44,7 +47,7 @@ impl Choice {
             Some(_) => false,
             None => match self.to {
                 Some(_) => false,
-                None => 2000 < entries,
+                None => UNCHOSEN < entries,
             },
         }
     }

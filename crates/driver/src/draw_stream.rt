@@ -30,8 +30,8 @@ use streams::source::Source;
 use streams::stream_fault::StreamFault;
 use streams::whole::{told_at_the_end, write_all};
 
-/// Reads a history text, judges the history, and writes a picture of the chosen entries. The verdict is answered
-/// too. A history that isn't legal is drawn up to its first entry that isn't.
+/// Reads a history text, judges the history, and writes a picture of the chosen entries. The verdict is
+/// answered too. A history that isn't legal is drawn up to its first entry that isn't.
 ///
 /// The entries up to the last that is drawn are kept, and none behind it. As in
 /// [`audit_stream`](crate::audit_stream::audit_stream) all is read, and all memory found, before anything is

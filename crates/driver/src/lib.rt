@@ -2,8 +2,8 @@
 //!
 //! A stream reads all and finds all its memory before it writes, so that nothing is written for a text that
 //! is refused. A replay answers each line as it is read, and keeps the answers short until they are written;
-//! an audit judges each line as it is read, and keeps none; a drawing keeps the entries that are drawn. Sources and sinks tell their bytes to the
-//! contracts, where these are known.
+//! an audit judges each line as it is read, and keeps none; a drawing keeps the entries that are drawn.
+//! Sources and sinks tell their bytes to the contracts, where these are known.
 #![tactic(auto)]
 
 mod answer_line;

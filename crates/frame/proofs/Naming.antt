@@ -97,14 +97,16 @@ first_stays s h e a known stays first ne goes =
     by (line s h) (sym (ap first_of after) ∙ first)
   where
     after : line s (e ∷ h) ≡ line s h ++ arrivals_by s e.word e h
-    after = line_after s e h ∙ ap (λ l. l ++ arrivals_by s e.word e h) (all_stay e.word e.seat (line s h) stays)
+    after =
+        line_after s e h ∙ ap (λ l. l ++ arrivals_by s e.word e h) (all_stay e.word e.seat (line s h) stays)
 
     by : (q : List Arrival) → first_of (q ++ arrivals_by s e.word e h) ≡ Some a → first_of q ≡ Some a
     by [] is = absurd (arrived_waits s h e a e.word known is ne goes)
     by (b ∷ rest) is = is
 
 -- what the first in line asks for
-first_few : (q : List Arrival) (a : Arrival) → AllByRecursion AsksFew q → first_of q ≡ Some a → a.n ≤ max_amount
+first_few : (q : List Arrival) (a : Arrival) → AllByRecursion AsksFew q → first_of q ≡ Some a →
+    a.n ≤ max_amount
 first_few [] a all is = cc
 first_few (b ∷ rest) a all is = let same : b ≡ a = cc in subst AsksFew same all.0
 
@@ -145,8 +147,8 @@ named_nobody k h e range n none = by (first_of (line (opening k) (e ∷ h))) ref
         let below : a.seat < k.seats = first_below (opening k) (e ∷ h) a past (sym is) in
         let most = range.seats in
         let few = first_few (line (opening k) (e ∷ h)) a (line_few k (e ∷ h) n.legal) is in
-        let was = could_before (counts (opening k) h) new e.seat a e.word none (omega (arith, below, most)) few ne
-            goes in
+        let was = could_before (counts (opening k) h) new e.seat a e.word none
+            (omega (arith, below, most)) few ne goes in
         rw (first_stays (opening k) h e a n.known was.0 is ne was.1, was.1) refl
 
     going : (a : Arrival) → first_of (line (opening k) (e ∷ h)) ≡ Some a → (b : Bool) →

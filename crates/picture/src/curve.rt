@@ -56,8 +56,8 @@ impl Range {
     }
 }
 
-/// Appends the curve, if the object has one: what it shows, its highest and lowest number, and the line, which
-/// for each entry goes to its amount and then to the right.
+/// Appends the curve, if the object has one: what it shows, its highest and lowest number, and the line,
+/// which for each entry goes to its amount and then to the right.
 pub(crate) fn put_curve(
     out: &mut Vec<u8>,
     object: Object,

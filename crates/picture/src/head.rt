@@ -13,8 +13,8 @@ use crate::pieces::put;
 use history::header::Header;
 use std::alloc::AllocError;
 
-/// How all looks. Exclusive holds are dark and shared ones light, so that they differ in print, too; who waits has
-/// an outline, and who sleeps a dotted one.
+/// How all looks. Exclusive holds are dark and shared ones light, so that they differ in print, too; who
+/// waits has an outline, and who sleeps a dotted one.
 pub(crate) const STYLE: &[u8] = b"<style type='text/css'>\n\
     text{font-family:sans-serif;font-size:11px;fill:#222}\n\
     .h{font-size:14px;font-weight:bold}\n\

@@ -9,8 +9,8 @@ use test_queues::refusals::refusals;
 /// A request takes a piece of this size or more.
 const PIECE: usize = 16;
 
-// Each opens a monitor of four seats: its passes, four tables of seats, and the tokens, the slot and the word of
-// its lock. A condition adds a list and a table of lists, a read-write lock a table of readers.
+// Each opens a monitor of four seats: its passes, four tables of seats, and the tokens, the slot and the word
+// of its lock. A condition adds a list and a table of lists, a read-write lock a table of readers.
 #[test]
 fn each_request_of_an_opening_is_refused(rt: HostRuntime) -> Result<(), Fail> {
     let alloc = rt.alloc();

@@ -1,6 +1,7 @@
 //! Passes that are dropped while their seats hold nothing, wait in line, sleep or hold.
 //!
-//! Nobody can step such a seat any more. The others go on by the rules: the line may stand behind it for good.
+//! Nobody can step such a seat any more. The others go on by the rules: the line may stand behind it for
+//! good.
 ghost use Rattle.std.specs.Prelude.{◌≡◌, All, IfOk};
 
 use crate::situations::{monitor_of, step_now};
@@ -80,8 +81,8 @@ fn last_of(monitor: &Monitor<LockHooks>, passes: &mut Vec<Pass>) -> Result<Pass,
     }
 }
 
-/// Plays until seat 1 is dropped, and then by the passes of seats 0 and 2. They are too few to close the lock,
-/// and come back with it. The last of them then tries it.
+/// Plays until seat 1 is dropped, and then by the passes of seats 0 and 2. They are too few to close the
+/// lock, and come back with it. The last of them then tries it.
 fn abandon<R: Abort + AllocGlobal + Wait>(
     rt: &R,
     policy: Policy,

@@ -102,8 +102,8 @@ fn is_round_trip(alloc: Global) -> Result<bool, Fault> {
     }
 }
 
-/// Memory comes back piece by piece: each request of reading, and then each of writing, is refused until it is
-/// met.
+/// Memory comes back piece by piece: each request of reading, and then each of writing, is refused until it
+/// is met.
 #[test]
 fn each_request_of_a_round_trip_is_refused(rt: HostRuntime) -> Result<(), Fail> {
     assert!(rt; is_round_trip(rt.alloc()) == Ok(true));

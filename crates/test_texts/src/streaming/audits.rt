@@ -432,8 +432,8 @@ fn count_read(alloc: Global, text: &[u8]) -> Result<usize, Fault> {
     Ok(read)
 }
 
-/// Whatever one of their bytes becomes, the histories of the worked examples are refused, or read and written as
-/// they are. Each has changes that are read, and few.
+/// Whatever one of their bytes becomes, the histories of the worked examples are refused, or read and written
+/// as they are. Each has changes that are read, and few.
 #[test]
 fn each_changed_example_is_refused_or_read_as_it_is(rt: HostRuntime) -> Result<(), Fail> {
     for example in situations() {

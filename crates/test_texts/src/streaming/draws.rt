@@ -191,8 +191,8 @@ fn finds_memory<R: Abort + AllocGlobal>(rt: &R, written: &mut Vec<u8>) -> bool {
     is_answered
 }
 
-/// Nothing is written before there is memory enough: for the window, the tables, the entries that are kept, the
-/// stretches and bars, and the text.
+/// Nothing is written before there is memory enough: for the window, the tables, the entries that are kept,
+/// the stretches and bars, and the text.
 #[test]
 fn a_drawing_that_lacks_memory_writes_nothing(rt: HostRuntime) -> Result<(), Fail> {
     let mut written = Vec::with_capacity(rt.alloc(), AMPLE)?;

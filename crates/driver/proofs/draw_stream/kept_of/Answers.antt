@@ -23,7 +23,8 @@ loop-kept-init g c =
         judging = record {
           entries = [];
           read = λ text were. were;
-          judged = subst (λ (k : Header). HasJudged k [] c.in-Ok.auditor) c.header.ensures.value c.in-Ok.ensures.judged;
+          judged = subst (λ (k : Header). HasJudged k [] c.in-Ok.auditor) c.header.ensures.value
+              c.in-Ok.ensures.judged;
           header = refl;
           count = c.requires.fresh.0;
           calls = c.requires.fresh.1;
