@@ -133,7 +133,11 @@ fn chosen_has(alloc: Global, from: u64, to: u64, piece: &str) -> Result<bool, Fa
 fn draws_what_is_chosen(rt: HostRuntime) -> Result<(), Fail> {
     let chosen = [
         (2, 3, "'>entries 2 to 3 of 5</text>\n"),
-        (2, 3, "<rect class='w' x='72' y='115' width='20' height='12'/>\n"),
+        (
+            2,
+            3,
+            "<rect class='w' x='72' y='115' width='20' height='12'/>\n",
+        ),
         (4, u64::MAX, "'>entries 4 to 4 of 5</text>\n"),
         (9, 12, "'>no entry is shown of 5</text>\n"),
     ];
