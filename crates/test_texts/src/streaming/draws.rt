@@ -31,11 +31,11 @@ const TEXT: &[u8] = b"aqs-history 1 lock fair seats 2 conditions 0 cap 64\n\
 4 1 gave x 1\n\
 end 5 4\n";
 
-/// Both read, one waits to write in front of its own read, and a stranger is refused.
+/// Two read, and a third is refused who gives back what it has not.
 const READERS: &[u8] = b"aqs-history 1 rw fair seats 3 conditions 1 cap 64\n\
 0 0 got s 1\n\
 1 1 got s 1\n\
-2 2 refused s 1 not-holder\n\
+2 2 refused s 1 NotOwner\n\
 end 3 3\n";
 
 /// The lock is taken although another has it.
