@@ -107,14 +107,8 @@ fn refuses_bad_choices_by_name(rt: HostRuntime) {
             &["aqs", "draw", "--to", "18446744073709551616"],
             Fault::BadTo,
         ),
-        (
-            &["aqs", "draw", "--from", "3", "--to", "2"],
-            Fault::BadFrom,
-        ),
-        (
-            &["aqs", "draw", "--from", "3", "--from", "4"],
-            Fault::Usage,
-        ),
+        (&["aqs", "draw", "--from", "3", "--to", "2"], Fault::BadFrom),
+        (&["aqs", "draw", "--from", "3", "--from", "4"], Fault::Usage),
     ];
     for (words, fault) in &bad {
         assert!(rt; choice_of(&rt, words).err() == Some(*fault));
@@ -294,8 +288,14 @@ fn ends_with_a_status(rt: HostRuntime) -> Result<(), Fail> {
 #[test]
 fn draws_with_a_status(rt: HostRuntime) -> Result<(), Fail> {
     let texts: [(&[u8], u8); 2] = [
-        (b"aqs-history 1 lock fair seats 1 conditions 0 cap 16\n0 0 got x 1\nend 1 1\n", 0),
-        (b"aqs-history 1 lock fair seats 1 conditions 0 cap 16\n0 0 gave x 1\nend 1 1\n", 1),
+        (
+            b"aqs-history 1 lock fair seats 1 conditions 0 cap 16\n0 0 got x 1\nend 1 1\n",
+            0,
+        ),
+        (
+            b"aqs-history 1 lock fair seats 1 conditions 0 cap 16\n0 0 gave x 1\nend 1 1\n",
+            1,
+        ),
     ];
     for (text, status) in &texts {
         let mut output = Vec::new(rt.alloc());

@@ -37,7 +37,8 @@ impl Fault {
         ensures { result ≡ status_of self.now }
     {
         match self {
-            Fault::Usage | Fault::BadFrom | Fault::BadTo => 2,
+            Fault::Usage => 2,
+            Fault::BadFrom | Fault::BadTo => 2,
             Fault::Stream(StreamFault::Memory)
             | Fault::Memory
             | Fault::Script(ScriptFault::OutOfMemory)

@@ -31,11 +31,11 @@ const TEXT: &[u8] = b"aqs-history 1 lock fair seats 2 conditions 0 cap 64\n\
 4 1 gave x 1\n\
 end 5 4\n";
 
-/// Both read, one waits to write in front of its own read, and a stranger is refused.
+/// Two read, and a third is refused who gives back what it has not.
 const READERS: &[u8] = b"aqs-history 1 rw fair seats 3 conditions 1 cap 64\n\
 0 0 got s 1\n\
 1 1 got s 1\n\
-2 2 refused s 1 not-holder\n\
+2 2 refused s 1 NotOwner\n\
 end 3 3\n";
 
 /// The lock is taken although another has it.
@@ -133,7 +133,11 @@ fn chosen_has(alloc: Global, from: u64, to: u64, piece: &str) -> Result<bool, Fa
 fn draws_what_is_chosen(rt: HostRuntime) -> Result<(), Fail> {
     let chosen = [
         (2, 3, "'>entries 2 to 3 of 5</text>\n"),
-        (2, 3, "<rect class='w' x='72' y='115' width='20' height='12'/>\n"),
+        (
+            2,
+            3,
+            "<rect class='w' x='72' y='115' width='20' height='12'/>\n",
+        ),
         (4, u64::MAX, "'>entries 4 to 4 of 5</text>\n"),
         (9, 12, "'>no entry is shown of 5</text>\n"),
     ];
