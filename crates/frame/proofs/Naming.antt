@@ -148,7 +148,7 @@ named_nobody k h e range n none = by (first_of (line (opening k) (e ∷ h))) ref
         let most = range.seats in
         let few = first_few (line (opening k) (e ∷ h)) a (line_few k (e ∷ h) n.legal) is in
         let was = could_before (counts (opening k) h) new e.seat a e.word none
-            (omega (arith, below, most)) few ne goes in
+        (omega (arith, below, most)) few ne goes in
         rw (first_stays (opening k) h e a n.known was.0 is ne was.1, was.1) refl
 
     going : (a : Arrival) → first_of (line (opening k) (e ∷ h)) ≡ Some a → (b : Bool) →

@@ -21,7 +21,7 @@ returns-in-Ok-write_all-clause-draws g c =
 pub returns-in-Ok-clause-draws : goal.returns-in-Ok-clause-draws
 returns-in-Ok-clause-draws g c =
     some_told (drawn_text c.args.choice) _ c.in-Ok.sketch.verdict _
-        (told_of (drawn_text c.args.choice) _ c.in-Ok.sketch.verdict _
+    (told_of (drawn_text c.args.choice) _ c.in-Ok.sketch.verdict _
     (AppendsFront (g.W.Sink.held c.args.writer.now) (g.W.Sink.held c.write_all.new.writer)) c.in-Ok.ensures.ok
     (rw c.deref.ensures.value at c.in-Err-write_all.ensures.err))
 

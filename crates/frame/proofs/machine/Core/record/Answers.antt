@@ -11,7 +11,7 @@ returns-then-branch-clause-recorded g c =
     let e = c.args.entry in
     let opens = c.in_ok-write.field-0 in
     let may = c.in_ok-write.ensures.word
-        (ap (λ (b : Bool). (let r : Result Bool Fault = Ok b in r)) c.if-branch.true) in
+    (ap (λ (b : Bool). (let r : Result Bool Fault = Ok b in r)) c.if-branch.true) in
     recorded_now v new e opens c.named-name.result c.in_ok-write.ensures.added
     (c.named-name.ensures
     ∙ named_now v new e opens c.ready_before-before.result c.ready.result c.requires

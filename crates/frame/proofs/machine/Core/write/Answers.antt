@@ -106,7 +106,7 @@ invariant_of-self-2 g c =
     keeps_next (opening k) h e a.queue c.move_waiters.new.queue a.waiters c.move_waiters.new.waiters s.waiting
     moved.line moved.sleepers moved.joined moved.places moved.beds moved.conditions in
     stands_next (g.H.Hooks.agrees a.hooks) (g.H.Hooks.agrees c.change-may_name.new.hooks) k
-        a.history new a.queue
+    a.history new a.queue
     c.move_waiters.new.queue
     a.waiters c.move_waiters.new.waiters a.seats.items c.update.new.seats.items e s n
     (c.change-may_name.ensures.changed (counts (opening k) h) s.hooks n.allowed) waiting c.update.ensures
