@@ -29,7 +29,6 @@ use history::step::Step;
 const MAX_PERMITS: i64 = 2_147_483_647;
 
 /// The seat of the first in line, if it could take what it asks for.
-#[inline(always)]
 pub fn ready<T: Situation>(state: &T) -> Option<u16>
     requires { HasHistory T.stands state.now }
     ensures ready { (s : Start) (h : List Entry) → T.stands s h state.now → result ≡ ready s h }
@@ -49,7 +48,6 @@ pub fn ready<T: Situation>(state: &T) -> Option<u16>
 }
 
 /// Whether the seat is the first in line and could take what it asks for, so that a look would let it go.
-#[inline(always)]
 fn is_ready<T: Situation>(state: &T, seat: u16) -> bool
     requires { HasSeat T.stands state.now seat }
     ensures { (s : Start) (h : List Entry) → T.stands s h state.now → result ≡ is_seat (ready s h) seat }
@@ -108,7 +106,6 @@ fn tried_fairly<T: Situation>(state: &T, seat: u16, mode: Mode, n: u32) -> Word
 }
 
 /// The free permits of a semaphore.
-#[inline(always)]
 fn free_permits<T: Situation>(state: &T) -> i64
     requires { (s : Start) × (h : List Entry) × T.stands s h state.now
         × (is_semaphore s.header.object ≡ true) }
@@ -145,7 +142,6 @@ fn gave<T: Situation>(state: &T, seat: u16, mode: Mode, n: u32) -> Word
 }
 
 /// All the exclusive holds of a seat of a lock. Who has any is its owner.
-#[inline(always)]
 fn exclusive_holds<T: Situation>(state: &T, seat: u16) -> u32
     requires seat { HasSeat T.stands state.now seat }
     requires lock { (s : Start) (h : List Entry) → T.stands s h state.now

@@ -60,9 +60,9 @@ fn nobody_makes_a_call_unless_all_threads_were_started(rt: HostRuntime) -> Resul
     Err(Fail::from("never run"))
 }
 
-/// The system keeps the thread of a run that has ended, with its stack, and lends it to the next. So what is
-/// refused here is each request before the calls, of the calls, and behind them. A call that lacks memory is
-/// unrecorded.
+/// The system keeps the thread of a run that has ended, with its stack, and lends it to the next. It has no
+/// heap for that thread while the test has all memory. So each request of the first thread is refused in
+/// turn, and the calls of the other one lack memory to the end. With memory again the same run has all calls.
 #[test]
 fn each_request_of_a_run_is_refused(rt: HostRuntime) -> Result<(), Fail> {
     let text = script_of(rt.alloc(), ONE_LOCK, SIXTEEN)?;
@@ -72,13 +72,15 @@ fn each_request_of_a_run_is_refused(rt: HostRuntime) -> Result<(), Fail> {
     for refused in 0..MOST {
         match run_threads(&rt, rt.alloc(), &script, &OpenGate) {
             Ok(report) => {
+                assert!(rt; 20 <= refused, "refused {refused} times");
                 assert_eq!(rt; report.objects.len(), 1);
-                if report.unrecorded == 0 {
-                    assert_part(&rt, &report.objects[0], 2, NOTHING);
-                    assert!(rt; 20 <= refused, "refused {refused} times");
-                    return Ok(());
-                }
-                assert_eq!(rt; report.objects[0].share, 0);
+                assert_part(&rt, &report.objects[0], 0, NOTHING);
+                assert_eq!(rt; report.unrecorded, 2);
+                drop(memory);
+                let report = run_threads(&rt, rt.alloc(), &script, &OpenGate)?;
+                assert_eq!(rt; report.objects.len(), 1);
+                assert_part(&rt, &report.objects[0], 2, NOTHING);
+                return Ok(());
             }
             Err(fault) => assert!(rt; fault == NoMemory || fault == NotStarted(0), "{fault}"),
         }

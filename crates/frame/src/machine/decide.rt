@@ -31,7 +31,6 @@ impl<H: Hooks + Drop> Core<H> {
     }
 
     /// The seat of the first in line, if it could take what it asks for.
-    #[inline(always)]
     pub(super) fn ready(&self) -> Option<u16>
         ensures ready { result ≡ ready_of self.now }
         ensures below { IfSome result (λ seat. seat < self.now.header.seats) }
