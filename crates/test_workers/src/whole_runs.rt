@@ -7,14 +7,13 @@ use std::sync::Wait;
 use std::test::Fail;
 use std::thread::Threads;
 use std::time::Clock;
-use streams::device::Device;
 use streams::memory_sink::MemorySink;
 use streams::memory_source::MemorySource;
 use streams::stream_fault::StreamFault;
 use tasks::fault::Fault;
 use tasks::run_script::run_script;
 use test_support::memory::Memory;
-use workers::{OpenGate, RunFault, run_threads};
+use workers::{OpenGate, run_threads};
 
 /// The calls of one thread, whose order is known. One answer in each round is recorded nowhere.
 const SCRIPT: &str = "{\"objects\":[[\"a\",\"lock fair seats 1 conditions 0 cap 16\"],\
@@ -160,56 +159,4 @@ fn the_text_of_a_run_lacks_memory(rt: HostRuntime) -> Result<(), Fail> {
         }
     }
     Err(Fail::from("never spelt"))
-}
-
-/// Runs the script over bytes that take no memory of their own. How it ended; what it wrote is left.
-fn run_within<R: Threads + Wait + Clock + AllocGlobal + Sync>(
-    rt: &R,
-    written: &mut Vec<u8>,
-) -> Result<u8, Fault> {
-    written.clear();
-    let mut source = Device::new(SCRIPT.as_bytes());
-    run_script(rt, &mut source, &mut Device::new(&mut *written))
-}
-
-/// Whether a run tells that it lacked memory: nothing was written.
-fn tells_want(ended: &Result<u8, Fault>, written: &[u8]) -> bool {
-    match ended {
-        Ok(_) => false,
-        Err(Fault::Run(RunFault::NotStarted(worker))) => *worker == 0 && written.is_empty(),
-        Err(fault) => fault.status() == 5 && written.is_empty(),
-    }
-}
-
-/// The run text where the thread lacked memory for each entry.
-const UNRECORDED: &str = "object a\n\
-    aqs-history 1 lock fair seats 1 conditions 0 cap 16\nend 0 0\n\
-    legal\nentries 0\ncalls 0\nholds x 0 s 0 line 0 sleepers 0\nshares 0\n\
-    object b\n\
-    aqs-history 1 semaphore nonfair seats 1 permits 2 cap 16\nend 0 0\n\
-    legal\nentries 0\ncalls 0\nheld 0 free 2 created 2 unheld 0 line 0\nshares 0\n\
-    unrecorded 10\n";
-
-/// Memory comes back piece by piece until the run ends. The thread of a run that has ended is kept by the
-/// system, with its stack, and lent to the next; while the test has all memory there is no heap for it, so
-/// its calls lack memory to the end. With memory again the same run is whole.
-#[test]
-fn each_request_of_a_whole_run_is_refused(rt: HostRuntime) -> Result<(), Fail> {
-    let mut written = Vec::with_capacity(rt.alloc(), PLACES)?;
-    assert!(rt; run_within(&rt, &mut written) == Ok(0));
-    let mut memory = Memory::take_all(rt.alloc(), 64)?;
-    for refused in 0..4096 {
-        let ended = run_within(&rt, &mut written);
-        if ended == Ok(0) {
-            assert!(rt; 40 <= refused, "refused {refused} times");
-            assert!(rt; written.as_slice() == UNRECORDED.as_bytes());
-            drop(memory);
-            assert!(rt; run_within(&rt, &mut written) == Ok(0));
-            assert!(rt; written.as_slice() == WRITTEN.as_bytes());
-            return Ok(());
-        }
-        assert!(rt; tells_want(&ended, &written), "{refused}");
-        assert!(rt; memory.give_piece());
-    }
-    Err(Fail::from("never run"))
 }
