@@ -21,3 +21,6 @@ pub use crate::law::{
     cut_short, legal_histories_fit, lines_are_short, one_reading, written_is_read,
 };
 pub use line_text::fault::{ReadFault, TextFault};
+
+#[cfg(test)]
+mod tests;
