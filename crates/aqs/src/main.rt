@@ -11,8 +11,10 @@
 #![tactic(auto)]
 
 mod arguments;
+mod input;
 
 use crate::arguments::{Asked, arguments};
+use crate::input::Input;
 use std::convert::AsStr;
 use std::env;
 use std::fs::File;
@@ -45,21 +47,22 @@ fn finish<R: AllocGlobal + Threads + Wait + Clock + Sync, I: Read + Drop, O: Wri
     }
 }
 
-/// Does what the words ask for, with a file's text or else with the input.
+/// Does what the words ask for, with a file's text or else with what is given.
 fn run<
     R: Files + AllocGlobal + Threads + Wait + Clock + Sync,
     S: AsStr,
     I: Read + Drop,
     O: Write + Drop,
->(rt: &R, words: &[S], input: I, output: O) -> Result<u8, Fault> {
+>(rt: &R, words: &[S], given: I, output: O) -> Result<u8, Fault> {
     let Asked { job, file } = arguments(rt.alloc(), words)?;
-    match file {
-        None => finish(rt, job, input, output),
+    let input = match file {
+        None => Input::Given(given),
         Some(file) => match File::open(rt, file.as_str()) {
-            Ok(file) => finish(rt, job, file, output),
-            Err(_) => Err(Fault::Stream(StreamFault::ReadFailed)),
+            Ok(file) => Input::Named(file),
+            Err(_) => return Err(Fault::Stream(StreamFault::ReadFailed)),
         },
-    }
+    };
+    finish(rt, job, input, output)
 }
 
 /// The words of the command line.

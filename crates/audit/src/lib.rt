@@ -25,6 +25,8 @@ mod permits;
 mod same;
 mod situation;
 pub mod sums;
+#[cfg(test)]
+mod tests;
 pub mod totals;
 pub mod verdict;
 mod waiting;
