@@ -1,4 +1,3 @@
-pub mod Answering
 pub mod Answers
 pub mod AuditStream
 pub mod AuditText

@@ -7,7 +7,6 @@
 #![tactic(auto)]
 
 mod answer_line;
-pub mod answering;
 pub mod answers;
 pub mod audit_stream;
 pub mod audit_text;
