@@ -3,6 +3,7 @@ pub mod AuditStream
 pub mod AuditText
 pub mod Choice
 pub mod DrawStream
+pub mod Judged
 pub mod LineWriter
 pub mod Remarks
 pub mod Replay

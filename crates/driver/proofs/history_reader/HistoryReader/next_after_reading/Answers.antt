@@ -51,8 +51,8 @@ returns-in_err-entry-clause-stands g c =
     rw (← c.self.view_is) (stands_failed _ _ _ _ passed.result passed.ensures.0
     c.in_ok-read_line.ensures.ahead)
 
-pub end-requires-clause-end : goal.end-requires-clause-end
-end-requires-clause-end g c =
+pub end_of-requires-clause-end : goal.end_of-requires-clause-end
+end_of-requires-clause-end g c =
     let held = c.self.inside in
     ended_short _ held.count held.calls (few_entries held.header held.count c.self.invariant.2
     c.self.invariant.0) (few_calls held.header held.count held.calls c.self.invariant.2 c.self.invariant.0
@@ -72,10 +72,10 @@ returns-in_default-clause-next g c =
     (counts_short held.count held.calls (few_entries held.header held.count c.self.invariant.2
     c.self.invariant.0) (few_calls held.header held.count held.calls c.self.invariant.2 c.self.invariant.0
     c.self.invariant.1)) in
-    rw (← c.self.view_is) (next_kept history_form so_far _ _ c.end.result _
-    (g.R.Source.left c.end.new.reader) keeps
-    (ended_here history_form so_far window c.end.new.self.bytes (g.R.Source.left c.read_line.new.reader)
-    (g.R.Source.left c.end.new.reader) c.end.result _ is c.end.ensures.behind c.end.ensures.stays))
+    rw (← c.self.view_is) (next_kept history_form so_far _ _ c.end_of.result _
+    (g.R.Source.left c.end_of.new.reader) keeps
+    (ended_here history_form so_far window c.end_of.new.window.bytes (g.R.Source.left c.read_line.new.reader)
+    (g.R.Source.left c.end_of.new.reader) c.end_of.result _ is c.end_of.ensures.behind c.end_of.ensures.stays))
 
 pub returns-in_default-clause-stands : goal.returns-in_default-clause-stands
 returns-in_default-clause-stands g c =
@@ -88,9 +88,9 @@ returns-in_default-clause-stands g c =
     (counts_short held.count held.calls (few_entries held.header held.count c.self.invariant.2
     c.self.invariant.0) (few_calls held.header held.count held.calls c.self.invariant.2 c.self.invariant.0
     c.self.invariant.1)) in
-    rw (← c.self.view_is) (stands_behind held.window.bytes window c.end.new.self.bytes
+    rw (← c.self.view_is) (stands_behind held.window.bytes window c.end_of.new.window.bytes
     (g.R.Source.left c.args.reader.now) (g.R.Source.left c.read_line.new.reader)
-    (g.R.Source.left c.end.new.reader) c.end.result keeps c.end.ensures.stays)
+    (g.R.Source.left c.end_of.new.reader) c.end_of.result keeps c.end_of.ensures.stays)
 
 pub pass-requires : goal.pass-requires
 pass-requires g c =

@@ -1,12 +1,12 @@
 use Rattle.std.proofs.Common.{◌≡◌, ◌-◌, false}
 use Rattle.driver.specs.HistoryReader.{entries_read}
-use Rattle.driver.proofs.Keeping.{Keeping}
-use Rattle.driver.proofs.draw_stream.kept_of.Given as goal
+use Rattle.driver.proofs.Judging.{Judging}
+use Rattle.driver.proofs.judged.judged_of.Given as goal
 
 abbrev pub invariant-loop-kept : goal.invariant-loop-kept
 invariant-loop-kept g l = record {
   going : g.R.Source.failed l.reader ≡ false;
-  keeping : Keeping (entries_read l.fn.entries (g.R.Source.left l.fn.reader)) l.entries
+  judging : Judging (entries_read l.fn.entries (g.R.Source.left l.fn.reader)) l.entries
       (g.R.Source.left l.reader) l.auditor l.end l.kept.items;
 }
 
