@@ -4,8 +4,8 @@ use Rattle.std.specs.Prelude.{FitsSigned}
 use mir.Val.{to_z, of_z}
 use Rattle.std.proofs.lemmas.Int.{to_z-of_z}
 use Rattle.history.specs.Counts.{free_after}
-use Rattle.drawing.proofs.MarksFollow.{amounts_follow}
-use Rattle.drawing.proofs.amounts.Amounts.note.Goals as goal
+use Rattle.deciding.proofs.AmountsFollow.{amounts_follow}
+use Rattle.deciding.proofs.amounts.Amounts.note.Goals as goal
 
 pub returns : goal.returns
 returns c s h st =
