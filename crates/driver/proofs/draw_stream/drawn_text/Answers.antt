@@ -1,11 +1,10 @@
-use Rattle.std.proofs.Common.{◌<◌, ◌^◌, ◌∙◌, ap, sym, subst, length, reverse, arith}
+use Rattle.std.proofs.Common.{◌<◌, ◌^◌, sym, subst, length, reverse, arith}
 use Rattle.std.specs.List.{All}
 use Rattle.std.proofs.lemmas.List.{length-reverse}
-use Rattle.history.specs.declared.entry.Entry.{Entry}
 use Rattle.history.specs.Start.{opening}
 use Rattle.picture.specs.Layout.{IsShort}
 use Rattle.picture.specs.Marks.{IsEarly}
-use Rattle.driver.proofs.Picturing.{all_early, all_short, front_seated, front_short}
+use Rattle.driver.proofs.Picturing.{all_early, all_short, front_short}
 use Rattle.driver.proofs.draw_stream.drawn_text.Goals as goal
 
 pub svg_text-requires : goal.svg_text-requires

@@ -1,4 +1,4 @@
-use Rattle.std.proofs.Common.{ap, refl, rules}
+use Rattle.std.proofs.Common.{ap, refl}
 use Rattle.std.specs.Io.KnownBytes.{Appends}
 use Rattle.audit.specs.declared.verdict.Verdict.{Verdict}
 use Rattle.history_text.specs.HistoryText.{history_form}

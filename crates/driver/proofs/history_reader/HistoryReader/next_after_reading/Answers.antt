@@ -1,4 +1,4 @@
-use Rattle.std.proofs.Common.{[], ◌≡◌, ◌≤◌, ◌<◌, ◌^◌, ℕ, Err, ap, arith, length, refl}
+use Rattle.std.proofs.Common.{[], ◌≤◌, ◌<◌, ◌^◌, ℕ, Err, ap, arith, refl}
 use Rattle.history_text.specs.EntryLines.{counts_line}
 use Rattle.line_text.specs.declared.fault.TextFault.{TextFault}
 use Rattle.streams.specs.declared.stream_fault.StreamFault.{StreamFault}
@@ -8,7 +8,7 @@ use Rattle.history_text.proofs.HistoryLawful.{lawful}
 use Rattle.history.specs.declared.header.Header.{Header}
 use Rattle.history.specs.Header.{IsInRange}
 use Rattle.history_text.proofs.HistoryReading.{more_calls}
-use Rattle.driver.proofs.ReadingAhead.{end_kept, ended_here, item_ahead, item_kept, kept, line_within, next_failed, next_kept, not_counted, read_failed, stands_behind, stands_failed}
+use Rattle.driver.proofs.ReadingAhead.{end_kept, ended_here, item_ahead, item_kept, kept, line_within, next_failed, next_kept, read_failed, stands_behind, stands_failed}
 use Rattle.driver.proofs.history_reader.HistoryReader.next_after_reading.Goals as goal
 
 few_entries : (h : Header) (count : ℕ) → IsInRange h → count ≤ h.cap → count < 2 ^ 64

@@ -1,4 +1,4 @@
-use Rattle.std.proofs.Common.{[], ◌≡◌, ◌≤◌, ◌<◌, ◌^◌, ℕ, Err, ap, arith, length, refl}
+use Rattle.std.proofs.Common.{[], ◌≤◌, Err, ap, arith, length, refl}
 use Rattle.steps.specs.StepLines.{end_line}
 use Rattle.line_text.specs.declared.fault.TextFault.{TextFault}
 use Rattle.streams.specs.declared.stream_fault.StreamFault.{StreamFault}
