@@ -17,8 +17,9 @@ use Rattle.history.proofs.SleepLemmas.{held_other}
 use Rattle.history.proofs.Sums.{seat_with_none, total_change, total_nothing, total_same}
 use Rattle.history.proofs.Times.{total_part}
 use Rattle.audit.specs.declared.holds.Holds.{Holds}
-use Rattle.audit.specs.Holds.{HoldsStand, IsOnlyOwner, owner_after, most_held}
-use Rattle.audit.proofs.HoldsLemmas.{held_here, held_other_mode, holds_more, table_follows, table_stays, seat_with_same, seat_with_zero, seat_with_only}
+use Rattle.deciding.proofs.HoldsFollow.{bound_follows, holds_more, table_follows}
+use Rattle.audit.specs.Holds.{HoldsStand, IsOnlyOwner, owner_after}
+use Rattle.audit.proofs.HoldsLemmas.{held_here, held_other_mode, seat_with_same, seat_with_zero, seat_with_only}
 
 -- the owner behind an entry in mode X, where nobody owns beside another
 owner_follows : (s : Start) (e : Entry) (h : List Entry) (was : Option ℕ) → e.seat < s.header.seats →
@@ -66,17 +67,6 @@ owner_follows s e h was seat mode old new is = by (ltb 0 (held s (e ∷ h) e.sea
         (λ i d. new e.seat i some d))
     by false t = gone was refl t
 
-bound_more : (s : Start) (e : Entry) (h : List Entry) (n : ℕ) → n ≤ most_held h → n ≤ most_held (e ∷ h)
-bound_more s e h n p = omega (arith, p)
-
-each_bound : (s : Start) (e : Entry) (h : List Entry) → e.n ≤ 4294967295 → same_mode e.mode X ≡ true →
-    ((i : ℕ) → held s h i X ≤ most_held h) → (i : ℕ) → held s (e ∷ h) i X ≤ most_held (e ∷ h)
-each_bound s e h n mode p i = ⊎_elim
-    (λ q. let a = held_here s e h i X q mode in
-    let b = holds_more s.header.object e.word e.n (held s h i X) n in let c = p i in
-    omega (arith, a, b, c))
-    (λ ne. let a = held_other s e h i X ne in let c = p i in omega (arith, a, c)) (cases_eq e.seat i)
-
 -- an entry in mode X
 pub stands_exclusive : (s : Start) (e : Entry) (h : List Entry) (old new : Holds) → HoldsStand s h old →
     e.seat < s.header.seats → e.mode ≡ X → e.n ≤ 4294967295
@@ -91,8 +81,8 @@ stands_exclusive s e h old new st seat mode amount only x sh ow re =
     let same : same_mode e.mode X ≡ true = rw mode refl in
     let other : same_mode e.mode S ≡ false = rw mode refl in
     let table : (i : ℕ) → get_or new.exclusive.items i 0 ≡ held s (e ∷ h) i X =
-    λ i. ap (λ t. get_or t i 0) x ∙ table_follows s e h X old.exclusive.items
-    (omega (arith, seat, st.exclusive_seats)) same st.exclusive i in
+    λ i. ap (λ t. get_or t i 0) x ∙ table_follows s e h X old.exclusive.items true same
+    (omega (arith, seat, st.exclusive_seats)) st.exclusive i in
     let has : holds_after s.header.object e.word e.n (get_or old.exclusive.items e.seat 0)
     ≡ held s (e ∷ h) e.seat X = ap (holds_after s.header.object e.word e.n) (st.exclusive e.seat)
     ∙ sym (held_here s e h e.seat X refl same) in
@@ -100,12 +90,13 @@ stands_exclusive s e h old new st seat mode amount only x sh ow re =
       exclusive_seats = ap length x ∙ length-set _ _ _ ∙ st.exclusive_seats;
       shared_seats = ap length sh ∙ st.shared_seats;
       exclusive = table;
-      shared = λ i. ap (λ t. get_or t i 0) sh ∙ table_stays s e h S old.shared.items other st.shared i;
+      shared = λ i. ap (λ t. get_or t i 0) sh ∙ table_follows s e h S old.shared.items false other
+          (omega (arith, seat, st.shared_seats)) st.shared i;
       owns = λ l. ow ∙ ap (owner_after old.owner e.seat) has
           ∙ owner_follows s e h old.owner seat same (only l).0 (only l).1 (st.owns l);
       reads = re ∙ st.reads ∙ total_same s.header.seats (λ i. held s h i S) (λ i. held s (e ∷ h) i S)
           (λ i. sym (held_other_mode s e h i S other));
-      exclusive_bound = each_bound s e h amount same st.exclusive_bound;
+      exclusive_bound = bound_follows s e h X amount st.exclusive_bound;
       shared_bound = let a : readers (counts s (e ∷ h)) ≡ readers (counts s h) =
           total_same s.header.seats (λ i. held s (e ∷ h) i S) (λ i. held s h i S)
           (λ i. held_other_mode s e h i S other) in omega (arith, a, st.shared_bound);
@@ -137,15 +128,14 @@ stands_shared s e h old new st seat mode amount sh x ow re =
     record {
       exclusive_seats = ap length x ∙ st.exclusive_seats;
       shared_seats = ap length sh ∙ length-set _ _ _ ∙ st.shared_seats;
-      exclusive = λ i. ap (λ t. get_or t i 0) x ∙ table_stays s e h X old.exclusive.items other st.exclusive
-          i;
-      shared = λ i. ap (λ t. get_or t i 0) sh
-          ∙ table_follows s e h S old.shared.items (omega (arith, seat, st.shared_seats)) same st.shared i;
+      exclusive = λ i. ap (λ t. get_or t i 0) x ∙ table_follows s e h X old.exclusive.items false other
+          (omega (arith, seat, st.exclusive_seats)) st.exclusive i;
+      shared = λ i. ap (λ t. get_or t i 0) sh ∙ table_follows s e h S old.shared.items true same
+          (omega (arith, seat, st.shared_seats)) st.shared i;
       owns = λ l. ow ∙ st.owns l ∙ seat_with_same s.header.seats (λ i. held s h i X)
           (λ i. held s (e ∷ h) i X) (λ i b. sym (held_other_mode s e h i X other));
       reads = omega (arith, re, had, has, part, change, st.reads);
-      exclusive_bound = λ i. let a = held_other_mode s e h i X other in let b = st.exclusive_bound i in
-          omega (arith, a, b);
+      exclusive_bound = bound_follows s e h X amount st.exclusive_bound;
       shared_bound = omega (arith, had, has, part, change, more, st.shared_bound);
     }
 

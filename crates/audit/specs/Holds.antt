@@ -1,5 +1,6 @@
 -- What the audit's tables of holds stand for.
-use Rattle.std.specs.Prelude.{◌≡◌, ◌≢◌, ℕ, ◌*◌, ◌<◌, ◌≤◌, List, length, slice_index, true, Option, Some, None, nat_lt, if◌then◌else◌}
+use Rattle.std.specs.Prelude.{◌≡◌, ◌≢◌, ℕ, ◌<◌, ◌≤◌, List, length, slice_index, true, Option, Some, None, nat_lt, if◌then◌else◌}
+use Rattle.deciding.specs.Holds.{most_held}
 use Rattle.history.specs.declared.entry.Entry.{Entry}
 use Rattle.history.specs.declared.entry.Mode.TheVariants.{X, S}
 use Rattle.history.specs.Could.{is_seat}
@@ -7,10 +8,6 @@ use Rattle.history.specs.Counts.{counts, held, owner, readers}
 use Rattle.history.specs.Object.{is_lock}
 use Rattle.history.specs.Start.{Start}
 use Rattle.audit.specs.declared.holds.Holds.{Holds}
-
--- a bound of all holds: each entry adds at most 32 bits
-abbrev pub most_held : List Entry → ℕ
-most_held h = 4294967295 * length h
 
 pub record HoldsStand (s : Start) (h : List Entry) (holds : Holds) : Type 0 where
   pub exclusive_seats : length holds.exclusive.items ≡ s.header.seats

@@ -1,26 +1,22 @@
-//! The free permits of a semaphore, the count of a latch, and the calls that ended.
+//! The free permits of a semaphore, those that were given unheld, and the count of a latch.
 
-ghost use Rattle.std.specs.Prelude.{◌≡◌, ◌≤◌, ◌<◌, ◌*◌, ◌+◌, ◌-◌, ◌∷◌, [], ◌^◌, length, List, if◌then◌else◌, nat_abs, ℕ, FitsSigned};
-ghost use Rattle.std.specs.Int.{w128};
-ghost use Rattle.history.specs.Counts.{held, free_after, beyond, counted_after};
+ghost use Rattle.std.specs.Prelude.{◌≡◌, ◌≤◌, ◌<◌, ◌+◌, ◌∷◌, [], ◌^◌, length, List, if◌then◌else◌};
+ghost use Rattle.history.specs.Counts.{held, beyond};
 ghost use Rattle.history.specs.Start.{Start, opening};
 ghost use Rattle.history.specs.declared.entry.Entry.{Entry};
 ghost use Rattle.history.specs.declared.header.Header.{Header};
-ghost use Rattle.history.specs.Entry.{ends_call};
 ghost use Rattle.history.specs.Object.{is_semaphore};
 ghost use Rattle.audit.specs.Permits.{PermitsStand};
 
+use deciding::amounts::Amounts;
 use history::entry::{Entry, Word};
 use history::header::Object;
 
-/// What a semaphore has free and was given unheld, how often a latch was counted down, and how many calls
-/// ended.
+/// What a semaphore has free and was given unheld, and how often a latch was counted down.
 #[derive(Drop)]
 pub(crate) struct Permits {
-    pub(crate) free: i128,
+    pub(crate) amounts: Amounts,
     pub(crate) unheld: u64,
-    pub(crate) counted: u64,
-    pub(crate) calls: u64,
 }
 
 impl Permits {
@@ -28,15 +24,9 @@ impl Permits {
     pub(crate) fn open(object: Object) -> Self
         ensures { (k : Header) → k.object ≡ object → PermitsStand (opening k) [] result }
     {
-        let free = match object {
-            Object::Semaphore(_, permits) => i128::from(permits),
-            Object::Lock(_) | Object::ReadWrite(_) | Object::Latch(_) => 0,
-        };
         Permits {
-            free,
+            amounts: Amounts::open(object),
             unheld: 0,
-            counted: 0,
-            calls: 0,
         }
     }
 
@@ -46,32 +36,8 @@ impl Permits {
         ensures { (s : Start) (h : List Entry) → PermitsStand s h self.old → s.header.object ≡ object →
             held s h entry.seat entry.mode ≡ had → PermitsStand s (entry ∷ h) self.new }
     {
-        self.free = free_after(entry.word, entry.n, self.free);
+        self.amounts.note(entry);
         self.unheld += beyond(object, entry.word, entry.n, had);
-        self.counted += counted_by(entry.word);
-        self.calls += calls_by(entry.word);
-    }
-}
-
-/// The free permits after an entry.
-fn free_after(word: Word, n: u32, had: i128) -> i128
-    requires { nat_abs had ≤ 36893488147419103232 }
-    ensures is { result ≡ free_after word n had }
-    ensures fits { FitsSigned w128 result }
-{
-    match word {
-        Word::Got | Word::TryGot | Word::Granted | Word::Drained => had - i128::from(n),
-        Word::Gave => had + i128::from(n),
-        Word::Queued
-        | Word::Missed
-        | Word::Left
-        | Word::Refused(_)
-        | Word::Await
-        | Word::Lapse
-        | Word::Signal
-        | Word::SignalAll
-        | Word::Back
-        | Word::Counted => had,
     }
 }
 
@@ -83,27 +49,5 @@ fn beyond(object: Object, word: Word, n: u32, had: u64) -> u64
     match (object, word) {
         (Object::Semaphore(_, _permits), Word::Gave) => u64::from(n).saturating_sub(had),
         _ => 0,
-    }
-}
-
-/// How often an entry counts a latch down.
-fn counted_by(word: Word) -> u64
-    ensures is { (n : ℕ) → n + result ≡ counted_after word n }
-    ensures bound { result ≤ 1 }
-{
-    match word {
-        Word::Counted => 1,
-        _ => 0,
-    }
-}
-
-/// How many calls an entry ends: none where it leaves its seat waiting.
-fn calls_by(word: Word) -> u64
-    ensures is { result ≡ (if ends_call word then 1 else 0) }
-    ensures bound { result ≤ 1 }
-{
-    match word {
-        Word::Queued | Word::Await | Word::Lapse => 0,
-        _ => 1,
     }
 }

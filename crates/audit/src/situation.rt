@@ -109,8 +109,8 @@ impl Situation for Ledger {
             }
             (Object::ReadWrite(_), Mode::S) => self.is_free_for(seat)
                 && self.holds.readers < MAX_READ_WRITE_HOLDS,
-            (Object::Semaphore(_, _permits), Mode::S) => self.permits.free >= i128::from(n),
-            (Object::Latch(count), Mode::S) => u64::from(count) <= self.permits.counted,
+            (Object::Semaphore(_, _permits), Mode::S) => self.permits.amounts.free >= i128::from(n),
+            (Object::Latch(count), Mode::S) => u64::from(count) <= self.permits.amounts.counted,
             _ => false,
         }
     }
@@ -123,7 +123,7 @@ impl Situation for Ledger {
     }
 
     fn free(&self) -> i64 {
-        self.permits.free as i64
+        self.permits.amounts.free as i64
     }
 
     fn first(&self) -> Option<Arrival> {

@@ -56,14 +56,14 @@ impl Ledger {
             Object::Semaphore(_, permits) => Totals {
                 line: i128::from(line),
                 held: i128::from(self.holds.readers),
-                free: self.permits.free,
+                free: self.permits.amounts.free,
                 created: i128::from(permits),
                 unheld: i128::from(self.permits.unheld),
                 ..nothing()
             },
             Object::Latch(opening) => Totals {
                 line: i128::from(line),
-                count: i128::from(u64::from(opening).saturating_sub(self.permits.counted)),
+                count: i128::from(u64::from(opening).saturating_sub(self.permits.amounts.counted)),
                 ..nothing()
             },
         }

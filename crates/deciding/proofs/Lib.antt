@@ -1,2 +1,4 @@
+pub mod AmountsFollow
 pub mod Bounds
+pub mod HoldsFollow
 pub mod InPhase

@@ -1,3 +1,5 @@
+pub mod Amounts
 pub mod Checks
+pub mod Holds
 pub mod Situation
 pub mod Sleep

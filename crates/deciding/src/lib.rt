@@ -5,6 +5,7 @@
 //! other functions depend on their arguments alone.
 #![tactic(auto)]
 
+pub mod amounts;
 pub mod arrivals;
 pub mod checks;
 pub mod decide;

@@ -3,6 +3,7 @@
 ghost use Rattle.std.specs.Prelude.{◌≡◌};
 ghost use Rattle.history.specs.Steps.{plain};
 
+use crate::amounts::Amounts;
 use crate::arrivals::{coming_back, queued};
 use crate::checks::{is_lock, refused_as, waits};
 use crate::entries::{back, named, plain, queued_entry, sleeping_entry};
@@ -177,4 +178,15 @@ fn an_entry_changes_holds_and_room(rt: HostRuntime) {
             "{object:?} {word:?}"
         );
     }
+}
+
+#[test]
+fn entries_change_free_permits_and_the_count(rt: HostRuntime) {
+    let mut permits = Amounts::open(SEMAPHORE);
+    assert_eq!(rt; (permits.free, permits.counted), (7, 0));
+    permits.note(plain(2, Word::Got, Mode::S, 9));
+    assert_eq!(rt; (permits.free, permits.counted), (-2, 0));
+    let mut latch = Amounts::open(LATCH);
+    latch.note(plain(2, Word::Counted, Mode::S, 1));
+    assert_eq!(rt; (latch.free, latch.counted), (0, 1));
 }

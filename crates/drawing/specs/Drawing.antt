@@ -1,11 +1,12 @@
 -- What a drawing knows of the entries so far.
 use Rattle.std.specs.Prelude.{◌≡◌, ◌<◌, ◌+◌, ◌^◌, ℕ, List, length}
+use Rattle.deciding.specs.Amounts.{AreAmounts}
 use Rattle.history.specs.declared.entry.Entry.{Entry}
 use Rattle.history.specs.declared.header.Header.{Header}
 use Rattle.history.specs.Start.{opening}
 use Rattle.drawing.specs.declared.drawing.Drawing.{Drawing}
 use Rattle.drawing.specs.Bars.{ended}
-use Rattle.drawing.specs.Curve.{AreAmounts, curve}
+use Rattle.drawing.specs.Curve.{curve}
 use Rattle.drawing.specs.Marks.{marks}
 use Rattle.drawing.specs.Standings.{AreStanding}
 use Rattle.drawing.specs.Stretches.{stretches}

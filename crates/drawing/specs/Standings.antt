@@ -1,6 +1,7 @@
 -- What the tables of holds, of the line and of sleepers stand for, and what an entry makes of them.
-use Rattle.std.specs.Prelude.{◌≡◌, ℕ, ◌*◌, ◌<◌, ◌≤◌, Bool, true, false, List, [], length, if◌then◌else◌, slice_index, slice_index_or, slice_set}
+use Rattle.std.specs.Prelude.{◌≡◌, ℕ, ◌<◌, ◌≤◌, Bool, true, false, List, [], length, if◌then◌else◌, slice_index, slice_index_or, slice_set}
 use Rattle.std.specs.List.{All}
+use Rattle.deciding.specs.Holds.{most_held}
 use Rattle.history.specs.declared.entry.Entry.{Entry}
 use Rattle.history.specs.declared.entry.Mode.{Mode}
 use Rattle.history.specs.declared.entry.Mode.TheVariants.{X, S}
@@ -30,10 +31,6 @@ line_by Granted i table = slice_set table i false
 line_by Left i table = slice_set table i false
 line_by Back i table = slice_set table i false
 line_by _ i table = table
-
--- a bound of all holds: each entry adds at most 32 bits
-abbrev pub most_held : List Entry → ℕ
-most_held h = 4294967295 * length h
 
 pub record AreStanding (s : Start) (h : List Entry) (a : Standings) : Type 0 where
   pub exclusive_seats : length a.exclusive.items ≡ s.header.seats

@@ -10,11 +10,12 @@ ghost use Rattle.drawing.specs.Curve.{curve};
 ghost use Rattle.drawing.specs.Drawing.{CanDraw, HasDrawn, IsDrawing};
 ghost use Rattle.drawing.specs.Marks.{marks};
 
-use crate::amounts::Amounts;
+use crate::amounts::put_point;
 use crate::bar::{Bar, Stretch};
 use crate::mark::{Mark, put_mark};
 use crate::standings::Standings;
 use crate::stretches::{begin_all, end_all, go_on};
+use deciding::amounts::Amounts;
 use history::entry::Entry;
 use history::header::Header;
 use std::alloc::{AllocError, Global};
@@ -80,7 +81,7 @@ impl Drawing {
         }
         go_on(&mut self.stretches, &mut self.bars, &self.standings, number)?;
         put_mark(&mut self.marks, number, entry)?;
-        self.amounts.put_point(object, &mut self.curve)?;
+        put_point(&self.amounts, object, &mut self.curve)?;
         Ok(())
     }
 

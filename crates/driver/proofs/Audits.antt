@@ -1,72 +1,25 @@
--- The entries of a text are judged as their lines are read.
-use Rattle.std.proofs.Common.{◌≡◌, ℕ, ◌<◌, ◌≤◌, ◌^◌, List, [], ◌∷◌, length, reverse, Option, None, Some, Ok, IfSome, ◌∙◌, arith, subst}
-use Rattle.std.proofs.lemmas.List.{reverse-append}
+-- What is told of a history that was judged.
+use Rattle.std.proofs.Common.{◌≡◌, ℕ, List, Option, None, Some, Result, IfSome, reverse, subst}
+use Rattle.std.specs.Prelude.{IfErr, IsErrOf}
 use Rattle.history.specs.declared.entry.Entry.{Entry}
 use Rattle.history.specs.declared.header.Header.{Header}
-use Rattle.history.specs.Entries.{ended_calls}
-use Rattle.history.specs.Header.{IsInRange}
 use Rattle.line_text.specs.Reading.{IsText}
 use Rattle.history_text.specs.HistoryText.{history_form}
-use Rattle.audit.specs.declared.auditor.Auditor.{Auditor}
-use Rattle.audit.specs.declared.verdict.Judgement.{Judgement}
 use Rattle.audit.specs.declared.verdict.Verdict.{Verdict}
-use Rattle.audit.specs.Auditor.{HasJudged}
-use Rattle.audit.specs.Verdict.{IsJudgement}
-use Rattle.driver.specs.AuditStream.{IsJudged, IsToldOf}
-use Rattle.driver.specs.HistoryReader.{AreCounted, EntriesHeld, entries_read}
-use Rattle.driver.specs.TextReader.{Progress, IsNext}
-use Rattle.driver.proofs.ReadingAhead.{ReadOn}
+use Rattle.streams.specs.declared.stream_fault.StreamFault.{StreamFault}
+use Rattle.streams.specs.declared.stream_fault.StreamFault.TheVariants.{WriteFailed}
+use Rattle.driver.specs.TextReader.{IsFaultOf}
+use Rattle.driver.specs.AuditStream.{IsToldOf, IsVerdict}
 
--- these entries were read from the header on, and followed
-pub record Judging (first : Progress Header Entry) (now : EntriesHeld) (left : Option (List ℕ))
-    (a : Auditor) : Type 0 where
-  pub entries : List Entry
-  pub read : ReadOn history_form first (reverse entries) (entries_read now left)
-  pub judged : HasJudged first.so_far.header entries a
-  pub header : now.header ≡ first.so_far.header
-  pub count : now.count ≡ length entries
-  pub calls : now.calls ≡ ended_calls entries
-  pub few : length entries < 2 ^ 32
-  pub range : IsInRange first.so_far.header
-
-abbrev pub judging_on : (first : Progress Header Entry) (old new : EntriesHeld) (left left' : Option (List ℕ))
-    (a b : Auditor) (e : Entry) →
-    IsNext history_form (entries_read old left) (Ok (Some e)) (entries_read new left') left' →
-    new.header ≡ old.header → AreCounted old (Some e) new →
-    ((k : Header) (h : List Entry) → HasJudged k h a → e.seat < k.seats → HasJudged k (e ∷ h) b) →
-    Judging first old left a → Judging first new left' b
-judging_on first old new left left' a b e next same counted follow j =
-    let seat = subst (λ (k : Header). e.seat < k.seats) j.header counted.3 in
-    let within = subst (λ (k : Header). new.count ≤ k.cap) j.header counted.2 in
-    record {
-      entries = e ∷ j.entries;
-      read = rw (reverse-append (e ∷ []) j.entries)
-          (λ text were. next text (reverse j.entries) (j.read text were));
-      judged = follow first.so_far.header j.entries j.judged seat;
-      header = same ∙ j.header;
-      count = omega (arith, counted.0, j.count);
-      calls = omega (arith, counted.1, j.calls);
-      few = omega (arith, counted.0, within, j.count, j.range.cap);
-      range = j.range;
-    }
-
-pub all_judged : (first : Progress Header Entry) (now new : EntriesHeld) (left left' : Option (List ℕ))
-    (a : Auditor) (judgement : Judgement) →
-    IsNext history_form (entries_read now left) (Ok None) (entries_read new left') left' →
-    new.header ≡ now.header → AreCounted now None new →
-    ((k : Header) (h : List Entry) → HasJudged k h a → IsJudgement k h judgement) →
-    Judging first now left a → IsJudged first new judgement
-all_judged first now new left left' a judgement all same counted judges j =
-    record {
-      entries = j.entries;
-      is = λ text were.
-          subst (λ (k : Header). IfSome text (λ t. IsText history_form t k (reverse j.entries))) j.header
-          (all text (reverse j.entries) (j.read text were));
-      judged = judges first.so_far.header j.entries j.judged;
-      header = same ∙ j.header;
-      count = counted.0 ∙ j.count;
-      calls = counted.1 ∙ j.calls;
-    }
+-- this text tells it
+pub told_so : (Tells : Header → List Entry → Verdict → List ℕ) (left : Option (List ℕ)) (k : Header)
+    (entries : List Entry) (verdict : Verdict) (text : List ℕ) →
+    IfSome left (λ t. IsText history_form t k (reverse entries)) → IsVerdict k entries verdict →
+    text ≡ Tells k entries verdict →
+    IfSome left (λ t. IsToldOf Tells t verdict (λ written. text ≡ written))
+told_so Tells None k entries verdict text is judged written = tt
+told_so Tells (Some t) k entries verdict text is judged written =
+    record { header = k; entries = entries; is = is; judged = judged; written = written }
 
 -- what is written is told of another way
 pub told_of : (Tells : Header → List Entry → Verdict → List ℕ) (left : Option (List ℕ)) (verdict : Verdict)
@@ -88,3 +41,9 @@ pub some_told : (Tells : Header → List Entry → Verdict → List ℕ) (left :
     IfSome left (λ text. (v : Verdict) × IsToldOf Tells text v Written)
 some_told Tells None verdict Written a = tt
 some_told Tells (Some text) verdict Written a = (verdict, a)
+
+-- no fault of a text or of its source is one of writing
+pub not_of_writing : {T : Type 0} (text left : Option (List ℕ)) (r : Result T StreamFault) →
+    IfErr r (IsFaultOf history_form text left) → IsErrOf r WriteFailed → ⊥
+not_of_writing {T} text left r err is =
+    subst (λ (x : Result T StreamFault). IfErr x (IsFaultOf history_form text left)) is err

@@ -17,7 +17,7 @@ use Rattle.history.specs.Text.{ended}
 use Rattle.history_text.proofs.Spelt.{legal_more, seated_more, spelt}
 use Rattle.driver.specs.Replay.{HasLine}
 use Rattle.driver.specs.ReplayText.{answer_line, answer_lines, entries_of, history_behind}
-use Rattle.driver.specs.Answering.{Answered, IsAnswered}
+use Rattle.frame.specs.Core.{CoreView, IsAnswered}
 
 -- ---- one answer
 
@@ -180,7 +180,7 @@ told_all h steps out entries told =
 
 -- ---- what a core answers
 
-pub answered : (old new : Answered) (header : Header) (i : ℕ) (step : Step) (r : Result Answer Fault) →
+pub answered : (old new : CoreView) (header : Header) (i : ℕ) (step : Step) (r : Result Answer Fault) →
     IsAnswered old i step r new → old.header ≡ header → (r ≡ Err OutOfMemory → ⊥)
     → (r ≡ (answer (opening header) old.entries i step).0)
     × (new.entries ≡ (answer (opening header) old.entries i step).1) × (new.header ≡ header)

@@ -1,6 +1,5 @@
 -- What is drawn of a history text.
-use Rattle.std.specs.Prelude.{◌≡◌, ℕ, ◌<◌, ◌^◌, nat_le, if◌then◌else◌, List, [], ◌∷◌, ◌++◌, Option, Some, None, Result, length, reverse, take}
-use Rattle.std.specs.List.{All}
+use Rattle.std.specs.Prelude.{ℕ, List, Option, Some, None, Result, length, reverse, take}
 use Rattle.audit.specs.declared.verdict.Verdict.{Verdict}
 use Rattle.audit.specs.declared.verdict.Verdict.TheVariants.{Legal, NotLegal}
 use Rattle.drawing.specs.Bars.{bars}
@@ -10,17 +9,13 @@ use Rattle.history.specs.declared.entry.Entry.{Entry}
 use Rattle.history.specs.declared.header.Header.{Header}
 use Rattle.history.specs.Start.{opening}
 use Rattle.history_text.specs.HistoryText.{history_form}
-use Rattle.line_text.specs.Reading.{IsText}
 use Rattle.picture.specs.Document.{svg_text}
 use Rattle.picture.specs.View.{View}
 use Rattle.streams.specs.declared.stream_fault.StreamFault.{StreamFault}
 use Rattle.streams.specs.Streams.{Streams}
 use Rattle.driver.specs.declared.choice.Choice.{Choice}
-use Rattle.driver.specs.declared.draw_stream.Kept.{Kept}
-use Rattle.driver.specs.AuditStream.{IsToldOf, IsVerdict}
+use Rattle.driver.specs.AuditStream.{IsToldOf}
 use Rattle.driver.specs.Choice.{end_of, first_of, is_cut}
-use Rattle.driver.specs.HistoryReader.{EntriesHeld}
-use Rattle.driver.specs.TextReader.{Progress, OfText}
 
 -- the entries before the first that isn't legal, of some that stand oldest first
 abbrev pub legal_front : Verdict → List Entry → List Entry
@@ -54,22 +49,6 @@ picture_of choice k entries verdict =
 
 abbrev pub drawn_text : Choice → Header → List Entry → Verdict → List ℕ
 drawn_text choice k entries verdict = svg_text (picture_of choice k entries verdict)
-
--- the entries that were kept with one more, which is the last of so many
-abbrev pub kept_with : List Entry → Entry → ℕ → ℕ → List Entry
-kept_with kept e count end = if nat_le count end then kept ++ e ∷ [] else kept
-
--- The text is a history text of this header; this is the verdict on its entries, so many there are, and these
--- of them, the oldest first, stand before the end.
-pub record IsKept (p : Progress Header Entry) (now : EntriesHeld) (end : ℕ) (k : Kept) : Type 0 where
-  pub entries : List Entry
-  pub is : OfText history_form p (λ text. IsText history_form text p.so_far.header (reverse entries))
-  pub judged : IsVerdict p.so_far.header entries k.verdict
-  pub header : now.header ≡ p.so_far.header
-  pub all : k.all ≡ length entries
-  pub front : k.entries.items ≡ take end (reverse entries)
-  pub seated : All (λ e. e.seat < p.so_far.header.seats) k.entries.items
-  pub few : length entries < 2 ^ 32
 
 -- what drawing leaves
 abbrev pub Draws : Choice → Option (List ℕ) → Option (List ℕ) → Option (List ℕ) → Result Verdict StreamFault →

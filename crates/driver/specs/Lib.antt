@@ -1,9 +1,9 @@
-pub mod Answering
 pub mod Answers
 pub mod AuditStream
 pub mod AuditText
 pub mod Choice
 pub mod DrawStream
+pub mod Judged
 pub mod LineWriter
 pub mod Remarks
 pub mod Replay

@@ -1,20 +1,20 @@
 //! The entries of a history text, read from its source as they are asked for.
 
 ghost use Rattle.std.specs.Prelude.{◌≡◌, ◌<◌, ◌≤◌, ◌↔◌, [], false, length, None, Ok, IsTrue, IsErrOf, IfOk, IfErr, IfSome, OnErr};
-ghost use Rattle.std.specs.Io.KnownBytes.{IsAtEnd, Keeps, prepend_known};
+ghost use Rattle.std.specs.Io.KnownBytes.{IsAtEnd};
 ghost use Rattle.history.specs.Header.{IsInRange};
 ghost use Rattle.history.specs.Text.{HasNoBreak};
 ghost use Rattle.driver.specs.HistoryReader.{AreCounted, entries_read, entry_passed};
-ghost use Rattle.driver.specs.TextReader.{IsBehindEnd, IsFaultOf, IsNext, Stands, WereRead};
+ghost use Rattle.driver.specs.TextReader.{IsFaultOf, IsNext, Stands, WereRead};
 ghost use Rattle.history_text.specs.HistoryText.{history_form};
 ghost use Rattle.streams.specs.Window.{room};
 
+use crate::end_of::end_of;
 use history::entries::ends_call;
 use history::entry::Entry;
 use history::header::Header;
 use history::number::Numbering;
 use history_text::next_entry::{header_of, next_entry};
-use line_text::fault::TextFault;
 use std::alloc::Global;
 use std::marker::Model;
 use streams::source::Source;
@@ -112,26 +112,6 @@ impl HistoryReader {
         self.window.keep_last(left);
     }
 
-    /// Behind the end line: nothing may follow it.
-    fn end<R: Source>(&mut self, reader: &mut R) -> Result<Option<Entry>, StreamFault>
-        requires reader { R.failed reader.old ≡ false }
-        requires end { length self.old.bytes ≤ 255 }
-        ensures header { self.new.header ≡ self.old.header }
-        ensures counts { (self.new.count ≡ self.old.count) × (self.new.calls ≡ self.old.calls) }
-        ensures behind { IsBehindEnd self.old.count (R.left reader.old) result }
-        ensures ended { result ≡ Ok None → IsAtEnd (R.left reader.new) }
-        ensures failing { IsErrOf result StreamFault.ReadFailed ↔ IsTrue (R.failed reader.new) }
-        ensures stays { Keeps (prepend_known self.old.bytes (R.left reader.old))
-            (prepend_known self.new.bytes (R.left reader.new)) }
-        ensures places { self.new.places ≡ self.old.places }
-        ensures held { length self.new.bytes ≤ room }
-    {
-        if self.window.read_more(reader)? > 0 {
-            return Err(StreamFault::Text(TextFault::BadLine(self.count + 3)));
-        }
-        Ok(None)
-    }
-
     /// The next entry, where a whole line isn't in the window yet or no entry is.
     #[inline(never)]
     fn next_after_reading<R: Source>(
@@ -162,7 +142,7 @@ impl HistoryReader {
             self.calls,
         )?
         else {
-            return self.end(reader);
+            return end_of(&mut self.window, reader, self.count);
         };
         self.pass(entry, left);
         Ok(Some(entry))

@@ -7,16 +7,18 @@
 #![tactic(auto)]
 
 mod answer_line;
-pub mod answering;
 pub mod answers;
 pub mod audit_stream;
 pub mod audit_text;
 pub mod choice;
 pub mod draw_stream;
+mod end_of;
 pub mod form;
 pub mod history_reader;
+mod judged;
 pub mod line_writer;
 pub mod remark;
 pub mod replay;
 pub mod replay_stream;
 pub mod step_reader;
+mod verdict_text;

@@ -11,10 +11,10 @@ ghost use Rattle.driver.specs.StepReader.{progress};
 ghost use Rattle.driver.specs.TextReader.{IsFaultBehind};
 ghost use Rattle.steps.specs.StepsText.{steps_form};
 
-use crate::answering::Answering;
 use crate::remark::{Remark, remark_on};
 use crate::step_reader::StepReader;
-use history::entries::History;
+use frame::hooks::Hooks;
+use frame::machine::Core;
 use history::fault::Fault;
 use history::step::Answer;
 use std::alloc::Global;
@@ -41,27 +41,27 @@ fn keep(remarks: &mut Vec<Remark>, remark: Option<Remark>) -> Result<(), StreamF
     Ok(())
 }
 
-/// Has a fresh object answer the steps of a text, each as its line is read, and answers what there is to
+/// Has a fresh core answer the steps of a text, each as its line is read, and answers what there is to
 /// remark beside the entries.
 ///
 /// A fault of the text or of its source ends the replay, and so does a step that is refused for want of
 /// memory.
-pub fn replay<O: Answering, R: Source>(
+pub fn replay<H: Hooks + Drop, R: Source>(
     alloc: Global,
-    object: &mut O,
+    core: &mut Core<H>,
     steps: &mut StepReader,
     reader: &mut R,
 ) -> Result<Vec<Remark>, StreamFault>
     requires reader { R.failed reader.old ≡ false }
-    requires header { (O.view_of object.old).header ≡ steps.old.header }
-    requires fresh { (O.view_of object.old).entries ≡ [] }
+    requires header { core.old.header ≡ steps.old.header }
+    requires fresh { core.old.entries ≡ [] }
     ensures ok { IfOk result (λ remarks. AreAnswersBehind (progress steps.old (R.left reader.old))
         (record {
           header = steps.old.header;
-          entries = (O.view_of object.new).entries;
+          entries = core.new.entries;
           remarks = remarks.items;
         })) }
-    ensures legal { OnOk result (IsLegal (opening steps.old.header) (O.view_of object.new).entries) }
+    ensures legal { OnOk result (IsLegal (opening steps.old.header) core.new.entries) }
     ensures err { IfErr result (IsFaultBehind steps_form (progress steps.old (R.left reader.old))
         (R.left reader.new)) }
     ensures memory { OnOk result (IsFaultBehind steps_form (progress steps.old (R.left reader.old))
@@ -71,8 +71,8 @@ pub fn replay<O: Answering, R: Source>(
 {
     let mut remarks = Vec::new(alloc);
     while let Some((seat, step)) = steps.next(reader)? {
-        let before = object.history().len() as u32;
-        let answer = object.answer(seat, step);
+        let before = core.history().len() as u32;
+        let answer = core.step(seat, step);
         if lacks_memory(&answer) {
             return Err(StreamFault::Memory);
         }

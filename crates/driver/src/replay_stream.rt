@@ -1,6 +1,6 @@
 //! A steps text is answered by a replay text, or by a history text.
 
-ghost use Rattle.std.specs.Prelude.{◌≡◌, ◌↔◌, [], false, IsTrue, IfErr, IfOk, IsErrOf, OnOk};
+ghost use Rattle.std.specs.Prelude.{◌≡◌, ◌↔◌, false, IsTrue, IfErr, IfOk, IsErrOf, OnOk};
 ghost use Rattle.std.specs.Io.KnownBytes.{IsAtEnd};
 ghost use Rattle.driver.specs.ReplayStream.{AreAnswersBehind, AreAnswersTo, Replays};
 ghost use Rattle.streams.specs.Streams.{IsReadNoFurther, IsReadOut};
@@ -9,7 +9,6 @@ ghost use Rattle.driver.specs.StepReader.{progress};
 ghost use Rattle.driver.specs.TextReader.{IsFaultBehind, IsFaultOf};
 ghost use Rattle.steps.specs.StepsText.{steps_form};
 
-use crate::answering::Answering;
 use crate::answers::Answers;
 use crate::form::Form;
 use crate::replay::replay;
@@ -65,32 +64,8 @@ fn answers_to<R: Source>(alloc: Global, reader: &mut R) -> Result<Answers, Strea
     answers_behind(alloc, &mut steps, reader)
 }
 
-/// The answers of an object to the steps of a text.
-fn answered<O: Answering + Drop, R: Source>(
-    alloc: Global,
-    object: O,
-    steps: &mut StepReader,
-    reader: &mut R,
-) -> Result<Answers, StreamFault>
-    requires reader { R.failed reader.old ≡ false }
-    requires header { (O.view_of object).header ≡ steps.old.header }
-    requires fresh { (O.view_of object).entries ≡ [] }
-    ensures ok { IfOk result (AreAnswersBehind (progress steps.old (R.left reader.old))) }
-    ensures err { IfErr result (IsFaultBehind steps_form (progress steps.old (R.left reader.old))
-        (R.left reader.new)) }
-    ensures memory { OnOk result (IsFaultBehind steps_form (progress steps.old (R.left reader.old))
-        (R.left reader.new) Memory) }
-    ensures ended { OnOk result (IsAtEnd (R.left reader.new)) }
-    ensures failing { IsErrOf result StreamFault.ReadFailed ↔ IsTrue (R.failed reader.new) }
-{
-    let mut object = object;
-    let header = steps.header();
-    let remarks = replay(alloc, &mut object, steps, reader)?;
-    Ok(Answers::new(header, object.into_history(), remarks))
-}
-
-/// The answers of a core of these hooks.
-fn opened<H: Hooks + Drop, R: Source>(
+/// The answers of a fresh core of these hooks.
+fn answered<H: Hooks + Drop, R: Source>(
     alloc: Global,
     hooks: H,
     steps: &mut StepReader,
@@ -108,10 +83,11 @@ fn opened<H: Hooks + Drop, R: Source>(
     ensures failing { IsErrOf result StreamFault.ReadFailed ↔ IsTrue (R.failed reader.new) }
 {
     let header = steps.header();
-    match Core::open(alloc, hooks, header.seats, header.conditions, header.cap) {
-        Ok(core) => answered(alloc, core, steps, reader),
-        Err(_) => Err(StreamFault::Memory),
-    }
+    let Ok(mut core) = Core::open(alloc, hooks, header.seats, header.conditions, header.cap) else {
+        return Err(StreamFault::Memory);
+    };
+    let remarks = replay(alloc, &mut core, steps, reader)?;
+    Ok(Answers::new(header, core.into_history(), remarks))
 }
 
 /// The answers of a fresh object of the text's header.
@@ -131,14 +107,14 @@ fn answers_behind<R: Source>(
 {
     let header = steps.header();
     match header.object {
-        Object::Lock(policy) => opened(alloc, LockHooks::open(policy), steps, reader),
+        Object::Lock(policy) => answered(alloc, LockHooks::open(policy), steps, reader),
         Object::ReadWrite(policy) => match RwHooks::open(alloc, policy, header.seats) {
-            Ok(hooks) => opened(alloc, hooks, steps, reader),
+            Ok(hooks) => answered(alloc, hooks, steps, reader),
             Err(_) => Err(StreamFault::Memory),
         },
         Object::Semaphore(policy, permits) => {
-            opened(alloc, SemaphoreHooks::open(policy, permits), steps, reader)
+            answered(alloc, SemaphoreHooks::open(policy, permits), steps, reader)
         }
-        Object::Latch(count) => opened(alloc, LatchHooks::open(count), steps, reader),
+        Object::Latch(count) => answered(alloc, LatchHooks::open(count), steps, reader),
     }
 }

@@ -1,18 +1,18 @@
 //! The steps of a text, read from its source as they are asked for.
 
 ghost use Rattle.std.specs.Prelude.{◌≡◌, ◌+◌, ◌^◌, ◌<◌, ◌≤◌, ◌∷◌, ◌++◌, ◌↔◌, ◌-◌, [], false, length, None, Ok, IsTrue, IsErrOf, IfOk, IfErr, IfSome, OnErr, OnOk};
-ghost use Rattle.std.specs.Io.KnownBytes.{IsAtEnd, Keeps, prepend_known};
+ghost use Rattle.std.specs.Io.KnownBytes.{IsAtEnd};
 ghost use Rattle.history.specs.Header.{IsInRange};
 ghost use Rattle.history.specs.Text.{HasNoBreak};
 ghost use Rattle.driver.specs.StepReader.{passed, progress};
-ghost use Rattle.driver.specs.TextReader.{IsBehindEnd, IsFaultOf, IsNext, Stands, WereRead};
+ghost use Rattle.driver.specs.TextReader.{IsFaultOf, IsNext, Stands, WereRead};
 ghost use Rattle.steps.specs.StepsText.{steps_form};
 ghost use Rattle.streams.specs.Window.{room};
 ghost use Rattle.streams.specs.declared.stream_fault.StreamFault.TheVariants.{Memory};
 
+use crate::end_of::end_of;
 use history::header::Header;
 use history::step::Step;
-use line_text::fault::TextFault;
 use std::alloc::Global;
 use std::marker::Model;
 use steps::next_line::{header_of, next_line};
@@ -100,27 +100,6 @@ impl StepReader {
         Ok(())
     }
 
-    /// Behind the end line: nothing may follow it.
-    fn end<R: Source>(&mut self, reader: &mut R) -> Result<Option<(u16, Step)>, StreamFault>
-        requires reader { R.failed reader.old ≡ false }
-        requires end { length self.old.bytes ≤ 255 }
-        ensures header { self.new.header ≡ self.old.header }
-        ensures few { self.new.count < 2 ^ 64 }
-        ensures count { self.new.count ≡ self.old.count }
-        ensures behind { IsBehindEnd self.old.count (R.left reader.old) result }
-        ensures ended { result ≡ Ok None → IsAtEnd (R.left reader.new) }
-        ensures failing { IsErrOf result StreamFault.ReadFailed ↔ IsTrue (R.failed reader.new) }
-        ensures stays { Keeps (prepend_known self.old.bytes (R.left reader.old))
-            (prepend_known self.new.bytes (R.left reader.new)) }
-        ensures places { self.new.places ≡ self.old.places }
-        ensures held { length self.new.bytes ≤ room }
-    {
-        if self.window.read_more(reader)? > 0 {
-            return Err(StreamFault::Text(TextFault::BadLine(self.count + 3)));
-        }
-        Ok(None)
-    }
-
     /// The next step, where a whole line isn't in the window yet or no step is.
     #[inline(never)]
     fn next_after_reading<R: Source>(
@@ -146,7 +125,7 @@ impl StepReader {
     {
         self.window.read_line(reader)?;
         let Some((step, left)) = next_line(self.window.bytes(), &self.header, self.count)? else {
-            return self.end(reader);
+            return end_of(&mut self.window, reader, self.count);
         };
         self.pass(left)?;
         Ok(Some(step))

@@ -1,6 +1,6 @@
 use Rattle.std.proofs.Common.{◌≡◌, ◌<◌, Bool, true, false, ◌||◌, cond, eqb, length, get_or, refl, ap, ◌∙◌, sym, arith}
 use Rattle.std.proofs.lemmas.List.{length-set}
-use Rattle.drawing.proofs.TablesFollow.{at_set}
+use Rattle.deciding.proofs.HoldsFollow.{at_set}
 use Rattle.drawing.proofs.Walks.{has_more}
 use Rattle.drawing.proofs.sleepers.mark_all.Goals as goal
 

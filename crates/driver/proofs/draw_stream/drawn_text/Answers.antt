@@ -1,12 +1,9 @@
-use Rattle.std.proofs.Common.{◌<◌, ◌^◌, ◌∙◌, ap, sym, subst, length, reverse, arith}
+use Rattle.std.proofs.Common.{◌<◌, ◌^◌, sym, subst, length, reverse, arith}
 use Rattle.std.specs.List.{All}
 use Rattle.std.proofs.lemmas.List.{length-reverse}
-use Rattle.history.specs.declared.entry.Entry.{Entry}
 use Rattle.history.specs.Start.{opening}
 use Rattle.picture.specs.Layout.{IsShort}
 use Rattle.picture.specs.Marks.{IsEarly}
-use Rattle.driver.specs.DrawStream.{legal_front}
-use Rattle.driver.proofs.Keeping.{front_seated}
 use Rattle.driver.proofs.Picturing.{all_early, all_short, front_short}
 use Rattle.driver.proofs.draw_stream.drawn_text.Goals as goal
 
@@ -15,8 +12,7 @@ svg_text-requires c =
     let front = c.legal_front-shown.result.now in
     let few : length front < 2 ^ 32 =
     subst (λ xs. length xs < 2 ^ 32)
-    (sym (c.legal_front-shown.ensures ∙ ap (legal_front c.args.kept.now.verdict) c.deref.ensures.value))
-    (front_short c.args.kept.now.verdict c.args.kept.now.entries.items c.requires.few) in
+    (sym c.legal_front-shown.ensures) (front_short c.args.verdict c.args.kept.now c.requires.few) in
     let turned : length (reverse front) < 2 ^ 32 = omega (arith, few, length-reverse front) in
     record {
       range = c.requires.range;

@@ -7,9 +7,9 @@ abbrev pub invariant-loop-remarks : goal.invariant-loop-remarks
 invariant-loop-remarks g l = record {
   going : g.R.Source.failed l.reader ≡ false;
   same : l.steps.header ≡ l.initial.steps.header;
-  header : (g.O.Answering.view_of l.object).header ≡ l.steps.header;
+  header : l.core.header ≡ l.steps.header;
   answering : Answering (progress l.initial.steps (g.R.Source.left l.initial.reader))
-      (progress l.steps (g.R.Source.left l.reader)) (g.O.Answering.view_of l.object).entries l.remarks.items;
+      (progress l.steps (g.R.Source.left l.reader)) l.core.entries l.remarks.items;
 }
 
 abbrev pub decreases-loop-remarks : goal.decreases-loop-remarks

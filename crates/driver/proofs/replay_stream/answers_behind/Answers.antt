@@ -4,18 +4,18 @@ use Rattle.driver.proofs.ReadingAhead.{no_further}
 use Rattle.history.specs.declared.header.Header.{Header}
 use Rattle.driver.proofs.replay_stream.answers_behind.Goals as goal
 
-pub opened-requires-clause-hooks : goal.opened-requires-clause-hooks
-opened-requires-clause-hooks g c = c.open.ensures.opened c.args.steps.now.header.seats
+pub answered-requires-clause-hooks : goal.answered-requires-clause-hooks
+answered-requires-clause-hooks g c = c.open.ensures.opened c.args.steps.now.header.seats
 
-pub opened-requires-in-Semaphore-clause-hooks : goal.opened-requires-in-Semaphore-clause-hooks
-opened-requires-in-Semaphore-clause-hooks g c =
+pub answered-requires-in-Semaphore-clause-hooks : goal.answered-requires-in-Semaphore-clause-hooks
+answered-requires-in-Semaphore-clause-hooks g c =
     c.open-in-Semaphore.ensures.opened c.args.steps.now.header.seats
 
-pub opened-requires-in-Latch-clause-hooks : goal.opened-requires-in-Latch-clause-hooks
-opened-requires-in-Latch-clause-hooks g c = c.open-in-Latch.ensures.opened c.args.steps.now.header.seats
+pub answered-requires-in-Latch-clause-hooks : goal.answered-requires-in-Latch-clause-hooks
+answered-requires-in-Latch-clause-hooks g c = c.open-in-Latch.ensures.opened c.args.steps.now.header.seats
 
-pub opened-requires-clause-object : goal.opened-requires-clause-object
-opened-requires-clause-object g c =
+pub answered-requires-clause-object : goal.answered-requires-clause-object
+answered-requires-clause-object g c =
     c.open.ensures.object ∙ sym c.in-Lock.is ∙ ap (λ (k : Header). k.object) c.header-header.ensures.value
 
 pub returns-in-Err-clause-err : goal.returns-in-Err-clause-err

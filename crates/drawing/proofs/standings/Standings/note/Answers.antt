@@ -11,7 +11,8 @@ use Rattle.history.specs.Entry.{same_mode}
 use Rattle.history.specs.Sleepers.{has, sleepers_after}
 use Rattle.drawing.specs.Standings.{holds_by, line_by, table_by}
 use Rattle.drawing.specs.Woken.{woken}
-use Rattle.drawing.proofs.TablesFollow.{bound_follows, holds_follow, line_follows, seated_follow, sleepers_follow}
+use Rattle.deciding.proofs.HoldsFollow.{bound_follows}
+use Rattle.drawing.proofs.TablesFollow.{holds_follow, line_follows, seated_follow, sleepers_follow}
 use Rattle.drawing.proofs.standings.Standings.note.Goals as goal
 
 pub note_holds-requires-clause-few : goal.note_holds-requires-clause-few

@@ -1,4 +1,4 @@
-use Rattle.std.proofs.Common.{[], ◌≡◌, ◌≤◌, ◌<◌, ◌^◌, ℕ, Err, ap, arith, length, refl}
+use Rattle.std.proofs.Common.{[], ◌≤◌, ◌<◌, ◌^◌, ℕ, Err, ap, arith, refl}
 use Rattle.history_text.specs.EntryLines.{counts_line}
 use Rattle.line_text.specs.declared.fault.TextFault.{TextFault}
 use Rattle.streams.specs.declared.stream_fault.StreamFault.{StreamFault}
@@ -8,7 +8,7 @@ use Rattle.history_text.proofs.HistoryLawful.{lawful}
 use Rattle.history.specs.declared.header.Header.{Header}
 use Rattle.history.specs.Header.{IsInRange}
 use Rattle.history_text.proofs.HistoryReading.{more_calls}
-use Rattle.driver.proofs.ReadingAhead.{end_kept, ended_here, item_ahead, item_kept, kept, line_within, next_failed, next_kept, not_counted, read_failed, stands_behind, stands_failed}
+use Rattle.driver.proofs.ReadingAhead.{end_kept, ended_here, item_ahead, item_kept, kept, line_within, next_failed, next_kept, read_failed, stands_behind, stands_failed}
 use Rattle.driver.proofs.history_reader.HistoryReader.next_after_reading.Goals as goal
 
 few_entries : (h : Header) (count : ℕ) → IsInRange h → count ≤ h.cap → count < 2 ^ 64
@@ -51,8 +51,8 @@ returns-in_err-entry-clause-stands g c =
     rw (← c.self.view_is) (stands_failed _ _ _ _ passed.result passed.ensures.0
     c.in_ok-read_line.ensures.ahead)
 
-pub end-requires-clause-end : goal.end-requires-clause-end
-end-requires-clause-end g c =
+pub end_of-requires-clause-end : goal.end_of-requires-clause-end
+end_of-requires-clause-end g c =
     let held = c.self.inside in
     ended_short _ held.count held.calls (few_entries held.header held.count c.self.invariant.2
     c.self.invariant.0) (few_calls held.header held.count held.calls c.self.invariant.2 c.self.invariant.0
@@ -72,10 +72,10 @@ returns-in_default-clause-next g c =
     (counts_short held.count held.calls (few_entries held.header held.count c.self.invariant.2
     c.self.invariant.0) (few_calls held.header held.count held.calls c.self.invariant.2 c.self.invariant.0
     c.self.invariant.1)) in
-    rw (← c.self.view_is) (next_kept history_form so_far _ _ c.end.result _
-    (g.R.Source.left c.end.new.reader) keeps
-    (ended_here history_form so_far window c.end.new.self.bytes (g.R.Source.left c.read_line.new.reader)
-    (g.R.Source.left c.end.new.reader) c.end.result _ is c.end.ensures.behind c.end.ensures.stays))
+    rw (← c.self.view_is) (next_kept history_form so_far _ _ c.end_of.result _
+    (g.R.Source.left c.end_of.new.reader) keeps
+    (ended_here history_form so_far window c.end_of.new.window.bytes (g.R.Source.left c.read_line.new.reader)
+    (g.R.Source.left c.end_of.new.reader) c.end_of.result _ is c.end_of.ensures.behind c.end_of.ensures.stays))
 
 pub returns-in_default-clause-stands : goal.returns-in_default-clause-stands
 returns-in_default-clause-stands g c =
@@ -88,9 +88,9 @@ returns-in_default-clause-stands g c =
     (counts_short held.count held.calls (few_entries held.header held.count c.self.invariant.2
     c.self.invariant.0) (few_calls held.header held.count held.calls c.self.invariant.2 c.self.invariant.0
     c.self.invariant.1)) in
-    rw (← c.self.view_is) (stands_behind held.window.bytes window c.end.new.self.bytes
+    rw (← c.self.view_is) (stands_behind held.window.bytes window c.end_of.new.window.bytes
     (g.R.Source.left c.args.reader.now) (g.R.Source.left c.read_line.new.reader)
-    (g.R.Source.left c.end.new.reader) c.end.result keeps c.end.ensures.stays)
+    (g.R.Source.left c.end_of.new.reader) c.end_of.result keeps c.end_of.ensures.stays)
 
 pub pass-requires : goal.pass-requires
 pass-requires g c =

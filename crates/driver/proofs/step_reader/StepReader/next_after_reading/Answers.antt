@@ -1,4 +1,4 @@
-use Rattle.std.proofs.Common.{[], ◌≡◌, ◌≤◌, ◌<◌, ◌^◌, ℕ, Err, ap, arith, length, refl}
+use Rattle.std.proofs.Common.{[], ◌≤◌, Err, ap, arith, length, refl}
 use Rattle.steps.specs.StepLines.{end_line}
 use Rattle.line_text.specs.declared.fault.TextFault.{TextFault}
 use Rattle.streams.specs.declared.stream_fault.StreamFault.{StreamFault}
@@ -40,8 +40,8 @@ returns-in_err-step-clause-stands g c =
     rw (← c.self.view_is) (stands_failed _ _ _ _ passed.result passed.ensures.0
     c.in_ok-read_line.ensures.ahead)
 
-pub end-requires-clause-end : goal.end-requires-clause-end
-end-requires-clause-end g c =
+pub end_of-requires-clause-end : goal.end_of-requires-clause-end
+end_of-requires-clause-end g c =
     let held = c.self.inside in
     ended_short _ held.count (omega (arith, c.self.invariant.0))
     ((rw (c.in_default.is, c.bytes.ensures.bytes) at c.in_ok-step.ensures.last) refl)
@@ -57,10 +57,10 @@ returns-in_default-clause-next g c =
     end_kept held.window.bytes window (end_line held.count) (g.R.Source.left c.args.reader.now)
     (g.R.Source.left c.read_line.new.reader) c.in_ok-read_line.ensures.ahead last
     (end_short held.count (omega (arith, c.self.invariant.0))) in
-    rw (← c.self.view_is) (next_kept steps_form so_far _ _ c.end.result _
-    (g.R.Source.left c.end.new.reader) keeps
-    (ended_here steps_form so_far window c.end.new.self.bytes (g.R.Source.left c.read_line.new.reader)
-    (g.R.Source.left c.end.new.reader) c.end.result _ is c.end.ensures.behind c.end.ensures.stays))
+    rw (← c.self.view_is) (next_kept steps_form so_far _ _ c.end_of.result _
+    (g.R.Source.left c.end_of.new.reader) keeps
+    (ended_here steps_form so_far window c.end_of.new.window.bytes (g.R.Source.left c.read_line.new.reader)
+    (g.R.Source.left c.end_of.new.reader) c.end_of.result _ is c.end_of.ensures.behind c.end_of.ensures.stays))
 
 pub returns-in_default-clause-stands : goal.returns-in_default-clause-stands
 returns-in_default-clause-stands g c =
@@ -71,9 +71,9 @@ returns-in_default-clause-stands g c =
     end_kept held.window.bytes window (end_line held.count) (g.R.Source.left c.args.reader.now)
     (g.R.Source.left c.read_line.new.reader) c.in_ok-read_line.ensures.ahead last
     (end_short held.count (omega (arith, c.self.invariant.0))) in
-    rw (← c.self.view_is) (stands_behind held.window.bytes window c.end.new.self.bytes
+    rw (← c.self.view_is) (stands_behind held.window.bytes window c.end_of.new.window.bytes
     (g.R.Source.left c.args.reader.now) (g.R.Source.left c.read_line.new.reader)
-    (g.R.Source.left c.end.new.reader) c.end.result keeps c.end.ensures.stays)
+    (g.R.Source.left c.end_of.new.reader) c.end_of.result keeps c.end_of.ensures.stays)
 
 pub pass-requires : goal.pass-requires
 pass-requires g c =

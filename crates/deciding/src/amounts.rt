@@ -1,0 +1,67 @@
+//! The free permits of a semaphore, and how often a latch was counted down.
+
+ghost use Rattle.std.specs.Prelude.{◌≡◌, ◌≤◌, ◌<◌, ◌+◌, ◌∷◌, [], ◌^◌, List, length, nat_abs, ℕ, FitsSigned};
+ghost use Rattle.std.specs.Int.{w128};
+ghost use Rattle.history.specs.Counts.{counted_after, free_after};
+ghost use Rattle.history.specs.Start.{Start, opening};
+ghost use Rattle.history.specs.declared.entry.Entry.{Entry};
+ghost use Rattle.history.specs.declared.header.Header.{Header};
+ghost use Rattle.deciding.specs.Amounts.{AreAmounts};
+
+use history::entry::{Entry, Word};
+use history::header::Object;
+
+/// What a history says of the permits that are free, and of how often a latch was counted down.
+#[derive(Drop)]
+pub struct Amounts {
+    pub free: i128,
+    pub counted: u64,
+}
+
+impl Amounts {
+    /// The opening numbers.
+    pub fn open(object: Object) -> Self
+        ensures { (k : Header) → k.object ≡ object → AreAmounts (opening k) [] result }
+    {
+        let free = match object {
+            Object::Semaphore(_, permits) => i128::from(permits),
+            Object::Lock(_) | Object::ReadWrite(_) | Object::Latch(_) => 0,
+        };
+        Amounts { free, counted: 0 }
+    }
+
+    /// Follows one more entry.
+    #[inline(always)]
+    pub fn note(&mut self, entry: Entry)
+        requires { (s : Start) × (h : List Entry) × AreAmounts s h self.old × (length h + 1 < 2 ^ 32) }
+        ensures { (s : Start) (h : List Entry) → AreAmounts s h self.old →
+            AreAmounts s (entry ∷ h) self.new }
+    {
+        self.free = free_after(entry.word, entry.n, self.free);
+        self.counted += counted_by(entry.word);
+    }
+}
+
+/// The free permits after an entry.
+fn free_after(word: Word, n: u32, had: i128) -> i128
+    requires { nat_abs had ≤ 36893488147419103232 }
+    ensures is { result ≡ free_after word n had }
+    ensures fits { FitsSigned w128 result }
+{
+    match word {
+        Word::Got | Word::TryGot | Word::Granted | Word::Drained => had - i128::from(n),
+        Word::Gave => had + i128::from(n),
+        _ => had,
+    }
+}
+
+/// How often an entry counts a latch down.
+fn counted_by(word: Word) -> u64
+    ensures is { (n : ℕ) → n + result ≡ counted_after word n }
+    ensures bound { result ≤ 1 }
+{
+    match word {
+        Word::Counted => 1,
+        _ => 0,
+    }
+}

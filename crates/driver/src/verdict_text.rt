@@ -1,0 +1,52 @@
+//! A verdict on a history, and what is written of both.
+
+ghost use Rattle.std.specs.Prelude.{◌≡◌, ◌↔◌, ℕ, List, Option, IsTrue, IfErr, IfOk, IfSome, IsErrOf, OnOk, false};
+ghost use Rattle.std.specs.Io.KnownBytes.{IsAtEnd};
+ghost use Rattle.audit.specs.declared.verdict.Verdict.{Verdict};
+ghost use Rattle.history.specs.declared.entry.Entry.{Entry};
+ghost use Rattle.history.specs.declared.header.Header.{Header};
+ghost use Rattle.driver.specs.AuditStream.{IsTold, IsToldOf};
+ghost use Rattle.driver.specs.TextReader.{IsFaultOf};
+ghost use Rattle.history_text.specs.HistoryText.{history_form};
+ghost use Rattle.streams.specs.Streams.{IsReadNoFurther, IsReadOut, Streams};
+
+use audit::verdict::Verdict;
+use streams::sink::Sink;
+use streams::source::Source;
+use streams::stream_fault::StreamFault;
+use streams::whole::{told_at_the_end, write_all};
+
+/// A verdict, and the text that tells it.
+#[derive(Drop)]
+pub(crate) struct VerdictText {
+    pub(crate) verdict: Verdict,
+    pub(crate) text: Vec<u8>,
+}
+
+/// Writes what is told of a history text that was read, and answers the verdict. Behind a fault of the text
+/// the rest of it is read, and nothing is written.
+pub(crate) fn tell<R: Source, W: Sink>(
+    reader: &mut R,
+    writer: &mut W,
+    told: Result<VerdictText, StreamFault>,
+) -> Result<Verdict, StreamFault>
+    requires writer { W.failed writer.old ≡ false }
+    requires reader { IsErrOf told StreamFault.ReadFailed ↔ IsTrue (R.failed reader.old) }
+    requires fault { IsErrOf told StreamFault.WriteFailed → ⊥ }
+    ensures streams { (Tells : Header → List Entry → Verdict → List ℕ) (left : Option (List ℕ)) →
+        IfOk told (IsTold Tells left) → IfErr told (IsFaultOf history_form left (R.left reader.old)) →
+        Streams history_form (IsToldOf Tells) left (W.held writer.old) (W.held writer.new) result }
+    ensures end { (left : Option (List ℕ)) → OnOk told (IsAtEnd (R.left reader.old)) →
+        IfErr told (IsFaultOf history_form left (R.left reader.old)) →
+        IsReadOut history_form left result (R.left reader.new) }
+    ensures read { IsErrOf result StreamFault.ReadFailed ↔ IsTrue (R.failed reader.new) }
+    ensures write { IsErrOf result StreamFault.WriteFailed ↔ IsTrue (W.failed writer.new) }
+{
+    match told {
+        Ok(told) => match write_all(writer, &told.text) {
+            Ok(()) => Ok(told.verdict),
+            Err(_) => Err(StreamFault::WriteFailed),
+        },
+        Err(fault) => Err(told_at_the_end(reader, fault)),
+    }
+}
