@@ -31,13 +31,6 @@ place_of-push_other i a [] e = rw e refl
 place_of-push_other i a (b ∷ line) e =
     ap (λ r. cond (eqb b.seat i) (Some b) r) (place_of-push_other i a line e)
 
-pub place_of-push_same : (a : Arrival) (line : List Arrival) → place_of a.seat line ≡ None →
-    place_of a.seat (line ++ a ∷ []) ≡ Some a
-place_of-push_same a [] p = rw (eq-eqb a.seat a.seat refl) refl
-place_of-push_same a (b ∷ line) p =
-    let q = absent_behind a.seat b line p in
-    rw q.0 (place_of-push_same a line q.1)
-
 pub once-push : (a : Arrival) (line : List Arrival) → StandOnce line → place_of a.seat line ≡ None →
     StandOnce (line ++ a ∷ [])
 once-push a [] once p = (refl, tt)

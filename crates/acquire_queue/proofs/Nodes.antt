@@ -967,12 +967,6 @@ pub left_first : (nodes : List Standing) (x : Standing) (number : NodeNo) → So
     x.number.place ≡ number.place → left_by number nodes ≡ trimmed (drop 1 nodes)
 left_first nodes x number e same = ap (left_by number) (head_is nodes x e) ∙ cond-true _ _ _ (eq-eqb _ _ same)
 
-pub left_other : (nodes : List Standing) (x : Standing) (number : NodeNo) → Some x ≡ slice_get nodes 0 →
-    x.number.place ≢ number.place → left_by number nodes ≡ cancel_at number.place nodes
-left_other nodes x number e differs =
-    ap (left_by number) (head_is nodes x e) ∙ cond-false _ _ _ (ne_eqb _ _ differs)
-    ∙ ap (cancel_at number.place) (sym (head_is nodes x e))
-
 pub unnot_true : (b : Bool) → not b ≡ true → b ≡ false
 unnot_true true e = cc
 unnot_true false e = refl

@@ -1,7 +1,6 @@
 pub mod HoldsLemmas
 pub mod HoldsFollow
 pub mod WaitingFollow
-pub mod Outcomes
 pub mod Limits
 pub mod Making
 pub mod Fronts

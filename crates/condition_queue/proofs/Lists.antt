@@ -81,10 +81,6 @@ pub take_first : (s : ℕ) (xs : List ℕ) → slice_get xs 0 ≡ Some s → s �
 take_first s [] p = cc
 take_first s (x ∷ xs) p = let e : x ≡ s = cc in ap (λ y. y ∷ []) (sym e)
 
-pub without_either : (b : Bool) (s : ℕ) (xs : List ℕ) → has s xs ≡ b → cond b (without s xs) xs ≡ without s xs
-without_either true s xs p = refl
-without_either false s xs p = sym (without_absent s xs p)
-
 -- no more sleep than there are seats
 distinct_seats : (xs : List ℕ) → SleepOnce xs → IsDistinct eqb xs
 unfolding IsDistinct

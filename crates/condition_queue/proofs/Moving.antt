@@ -1,5 +1,5 @@
 -- Moving sleepers one after another.
-use Rattle.std.proofs.Common.{◌≡◌, ◌⊎◌, inl, inr, ℕ, zero, suc, ◌+◌, ◌<◌, ◌≤◌, Bool, true, false, ◌||◌, cond, eqb, List, [], ◌∷◌, ◌++◌, length, map, take, drop, Option, Some, None, refl, ap, ◌∙◌, sym, arith}
+use Rattle.std.proofs.Common.{◌≡◌, ◌⊎◌, inl, inr, ℕ, zero, suc, ◌+◌, ◌<◌, Bool, true, false, ◌||◌, cond, eqb, List, [], ◌∷◌, ◌++◌, length, map, take, drop, Option, Some, None, refl, ap, ◌∙◌, sym, arith}
 use Rattle.std.specs.Prelude.{slice_get}
 use Rattle.std.proofs.lemmas.Bool.{cases_eq, eq-eqb, ne_eqb, cond-true, cond-false}
 use Rattle.std.proofs.lemmas.List.{append_assoc, append-nil, drop-drop, length-drop, map-append}
@@ -34,13 +34,6 @@ moves_none c w line =
 
 pub at_most_one_is : (n : ℕ) → 0 < n → at_most_one n ≡ 1
 at_most_one_is n p = rw (ne_eqb n 0 (λ e. absurd (omega (arith, e)))) refl
-
-pub at_most_one_le : (n : ℕ) → (at_most_one n ≤ 1) × (at_most_one n ≤ n)
-at_most_one_le n = by (cases_eq n 0)
-  where
-    by : (n ≡ 0) ⊎ (n ≡ 0 → ⊥) → (at_most_one n ≤ 1) × (at_most_one n ≤ n)
-    by (inl e) = rw (eq-eqb n 0 e) (omega arith, omega arith)
-    by (inr m) = rw (ne_eqb n 0 m) (omega arith, omega arith)
 
 pub nobody_first : (xs : List ℕ) → slice_get xs 0 ≡ None → at_most_one (length xs) ≡ 0
 nobody_first [] p = refl

@@ -3,7 +3,7 @@ use Rattle.std.proofs.Common.{◌≡◌, ◌⊎◌, inl, inr, ℕ, ◌+◌, ◌<
 use Rattle.std.proofs.Math.Seq.{take-append-add, take-append_seam}
 use Rattle.std.proofs.lemmas.Bool.{cases_lt, false≢true}
 use Rattle.std.proofs.lemmas.List.{take-append-le}
-use Rattle.std.proofs.KnownBytes.{Appends-nil, Appends-trans}
+use Rattle.std.proofs.KnownBytes.{Appends-trans}
 use Rattle.std.specs.Io.KnownBytes.{Appends}
 use Rattle.std.specs.Result.{IsErr, OnErr, OnOk}
 use Rattle.streams.specs.declared.source.DeviceFailed.{DeviceFailed}
@@ -21,9 +21,6 @@ front_by a b bytes more n (inr all) p =
 pub front_longer : (a b : Option (List ℕ)) (bytes more : List ℕ) → AppendsFront a b bytes →
     AppendsFront a b (bytes ++ more)
 front_longer a b bytes more p = front_by a b bytes more p.0 (cases_lt p.0 (length bytes)) p.1
-
-pub gathered_none : (a : Option (List ℕ)) (bytes : List ℕ) → IsGathered a bytes a bytes []
-gathered_none a bytes = record { written = []; appends = Appends-nil a; parts = append-nil bytes }
 
 pub gathered_more : (a b c : Option (List ℕ)) (old mid new x y : List ℕ) → IsGathered a old b mid x →
     IsGathered b mid c new y → IsGathered a old c new (x ++ y)

@@ -3,7 +3,7 @@ use Rattle.std.proofs.Common.{◌≡◌, ℕ, ◌<◌, ◌^◌, Bool, true, fals
 use Rattle.std.specs.Prelude.{◌↔◌, nat_lt, if◌then◌else◌}
 use Rattle.std.specs.List.{All, Contains}
 use Rattle.std.proofs.lemmas.List.{length-take}
-use Rattle.std.proofs.lemmas.List.Elements.{All-append, All-contains_itself, All-push, All-take}
+use Rattle.std.proofs.lemmas.List.Elements.{All-append, All-contains_itself, All-push}
 use Rattle.audit.specs.declared.verdict.Verdict.{Verdict}
 use Rattle.audit.specs.declared.verdict.Verdict.TheVariants.{Legal, NotLegal}
 use Rattle.drawing.specs.declared.bar.Bar.{Bar}
@@ -64,9 +64,3 @@ same_picture choice verdict k k' all all' entries others text same count items i
     is ∙ ap (λ h. svg_text (pictured h choice all verdict (legal_front verdict entries))) same
     ∙ ap (λ n. svg_text (pictured k' choice n verdict (legal_front verdict entries))) count
     ∙ ap (λ xs. svg_text (pictured k' choice all' verdict (legal_front verdict xs))) items
-
--- of the front that is legal each entry is one of the seats
-pub front_seated : (P : Entry → Type 0) (verdict : Verdict) (entries : List Entry) → All P entries →
-    All P (legal_front verdict entries)
-front_seated P Legal entries all = all
-front_seated P (NotLegal number) entries all = All-take P number entries all

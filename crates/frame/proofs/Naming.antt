@@ -1,19 +1,15 @@
 -- Whom an entry names: nobody where the hooks let nobody go, and else the first in line, where it can go now.
-use Rattle.std.proofs.Common.{◌≡◌, ◌≢◌, ⊎_elim, ℕ, ◌<◌, ◌≤◌, Bool, true, false, cond, eqb, List, [], ◌∷◌, ◌++◌, map, take, ℤ, pos, Option, Some, None, Ok, refl, ap, ◌∙◌, sym, subst, arith}
+use Rattle.std.proofs.Common.{◌≡◌, ◌≢◌, ⊎_elim, ℕ, ◌<◌, ◌≤◌, Bool, true, false, cond, eqb, List, [], ◌∷◌, ◌++◌, map, take, Option, Some, None, Ok, refl, ap, ◌∙◌, sym, subst, arith}
 use Rattle.std.specs.List.{AllByRecursion}
-use Rattle.std.specs.Prelude.{int_le, ◌-ℤ◌}
 use Rattle.std.proofs.lemmas.Bool.{cases_eq, eq-eqb, ne_eqb, true≢false}
-use Rattle.std.proofs.lemmas.Int.{ints}
 use Rattle.history.specs.declared.arrival.Arrival.{Arrival}
 use Rattle.history.specs.declared.entry.Entry.{Entry}
-use Rattle.history.specs.declared.entry.Mode.{Mode}
-use Rattle.history.specs.declared.entry.Mode.TheVariants.{X, S}
+use Rattle.history.specs.declared.entry.Mode.TheVariants.{X}
 use Rattle.history.specs.declared.entry.Word.{Word}
 use Rattle.history.specs.declared.entry.Word.TheVariants as word
 use Rattle.history.specs.declared.header.Header.{Header}
 use Rattle.history.specs.declared.header.Object.{Object}
 use Rattle.history.specs.declared.header.Object.TheVariants.{Lock, ReadWrite, Semaphore, Latch}
-use Rattle.history.specs.Changes.{drained}
 use Rattle.history.specs.Could.{could, could_of}
 use Rattle.history.specs.Counts.{Counts, counts, owner}
 use Rattle.history.specs.Entry.{ends_arrival}
@@ -21,7 +17,6 @@ use Rattle.history.specs.Faults.{max_amount}
 use Rattle.history.specs.Header.{IsInRange}
 use Rattle.history.specs.Line.{line, first_of, arrivals_by, coming_back}
 use Rattle.history.specs.Naming.{named, named_by, ready, ready_by}
-use Rattle.history.specs.Object.{is_semaphore}
 use Rattle.history.specs.Sleepers.{sleepers}
 use Rattle.history.specs.Start.{Start, opening}
 use Rattle.history.proofs.Asking.{AsksFew, line_few}
@@ -30,7 +25,6 @@ use Rattle.history.proofs.Entering.{KnownBy, known}
 use Rattle.history.proofs.LineLemmas.{line_after}
 use Rattle.frame.specs.Core.{CoreView, start_of, IsAdded, IsNext, ready_of}
 use Rattle.frame.specs.Effects.{asks_before, may_name, OpensNobody}
-use Rattle.frame.specs.Hooks.{NobodyNew}
 use Rattle.deciding.specs.Situation.{IsHistory}
 use Rattle.deciding.proofs.Bounds.{first_below}
 use Rattle.frame.proofs.Stepping.{Next}
@@ -47,23 +41,6 @@ owner_alone k i j n own ne = by k.object
     by (ReadWrite policy) = rw (own, other) refl
     by (Semaphore policy permits) = refl
     by (Latch count) = refl
-
--- a drain makes nobody able to take
-still_less : (free : ℤ) (n x : ℕ) → int_le (pos 0) (free -ℤ pos x) ≡ false → (b : Bool) →
-    int_le (pos 0) ((free -ℤ pos n) -ℤ pos x) ≡ b → b ≡ false
-still_less free n x none false q = refl
-still_less free n x none true q = absurd (omega (arith, ints, none, q))
-
-pub drained_opens_nobody : (k : Counts) (i n : ℕ) → is_semaphore k.object ≡ true → NobodyNew k (drained k i n)
-drained_opens_nobody k i n semaphore j m x seat few none = by k.object m semaphore none
-  where
-    by : (o : Object) (m : Mode) → is_semaphore o ≡ true → could_of o k j m x ≡ false →
-        could_of o (drained k i n) j m x ≡ false
-    by (Semaphore policy permits) X t none = refl
-    by (Semaphore policy permits) S t none = still_less k.free n x none _ refl
-    by (Lock policy) m t none = cc
-    by (ReadWrite policy) m t none = cc
-    by (Latch count) m t none = cc
 
 -- whoever arrives by an entry is its own seat, or can't go: the owner who moved it holds the lock
 arrived_waits : (s : Start) (h : List Entry) (e : Entry) (a : Arrival) (w : Word) → KnownBy s h e w →

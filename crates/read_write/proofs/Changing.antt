@@ -1,19 +1,19 @@
 -- What a take, a give and the like make of a read-write lock's hooks.
 use Rattle.std.proofs.Common.{◌≡◌, ◌≢◌, ⊎_elim, ℕ, ◌+◌, ◌-◌, ◌<◌, ◌≤◌, true, List, length, length-set, get_or, slice_index, Option, Some, None, refl, ap, ◌∙◌, sym, subst, arith}
 use Rattle.std.proofs.Math.ListN.{set}
-use Rattle.std.proofs.lemmas.Bool.{cases_eq, cases_lt, eqb-true, eq-eqb}
+use Rattle.std.proofs.lemmas.Bool.{cases_eq, cases_lt, eqb-true}
 use Rattle.std.proofs.lemmas.Grind.{get_or-set_at, get_or_default_zero}
 use Rattle.std.proofs.lemmas.List.{get_or-set_other}
 use Rattle.history.specs.declared.entry.Mode.{Mode}
 use Rattle.history.specs.declared.entry.Mode.TheVariants.{X, S}
-use Rattle.history.specs.Changes.{holds_with, took, gave_back, let_go, restored}
+use Rattle.history.specs.Changes.{holds_with, took, gave_back, restored}
 use Rattle.history.specs.Could.{is_seat, max_shared}
 use Rattle.history.specs.Counts.{Counts}
 use Rattle.history.specs.Object.{in_holds}
 use Rattle.frame.specs.Hooks.{IsRestorable}
 use Rattle.frame.specs.Owners.{is_owned, is_owner_in, Owns}
 use Rattle.history.proofs.Entering.{seat_is}
-use Rattle.frame.proofs.Owners.{owns_took, owns_gave, owns_freed, owns_let_go, owns_restored, shared_kept, exclusive_kept, changed_own, changed_other, some_owned, owned_some, owned_most, seated_some, no_owner}
+use Rattle.frame.proofs.Owners.{owns_took, owns_gave, owns_restored, shared_kept, exclusive_kept, changed_own, changed_other, some_owned, owned_most, seated_some, no_owner}
 use Rattle.frame.proofs.Tables.{table_total, table_set, in_total, past_table}
 use Rattle.read_write.specs.State.{State, IsSound, StandsFor}
 use Rattle.read_write.proofs.Reading.{MayWrite, could_is, may_write}
@@ -187,35 +187,6 @@ stands_write_less s k h i n u =
       seats = h.seats;
       owns = subst P (sym (seat_is s.owner i u)) owns;
       shared = λ j. shared_kept i (λ had. had - in_holds k.object n) k.held j ∙ h.shared j;
-    }
-
--- no owner any more
-pub sound_freed : (s : State) (writes : ℕ) → IsSound s → writes ≡ 0 → IsSound (owned_by s None writes)
-sound_freed s writes t none = record { owned = eq-eqb writes 0 none; seated = refl; summed = t.summed }
-
-pub stands_gave_last : (s : State) (k : Counts) → IsSound s → StandsFor s k → (i n : ℕ) →
-    is_seat s.owner i ≡ true → s.writes - 1 ≡ 0 → StandsFor (owned_by s None (s.writes - 1))
-    (gave_back k i X n)
-stands_gave_last s k t h i n u last =
-    let Q : Option ℕ → Type 0 = λ o. is_owned max_shared o s.writes ≡ true in
-    let some : 0 < s.writes = owned_some max_shared i s.writes (subst Q (seat_is s.owner i u) t.owned) in
-    let P : ℕ → Type 0 = λ w. Owns (Some i) w k in
-    let one : s.writes ≡ 1 = omega (arith, some, last) in
-    record {
-      object = h.object;
-      seats = h.seats;
-      owns = owns_freed (s.writes - 1) k i n (subst P one (owner_known s k h i u)) (rw h.object refl);
-      shared = λ j. shared_kept i (λ had. had - in_holds k.object n) k.held j ∙ h.shared j;
-    }
-
-pub stands_let_go : (s : State) (k : Counts) → StandsFor s k → (i : ℕ) → is_seat s.owner i ≡ true →
-    StandsFor (owned_by s None 0) (let_go k i)
-stands_let_go s k h i u =
-    record {
-      object = h.object;
-      seats = h.seats;
-      owns = owns_let_go s.writes k i (owner_known s k h i u);
-      shared = λ j. shared_kept i (λ had. 0) k.held j ∙ h.shared j;
     }
 
 -- all write holds again

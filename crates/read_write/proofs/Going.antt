@@ -174,13 +174,6 @@ read_answer s k t h i n seat =
     let Q : Object → Type 0 = λ o. take_answer_of o (took k i S n) i S ≡ last in
     subst Q (sym h.object) (rw own (rw all refl))
 
--- After a give.
-pub write_answer : (s : State) (k : Counts) → StandsFor s k → (i n : ℕ) → is_seat s.owner i ≡ true →
-    give_answer k i X n ≡ open_where (eqb s.writes 1)
-write_answer s k h i n u =
-    let had : k.held i X ≡ s.writes = h.owns.held i ∙ rw u refl in
-    rw h.object (rw had refl)
-
 pub read_less_answer : (s : State) (k : Counts) → IsSound s → StandsFor s k → (i n : ℕ) →
     give_answer k i S n ≡ open_where (eqb s.readers 1 || eqb s.readers max_shared)
 read_less_answer s k t h i n =

@@ -3,12 +3,10 @@ use Rattle.std.proofs.Common.{◌≡◌, ℕ, ◌<◌, Bool, true, false, not, �
 use Rattle.std.proofs.lemmas.Bool.{ltb-true, eqb-true, and_parts}
 use Rattle.history.specs.declared.entry.Mode.{Mode}
 use Rattle.history.specs.declared.entry.Mode.TheVariants.{X, S}
-use Rattle.history.specs.declared.entry.Word.TheVariants as word
 use Rattle.history.specs.declared.fault.Fault.TheVariants as fault
 use Rattle.history.specs.declared.header.Object.TheVariants.{ReadWrite}
 use Rattle.history.specs.Could.{could, limit, held_back, line_blocks, is_seat, is_none_or, max_shared}
 use Rattle.history.specs.Counts.{Counts, owner, readers, total}
-use Rattle.history.specs.Steps.{gave}
 use Rattle.history.proofs.Sums.{total_same}
 use Rattle.frame.specs.Hooks.{let_go_answer}
 use Rattle.frame.specs.Owners.{holds_of, is_owned}
@@ -72,11 +70,6 @@ let_go_is s k t h i =
     let reads = h.shared i in
     let writes = h.owns.held i in
     rw h.object (rw own (rw reads (rw writes refl)))
-
-pub gave_is : (s : State) (k : Counts) → StandsFor s k → (i : ℕ) (m : Mode) (n : ℕ) →
-    gave k.object k i m n ≡ cond (ltb 0 (holds_by s i m)) word.Gave (word.Refused fault.NotOwner)
-gave_is s k h i X n = let had = h.owns.held i in rw h.object (rw had refl)
-gave_is s k h i S n = let had = h.shared i in rw h.object (rw had refl)
 
 -- Who could write is nobody else's subject and below the limit.
 pub record MayWrite (s : State) (i : ℕ) : Type 0 where

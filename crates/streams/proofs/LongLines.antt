@@ -1,13 +1,13 @@
 -- A line that is read piece by piece, of which the first bytes stay.
-use Rattle.std.proofs.Common.{◌≡◌, ◌≢◌, ℕ, ◌+◌, ◌-◌, ◌<◌, ◌≤◌, List, [], ◌++◌, length, take, drop, Option, None, Some, refl, sym, ap, subst, ◌∙◌, arith, append_assoc, append-nil, inl, inr, ◌⊎◌}
-use Rattle.std.specs.Io.KnownBytes.{Consumes, Keeps}
+use Rattle.std.proofs.Common.{◌≡◌, ◌≢◌, ℕ, ◌-◌, ◌<◌, List, [], ◌++◌, length, take, drop, Option, None, Some, refl, sym, ap, subst, ◌∙◌, arith, append_assoc, append-nil, inl, inr, ◌⊎◌}
+use Rattle.std.specs.Io.KnownBytes.{Keeps}
 use Rattle.std.specs.Prelude.{MatchOption, is_some, false}
 use Rattle.std.proofs.lemmas.Bool.{cases_order, false≢true}
 use Rattle.std.proofs.lemmas.List.{length-append, length-take-le, take-append-le, take-take, take_all}
 use Rattle.std.proofs.lemmas.List.Elements.{All-append}
 use Rattle.std.proofs.Math.Seq.{drop-append_seam}
 use Rattle.history.specs.Text.{HasNoBreak}
-use Rattle.streams.specs.Window.{Grows, IsAhead, IsFront, IsFrontAhead, IsShorter, StaysAhead}
+use Rattle.streams.specs.Window.{Grows, IsFrontAhead, IsShorter, StaysAhead}
 
 -- the first bytes of a line and of more of it
 first_of : (n : ℕ) (line more : List ℕ) → take n (take n line ++ more) ≡ take n (line ++ more)
@@ -33,12 +33,6 @@ unread old (Some left) = record {
       λ i d lt. absurd (omega (arith, lt));
   seen = refl;
 }
-
--- of one line the first bytes stay
-pub front_of : (old window : List ℕ) (left : Option (List ℕ)) → HasNoBreak old → window ≡ take 256 old →
-    IsFrontAhead old left window left
-front_of old window None line is = tt
-front_of old window (Some left) line is = record { line = old; parts = refl; one_line = line; seen = is }
 
 -- nothing was read behind the front
 pub stays : (old window new : List ℕ) (first left after : Option (List ℕ)) →
