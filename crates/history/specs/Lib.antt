@@ -20,6 +20,7 @@ pub mod Phase
 pub mod Faults
 pub mod Steps
 pub mod Legal
+pub mod Base
 pub mod Room
 pub mod Answers
 pub mod Order
