@@ -30,3 +30,6 @@ pub mod Passing
 pub mod Answering
 pub mod Staying
 pub mod Awaiting
+pub mod Alike
+pub mod GoodBases
+pub mod Folding

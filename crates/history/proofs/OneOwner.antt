@@ -314,7 +314,7 @@ owned_from k (e ∷ h) lock legal seats =
     owned_next (opening k) e h seats.0 v
     (changes (opening k) e h lock (known (opening k) h legal.0.0 e legal.0.1) (waits k h legal.1) v)
 
-same_limit : (o : Object) → most_holds o ≡ most_exclusive o
+pub same_limit : (o : Object) → most_holds o ≡ most_exclusive o
 same_limit (Lock p) = refl
 same_limit (ReadWrite p) = refl
 same_limit (Semaphore p c) = refl

@@ -185,7 +185,7 @@ comes_other s e h a ne v b =
     }
 
 -- the last sleep of the entry's own seat, and its holds
-last_sleep_own : (s : Start) (e : Entry) (h : List Entry) →
+pub last_sleep_own : (s : Start) (e : Entry) (h : List Entry) →
     last_sleep s (e ∷ h) e.seat ≡ sleep_after e.word e (last_sleep s h e.seat)
 last_sleep_own s e h = rw (eq-eqb e.seat e.seat refl) refl
 
@@ -286,7 +286,7 @@ line_stays s h e v (of_sleeper p q) =
     staying_others s e h (stays e.word e.seat) (line s h) (place_never e.seat (line s h) parts.0) v.line
 
 -- who is moved from a condition, or lapses, comes back
-all_come : (P : Arrival → Type 0) (xs : List ℕ) → ((i : ℕ) → has i xs ≡ true → P (coming_back i)) →
+pub all_come : (P : Arrival → Type 0) (xs : List ℕ) → ((i : ℕ) → has i xs ≡ true → P (coming_back i)) →
     AllByRecursion P (map coming_back xs)
 all_come P [] each = tt
 all_come P (x ∷ xs) each = (
@@ -310,7 +310,7 @@ moved_comes s h e v p c i t =
     signalled_is : end.Signalled ≡ end.None → ⊥
     signalled_is q = cc
 
-take_has : (n i : ℕ) (xs : List ℕ) → has i (take n xs) ≡ true → has i xs ≡ true
+pub take_has : (n i : ℕ) (xs : List ℕ) → has i (take n xs) ≡ true → has i xs ≡ true
 take_has n i xs t =
     let o = has_once i (take n xs) t in
     let e = times-take_drop i n xs in

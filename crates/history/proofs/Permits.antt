@@ -25,7 +25,7 @@ use Rattle.history.specs.Object.{created, in_holds, is_semaphore}
 use Rattle.history.specs.Start.{Start, opening}
 use Rattle.history.specs.Steps.{at_least_none, gave}
 use Rattle.history.proofs.Entering.{Known, KnownBy, known}
-use Rattle.history.proofs.OneWait.{Waits, SavedIfBack, placed, waits}
+use Rattle.history.proofs.OneWait.{Waits, SavedIfBack, opening_waits, placed, waits, waits_from}
 use Rattle.history.proofs.Owners.{ready_could, semaphore_no_lock}
 use Rattle.history.proofs.Sums.{total_change, total_nothing, total_same}
 
@@ -234,13 +234,18 @@ nothing_held n c = by _ (total_nothing n)
     by : (t : ℕ) → t ≡ 0 → pos t +ℤ c ≡ c +ℤ pos 0
     by t p = omega (arith, ints)
 
+pub conserved_from : (s : Start) (h : List Entry) → is_semaphore s.header.object ≡ true → Waits s [] →
+    IsConserved s [] → IsLegal s h → AreSeated s h → IsConserved s h
+conserved_from s [] t v c legal seats = c
+conserved_from s (e ∷ h) t v c legal seats =
+    conserved_more s e h t seats.0
+    (moves s e h t (known s h legal.0.0 e legal.0.1) (waits_from s h v legal.1))
+    (conserved_from s h t v c legal.1 seats.1)
+
 pub conserved : (k : Header) (h : List Entry) → is_semaphore k.object ≡ true → IsLegal (opening k) h →
     AreSeated (opening k) h → IsConserved (opening k) h
-conserved k [] t legal seats = nothing_held k.seats (created k.object)
-conserved k (e ∷ h) t legal seats =
-    conserved_more (opening k) e h t seats.0
-    (moves (opening k) e h t (known (opening k) h legal.0.0 e legal.0.1) (waits k h legal.1))
-    (conserved k h t legal.1 seats.1)
+conserved k h t legal seats =
+    conserved_from (opening k) h t (opening_waits k) (nothing_held k.seats (created k.object)) legal seats
 
 -- a drain takes what there is
 drained_is : (f : ℤ) → (at_least_none f ≡ 0) ⊎ (pos (at_least_none f) ≡ f)

@@ -27,5 +27,6 @@ pub mod Order
 pub mod Conservation
 pub mod Ownership
 pub mod Waiting
+pub mod GoodBase
 pub mod Numbering
 pub mod Awaiting
