@@ -26,7 +26,7 @@ use Rattle.history.proofs.Owners.{most_holds}
 use Rattle.history.proofs.SleepLemmas.{times-waiting}
 use Rattle.history.proofs.Times.{has_not, has_once, never_has, once_same, total_part}
 
-abbrev sleep_of : ℕ → ℕ → Sleep
+abbrev pub sleep_of : ℕ → ℕ → Sleep
 sleep_of c n = record { condition = c; holds = n; how = end.Signalled }
 
 -- Who sleeps on a condition is found there with what it gave up, and nobody else is.
@@ -149,7 +149,7 @@ module _ (b : Base) (good : IsGood b) where
   line_is : line (based b) [] ≡ map (λ p. p.who) b.line
   line_is = line_at_first (based b)
 
-  waits_once : (i : ℕ) →
+  pub waits_once : (i : ℕ) →
       times i (seats_of (map (λ p. p.who) b.line)) + total b.header.conditions
       (λ c. times i (map (λ x. x.seat) (sleepers_of b c))) ≤ 1
   waits_once i =
@@ -173,19 +173,14 @@ module _ (b : Base) (good : IsGood b) where
         nothing = gave.nothing;
       }
 
-  sleeps_well : (c i : ℕ) → has i (sleepers (based b) [] c) ≡ true → Sleeps (based b) [] c i
-  sleeps_well c i t =
-      record {
-        saved = saved_from i (sleep_of c found.0) slept found.2;
-        condition = ap (λ (w : Sleep). w.condition) slept;
-        how = ap (λ (w : Sleep). w.how) slept;
-      }
+  -- whoever sleeps on a condition is found there, and nowhere else
+  pub slept_there : (c i : ℕ) → has i (sleepers (based b) [] c) ≡ true →
+      (n : ℕ) × (sleep_on c i (sleepers_of b c) ≡ Some (sleep_of c n))
+      × (last_sleep (based b) [] i ≡ sleep_of c n) × GaveUp b i c n
+  slept_there c i t = (found.0, found.1, slept, found.2)
     where
       found : (n : ℕ) × (sleep_on c i (sleepers_of b c) ≡ Some (sleep_of c n)) × GaveUp b i c n
       found = found_on b c i (sleepers_of b c) (good.sleepers c) t
-
-      once : (d : ℕ) → ℕ
-      once d = times i (map (λ x. x.seat) (sleepers_of b d))
 
       below : c < b.header.conditions
       below = found.2.condition
@@ -211,6 +206,15 @@ module _ (b : Base) (good : IsGood b) where
       slept =
           ap (λ w. or_awake (either w (sleep_below b.header.conditions b i))) in_no_line
           ∙ ap or_awake (found_below b i found.0 b.header.conditions c below found.1 nowhere_else)
+
+  sleeps_well : (c i : ℕ) → has i (sleepers (based b) [] c) ≡ true → Sleeps (based b) [] c i
+  sleeps_well c i t =
+      let found = slept_there c i t in
+      record {
+        saved = saved_from i (sleep_of c found.0) found.2 found.3;
+        condition = ap (λ (w : Sleep). w.condition) found.2;
+        how = ap (λ (w : Sleep). w.how) found.2;
+      }
 
   comes_well : (p : Standing) → StandsWell b p → comes_in p.who.seat b.line ≡ true →
       SavedIfBack (based b) [] p.who
