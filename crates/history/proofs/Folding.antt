@@ -34,6 +34,7 @@ use Rattle.history.proofs.Entering.{known}
 use Rattle.history.proofs.GoodBases.{good_waits, sleep_of, slept_there, waits_once}
 use Rattle.history.proofs.LineLemmas.{line_at_first}
 use Rattle.history.proofs.ListSums.{total_agree}
+use Rattle.history.proofs.OneOwner.{cases_below}
 use Rattle.history.proofs.OneWait.{Sleeps, Waits, waits_from}
 use Rattle.history.proofs.Permits.{conserved_from}
 use Rattle.history.proofs.SleepLemmas.{held_other}
@@ -69,9 +70,6 @@ pub each_agree : {A : Type 0} (n : ℕ) (f g : ℕ → A) → ((i : ℕ) → i <
 each_agree zero f g same = refl
 each_agree (suc n) f g same =
     λ j. each_agree n f g (λ i l. same i (omega (arith, l))) j ++ same n (omega arith) j ∷ []
-
-cases_below : (a b : ℕ) → (a < b) ⊎ (b ≤ a)
-cases_below a b = ⊎_elim (λ t. inl (ltb-true a b t)) (λ f. inr (ltb-false a b f)) (cases_Bool (ltb a b))
 
 -- the seats in a list of arrivals, and of sleepers, that a fold writes
 who_again : (b : Base) (g : List Entry) (q : List Arrival) → map (λ p. p.who) (map (standing_after b g) q) ≡ q

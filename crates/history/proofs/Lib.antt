@@ -33,3 +33,4 @@ pub mod Awaiting
 pub mod Alike
 pub mod GoodBases
 pub mod Folding
+pub mod OpeningBase

@@ -38,7 +38,7 @@ none_or_some : (n : ℕ) → (n ≡ 0) ⊎ (0 < n)
 none_or_some zero = inl refl
 none_or_some (suc n) = inr (omega arith)
 
-cases_below : (a b : ℕ) → (a < b) ⊎ (b ≤ a)
+pub cases_below : (a b : ℕ) → (a < b) ⊎ (b ≤ a)
 cases_below a b = ⊎_elim (λ t. inl (ltb-true a b t)) (λ f. inr (ltb-false a b f)) (cases_Bool (ltb a b))
 
 -- where a seat or nobody owns, nobody else has exclusive holds
