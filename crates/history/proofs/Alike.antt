@@ -3,7 +3,7 @@
 use Rattle.std.proofs.Common.{◌≡◌, ℕ, zero, suc, ◌+◌, ◌-◌, ◌==◌, Bool, true, false, ◌&&◌, ◌||◌, not, cond, eqb, List, [], ◌∷◌, ◌++◌, map, take, length, Option, Some, None, Result, Ok, Err, refl, ap, ◌∙◌, sym, subst, ⊎_elim, arith}
 use Rattle.std.specs.List.{filter, AllByRecursion}
 use Rattle.std.specs.Prelude.{ℤ, pos, ◌-ℤ◌, ◌+ℤ◌, int_le, int_lt}
-use Rattle.std.proofs.lemmas.Bool.{eqb-true, eq-eqb, ne_eqb, cases_eq}
+use Rattle.std.proofs.lemmas.Bool.{eq-eqb, or_right}
 use Rattle.history.specs.declared.arrival.Arrival.{Arrival}
 use Rattle.history.specs.declared.entry.End.{End}
 use Rattle.history.specs.declared.entry.End.TheVariants as end
@@ -21,14 +21,16 @@ use Rattle.history.specs.declared.step.Step.{Step}
 use Rattle.history.specs.declared.step.Step.TheVariants as step
 use Rattle.history.specs.Awaiting.{back_from, lapse_from}
 use Rattle.history.specs.Could.{could, could_of, held_back, is_seat, limit}
-use Rattle.history.specs.Counts.{Counts, beyond, count, counted, counted_after, counts, free, free_after, held, holds_after, unheld}
+use Rattle.history.specs.Counts.{Counts, beyond, count, counted, counted_after, counts, free, free_after, held, holds_after, total, unheld}
 use Rattle.history.specs.Entry.{ends_call, same_mode}
 use Rattle.history.specs.Faults.{is_bad_amount, is_no_condition, is_wrong_mode}
 use Rattle.history.specs.Legal.{calls}
 use Rattle.history.specs.Line.{arrivals_by, coming_back, first_mode, first_of, line, mode_of, place_of}
 use Rattle.history.specs.Naming.{named, named_by, ready, ready_by}
-use Rattle.history.specs.Object.{is_semaphore, opening_count}
+use Rattle.history.specs.Object.{is_lock, is_semaphore, opening_count}
+use Rattle.history.specs.Ownership.{is_away}
 use Rattle.history.specs.Phase.{Phase, Idle, InLine, Sleeping, phase, phase_by, suits}
+use Rattle.history.specs.Room.{arrival_owes, holds_owe, owed, sleeper_owes, sleepers_owe, sum_of}
 use Rattle.history.specs.Sleepers.{has, last_sleep, sleep_after, sleepers, sleepers_after, sleeps_below}
 use Rattle.history.specs.Start.{Sleep, Start}
 use Rattle.history.specs.Steps.{acquired, at_least_none, at_most_one, awaits, back, entry_for, gave, idle_entry, line_entry, phase_entry, plain, queued_entry, sleeping_entry, signals, tried, tried_fairly}
@@ -203,40 +205,40 @@ module _ (k : Header) (s t : Start) (g h : List Entry) (a : Alike k s t g h) whe
           (could_alike k.seats (held (on k t) h) (count (on k t) h) (free (on k s) g) (free (on k t) h) None
           b.seat k.object a.permits b.mode b.n)
 
+  -- the last sleep of one who comes back, and of one who sleeps
+  return_alike : (i : ℕ) (b : Arrival) → place_of i (line (on k s) g) ≡ Some b → b.back ≡ true →
+      last_sleep (on k s) g i ≡ last_sleep (on k t) h i
+  return_alike i b stands r =
+      subst (λ n. last_sleep (on k s) g n ≡ last_sleep (on k t) h n)
+      (place_once i (line (on k s) g) b stands).0
+      (placed (ReturnAlike k s t g h) i (line (on k s) g) b a.returning stands r)
+
+  sleep_alike : (i : ℕ) → phase (on k s) g i ≡ Sleeping → last_sleep (on k s) g i ≡ last_sleep (on k t) h i
+  sleep_alike i q =
+      let parts = sleeping_parts (place_of i (line (on k s) g)) (sleeps_below k.conditions (on k s) g i) q in
+      let r = sleeps_at k.conditions (on k s) g i parts.1 in
+      a.sleeping r.0 i r.2
+
   made_in_phase : (i : ℕ) (x : Step) (p : Phase) → phase (on k s) g i ≡ p → is_wrong_mode k.object x ≡ false →
       phase_entry (on k s) g i x p ≡ phase_entry (on k t) h i x p
   made_in_phase i x Idle q right = ap (λ e. Some e) (idle_alike i x right)
   made_in_phase i x (InLine b) q right =
       (λ j. line_entry (on k s) g (is_seat (ready_alike j) i) i b x) ∙ by b.back refl
     where
-      stands : place_of i (line (on k s) g) ≡ Some b
-      stands = in_line _ _ b q
-
       goes : Bool
       goes = is_seat (ready (on k t) h) i
-
-      saved : b.back ≡ true → last_sleep (on k s) g i ≡ last_sleep (on k t) h i
-      saved r =
-          subst (λ n. last_sleep (on k s) g n ≡ last_sleep (on k t) h n)
-          (place_once i (line (on k s) g) b stands).0
-          (placed (ReturnAlike k s t g h) i (line (on k s) g) b a.returning stands r)
 
       by : (r : Bool) → b.back ≡ r →
           cond r (cond goes (Some (back (on k s) g i)) None) (queued_entry goes i b x)
           ≡ cond r (cond goes (Some (back (on k t) h i)) None) (queued_entry goes i b x)
-      by true r = ap (λ (w : Sleep). cond goes (Some (back_from i w)) None) (saved r)
+      by true r =
+          ap (λ (w : Sleep). cond goes (Some (back_from i w)) None) (return_alike i b (in_line _ _ b q) r)
       by false r = refl
   made_in_phase i x Sleeping q right = by x
     where
-      saved : last_sleep (on k s) g i ≡ last_sleep (on k t) h i
-      saved =
-          let parts = sleeping_parts (place_of i (line (on k s) g)) (sleeps_below k.conditions (on k s) g i) q in
-          let r = sleeps_at k.conditions (on k s) g i parts.1 in
-          a.sleeping r.0 i r.2
-
       by : (x : Step) → sleeping_entry (on k s) g i x ≡ sleeping_entry (on k t) h i x
-      by step.Expire = ap (λ (w : Sleep). Some (lapse_from i w end.Timeout)) saved
-      by step.Interrupt = ap (λ (w : Sleep). Some (lapse_from i w end.Interrupt)) saved
+      by step.Expire = ap (λ (w : Sleep). Some (lapse_from i w end.Timeout)) (sleep_alike i q)
+      by step.Interrupt = ap (λ (w : Sleep). Some (lapse_from i w end.Interrupt)) (sleep_alike i q)
       by _ = refl
 
   pub entry_alike : (i : ℕ) (x : Step) → entry_for (on k s) g i x ≡ entry_for (on k t) h i x
@@ -360,3 +362,69 @@ pub named_alike : (k : Header) (s t : Start) (g h : List Entry) → Alike k s t 
     Alike k s t (e ∷ g) (e ∷ h) → named (on k s) g e ≡ named (on k t) h e
 named_alike k s t g h a e b =
     λ j. named_by (ready_alike k s t g h a j) (ready_alike k s t (e ∷ g) (e ∷ h) b j) e.seat
+
+-- What is owed.
+sum_alike : {A : Type 0} (f g : A → ℕ) (xs : List A) → AllByRecursion (λ x. f x ≡ g x) xs →
+    sum_of f xs ≡ sum_of g xs
+sum_alike f g [] same = refl
+sum_alike f g (x ∷ xs) same = λ j. same.0 j + sum_alike f g xs same.1 j
+
+each_of : (P : ℕ → Type 0) (xs : List ℕ) → ((i : ℕ) → has i xs ≡ true → P i) → AllByRecursion P xs
+each_of P [] well = tt
+each_of P (x ∷ xs) well = (
+  well x (ap (λ t. t || has x xs) (eq-eqb x x refl)),
+  each_of P xs (λ i t. well i (or_right (eqb x i) (has i xs) t)),
+)
+
+module _ (k : Header) (s t : Start) (g h : List Entry) (a : Alike k s t g h) where
+  sleepers_owe_alike : (c : ℕ) → sleepers_owe c (on k s) g ≡ sleepers_owe c (on k t) h
+  sleepers_owe_alike zero = refl
+  sleepers_owe_alike (suc c) =
+      λ j. sleepers_owe_alike c j + here j
+    where
+      here : sum_of (sleeper_owes (on k s) g) (sleepers (on k s) g c)
+          ≡ sum_of (sleeper_owes (on k t) h) (sleepers (on k t) h c)
+      here =
+          sum_alike (sleeper_owes (on k s) g) (sleeper_owes (on k t) h) (sleepers (on k s) g c)
+          (each_of (λ i. sleeper_owes (on k s) g i ≡ sleeper_owes (on k t) h i) (sleepers (on k s) g c)
+          (λ i there. ap (λ (w : Sleep). w.holds + 2) (a.sleeping c i there)))
+          ∙ (λ j. sum_of (sleeper_owes (on k t) h) (a.asleep j c))
+
+  arrival_alike : (b : Arrival) → ReturnAlike k s t g h b →
+      arrival_owes (on k s) g b ≡ arrival_owes (on k t) h b
+  arrival_alike b same = by b.back refl
+    where
+      by : (r : Bool) → b.back ≡ r →
+          cond r ((last_sleep (on k s) g b.seat).holds + 1) (cond (is_lock k.object) 2 1)
+          ≡ cond r ((last_sleep (on k t) h b.seat).holds + 1) (cond (is_lock k.object) 2 1)
+      by true e = ap (λ (w : Sleep). w.holds + 1) (same e)
+      by false e = refl
+
+  each_owes : (q : List Arrival) → AllByRecursion (ReturnAlike k s t g h) q →
+      AllByRecursion (λ b. arrival_owes (on k s) g b ≡ arrival_owes (on k t) h b) q
+  each_owes [] all = tt
+  each_owes (b ∷ q) all = (arrival_alike b all.0, each_owes q all.1)
+
+  pub owed_alike : owed (on k s) g ≡ owed (on k t) h
+  owed_alike = λ j. holding j + waiting j + sleepers_owe_alike k.conditions j
+    where
+      holding : holds_owe (on k s) g ≡ holds_owe (on k t) h
+      holding = λ j. cond (is_lock k.object) (total k.seats (λ i. a.holds j i X + a.holds j i S)) 0
+
+      waiting : sum_of (arrival_owes (on k s) g) (line (on k s) g)
+          ≡ sum_of (arrival_owes (on k t) h) (line (on k t) h)
+      waiting =
+          sum_alike (arrival_owes (on k s) g) (arrival_owes (on k t) h) (line (on k s) g)
+          (each_owes (line (on k s) g) a.returning)
+          ∙ ap (sum_of (arrival_owes (on k t) h)) a.stand
+
+  -- the last sleep of one who is away
+  pub away_alike : (i : ℕ) → is_away (phase (on k s) g i) ≡ true →
+      last_sleep (on k s) g i ≡ last_sleep (on k t) h i
+  away_alike i away = by (phase (on k s) g i) refl away
+    where
+      by : (p : Phase) → phase (on k s) g i ≡ p → is_away p ≡ true →
+          last_sleep (on k s) g i ≡ last_sleep (on k t) h i
+      by Idle q r = absurd (cc)
+      by (InLine b) q r = return_alike k s t g h a i b (in_line _ _ b q) r
+      by Sleeping q r = sleep_alike k s t g h a i q

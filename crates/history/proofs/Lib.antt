@@ -34,3 +34,4 @@ pub mod Alike
 pub mod GoodBases
 pub mod Folding
 pub mod OpeningBase
+pub mod Points

@@ -28,5 +28,6 @@ pub mod Conservation
 pub mod Ownership
 pub mod Waiting
 pub mod GoodBase
+pub mod Point
 pub mod Numbering
 pub mod Awaiting
