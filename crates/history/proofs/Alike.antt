@@ -188,7 +188,7 @@ module _ (k : Header) (s t : Start) (g h : List Entry) (a : Alike k s t g h) whe
   sleeps_alike zero i = refl
   sleeps_alike (suc c) i = λ j. has i (a.asleep j c) || sleeps_alike c i j
 
-  phase_alike : (i : ℕ) → phase (on k s) g i ≡ phase (on k t) h i
+  pub phase_alike : (i : ℕ) → phase (on k s) g i ≡ phase (on k t) h i
   phase_alike i = λ j. phase_by (place_of i (a.stand j)) (sleeps_alike k.conditions i j)
 
   ready_alike : ready (on k s) g ≡ ready (on k t) h

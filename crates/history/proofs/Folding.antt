@@ -150,7 +150,7 @@ left_free t u f c p = omega (arith, ints)
 free_at_first : (t u : ℕ) (c : ℤ) → pos t +ℤ ((c +ℤ pos u) -ℤ pos t) ≡ c +ℤ pos u
 free_at_first t u c = omega (arith, ints)
 
-based_conserved : (b : Base) → IsConserved (based b) []
+pub based_conserved : (b : Base) → IsConserved (based b) []
 based_conserved b =
     free_at_first (total b.header.seats (λ i. (seat_of b i).shared)) b.unheld (created b.header.object)
 

@@ -1,0 +1,14 @@
+use Rattle.history.specs.Base.{based}
+use Rattle.history.proofs.Folding.{based_conserved}
+use Rattle.history.proofs.GoodBases.{good_waits}
+use Rattle.history.proofs.OneWait.{waits_from}
+use Rattle.history.proofs.Permits.{conserved_from}
+use Rattle.laws.proofs.bases.a_base_conserves_permits_and_waits.Goals as goal
+
+pub returns : goal.returns
+returns c =
+    record {
+      permits = λ b h t can.
+          conserved_from (based b) h t (good_waits b can.good) (based_conserved b) can.legal can.seated;
+      once = λ b h good legal. (waits_from (based b) h (good_waits b good) legal).once;
+    }
