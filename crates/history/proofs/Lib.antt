@@ -34,4 +34,5 @@ pub mod Alike
 pub mod GoodBases
 pub mod Folding
 pub mod OpeningBase
+pub mod Queueing
 pub mod Points

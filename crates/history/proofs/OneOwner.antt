@@ -34,7 +34,7 @@ record Owned (s : Start) (h : List Entry) : Type 0 where
   shared : total s.header.seats (λ i. held s h i S) ≤ most_shared s.header.object
   seats : (i : ℕ) (m : Mode) → s.header.seats ≤ i → held s h i m ≡ 0
 
-none_or_some : (n : ℕ) → (n ≡ 0) ⊎ (0 < n)
+pub none_or_some : (n : ℕ) → (n ≡ 0) ⊎ (0 < n)
 none_or_some zero = inl refl
 none_or_some (suc n) = inr (omega arith)
 
