@@ -61,7 +61,7 @@ pub record Alike (k : Header) (s t : Start) (g h : List Entry) : Type 0 where
   pub returning : AllByRecursion (ReturnAlike k s t g h) (line (on k s) g)
 
 -- What could be taken, the limit, who is held back and what a give makes: free permits count for a semaphore.
-abbrev numbers : Object → ℕ → (ℕ → Mode → ℕ) → ℤ → ℕ → Counts
+abbrev pub numbers : Object → ℕ → (ℕ → Mode → ℕ) → ℤ → ℕ → Counts
 numbers o n had f c = record { object = o; seats = n; held = had; free = f; count = c }
 
 module _ (n : ℕ) (had : ℕ → Mode → ℕ) (c : ℕ) (f f' : ℤ) (first : Option Mode) (i : ℕ) where

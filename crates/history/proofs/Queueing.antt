@@ -24,6 +24,7 @@ use Rattle.history.specs.Ownership.{IsOwned, most_exclusive, most_shared}
 use Rattle.history.specs.Phase.{Idle, phase}
 use Rattle.history.specs.Start.{Start}
 use Rattle.history.specs.Steps.{acquired, awaits, entry_for, gave, idle_entry, phase_entry, plain, signals, tried, tried_fairly}
+use Rattle.history.proofs.Alike.{numbers}
 use Rattle.history.proofs.Entering.{Admitted, GaveWord, admitted, gave_word}
 use Rattle.history.proofs.OneOwner.{none_or_some}
 use Rattle.history.proofs.Owners.{nobody_holds, owner_holds}
@@ -124,9 +125,6 @@ owns_read : (b d reads behind full free : Bool) → b ≡ true → d ≡ true �
 owns_read true true reads behind full free r t q = q
 owns_read true false reads behind full free r t q = cc
 owns_read false d reads behind full free r t q = cc
-
-abbrev numbers : Object → ℕ → (ℕ → Mode → ℕ) → ℤ → ℕ → Counts
-numbers o n had f c = record { object = o; seats = n; held = had; free = f; count = c }
 
 is_owner : (o : Option ℕ) (i : ℕ) → o ≡ Some i → (is_seat o i ≡ true) × (is_none_or o i ≡ true)
 is_owner o i q = (
