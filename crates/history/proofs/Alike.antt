@@ -34,6 +34,7 @@ use Rattle.history.specs.Room.{arrival_owes, holds_owe, owed, sleeper_owes, slee
 use Rattle.history.specs.Sleepers.{has, last_sleep, sleep_after, sleepers, sleepers_after, sleeps_below}
 use Rattle.history.specs.Start.{Sleep, Start}
 use Rattle.history.specs.Steps.{acquired, at_least_none, at_most_one, awaits, back, entry_for, gave, idle_entry, line_entry, phase_entry, plain, queued_entry, sleeping_entry, signals, tried, tried_fairly}
+use Rattle.history.specs.Waiting.{asleep, seats_of, waiting}
 use Rattle.history.proofs.Entering.{Known, KnownBy, in_line}
 use Rattle.history.proofs.LineLemmas.{line_after, stays}
 use Rattle.history.proofs.OneWait.{all_come, last_sleep_own, placed, take_has}
@@ -428,3 +429,13 @@ module _ (k : Header) (s t : Start) (g h : List Entry) (a : Alike k s t g h) whe
       by Idle q r = absurd (cc)
       by (InLine b) q r = return_alike k s t g h a i b (in_line _ _ b q) r
       by Sleeping q r = sleep_alike k s t g h a i q
+
+-- Who waits.
+asleep_alike : (k : Header) (s t : Start) (g h : List Entry) → Alike k s t g h → (c : ℕ) →
+    asleep c (on k s) g ≡ asleep c (on k t) h
+asleep_alike k s t g h a zero = refl
+asleep_alike k s t g h a (suc c) = λ j. asleep_alike k s t g h a c j ++ a.asleep j c
+
+pub waiting_alike : (k : Header) (s t : Start) (g h : List Entry) → Alike k s t g h →
+    waiting (on k s) g ≡ waiting (on k t) h
+waiting_alike k s t g h a = λ j. seats_of (a.stand j) ++ asleep_alike k s t g h a k.conditions j

@@ -86,7 +86,7 @@ seat_folded : (b : Base) (g : List Entry) (i : ℕ) → i < b.header.seats →
 seat_folded b g i l = get_or-each b.header.seats (seat_after b g) i nothing l
 
 -- whoever is none of the seats holds nothing
-none_beyond : (b : Base) (g : List Entry) → length b.seats ≡ b.header.seats → AreSeated (based b) g → (i : ℕ) →
+pub none_beyond : (b : Base) (g : List Entry) → length b.seats ≡ b.header.seats → AreSeated (based b) g → (i : ℕ) →
     b.header.seats ≤ i → (m : Mode) → held (based b) g i m ≡ 0
 none_beyond b [] seats s i l m =
     ap (λ x. holds_of x m) (get_or_past b.seats i nothing (omega (arith, seats, l))) ∙ by m

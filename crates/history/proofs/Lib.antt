@@ -35,4 +35,5 @@ pub mod GoodBases
 pub mod Folding
 pub mod OpeningBase
 pub mod Queueing
+pub mod GoodFolds
 pub mod Points

@@ -1,5 +1,5 @@
 -- The rules of a base: which numbers and lists a history may have left.
-use Rattle.std.specs.Prelude.{◌≡◌, ◌≢◌, ◌⊎◌, ◌<◌, ◌≤◌, ℕ, Bool, true, false, List, [], length, ℤ, pos, ◌≤ℤ◌}
+use Rattle.std.specs.Prelude.{◌≡◌, ◌≢◌, ◌⊎◌, ◌<◌, ◌≤◌, ◌*◌, ℕ, Bool, true, false, List, [], length, ℤ, pos, ◌≤ℤ◌}
 use Rattle.std.specs.List.{AllByRecursion}
 use Rattle.history.specs.declared.base.Sleeper.{Sleeper}
 use Rattle.history.specs.declared.base.Standing.{Standing}
@@ -14,7 +14,7 @@ use Rattle.history.specs.Counts.{free, held}
 use Rattle.history.specs.Faults.{is_bad_number, lacks_mode}
 use Rattle.history.specs.Legal.{calls}
 use Rattle.history.specs.Line.{coming_back}
-use Rattle.history.specs.Object.{is_lock}
+use Rattle.history.specs.Object.{is_lock, is_semaphore}
 use Rattle.history.specs.Ownership.{IsOwned, most_exclusive}
 use Rattle.history.specs.Waiting.{IsOneWait}
 
@@ -89,6 +89,13 @@ pub record IsGood (b : Base) : Type 0 where
   pub once : IsOneWait (based b) []  -- nobody waits in two places
   pub line : AllByRecursion (StandsWell b) b.line
   pub sleepers : (c : ℕ) → AllByRecursion (SleepsWell b c) (sleepers_of b c)
+
+-- A base whose permits its entries can have moved: no request is for more than 2147483647. The fold of an opening
+-- is such a base, whatever comes of it.
+abbrev pub IsModest : Base → Type 0
+IsModest b =
+    is_semaphore b.header.object ≡ true →
+    (b.unheld ≤ 2147483647 * b.entries) × ((i : ℕ) → held (based b) [] i S ≤ 2147483647 * b.entries)
 
 -- The base of an object's history: that of its opening, or a good one of some entries.
 abbrev pub IsBaseOf : Header → Base → Type 0
