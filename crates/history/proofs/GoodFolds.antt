@@ -1,5 +1,5 @@
 -- The fold of legal entries on a good base is a good base.
-use Rattle.std.proofs.Common.{◌≡◌, ◌≢◌, ◌⊎◌, inl, inr, ⊎_elim, ℕ, zero, suc, ◌+◌, ◌-◌, ◌*◌, ◌<◌, ◌≤◌, Bool, true, false, ◌&&◌, cond, eqb, List, [], ◌∷◌, ◌++◌, map, take, length, get_or, Option, Some, None, Ok, refl, ap, ◌∙◌, sym, subst, arith}
+use Rattle.std.proofs.Common.{◌≡◌, ◌≢◌, ◌⊎◌, inl, inr, ⊎_elim, ℕ, zero, suc, ◌+◌, ◌-◌, ◌*◌, ◌<◌, ◌≤◌, Bool, true, false, ◌&&◌, ◌||◌, cond, eqb, List, [], ◌∷◌, ◌++◌, map, take, length, get_or, Option, Some, None, Ok, refl, ap, ◌∙◌, sym, subst, arith}
 use Rattle.std.specs.List.{filter, AllByRecursion}
 use Rattle.std.specs.Prelude.{ℤ, pos, ◌≤ℤ◌, FitsSigned}
 use Rattle.std.specs.Int.{w32}
@@ -18,7 +18,7 @@ use Rattle.history.specs.declared.header.Object.{Object}
 use Rattle.history.specs.declared.header.Object.TheVariants.{Lock, ReadWrite, Semaphore, Latch}
 use Rattle.history.specs.declared.step.Step.{Step}
 use Rattle.history.specs.Base.{Base, based, each_below, folded, nothing, seat_after, sleeper_after, sleepers_of, standing_after, stands_from}
-use Rattle.history.specs.Counts.{count, free, held, holds_after, unheld}
+use Rattle.history.specs.Counts.{count, free, held, holds_after, total, unheld}
 use Rattle.history.specs.Entry.{same_mode}
 use Rattle.history.specs.Faults.{is_bad_number, lacks_mode}
 use Rattle.history.specs.GoodBase.{AreCounted, AreHeld, ArePermits, GaveUp, IsGood, IsModest, SleepsWell, StandsWell, most_folded, most_permits}
@@ -151,7 +151,7 @@ queues_next s h e k owns all =
     by word.Counted w k = tt
     by word.Drained w k = tt
 
--- what is known of a base and legal entries behind it
+-- What is known of a base and legal entries behind it.
 module _ (b : Base) (good : IsGood b) where
   start : Waits (based b) []
   start = good_waits b good
@@ -166,7 +166,7 @@ module _ (b : Base) (good : IsGood b) where
         seats = λ i m l. none_beyond b [] good.seats tt i l m;
       }
 
-  owned_behind : (h : List Entry) → is_lock b.header.object ≡ true → IsLegal (based b) h →
+  pub owned_behind : (h : List Entry) → is_lock b.header.object ≡ true → IsLegal (based b) h →
       AreSeated (based b) h → IsOwned (based b) h
   owned_behind h lock legal s =
       is_owned (based b) h lock (waits_from (based b) h start legal)
@@ -222,3 +222,197 @@ module _ (b : Base) (good : IsGood b) where
   line_seated_on (e ∷ h) legal s =
       line_seated_next (based b) h e (waits_from (based b) h start legal.1)
       (known (based b) h legal.0.0 e legal.0.1) s.0 (line_seated_on h legal.1 s.1)
+
+-- the fold, rule by rule
+module _ (b : Base) (g : List Entry) (range : IsInRange b.header) (can : CanFold b g)
+    (few : b.entries + length g ≤ most_folded) (modest : IsModest b) where
+  waits : Waits (based b) g
+  waits = waits_from (based b) g (good_waits b can.good) can.legal
+
+  same : Alike b.header (based b) (based (folded b g)) g []
+  same = fold_alike b g can.good can.legal can.seated
+
+  held_at : (i : ℕ) (m : Mode) → held (based (folded b g)) [] i m ≡ held (based b) g i m
+  held_at i m = λ j. sym same.holds j i m
+
+  owned_fold : is_lock b.header.object ≡ true → IsOwned (based (folded b g)) []
+  owned_fold lock = of (owned_behind b can.good g lock can.legal can.seated) same.holds
+    where
+      of : IsOwned (based b) g → held (based b) g ≡ held (based (folded b g)) [] → IsOwned (based (folded b g)) []
+      of w q =
+          record {
+            one = subst (λ f. (i j : ℕ) → 0 < f i X → 0 < f j X → i ≡ j) q w.one;
+            alone = subst (λ f. (i j : ℕ) → 0 < f i X → 0 < f j S → i ≡ j) q w.alone;
+            exclusive = subst (λ f. (i : ℕ) → f i X ≤ most_exclusive b.header.object) q w.exclusive;
+            shared = subst (λ f. total b.header.seats (λ i. f i S) ≤ most_shared b.header.object) q w.shared;
+          }
+
+  first_fits : (o : Object) → b.header.object ≡ o → AreHeld o b → is_semaphore o ≡ true →
+      FitsSigned w32 (free (based b) [])
+  first_fits (Semaphore p c) q v t =
+      by c (free (based b) []) (subst (FitsSigned w32) (ap created q) (created_fits b.header range
+      (ap is_semaphore q))) v.lowest v.highest
+    where
+      by : (c f : ℤ) → FitsSigned w32 c → IsLow c f → f ≤ℤ pos 2147483647 → FitsSigned w32 f
+      by c f fits (inl low) high = omega (arith, ints)
+      by c f fits (inr low) high = omega (arith, ints)
+  first_fits (Lock p) q v t = absurd (cc)
+  first_fits (ReadWrite p) q v t = absurd (cc)
+  first_fits (Latch c) q v t = absurd (cc)
+
+  fits_first : is_semaphore b.header.object ≡ true → FitsSigned w32 (free (based b) [])
+  fits_first t = first_fits b.header.object refl can.good.held t
+
+  shared_few : is_semaphore b.header.object ≡ true → (i : ℕ) →
+      held (based (folded b g)) [] i S ≤ 2147483647 * (b.entries + length g)
+  shared_few t i =
+      let l = held_grows (based b) g t (good_waits b can.good) (fits_first t) can.legal i S in
+      let m = (modest t).1 i in
+      let e = held_at i S in
+      omega (arith, l, m, e)
+
+  unheld_few : is_semaphore b.header.object ≡ true →
+      unheld (based b) g ≤ 2147483647 * (b.entries + length g)
+  unheld_few t =
+      let l = unheld_grows (based b) g can.legal in
+      let m = (modest t).0 in
+      omega (arith, l, m)
+
+  permits_fold : (p : ℤ) → is_semaphore b.header.object ≡ true → ArePermits p b → ArePermits p (folded b g)
+  permits_fold c t v =
+      record {
+        exclusive = λ i.
+            held_at i X ∙ no_exclusive (based b) g t (good_waits b can.good) can.legal i ∙ v.exclusive i;
+        shared = λ i. (let l = shared_few t i in omega (arith, l, few));
+        lowest = subst (IsLow c) (same.permits t)
+            (low_on (based b) c g t (good_waits b can.good) v.lowest can.legal);
+        highest = high (free (based (folded b g)) [])
+            (subst (FitsSigned w32) (same.permits t)
+            (free_fits_on (based b) g t (good_waits b can.good) (fits_first t) can.legal));
+      }
+    where
+      high : (f : ℤ) → FitsSigned w32 f → f ≤ℤ pos 2147483647
+      high f p = omega (arith, ints)
+
+  held_fold : (o : Object) → b.header.object ≡ o → AreHeld o b → AreHeld o (folded b g)
+  held_fold (Lock p) q v = owned_fold (ap is_lock q)
+  held_fold (ReadWrite p) q v = owned_fold (ap is_lock q)
+  held_fold (Semaphore p c) q v = permits_fold c (ap is_semaphore q) v
+  held_fold (Latch c) q v =
+      λ i m. held_at i m ∙ latch_holds (based b) g (ap is_latch q) (good_waits b can.good) can.legal v i m
+
+  no_unheld : (o : Object) → b.header.object ≡ o → is_semaphore o ≡ false → b.unheld ≡ 0 →
+      unheld (based b) g ≡ 0
+  no_unheld o q f z = unheld_none (based b) g (ap is_semaphore q ∙ f) ∙ z
+
+  few_left : (o : Object) → b.header.object ≡ o → count (based b) g ≤ opening_count o
+  few_left o q =
+      let e = ap opening_count q in
+      omega (arith, e)
+
+  counted_fold : (o : Object) → b.header.object ≡ o → AreCounted o b → AreCounted o (folded b g)
+  counted_fold (Lock p) q v = (no_unheld (Lock p) q refl v.0, let l = few_left (Lock p) q in omega (arith, l))
+  counted_fold (ReadWrite p) q v =
+      (no_unheld (ReadWrite p) q refl v.0, let l = few_left (ReadWrite p) q in omega (arith, l))
+  counted_fold (Semaphore p c) q v = (
+    let l = unheld_few (ap is_semaphore q) in omega (arith, l, few),
+    let l = few_left (Semaphore p c) q in omega (arith, l),
+  )
+  counted_fold (Latch c) q v = (no_unheld (Latch c) q refl v.0, few_left (Latch c) q)
+
+  gave_up : (i : ℕ) → Saved (based b) g i →
+      GaveUp (folded b g) i (last_sleep (based b) g i).condition (last_sleep (based b) g i).holds
+  gave_up i w =
+      record {
+        lock = w.lock;
+        seat = w.seat;
+        condition = w.condition;
+        some = w.some;
+        most = subst (λ n. (last_sleep (based b) g i).holds ≤ n) (same_limit b.header.object) w.most;
+        nothing = λ m. held_at i m ∙ w.nothing m;
+      }
+
+  stands_fold : (q : List Arrival) → AllByRecursion (Queues (based b) g) q →
+      AllByRecursion (SavedIfBack (based b) g) q → LineSeated b.header.seats q →
+      AllByRecursion (StandsWell (folded b g)) (map (standing_after b g) q)
+  stands_fold [] asks saved seats = tt
+  stands_fold (a ∷ q) asks saved seats =
+      (by a.back refl, stands_fold q asks.1 saved.1 seats.1)
+    where
+      slept : Bool → Sleep
+      slept r = cond r (last_sleep (based b) g a.seat) awake
+
+      by : (r : Bool) → a.back ≡ r → StandsWell (folded b g) (stands_from a (cond a.back (last_sleep (based b) g a.seat) awake))
+      by false e =
+          let w = asks.0 e in
+          inl (e, record {
+            seat = seats.0;
+            mode = w.0;
+            amount = w.1;
+            owns = held_at a.seat X ∙ w.2;
+            condition = ap (λ r. (slept r).condition) e;
+            holds = ap (λ r. (slept r).holds) e;
+            how = ap (λ r. (slept r).how) e;
+          })
+      by true e =
+          let w = saved.0 e in
+          inr (e, record {
+            who = λ j. record { seat = a.seat; mode = w.mode j; n = w.n j; back = e j };
+            gave = subst (λ (x : Sleep). GaveUp (folded b g) a.seat x.condition x.holds) (ap slept (sym e))
+                (gave_up a.seat w.saved);
+            how = λ none. w.how (sym (ap (λ r. (slept r).how) e) ∙ none);
+          })
+
+  sleeps_fold : (c : ℕ) (xs : List ℕ) → ((i : ℕ) → has i xs ≡ true → Sleeps (based b) g c i) →
+      AllByRecursion (SleepsWell (folded b g) c) (map (sleeper_after b g) xs)
+  sleeps_fold c [] well = tt
+  sleeps_fold c (x ∷ xs) well =
+      let w = well x (ap (λ t. t || has x xs) (eq-eqb x x refl)) in (
+        subst (λ d. GaveUp (folded b g) x d (last_sleep (based b) g x).holds) w.condition (gave_up x w.saved),
+        sleeps_fold c xs (λ i t. well i (or_right (eqb x i) (has i xs) t)),
+      )
+
+  sleepers_fold : (c : ℕ) → AllByRecursion (SleepsWell (folded b g) c) (sleepers_of (folded b g) c)
+  sleepers_fold c = ⊎_elim within beyond (cases_below c b.header.conditions)
+    where
+      of : ℕ → List Sleeper
+      of c = map (sleeper_after b g) (sleepers (based b) g c)
+
+      within : c < b.header.conditions → AllByRecursion (SleepsWell (folded b g) c) (sleepers_of (folded b g) c)
+      within l =
+          subst (AllByRecursion (SleepsWell (folded b g) c)) (sym (get_or-each b.header.conditions of c [] l))
+          (sleeps_fold c (sleepers (based b) g c) (λ i t. waits.sleepers c i t))
+
+      beyond : b.header.conditions ≤ c → AllByRecursion (SleepsWell (folded b g) c) (sleepers_of (folded b g) c)
+      beyond l =
+          subst (AllByRecursion (SleepsWell (folded b g) c))
+          (sym (get_or_past (each_below b.header.conditions of) c []
+          (let n = length-each b.header.conditions of in omega (arith, n, l))))
+          tt
+
+  calls_few : calls (based (folded b g)) [] ≤ b.entries + length g
+  calls_few =
+      let e = sym same.ended in
+      let c = calls-ended (based b) g in
+      let l = ended_calls_le g in
+      let m = can.good.calls in
+      omega (arith, e, c, l, m)
+
+  pub fold_good : IsGood (folded b g)
+  fold_good =
+      record {
+        entries = few;
+        seats = length-each b.header.seats (seat_after b g);
+        conditions = length-each b.header.conditions (λ c. map (sleeper_after b g) (sleepers (based b) g c));
+        calls = calls_few;
+        counted = counted_fold b.header.object refl can.good.counted;
+        held = held_fold b.header.object refl can.good.held;
+        once = λ i. subst (λ l. times i l ≤ 1)
+            (waiting_alike b.header (based b) (based (folded b g)) g [] same) (waits.once i);
+        line = stands_fold (line (based b) g) (queues b can.good g can.legal can.seated) waits.line
+            (line_seated_on b can.good g can.legal can.seated);
+        sleepers = sleepers_fold;
+      }
+
+  pub fold_modest : IsModest (folded b g)
+  fold_modest t = (unheld_few t, shared_few t)

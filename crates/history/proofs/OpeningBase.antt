@@ -13,7 +13,7 @@ use Rattle.history.specs.declared.header.Object.{Object}
 use Rattle.history.specs.declared.header.Object.TheVariants.{Lock, ReadWrite, Semaphore, Latch}
 use Rattle.history.specs.Base.{based, each_below, either, holds_of, nothing, opening_base, or_awake, seat_of, sleep_below, sleep_on, sleepers_of}
 use Rattle.history.specs.Counts.{free, held, total}
-use Rattle.history.specs.GoodBase.{AreCounted, AreHeld, IsGood, SleepsWell}
+use Rattle.history.specs.GoodBase.{AreCounted, AreHeld, IsGood, IsModest, SleepsWell}
 use Rattle.history.specs.Header.{IsInRange}
 use Rattle.history.specs.Legal.{calls}
 use Rattle.history.specs.Object.{created, is_lock, is_semaphore, opening_count}
@@ -111,3 +111,6 @@ module _ (k : Header) where
         line = tt;
         sleepers = λ c. subst (AllByRecursion (SleepsWell (opening_base k) c)) (sym (no_sleepers c)) tt;
       }
+
+  pub opening_modest : IsModest (opening_base k)
+  opening_modest t = (omega arith, λ i. let z = nothing_held i S in omega (arith, z))
