@@ -5,7 +5,6 @@ use Rattle.std.specs.List.{filter, AllByRecursion}
 use Rattle.std.specs.Prelude.{ℤ, pos, ◌-ℤ◌, ◌+ℤ◌, int_le, int_lt}
 use Rattle.std.proofs.lemmas.Bool.{eq-eqb, or_right}
 use Rattle.history.specs.declared.arrival.Arrival.{Arrival}
-use Rattle.history.specs.declared.entry.End.{End}
 use Rattle.history.specs.declared.entry.End.TheVariants as end
 use Rattle.history.specs.declared.entry.Entry.{Entry}
 use Rattle.history.specs.declared.entry.Mode.{Mode}
@@ -20,7 +19,7 @@ use Rattle.history.specs.declared.header.Object.TheVariants.{Lock, ReadWrite, Se
 use Rattle.history.specs.declared.step.Step.{Step}
 use Rattle.history.specs.declared.step.Step.TheVariants as step
 use Rattle.history.specs.Awaiting.{back_from, lapse_from}
-use Rattle.history.specs.Could.{could, could_of, held_back, is_seat, limit}
+use Rattle.history.specs.Could.{could, held_back, is_seat, limit}
 use Rattle.history.specs.Counts.{Counts, beyond, count, counted, counted_after, counts, free, free_after, held, holds_after, total, unheld}
 use Rattle.history.specs.Entry.{ends_call, same_mode}
 use Rattle.history.specs.Faults.{is_bad_amount, is_no_condition, is_wrong_mode}

@@ -1,8 +1,8 @@
 -- A base and entries behind it, folded, says what they said.
-use Rattle.std.proofs.Common.{◌≡◌, ◌≢◌, ◌⊎◌, inl, inr, ⊎_elim, ℕ, zero, suc, ◌+◌, ◌-◌, ◌<◌, ◌≤◌, Bool, true, false, ◌&&◌, ◌||◌, not, cond, eqb, ltb, List, [], ◌∷◌, ◌++◌, map, length, get_or, Option, Some, None, refl, ap, ◌∙◌, sym, subst, arith}
-use Rattle.std.specs.List.{filter, AllByRecursion}
+use Rattle.std.proofs.Common.{◌≡◌, ◌≢◌, ⊎_elim, ℕ, zero, suc, ◌+◌, ◌-◌, ◌<◌, ◌≤◌, Bool, true, false, ◌&&◌, ◌||◌, cond, eqb, List, [], ◌∷◌, ◌++◌, map, length, get_or, Option, Some, None, refl, ap, ◌∙◌, sym, arith}
+use Rattle.std.specs.List.{AllByRecursion}
 use Rattle.std.specs.Prelude.{◌↔◌, ℤ, pos, ◌+ℤ◌, ◌-ℤ◌}
-use Rattle.std.proofs.lemmas.Bool.{cases_Bool, cases_eq, eqb-true, eq-eqb, ltb-true, ltb-false, ne_eqb, or_right}
+use Rattle.std.proofs.lemmas.Bool.{cases_eq, eqb-true, eq-eqb, ne_eqb, or_right}
 use Rattle.std.proofs.lemmas.Int.{ints}
 use Rattle.std.proofs.lemmas.List.{length-append, ext_get_or, get_or_append_left, get_or_at, get_or_past}
 use Rattle.history.specs.declared.arrival.Arrival.{Arrival}
@@ -15,21 +15,18 @@ use Rattle.history.specs.declared.entry.Mode.{Mode}
 use Rattle.history.specs.declared.entry.Mode.TheVariants.{X, S}
 use Rattle.history.specs.declared.header.Object.{Object}
 use Rattle.history.specs.declared.header.Object.TheVariants.{Lock, ReadWrite, Semaphore, Latch}
-use Rattle.history.specs.declared.step.Step.{Step}
 use Rattle.history.specs.Base.{Base, based, calls_of, each_below, either, folded, holds_of, nothing, or_awake, seat_after, seat_of, sleep_below, sleep_in_line, sleep_on, sleeper_after, sleepers_of, standing_after, stands_from}
 use Rattle.history.specs.Conservation.{IsConserved, permits_held}
-use Rattle.history.specs.Counts.{count, counted, free, held, total, unheld}
+use Rattle.history.specs.Counts.{counted, free, held, total, unheld}
 use Rattle.history.specs.Entry.{ends_call}
 use Rattle.history.specs.GoodBase.{AreCounted, IsGood, StandsWell}
 use Rattle.history.specs.Legal.{AreSeated, IsLegal, calls}
 use Rattle.history.specs.Line.{line}
-use Rattle.history.specs.Naming.{named}
 use Rattle.history.specs.Object.{created, is_semaphore, opening_count}
 use Rattle.history.specs.Sleepers.{has, last_sleep, sleepers}
-use Rattle.history.specs.Start.{Sleep, Start, awake}
-use Rattle.history.specs.Steps.{entry_for}
+use Rattle.history.specs.Start.{Sleep, awake}
 use Rattle.history.specs.Waiting.{seats_of, times}
-use Rattle.history.proofs.Alike.{Alike, ReturnAlike, alike_next, entry_alike, named_alike, on}
+use Rattle.history.proofs.Alike.{Alike, ReturnAlike, alike_next, entry_alike}
 use Rattle.history.proofs.Entering.{known}
 use Rattle.history.proofs.GoodBases.{good_waits, sleep_of, slept_there, waits_once}
 use Rattle.history.proofs.LineLemmas.{line_at_first}

@@ -1,30 +1,29 @@
 -- What a good base says of who waits.
-use Rattle.std.proofs.Common.{◌≡◌, ◌≢◌, ◌⊎◌, inl, inr, ⊎_elim, ℕ, zero, suc, ◌+◌, ◌<◌, ◌≤◌, Bool, true, false, ◌&&◌, ◌||◌, cond, eqb, List, [], ◌∷◌, ◌++◌, map, filter, length, get_or, Option, Some, None, refl, ap, ◌∙◌, sym, subst, arith}
+use Rattle.std.proofs.Common.{◌≡◌, ◌≢◌, ⊎_elim, ℕ, zero, suc, ◌+◌, ◌<◌, ◌≤◌, Bool, true, false, ◌&&◌, ◌||◌, cond, eqb, List, [], ◌∷◌, map, Some, None, refl, ap, ◌∙◌, sym, subst, arith}
 use Rattle.std.specs.List.{AllByRecursion}
-use Rattle.std.proofs.lemmas.Bool.{cases_eq, eqb-true, eq-eqb, ne_eqb, or_right}
+use Rattle.std.proofs.lemmas.Bool.{cases_eq, eqb-true, eq-eqb, or_right}
 use Rattle.history.specs.declared.arrival.Arrival.{Arrival}
 use Rattle.history.specs.declared.base.Sleeper.{Sleeper}
 use Rattle.history.specs.declared.base.Standing.{Standing}
 use Rattle.history.specs.declared.entry.End.TheVariants as end
-use Rattle.history.specs.declared.entry.Entry.{Entry}
 use Rattle.history.specs.declared.entry.Mode.TheVariants.{X}
 use Rattle.history.specs.declared.header.Object.{Object}
 use Rattle.history.specs.declared.header.Object.TheVariants.{Lock, ReadWrite, Semaphore, Latch}
 use Rattle.history.specs.Base.{Base, based, either, or_awake, sleep_below, sleep_in_line, sleep_on, sleepers_of}
 use Rattle.history.specs.Counts.{held, total}
-use Rattle.history.specs.GoodBase.{AreHeld, GaveUp, IsGood, Returns, SleepsWell, StandsWell}
-use Rattle.history.specs.Line.{arrived_at, line, stands}
+use Rattle.history.specs.GoodBase.{AreHeld, GaveUp, IsGood, SleepsWell, StandsWell}
+use Rattle.history.specs.Line.{line}
 use Rattle.history.specs.Object.{is_lock}
-use Rattle.history.specs.Ownership.{IsOwned, most_exclusive}
+use Rattle.history.specs.Ownership.{IsOwned}
 use Rattle.history.specs.Sleepers.{has, last_sleep, sleepers}
-use Rattle.history.specs.Start.{Sleep, Start}
-use Rattle.history.specs.Waiting.{seats_of, times, waiting}
+use Rattle.history.specs.Start.{Sleep}
+use Rattle.history.specs.Waiting.{seats_of, times}
 use Rattle.history.proofs.LineLemmas.{line_at_first}
 use Rattle.history.proofs.OneOwner.{same_limit}
-use Rattle.history.proofs.OneWait.{ComesBack, Saved, SavedIfBack, Sleeps, Waits}
+use Rattle.history.proofs.OneWait.{Saved, SavedIfBack, Sleeps, Waits}
 use Rattle.history.proofs.Owners.{most_holds}
 use Rattle.history.proofs.SleepLemmas.{times-waiting}
-use Rattle.history.proofs.Times.{has_not, has_once, never_has, once_same, total_part}
+use Rattle.history.proofs.Times.{has_once, never_has, once_same, total_part}
 
 abbrev pub sleep_of : ℕ → ℕ → Sleep
 sleep_of c n = record { condition = c; holds = n; how = end.Signalled }

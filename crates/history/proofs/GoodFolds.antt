@@ -1,6 +1,6 @@
 -- The fold of legal entries on a good base is a good base.
-use Rattle.std.proofs.Common.{◌≡◌, ◌≢◌, ◌⊎◌, inl, inr, ⊎_elim, ℕ, zero, suc, ◌+◌, ◌-◌, ◌*◌, ◌<◌, ◌≤◌, Bool, true, false, ◌&&◌, ◌||◌, cond, eqb, List, [], ◌∷◌, ◌++◌, map, take, length, get_or, Option, Some, None, Ok, refl, ap, ◌∙◌, sym, subst, arith}
-use Rattle.std.specs.List.{filter, AllByRecursion}
+use Rattle.std.proofs.Common.{◌≡◌, ◌≢◌, inl, inr, ⊎_elim, ℕ, ◌+◌, ◌*◌, ◌<◌, ◌≤◌, Bool, true, false, ◌&&◌, ◌||◌, cond, eqb, List, [], ◌∷◌, map, take, length, Some, Ok, refl, ap, ◌∙◌, sym, subst, arith}
+use Rattle.std.specs.List.{AllByRecursion}
 use Rattle.std.specs.Prelude.{ℤ, pos, ◌≤ℤ◌, FitsSigned}
 use Rattle.std.specs.Int.{w32}
 use Rattle.std.proofs.lemmas.Bool.{eq-eqb, or_right}
@@ -17,11 +17,11 @@ use Rattle.history.specs.declared.entry.Word.TheVariants as word
 use Rattle.history.specs.declared.header.Object.{Object}
 use Rattle.history.specs.declared.header.Object.TheVariants.{Lock, ReadWrite, Semaphore, Latch}
 use Rattle.history.specs.declared.step.Step.{Step}
-use Rattle.history.specs.Base.{Base, based, each_below, folded, nothing, seat_after, sleeper_after, sleepers_of, standing_after, stands_from}
+use Rattle.history.specs.Base.{Base, based, each_below, folded, seat_after, sleeper_after, sleepers_of, standing_after, stands_from}
 use Rattle.history.specs.Counts.{count, free, held, holds_after, total, unheld}
 use Rattle.history.specs.Entry.{same_mode}
 use Rattle.history.specs.Faults.{is_bad_number, lacks_mode}
-use Rattle.history.specs.GoodBase.{AreCounted, AreHeld, ArePermits, GaveUp, IsGood, IsModest, SleepsWell, StandsWell, most_folded, most_permits}
+use Rattle.history.specs.GoodBase.{AreCounted, AreHeld, ArePermits, GaveUp, IsGood, IsModest, SleepsWell, StandsWell, most_folded}
 use Rattle.history.specs.Header.{IsInRange}
 use Rattle.history.specs.Legal.{AreSeated, IsLegal, calls}
 use Rattle.history.specs.Line.{arrivals_by, coming_back, line}
@@ -31,19 +31,19 @@ use Rattle.history.specs.Point.{CanFold}
 use Rattle.history.specs.Sleepers.{has, last_sleep, sleepers}
 use Rattle.history.specs.Start.{Sleep, Start, awake}
 use Rattle.history.specs.Steps.{entry_for}
-use Rattle.history.specs.Waiting.{IsOneWait, times, waiting}
+use Rattle.history.specs.Waiting.{times}
 use Rattle.history.proofs.Alike.{Alike, waiting_alike}
 use Rattle.history.proofs.Entering.{Known, KnownBy, known}
 use Rattle.history.proofs.Folding.{fold_alike, get_or-each, length-each, none_beyond}
 use Rattle.history.proofs.GoodBases.{good_owned, good_waits}
-use Rattle.history.proofs.LineLemmas.{line_after, line_at_first, stays}
+use Rattle.history.proofs.LineLemmas.{line_after, line_at_first}
 use Rattle.history.proofs.Lists.{calls-ended, ended_calls_le}
 use Rattle.history.proofs.OneOwner.{Owned, cases_below, is_owned, owned_on, same_limit}
-use Rattle.history.proofs.OneWait.{ComesBack, Saved, SavedIfBack, Sleeps, Waits, acts, line_stays, placed, waits_from}
+use Rattle.history.proofs.OneWait.{Saved, SavedIfBack, Sleeps, Waits, acts, line_stays, placed, waits_from}
 use Rattle.history.proofs.Permits.{IsLow, created_fits, free_fits_on, held_grows, low_on, no_exclusive, unheld_grows, unheld_none}
 use Rattle.history.proofs.Queueing.{joining_owns_nothing}
 use Rattle.history.proofs.SleepLemmas.{held_other}
-use Rattle.history.proofs.Times.{each-append, each-filter}
+use Rattle.history.proofs.Times.{each-append}
 use Rattle.history.proofs.WhoWaits.{LineSeated, line_seated_next}
 
 -- nobody holds anything of a latch
@@ -195,7 +195,7 @@ module _ (b : Base) (good : IsGood b) where
   queues_at_first [] all = tt
   queues_at_first (p ∷ q) all = (
     λ r. ⊎_elim (λ asks. (asks.1.mode, asks.1.amount, asks.1.owns)) (λ comes. let t = comes.0 in absurd (cc (r, t)))
-    all.0,
+        all.0,
     queues_at_first q all.1,
   )
 
@@ -345,23 +345,29 @@ module _ (b : Base) (g : List Entry) (range : IsInRange b.header) (can : CanFold
       by : (r : Bool) → a.back ≡ r → StandsWell (folded b g) (stands_from a (cond a.back (last_sleep (based b) g a.seat) awake))
       by false e =
           let w = asks.0 e in
-          inl (e, record {
-            seat = seats.0;
-            mode = w.0;
-            amount = w.1;
-            owns = held_at a.seat X ∙ w.2;
-            condition = ap (λ r. (slept r).condition) e;
-            holds = ap (λ r. (slept r).holds) e;
-            how = ap (λ r. (slept r).how) e;
-          })
+          inl (
+            e,
+            record {
+              seat = seats.0;
+              mode = w.0;
+              amount = w.1;
+              owns = held_at a.seat X ∙ w.2;
+              condition = ap (λ r. (slept r).condition) e;
+              holds = ap (λ r. (slept r).holds) e;
+              how = ap (λ r. (slept r).how) e;
+            },
+          )
       by true e =
           let w = saved.0 e in
-          inr (e, record {
-            who = λ j. record { seat = a.seat; mode = w.mode j; n = w.n j; back = e j };
-            gave = subst (λ (x : Sleep). GaveUp (folded b g) a.seat x.condition x.holds) (ap slept (sym e))
-                (gave_up a.seat w.saved);
-            how = λ none. w.how (sym (ap (λ r. (slept r).how) e) ∙ none);
-          })
+          inr (
+            e,
+            record {
+              who = λ j. record { seat = a.seat; mode = w.mode j; n = w.n j; back = e j };
+              gave = subst (λ (x : Sleep). GaveUp (folded b g) a.seat x.condition x.holds) (ap slept (sym e))
+                  (gave_up a.seat w.saved);
+              how = λ none. w.how (sym (ap (λ r. (slept r).how) e) ∙ none);
+            },
+          )
 
   sleeps_fold : (c : ℕ) (xs : List ℕ) → ((i : ℕ) → has i xs ≡ true → Sleeps (based b) g c i) →
       AllByRecursion (SleepsWell (folded b g) c) (map (sleeper_after b g) xs)

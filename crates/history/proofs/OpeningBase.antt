@@ -1,5 +1,5 @@
 -- The base of an object as it is opened: it is the opening, and it is good.
-use Rattle.std.proofs.Common.{◌≡◌, ◌⊎◌, inl, inr, ⊎_elim, ℕ, zero, suc, ◌+◌, ◌-◌, ◌<◌, ◌≤◌, true, List, [], ◌∷◌, map, length, get_or, Option, None, refl, ap, ◌∙◌, sym, subst, arith}
+use Rattle.std.proofs.Common.{◌≡◌, inr, ⊎_elim, ℕ, zero, suc, ◌-◌, [], map, get_or, None, refl, ap, ◌∙◌, sym, subst, arith}
 use Rattle.std.specs.List.{AllByRecursion}
 use Rattle.std.specs.Prelude.{ℤ, pos, ◌+ℤ◌, ◌-ℤ◌, ◌≤ℤ◌}
 use Rattle.std.proofs.lemmas.Int.{ints}
@@ -12,13 +12,12 @@ use Rattle.history.specs.declared.header.Header.{Header}
 use Rattle.history.specs.declared.header.Object.{Object}
 use Rattle.history.specs.declared.header.Object.TheVariants.{Lock, ReadWrite, Semaphore, Latch}
 use Rattle.history.specs.Base.{based, each_below, either, holds_of, nothing, opening_base, or_awake, seat_of, sleep_below, sleep_on, sleepers_of}
-use Rattle.history.specs.Counts.{free, held, total}
+use Rattle.history.specs.Counts.{free, total}
 use Rattle.history.specs.GoodBase.{AreCounted, AreHeld, IsGood, IsModest, SleepsWell}
 use Rattle.history.specs.Header.{IsInRange}
-use Rattle.history.specs.Legal.{calls}
 use Rattle.history.specs.Object.{created, is_lock, is_semaphore, opening_count}
 use Rattle.history.specs.Ownership.{IsOwned}
-use Rattle.history.specs.Start.{Sleep, Start, awake, opening}
+use Rattle.history.specs.Start.{Start, opening}
 use Rattle.history.specs.Waiting.{IsOneWait}
 use Rattle.history.proofs.Folding.{get_or-each, length-each}
 use Rattle.history.proofs.OneOwner.{cases_below, owned}

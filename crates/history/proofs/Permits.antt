@@ -26,7 +26,7 @@ use Rattle.history.specs.Start.{Start, opening}
 use Rattle.history.specs.Steps.{at_least_none, gave}
 use Rattle.history.proofs.Asking.{asked_few}
 use Rattle.history.proofs.Entering.{Known, KnownBy, known}
-use Rattle.history.proofs.OneWait.{Waits, SavedIfBack, opening_waits, placed, waits, waits_from}
+use Rattle.history.proofs.OneWait.{Waits, SavedIfBack, opening_waits, placed, waits_from}
 use Rattle.history.proofs.Owners.{ready_could, semaphore_no_lock}
 use Rattle.history.proofs.Sums.{total_change, total_nothing, total_same}
 

@@ -3,7 +3,7 @@ use Rattle.std.proofs.Common.{◌≡◌, inl, inr, List, [], ◌∷◌, ◌++◌
 use Rattle.std.proofs.lemmas.List.{append_assoc}
 use Rattle.history.specs.declared.entry.Entry.{Entry}
 use Rattle.history.specs.Base.{Base, based, folded}
-use Rattle.history.specs.Legal.{AreSeated, IsLegal}
+use Rattle.history.specs.Legal.{AreSeated}
 use Rattle.history.specs.Point.{CanFold, ComesBefore, Grows, IsFolded, Point}
 use Rattle.history.specs.Start.{Start}
 use Rattle.history.proofs.Folding.{folds_on, legal_goes_on}

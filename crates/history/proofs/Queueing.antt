@@ -1,9 +1,7 @@
 -- Who joins the line owns nothing, and asks for what the object has.
-use Rattle.std.proofs.Common.{◌≡◌, ◌≢◌, ◌⊎◌, inl, inr, ⊎_elim, ℕ, zero, suc, ◌+◌, ◌<◌, ◌≤◌, Bool, true, false, not, ◌&&◌, ◌||◌, cond, eqb, ltb, List, [], ◌∷◌, ◌++◌, map, take, length, Option, Some, None, Ok, refl, ap, ◌∙◌, sym, subst, arith}
-use Rattle.std.specs.List.{filter, AllByRecursion}
+use Rattle.std.proofs.Common.{◌≡◌, ⊎_elim, ℕ, ◌<◌, ◌≤◌, Bool, true, false, not, ◌&&◌, ◌||◌, cond, eqb, ltb, List, Option, Some, None, Ok, refl, ap, ◌∙◌, sym, subst, arith}
 use Rattle.std.specs.Prelude.{ℤ}
-use Rattle.std.proofs.lemmas.Bool.{cases_eq, eq-eqb, eqb-true, lt-ltb}
-use Rattle.history.specs.declared.arrival.Arrival.{Arrival}
+use Rattle.std.proofs.lemmas.Bool.{cases_eq, eq-eqb, lt-ltb}
 use Rattle.history.specs.declared.entry.End.TheVariants as end
 use Rattle.history.specs.declared.entry.Entry.{Entry}
 use Rattle.history.specs.declared.entry.Mode.{Mode}
@@ -16,16 +14,16 @@ use Rattle.history.specs.declared.header.Object.TheVariants.{Lock, ReadWrite, Se
 use Rattle.history.specs.declared.step.Step.{Step}
 use Rattle.history.specs.declared.step.Step.TheVariants as step
 use Rattle.history.specs.Could.{is_none_or, is_seat, line_blocks, max_holds, max_shared}
-use Rattle.history.specs.Counts.{Counts, count, counts, free, held, owner, readers}
+use Rattle.history.specs.Counts.{count, counts, free, held, owner, readers}
 use Rattle.history.specs.Faults.{is_wrong_mode, lacks_mode}
 use Rattle.history.specs.Line.{first_mode}
 use Rattle.history.specs.Object.{is_lock}
 use Rattle.history.specs.Ownership.{IsOwned, most_exclusive, most_shared}
 use Rattle.history.specs.Phase.{Idle, phase}
 use Rattle.history.specs.Start.{Start}
-use Rattle.history.specs.Steps.{acquired, awaits, entry_for, gave, idle_entry, phase_entry, plain, signals, tried, tried_fairly}
+use Rattle.history.specs.Steps.{acquired, entry_for, idle_entry, phase_entry, plain}
 use Rattle.history.proofs.Alike.{numbers}
-use Rattle.history.proofs.Entering.{Admitted, GaveWord, admitted, gave_word}
+use Rattle.history.proofs.Entering.{GaveWord, admitted, gave_word}
 use Rattle.history.proofs.OneOwner.{none_or_some}
 use Rattle.history.proofs.Owners.{nobody_holds, owner_holds}
 

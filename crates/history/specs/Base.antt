@@ -66,7 +66,7 @@ abbrev pub sleep_in_line : ℕ → List Standing → Option Sleep
 sleep_in_line i [] = None
 sleep_in_line i (p ∷ rest) =
     if p.who.back && (p.who.seat == i) then
-        Some (record { condition = p.condition; holds = p.holds; how = p.how })
+    Some (record { condition = p.condition; holds = p.holds; how = p.how })
     else sleep_in_line i rest
 
 -- the sleep of a seat on a condition, and on one of so many; a signal ends it unless it lapses before

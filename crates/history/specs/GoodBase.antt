@@ -1,5 +1,5 @@
 -- The rules of a base: which numbers and lists a history may have left.
-use Rattle.std.specs.Prelude.{◌≡◌, ◌≢◌, ◌⊎◌, ◌<◌, ◌≤◌, ◌*◌, ℕ, Bool, true, false, List, [], length, ℤ, pos, ◌≤ℤ◌}
+use Rattle.std.specs.Prelude.{◌≡◌, ◌≢◌, ◌⊎◌, ◌<◌, ◌≤◌, ◌*◌, ℕ, true, false, [], length, ℤ, pos, ◌≤ℤ◌}
 use Rattle.std.specs.List.{AllByRecursion}
 use Rattle.history.specs.declared.base.Sleeper.{Sleeper}
 use Rattle.history.specs.declared.base.Standing.{Standing}
@@ -9,7 +9,7 @@ use Rattle.history.specs.declared.entry.Mode.TheVariants.{X, S}
 use Rattle.history.specs.declared.header.Header.{Header}
 use Rattle.history.specs.declared.header.Object.{Object}
 use Rattle.history.specs.declared.header.Object.TheVariants.{Lock, ReadWrite, Semaphore, Latch}
-use Rattle.history.specs.Base.{Base, based, opening_base, seat_of, sleepers_of}
+use Rattle.history.specs.Base.{Base, based, opening_base, sleepers_of}
 use Rattle.history.specs.Counts.{free, held}
 use Rattle.history.specs.Faults.{is_bad_number, lacks_mode}
 use Rattle.history.specs.Legal.{calls}

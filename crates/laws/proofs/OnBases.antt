@@ -1,5 +1,5 @@
 -- What two parts of a history say, where it can be folded.
-use Rattle.std.proofs.Common.{◌≡◌, ℕ, List, [], ◌∷◌, ◌++◌, sym}
+use Rattle.std.proofs.Common.{◌≡◌, ℕ, List, ◌∷◌, ◌++◌, sym}
 use Rattle.history.specs.declared.entry.Entry.{Entry}
 use Rattle.history.specs.declared.step.Step.{Step}
 use Rattle.history.specs.Base.{Base, based, folded}

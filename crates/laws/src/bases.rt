@@ -1,20 +1,20 @@
 //! Bases: the numbers and lists that entries leave stand for these entries.
 
-ghost use Rattle.std.specs.Prelude.{◌≡◌, ◌↔◌, ℕ, List, [], ◌∷◌, ◌++◌, true};
+ghost use Rattle.std.specs.Prelude.{◌≡◌, ◌↔◌, ◌+◌, ◌≤◌, ℕ, List, [], ◌∷◌, ◌++◌, length, true};
 ghost use Rattle.history.specs.declared.entry.Entry.{Entry};
 ghost use Rattle.history.specs.declared.header.Header.{Header};
 ghost use Rattle.history.specs.declared.step.Step.{Step};
 ghost use Rattle.history.specs.Base.{Base, based, folded, opening_base};
 ghost use Rattle.history.specs.Conservation.{IsConserved};
 ghost use Rattle.history.specs.Counts.{count, free, held, unheld};
-ghost use Rattle.history.specs.GoodBase.{IsGood};
+ghost use Rattle.history.specs.GoodBase.{IsGood, IsModest, most_folded};
 ghost use Rattle.history.specs.Header.{IsInRange};
 ghost use Rattle.history.specs.Legal.{AreSeated, IsLegal, calls};
 ghost use Rattle.history.specs.Line.{line};
 ghost use Rattle.history.specs.Naming.{named};
-ghost use Rattle.history.specs.Object.{is_semaphore};
+ghost use Rattle.history.specs.Object.{is_lock, is_semaphore};
 ghost use Rattle.history.specs.Order.{IsFairOrder, IsInOrder};
-ghost use Rattle.history.specs.Ownership.{is_away};
+ghost use Rattle.history.specs.Ownership.{IsOwned, is_away};
 ghost use Rattle.history.specs.Phase.{phase};
 ghost use Rattle.history.specs.Point.{CanFold, ComesBefore, Point};
 ghost use Rattle.history.specs.Room.{owed};
@@ -78,6 +78,16 @@ pub fn a_base_can_be_folded()
         folded (folded b g) h ≡ folded b (h ++ g) }
 {}
 
+/// The fold of legal entries on a good base is a good base, unless more are folded than there may be. Permits
+/// stay few where each entry folded moved no more than a request may be for, as from an opening on.
+pub fn the_fold_of_legal_entries_is_good()
+    ensures good { (b : Base) (g : List Entry) → IsInRange b.header → CanFold b g →
+        b.entries + length g ≤ most_folded → IsModest b → IsGood (folded b g) }
+    ensures modest { (b : Base) (g : List Entry) → IsInRange b.header → CanFold b g →
+        b.entries + length g ≤ most_folded → IsModest b → IsModest (folded b g) }
+    ensures opening { (k : Header) → IsModest (opening_base k) }
+{}
+
 /// What is seen of a history grows, or is folded with entries behind it: an order in which nothing that was
 /// seen is unsaid.
 pub fn what_is_seen_stands_in_order()
@@ -91,10 +101,12 @@ pub fn nobody_is_passed_on_a_base()
     ensures fair { (b : Base) (h : List Entry) → IsLegal (based b) h → IsFairOrder (based b) h }
 {}
 
-/// On a good base permits are conserved, and a seat waits once.
-pub fn a_base_conserves_permits_and_waits()
+/// On a good base permits are conserved, a lock has one owner, and a seat waits once.
+pub fn what_holds_of_a_history_holds_on_a_base()
     ensures permits { (b : Base) (h : List Entry) → is_semaphore b.header.object ≡ true → CanFold b h →
         IsConserved (based b) h }
+    ensures owner { (b : Base) (h : List Entry) → is_lock b.header.object ≡ true → CanFold b h →
+        IsOwned (based b) h }
     ensures once { (b : Base) (h : List Entry) → IsGood b → IsLegal (based b) h → IsOneWait (based b) h }
 {}
 

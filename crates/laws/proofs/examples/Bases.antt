@@ -1,11 +1,10 @@
 -- Worked examples of bases: what entries leave when they are folded, and how steps go on behind.
-use Rattle.std.specs.Prelude.{◌≡◌, ℕ, ◌++◌, true, false, List, [], ◌∷◌, Result, pos, negsuc, refl}
+use Rattle.std.specs.Prelude.{◌≡◌, ℕ, ◌++◌, false, List, [], ◌∷◌, Result, pos, negsuc, refl}
 use Rattle.history.specs.declared.arrival.Arrival.{Arrival}
 use Rattle.history.specs.declared.base.SeatBase.{SeatBase}
-use Rattle.history.specs.declared.base.Sleeper.{Sleeper}
 use Rattle.history.specs.declared.base.Standing.{Standing}
 use Rattle.history.specs.declared.entry.End.TheVariants as end
-use Rattle.history.specs.declared.entry.Mode.TheVariants.{X, S}
+use Rattle.history.specs.declared.entry.Mode.TheVariants.{X}
 use Rattle.history.specs.declared.fault.Fault.{Fault}
 use Rattle.history.specs.declared.fault.Fault.TheVariants.{HistoryFull}
 use Rattle.history.specs.declared.header.Header.{Header}
@@ -17,7 +16,7 @@ use Rattle.history.specs.Base.{Base, based, folded, opening_base}
 use Rattle.history.specs.Counts.{free}
 use Rattle.history.specs.Legal.{calls}
 use Rattle.history.specs.Line.{coming_back}
-use Rattle.laws.proofs.Told.{acquire, acquire_shared, await, comes_back, fault, gave, give, give_shared, got, interrupt, latch, lock, look, read_write, semaphore, signal, signalled, signals, try_shared, ◌wakes◌}
+use Rattle.laws.proofs.Told.{acquire, acquire_shared, await, comes_back, fault, gave, give, give_shared, got, interrupt, latch, lock, look, read_write, semaphore, signal, signalled, signals, ◌wakes◌}
 use Rattle.laws.proofs.examples.Pairs.{pairs}
 
 -- a list of steps behind a base: the answers, and the base that is left when its entries are folded

@@ -1,4 +1,4 @@
-use Rattle.std.proofs.Common.{sym, ap}
+use Rattle.std.proofs.Common.{sym}
 use Rattle.laws.proofs.OnBases.{behind}
 use Rattle.history.proofs.Alike.{away_alike, owed_alike, phase_alike}
 use Rattle.laws.proofs.bases.a_base_stands_for_its_entries.Goals as goal
