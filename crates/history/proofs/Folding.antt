@@ -78,7 +78,7 @@ seats_again b g [] = refl
 seats_again b g (x ∷ xs) = ap (λ l. x ∷ l) (seats_again b g xs)
 
 -- what a seat has of a fold
-seat_folded : (b : Base) (g : List Entry) (i : ℕ) → i < b.header.seats →
+pub seat_folded : (b : Base) (g : List Entry) (i : ℕ) → i < b.header.seats →
     seat_of (folded b g) i ≡ seat_after b g i
 seat_folded b g i l = get_or-each b.header.seats (seat_after b g) i nothing l
 

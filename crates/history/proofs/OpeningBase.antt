@@ -32,7 +32,7 @@ get_or-same n d i =
     (cases_below i n)
 
 module _ (k : Header) where
-  no_seat : (i : ℕ) → seat_of (opening_base k) i ≡ nothing
+  pub no_seat : (i : ℕ) → seat_of (opening_base k) i ≡ nothing
   no_seat i = get_or-same k.seats nothing i
 
   no_sleepers : (c : ℕ) → sleepers_of (opening_base k) c ≡ []

@@ -1,7 +1,8 @@
 -- What is seen of a history that may be folded: a base, and the entries behind it.
-use Rattle.std.specs.Prelude.{◌≡◌, ◌⊎◌, List, ◌++◌}
+use Rattle.std.specs.Prelude.{◌≡◌, ◌⊎◌, ℕ, ◌+◌, ◌==◌, List, [], ◌++◌, filter}
 use Rattle.history.specs.declared.entry.Entry.{Entry}
-use Rattle.history.specs.Base.{Base, based, folded}
+use Rattle.history.specs.Base.{Base, based, folded, seat_of}
+use Rattle.history.specs.Entries.{ended_calls}
 use Rattle.history.specs.GoodBase.{IsGood}
 use Rattle.history.specs.Legal.{AreSeated, IsLegal}
 
@@ -28,3 +29,20 @@ pub record IsFolded (p q : Point) : Type 0 where
 -- whoever sees the second point later has seen no other history
 abbrev pub ComesBefore : Point → Point → Type 0
 ComesBefore p q = Grows p q ⊎ IsFolded p q
+
+-- the entries of one seat
+abbrev pub entries_of : ℕ → List Entry → List Entry
+entries_of i h = filter (λ e. e.seat == i) h
+
+-- What a point has of all entries of a seat: the newest of them, and in its base the calls that the others ended.
+pub record Agrees (p : Point) (i : ℕ) (all : List Entry) : Type 0 where
+  pub older : List Entry
+  pub newest : all ≡ entries_of i p.entries ++ older
+  pub calls : (seat_of p.base i).calls + ended_calls (entries_of i p.entries) ≡ ended_calls all
+
+-- The second point follows the first by some entries: they were added to its list, or nothing was added and the
+-- list was folded.
+abbrev pub FollowsBy : Point → Point → List Entry → Type 0
+FollowsBy p q added =
+    ((q.base ≡ p.base) × (q.entries ≡ added ++ p.entries))
+    ⊎ ((q.base ≡ folded p.base p.entries) × (q.entries ≡ []) × (added ≡ []))
