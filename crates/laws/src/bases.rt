@@ -1,6 +1,7 @@
 //! Bases: the numbers and lists that entries leave stand for these entries.
 
-ghost use Rattle.std.specs.Prelude.{◌≡◌, ◌↔◌, ◌+◌, ◌≤◌, ℕ, List, [], ◌∷◌, ◌++◌, length, true};
+ghost use Rattle.std.specs.Prelude.{◌≡◌, ◌≢◌, ◌↔◌, ◌+◌, ◌≤◌, ℕ, List, [], ◌∷◌, ◌++◌, length, true};
+ghost use Rattle.std.specs.List.{AllByRecursion};
 ghost use Rattle.history.specs.declared.entry.Entry.{Entry};
 ghost use Rattle.history.specs.declared.header.Header.{Header};
 ghost use Rattle.history.specs.declared.step.Step.{Step};
@@ -16,7 +17,7 @@ ghost use Rattle.history.specs.Object.{is_lock, is_semaphore};
 ghost use Rattle.history.specs.Order.{IsFairOrder, IsInOrder};
 ghost use Rattle.history.specs.Ownership.{IsOwned, is_away};
 ghost use Rattle.history.specs.Phase.{phase};
-ghost use Rattle.history.specs.Point.{CanFold, ComesBefore, Point};
+ghost use Rattle.history.specs.Point.{Agrees, CanFold, ComesBefore, FollowsBy, Point};
 ghost use Rattle.history.specs.Room.{owed};
 ghost use Rattle.history.specs.Sleepers.{last_sleep, sleepers};
 ghost use Rattle.history.specs.Start.{opening};
@@ -93,6 +94,21 @@ pub fn the_fold_of_legal_entries_is_good()
 pub fn what_is_seen_stands_in_order()
     ensures same { (p : Point) → ComesBefore p p }
     ensures further { (p q r : Point) → ComesBefore p q → ComesBefore q r → ComesBefore p r }
+{}
+
+/// What follows a point comes after it. Of the seat whose entries were added it has these and what it had, and of
+/// every other seat what it had. Of an opening it has nothing.
+pub fn what_follows_comes_after()
+    ensures before { (p q : Point) (added : List Entry) → CanFold p.base p.entries → FollowsBy p q added →
+        ComesBefore p q }
+    ensures own { (p q : Point) (i : ℕ) (added all : List Entry) → CanFold p.base p.entries →
+        FollowsBy p q added → AllByRecursion (λ e. e.seat ≡ i) added → Agrees p i all →
+        Agrees q i (added ++ all) }
+    ensures other { (p q : Point) (i j : ℕ) (added all : List Entry) → CanFold p.base p.entries →
+        FollowsBy p q added → AllByRecursion (λ e. e.seat ≡ i) added → i ≢ j → Agrees p j all →
+        Agrees q j all }
+    ensures opening { (k : Header) (p : Point) (i : ℕ) → p.base ≡ opening_base k → p.entries ≡ [] →
+        Agrees p i [] }
 {}
 
 /// On a good base nobody in line is passed. Those who stood there came before all others.
