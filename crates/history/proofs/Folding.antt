@@ -1,10 +1,10 @@
 -- A base and entries behind it, folded, says what they said.
-use Rattle.std.proofs.Common.{◌≡◌, ◌≢◌, ⊎_elim, ℕ, zero, suc, ◌+◌, ◌-◌, ◌<◌, ◌≤◌, Bool, true, false, ◌&&◌, ◌||◌, cond, eqb, List, [], ◌∷◌, ◌++◌, map, length, get_or, Option, Some, None, refl, ap, ◌∙◌, sym, arith}
+use Rattle.std.proofs.Common.{◌≡◌, ◌≢◌, ⊎_elim, ℕ, zero, suc, ◌+◌, ◌-◌, ◌<◌, ◌≤◌, Bool, true, false, ◌&&◌, ◌||◌, cond, eqb, List, [], ◌∷◌, ◌++◌, map, length, get_or, replicate, Option, Some, None, refl, ap, ◌∙◌, sym, arith}
 use Rattle.std.specs.List.{AllByRecursion}
 use Rattle.std.specs.Prelude.{◌↔◌, ℤ, pos, ◌+ℤ◌, ◌-ℤ◌}
 use Rattle.std.proofs.lemmas.Bool.{cases_eq, eqb-true, eq-eqb, ne_eqb, or_right}
 use Rattle.std.proofs.lemmas.Int.{ints}
-use Rattle.std.proofs.lemmas.List.{length-append, ext_get_or, get_or_append_left, get_or_at, get_or_past}
+use Rattle.std.proofs.lemmas.List.{length-append, length-replicate, ext_get_or, get_or-replicate, get_or_append_left, get_or_at, get_or_past}
 use Rattle.history.specs.declared.arrival.Arrival.{Arrival}
 use Rattle.history.specs.declared.base.SeatBase.{SeatBase}
 use Rattle.history.specs.declared.base.Sleeper.{Sleeper}
@@ -61,6 +61,13 @@ get_or-each (suc n) f i d l =
         let m : i < n = omega (arith, ne, l) in
         get_or_append_left (each_below n f) (f n ∷ []) d i (let n = length-each n f in omega (arith, n, m))
         ∙ ih m
+
+pub each_same : {A : Type 0} (n : ℕ) (d : A) → each_below n (λ i. d) ≡ replicate n d
+each_same n d =
+    ext_get_or d (each_below n (λ i. d)) (replicate n d) (length-each n (λ i. d) ∙ sym (length-replicate n d))
+    (λ i l.
+    let m : i < n = let e = length-each n (λ (i : ℕ). d) in omega (arith, e, l) in
+    get_or-each n (λ i. d) i d m ∙ sym (get_or-replicate n i d d m))
 
 pub each_agree : {A : Type 0} (n : ℕ) (f g : ℕ → A) → ((i : ℕ) → i < n → f i ≡ g i) →
     each_below n f ≡ each_below n g
