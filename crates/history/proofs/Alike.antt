@@ -1,5 +1,6 @@
--- Two starts, each with entries behind it, of which the definitions say the same: they say the same of whatever
--- comes next. Free permits count for a semaphore alone, and a last sleep for one who sleeps or comes back.
+-- Two starts, each with entries behind it, of which the definitions say the same: they say the same of
+-- whatever comes next. Free permits count for a semaphore alone, and a last sleep for one who sleeps or comes
+-- back.
 use Rattle.std.proofs.Common.{◌≡◌, ℕ, zero, suc, ◌+◌, ◌-◌, ◌==◌, Bool, true, false, ◌&&◌, ◌||◌, not, cond, eqb, List, [], ◌∷◌, ◌++◌, map, take, length, Option, Some, None, Result, Ok, Err, refl, ap, ◌∙◌, sym, subst, ⊎_elim, arith}
 use Rattle.std.specs.List.{filter, AllByRecursion}
 use Rattle.std.specs.Prelude.{ℤ, pos, ◌-ℤ◌, ◌+ℤ◌, int_le, int_lt}
@@ -140,20 +141,23 @@ module _ (o : Object) (n : ℕ) (had : ℕ → Mode → ℕ) (c : ℕ) (f f' : �
   limit_at : (m : Mode) → limit (numbers o n had f c) i m ≡ limit (numbers o n had f' c) i m
   limit_at = limit_alike n had c f f' first i o
 
-  back_at : (m : Mode) → held_back (numbers o n had f c) first i m ≡ held_back (numbers o n had f' c) first i m
+  back_at : (m : Mode) →
+      held_back (numbers o n had f c) first i m ≡ held_back (numbers o n had f' c) first i m
   back_at = back_alike n had c f f' first i o
 
   made_alike : (x : Step) → is_wrong_mode o x ≡ false →
       made o (numbers o n had f c) first asleep i x ≡ made o (numbers o n had f' c) first asleep i x
   made_alike (step.Acquire m x) right =
       λ j. plain i (cond (back_at m j) word.Queued
-      (cond (limit_at m j) (word.Refused fault.TooManyHolds) (cond (could_at m x j) word.Got word.Queued))) m x
+      (cond (limit_at m j) (word.Refused fault.TooManyHolds)
+      (cond (could_at m x j) word.Got word.Queued))) m x
   made_alike (step.Try m x) right =
       λ j. plain i (cond (limit_at m j) (word.Refused fault.TooManyHolds)
       (cond (could_at m x j) word.TryGot word.Missed)) m x
   made_alike (step.TryFair m x) right =
       λ j. plain i (cond (back_at m j) word.Missed
-      (cond (limit_at m j) (word.Refused fault.TooManyHolds) (cond (could_at m x j) word.Got word.Missed))) m x
+      (cond (limit_at m j) (word.Refused fault.TooManyHolds)
+      (cond (could_at m x j) word.Got word.Missed))) m x
   made_alike (step.EntryInterrupt m x) right = refl
   made_alike (step.Give m x) right =
       ap (λ w. plain i w m x) (gave_alike n had c f f' first i o same m x)
@@ -193,7 +197,8 @@ module _ (k : Header) (s t : Start) (g h : List Entry) (a : Alike k s t g h) whe
 
   ready_alike : ready (on k s) g ≡ ready (on k t) h
   ready_alike =
-      (λ j. ready_by (numbers k.object k.seats (a.holds j) (free (on k s) g) (a.left j)) (first_of (a.stand j)))
+      (λ j. ready_by (numbers k.object k.seats (a.holds j) (free (on k s) g) (a.left j))
+      (first_of (a.stand j)))
       ∙ by (first_of (line (on k t) h))
     where
       by : (first : Option Arrival) →
@@ -296,7 +301,8 @@ module _ (k : Header) (s t : Start) (g h : List Entry) (a : Alike k s t g h) (e 
       last_sleep (on k s) (e ∷ g) i ≡ last_sleep (on k t) (e ∷ h) i
   sleeping_next c i here =
       ⊎_elim (λ before. sleep_kept i (a.sleeping c i before))
-      (λ new. subst (λ n. last_sleep (on k s) (e ∷ g) n ≡ last_sleep (on k t) (e ∷ h) n) new.2 (sleep_begun new.0))
+      (λ new. subst (λ n. last_sleep (on k s) (e ∷ g) n ≡ last_sleep (on k t) (e ∷ h) n) new.2
+      (sleep_begun new.0))
       (slept_before (on k s) e g c i here)
 
   returns_kept : (b : Arrival) → ReturnAlike k s t g h b → ReturnAlike k s t (e ∷ g) (e ∷ h) b
@@ -317,7 +323,8 @@ module _ (k : Header) (s t : Start) (g h : List Entry) (a : Alike k s t g h) (e 
       all_come (ReturnAlike k s t (e ∷ g) (e ∷ h)) (sleepers (on k s) g e.at)
       (λ i here r. sleep_kept i (a.sleeping e.at i here))
   returning_by word.Lapse known =
-      let parts = sleeping_parts (place_of e.seat (line (on k s) g)) (sleeps_below k.conditions (on k s) g e.seat)
+      let parts = sleeping_parts (place_of e.seat (line (on k s) g))
+      (sleeps_below k.conditions (on k s) g e.seat)
       known.0 in
       let r = sleeps_at k.conditions (on k s) g e.seat parts.1 in
       (λ b. sleep_kept e.seat (a.sleeping r.0 e.seat r.2), tt)

@@ -90,7 +90,8 @@ pub seat_folded : (b : Base) (g : List Entry) (i : ℕ) → i < b.header.seats �
 seat_folded b g i l = get_or-each b.header.seats (seat_after b g) i nothing l
 
 -- whoever is none of the seats holds nothing
-pub none_beyond : (b : Base) (g : List Entry) → length b.seats ≡ b.header.seats → AreSeated (based b) g → (i : ℕ) →
+pub none_beyond : (b : Base) (g : List Entry) → length b.seats ≡ b.header.seats → AreSeated (based b) g →
+    (i : ℕ) →
     b.header.seats ≤ i → (m : Mode) → held (based b) g i m ≡ 0
 none_beyond b [] seats s i l m =
     ap (λ x. holds_of x m) (get_or_past b.seats i nothing (omega (arith, seats, l))) ∙ by m
@@ -267,7 +268,8 @@ module _ (b : Base) (g : List Entry) (i : ℕ) where
       by false e ih =
           ap (λ w. either w (sleep_below n (folded b g) i))
           (on ∙ ap (λ r. cond r (Some (last_sleep (based b) g i)) None) e)
-          ∙ ih (let ne : n ≢ c = λ same. (let u = ap (λ x. has i (sleepers (based b) g x)) same in cc (t, e, u)) in
+          ∙ ih (let ne : n ≢ c = λ same. (let u = ap (λ x. has i (sleepers (based b) g x)) same in
+          cc (t, e, u)) in
           omega (arith, m, ne))
 
   -- the last sleep, where a fold finds the seat in its line or on its conditions
@@ -276,7 +278,8 @@ module _ (b : Base) (g : List Entry) (i : ℕ) where
       last_sleep (based b) g i ≡ last_sleep (based (folded b g)) [] i
   slept r e below =
       sym (ap (λ w. or_awake (either w other))
-      (line_found (line (based b) g) ∙ ap (λ x. cond x (Some (last_sleep (based b) g i)) None) e) ∙ by r below)
+      (line_found (line (based b) g) ∙ ap (λ x. cond x (Some (last_sleep (based b) g i)) None) e)
+      ∙ by r below)
     where
       other : Option Sleep
       other = sleep_below b.header.conditions (folded b g) i
@@ -343,7 +346,8 @@ legal_parts : (b : Base) (g h : List Entry) → IsGood b → AreSeated (based b)
 legal_parts b g [] good s l = (l, tt)
 legal_parts b g (e ∷ h) good s l =
     let rest = legal_parts b g h good s l.1 in
-    let same = entry_alike b.header (based b) (based (folded b g)) (h ++ g) h (goes_on b g h good s l.1) e.seat
+    let same = entry_alike b.header (based b) (based (folded b g)) (h ++ g) h (goes_on b g h good s l.1)
+    e.seat
     l.0.0 in
     (rest.0, ((l.0.0, sym same ∙ l.0.1), rest.1))
 
@@ -352,7 +356,8 @@ legal_whole : (b : Base) (g h : List Entry) → IsGood b → AreSeated (based b)
 legal_whole b g [] good s l m = l
 legal_whole b g (e ∷ h) good s l m =
     let front = legal_whole b g h good s l m.1 in
-    let same = entry_alike b.header (based b) (based (folded b g)) (h ++ g) h (goes_on b g h good s front) e.seat
+    let same = entry_alike b.header (based b) (based (folded b g)) (h ++ g) h (goes_on b g h good s front)
+    e.seat
     m.0.0 in
     ((m.0.0, same ∙ m.0.1), front)
 
@@ -369,7 +374,8 @@ standing_alike b g h (a ∷ q) all =
     λ j. stands_from a (sleep a.back refl j) ∷ standing_alike b g h q all.1 j
   where
     sleep : (r : Bool) → a.back ≡ r →
-        cond r (last_sleep (based (folded b g)) h a.seat) awake ≡ cond r (last_sleep (based b) (h ++ g) a.seat) awake
+        cond r (last_sleep (based (folded b g)) h a.seat) awake
+        ≡ cond r (last_sleep (based b) (h ++ g) a.seat) awake
     sleep true e = sym (all.0 e)
     sleep false e = refl
 
@@ -553,7 +559,8 @@ sleepers_again b good c (x ∷ xs) kept up =
   where
     same : (last_sleep (based b) [] x.seat).holds ≡ x.holds
     same =
-        let there = up x.seat (ap (λ t. t || has x.seat (map (λ x. x.seat) xs)) (eq-eqb x.seat x.seat refl)) in
+        let there = up x.seat (ap (λ t. t || has x.seat (map (λ x. x.seat) xs)) (eq-eqb x.seat x.seat refl))
+        in
         let found = slept_there b good c x.seat there in
         let one : Some (sleep_of c found.0) ≡ Some kept.0.0 = sym found.1 ∙ kept.0.1 in
         ap (λ (w : Sleep). w.holds) (found.2 ∙ one_found (sleep_of c found.0) kept.0.0 one) ∙ kept.0.2

@@ -84,7 +84,8 @@ not_in_line i (p ∷ q) z =
         cond (r && t) (Some (record { condition = p.condition; holds = p.holds; how = p.how }))
         (sleep_in_line i q)
         ≡ None
-    by true true e ih = let o = once_same p.who.seat i (eqb-true p.who.seat i e) in absurd (omega (arith, z, o))
+    by true true e ih =
+        let o = once_same p.who.seat i (eqb-true p.who.seat i e) in absurd (omega (arith, z, o))
     by true false e ih = ih
     by false t e ih = ih
 
@@ -196,7 +197,8 @@ module _ (b : Base) (good : IsGood b) where
       in_no_line : sleep_in_line i b.line ≡ None
       in_no_line =
           not_in_line i b.line
-          (let part = total_part b.header.conditions (λ d. times i (map (λ x. x.seat) (sleepers_of b d))) c below in
+          (let part = total_part b.header.conditions (λ d. times i (map (λ x. x.seat) (sleepers_of b d))) c
+          below in
           let o = has_once i (map (λ x. x.seat) (sleepers_of b c)) t in
           let w = waits_once i in
           omega (arith, part, o, w))

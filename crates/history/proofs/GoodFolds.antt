@@ -47,7 +47,8 @@ use Rattle.history.proofs.Times.{each-append}
 use Rattle.history.proofs.WhoWaits.{LineSeated, line_seated_next}
 
 -- nobody holds anything of a latch
-latch_keeps : (o : Object) (w : Word) (n : ℕ) → is_latch o ≡ true → (w ≡ word.Drained → ⊥) → (w ≡ word.Back → ⊥) →
+latch_keeps : (o : Object) (w : Word) (n : ℕ) → is_latch o ≡ true → (w ≡ word.Drained → ⊥) →
+    (w ≡ word.Back → ⊥) →
     holds_after o w n 0 ≡ 0
 latch_keeps (Latch c) word.Got n t d k = refl
 latch_keeps (Latch c) word.TryGot n t d k = refl
@@ -90,7 +91,8 @@ latch_holds s (e ∷ h) t v legal none i m =
     not_back w =
         let d : KnownBy s h e word.Back = subst (KnownBy s h e) w k in
         let f = lacks.0 in
-        let y = (placed (SavedIfBack s h) e.seat (line s h) d.0 (waits_from s h v legal.1).line d.1 d.2).saved.lock in
+        let y = (placed (SavedIfBack s h) e.seat (line s h) d.0
+        (waits_from s h v legal.1).line d.1 d.2).saved.lock in
         cc (y, f)
 
     by : (b : Bool) → held s h i m ≡ 0 →
@@ -194,7 +196,8 @@ module _ (b : Base) (good : IsGood b) where
       AllByRecursion (Queues (based b) []) (map (λ p. p.who) q)
   queues_at_first [] all = tt
   queues_at_first (p ∷ q) all = (
-    λ r. ⊎_elim (λ asks. (asks.1.mode, asks.1.amount, asks.1.owns)) (λ comes. let t = comes.0 in absurd (cc (r, t)))
+    λ r. ⊎_elim (λ asks. (asks.1.mode, asks.1.amount, asks.1.owns))
+        (λ comes. let t = comes.0 in absurd (cc (r, t)))
         all.0,
     queues_at_first q all.1,
   )
@@ -202,7 +205,8 @@ module _ (b : Base) (good : IsGood b) where
   queues : (h : List Entry) → IsLegal (based b) h → AreSeated (based b) h →
       AllByRecursion (Queues (based b) h) (line (based b) h)
   queues [] legal s =
-      subst (AllByRecursion (Queues (based b) [])) (sym (line_at_first (based b))) (queues_at_first b.line good.line)
+      subst (AllByRecursion (Queues (based b) [])) (sym (line_at_first (based b)))
+      (queues_at_first b.line good.line)
   queues (e ∷ h) legal s =
       queues_next (based b) h e (known (based b) h legal.0.0 e legal.0.1)
       (queued_owns h e legal.0.0 legal.1 s.1 s.0 legal.0.1) (queues h legal.1 s.1)
@@ -238,7 +242,8 @@ module _ (b : Base) (g : List Entry) (range : IsInRange b.header) (can : CanFold
   owned_fold : is_lock b.header.object ≡ true → IsOwned (based (folded b g)) []
   owned_fold lock = of (owned_behind b can.good g lock can.legal can.seated) same.holds
     where
-      of : IsOwned (based b) g → held (based b) g ≡ held (based (folded b g)) [] → IsOwned (based (folded b g)) []
+      of : IsOwned (based b) g → held (based b) g ≡ held (based (folded b g)) [] →
+          IsOwned (based (folded b g)) []
       of w q =
           record {
             one = subst (λ f. (i j : ℕ) → 0 < f i X → 0 < f j X → i ≡ j) q w.one;
@@ -342,7 +347,8 @@ module _ (b : Base) (g : List Entry) (range : IsInRange b.header) (can : CanFold
       slept : Bool → Sleep
       slept r = cond r (last_sleep (based b) g a.seat) awake
 
-      by : (r : Bool) → a.back ≡ r → StandsWell (folded b g) (stands_from a (cond a.back (last_sleep (based b) g a.seat) awake))
+      by : (r : Bool) → a.back ≡ r →
+          StandsWell (folded b g) (stands_from a (cond a.back (last_sleep (based b) g a.seat) awake))
       by false e =
           let w = asks.0 e in
           inl (
@@ -384,12 +390,14 @@ module _ (b : Base) (g : List Entry) (range : IsInRange b.header) (can : CanFold
       of : ℕ → List Sleeper
       of c = map (sleeper_after b g) (sleepers (based b) g c)
 
-      within : c < b.header.conditions → AllByRecursion (SleepsWell (folded b g) c) (sleepers_of (folded b g) c)
+      within : c < b.header.conditions →
+          AllByRecursion (SleepsWell (folded b g) c) (sleepers_of (folded b g) c)
       within l =
           subst (AllByRecursion (SleepsWell (folded b g) c)) (sym (get_or-each b.header.conditions of c [] l))
           (sleeps_fold c (sleepers (based b) g c) (λ i t. waits.sleepers c i t))
 
-      beyond : b.header.conditions ≤ c → AllByRecursion (SleepsWell (folded b g) c) (sleepers_of (folded b g) c)
+      beyond : b.header.conditions ≤ c →
+          AllByRecursion (SleepsWell (folded b g) c) (sleepers_of (folded b g) c)
       beyond l =
           subst (AllByRecursion (SleepsWell (folded b g) c))
           (sym (get_or_past (each_below b.header.conditions of) c []

@@ -328,7 +328,8 @@ same_limit (Semaphore p c) = refl
 same_limit (Latch c) = refl
 
 -- a lock or read-write lock has one owner at most, nobody else reads beside it, and holds have their limits
-pub is_owned : (s : Start) (h : List Entry) → is_lock s.header.object ≡ true → Waits s h → Owned s h → IsOwned s h
+pub is_owned : (s : Start) (h : List Entry) → is_lock s.header.object ≡ true → Waits s h → Owned s h →
+    IsOwned s h
 is_owned s h lock waits v =
     record {
       one = v.one;

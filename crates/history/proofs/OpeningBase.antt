@@ -28,7 +28,8 @@ use Rattle.history.proofs.Sums.{total_nothing, total_same}
 get_or-same : {A : Type 0} (n : ℕ) (d : A) (i : ℕ) → get_or (each_below n (λ i. d)) i d ≡ d
 get_or-same n d i =
     ⊎_elim (λ l. get_or-each n (λ i. d) i d l)
-    (λ l. get_or_past (each_below n (λ i. d)) i d (let e = length-each n (λ (i : ℕ). d) in omega (arith, e, l)))
+    (λ l. get_or_past (each_below n (λ i. d)) i d
+    (let e = length-each n (λ (i : ℕ). d) in omega (arith, e, l)))
     (cases_below i n)
 
 module _ (k : Header) where
@@ -38,7 +39,8 @@ module _ (k : Header) where
   no_sleepers : (c : ℕ) → sleepers_of (opening_base k) c ≡ []
   no_sleepers c = get_or-same k.conditions [] c
 
-  nothing_summed : (f : SeatBase → ℕ) → f nothing ≡ 0 → total k.seats (λ i. f (seat_of (opening_base k) i)) ≡ 0
+  nothing_summed : (f : SeatBase → ℕ) → f nothing ≡ 0 →
+      total k.seats (λ i. f (seat_of (opening_base k) i)) ≡ 0
   nothing_summed f z =
       total_same k.seats (λ i. f (seat_of (opening_base k) i)) (λ i. 0) (λ i. ap f (no_seat i) ∙ z)
       ∙ total_nothing k.seats
@@ -50,7 +52,8 @@ module _ (k : Header) where
   nobody_asleep : (n i : ℕ) → sleep_below n (opening_base k) i ≡ None
   nobody_asleep zero i = refl
   nobody_asleep (suc n) i =
-      ap (λ xs. either (sleep_on n i xs) (sleep_below n (opening_base k) i)) (no_sleepers n) ∙ nobody_asleep n i
+      ap (λ xs. either (sleep_on n i xs) (sleep_below n (opening_base k) i)) (no_sleepers n)
+      ∙ nobody_asleep n i
 
   all_free : (t : ℕ) (c : ℤ) → t ≡ 0 → (c +ℤ pos 0) -ℤ pos t ≡ c
   all_free t c z = omega (arith, ints)

@@ -304,7 +304,8 @@ free_fits_on s (e ∷ h) t v fits legal =
     fits_more s e h (moves s e h t (known s h legal.0.0 e legal.0.1) (waits_from s h v legal.1))
     (free_fits_on s h t v fits legal.1)
 
-pub created_fits : (k : Header) → IsInRange k → is_semaphore k.object ≡ true → FitsSigned w32 (created k.object)
+pub created_fits : (k : Header) → IsInRange k → is_semaphore k.object ≡ true →
+    FitsSigned w32 (created k.object)
 created_fits k range t = by k.object range.opening t
   where
     by : (o : Object) → IsOpening o k.conditions → is_semaphore o ≡ true → FitsSigned w32 (created o)
@@ -374,7 +375,8 @@ no_exclusive s (e ∷ h) t v legal i =
         ∙ never (eqb e.seat i)
       where
         never : (b : Bool) →
-            cond (b && false) (holds_after s.header.object e.word e.n (held s h i X)) (held s h i X) ≡ held s h i X
+            cond (b && false) (holds_after s.header.object e.word e.n (held s h i X)) (held s h i X)
+            ≡ held s h i X
         never true = refl
         never false = refl
 
@@ -415,7 +417,8 @@ pub low_on : (s : Start) (c : ℤ) (h : List Entry) → is_semaphore s.header.ob
     IsLow c (free s []) → IsLegal s h → IsLow c (free s h)
 low_on s c [] t v low legal = low
 low_on s c (e ∷ h) t v low legal =
-    by (moves s e h t (known s h legal.0.0 e legal.0.1) (waits_from s h v legal.1)) (low_on s c h t v low legal.1)
+    by (moves s e h t (known s h legal.0.0 e legal.0.1) (waits_from s h v legal.1))
+    (low_on s c h t v low legal.1)
   where
     by : Moves s e h → IsLow c (free s h) → IsLow c (free s (e ∷ h))
     by (Takes q there holds frees own) l = subst (IsLow c) (sym frees) (low_taken c (free s h) e.n there)
@@ -424,7 +427,8 @@ low_on s c (e ∷ h) t v low legal =
     by (Keeps holds frees own) l = subst (IsLow c) (sym frees) l
 
 -- what is released unheld is no more than was asked for; only a semaphore counts it
-few_beyond : (s : Start) (e : Entry) (h : List Entry) (had : ℕ) → Known s h e → beyond e.word e.n had ≤ 2147483647
+few_beyond : (s : Start) (e : Entry) (h : List Entry) (had : ℕ) → Known s h e →
+    beyond e.word e.n had ≤ 2147483647
 few_beyond s e h had k = by e.word k
   where
     by : (w : Word) → KnownBy s h e w → beyond w e.n had ≤ 2147483647

@@ -137,7 +137,8 @@ calls_folded b g i can = ⊎_elim within beyond (cases_below i b.header.seats)
         let none = ap ended_calls (none_of (based b) g i can.seated l) in
         omega (arith, new, old, none)
 
-pub agrees_opened : (k : Header) (p : Point) (i : ℕ) → p.base ≡ opening_base k → p.entries ≡ [] → Agrees p i []
+pub agrees_opened : (k : Header) (p : Point) (i : ℕ) → p.base ≡ opening_base k → p.entries ≡ [] →
+    Agrees p i []
 agrees_opened k p i base none =
     record {
       older = [];

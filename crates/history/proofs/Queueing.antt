@@ -34,7 +34,8 @@ Joins s h i _ = ⊥
 
 module _ (s : Start) (h : List Entry) (i : ℕ) where
   not_tried_fairly : (b c d : Bool) →
-      cond b word.Missed (cond c (word.Refused fault.TooManyHolds) (cond d word.Got word.Missed)) ≡ word.Queued → ⊥
+      cond b word.Missed (cond c (word.Refused fault.TooManyHolds) (cond d word.Got word.Missed))
+      ≡ word.Queued → ⊥
   not_tried_fairly true c d q = cc
   not_tried_fairly false true d q = cc
   not_tried_fairly false false true q = cc
@@ -49,7 +50,8 @@ module _ (s : Start) (h : List Entry) (i : ℕ) where
   not_awaits : (b c : Bool) (n at : ℕ) →
       (cond b (plain i (word.Refused fault.NotOwner) X 1)
       (cond c (plain i (word.Refused fault.HoldsRead) X 1)
-      (record { seat = i; word = word.Await; mode = X; n = n; at = at; end = end.None }))).word ≡ word.Queued → ⊥
+      (record { seat = i; word = word.Await; mode = X; n = n; at = at; end = end.None }))).word
+      ≡ word.Queued → ⊥
   not_awaits true c n at q = cc
   not_awaits false true n at q = cc
   not_awaits false false n at q = cc
@@ -86,7 +88,8 @@ module _ (s : Start) (h : List Entry) (i : ℕ) where
 
 -- An owner's call is reentrant: it takes, or is at its limit.
 within : (x most : ℕ) → x ≤ most →
-    cond (eqb x most) (word.Refused fault.TooManyHolds) (cond (ltb x most) word.Got word.Queued) ≡ word.Queued → ⊥
+    cond (eqb x most) (word.Refused fault.TooManyHolds) (cond (ltb x most) word.Got word.Queued)
+    ≡ word.Queued → ⊥
 within x most l q =
     ⊎_elim (λ same. full (eqb x most) (eq-eqb x most same) q)
     (λ ne. below (eqb x most) (ltb x most) (lt-ltb x most (omega (arith, l, ne))) q) (cases_eq x most)
@@ -106,7 +109,8 @@ abbrev taking : Bool → Bool → Word
 taking full free = cond full (word.Refused fault.TooManyHolds) (cond free word.Got word.Queued)
 
 owns_lock : (b d behind full free : Bool) → b ≡ true → d ≡ true →
-    cond (not b && behind) word.Queued (taking full (d && free)) ≡ word.Queued → taking full free ≡ word.Queued
+    cond (not b && behind) word.Queued (taking full (d && free)) ≡ word.Queued →
+    taking full free ≡ word.Queued
 owns_lock true true behind full free r t q = q
 owns_lock true false behind full free r t q = cc
 owns_lock false d behind full free r t q = cc
@@ -138,13 +142,14 @@ module _ (n : ℕ) (had : ℕ → Mode → ℕ) (f : ℤ) (c : ℕ) (first : Opt
   owner_takes (Lock p) X lock has owns most few q =
       let is = is_owner (owner (numbers (Lock p) n had f c)) i owns in
       within (had i X) max_holds most
-      (owns_lock _ _ (line_blocks (Lock p) X first) (eqb (had i X) max_holds) (ltb (had i X) max_holds) is.0 is.1 q)
+      (owns_lock _ _ (line_blocks (Lock p) X first) (eqb (had i X) max_holds) (ltb (had i X) max_holds)
+      is.0 is.1 q)
   owner_takes (Lock p) S lock has owns most few q = cc
   owner_takes (ReadWrite p) X lock has owns most few q =
       let is = is_owner (owner (numbers (ReadWrite p) n had f c)) i owns in
       within (had i X) max_shared most
-      (owns_write _ (line_blocks (ReadWrite p) X first) (eqb (had i X) max_shared) (ltb (had i X) max_shared) _
-      is.0 q)
+      (owns_write _ (line_blocks (ReadWrite p) X first) (eqb (had i X) max_shared) (ltb (had i X) max_shared)
+      _ is.0 q)
   owner_takes (ReadWrite p) S lock has owns most few q =
       let is = is_owner (owner (numbers (ReadWrite p) n had f c)) i owns in
       let reads = readers (numbers (ReadWrite p) n had f c) in
@@ -181,8 +186,8 @@ joining_owns_nothing s h x e owned lock seat idle q w = by x made_here (admitted
     by : (x : Step) → Joins s h e.seat x → is_wrong_mode s.header.object x ≡ false → held s h e.seat X ≡ 0
     by (step.Acquire m n) queued has =
         ⊎_elim (λ z. z)
-        (λ some. absurd (owner_takes s.header.seats (held s h) (free s h) (count s h) (first_mode s h) e.seat n
-        s.header.object m lock has (owner_is some (owner (counts s h)) refl) (owned.exclusive e.seat) owned.shared
-        queued))
+        (λ some. absurd (owner_takes s.header.seats (held s h) (free s h) (count s h) (first_mode s h)
+        e.seat n s.header.object m lock has (owner_is some (owner (counts s h)) refl) (owned.exclusive e.seat)
+        owned.shared queued))
         (none_or_some (held s h e.seat X))
     by _ queued has = absurd queued

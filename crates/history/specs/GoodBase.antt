@@ -32,8 +32,8 @@ AreCounted (ReadWrite policy) b = (b.unheld ≡ 0) × (b.count ≡ 0)
 AreCounted (Semaphore policy permits) b = (b.unheld ≤ most_permits) × (b.count ≡ 0)
 AreCounted (Latch opening) b = (b.unheld ≡ 0) × (b.count ≤ opening)
 
--- The permits of a semaphore: none is held exclusively, and the free ones are no fewer than none or than it was
--- made with, and no more than there may be.
+-- The permits of a semaphore: none is held exclusively, and the free ones are no fewer than none or than it
+-- was made with, and no more than there may be.
 pub record ArePermits (created : ℤ) (b : Base) : Type 0 where
   pub exclusive : (i : ℕ) → held (based b) [] i X ≡ 0
   pub shared : (i : ℕ) → held (based b) [] i S ≤ most_permits
@@ -90,8 +90,8 @@ pub record IsGood (b : Base) : Type 0 where
   pub line : AllByRecursion (StandsWell b) b.line
   pub sleepers : (c : ℕ) → AllByRecursion (SleepsWell b c) (sleepers_of b c)
 
--- A base whose permits its entries can have moved: no request is for more than 2147483647. The fold of an opening
--- is such a base, whatever comes of it.
+-- A base whose permits its entries can have moved: no request is for more than 2147483647. The fold of an
+-- opening is such a base, whatever comes of it.
 abbrev pub IsModest : Base → Type 0
 IsModest b =
     is_semaphore b.header.object ≡ true →

@@ -34,14 +34,15 @@ ComesBefore p q = Grows p q ⊎ IsFolded p q
 abbrev pub entries_of : ℕ → List Entry → List Entry
 entries_of i h = filter (λ e. e.seat == i) h
 
--- What a point has of all entries of a seat: the newest of them, and in its base the calls that the others ended.
+-- What a point has of all entries of a seat: the newest of them, and in its base the calls that the others
+-- ended.
 pub record Agrees (p : Point) (i : ℕ) (all : List Entry) : Type 0 where
   pub older : List Entry
   pub newest : all ≡ entries_of i p.entries ++ older
   pub calls : (seat_of p.base i).calls + ended_calls (entries_of i p.entries) ≡ ended_calls all
 
--- The second point follows the first by some entries: they were added to its list, or nothing was added and the
--- list was folded.
+-- The second point follows the first by some entries: they were added to its list, or nothing was added and
+-- the list was folded.
 abbrev pub FollowsBy : Point → Point → List Entry → Type 0
 FollowsBy p q added =
     ((q.base ≡ p.base) × (q.entries ≡ added ++ p.entries))

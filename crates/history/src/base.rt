@@ -118,7 +118,8 @@ fn opening_count(object: Object) -> u32
 
 /// An empty list for each condition, with a place for each seat.
 fn no_sleepers(alloc: Global, conditions: u8, seats: u16) -> Result<Vec<Vec<Sleeper>>, Fault>
-    ensures empty { IfOk result (λ lists. map (λ list. list.items) lists.items ≡ each_below conditions (λ c. [])) }
+    ensures empty { IfOk result (λ lists. map (λ list. list.items) lists.items
+        ≡ each_below conditions (λ c. [])) }
     ensures places { IfOk result (λ lists. All (λ list. seats ≤ vec_capacity list) lists.items) }
     ensures refused { IfErr result (λ fault. fault ≡ OutOfMemory) }
 {

@@ -96,8 +96,8 @@ pub fn what_is_seen_stands_in_order()
     ensures further { (p q r : Point) → ComesBefore p q → ComesBefore q r → ComesBefore p r }
 {}
 
-/// What follows a point comes after it. Of the seat whose entries were added it has these and what it had, and of
-/// every other seat what it had. Of an opening it has nothing.
+/// What follows a point comes after it. Of the seat whose entries were added it has these and what it had,
+/// and of every other seat what it had. Of an opening it has nothing.
 pub fn what_follows_comes_after()
     ensures before { (p q : Point) (added : List Entry) → CanFold p.base p.entries → FollowsBy p q added →
         ComesBefore p q }
