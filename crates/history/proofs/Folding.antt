@@ -447,7 +447,7 @@ list_again d xs n f len same =
 count_kept : (n c : ℕ) → c ≤ n → n - (n - c) ≡ c
 count_kept n c l = omega arith
 
-few_counted : (o : Object) (b : Base) → AreCounted o b → b.count ≤ opening_count o
+pub few_counted : (o : Object) (b : Base) → AreCounted o b → b.count ≤ opening_count o
 few_counted (Lock p) b v = let z = v.1 in omega (arith, z)
 few_counted (ReadWrite p) b v = let z = v.1 in omega (arith, z)
 few_counted (Semaphore p c) b v = let z = v.1 in omega (arith, z)
@@ -493,28 +493,42 @@ each_found (p ∷ q) one = (
         let s = once_same p.who.seat p.who.seat refl in
         omega (arith, o, s)
 
-line_again : (b : Base) (q : List Standing) → AllByRecursion (StandsWell b) q →
+pub standing_again : (b : Base) (p : Standing) → StandsWell b p → FoundAs (λ i. sleep_in_line i b.line) p →
+    standing_after b [] p.who ≡ p
+standing_again b p well found =
+    ⊎_elim
+    (λ asks.
+    ap (λ r. stands_from p.who (cond r (last_sleep (based b) [] p.who.seat) awake)) asks.0
+    ∙ λ j. record {
+      who = p.who;
+      condition = sym asks.1.condition j;
+      holds = sym asks.1.holds j;
+      how = sym asks.1.how j;
+    })
+    (λ comes.
+    ap (λ r. stands_from p.who (cond r (last_sleep (based b) [] p.who.seat) awake)) comes.0
+    ∙ ap (λ w. stands_from p.who (or_awake (either w (sleep_below b.header.conditions b p.who.seat))))
+    (found comes.0))
+    well
+
+each_again : (b : Base) (q : List Standing) → AllByRecursion (StandsWell b) q →
     AllByRecursion (FoundAs (λ i. sleep_in_line i b.line)) q →
+    AllByRecursion (λ p. standing_after b [] p.who ≡ p) q
+each_again b [] well found = tt
+each_again b (p ∷ q) well found =
+    (standing_again b p well.0 found.0, each_again b q well.1 found.1)
+
+line_once : (b : Base) → IsGood b → (i : ℕ) → times i (seats_of (map (λ p. p.who) b.line)) ≤ 1
+line_once b good i = let w = waits_once b good i in omega (arith, w)
+
+-- each that stands in line is written again as it is
+pub all_again : (b : Base) → IsGood b → AllByRecursion (λ p. standing_after b [] p.who ≡ p) b.line
+all_again b good = each_again b b.line good.line (each_found b.line (line_once b good))
+
+line_again : (b : Base) (q : List Standing) → AllByRecursion (λ p. standing_after b [] p.who ≡ p) q →
     map (standing_after b []) (map (λ p. p.who) q) ≡ q
-line_again b [] well found = refl
-line_again b (p ∷ q) well found = λ j. same j ∷ line_again b q well.1 found.1 j
-  where
-    same : standing_after b [] p.who ≡ p
-    same =
-        ⊎_elim
-        (λ asks.
-        ap (λ r. stands_from p.who (cond r (last_sleep (based b) [] p.who.seat) awake)) asks.0
-        ∙ λ j. record {
-          who = p.who;
-          condition = sym asks.1.condition j;
-          holds = sym asks.1.holds j;
-          how = sym asks.1.how j;
-        })
-        (λ comes.
-        ap (λ r. stands_from p.who (cond r (last_sleep (based b) [] p.who.seat) awake)) comes.0
-        ∙ ap (λ w. stands_from p.who (or_awake (either w (sleep_below b.header.conditions b p.who.seat))))
-        (found.0 comes.0))
-        well.0
+line_again b [] again = refl
+line_again b (p ∷ q) again = λ j. again.0 j ∷ line_again b q again.1 j
 
 -- the sleep of each that sleeps once on a condition is found there
 abbrev HeldAs : (ℕ → Option Sleep) → Sleeper → Type 0
@@ -547,23 +561,47 @@ each_held c (x ∷ xs) one = (
 one_found : (v w : Sleep) → Some v ≡ Some w → v ≡ w
 one_found v w q = cc
 
-sleepers_again : (b : Base) (good : IsGood b) (c : ℕ) (xs : List Sleeper) →
+-- Who sleeps on a condition slept there last, with what it gave up.
+abbrev pub SleptAs : Base → ℕ → Sleeper → Type 0
+SleptAs b c x = (has x.seat (sleepers (based b) [] c) ≡ true) × (last_sleep (based b) [] x.seat ≡ sleep_of c x.holds)
+
+each_slept : (b : Base) (good : IsGood b) (c : ℕ) (xs : List Sleeper) →
     AllByRecursion (HeldAs (λ i. sleep_on c i (sleepers_of b c))) xs →
     ((i : ℕ) → has i (map (λ x. x.seat) xs) ≡ true → has i (sleepers (based b) [] c) ≡ true) →
-    map (sleeper_after b []) (map (λ x. x.seat) xs) ≡ xs
-sleepers_again b good c [] kept up = refl
-sleepers_again b good c (x ∷ xs) kept up =
-    λ j. record { seat = x.seat; holds = same j }
-    ∷ sleepers_again b good c xs kept.1
-    (λ i t. up i (or_right (eqb x.seat i) (has i (map (λ x. x.seat) xs)) t)) j
+    AllByRecursion (SleptAs b c) xs
+each_slept b good c [] kept up = tt
+each_slept b good c (x ∷ xs) kept up = (
+  (there, slept),
+  each_slept b good c xs kept.1
+      (λ i t. up i (or_right (eqb x.seat i) (has i (map (λ x. x.seat) xs)) t)),
+)
   where
-    same : (last_sleep (based b) [] x.seat).holds ≡ x.holds
-    same =
-        let there = up x.seat (ap (λ t. t || has x.seat (map (λ x. x.seat) xs)) (eq-eqb x.seat x.seat refl))
-        in
+    there : has x.seat (sleepers (based b) [] c) ≡ true
+    there = up x.seat (ap (λ t. t || has x.seat (map (λ x. x.seat) xs)) (eq-eqb x.seat x.seat refl))
+
+    slept : last_sleep (based b) [] x.seat ≡ sleep_of c x.holds
+    slept =
         let found = slept_there b good c x.seat there in
         let one : Some (sleep_of c found.0) ≡ Some kept.0.0 = sym found.1 ∙ kept.0.1 in
-        ap (λ (w : Sleep). w.holds) (found.2 ∙ one_found (sleep_of c found.0) kept.0.0 one) ∙ kept.0.2
+        let holds : found.0 ≡ x.holds =
+        ap (λ (w : Sleep). w.holds) (one_found (sleep_of c found.0) kept.0.0 one) ∙ kept.0.2 in
+        found.2 ∙ ap (sleep_of c) holds
+
+pub all_slept : (b : Base) → IsGood b → (c : ℕ) → c < b.header.conditions →
+    AllByRecursion (SleptAs b c) (sleepers_of b c)
+all_slept b good c l =
+    each_slept b good c (sleepers_of b c)
+    (each_held c (sleepers_of b c) (λ i.
+    let w = waits_once b good i in
+    let p = total_part b.header.conditions (λ d. times i (map (λ x. x.seat) (sleepers_of b d))) c l in
+    omega (arith, w, p)))
+    (λ i t. t)
+
+sleepers_again : (b : Base) (c : ℕ) (xs : List Sleeper) → AllByRecursion (SleptAs b c) xs →
+    map (sleeper_after b []) (map (λ x. x.seat) xs) ≡ xs
+sleepers_again b c [] slept = refl
+sleepers_again b c (x ∷ xs) slept =
+    λ j. record { seat = x.seat; holds = (slept.0.1 j).holds } ∷ sleepers_again b c xs slept.1 j
 
 pub folds_nothing : (b : Base) → IsGood b → folded b [] ≡ b
 folds_nothing b good =
@@ -584,19 +622,9 @@ folds_nothing b good =
     of : ℕ → List Sleeper
     of c = map (sleeper_after b []) (sleepers (based b) [] c)
 
-    once : (i : ℕ) → times i (seats_of (map (λ p. p.who) b.line)) ≤ 1
-    once i = let w = waits_once b good i in omega (arith, w)
-
     line : map (standing_after b []) (Rattle.history.specs.Line.line (based b) []) ≡ b.line
     line =
-        ap (map (standing_after b [])) (line_at_first (based b))
-        ∙ line_again b b.line good.line (each_found b.line once)
+        ap (map (standing_after b [])) (line_at_first (based b)) ∙ line_again b b.line (all_again b good)
 
     asleep : (c : ℕ) → c < b.header.conditions → of c ≡ sleepers_of b c
-    asleep c l =
-        sleepers_again b good c (sleepers_of b c)
-        (each_held c (sleepers_of b c) (λ i.
-        let w = waits_once b good i in
-        let p = total_part b.header.conditions (λ d. times i (map (λ x. x.seat) (sleepers_of b d))) c l in
-        omega (arith, w, p)))
-        (λ i t. t)
+    asleep c l = sleepers_again b c (sleepers_of b c) (all_slept b good c l)

@@ -37,3 +37,4 @@ pub mod OpeningBase
 pub mod Queueing
 pub mod GoodFolds
 pub mod Points
+pub mod NextBases

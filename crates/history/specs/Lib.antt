@@ -29,5 +29,6 @@ pub mod Ownership
 pub mod Waiting
 pub mod GoodBase
 pub mod Point
+pub mod NextBase
 pub mod Numbering
 pub mod Awaiting
