@@ -1,5 +1,5 @@
 -- What those in line ask for is few enough for 32 bits.
-use Rattle.std.proofs.Common.{◌≡◌, ℕ, ◌≤◌, Bool, true, false, not, ◌&&◌, eqb, ltb, ltb-false, List, [], ◌∷◌, map, take, subst, sym, arith}
+use Rattle.std.proofs.Common.{◌≡◌, ℕ, ◌≤◌, false, not, ◌&&◌, eqb, ltb, ltb-false, List, [], ◌∷◌, map, take, subst, sym, arith}
 use Rattle.std.specs.List.{AllByRecursion}
 use Rattle.std.proofs.lemmas.Bool.{or_parts}
 use Rattle.history.specs.declared.arrival.Arrival.{Arrival}

@@ -164,13 +164,13 @@ tried_fairly_known s h i m n a false false true p q = (a word.Got, q, p)
 tried_fairly_known s h i m n a false false false p q = a word.Missed
 
 -- the words of a give
-abbrev GaveWord : Object → Word → Type 0
+abbrev pub GaveWord : Object → Word → Type 0
 GaveWord o word.Gave = Unit {0}
 GaveWord o (word.Refused f) = Unit {0}
 GaveWord o word.Counted = is_latch o ≡ true
 GaveWord o _ = ⊥
 
-gave_word : (o : Object) (k : Counts) (i : ℕ) (m : Mode) (n : ℕ) → GaveWord o (gave o k i m n)
+pub gave_word : (o : Object) (k : Counts) (i : ℕ) (m : Mode) (n : ℕ) → GaveWord o (gave o k i m n)
 gave_word (Lock p) k i m n = cond_both _ word.Gave (word.Refused fault.NotOwner) (GaveWord (Lock p))
     (λ t. tt) (λ t. tt)
 gave_word (ReadWrite p) k i m n =

@@ -30,3 +30,11 @@ pub mod Passing
 pub mod Answering
 pub mod Staying
 pub mod Awaiting
+pub mod Alike
+pub mod GoodBases
+pub mod Folding
+pub mod OpeningBase
+pub mod Queueing
+pub mod GoodFolds
+pub mod Points
+pub mod NextBases

@@ -146,3 +146,12 @@ line_after s e h =
     (map_filter e.word e.seat (filter (stands h) (arrivals s h)))
     ∙ ap (λ l. filter (stays e.word e.seat) (line s h) ++ map (λ a. a.who) l) fresh
     ∙ ap (λ l. filter (stays e.word e.seat) (line s h) ++ l) (map_who (length h) (arrivals_by s e.word e h))
+
+-- all who stand there at a start stand before any entry
+pub line_at_first : (s : Start) → line s [] ≡ s.line
+line_at_first s = by s.line
+  where
+    by : (arrivals : List Arrival) →
+        map (λ a. a.who) (filter (stands []) (map (arrived_at 0) arrivals)) ≡ arrivals
+    by [] = refl
+    by (a ∷ arrivals) = ap (λ l. a ∷ l) (by arrivals)

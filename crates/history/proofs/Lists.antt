@@ -20,6 +20,10 @@ pub ended_calls_le : (h : List Entry) → ended_calls h ≤ length h
 ended_calls_le [] = omega arith
 ended_calls_le (e ∷ h) = omega (arith, ended_calls_le h, one_at_most (ends_call e.word))
 
+pub ended_append : (h g : List Entry) → ended_calls (h ++ g) ≡ ended_calls h + ended_calls g
+ended_append [] g = omega arith
+ended_append (e ∷ h) g = omega (arith, ended_append h g)
+
 -- the calls of a history are those that ended before its start and in its entries
 pub calls-ended : (s : Start) (h : List Entry) → calls s h ≡ s.calls + ended_calls h
 calls-ended s [] = omega arith

@@ -21,24 +21,24 @@ use Rattle.history.specs.Phase.{phase, phase_by}
 use Rattle.history.specs.Sleepers.{last_sleep, sleeps_below}
 use Rattle.history.specs.Start.{Start, opening}
 use Rattle.history.proofs.Entering.{Known, KnownBy, known, seat_is}
-use Rattle.history.proofs.OneWait.{Saved, SavedIfBack, Waits, placed, waits}
+use Rattle.history.proofs.OneWait.{Saved, SavedIfBack, Waits, opening_waits, placed, waits, waits_from}
 use Rattle.history.proofs.Owners.{most_holds, nobody_holds, owner_holds, ready_could, semaphore_no_lock}
 use Rattle.history.proofs.SleepLemmas.{held_other, sleeps_at}
 use Rattle.history.proofs.Sums.{total_change, total_nothing, total_same}
 use Rattle.history.proofs.Times.{place_once, total_part}
 
 -- What is known of all holds: one owner, alone, few readers, and nobody but the seats holds anything.
-record Owned (s : Start) (h : List Entry) : Type 0 where
-  one : (i j : ℕ) → 0 < held s h i X → 0 < held s h j X → i ≡ j
-  alone : (i j : ℕ) → 0 < held s h i X → 0 < held s h j S → i ≡ j
-  shared : total s.header.seats (λ i. held s h i S) ≤ most_shared s.header.object
-  seats : (i : ℕ) (m : Mode) → s.header.seats ≤ i → held s h i m ≡ 0
+pub record Owned (s : Start) (h : List Entry) : Type 0 where
+  pub one : (i j : ℕ) → 0 < held s h i X → 0 < held s h j X → i ≡ j
+  pub alone : (i j : ℕ) → 0 < held s h i X → 0 < held s h j S → i ≡ j
+  pub shared : total s.header.seats (λ i. held s h i S) ≤ most_shared s.header.object
+  pub seats : (i : ℕ) (m : Mode) → s.header.seats ≤ i → held s h i m ≡ 0
 
-none_or_some : (n : ℕ) → (n ≡ 0) ⊎ (0 < n)
+pub none_or_some : (n : ℕ) → (n ≡ 0) ⊎ (0 < n)
 none_or_some zero = inl refl
 none_or_some (suc n) = inr (omega arith)
 
-cases_below : (a b : ℕ) → (a < b) ⊎ (b ≤ a)
+pub cases_below : (a b : ℕ) → (a < b) ⊎ (b ≤ a)
 cases_below a b = ⊎_elim (λ t. inl (ltb-true a b t)) (λ f. inr (ltb-false a b f)) (cases_Bool (ltb a b))
 
 -- where a seat or nobody owns, nobody else has exclusive holds
@@ -300,40 +300,50 @@ owned_next s e h seat v (Lessens less) =
     was : (i : ℕ) (m : Mode) → 0 < held s (e ∷ h) i m → 0 < held s h i m
     was i m a = let l = held_less s e h less i m in omega (arith, l, a)
 
+-- from a start of which it holds
+pub owned_on : (s : Start) (h : List Entry) → is_lock s.header.object ≡ true → Waits s [] → Owned s [] →
+    IsLegal s h → AreSeated s h → Owned s h
+owned_on s [] lock waits v legal seats = v
+owned_on s (e ∷ h) lock waits v legal seats =
+    let w = owned_on s h lock waits v legal.1 seats.1 in
+    owned_next s e h seats.0 w
+    (changes s e h lock (known s h legal.0.0 e legal.0.1) (waits_from s h waits legal.1) w)
+
 owned_from : (k : Header) (h : List Entry) → is_lock k.object ≡ true → IsLegal (opening k) h →
     AreSeated (opening k) h → Owned (opening k) h
-owned_from k [] lock legal seats =
-    record {
+owned_from k h lock legal seats =
+    owned_on (opening k) h lock (opening_waits k)
+    (record {
       one = λ i j a b. absurd (omega (arith, a));
       alone = λ i j a b. absurd (omega (arith, a));
       shared = let z = total_nothing k.seats in omega (arith, z);
       seats = λ i m l. refl;
-    }
-owned_from k (e ∷ h) lock legal seats =
-    let v = owned_from k h lock legal.1 seats.1 in
-    owned_next (opening k) e h seats.0 v
-    (changes (opening k) e h lock (known (opening k) h legal.0.0 e legal.0.1) (waits k h legal.1) v)
+    })
+    legal seats
 
-same_limit : (o : Object) → most_holds o ≡ most_exclusive o
+pub same_limit : (o : Object) → most_holds o ≡ most_exclusive o
 same_limit (Lock p) = refl
 same_limit (ReadWrite p) = refl
 same_limit (Semaphore p c) = refl
 same_limit (Latch c) = refl
 
 -- a lock or read-write lock has one owner at most, nobody else reads beside it, and holds have their limits
-pub owned : (k : Header) (h : List Entry) → is_lock k.object ≡ true → IsLegal (opening k) h →
-    AreSeated (opening k) h → IsOwned (opening k) h
-owned k h lock legal seats =
-    let v = owned_from k h lock legal seats in
+pub is_owned : (s : Start) (h : List Entry) → is_lock s.header.object ≡ true → Waits s h → Owned s h →
+    IsOwned s h
+is_owned s h lock waits v =
     record {
       one = v.one;
       alone = v.alone;
       exclusive = λ i. ⊎_elim
-          (λ l. subst (λ n. held (opening k) h i X ≤ n) (same_limit k.object)
-          ((waits k h legal).holds i l lock))
-          (λ l. let z = v.seats i X l in omega (arith, z)) (cases_below i k.seats);
+          (λ l. subst (λ n. held s h i X ≤ n) (same_limit s.header.object) (waits.holds i l lock))
+          (λ l. let z = v.seats i X l in omega (arith, z)) (cases_below i s.header.seats);
       shared = v.shared;
     }
+
+pub owned : (k : Header) (h : List Entry) → is_lock k.object ≡ true → IsLegal (opening k) h →
+    AreSeated (opening k) h → IsOwned (opening k) h
+owned k h lock legal seats =
+    is_owned (opening k) h lock (waits k h legal) (owned_from k h lock legal seats)
 
 -- who is away saved its holds
 pub saved_away : (k : Header) (h : List Entry) → IsLegal (opening k) h → (i : ℕ) →

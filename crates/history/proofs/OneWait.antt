@@ -185,7 +185,7 @@ comes_other s e h a ne v b =
     }
 
 -- the last sleep of the entry's own seat, and its holds
-last_sleep_own : (s : Start) (e : Entry) (h : List Entry) →
+pub last_sleep_own : (s : Start) (e : Entry) (h : List Entry) →
     last_sleep s (e ∷ h) e.seat ≡ sleep_after e.word e (last_sleep s h e.seat)
 last_sleep_own s e h = rw (eq-eqb e.seat e.seat refl) refl
 
@@ -244,49 +244,47 @@ sleepers_next s h e v k c i t = ⊎_elim old new (slept_before s e h c i t)
         (subst (λ d. Sleeps s (e ∷ h) d e.seat) w.1 (falls_asleep s h e v w.0 (subst (KnownBy s h e) w.0 k)))
 
 -- who stays in line is another than the entry's seat
-leaving_others : (s : Start) (e : Entry) (h : List Entry) → ends_arrival e.word ≡ true → (q : List Arrival) →
-    AllByRecursion (SavedIfBack s h) q →
-    AllByRecursion (SavedIfBack s (e ∷ h)) (filter (stays e.word e.seat) q)
-leaving_others s e h t [] all = tt
-leaving_others s e h t (a ∷ q) all = by (eqb e.seat a.seat) refl (leaving_others s e h t q all.1)
+leaving_others : (P Q : Arrival → Type 0) (e : Entry) → ((a : Arrival) → e.seat ≢ a.seat → P a → Q a) →
+    ends_arrival e.word ≡ true → (q : List Arrival) → AllByRecursion P q →
+    AllByRecursion Q (filter (stays e.word e.seat) q)
+leaving_others P Q e kept t [] all = tt
+leaving_others P Q e kept t (a ∷ q) all = by (eqb e.seat a.seat) refl (leaving_others P Q e kept t q all.1)
   where
-    by : (b : Bool) → eqb e.seat a.seat ≡ b →
-        AllByRecursion (SavedIfBack s (e ∷ h)) (filter (stays e.word e.seat) q) →
-        AllByRecursion (SavedIfBack s (e ∷ h))
+    by : (b : Bool) → eqb e.seat a.seat ≡ b → AllByRecursion Q (filter (stays e.word e.seat) q) →
+        AllByRecursion Q
         (cond (not (ends_arrival e.word && eqb e.seat a.seat)) (a ∷ filter (stays e.word e.seat) q)
         (filter (stays e.word e.seat) q))
     by true u ih = rw (t, u) ih
-    by false u ih =
-        rw (t, u) (comes_other s e h a (λ same. let x = eq-eqb e.seat a.seat same in cc (x, u)) all.0, ih)
+    by false u ih = rw (t, u) (kept a (λ same. let x = eq-eqb e.seat a.seat same in cc (x, u)) all.0, ih)
 
-staying_others : (s : Start) (e : Entry) (h : List Entry) (p : Arrival → Bool) (q : List Arrival) →
-    times e.seat (seats_of q) ≡ 0 → AllByRecursion (SavedIfBack s h) q →
-    AllByRecursion (SavedIfBack s (e ∷ h)) (filter p q)
-staying_others s e h p [] z all = tt
-staying_others s e h p (a ∷ q) z all =
-    by (p a) (staying_others s e h p q (omega (arith, z)) all.1)
+staying_others : (P Q : Arrival → Type 0) (e : Entry) → ((a : Arrival) → e.seat ≢ a.seat → P a → Q a) →
+    (p : Arrival → Bool) (q : List Arrival) → times e.seat (seats_of q) ≡ 0 → AllByRecursion P q →
+    AllByRecursion Q (filter p q)
+staying_others P Q e kept p [] z all = tt
+staying_others P Q e kept p (a ∷ q) z all =
+    by (p a) (staying_others P Q e kept p q (omega (arith, z)) all.1)
   where
     other : e.seat ≢ a.seat
     other same = let o = once_same a.seat e.seat (sym same) in omega (arith, z, o)
 
-    by : (b : Bool) → AllByRecursion (SavedIfBack s (e ∷ h)) (filter p q) →
-        AllByRecursion (SavedIfBack s (e ∷ h)) (cond b (a ∷ filter p q) (filter p q))
-    by true ih = (comes_other s e h a other all.0, ih)
+    by : (b : Bool) → AllByRecursion Q (filter p q) → AllByRecursion Q (cond b (a ∷ filter p q) (filter p q))
+    by true ih = (kept a other all.0, ih)
     by false ih = ih
 
-line_stays : (s : Start) (h : List Entry) (e : Entry) → Waits s h → Acts s h e →
-    AllByRecursion (SavedIfBack s (e ∷ h)) (filter (stays e.word e.seat) (line s h))
-line_stays s h e v (of_idle p) =
+pub line_stays : (P Q : Arrival → Type 0) (s : Start) (h : List Entry) (e : Entry) → Acts s h e →
+    ((a : Arrival) → e.seat ≢ a.seat → P a → Q a) → AllByRecursion P (line s h) →
+    AllByRecursion Q (filter (stays e.word e.seat) (line s h))
+line_stays P Q s h e (of_idle p) kept all =
     let z = idle_waits_nowhere s h e.seat p in
     let w = times-waiting s h e.seat in
-    staying_others s e h (stays e.word e.seat) (line s h) (omega (arith, z, w)) v.line
-line_stays s h e v (of_one_in_line a p t) = leaving_others s e h t (line s h) v.line
-line_stays s h e v (of_sleeper p q) =
+    staying_others P Q e kept (stays e.word e.seat) (line s h) (omega (arith, z, w)) all
+line_stays P Q s h e (of_one_in_line a p t) kept all = leaving_others P Q e kept t (line s h) all
+line_stays P Q s h e (of_sleeper p q) kept all =
     let parts = sleeping_parts (place_of e.seat (line s h)) (sleeps_below s.header.conditions s h e.seat) p in
-    staying_others s e h (stays e.word e.seat) (line s h) (place_never e.seat (line s h) parts.0) v.line
+    staying_others P Q e kept (stays e.word e.seat) (line s h) (place_never e.seat (line s h) parts.0) all
 
 -- who is moved from a condition, or lapses, comes back
-all_come : (P : Arrival → Type 0) (xs : List ℕ) → ((i : ℕ) → has i xs ≡ true → P (coming_back i)) →
+pub all_come : (P : Arrival → Type 0) (xs : List ℕ) → ((i : ℕ) → has i xs ≡ true → P (coming_back i)) →
     AllByRecursion P (map coming_back xs)
 all_come P [] each = tt
 all_come P (x ∷ xs) each = (
@@ -310,7 +308,7 @@ moved_comes s h e v p c i t =
     signalled_is : end.Signalled ≡ end.None → ⊥
     signalled_is q = cc
 
-take_has : (n i : ℕ) (xs : List ℕ) → has i (take n xs) ≡ true → has i xs ≡ true
+pub take_has : (n i : ℕ) (xs : List ℕ) → has i (take n xs) ≡ true → has i xs ≡ true
 take_has n i xs t =
     let o = has_once i (take n xs) t in
     let e = times-take_drop i n xs in
@@ -396,7 +394,9 @@ line_next : (s : Start) (h : List Entry) (e : Entry) → Waits s h → Known s h
     AllByRecursion (SavedIfBack s (e ∷ h)) (line s (e ∷ h))
 line_next s h e v k =
     subst (AllByRecursion (SavedIfBack s (e ∷ h))) (sym (line_after s e h))
-    (each-append (SavedIfBack s (e ∷ h)) _ _ (line_stays s h e v (acts s h e k)) (arrivals_come s h e v k))
+    (each-append (SavedIfBack s (e ∷ h)) _ _
+    (line_stays (SavedIfBack s h) (SavedIfBack s (e ∷ h)) s h e (acts s h e k) (comes_other s e h) v.line)
+    (arrivals_come s h e v k))
 
 -- one in line, by its place
 pub placed : (P : Arrival → Type 0) (i : ℕ) (q : List Arrival) (a : Arrival) → AllByRecursion P q →

@@ -24,8 +24,9 @@ use Rattle.history.specs.Line.{line}
 use Rattle.history.specs.Object.{created, in_holds, is_semaphore}
 use Rattle.history.specs.Start.{Start, opening}
 use Rattle.history.specs.Steps.{at_least_none, gave}
+use Rattle.history.proofs.Asking.{asked_few}
 use Rattle.history.proofs.Entering.{Known, KnownBy, known}
-use Rattle.history.proofs.OneWait.{Waits, SavedIfBack, placed, waits}
+use Rattle.history.proofs.OneWait.{Waits, SavedIfBack, opening_waits, placed, waits_from}
 use Rattle.history.proofs.Owners.{ready_could, semaphore_no_lock}
 use Rattle.history.proofs.Sums.{total_change, total_nothing, total_same}
 
@@ -234,13 +235,18 @@ nothing_held n c = by _ (total_nothing n)
     by : (t : ℕ) → t ≡ 0 → pos t +ℤ c ≡ c +ℤ pos 0
     by t p = omega (arith, ints)
 
+pub conserved_from : (s : Start) (h : List Entry) → is_semaphore s.header.object ≡ true → Waits s [] →
+    IsConserved s [] → IsLegal s h → AreSeated s h → IsConserved s h
+conserved_from s [] t v c legal seats = c
+conserved_from s (e ∷ h) t v c legal seats =
+    conserved_more s e h t seats.0
+    (moves s e h t (known s h legal.0.0 e legal.0.1) (waits_from s h v legal.1))
+    (conserved_from s h t v c legal.1 seats.1)
+
 pub conserved : (k : Header) (h : List Entry) → is_semaphore k.object ≡ true → IsLegal (opening k) h →
     AreSeated (opening k) h → IsConserved (opening k) h
-conserved k [] t legal seats = nothing_held k.seats (created k.object)
-conserved k (e ∷ h) t legal seats =
-    conserved_more (opening k) e h t seats.0
-    (moves (opening k) e h t (known (opening k) h legal.0.0 e legal.0.1) (waits k h legal.1))
-    (conserved k h t legal.1 seats.1)
+conserved k h t legal seats =
+    conserved_from (opening k) h t (opening_waits k) (nothing_held k.seats (created k.object)) legal seats
 
 -- a drain takes what there is
 drained_is : (f : ℤ) → (at_least_none f ≡ 0) ⊎ (pos (at_least_none f) ≡ f)
@@ -291,19 +297,26 @@ fits_more s e h (Gives shared below holds frees own) fits =
 fits_more s e h (Keeps holds frees own) fits = subst (FitsSigned w32) (sym frees) fits
 
 -- free permits stay numbers of 32 bits, and no request is for more than there may be
-pub free_fits : (k : Header) (h : List Entry) → IsInRange k → is_semaphore k.object ≡ true →
-    IsLegal (opening k) h → FitsSigned w32 (free (opening k) h)
-free_fits k [] range t legal = by k.object range.opening t
+pub free_fits_on : (s : Start) (h : List Entry) → is_semaphore s.header.object ≡ true → Waits s [] →
+    FitsSigned w32 (free s []) → IsLegal s h → FitsSigned w32 (free s h)
+free_fits_on s [] t v fits legal = fits
+free_fits_on s (e ∷ h) t v fits legal =
+    fits_more s e h (moves s e h t (known s h legal.0.0 e legal.0.1) (waits_from s h v legal.1))
+    (free_fits_on s h t v fits legal.1)
+
+pub created_fits : (k : Header) → IsInRange k → is_semaphore k.object ≡ true →
+    FitsSigned w32 (created k.object)
+created_fits k range t = by k.object range.opening t
   where
     by : (o : Object) → IsOpening o k.conditions → is_semaphore o ≡ true → FitsSigned w32 (created o)
     by (Semaphore p c) r u = r.1
     by (Lock p) r u = absurd (cc)
     by (ReadWrite p) r u = absurd (cc)
     by (Latch c) r u = absurd (cc)
-free_fits k (e ∷ h) range t legal =
-    fits_more (opening k) e h
-    (moves (opening k) e h t (known (opening k) h legal.0.0 e legal.0.1) (waits k h legal.1))
-    (free_fits k h range t legal.1)
+
+pub free_fits : (k : Header) (h : List Entry) → IsInRange k → is_semaphore k.object ≡ true →
+    IsLegal (opening k) h → FitsSigned w32 (free (opening k) h)
+free_fits k h range t legal = free_fits_on (opening k) h t (opening_waits k) (created_fits k range t) legal
 
 pub free_at_most : (k : Header) (h : List Entry) → IsInRange k → is_semaphore k.object ≡ true →
     IsLegal (opening k) h → free (opening k) h ≤ℤ pos 2147483647
@@ -326,18 +339,119 @@ few_taken s e h (Drains shared all holds frees own) fits x =
 few_taken s e h (Gives shared below holds frees own) fits x = let b = holds x in omega (arith, b)
 few_taken s e h (Keeps holds frees own) fits x = let b = holds x in omega (arith, b)
 
-pub held_at_most : (k : Header) (h : List Entry) → IsInRange k → is_semaphore k.object ≡ true →
-    IsLegal (opening k) h → (i : ℕ) (m : Mode) → held (opening k) h i m ≤ 2147483647 * length h
-held_at_most k [] range t legal i m = omega arith
-held_at_most k (e ∷ h) range t legal i m =
-    by (eqb e.seat i && same_mode e.mode m) (held (opening k) h i m) (length h)
-    (held_at_most k h range t legal.1 i m)
-    (few_taken (opening k) e h
-    (moves (opening k) e h t (known (opening k) h legal.0.0 e legal.0.1) (waits k h legal.1))
-    (free_fits k h range t legal.1))
+pub held_grows : (s : Start) (h : List Entry) → is_semaphore s.header.object ≡ true → Waits s [] →
+    FitsSigned w32 (free s []) → IsLegal s h → (i : ℕ) (m : Mode) →
+    held s h i m ≤ held s [] i m + 2147483647 * length h
+held_grows s [] t v fits legal i m = omega arith
+held_grows s (e ∷ h) t v fits legal i m =
+    by (eqb e.seat i && same_mode e.mode m) (held s h i m) (length h) (held_grows s h t v fits legal.1 i m)
+    (few_taken s e h (moves s e h t (known s h legal.0.0 e legal.0.1) (waits_from s h v legal.1))
+    (free_fits_on s h t v fits legal.1))
   where
-    by : (b : Bool) (x n : ℕ) → x ≤ 2147483647 * n →
-        ((y : ℕ) → holds_after k.object e.word e.n y ≤ y + 2147483647) →
-        cond b (holds_after k.object e.word e.n x) x ≤ 2147483647 * suc n
+    by : (b : Bool) (x n : ℕ) → x ≤ held s [] i m + 2147483647 * n →
+        ((y : ℕ) → holds_after s.header.object e.word e.n y ≤ y + 2147483647) →
+        cond b (holds_after s.header.object e.word e.n x) x ≤ held s [] i m + 2147483647 * suc n
     by true x n l f = let g = f x in omega (arith, l, g)
     by false x n l f = omega (arith, l)
+
+pub held_at_most : (k : Header) (h : List Entry) → IsInRange k → is_semaphore k.object ≡ true →
+    IsLegal (opening k) h → (i : ℕ) (m : Mode) → held (opening k) h i m ≤ 2147483647 * length h
+held_at_most k h range t legal i m =
+    let l = held_grows (opening k) h t (opening_waits k) (created_fits k range t) legal i m in
+    omega (arith, l)
+
+-- nobody holds permits exclusively, and the free ones are no fewer than none or than at the start
+pub no_exclusive : (s : Start) (h : List Entry) → is_semaphore s.header.object ≡ true → Waits s [] →
+    IsLegal s h → (i : ℕ) → held s h i X ≡ held s [] i X
+no_exclusive s [] t v legal i = refl
+no_exclusive s (e ∷ h) t v legal i =
+    by (moves s e h t (known s h legal.0.0 e legal.0.1) (waits_from s h v legal.1))
+    ∙ no_exclusive s h t v legal.1 i
+  where
+    shared : e.mode ≡ S → held s (e ∷ h) i X ≡ held s h i X
+    shared q =
+        ap (λ m. cond (eqb e.seat i && same_mode m X) (holds_after s.header.object e.word e.n (held s h i X))
+        (held s h i X)) q
+        ∙ never (eqb e.seat i)
+      where
+        never : (b : Bool) →
+            cond (b && false) (holds_after s.header.object e.word e.n (held s h i X)) (held s h i X)
+            ≡ held s h i X
+        never true = refl
+        never false = refl
+
+    by : Moves s e h → held s (e ∷ h) i X ≡ held s h i X
+    by (Takes q there holds frees own) = shared q
+    by (Gives q below holds frees own) = shared q
+    by (Drains q all holds frees own) = shared q
+    by (Keeps holds frees own) = held_kept s e h i X holds
+
+abbrev pub IsLow : ℤ → ℤ → Type 0
+IsLow c f = (pos 0 ≤ℤ f) ⊎ (c ≤ℤ f)
+
+low_taken : (c f : ℤ) (n : ℕ) → int_le (pos 0) (f -ℤ pos n) ≡ true → IsLow c (f -ℤ pos n)
+low_taken c f n q = inl (within f n q)
+  where
+    within : (f : ℤ) (n : ℕ) → int_le (pos 0) (f -ℤ pos n) ≡ true → pos 0 ≤ℤ (f -ℤ pos n)
+    within f n q = omega (arith, ints)
+
+raised : (c f : ℤ) (n : ℕ) → c ≤ℤ f → c ≤ℤ (f +ℤ pos n)
+raised c f n p = omega (arith, ints)
+
+low_returned : (c f : ℤ) (n : ℕ) → IsLow c f → IsLow c (f +ℤ pos n)
+low_returned c f n low = ⊎_elim (λ p. inl (raised (pos 0) f n p)) (λ p. inr (raised c f n p)) low
+
+low_drained : (c f : ℤ) (n : ℕ) → IsLow c f → n ≡ at_least_none f → IsLow c (f -ℤ pos n)
+low_drained c f n low q = ⊎_elim (λ z. none low (q ∙ z)) (λ all. inl (rest (ap pos q ∙ all))) (drained_is f)
+  where
+    same : n ≡ 0 → f -ℤ pos n ≡ f
+    same z = omega (arith, ints, z)
+
+    none : IsLow c f → n ≡ 0 → IsLow c (f -ℤ pos n)
+    none l z = subst (IsLow c) (sym (same z)) l
+
+    rest : pos n ≡ f → pos 0 ≤ℤ (f -ℤ pos n)
+    rest z = omega (arith, ints, z)
+
+pub low_on : (s : Start) (c : ℤ) (h : List Entry) → is_semaphore s.header.object ≡ true → Waits s [] →
+    IsLow c (free s []) → IsLegal s h → IsLow c (free s h)
+low_on s c [] t v low legal = low
+low_on s c (e ∷ h) t v low legal =
+    by (moves s e h t (known s h legal.0.0 e legal.0.1) (waits_from s h v legal.1))
+    (low_on s c h t v low legal.1)
+  where
+    by : Moves s e h → IsLow c (free s h) → IsLow c (free s (e ∷ h))
+    by (Takes q there holds frees own) l = subst (IsLow c) (sym frees) (low_taken c (free s h) e.n there)
+    by (Gives q below holds frees own) l = subst (IsLow c) (sym frees) (low_returned c (free s h) e.n l)
+    by (Drains q all holds frees own) l = subst (IsLow c) (sym frees) (low_drained c (free s h) e.n l all)
+    by (Keeps holds frees own) l = subst (IsLow c) (sym frees) l
+
+-- what is released unheld is no more than was asked for; only a semaphore counts it
+few_beyond : (s : Start) (e : Entry) (h : List Entry) (had : ℕ) → Known s h e →
+    beyond e.word e.n had ≤ 2147483647
+few_beyond s e h had k = by e.word k
+  where
+    by : (w : Word) → KnownBy s h e w → beyond w e.n had ≤ 2147483647
+    by word.Gave k = let l = asked_few s.header.object e.n k.0.amount in omega (arith, l)
+    by _ k = omega arith
+
+pub unheld_grows : (s : Start) (h : List Entry) → IsLegal s h → unheld s h ≤ s.unheld + 2147483647 * length h
+unheld_grows s [] legal = omega arith
+unheld_grows s (e ∷ h) legal =
+    by (is_semaphore s.header.object)
+    (few_beyond s e h (held s h e.seat e.mode) (known s h legal.0.0 e legal.0.1)) (unheld_grows s h legal.1)
+  where
+    by : (b : Bool) → beyond e.word e.n (held s h e.seat e.mode) ≤ 2147483647 →
+        unheld s h ≤ s.unheld + 2147483647 * length h →
+        unheld s h + cond b (beyond e.word e.n (held s h e.seat e.mode)) 0
+        ≤ s.unheld + 2147483647 * suc (length h)
+    by true l m = omega (arith, l, m)
+    by false l m = omega (arith, m)
+
+pub unheld_none : (s : Start) (h : List Entry) → is_semaphore s.header.object ≡ false → unheld s h ≡ s.unheld
+unheld_none s [] f = refl
+unheld_none s (e ∷ h) f =
+    let z = unheld_none s h f in
+    let n : cond (is_semaphore s.header.object) (beyond e.word e.n (held s h e.seat e.mode)) 0 ≡ 0 =
+    ap (λ b. cond b (beyond e.word e.n (held s h e.seat e.mode)) 0) f in
+    omega (arith, z, n)

@@ -20,11 +20,15 @@ pub mod Phase
 pub mod Faults
 pub mod Steps
 pub mod Legal
+pub mod Base
 pub mod Room
 pub mod Answers
 pub mod Order
 pub mod Conservation
 pub mod Ownership
 pub mod Waiting
+pub mod GoodBase
+pub mod Point
+pub mod NextBase
 pub mod Numbering
 pub mod Awaiting

@@ -5,6 +5,7 @@
 #![tactic(auto)]
 
 pub mod arrival;
+pub mod base;
 pub mod entries;
 pub mod entry;
 pub mod entry_reading;

@@ -1,4 +1,5 @@
 -- Worked examples, each computed from the definitions.
+mod Bases
 mod Locks
 mod Conditions
 mod ReadersAndWriters

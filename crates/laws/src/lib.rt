@@ -4,6 +4,7 @@
 //! definitions of `history` alone, so it holds of whatever meets them.
 #![tactic(auto)]
 
+pub mod bases;
 pub mod conservation;
 pub mod folding;
 pub mod order;

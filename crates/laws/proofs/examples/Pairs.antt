@@ -8,7 +8,7 @@ use Rattle.history.specs.Legal.{calls}
 use Rattle.history.specs.Start.{opening}
 use Rattle.laws.proofs.Told.{acquire, give, lock}
 
-abbrev pairs : ℕ → List (ℕ × Step)
+abbrev pub pairs : ℕ → List (ℕ × Step)
 pairs zero = []
 pairs (suc n) = (0, acquire) ∷ (0, give) ∷ pairs n
 

@@ -1,0 +1,209 @@
+-- The order of what is seen of a history.
+use Rattle.std.proofs.Common.{◌≡◌, ◌≢◌, inl, inr, ⊎_elim, ℕ, ◌+◌, ◌<◌, ◌≤◌, Bool, true, false, ◌&&◌, ◌==◌, cond, eqb, List, [], ◌∷◌, ◌++◌, refl, ap, ◌∙◌, sym, subst, arith}
+use Rattle.std.specs.List.{AllByRecursion}
+use Rattle.std.proofs.lemmas.Bool.{eq-eqb, ne_eqb}
+use Rattle.std.proofs.lemmas.List.Elements.{filter-append}
+use Rattle.std.proofs.lemmas.List.{append_assoc, get_or_past}
+use Rattle.history.specs.declared.base.SeatBase.{SeatBase}
+use Rattle.history.specs.declared.entry.Entry.{Entry}
+use Rattle.history.specs.declared.header.Header.{Header}
+use Rattle.history.specs.Base.{Base, based, calls_of, each_below, folded, nothing, opening_base, seat_after, seat_of}
+use Rattle.history.specs.Entries.{ended_calls}
+use Rattle.history.specs.Entry.{ends_call}
+use Rattle.history.specs.Legal.{AreSeated}
+use Rattle.history.specs.Point.{Agrees, CanFold, ComesBefore, FollowsBy, Grows, IsFolded, Point, entries_of}
+use Rattle.history.specs.Start.{Start}
+use Rattle.history.proofs.Folding.{folds_on, legal_goes_on, length-each, seat_folded}
+use Rattle.history.proofs.Lists.{ended_append}
+use Rattle.history.proofs.OneOwner.{cases_below}
+use Rattle.history.proofs.OpeningBase.{no_seat}
+
+pub seated_append : (s : Start) (h g : List Entry) → AreSeated s h → AreSeated s g → AreSeated s (h ++ g)
+seated_append s [] g a b = b
+seated_append s (e ∷ h) g a b = (a.0, seated_append s h g a.1 b)
+
+pub seated_behind : (s : Start) (h g : List Entry) → AreSeated s (h ++ g) → AreSeated s g
+seated_behind s [] g a = a
+seated_behind s (e ∷ h) g a = seated_behind s h g a.1
+
+-- a fold is of the same object
+pub seated_before : (b : Base) (g h : List Entry) → AreSeated (based (folded b g)) h → AreSeated (based b) h
+seated_before b g [] a = tt
+seated_before b g (e ∷ h) a = (a.0, seated_before b g h a.1)
+
+-- entries that can be folded, and then more of them, can be folded at once
+pub can_fold_all : (b : Base) (g h : List Entry) → CanFold b g → CanFold (folded b g) h → CanFold b (h ++ g)
+can_fold_all b g h v w =
+    record {
+      good = v.good;
+      seated = seated_append (based b) h g (seated_before b g h w.seated) v.seated;
+      legal = (legal_goes_on b g h v.good v.seated).1 (v.legal, w.legal);
+    }
+
+pub same_point : (p : Point) → ComesBefore p p
+same_point p = inl (refl, ([], refl))
+
+grows_on : (p q r : Point) → Grows p q → Grows q r → Grows p r
+grows_on p q r v w = (
+  v.0 ∙ w.0,
+  (
+    w.1.0 ++ v.1.0,
+    w.1.1 ∙ ap (λ l. w.1.0 ++ l) v.1.1 ∙ sym (append_assoc w.1.0 v.1.0 p.entries),
+  ),
+)
+
+grows_then_folds : (p q r : Point) → Grows p q → IsFolded q r → IsFolded p r
+grows_then_folds p q r v w =
+    record {
+      more = w.more ++ v.1.0;
+      can = subst (CanFold p.base) whole (subst (λ b. CanFold b (w.more ++ q.entries)) (sym v.0) w.can);
+      base = w.base ∙ ap (λ b. folded b (w.more ++ q.entries)) (sym v.0) ∙ ap (folded p.base) whole;
+    }
+  where
+    whole : w.more ++ q.entries ≡ (w.more ++ v.1.0) ++ p.entries
+    whole = ap (λ l. w.more ++ l) v.1.1 ∙ sym (append_assoc w.more v.1.0 p.entries)
+
+folds_then_grows : (p q r : Point) → IsFolded p q → Grows q r → IsFolded p r
+folds_then_grows p q r v w = record { more = v.more; can = v.can; base = sym w.0 ∙ v.base }
+
+folds_again : (p q r : Point) → IsFolded p q → IsFolded q r → IsFolded p r
+folds_again p q r v w =
+    record {
+      more = back ++ v.more;
+      can = subst (CanFold p.base) whole all;
+      base = w.base ∙ ap (λ b. folded b back) v.base
+          ∙ folds_on p.base front back v.can.good v.can.seated all.legal
+          ∙ ap (folded p.base) whole;
+    }
+  where
+    front : List Entry
+    front = v.more ++ p.entries
+
+    back : List Entry
+    back = w.more ++ q.entries
+
+    whole : back ++ front ≡ (back ++ v.more) ++ p.entries
+    whole = sym (append_assoc back v.more p.entries)
+
+    all : CanFold p.base (back ++ front)
+    all = can_fold_all p.base front back v.can (subst (λ b. CanFold b back) v.base w.can)
+
+pub further_point : (p q r : Point) → ComesBefore p q → ComesBefore q r → ComesBefore p r
+further_point p q r (inl v) (inl w) = inl (grows_on p q r v w)
+further_point p q r (inl v) (inr w) = inr (grows_then_folds p q r v w)
+further_point p q r (inr v) (inl w) = inr (folds_then_grows p q r v w)
+further_point p q r (inr v) (inr w) = inr (folds_again p q r v w)
+
+-- A point that follows comes after, and has of each seat what it had and what was added.
+pub follows_before : (p q : Point) (added : List Entry) → CanFold p.base p.entries → FollowsBy p q added →
+    ComesBefore p q
+follows_before p q added can (inl grown) = inl (sym grown.0, (added, grown.1))
+follows_before p q added can (inr folds) = inr (record { more = []; can = can; base = folds.0 })
+
+calls_by_seat : (b : Base) (g : List Entry) (i : ℕ) →
+    calls_of b g i ≡ (seat_of b i).calls + ended_calls (entries_of i g)
+calls_by_seat b [] i = omega arith
+calls_by_seat b (e ∷ g) i = by (eqb e.seat i) (calls_by_seat b g i)
+  where
+    by : (t : Bool) → calls_of b g i ≡ (seat_of b i).calls + ended_calls (entries_of i g) →
+        calls_of b g i + cond (t && ends_call e.word) 1 0
+        ≡ (seat_of b i).calls + ended_calls (cond t (e ∷ entries_of i g) (entries_of i g))
+    by true q = omega (arith, q)
+    by false q = omega (arith, q)
+
+none_of : (s : Start) (g : List Entry) (i : ℕ) → AreSeated s g → s.header.seats ≤ i → entries_of i g ≡ []
+none_of s [] i a l = refl
+none_of s (e ∷ g) i a l =
+    ap (λ t. cond t (e ∷ entries_of i g) (entries_of i g))
+    (ne_eqb e.seat i (λ same. (let f = a.0 in omega (arith, f, l, same))))
+    ∙ none_of s g i a.1 l
+
+calls_folded : (b : Base) (g : List Entry) (i : ℕ) → CanFold b g →
+    (seat_of (folded b g) i).calls ≡ (seat_of b i).calls + ended_calls (entries_of i g)
+calls_folded b g i can = ⊎_elim within beyond (cases_below i b.header.seats)
+  where
+    within : i < b.header.seats →
+        (seat_of (folded b g) i).calls ≡ (seat_of b i).calls + ended_calls (entries_of i g)
+    within l = ap (λ (x : SeatBase). x.calls) (seat_folded b g i l) ∙ calls_by_seat b g i
+
+    beyond : b.header.seats ≤ i →
+        (seat_of (folded b g) i).calls ≡ (seat_of b i).calls + ended_calls (entries_of i g)
+    beyond l =
+        let e = length-each b.header.seats (seat_after b g) in
+        let new = ap (λ (x : SeatBase). x.calls)
+        (get_or_past (each_below b.header.seats (seat_after b g)) i nothing (omega (arith, e, l))) in
+        let f = can.good.seats in
+        let old = ap (λ (x : SeatBase). x.calls) (get_or_past b.seats i nothing (omega (arith, f, l))) in
+        let none = ap ended_calls (none_of (based b) g i can.seated l) in
+        omega (arith, new, old, none)
+
+pub agrees_opened : (k : Header) (p : Point) (i : ℕ) → p.base ≡ opening_base k → p.entries ≡ [] →
+    Agrees p i []
+agrees_opened k p i base none =
+    record {
+      older = [];
+      newest = ap (λ l. entries_of i l ++ []) (sym none);
+      calls =
+          let z = ap (λ (x : SeatBase). x.calls) (ap (λ b. seat_of b i) base ∙ no_seat k i) in
+          let e = ap (λ l. ended_calls (entries_of i l)) none in
+          omega (arith, z, e);
+    }
+
+-- what the added entries have of a seat
+agrees_more : (p q : Point) (i : ℕ) (added mine all : List Entry) → CanFold p.base p.entries →
+    FollowsBy p q added → entries_of i added ≡ mine → Agrees p i all → Agrees q i (mine ++ all)
+agrees_more p q i added mine all can (inl grown) own a =
+    record {
+      older = a.older;
+      newest = ap (λ l. mine ++ l) a.newest ∙ sym (append_assoc mine (entries_of i p.entries) a.older)
+          ∙ ap (λ l. l ++ a.older) (sym now);
+      calls =
+          let b = ap (λ b. (seat_of b i).calls) grown.0 in
+          let n = ap ended_calls now ∙ ended_append mine (entries_of i p.entries) in
+          let m = ended_append mine all in
+          let c = a.calls in
+          omega (arith, b, n, m, c);
+    }
+  where
+    now : entries_of i q.entries ≡ mine ++ entries_of i p.entries
+    now =
+        ap (entries_of i) grown.1 ∙ filter-append (λ e. e.seat == i) added p.entries
+        ∙ ap (λ l. l ++ entries_of i p.entries) own
+agrees_more p q i added mine all can (inr folds) own a =
+    record {
+      older = mine ++ all;
+      newest = ap (λ l. l ++ (mine ++ all)) (sym none);
+      calls =
+          let b = ap (λ b. (seat_of b i).calls) folds.0 ∙ calls_folded p.base p.entries i can in
+          let n = ap ended_calls none in
+          let m = ap (λ l. ended_calls (l ++ all)) (sym own ∙ ap (entries_of i) folds.2) in
+          let c = a.calls in
+          omega (arith, b, n, m, c);
+    }
+  where
+    none : entries_of i q.entries ≡ []
+    none = ap (entries_of i) folds.1
+
+all_of : (i : ℕ) (added : List Entry) → AllByRecursion (λ e. e.seat ≡ i) added → entries_of i added ≡ added
+all_of i [] all = refl
+all_of i (e ∷ added) all =
+    ap (λ t. cond t (e ∷ entries_of i added) (entries_of i added)) (eq-eqb e.seat i all.0)
+    ∙ ap (λ l. e ∷ l) (all_of i added all.1)
+
+none_of_other : (i j : ℕ) (added : List Entry) → i ≢ j → AllByRecursion (λ e. e.seat ≡ i) added →
+    entries_of j added ≡ []
+none_of_other i j [] ne all = refl
+none_of_other i j (e ∷ added) ne all =
+    ap (λ t. cond t (e ∷ entries_of j added) (entries_of j added))
+    (ne_eqb e.seat j (λ same. ne (sym all.0 ∙ same)))
+    ∙ none_of_other i j added ne all.1
+
+pub follows_own : (p q : Point) (i : ℕ) (added all : List Entry) → CanFold p.base p.entries →
+    FollowsBy p q added → AllByRecursion (λ e. e.seat ≡ i) added → Agrees p i all → Agrees q i (added ++ all)
+follows_own p q i added all can follows own a =
+    agrees_more p q i added added all can follows (all_of i added own) a
+
+pub follows_other : (p q : Point) (i j : ℕ) (added all : List Entry) → CanFold p.base p.entries →
+    FollowsBy p q added → AllByRecursion (λ e. e.seat ≡ i) added → i ≢ j → Agrees p j all → Agrees q j all
+follows_other p q i j added all can follows own ne a =
+    agrees_more p q j added [] all can follows (none_of_other i j added ne own) a

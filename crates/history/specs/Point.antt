@@ -1,0 +1,49 @@
+-- What is seen of a history that may be folded: a base, and the entries behind it.
+use Rattle.std.specs.Prelude.{◌≡◌, ◌⊎◌, ℕ, ◌+◌, ◌==◌, List, [], ◌++◌, filter}
+use Rattle.history.specs.declared.entry.Entry.{Entry}
+use Rattle.history.specs.Base.{Base, based, folded, seat_of}
+use Rattle.history.specs.Entries.{ended_calls}
+use Rattle.history.specs.GoodBase.{IsGood}
+use Rattle.history.specs.Legal.{AreSeated, IsLegal}
+
+pub record Point : Type 0 where
+  pub base : Base
+  pub entries : List Entry
+
+-- more entries behind the same base
+abbrev pub Grows : Point → Point → Type 0
+Grows p q = (p.base ≡ q.base) × ((more : List Entry) × (q.entries ≡ more ++ p.entries))
+
+-- Entries that a good base may fold: legal, and each of one of the object's seats.
+pub record CanFold (b : Base) (h : List Entry) : Type 0 where
+  pub good : IsGood b
+  pub seated : AreSeated (based b) h
+  pub legal : IsLegal (based b) h
+
+-- a fold of these entries, and of more behind them
+pub record IsFolded (p q : Point) : Type 0 where
+  pub more : List Entry
+  pub can : CanFold p.base (more ++ p.entries)
+  pub base : q.base ≡ folded p.base (more ++ p.entries)
+
+-- whoever sees the second point later has seen no other history
+abbrev pub ComesBefore : Point → Point → Type 0
+ComesBefore p q = Grows p q ⊎ IsFolded p q
+
+-- the entries of one seat
+abbrev pub entries_of : ℕ → List Entry → List Entry
+entries_of i h = filter (λ e. e.seat == i) h
+
+-- What a point has of all entries of a seat: the newest of them, and in its base the calls that the others
+-- ended.
+pub record Agrees (p : Point) (i : ℕ) (all : List Entry) : Type 0 where
+  pub older : List Entry
+  pub newest : all ≡ entries_of i p.entries ++ older
+  pub calls : (seat_of p.base i).calls + ended_calls (entries_of i p.entries) ≡ ended_calls all
+
+-- The second point follows the first by some entries: they were added to its list, or nothing was added and
+-- the list was folded.
+abbrev pub FollowsBy : Point → Point → List Entry → Type 0
+FollowsBy p q added =
+    ((q.base ≡ p.base) × (q.entries ≡ added ++ p.entries))
+    ⊎ ((q.base ≡ folded p.base p.entries) × (q.entries ≡ []) × (added ≡ []))

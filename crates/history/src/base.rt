@@ -1,0 +1,132 @@
+//! The base of a history: what is left of entries that were folded.
+
+ghost use Rattle.std.specs.Prelude.{◌≡◌, ◌≤◌, [], length, map, All, IfOk, IfErr, vec_capacity};
+ghost use Rattle.history.specs.declared.fault.Fault.TheVariants.{OutOfMemory};
+ghost use Rattle.history.specs.Base.{each_below, opening_base};
+ghost use Rattle.history.specs.Object.{opening_count};
+
+use crate::arrival::Arrival;
+use crate::entry::End;
+use crate::fault::Fault;
+use crate::header::{Header, Object};
+use std::alloc::Global;
+use std::marker::Model;
+
+/// The calls that a seat ended, and what it holds.
+#[derive(Clone, Copy, Debug, PartialEq, Eq)]
+pub struct SeatBase {
+    pub calls: u64,
+    pub exclusive: u32,
+    pub shared: u128,
+}
+
+/// One who stands in line. Of one that comes back from a condition the base keeps which condition it is, the
+/// holds that it gave up to sleep, and how it comes back. These are 0, 0 and `None` for an acquire.
+#[derive(Clone, Copy, Debug, PartialEq, Eq)]
+pub struct Standing {
+    pub who: Arrival,
+    pub condition: u8,
+    pub holds: u32,
+    pub how: End,
+}
+
+/// One who sleeps on a condition, and the holds that it gave up.
+#[derive(Clone, Copy, Debug, PartialEq, Eq)]
+pub struct Sleeper {
+    pub seat: u16,
+    pub holds: u32,
+}
+
+/// What entries that were folded leave of an object: all that the definitions ask of them.
+///
+/// All places are reserved at the opening, so that a fold takes no memory.
+#[derive(Debug, Drop)]
+pub struct Base {
+    pub header: Header,
+    /// How many entries were folded.
+    pub entries: u128,
+    /// What each seat has, in order.
+    pub seats: Vec<SeatBase>,
+    /// Permits released by seats that did not hold them.
+    pub unheld: u128,
+    /// The count of a latch.
+    pub count: u32,
+    /// Who waits in line.
+    pub line: Vec<Standing>,
+    /// Who sleeps on each condition, in order.
+    pub sleepers: Vec<Vec<Sleeper>>,
+}
+
+impl Model for Base {
+    ghost use Rattle.std.specs.Prelude.{◌≤◌, map, All, vec_capacity};
+    ghost use Rattle.history.specs.Base.{Base};
+
+    ghost Value = { Base };
+
+    ghost view = { λ a. record {
+      header = a.header;
+      entries = a.entries;
+      seats = a.seats.items;
+      unheld = a.unheld;
+      count = a.count;
+      line = a.line.items;
+      sleepers = map (λ list. list.items) a.sleepers.items;
+    } };
+
+    // Each seat has a place in line, and one on each condition.
+    ghost invariant = { λ a. (a.header.seats ≤ vec_capacity a.line)
+        × All (λ list. a.header.seats ≤ vec_capacity list) a.sleepers.items };
+}
+
+/// What a seat has that did nothing yet.
+const NOTHING: SeatBase = SeatBase {
+    calls: 0,
+    exclusive: 0,
+    shared: 0,
+};
+
+impl Base {
+    /// The base of an object as it is opened. It reserves all places; `OutOfMemory` is the only fault.
+    pub fn open(alloc: Global, header: &Header) -> Result<Base, Fault>
+        ensures opened { IfOk result (λ base. base ≡ opening_base header.now) }
+        ensures refused { IfErr result (λ fault. fault ≡ OutOfMemory) }
+    {
+        let seats = vec![in alloc; NOTHING; header.seats as usize]?;
+        let line = Vec::with_capacity(alloc, header.seats as usize)?;
+        let sleepers = no_sleepers(alloc, header.conditions, header.seats)?;
+        Ok(Base {
+            header: *header,
+            entries: 0,
+            seats,
+            unheld: 0,
+            count: opening_count(header.object),
+            line,
+            sleepers,
+        })
+    }
+}
+
+/// The number that a latch counts down from.
+fn opening_count(object: Object) -> u32
+    ensures { result ≡ opening_count object }
+{
+    match object {
+        Object::Latch(count) => count,
+        Object::Lock(_) | Object::ReadWrite(_) | Object::Semaphore(_, _) => 0,
+    }
+}
+
+/// An empty list for each condition, with a place for each seat.
+fn no_sleepers(alloc: Global, conditions: u8, seats: u16) -> Result<Vec<Vec<Sleeper>>, Fault>
+    ensures empty { IfOk result (λ lists. map (λ list. list.items) lists.items
+        ≡ each_below conditions (λ c. [])) }
+    ensures places { IfOk result (λ lists. All (λ list. seats ≤ vec_capacity list) lists.items) }
+    ensures refused { IfErr result (λ fault. fault ≡ OutOfMemory) }
+{
+    let mut lists = Vec::with_capacity(alloc, conditions as usize)?;
+    for _ in 0..conditions {
+        let list = Vec::with_capacity(alloc, seats as usize)?;
+        lists.push_reserved(list);
+    }
+    Ok(lists)
+}

@@ -1,0 +1,31 @@
+-- What two parts of a history say, where it can be folded.
+use Rattle.std.proofs.Common.{◌≡◌, ℕ, List, ◌∷◌, ◌++◌, sym}
+use Rattle.history.specs.declared.entry.Entry.{Entry}
+use Rattle.history.specs.declared.step.Step.{Step}
+use Rattle.history.specs.Base.{Base, based, folded}
+use Rattle.history.specs.Naming.{named}
+use Rattle.history.specs.Point.{CanFold}
+use Rattle.history.specs.Steps.{entry_for}
+use Rattle.history.proofs.Alike.{Alike, entry_alike, named_alike}
+use Rattle.history.proofs.Folding.{folds_on, goes_on}
+use Rattle.history.proofs.Points.{seated_behind}
+
+pub behind : (b : Base) (g h : List Entry) → CanFold b (h ++ g) →
+    Alike b.header (based b) (based (folded b g)) (h ++ g) h
+behind b g h can = goes_on b g h can.good (seated_behind (based b) h g can.seated) can.legal
+
+pub entry_behind : (b : Base) (g h : List Entry) (i : ℕ) (x : Step) → CanFold b (h ++ g) →
+    entry_for (based (folded b g)) h i x ≡ entry_for (based b) (h ++ g) i x
+entry_behind b g h i x can =
+    sym (entry_alike b.header (based b) (based (folded b g)) (h ++ g) h (behind b g h can) i x)
+
+pub named_behind : (b : Base) (g h : List Entry) (e : Entry) → CanFold b (e ∷ h ++ g) →
+    named (based (folded b g)) h e ≡ named (based b) (h ++ g) e
+named_behind b g h e can =
+    sym (named_alike b.header (based b) (based (folded b g)) (h ++ g) h
+    (behind b g h (record { good = can.good; seated = can.seated.1; legal = can.legal.1 })) e
+    (behind b g (e ∷ h) can))
+
+pub folds_behind : (b : Base) (g h : List Entry) → CanFold b (h ++ g) →
+    folded (folded b g) h ≡ folded b (h ++ g)
+folds_behind b g h can = folds_on b g h can.good (seated_behind (based b) h g can.seated) can.legal

@@ -1,0 +1,157 @@
+//! Bases: the numbers and lists that entries leave stand for these entries.
+
+ghost use Rattle.std.specs.Prelude.{◌≡◌, ◌≢◌, ◌↔◌, ◌+◌, ◌≤◌, ℕ, List, [], ◌∷◌, ◌++◌, length, true};
+ghost use Rattle.std.specs.List.{AllByRecursion};
+ghost use Rattle.history.specs.declared.entry.Entry.{Entry};
+ghost use Rattle.history.specs.declared.header.Header.{Header};
+ghost use Rattle.history.specs.declared.step.Step.{Step};
+ghost use Rattle.history.specs.Base.{Base, based, folded, opening_base};
+ghost use Rattle.history.specs.Conservation.{IsConserved};
+ghost use Rattle.history.specs.Counts.{count, free, held, unheld};
+ghost use Rattle.history.specs.GoodBase.{IsGood, IsModest, most_folded};
+ghost use Rattle.history.specs.Header.{IsInRange};
+ghost use Rattle.history.specs.Legal.{AreSeated, IsLegal, calls};
+ghost use Rattle.history.specs.Line.{line};
+ghost use Rattle.history.specs.Naming.{named};
+ghost use Rattle.history.specs.Object.{is_lock, is_semaphore};
+ghost use Rattle.history.specs.Order.{IsFairOrder, IsInOrder};
+ghost use Rattle.history.specs.Ownership.{IsOwned, is_away};
+ghost use Rattle.history.specs.Phase.{phase};
+ghost use Rattle.history.specs.Point.{Agrees, CanFold, ComesBefore, FollowsBy, Point};
+ghost use Rattle.history.specs.Room.{owed};
+ghost use Rattle.history.specs.Sleepers.{last_sleep, sleepers};
+ghost use Rattle.history.specs.Start.{opening};
+ghost use Rattle.history.specs.Steps.{entry_for};
+ghost use Rattle.history.specs.Waiting.{IsOneWait};
+ghost use Rattle.laws.specs.Forgetful.{counted_out, forgets_a_permit, forgets_a_read, forgets_a_sleeper, forgets_the_count, gave_a_read, granted_first, moved, opened_latch, opened_lock, opened_read_write, opened_semaphore, passes, read_held, released_unheld, reverses_its_line, slept, took_a_permit, two_in_line};
+
+/// An object as it is opened is a base of no entries.
+pub fn an_opening_is_a_base()
+    ensures start { (k : Header) → based (opening_base k) ≡ opening k }
+    ensures good { (k : Header) → IsInRange k → IsGood (opening_base k) }
+{}
+
+/// From the fold of `g`, whatever the definitions say of `h` is what they say of `g` and then `h`. They speak
+/// of the free permits of a semaphore, and of the last sleep of one who sleeps or comes back.
+pub fn a_base_stands_for_its_entries()
+    ensures held { (b : Base) (g h : List Entry) → CanFold b (h ++ g) →
+        held (based (folded b g)) h ≡ held (based b) (h ++ g) }
+    ensures unheld { (b : Base) (g h : List Entry) → CanFold b (h ++ g) →
+        unheld (based (folded b g)) h ≡ unheld (based b) (h ++ g) }
+    ensures free { (b : Base) (g h : List Entry) → CanFold b (h ++ g) → is_semaphore b.header.object ≡ true →
+        free (based (folded b g)) h ≡ free (based b) (h ++ g) }
+    ensures count { (b : Base) (g h : List Entry) → CanFold b (h ++ g) →
+        count (based (folded b g)) h ≡ count (based b) (h ++ g) }
+    ensures line { (b : Base) (g h : List Entry) → CanFold b (h ++ g) →
+        line (based (folded b g)) h ≡ line (based b) (h ++ g) }
+    ensures sleepers { (b : Base) (g h : List Entry) → CanFold b (h ++ g) →
+        sleepers (based (folded b g)) h ≡ sleepers (based b) (h ++ g) }
+    ensures last_sleep { (b : Base) (g h : List Entry) (i : ℕ) → CanFold b (h ++ g) →
+        is_away (phase (based b) (h ++ g) i) ≡ true →
+        last_sleep (based (folded b g)) h i ≡ last_sleep (based b) (h ++ g) i }
+    ensures phase { (b : Base) (g h : List Entry) (i : ℕ) → CanFold b (h ++ g) →
+        phase (based (folded b g)) h i ≡ phase (based b) (h ++ g) i }
+    ensures calls { (b : Base) (g h : List Entry) → CanFold b (h ++ g) →
+        calls (based (folded b g)) h ≡ calls (based b) (h ++ g) }
+    ensures owed { (b : Base) (g h : List Entry) → CanFold b (h ++ g) →
+        owed (based (folded b g)) h ≡ owed (based b) (h ++ g) }
+{}
+
+/// A step makes the same entry behind a fold, and the entry names the same seat.
+pub fn a_step_goes_on_from_a_base()
+    ensures entry { (b : Base) (g h : List Entry) (i : ℕ) (step : Step) → CanFold b (h ++ g) →
+        entry_for (based (folded b g)) h i step ≡ entry_for (based b) (h ++ g) i step }
+    ensures named { (b : Base) (g h : List Entry) (e : Entry) → CanFold b (e ∷ h ++ g) →
+        named (based (folded b g)) h e ≡ named (based b) (h ++ g) e }
+{}
+
+/// Entries are legal on a good base exactly if those of a front are, and what comes after is legal from the
+/// fold of the front.
+pub fn legality_goes_on_from_a_base()
+    ensures { (b : Base) (g h : List Entry) → IsGood b → AreSeated (based b) g →
+        IsLegal (based b) (h ++ g) ↔ (IsLegal (based b) g × IsLegal (based (folded b g)) h) }
+{}
+
+/// To fold nothing changes nothing, and to fold in parts is to fold at once.
+pub fn a_base_can_be_folded()
+    ensures nothing { (b : Base) → IsGood b → folded b [] ≡ b }
+    ensures parts { (b : Base) (g h : List Entry) → CanFold b (h ++ g) →
+        folded (folded b g) h ≡ folded b (h ++ g) }
+{}
+
+/// The fold of legal entries on a good base is a good base, unless more are folded than there may be. Permits
+/// stay few where each entry folded moved no more than a request may be for, as from an opening on.
+pub fn the_fold_of_legal_entries_is_good()
+    ensures good { (b : Base) (g : List Entry) → IsInRange b.header → CanFold b g →
+        b.entries + length g ≤ most_folded → IsModest b → IsGood (folded b g) }
+    ensures modest { (b : Base) (g : List Entry) → IsInRange b.header → CanFold b g →
+        b.entries + length g ≤ most_folded → IsModest b → IsModest (folded b g) }
+    ensures opening { (k : Header) → IsModest (opening_base k) }
+{}
+
+/// What is seen of a history grows, or is folded with entries behind it: an order in which nothing that was
+/// seen is unsaid.
+pub fn what_is_seen_stands_in_order()
+    ensures same { (p : Point) → ComesBefore p p }
+    ensures further { (p q r : Point) → ComesBefore p q → ComesBefore q r → ComesBefore p r }
+{}
+
+/// What follows a point comes after it. Of the seat whose entries were added it has these and what it had,
+/// and of every other seat what it had. Of an opening it has nothing.
+pub fn what_follows_comes_after()
+    ensures before { (p q : Point) (added : List Entry) → CanFold p.base p.entries → FollowsBy p q added →
+        ComesBefore p q }
+    ensures own { (p q : Point) (i : ℕ) (added all : List Entry) → CanFold p.base p.entries →
+        FollowsBy p q added → AllByRecursion (λ e. e.seat ≡ i) added → Agrees p i all →
+        Agrees q i (added ++ all) }
+    ensures other { (p q : Point) (i j : ℕ) (added all : List Entry) → CanFold p.base p.entries →
+        FollowsBy p q added → AllByRecursion (λ e. e.seat ≡ i) added → i ≢ j → Agrees p j all →
+        Agrees q j all }
+    ensures opening { (k : Header) (p : Point) (i : ℕ) → p.base ≡ opening_base k → p.entries ≡ [] →
+        Agrees p i [] }
+{}
+
+/// On a good base nobody in line is passed. Those who stood there came before all others.
+pub fn nobody_is_passed_on_a_base()
+    ensures line { (b : Base) (h : List Entry) → IsGood b → IsLegal (based b) h → IsInOrder (based b) h }
+    ensures fair { (b : Base) (h : List Entry) → IsLegal (based b) h → IsFairOrder (based b) h }
+{}
+
+/// On a good base permits are conserved, a lock has one owner, and a seat waits once.
+pub fn what_holds_of_a_history_holds_on_a_base()
+    ensures permits { (b : Base) (h : List Entry) → is_semaphore b.header.object ≡ true → CanFold b h →
+        IsConserved (based b) h }
+    ensures owner { (b : Base) (h : List Entry) → is_lock b.header.object ≡ true → CanFold b h →
+        IsOwned (based b) h }
+    ensures once { (b : Base) (h : List Entry) → IsGood b → IsLegal (based b) h → IsOneWait (based b) h }
+{}
+
+/// A base that forgets a sleeper is not the fold: a signal that moved it no longer does.
+pub fn a_base_that_forgets_a_sleeper_is_no_fold()
+    ensures legal { IsLegal (based (folded opened_lock slept)) moved }
+    ensures illegal { IsLegal (based forgets_a_sleeper) moved → ⊥ }
+{}
+
+/// Nor is one that forgets a read hold: its release is no longer legal.
+pub fn a_base_that_forgets_a_read_is_no_fold()
+    ensures legal { IsLegal (based (folded opened_read_write read_held)) gave_a_read }
+    ensures illegal { IsLegal (based forgets_a_read) gave_a_read → ⊥ }
+{}
+
+/// Nor is one that forgets a permit released unheld: it is no longer free.
+pub fn a_base_that_forgets_a_permit_is_no_fold()
+    ensures legal { IsLegal (based (folded opened_semaphore released_unheld)) took_a_permit }
+    ensures illegal { IsLegal (based forgets_a_permit) took_a_permit → ⊥ }
+{}
+
+/// Nor is one that forgets the count of a latch: it is closed again.
+pub fn a_base_that_forgets_the_count_is_no_fold()
+    ensures legal { IsLegal (based (folded opened_latch counted_out)) passes }
+    ensures illegal { IsLegal (based forgets_the_count) passes → ⊥ }
+{}
+
+/// Nor is one whose line is in reverse: the first is no longer granted.
+pub fn a_base_that_reverses_its_line_is_no_fold()
+    ensures legal { IsLegal (based (folded opened_lock two_in_line)) granted_first }
+    ensures illegal { IsLegal (based reverses_its_line) granted_first → ⊥ }
+{}
