@@ -1,4 +1,7 @@
-"""What `aqs draw` must show of a history: the bars, labels and marks of docs/SPECIFICATION.md once more, in Python."""
+"""What `aqs draw` must show of a history: the bars, labels and marks of docs/SPECIFICATION.md once more, in Python.
+
+What that page leaves open, the shapes of the marks and the places within a row, is as in the crate `picture`.
+"""
 
 import re
 import xml.etree.ElementTree as xml
