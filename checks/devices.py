@@ -1,13 +1,15 @@
 #!/usr/bin/env python3
 """Devices that fail, and lines and texts without end: checks/devices.py PROGRAM [GIGABYTES].
 
-For each of replay, audit and run: input that comes one byte at a time and output that is taken so, an output
-that nobody reads, a full disk, a folder and a file that may not be read as FILE, and ever less address space
+For each of replay, audit, draw and run: input that comes one byte at a time and output that is taken so, an output
+that nobody reads, a full disk, a folder and a file that may not be read as FILE, and ever less memory for data
 until the system does not load the program. With GIGABYTES, that much of good steps flows through `aqs replay
 --history` into `aqs audit` by pipes, and their greatest memory is told. The last line is 'N passed, M
 failed'.
 """
 
+import collections
+import json
 import os
 import pathlib
 import resource
@@ -18,6 +20,7 @@ import tempfile
 import threading
 
 import rules
+import storms
 
 STEPS = b"""aqs-steps 1 lock fair seats 2 conditions 0 cap 64
 0 acquire x 1
@@ -41,12 +44,16 @@ shares 2
 unrecorded 0
 """
 HISTORY = rules.replay(STEPS, True)[1]
+EXAMPLES = pathlib.Path(__file__).resolve().parent.parent / "examples"
+DRAWN = rules.replay((EXAMPLES / "bounded_buffer.steps").read_bytes(), True)[1]
+PICTURE = (EXAMPLES / "bounded_buffer.svg").read_bytes()
 
 # The words of each command, its input, and what it writes.
 COMMANDS = [
     (["replay"], STEPS, rules.replay(STEPS)[1]),
     (["replay", "--history"], STEPS, HISTORY),
     (["audit"], HISTORY, rules.audit(HISTORY)[1]),
+    (["draw"], DRAWN, PICTURE),
     (["run"], SCRIPT, RUN),
 ]
 READ_FAILED = (4, b"", b"aqs: read failed\n")
@@ -92,24 +99,34 @@ def closed_pipe(program, words, text):
 
 
 def within(program, words, text, pages):
-    """The answer with so many pages of address space."""
+    """The answer with so many pages of data: variables, heap and the stacks of threads. The stack of `main` is
+    none of them. A limit of the address space stops its growth too, and then the system ends the program."""
     size = pages * resource.getpagesize()
-    return run(program, words, text, preexec_fn=lambda: resource.setrlimit(resource.RLIMIT_AS, (size, size)))
+    return run(program, words, text, preexec_fn=lambda: resource.setrlimit(resource.RLIMIT_DATA, (size, size)))
+
+
+def lacks_memory(words, answer):
+    """Whether a command says that it lacked memory. The threads of a script may lack it at each call; then the run
+    text counts these calls."""
+    if answer[0] == 0:
+        return words == ["run"] and not answer[2] and storms.judged(json.loads(SCRIPT), answer[1].decode())[0] is None
+    return answer in ((5, b"", b"aqs: out of memory\n"), (4, b"", b"aqs: thread 0 not started\n"))
 
 
 def little_memory(program, words, text, wanted):
-    """Whether a command with ever less address space answers as ever, or lacks memory and writes nothing, down
-    to the size at which the system does not load the program."""
+    """Whether a command with ever less memory answers as ever, or lacks memory and writes nothing, down to the
+    size at which the system does not load the program."""
     most = next(pages for pages in range(2000, 200_000, 2000) if within(program, words, text, pages)[0] == 0)
-    lacked = 0
+    lacked = collections.Counter()
     for pages in range(most, 0, -1):
         answer = within(program, words, text, pages)
-        if answer in ((5, b"", b"aqs: out of memory\n"), (4, b"", b"aqs: thread 0 not started\n")):
-            lacked += 1
-        elif answer != (0, wanted, b""):
-            is_loading = answer[0] == 127 or answer[0] < 0 and not answer[1]
-            print(f"  {words}: {lacked} sizes lacked memory; at {pages} pages {answer[0]} {answer[2][:80]!r}")
-            return is_loading
+        if answer == (0, wanted, b""):
+            continue
+        if not lacks_memory(words, answer):
+            told = ", ".join(f"{count} times {said}" for said, count in lacked.items())
+            print(f"  {words}: {told}; at {pages} pages {answer[0]} {answer[2][:80]!r}")
+            return bool(lacked) and (answer[0] == 127 or answer[0] < 0) and not answer[1]
+        lacked[answer[2].decode().strip() or "calls that lack memory"] += 1
     return False
 
 

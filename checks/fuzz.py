@@ -3,7 +3,8 @@
 
 Half of the texts are good steps: `aqs replay`, `aqs replay --history` and `aqs audit` of that history must
 answer as checks/rules.py does, and the history must be legal. A quarter are steps that were spoilt, a quarter
-histories that were, in their entries or in their bytes. Whatever disagrees is printed, and the status is 1.
+histories that were, in their entries or in their bytes. Each history is drawn too: `aqs draw` must have the status
+or the fault of `aqs audit`, and show what checks/drawn.py does. Whatever disagrees is printed, and the status is 1.
 """
 
 import collections
@@ -11,6 +12,7 @@ import multiprocessing
 import random
 import sys
 
+import drawn
 import rules
 from program import Program
 
@@ -164,13 +166,22 @@ def tries(chance):
         spoil = chance.choice((spoilt_bytes, spoilt_entries, spoilt_entries))
         for _ in range(chance.choice((1, 1, 2, 3))):
             text = spoil(chance, text) or b"\n"
-        yield ["audit"], text, rules.audit(text)
+        for name in ("audit", "draw"):
+            yield [name], text, rules.audit(text)
         return
     audited = rules.audit(history[1])
     assert audited[0] == 0, steps
     yield ["replay"], steps, rules.replay(steps)
     yield ["replay", "--history"], steps, history
     yield ["audit"], history[1], audited
+    yield ["draw"], history[1], audited
+
+
+def agrees(words, text, wanted, answer):
+    """Whether an answer is the wanted one; a picture must show what its history says."""
+    if words != ["draw"] or wanted[0] > 1:
+        return answer == wanted
+    return (answer[0], answer[2]) == (wanted[0], b"") and drawn.is_drawn(answer[1], text)
 
 
 def fuzz(path, texts, seed):
@@ -182,7 +193,7 @@ def fuzz(path, texts, seed):
         for words, text, wanted in tries(chance):
             answer = program.answer(words, text)
             kinds[" ".join(words), wanted[0]] += 1
-            if answer != wanted:
+            if not agrees(words, text, wanted, answer):
                 wrong.append((words, text, wanted, answer))
     program.close()
     return kinds, wrong

@@ -1,9 +1,11 @@
 #!/usr/bin/env python3
-"""Many threads at few objects: checks/storms.py PROGRAM SECONDS [THREADS [OBJECTS]].
+"""Many threads at few objects: checks/storms.py PROGRAM SECONDS [THREADS [OBJECTS [EVERY]]].
 
 Scripts by chance, of 64 threads at 4 objects if no number is given, until so many seconds were run. Each
-thread holds one object at a time, so that no script waits for ever. Of each run the status, the shares, the
-audit of the program and that of checks/rules.py are compared. The last line is 'N passed, M failed'.
+thread holds one object at a time, so that no script waits for ever. Of each run the status, the verdicts, the
+shares and the numbers of calls are compared. Of the first run, and of each EVERY-th behind it (1 if no number is
+given; none if it is 0), the audit of checks/rules.py too, which takes many times as long as the run. The last line is 'N passed, M
+failed'.
 """
 
 import json
@@ -63,7 +65,7 @@ def script(chance, threads, count):
 PART = re.compile(r"object (\S+)\n(aqs-history .*?\nend (\d+) (\d+)\n)(legal\n.*?)shares (\d+)\n", re.S)
 
 
-def judged(said, text):
+def judged(said, text, by_rules=True):
     """What is wrong with a run text, if anything, and how many entries and calls it has."""
     made = {pair[0]: 0 for pair in said["objects"]}
     for work in said["threads"]:
@@ -78,7 +80,7 @@ def judged(said, text):
     for name, history, _, ended, audit, shares in found:
         if int(ended) != int(shares):
             return f"{name}: {ended} calls, shares {shares}", entries, 0
-        if rules.audit(history.encode()) != (0, audit.encode(), b""):
+        if by_rules and rules.audit(history.encode()) != (0, audit.encode(), b""):
             return f"{name}: {rules.audit(history.encode())}, {audit}", entries, 0
     calls = sum(int(part[3]) for part in found)
     if calls + int(unrecorded.group(1)) != sum(made.values()):
@@ -88,7 +90,7 @@ def judged(said, text):
 
 def main(words):
     program, seconds = words[0], int(words[1])
-    threads, count = [int(word) for word in words[2:]] + [64, 4][len(words[2:]):]
+    threads, count, every = [int(word) for word in words[2:]] + [64, 4, 1][len(words[2:]):]
     chance = random.Random(seconds)
     passed = failed = entries = ended_calls = 0
     spent = 0.0
@@ -98,7 +100,7 @@ def main(words):
         text = json.dumps(said).encode()
         done = subprocess.run([program, "run"], input=text, capture_output=True, timeout=300)
         spent += time.monotonic() - begun
-        wrong, more, ended = judged(said, done.stdout.decode())
+        wrong, more, ended = judged(said, done.stdout.decode(), every > 0 and (passed + failed) % every == 0)
         wrong = wrong or (done.returncode, done.stderr) != (0, b"") and (done.returncode, done.stderr)
         passed, failed = passed + (not wrong), failed + bool(wrong)
         entries, ended_calls = entries + more, ended_calls + ended
@@ -111,6 +113,6 @@ def main(words):
 
 
 if __name__ == "__main__":
-    if not 3 <= len(sys.argv) <= 5:
+    if not 3 <= len(sys.argv) <= 6:
         sys.exit(__doc__)
     sys.exit(main(sys.argv[1:]))

@@ -27,7 +27,7 @@ pub(crate) const STYLE: &[u8] = b"<style type='text/css'>\n\
     .n{font-size:10px}\n\
     .i{font-size:10px;fill:#fff}\n\
     .m{fill:none;stroke:#222;stroke-width:1.3}\n\
-    .a{text-anchor:end}\n\
+    .a{font-size:10px;text-anchor:end}\n\
     .c{fill:none;stroke:#14467c;stroke-width:1.5}\n\
     .e{fill:#c00;fill-opacity:0.2;stroke:#c00}\n\
     .f{fill:#a00;font-weight:bold}\n\
