@@ -12,14 +12,17 @@ use Rattle.history.specs.declared.entry.Mode.TheVariants.{X, S}
 use Rattle.history.specs.declared.entry.Word.{Word}
 use Rattle.history.specs.declared.entry.Word.TheVariants as word
 use Rattle.history.specs.Base.{Base, based, each_below, folded, nothing, or_awake, seat_after, seat_of, sleep_on, sleeper_after, sleepers_of, standing_after, stands_from}
-use Rattle.history.specs.Counts.{count, counted_after, holds_after}
+use Rattle.history.specs.Counts.{count, counted_after, holds_after, total, unheld}
 use Rattle.history.specs.Entry.{ends_call, same_mode}
 use Rattle.history.specs.GoodBase.{IsGood}
 use Rattle.history.specs.Line.{arrivals_by, coming_back, line}
 use Rattle.history.specs.NextBase.{count_then, joins_line, next_base, seat_then, signalled_on, sleepers_then, stays_there}
+use Rattle.history.specs.Object.{opening_count}
+use Rattle.history.specs.Point.{CanFold}
 use Rattle.history.specs.Sleepers.{has, last_sleep, sleep_after, sleepers, sleepers_after, without}
 use Rattle.history.specs.Start.{Sleep, awake}
-use Rattle.history.proofs.Entering.{Known, KnownBy}
+use Rattle.history.specs.Waiting.{times}
+use Rattle.history.proofs.Entering.{Known, KnownBy, known}
 use Rattle.history.proofs.Folding.{SleptAs, all_again, all_slept, few_counted, get_or-each, length-each}
 use Rattle.history.proofs.GoodBases.{good_waits, sleep_of, slept_there}
 use Rattle.history.proofs.LineLemmas.{line_after, line_at_first, stays}
@@ -155,7 +158,31 @@ each_taken P zero xs all = tt
 each_taken P (suc n) [] all = tt
 each_taken P (suc n) (x ∷ xs) all = (all.0, each_taken P n xs all.1)
 
-module _ (b : Base) (e : Entry) (good : IsGood b) (known : Known (based b) [] e) where
+dropped_seats : (n : ℕ) (xs : List Sleeper) → drop n (map (λ x. x.seat) xs) ≡ map (λ x. x.seat) (drop n xs)
+dropped_seats zero xs = refl
+dropped_seats (suc n) [] = refl
+dropped_seats (suc n) (x ∷ xs) = dropped_seats n xs
+
+each_dropped : {A : Type 0} (P : A → Type 0) (n : ℕ) (xs : List A) → AllByRecursion P xs →
+    AllByRecursion P (drop n xs)
+each_dropped P zero xs all = all
+each_dropped P (suc n) [] all = tt
+each_dropped P (suc n) (x ∷ xs) all = each_dropped P n xs all.1
+
+without_seats : (i : ℕ) (xs : List Sleeper) →
+    without i (map (λ x. x.seat) xs) ≡ map (λ x. x.seat) (filter (λ x. not (eqb x.seat i)) xs)
+without_seats i [] = refl
+without_seats i (x ∷ xs) = by (eqb x.seat i) (without_seats i xs)
+  where
+    by : (t : Bool) →
+        without i (map (λ x. x.seat) xs) ≡ map (λ x. x.seat) (filter (λ x. not (eqb x.seat i)) xs) →
+        cond (not t) (x.seat ∷ without i (map (λ x. x.seat) xs)) (without i (map (λ x. x.seat) xs))
+        ≡ map (λ x. x.seat) (cond (not t) (x ∷ filter (λ x. not (eqb x.seat i)) xs)
+        (filter (λ x. not (eqb x.seat i)) xs))
+    by true ih = ih
+    by false ih = ap (λ l. x.seat ∷ l) ih
+
+module _ (b : Base) (e : Entry) (good : IsGood b) (k : Known (based b) [] e) where
   start : Waits (based b) []
   start = good_waits b good
 
@@ -207,7 +234,7 @@ module _ (b : Base) (e : Entry) (good : IsGood b) (known : Known (based b) [] e)
       ap (map (standing_after b (e ∷ []))) (line_after (based b) e [])
       ∙ map-append (standing_after b (e ∷ [])) (filter (stays e.word e.seat) (line (based b) []))
       (arrivals_by (based b) e.word e [])
-      ∙ (λ j. stay j ++ joins_again e.word refl known j)
+      ∙ (λ j. stay j ++ joins_again e.word refl k j)
     where
       at_first : filter (stays e.word e.seat) (line (based b) []) ≡ map (λ p. p.who) (filter (stays_there e) b.line)
       at_first = ap (filter (stays e.word e.seat)) (line_at_first (based b)) ∙ stays_as e b.line
@@ -215,7 +242,7 @@ module _ (b : Base) (e : Entry) (good : IsGood b) (known : Known (based b) [] e)
       others : AllByRecursion (λ a. e.seat ≢ a.seat) (map (λ p. p.who) (filter (stays_there e) b.line))
       others =
           subst (AllByRecursion (λ (a : Arrival). e.seat ≢ a.seat)) at_first
-          (line_stays (λ a. Unit {0}) (λ a. e.seat ≢ a.seat) (based b) [] e (acts (based b) [] e known)
+          (line_stays (λ a. Unit {0}) (λ a. e.seat ≢ a.seat) (based b) [] e (acts (based b) [] e k)
           (λ a ne u. ne) (each_unit (line (based b) [])))
 
       stay : map (standing_after b (e ∷ [])) (filter (stays e.word e.seat) (line (based b) []))
@@ -224,3 +251,123 @@ module _ (b : Base) (e : Entry) (good : IsGood b) (known : Known (based b) [] e)
           ap (map (standing_after b (e ∷ []))) at_first
           ∙ left_again b e (filter (stays_there e) b.line) others
           (each-filter (λ p. standing_after b [] p.who ≡ p) (stays_there e) b.line (all_again b good))
+
+  -- what a sleeper gave up stays so
+  holds_left : (c i : ℕ) → c < b.header.conditions → has i (sleepers (based b) [] c) ≡ true →
+      (last_sleep (based b) (e ∷ []) i).holds ≡ (last_sleep (based b) [] i).holds
+  holds_left c i l t =
+      ⊎_elim own (λ ne. ap (λ (w : Sleep). w.holds) (sleep_left b e i ne)) (cases_eq e.seat i)
+    where
+      was : Sleep
+      was = last_sleep (based b) [] e.seat
+
+      no_await : KnownBy (based b) [] e word.Await → e.seat ≡ i → ⊥
+      no_await k same =
+          let z = idle_waits_nowhere (based b) [] e.seat k.0.idle in
+          let w = times-waiting (based b) [] e.seat in
+          let p = total_part b.header.conditions (λ d. times e.seat (sleepers (based b) [] d)) c l in
+          let o = has_once e.seat (sleepers (based b) [] c)
+          (subst (λ j. has j (sleepers (based b) [] c) ≡ true) (sym same) t) in
+          omega (arith, z, w, p, o)
+
+      by : (w : Word) → KnownBy (based b) [] e w → e.seat ≡ i → (sleep_after w e was).holds ≡ was.holds
+      by word.Await k same = absurd (no_await k same)
+      by word.Lapse k same = refl
+      by _ k same = refl
+
+      own : e.seat ≡ i → (last_sleep (based b) (e ∷ []) i).holds ≡ (last_sleep (based b) [] i).holds
+      own same =
+          ap (λ j. (last_sleep (based b) (e ∷ []) j).holds) (sym same)
+          ∙ ap (λ (w : Sleep). w.holds) (last_sleep_own (based b) e [])
+          ∙ by e.word k same
+          ∙ ap (λ j. (last_sleep (based b) [] j).holds) same
+
+  list_left : (c : ℕ) → c < b.header.conditions → (xs : List Sleeper) → AllByRecursion (SleptAs b c) xs →
+      map (sleeper_after b (e ∷ [])) (map (λ x. x.seat) xs) ≡ xs
+  list_left c l [] slept = refl
+  list_left c l (x ∷ xs) slept =
+      λ j. record {
+        seat = x.seat;
+        holds = (holds_left c x.seat l slept.0.0 ∙ ap (λ (w : Sleep). w.holds) slept.0.1) j;
+      }
+      ∷ list_left c l xs slept.1 j
+
+  list_then : e.at < b.header.conditions → (w : Word) → e.word ≡ w →
+      map (sleeper_after b (e ∷ [])) (sleepers_after w e.seat e.n (map (λ x. x.seat) (sleepers_of b e.at)))
+      ≡ sleepers_then w e (sleepers_of b e.at)
+  list_then l word.Await q =
+      map-append (sleeper_after b (e ∷ [])) (map (λ x. x.seat) (sleepers_of b e.at)) (e.seat ∷ [])
+      ∙ (λ j. list_left e.at l (sleepers_of b e.at) (all_slept b good e.at l) j
+      ++ record { seat = e.seat; holds = gave j } ∷ [])
+    where
+      gave : (last_sleep (based b) (e ∷ []) e.seat).holds ≡ e.n
+      gave =
+          ap (λ (w : Sleep). w.holds) (last_sleep_own (based b) e []
+          ∙ ap (λ w. sleep_after w e (last_sleep (based b) [] e.seat)) q)
+  list_then l word.Lapse q =
+      ap (map (sleeper_after b (e ∷ []))) (without_seats e.seat (sleepers_of b e.at))
+      ∙ list_left e.at l (filter (λ x. not (eqb x.seat e.seat)) (sleepers_of b e.at))
+      (each-filter (SleptAs b e.at) (λ x. not (eqb x.seat e.seat)) (sleepers_of b e.at)
+      (all_slept b good e.at l))
+  list_then l word.Signal q =
+      ap (map (sleeper_after b (e ∷ []))) (dropped_seats e.n (sleepers_of b e.at))
+      ∙ list_left e.at l (drop e.n (sleepers_of b e.at))
+      (each_dropped (SleptAs b e.at) e.n (sleepers_of b e.at) (all_slept b good e.at l))
+  list_then l word.SignalAll q = refl
+  list_then l _ q = list_left e.at l (sleepers_of b e.at) (all_slept b good e.at l)
+
+  next_sleepers : each_below b.header.conditions
+      (λ c. map (sleeper_after b (e ∷ [])) (sleepers (based b) (e ∷ []) c))
+      ≡ set b.sleepers e.at (sleepers_then e.word e (sleepers_of b e.at))
+  next_sleepers =
+      ext_get_or [] (each_below b.header.conditions of) now
+      (length-each b.header.conditions of ∙ sym good.conditions
+      ∙ sym (length-set b.sleepers e.at (sleepers_then e.word e (sleepers_of b e.at))))
+      (λ c l.
+      let m : c < b.header.conditions = let n = length-each b.header.conditions of in omega (arith, n, l) in
+      get_or-each b.header.conditions of c [] m
+      ∙ ⊎_elim (λ same. here c m same) (λ ne. other c m ne) (cases_eq e.at c))
+    where
+      of : ℕ → List Sleeper
+      of c = map (sleeper_after b (e ∷ [])) (sleepers (based b) (e ∷ []) c)
+
+      now : List (List Sleeper)
+      now = set b.sleepers e.at (sleepers_then e.word e (sleepers_of b e.at))
+
+      here : (c : ℕ) → c < b.header.conditions → e.at ≡ c → of c ≡ get_or now c []
+      here c l same =
+          let m : e.at < b.header.conditions = omega (arith, l, same) in
+          let len = good.conditions in
+          ap of (sym same)
+          ∙ ap (map (sleeper_after b (e ∷ []))) (sleepers_here (based b) e [])
+          ∙ list_then m e.word refl
+          ∙ sym (get_or-set_same b.sleepers e.at (sleepers_then e.word e (sleepers_of b e.at)) []
+          (omega (arith, m, len)))
+          ∙ ap (λ n. get_or now n []) same
+
+      other : (c : ℕ) → c < b.header.conditions → e.at ≢ c → of c ≡ get_or now c []
+      other c l ne =
+          ap (map (sleeper_after b (e ∷ []))) (sleepers_other (based b) e [] c ne)
+          ∙ list_left c l (sleepers_of b c) (all_slept b good c l)
+          ∙ sym (get_or-set_other b.sleepers e.at c (sleepers_then e.word e (sleepers_of b e.at)) []
+          (λ q. ne (sym q)))
+
+-- The fold of one entry.
+pub next_is : (b : Base) (e : Entry) → CanFold b (e ∷ []) → folded b (e ∷ []) ≡ next_base b e
+next_is b e can =
+    λ j. record {
+      header = b.header;
+      entries = entries j;
+      seats = next_seats b e can.good.seats can.seated.0 j;
+      unheld = unheld (based b) (e ∷ []);
+      count = next_count e.word (opening_count b.header.object) b.count
+          (few_counted b.header.object b can.good.counted) j;
+      line = next_line b e can.good k j;
+      sleepers = next_sleepers b e can.good k j;
+    }
+  where
+    k : Known (based b) [] e
+    k = known (based b) [] can.legal.0.0 e can.legal.0.1
+
+    entries : b.entries + length (e ∷ []) ≡ b.entries + 1
+    entries = omega arith
