@@ -1,7 +1,7 @@
 -- The fold of one entry, part by part.
-use Rattle.std.proofs.Common.{◌≡◌, ◌≢◌, ◌⊎◌, ⊎_elim, inl, inr, ℕ, zero, suc, ◌+◌, ◌-◌, ◌<◌, ◌≤◌, Bool, true, false, not, ◌&&◌, ◌||◌, cond, eqb, List, [], ◌∷◌, ◌++◌, map, take, drop, length, get_or, set, Option, Some, None, refl, ap, ◌∙◌, sym, subst, arith}
+use Rattle.std.proofs.Common.{◌≡◌, ◌≢◌, ◌⊎◌, ⊎_elim, inl, inr, ℕ, zero, suc, ◌+◌, ◌-◌, ◌<◌, ◌≤◌, Bool, true, false, not, ◌&&◌, cond, eqb, List, [], ◌∷◌, ◌++◌, map, take, drop, length, get_or, set, Some, refl, ap, ◌∙◌, sym, subst, arith}
 use Rattle.std.specs.List.{filter, AllByRecursion}
-use Rattle.std.proofs.lemmas.Bool.{cases_eq, eq-eqb, ne_eqb, or_right}
+use Rattle.std.proofs.lemmas.Bool.{cases_eq, eq-eqb, ne_eqb}
 use Rattle.std.proofs.lemmas.List.{ext_get_or, get_or-set_other, get_or-set_same, length-set, map-append}
 use Rattle.history.specs.declared.arrival.Arrival.{Arrival}
 use Rattle.history.specs.declared.base.SeatBase.{SeatBase}
@@ -12,9 +12,11 @@ use Rattle.history.specs.declared.entry.Mode.TheVariants.{X, S}
 use Rattle.history.specs.declared.entry.Word.{Word}
 use Rattle.history.specs.declared.entry.Word.TheVariants as word
 use Rattle.history.specs.Base.{Base, based, each_below, folded, nothing, or_awake, seat_after, seat_of, sleep_on, sleeper_after, sleepers_of, standing_after, stands_from}
-use Rattle.history.specs.Counts.{count, counted_after, holds_after, total, unheld}
+use Rattle.history.specs.Counts.{counted_after, holds_after, unheld}
 use Rattle.history.specs.Entry.{ends_call, same_mode}
-use Rattle.history.specs.GoodBase.{IsGood}
+use Rattle.history.specs.GoodBase.{IsGood, IsModest, most_folded}
+use Rattle.history.specs.Header.{IsInRange}
+use Rattle.history.specs.Legal.{AreSeated, IsLegal}
 use Rattle.history.specs.Line.{arrivals_by, coming_back, line}
 use Rattle.history.specs.NextBase.{count_then, joins_line, next_base, seat_then, signalled_on, sleepers_then, stays_there}
 use Rattle.history.specs.Object.{opening_count}
@@ -23,10 +25,12 @@ use Rattle.history.specs.Sleepers.{has, last_sleep, sleep_after, sleepers, sleep
 use Rattle.history.specs.Start.{Sleep, awake}
 use Rattle.history.specs.Waiting.{times}
 use Rattle.history.proofs.Entering.{Known, KnownBy, known}
-use Rattle.history.proofs.Folding.{SleptAs, all_again, all_slept, few_counted, get_or-each, length-each}
+use Rattle.history.proofs.Folding.{SleptAs, all_again, all_slept, few_counted, folds_on, get_or-each, legal_goes_on, length-each}
 use Rattle.history.proofs.GoodBases.{good_waits, sleep_of, slept_there}
+use Rattle.history.proofs.GoodFolds.{fold_good}
 use Rattle.history.proofs.LineLemmas.{line_after, line_at_first, stays}
 use Rattle.history.proofs.OneWait.{Waits, acts, idle_waits_nowhere, lapsing, last_sleep_own, line_stays}
+use Rattle.history.proofs.Points.{seated_behind}
 use Rattle.history.proofs.SleepLemmas.{last_sleep_other, sleepers_here, sleepers_other, times-waiting}
 use Rattle.history.proofs.Times.{each-filter, has_once, total_part}
 
@@ -37,7 +41,8 @@ module _ (b : Base) (e : Entry) where
       ap (λ t. record {
         calls = (seat_of b e.seat).calls + cond (t && ends_call e.word) 1 0;
         exclusive = cond (t && same_mode e.mode X)
-            (holds_after b.header.object e.word e.n (seat_of b e.seat).exclusive) (seat_of b e.seat).exclusive;
+            (holds_after b.header.object e.word e.n (seat_of b e.seat).exclusive)
+            (seat_of b e.seat).exclusive;
         shared = cond (t && same_mode e.mode S)
             (holds_after b.header.object e.word e.n (seat_of b e.seat).shared) (seat_of b e.seat).shared;
       })
@@ -138,7 +143,8 @@ keeps_sleep word.SignalAll e true was q = refl
 keeps_sleep _ e true was q = absurd (⊎_elim (λ r. cc) (λ r. cc) q)
 keeps_sleep w e false was q = refl
 
-moved_again : (b : Base) (e : Entry) (xs : List Sleeper) → (e.word ≡ word.Signal) ⊎ (e.word ≡ word.SignalAll) →
+moved_again : (b : Base) (e : Entry) (xs : List Sleeper) →
+    (e.word ≡ word.Signal) ⊎ (e.word ≡ word.SignalAll) →
     AllByRecursion (SleptAs b e.at) xs →
     map (standing_after b (e ∷ [])) (map coming_back (map (λ x. x.seat) xs)) ≡ map (signalled_on e.at) xs
 moved_again b e [] w slept = refl
@@ -236,7 +242,8 @@ module _ (b : Base) (e : Entry) (good : IsGood b) (k : Known (based b) [] e) whe
       (arrivals_by (based b) e.word e [])
       ∙ (λ j. stay j ++ joins_again e.word refl k j)
     where
-      at_first : filter (stays e.word e.seat) (line (based b) []) ≡ map (λ p. p.who) (filter (stays_there e) b.line)
+      at_first : filter (stays e.word e.seat) (line (based b) []) ≡ map (λ p. p.who) (filter (stays_there e)
+          b.line)
       at_first = ap (filter (stays e.word e.seat)) (line_at_first (based b)) ∙ stays_as e b.line
 
       others : AllByRecursion (λ a. e.seat ≢ a.seat) (map (λ p. p.who) (filter (stays_there e) b.line))
@@ -371,3 +378,31 @@ next_is b e can =
 
     entries : b.entries + length (e ∷ []) ≡ b.entries + 1
     entries = omega arith
+
+-- What can be folded behind a front can be folded on the fold of the front.
+seated_front : (b : Base) (g h : List Entry) → AreSeated (based b) (h ++ g) → AreSeated (based (folded b g)) h
+seated_front b g [] a = tt
+seated_front b g (e ∷ h) a = (a.0, seated_front b g h a.1)
+
+pub can_go_on : (b : Base) (g h : List Entry) → IsInRange b.header → IsModest b →
+    b.entries + length g ≤ most_folded → CanFold b (h ++ g) → CanFold (folded b g) h
+can_go_on b g h range modest few can =
+    record {
+      good = fold_good b g range
+          (record { good = can.good; seated = seated; legal = parts.0 }) few modest;
+      seated = seated_front b g h can.seated;
+      legal = parts.1;
+    }
+  where
+    seated : AreSeated (based b) g
+    seated = seated_behind (based b) h g can.seated
+
+    parts : IsLegal (based b) g × IsLegal (based (folded b g)) h
+    parts = (legal_goes_on b g h can.good seated).0 can.legal
+
+-- A fold goes on from entry to entry.
+pub fold_next : (b : Base) (g : List Entry) (e : Entry) → IsInRange b.header → IsModest b →
+    b.entries + length g ≤ most_folded → CanFold b (e ∷ g) → folded b (e ∷ g) ≡ next_base (folded b g) e
+fold_next b g e range modest few can =
+    sym (folds_on b g (e ∷ []) can.good can.seated.1 can.legal)
+    ∙ next_is (folded b g) e (can_go_on b g (e ∷ []) range modest few can)
