@@ -563,7 +563,8 @@ one_found v w q = cc
 
 -- Who sleeps on a condition slept there last, with what it gave up.
 abbrev pub SleptAs : Base → ℕ → Sleeper → Type 0
-SleptAs b c x = (has x.seat (sleepers (based b) [] c) ≡ true) × (last_sleep (based b) [] x.seat ≡ sleep_of c x.holds)
+SleptAs b c x =
+    (has x.seat (sleepers (based b) [] c) ≡ true) × (last_sleep (based b) [] x.seat ≡ sleep_of c x.holds)
 
 each_slept : (b : Base) (good : IsGood b) (c : ℕ) (xs : List Sleeper) →
     AllByRecursion (HeldAs (λ i. sleep_on c i (sleepers_of b c))) xs →

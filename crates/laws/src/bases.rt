@@ -13,6 +13,7 @@ ghost use Rattle.history.specs.Header.{IsInRange};
 ghost use Rattle.history.specs.Legal.{AreSeated, IsLegal, calls};
 ghost use Rattle.history.specs.Line.{line};
 ghost use Rattle.history.specs.Naming.{named};
+ghost use Rattle.history.specs.NextBase.{next_base};
 ghost use Rattle.history.specs.Object.{is_lock, is_semaphore};
 ghost use Rattle.history.specs.Order.{IsFairOrder, IsInOrder};
 ghost use Rattle.history.specs.Ownership.{IsOwned, is_away};
@@ -77,6 +78,14 @@ pub fn a_base_can_be_folded()
     ensures nothing { (b : Base) → IsGood b → folded b [] ≡ b }
     ensures parts { (b : Base) (g h : List Entry) → CanFold b (h ++ g) →
         folded (folded b g) h ≡ folded b (h ++ g) }
+{}
+
+/// A fold goes on from entry to entry, as `next_base` says of each part.
+pub fn a_fold_goes_on_entry_by_entry()
+    ensures one { (b : Base) (e : Entry) → CanFold b (e ∷ []) → folded b (e ∷ []) ≡ next_base b e }
+    ensures more { (b : Base) (g : List Entry) (e : Entry) → IsInRange b.header → IsModest b →
+        b.entries + length g ≤ most_folded → CanFold b (e ∷ g) →
+        folded b (e ∷ g) ≡ next_base (folded b g) e }
 {}
 
 /// The fold of legal entries on a good base is a good base, unless more are folded than there may be. Permits
