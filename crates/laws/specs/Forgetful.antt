@@ -82,3 +82,10 @@ passes = plain 1 word.Got S 1 ∷ []
 
 abbrev pub forgets_the_count : Base
 forgets_the_count = record (folded opened_latch counted_out) { count = 1 }
+
+-- A seat that the object lacks takes: the entry is legal, but a base has no place for what it leaves.
+abbrev pub opened_for_one : Base
+opened_for_one = opening_base (record { object = Lock Fair; seats = 1; conditions = 0; cap = 64 })
+
+abbrev pub taken_by_nobody : List Entry
+taken_by_nobody = of 1 word.Got ∷ []

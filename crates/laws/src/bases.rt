@@ -24,7 +24,7 @@ ghost use Rattle.history.specs.Sleepers.{last_sleep, sleepers};
 ghost use Rattle.history.specs.Start.{opening};
 ghost use Rattle.history.specs.Steps.{entry_for};
 ghost use Rattle.history.specs.Waiting.{IsOneWait};
-ghost use Rattle.laws.specs.Forgetful.{counted_out, forgets_a_permit, forgets_a_read, forgets_a_sleeper, forgets_the_count, gave_a_read, granted_first, moved, opened_latch, opened_lock, opened_read_write, opened_semaphore, passes, read_held, released_unheld, reverses_its_line, slept, took_a_permit, two_in_line};
+ghost use Rattle.laws.specs.Forgetful.{counted_out, forgets_a_permit, forgets_a_read, forgets_a_sleeper, forgets_the_count, gave_a_read, granted_first, moved, opened_for_one, opened_latch, opened_lock, opened_read_write, opened_semaphore, passes, read_held, released_unheld, reverses_its_line, slept, taken_by_nobody, took_a_permit, two_in_line};
 
 /// An object as it is opened is a base of no entries.
 pub fn an_opening_is_a_base()
@@ -163,4 +163,11 @@ pub fn a_base_that_forgets_the_count_is_no_fold()
 pub fn a_base_that_reverses_its_line_is_no_fold()
     ensures legal { IsLegal (based (folded opened_lock two_in_line)) granted_first }
     ensures illegal { IsLegal (based reverses_its_line) granted_first → ⊥ }
+{}
+
+/// Why entries must be of the object's seats: what another seat did is legal, and its fold has lost it.
+pub fn an_entry_of_no_seat_is_lost()
+    ensures legal { IsLegal (based opened_for_one) taken_by_nobody }
+    ensures call { calls (based opened_for_one) taken_by_nobody ≡ 1 }
+    ensures lost { calls (based (folded opened_for_one taken_by_nobody)) [] ≡ 0 }
 {}
