@@ -16,7 +16,8 @@ use history::fault::Fault;
 use history::header::Header;
 use std::alloc::Global;
 
-/// What a front of a legal history says: who holds what, who waits and who sleeps, and the numbers of permits.
+/// What a front of a legal history says: who holds what, who waits and who sleeps, and the numbers of
+/// permits.
 ///
 /// It is opened for no entries, and follows one more with each [`note`](Ledger::note). It keeps no history:
 /// each question about the next entry is answered from its counts and lists.

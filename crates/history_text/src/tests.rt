@@ -1,5 +1,5 @@
-//! What no clause says: that the commonest lines are found at once. A line that is missed is read word by word,
-//! with the same answer.
+//! What no clause says: that the commonest lines are found at once. A line that is missed is read word by
+//! word, with the same answer.
 
 use crate::common_entry::common_entry;
 use history::entry::{End, Entry, Mode, Word};

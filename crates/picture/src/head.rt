@@ -39,7 +39,8 @@ pub(crate) const LEGEND: &[u8] = b"<rect class='x' x='8' y='48' width='24' heigh
     <text x='37' y='58'>exclusive</text>\n\
     <rect class='s' x='96' y='48' width='24' height='12'/><text x='125' y='58'>shared</text>\n\
     <rect class='w' x='172' y='48' width='24' height='12'/><text x='201' y='58'>in line</text>\n\
-    <rect class='z' x='248' y='48' width='24' height='12'/><text x='277' y='58'>asleep on a condition</text>\n\
+    <rect class='z' x='248' y='48' width='24' height='12'/>\
+    <text x='277' y='58'>asleep on a condition</text>\n\
     <path class='m' d='M408 54m-3 0a3 3 0 1 0 6 0a3 3 0 1 0 -6 0'/><text x='417' y='58'>missed</text>\n\
     <path class='m' d='M468 54m-3 -3l6 6m0 -6l-6 6'/><text x='477' y='58'>refused</text>\n\
     <path class='m' d='M532 54m0 -4l3 7h-6z'/><text x='541' y='58'>signal</text>\n\

@@ -80,7 +80,8 @@ fn draws_who_holds_and_who_waits(rt: HostRuntime) -> Result<(), Fail> {
         "'>entries 0 to 4 of 5</text>\n",
         "<rect class='x' x='72' y='75' width='40' height='12'/>\n<text class='i' x='76' y='85'>1</text>\n",
         "<rect class='w' x='92' y='115' width='40' height='12'/>\n",
-        "<rect class='x' x='132' y='115' width='20' height='12'/>\n<text class='i' x='136' y='125'>1</text>\n",
+        "<rect class='x' x='132' y='115' width='20' height='12'/>\n\
+        <text class='i' x='136' y='125'>1</text>\n",
         "'>seat 1</text>\n",
         "</svg>\n",
     ] {

@@ -16,12 +16,14 @@ pub entry_for-requires-2 : goal.entry_for-requires-2
 entry_for-requires-2 g c =
     let P : Entry → Type 0 = λ e. IsNext (opening lock) [] e in
     let next = subst P (sym c.plain-got.ensures) (Acquire X 1, refl) in
-    let stand = c.in_ok-note.ensures.stand (opening lock) [] c.in_ok-ledger.ensures.stand (search rules) next in
+    let opened = c.in_ok-ledger.ensures.stand in
+    let stand = c.in_ok-note.ensures.stand (opening lock) [] opened (search rules) next in
     (opening lock, _, stand, search rules)
 
 pub ready-requires : goal.ready-requires
 ready-requires g c =
     let P : Entry → Type 0 = λ e. IsNext (opening lock) [] e in
     let next = subst P (sym c.plain-got.ensures) (Acquire X 1, refl) in
-    let stand = c.in_ok-note.ensures.stand (opening lock) [] c.in_ok-ledger.ensures.stand (search rules) next in
+    let opened = c.in_ok-ledger.ensures.stand in
+    let stand = c.in_ok-note.ensures.stand (opening lock) [] opened (search rules) next in
     (opening lock, _, stand)

@@ -9,8 +9,8 @@ tell-requires-clause-fault g c =
 
 pub returns-clause-draws : goal.returns-clause-draws
 returns-clause-draws g c =
-    c.tell.ensures.streams (drawn_text c.args.choice) (g.R.Source.left c.args.reader.now) c.sketch_of-told.ensures.ok
-    c.sketch_of-told.ensures.err
+    c.tell.ensures.streams (drawn_text c.args.choice) (g.R.Source.left c.args.reader.now)
+    c.sketch_of-told.ensures.ok c.sketch_of-told.ensures.err
 
 pub returns-clause-end : goal.returns-clause-end
 returns-clause-end g c =

@@ -18,5 +18,6 @@ returns c s h st =
     let r = c.requires in
     let z = c.args.self.now.permits.amounts.free in
     let read : to_z w128 (of_z w128 z) ≡ z = to_z-of_z w128 z r.2.numbers.amounts.free_fits in
-    let fits = subst (FitsSigned w64) (sym (read ∙ r.2.numbers.amounts.is_free)) (free_wide r.0 r.1 r.2.past r.3) in
+    let wide = free_wide r.0 r.1 r.2.past r.3 in
+    let fits = subst (FitsSigned w64) (sym (read ∙ r.2.numbers.amounts.is_free)) wide in
     to_z-of_z w64 (to_z w128 (of_z w128 z)) fits ∙ read ∙ st.numbers.amounts.is_free

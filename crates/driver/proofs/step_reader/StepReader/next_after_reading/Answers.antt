@@ -60,7 +60,8 @@ returns-in_default-clause-next g c =
     rw (← c.self.view_is) (next_kept steps_form so_far _ _ c.end_of.result _
     (g.R.Source.left c.end_of.new.reader) keeps
     (ended_here steps_form so_far window c.end_of.new.window.bytes (g.R.Source.left c.read_line.new.reader)
-    (g.R.Source.left c.end_of.new.reader) c.end_of.result _ is c.end_of.ensures.behind c.end_of.ensures.stays))
+    (g.R.Source.left c.end_of.new.reader) c.end_of.result _ is c.end_of.ensures.behind
+    c.end_of.ensures.stays))
 
 pub returns-in_default-clause-stands : goal.returns-in_default-clause-stands
 returns-in_default-clause-stands g c =
