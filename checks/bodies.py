@@ -47,7 +47,7 @@ class Place:
 
 
 def function_at(text, at):
-    """Returns the function around a place, or None where none has a body there that holds no other function."""
+    """Returns the function around a place, or None: it has a body there, which holds no other function."""
     found = [it for it in FUNCTION.finditer(text) if it.start() <= at]
     if not found:
         return None
@@ -65,13 +65,13 @@ def function_at(text, at):
 
 
 def owner_of(text, place):
-    """Returns the type that the function at a place belongs to, with the trait that it implements, in a list."""
+    """Returns in a list the type that the function at a place belongs to, with its trait."""
     owners = [*OWNER.finditer(text, 0, place.start)] if place.is_inner else []
     return [owners[-1][2] + re.sub(r"\W", "", owners[-1][1] or "")] if owners else []
 
 
 def body_of(crate, edit):
-    """Returns the wrong body that an edit makes, or None where it changes anything but one function's body."""
+    """Returns the wrong body that an edit makes, or None where it changes more than one function's body."""
     texts, why = rt.read_edit(edit, crate.folder)
     if why or len(texts) != 1:
         return None
@@ -92,7 +92,10 @@ def body_of(crate, edit):
 
 
 def symbol_of(body, known):
-    """Returns the function's name in what a check says, or '': a method may stand in another module than its type."""
+    """Returns the function's name in what a check says, or ''.
+
+    A method may stand in another module than its type.
+    """
     whole = "::".join([*body.path, *body.owner, body.name])
     ending = "::".join(["", *body.owner, body.name])
     found = [it for it in known if body.owner and it.endswith(ending)]

@@ -1,11 +1,11 @@
 #!/usr/bin/env python3
 """Devices that fail, and lines and texts without end: checks/devices.py PROGRAM [GIGABYTES].
 
-For each of replay, audit, draw and run: input that comes one byte at a time and output that is taken so, an output
-that nobody reads, a full disk, a folder and a file that may not be read as FILE, and ever less memory for data
-until the system does not load the program. With GIGABYTES, that much of good steps flows through `aqs replay
---history` into `aqs audit` by pipes, and their greatest memory is told. The last line is 'N passed, M
-failed'.
+For each of replay, audit, draw and run: input that comes one byte at a time and output that is taken so, an
+output that nobody reads, a full disk, a folder and a file that may not be read as FILE, and ever less memory
+for data until the system does not load the program. With GIGABYTES, that much of good steps flows through
+`aqs replay --history` into `aqs audit` by pipes, and their greatest memory is told. The last line is
+'N passed, M failed'.
 """
 
 import collections
@@ -99,23 +99,31 @@ def closed_pipe(program, words, text):
 
 
 def within(program, words, text, pages):
-    """The answer with so many pages of data: variables, heap and the stacks of threads. The stack of `main` is
-    none of them. A limit of the address space stops its growth too, and then the system ends the program."""
+    """The answer with so many pages of data: variables, heap and the stacks of threads. The stack of `main`
+    is none of them. A limit of the address space stops its growth too, and then the system ends the program.
+    """
     size = pages * resource.getpagesize()
-    return run(program, words, text, preexec_fn=lambda: resource.setrlimit(resource.RLIMIT_DATA, (size, size)))
+
+    def limit():
+        resource.setrlimit(resource.RLIMIT_DATA, (size, size))
+
+    return run(program, words, text, preexec_fn=limit)
 
 
 def lacks_memory(words, answer):
-    """Whether a command says that it lacked memory. The threads of a script may lack it at each call; then the run
-    text counts these calls."""
+    """Whether a command says that it lacked memory. The threads of a script may lack it at each call; then
+    the run text counts these calls."""
     if answer[0] == 0:
-        return words == ["run"] and not answer[2] and storms.judged(json.loads(SCRIPT), answer[1].decode())[0] is None
+        if words != ["run"] or answer[2]:
+            return False
+        wrong, _, _ = storms.judged(json.loads(SCRIPT), answer[1].decode())
+        return wrong is None
     return answer in ((5, b"", b"aqs: out of memory\n"), (4, b"", b"aqs: thread 0 not started\n"))
 
 
 def little_memory(program, words, text, wanted):
-    """Whether a command with ever less memory answers as ever, or lacks memory and writes nothing, down to the
-    size at which the system does not load the program."""
+    """Whether a command with ever less memory answers as ever, or lacks memory and writes nothing, down to
+    the size at which the system does not load the program."""
     most = next(pages for pages in range(2000, 200_000, 2000) if within(program, words, text, pages)[0] == 0)
     lacked = collections.Counter()
     for pages in range(most, 0, -1):

@@ -1,4 +1,5 @@
-"""What `aqs draw` must show of a history: the bars, labels and marks of docs/SPECIFICATION.md once more, in Python.
+"""What `aqs draw` must show of a history: the bars, labels and marks of docs/SPECIFICATION.md once more, in
+Python.
 
 What that page leaves open, the shapes of the marks and the places within a row, is as in the crate `picture`.
 """
@@ -32,7 +33,7 @@ def levels(state):
 
 
 def bars(state, entries):
-    """Each stretch of entries behind which a seat does the same: what, how often, the first and the last entry."""
+    """Each stretch of entries behind which a seat does the same: what, how often, first and last entry."""
     begun, done = {}, []
     for number, entry in enumerate(entries):
         state.add(entry)
@@ -63,7 +64,8 @@ def wanted(text):
     top = 72 if header.kind in ("lock", "rw") else 160
     rects, labels, marks = set(), set(), set()
     for (seat, kind, condition), count, first, last in bars(rules.State(header), shown):
-        x, y, width = 72 + first * step, top + seat * 40 + (17 if kind == "s" else 3), (last + 1 - first) * step
+        x, width = 72 + first * step, (last + 1 - first) * step
+        y = top + seat * 40 + (17 if kind == "s" else 3)
         rects.add((kind, x, y, width))
         digits = str(count if condition is None else condition)
         if kind != "w" and width >= 6 * len(digits) + 4:
@@ -86,7 +88,8 @@ def shown(picture):
     marks = {each.get("d") for each in root.iter(f"{SVG}path") if each.get("class") == "m"}
     wrong = re.search(rb"not legal at entry ([0-9]+)<", picture)
     named = None if wrong is None else int(wrong.group(1))
-    return {rect for rect in rects if rect[2] >= 72}, labels, {mark for mark in marks if " 54m" not in mark}, named
+    bars = {rect for rect in rects if rect[2] >= 72}
+    return bars, labels, {mark for mark in marks if " 54m" not in mark}, named
 
 
 def is_drawn(picture, text):

@@ -1,12 +1,13 @@
 #!/usr/bin/env python3
 """Runs every example through the program: checks/examples.py PROGRAM [FOLDER].
 
-Each pair NAME.steps and NAME.answers is replayed, and each pair NAME.history and NAME.answers audited, from the
-file, and one of each kind from standard input too. Each NAME.svg is the picture of NAME.history, or of the history
-that a replay of NAME.steps gives. Each NAME.script is run: the lines outside its histories are as
-NAME.answers has them, where * stands for a number that depends on the schedule, and `aqs audit` says the same of
-each history. Then faults of each kind are tried. Compared are the exit status, standard output and standard error.
-The last line is 'N passed, M failed', and the status is 0 only if nothing failed and something passed.
+Each pair NAME.steps and NAME.answers is replayed, and each pair NAME.history and NAME.answers audited, from
+the file, and one of each kind from standard input too. Each NAME.svg is the picture of NAME.history, or of
+the history that a replay of NAME.steps gives. Each NAME.script is run: the lines outside its histories are as
+NAME.answers has them, where * stands for a number that depends on the schedule, and `aqs audit` says the same
+of each history. Then faults of each kind are tried. Compared are the exit status, standard output and
+standard error. The last line is 'N passed, M failed', and the status is 0 only if nothing failed and
+something passed.
 """
 
 import pathlib
@@ -50,7 +51,7 @@ def unpaired(folder):
 
 
 def parts(text):
-    """The lines of a run text that stand outside its histories, and for each history its text and its audit text."""
+    """The lines of a run text outside its histories, and for each history its text and its audit text."""
     outside, audits, is_history, is_audit = [], [], False, False
     for line in text.decode().splitlines(keepends=True):
         if line.startswith("aqs-history "):
@@ -74,7 +75,7 @@ def is_told(line, told):
 
 
 def runs(program, folder, scratch):
-    """Each script is run: the lines outside its histories are as told, and each history's audit says the same."""
+    """Each script is run: its lines outside histories are as told, and each history's audit says the same."""
     for file in sorted(folder.glob("*.script")):
         status, text, error = run(program, ["run", file])
         outside, audits = parts(text)
@@ -84,7 +85,8 @@ def runs(program, folder, scratch):
         kept = scratch / "run.history"
         for number, (history, audit) in enumerate(audits):
             kept.write_text(history)
-            yield f"run {file.name}, audit of object {number}", run(program, ["audit", kept]) == (0, audit.encode(), b"")
+            is_same = run(program, ["audit", kept]) == (0, audit.encode(), b"")
+            yield f"run {file.name}, audit of object {number}", is_same
 
 
 def round_trips(program, folder, scratch):
@@ -161,7 +163,8 @@ def faults(scratch):
         "bad_header": b"aqs-steps 2 lock fair seats 2 conditions 0 cap 16\nend 0\n",
         "bad_line": header + b"0 acquire x 1\n2 acquire x 1\nend 2\n",
         "cut_short": header + b"0 acquire x 1\n",
-        "not_legal": b"aqs-history 1 lock fair seats 2 conditions 0 cap 16\n0 0 got x 1\n1 1 got x 1\nend 2 2\n",
+        "not_legal": b"aqs-history 1 lock fair seats 2 conditions 0 cap 16\n"
+                     b"0 0 got x 1\n1 1 got x 1\nend 2 2\n",
     }
     for name, text in texts.items():
         (scratch / name).write_bytes(text)

@@ -3,8 +3,9 @@
 
 Half of the texts are good steps: `aqs replay`, `aqs replay --history` and `aqs audit` of that history must
 answer as checks/rules.py does, and the history must be legal. A quarter are steps that were spoilt, a quarter
-histories that were, in their entries or in their bytes. Each history is drawn too: `aqs draw` must have the status
-or the fault of `aqs audit`, and show what checks/drawn.py does. Whatever disagrees is printed, and the status is 1.
+histories that were, in their entries or in their bytes. Each history is drawn too: `aqs draw` must have the
+status or the fault of `aqs audit`, and show what checks/drawn.py does. Whatever disagrees is printed, and the
+status is 1.
 """
 
 import collections

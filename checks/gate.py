@@ -1,9 +1,11 @@
-"""All checks from nothing: rt ci over a copy of the tree without the wrong bodies, then these over what it built.
+"""All checks from nothing: rt ci over a copy of the tree without the wrong bodies, then these over what it
+built.
 
 Between them the program that rt ci built answers the files of examples/ (`examples.py`).
 
-rt ci tries each wrong body alone, most of which is the reading of libraries again; here many go into one check
-(`wrong_bodies.py`). The last line is 'N passed, M failed' for both, and the status is 1 where anything failed.
+rt ci tries each wrong body alone, most of which is the reading of libraries again; here many go into one
+check (`wrong_bodies.py`). The last line is 'N passed, M failed' for both, and the status is 1 where anything
+failed.
 """
 import os
 import re
@@ -63,7 +65,9 @@ def main():
         passed, failed = passed + good, failed + bad
         with_wrong_bodies(copy)
         refused, others = run(
-            [sys.executable, f"{copy}/checks/wrong_bodies.py", "--built"], copy, r"(\d+) refused, (\d+) not refused"
+            [sys.executable, f"{copy}/checks/wrong_bodies.py", "--built"],
+            copy,
+            r"(\d+) refused, (\d+) not refused",
         )
     failed += others + (own.returncode != 0)
     print(f"{passed + refused} passed, {failed} failed", flush=True)

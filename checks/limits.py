@@ -2,8 +2,8 @@
 """Each limit at its value and one past it, through the program: checks/limits.py PROGRAM.
 
 The limits are those of docs/SPECIFICATION.md. What is past a limit has the fault that is told here, and
-nothing is written. What is at the limit is answered as checks/rules.py does, a script with status 0. The last line is
-'N passed, M failed'.
+nothing is written. What is at the limit is answered as checks/rules.py does, a script with status 0. The last
+line is 'N passed, M failed'.
 """
 
 import json

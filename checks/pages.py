@@ -3,9 +3,9 @@
 
 usage: checks/pages.py      at the top of the repository
 
-A block ```rust of a page is cut where a line without indentation follows a blank one. Each part has to stand in some
-source as it stands in the page, but for the indentation of the whole. The last line is 'N parts, M that stand in no
-source', and the status is 1 where any does not.
+A block ```rust of a page is cut where a line without indentation follows a blank one. Each part has to stand
+in some source as it stands in the page, but for the indentation of the whole. The last line is 'N parts, M
+that stand in no source', and the status is 1 where any does not.
 """
 import glob
 import re

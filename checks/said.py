@@ -1,4 +1,4 @@
-"""What a check says of each function: its verdict, the goals that fail, and what it calls that isn't proved."""
+"""What a check says of each function: its verdict, the goals that fail, what it calls that isn't proved."""
 import re
 from dataclasses import dataclass, field
 
@@ -45,7 +45,8 @@ class Said:
         found = []
         for it in NOTE.finditer(self.text):
             line = int(it[2])
-            found.append((next((b for b in bodies if b.file == it[1] and b.first <= line <= b.last), None), it[0]))
+            around = (b for b in bodies if b.file == it[1] and b.first <= line <= b.last)
+            found.append((next(around, None), it[0]))
         for it in ERROR.finditer(self.text):
             if not GONE.search(it[2]):
                 own = next((b for b in bodies if "/".join(b.symbol.split("::")[1:]) == it[1]), None)
@@ -53,17 +54,17 @@ class Said:
         return found
 
     def strays(self, bodies):
-        """Returns what fails in functions that no body changes, nor a callee's. A closure stands in its function."""
+        """Returns what fails where no body changes, nor a callee's. A closure stands in its function."""
         changed = {it.symbol for it in bodies}
         lines = [line for body, line in self.failures(bodies) if not body]
         names = [it for it in self.verdicts if self.is_open(it) and not self.calls[it]]
         return lines + [it for it in names if it not in changed and "::fn::" not in it]
 
     def refused(self, bodies):
-        """Returns of each body that is refused a line that says why: its function is open, by a goal of its own.
+        """Returns of each refused body a line that says why: its function is open, by a goal of its own.
 
-        Nothing is refused where a function fails that no body changes: what fails there could as well fail in the
-        goals of another.
+        Nothing is refused where a function fails that no body changes: what fails there could as well fail
+        in the goals of another.
         """
         if not self.is_judged() or self.strays(bodies):
             return {}

@@ -1,8 +1,9 @@
 """Sees that the kit's messages still read as these checks expect, on a crate of two functions.
 
-Each has a wrong body. The harmful one must be refused beside the other, by a goal of its own; the other changes
-nothing that its contract says, so it must be told as not refused. Where the messages of another kit read otherwise
-one of these fails, and with it the whole run: else a harmless wrong body could pass for a refused one.
+Each has a wrong body. The harmful one must be refused beside the other, by a goal of its own; the other
+changes nothing that its contract says, so it must be told as not refused. Where the messages of another kit
+read otherwise one of these fails, and with it the whole run: else a harmless wrong body could pass for a
+refused one.
 """
 import os
 import tempfile

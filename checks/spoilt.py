@@ -3,9 +3,9 @@
 checks/spoilt.py PROGRAM [FOLDER [PROCESSES [STEP]]].
 
 The program must answer each text as checks/rules.py does: with its first fault and nothing written, or whole.
-A script that is still good after the change may wait for ever, so it has a second. Each text comes with CR LF,
-NUL and long numbers too, and with a line of a megabyte. STEP 7 tries every seventh byte. What
-disagrees is printed.
+A script that is still good after the change may wait for ever, so it has a second. Each text comes with CR
+LF, NUL and long numbers too, and with a line of a megabyte. STEP 7 tries every seventh byte. What disagrees
+is printed.
 """
 
 import collections

@@ -3,9 +3,9 @@
 
 Scripts by chance, of 64 threads at 4 objects if no number is given, until so many seconds were run. Each
 thread holds one object at a time, so that no script waits for ever. Of each run the status, the verdicts, the
-shares and the numbers of calls are compared. Of the first run, and of each EVERY-th behind it (1 if no number is
-given; none if it is 0), the audit of checks/rules.py too, which takes many times as long as the run. The last line is 'N passed, M
-failed'.
+shares and the numbers of calls are compared. Of the first run, and of each EVERY-th behind it (1 if no number
+is given; none if it is 0), the audit of checks/rules.py too, which takes many times as long as the run. The
+last line is 'N passed, M failed'.
 """
 
 import json

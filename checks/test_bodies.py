@@ -36,7 +36,8 @@ logic=not-proved functions=2
 
 
 def body(name, edit, at):
-    return Body(edit, "src/two.rt", 0, 0, ["Two"], ["low", "two"], name, "", f"low::two::Two::{name}", 0, at, at + 5)
+    symbol = f"low::two::Two::{name}"
+    return Body(edit, "src/two.rt", 0, 0, ["Two"], ["low", "two"], name, "", symbol, 0, at, at + 5)
 
 
 class Texts(unittest.TestCase):
@@ -58,11 +59,14 @@ class Texts(unittest.TestCase):
         crate, edit = self.crate("file: src/two.rt\nold:         self.a\nnew: self.a / 1\n")
         found = body_of(crate, edit)
         self.assertEqual(symbol_of(found, ["low::two::Two::first"]), "low::two::Two::first")
-        self.assertEqual(composed(crate, [found])["src/two.rt"], TEXT.replace("        self.a\n", "self.a / 1\n"))
+        halved = TEXT.replace("        self.a\n", "self.a / 1\n")
+        self.assertEqual(composed(crate, [found])["src/two.rt"], halved)
         self.assertTrue(found.text.startswith("    #[inline]\n"))
 
     def test_an_edit_of_a_type_or_a_contract_is_no_wrong_body(self):
-        for pair in ("old:     a: u32,\nnew:     a: u64,", "old:         ensures { result ≡\nnew: ensures { 1 ≡"):
+        of_a_field = "old:     a: u32,\nnew:     a: u64,"
+        of_a_clause = "old:         ensures { result ≡\nnew: ensures { 1 ≡"
+        for pair in (of_a_field, of_a_clause):
             crate, edit = self.crate(f"file: src/two.rt\n{pair}\n")
             self.assertIsNone(body_of(crate, edit))
 

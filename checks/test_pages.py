@@ -10,8 +10,10 @@ SOURCE = ["impl Cup {", "    /// Fills it.", "    fn fill(&self) {", "        se
 
 class Parts(unittest.TestCase):
     def test_cuts_a_block_where_another_item_begins(self):
-        page = "Text\n```rust\nuse cup;\n\nfn fill() {\n    one();\n\n    two();\n}\n```\n```text\nfn fill()\n```\n"
-        self.assertEqual(pages.parts(page), [["use cup;"], ["fn fill() {", "    one();", "", "    two();", "}"]])
+        code = "use cup;\n\nfn fill() {\n    one();\n\n    two();\n}\n"
+        page = f"Text\n```rust\n{code}```\n```text\nfn fill()\n```\n"
+        wanted = [["use cup;"], ["fn fill() {", "    one();", "", "    two();", "}"]]
+        self.assertEqual(pages.parts(page), wanted)
 
 
 class Stands(unittest.TestCase):

@@ -1,4 +1,4 @@
-"""The trial of one crate's wrong bodies: many in one check, and what isn't settled so alone, by rt's own rules."""
+"""The trial of a crate's wrong bodies: many in one check, and what isn't settled so alone, by rt's rules."""
 import os
 import resource
 import shutil
@@ -10,8 +10,8 @@ from kit import rt
 from said import Said
 
 ONE_JOB = ["--jobs", "1"]
-REFUSALS = (rt.REFUSED, rt.AT_LIMIT)  # by a failing goal, or by a limit of the prover's own, as rt ci counts them
-MOST = 60  # wrong bodies in one check: a crate has seldom more, and a check of so many still takes some 1.5 GB
+REFUSALS = (rt.REFUSED, rt.AT_LIMIT)  # by a failing goal, or by a limit of the prover, as rt ci counts them
+MOST = 60  # wrong bodies in one check: a crate has seldom more, and a check of so many takes some 1.5 GB
 
 
 @dataclass
@@ -39,7 +39,7 @@ def below(symbol, calls):
 
 
 def picked(left, calls):
-    """Returns bodies of different functions, first those tried before, with none of what stood in their way then."""
+    """Returns bodies of different functions, first those tried before, without what stood in their way."""
     chosen, free = {}, set()
     for it in sorted(left, key=lambda it: -it.times):
         under = below(it.symbol, calls) if it.times else set()
@@ -60,7 +60,7 @@ class Trial:
         return Said(ran.stdout, ran.returncode), seconds() - at
 
     def over_a_copy(self, work):
-        """Gives a call a copy of what the crate's own check kept, so that no wrong body's work is found again."""
+        """Gives a call a copy of what the crate's own check kept, so that no wrong body's work is found."""
         copy = f"{self.room}/copy"
         shutil.copytree(f"{self.room}/kept", copy)
         try:
@@ -69,7 +69,7 @@ class Trial:
             shutil.rmtree(copy)
 
     def together(self, group):
-        """Tries bodies of different functions in one check, and returns those that are to be tried so once more."""
+        """Tries bodies of different functions in one check, and returns those to be tried so again."""
         said, took = self.over_a_copy(lambda copy: self.check(composed(self.crate, group), copy))
         for symbol, callees in said.calls.items():
             self.calls.setdefault(symbol, set()).update(callees)
@@ -83,7 +83,8 @@ class Trial:
             if body not in refused and body.times == 1 and waits:
                 again.append(body)
         if strays:
-            self.tell(f"a function that no wrong body changes fails too, so each goes alone: {strays[0][:150]}")
+            first = strays[0][:150]
+            self.tell(f"a function that no wrong body changes fails too, so each goes alone: {first}")
         self.tell(f"{len(group)} in one check, {len(refused)} refused, {len(again)} once more, {took:.0f} s")
         return again
 
@@ -102,7 +103,8 @@ class Trial:
         whole, _ = self.check({}, f"{self.room}/kept")
         self.tell(f"as it stands: {seconds() - at:.0f} s")
         if whole.status:
-            return [Result(False, True, "NOT TRIED: the crate is not proved as it stands") for _ in self.edits]
+            why = "NOT TRIED: the crate is not proved as it stands"
+            return [Result(False, True, why) for _ in self.edits]
         bodies = [] if all_alone else [it for it in (body_of(self.crate, edit) for edit in self.edits) if it]
         known = whole.proved()
         for body in bodies:

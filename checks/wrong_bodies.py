@@ -1,16 +1,17 @@
 #!/usr/bin/env python3
 """Tries the wrong bodies crates/NAME/must-fail/*.edit, as rt must-fail does, but many in one check.
 
-usage: checks/wrong_bodies.py [--built] [--alone] [NAME..]      at the top of the repository, of all crates or of these
+usage: checks/wrong_bodies.py [--built] [--alone] [NAME..]     at the top, of all crates or of these
 
-A check reports each function by itself, so one copy of a crate takes a wrong body of each of many functions. A wrong
-body is refused where its own function is not proved, and one of that function's own goals fails. What is not so
-refused, since a callee's wrong body stood in the way, is tried once more without that one, and then alone, by rt's
-own rules. Alone from the start go edits that change more than one function's body. An edit that is refused only
-because a proof names what it took away counts as not refused: it says nothing of the contract.
+A check reports each function by itself, so one copy of a crate takes a wrong body of each of many functions.
+A wrong body is refused where its own function is not proved, and one of that function's own goals fails. What
+is not so refused, since a callee's wrong body stood in the way, is tried once more without that one, and then
+alone, by rt's own rules. Alone from the start go edits that change more than one function's body. An edit
+that is refused only because a proof names what it took away counts as not refused: it says nothing of the
+contract.
 
-Each crate is a process of its own, the largest first, as many at once as there are processors and memory, or as
-RT_JOBS says.
+Each crate is a process of its own, the largest first, as many at once as there are processors and memory, or
+as RT_JOBS says.
 
 --built   the libraries stand as rt ci has just left them, and nothing else that earlier checks kept is taken
 --alone   tries each edit alone
@@ -58,11 +59,12 @@ def try_one(name, flags):
 
 def size(crate):
     """Returns a number that grows with the time that a crate's trial takes."""
-    return crate.count(b"\n") + 50 * len(rt.edits_of(crate)[0]) + sum(it.count(b"\n") for it in crate.below()) // 10
+    below = sum(it.count(b"\n") for it in crate.below())
+    return crate.count(b"\n") + 50 * len(rt.edits_of(crate)[0]) + below // 10
 
 
 def in_processes(crates, flags):
-    """Tries crates side by side, prints what each says once it has ended, and returns what all of it counts."""
+    """Tries crates side by side, prints what each says once it has ended, and returns what they count."""
     fixed = os.environ.get("RT_JOBS", "")  # as rt ci reads it
     at_once = int(fixed) if fixed.isdigit() else max(1, min(rt.processors(), rt.free() // MEMORY))
     left, running, counts = sorted(crates, key=size), {}, [0, 0]
@@ -71,7 +73,8 @@ def in_processes(crates, flags):
             crate = left.pop()
             out = tempfile.TemporaryFile("w+", errors="replace")
             words = [sys.executable, os.path.realpath(__file__), "--crate", *flags, crate.name]
-            running[subprocess.Popen(words, stdin=subprocess.DEVNULL, stdout=out, stderr=subprocess.STDOUT)] = crate, out
+            trial = subprocess.Popen(words, stdin=subprocess.DEVNULL, stdout=out, stderr=subprocess.STDOUT)
+            running[trial] = crate, out
         time.sleep(0.2)
         for ended in [it for it in running if it.poll() is not None]:
             crate, out = running.pop(ended)
@@ -104,7 +107,8 @@ def main(words):
     crates = [it for it in crates if not names or it.name in names]
     if "--built" not in flags:
         libraries = {it.name: it for crate in crates for it in crate.below()}
-        if any(it.build_rlib(ONE_JOB, anew=False) for it in sorted(libraries.values(), key=lambda it: len(it.below()))):
+        upwards = sorted(libraries.values(), key=lambda it: len(it.below()))
+        if any(it.build_rlib(ONE_JOB, anew=False) for it in upwards):
             return 1
     refused, others = in_processes(crates, [it for it in flags if it != "--crate"])
     tell(f"{(time.monotonic() - at) / 60:.0f} minutes, {seconds() / 60:.0f} processor minutes")
