@@ -3,22 +3,8 @@
 //! A test takes all memory first, a part of it as small pieces side by side, and lets these go one by one:
 //! one request after the other is refused for true then, until all are met.
 
-ghost use Rattle.std.specs.Prelude.{◌≡◌, [], IfOk};
-ghost use Rattle.history.specs.Header.{IsInRange};
-ghost use Rattle.history.specs.declared.header.Object.TheVariants.{Lock};
-ghost use Rattle.history.specs.declared.header.Policy.TheVariants.{Fair};
-
-use driver::answering::Answering;
 use driver::form::Form;
-use driver::replay::replay;
 use driver::replay_stream::replay_stream;
-use driver::step_reader::StepReader;
-use frame::machine::Core;
-use history::entries::History;
-use history::fault::Fault;
-use history::header::{Header, Object, Policy};
-use history::step::{Answer, Step};
-use reentrant::lock::LockHooks;
 use std::alloc::Global;
 use std::process::Abort;
 use std::test::Fail;
@@ -108,75 +94,6 @@ fn a_growth_of_the_history_is_refused(rt: HostRuntime) -> Result<(), Fail> {
     for form in [Form::Replay, Form::History] {
         let refused = refusals(&rt, text.as_bytes(), form)?;
         assert!(rt; 1100 <= refused, "refused {refused} times");
-    }
-    Ok(())
-}
-
-/// A lock that finds no memory for the step behind so many.
-#[derive(Drop)]
-struct Starving {
-    core: Core<LockHooks>,
-    fed: usize,
-}
-
-impl Answering for Starving {
-    ghost view_of = { λ s. record { header = s.core.header; entries = s.core.entries } };
-
-    fn answer(&mut self, seat: u16, step: Step) -> Result<Answer, Fault> {
-        if self.fed == 0 {
-            return Err(Fault::OutOfMemory);
-        }
-        self.fed -= 1;
-        self.core.answer(seat, step)
-    }
-
-    fn history(&self) -> &History {
-        Answering::history(&self.core)
-    }
-
-    fn into_history(self) -> History {
-        Answering::into_history(self.core)
-    }
-}
-
-/// A fresh fair lock with the numbers of a header.
-fn lock_of(alloc: Global, header: &Header) -> Result<Core<LockHooks>, Fault>
-    requires object { header.now.object ≡ Lock Fair }
-    requires range { IsInRange header.now }
-    ensures header { IfOk result (λ core. core.header ≡ header.now) }
-    ensures fresh { IfOk result (λ core. core.entries ≡ []) }
-{
-    let hooks = LockHooks::open(Policy::Fair);
-    Core::open(alloc, hooks, header.seats, header.conditions, header.cap)
-}
-
-const ONE_LOCK: &[u8] =
-    b"aqs-steps 1 lock fair seats 2 conditions 0 cap 64\n0 acquire x 1\n1 try x 1\n1 look\n\
-    0 give x 1\nend 4\n";
-
-/// A fresh fair lock of which so many steps find memory.
-fn lock_fed<R: Abort + AllocGlobal>(rt: &R, header: &Header, fed: usize) -> Result<Starving, Fail>
-    ensures header { IfOk result (λ lock. lock.core.header ≡ header.now) }
-    ensures fresh { IfOk result (λ lock. lock.core.entries ≡ []) }
-{
-    assert!(rt; header.object == Object::Lock(Policy::Fair));
-    assert!(rt; header.in_range());
-    let core = lock_of(rt.alloc(), header)?;
-    Ok(Starving { core, fed })
-}
-
-/// Whether a replay goes on to the end where so many steps find memory.
-fn replays<R: Abort + AllocGlobal>(rt: &R, fed: usize) -> Result<bool, Fail> {
-    let mut reader = Device::new(ONE_LOCK);
-    let mut steps = StepReader::open(rt.alloc(), &mut reader)?;
-    let mut lock = lock_fed(rt, &steps.header(), fed)?;
-    Ok(replay(rt.alloc(), &mut lock, &mut steps, &mut reader).is_ok())
-}
-
-#[test]
-fn a_step_without_memory_ends_the_replay(rt: HostRuntime) -> Result<(), Fail> {
-    for fed in 0..=4 {
-        assert_eq!(rt; replays(&rt, fed)?, fed == 4);
     }
     Ok(())
 }
