@@ -1,5 +1,5 @@
 -- A core that was just opened.
-use Rattle.std.proofs.Common.{◌≡◌, ℕ, List, [], length, get_or, replicate, Some, refl, ap, ◌∙◌, sym, subst, arith}
+use Rattle.std.proofs.Common.{◌≡◌, ℕ, List, [], length, get_or, replicate, Some, None, refl, ap, ◌∙◌, sym, subst, arith}
 use Rattle.std.proofs.lemmas.List.{length-replicate, get_or-replicate}
 use Rattle.std.proofs.lemmas.Option.{slice_get-get_or}
 use Rattle.acquire_queue.specs.Line.{Line}
@@ -17,7 +17,7 @@ use Rattle.frame.specs.Seat.{no_holds}
 pub opening_stands : (agrees : Counts → Type 0) (k : Header) (kept : HistoryView) (queue : Line)
     (waiters : Sleepers)
     (table : List Seat) → IsInRange k → agrees (counts (opening k) []) →
-    kept ≡ record { cap = k.cap; entries = []; owed = 0; places = 0 } → queue.arrivals ≡ [] →
+    kept ≡ record { cap = k.cap; base = None; entries = []; owed = 0; places = 0 } → queue.arrivals ≡ [] →
     queue.seats ≡ k.seats →
     queue.joined ≡ 0 → ((c : ℕ) → asleep_on waiters c ≡ []) → waiters.conditions ≡ k.conditions →
     waiters.seats ≡ k.seats →
@@ -29,8 +29,8 @@ opening_stands agrees k kept queue waiters table range told is line places joine
     let empty : kept.entries ≡ [] = ap (λ (y : HistoryView). y.entries) is in
     let owes : kept.owed ≡ 0 = ap (λ (y : HistoryView). y.owed) is in
     let cap : kept.cap ≡ k.cap = ap (λ (y : HistoryView). y.cap) is in
-    let stands : Stands agrees k (record { cap = k.cap; entries = []; owed = 0; places = 0 }) queue waiters
-    table =
+    let stands : Stands agrees k (record { cap = k.cap; base = None; entries = []; owed = 0; places = 0 }) queue
+    waiters table =
     record {
       range = range;
       hooks = told;

@@ -219,7 +219,7 @@ module _ (b : Base) (good : IsGood b) where
     seated_at_first q all.1,
   )
 
-  line_seated_on : (h : List Entry) → IsLegal (based b) h → AreSeated (based b) h →
+  pub line_seated_on : (h : List Entry) → IsLegal (based b) h → AreSeated (based b) h →
       LineSeated b.header.seats (line (based b) h)
   line_seated_on [] legal s =
       subst (LineSeated b.header.seats) (sym (line_at_first (based b))) (seated_at_first b.line good.line)

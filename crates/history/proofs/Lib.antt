@@ -38,3 +38,5 @@ pub mod Queueing
 pub mod GoodFolds
 pub mod Points
 pub mod NextBases
+pub mod FoldRoom
+pub mod FoldSteps

@@ -36,7 +36,7 @@ use Rattle.history.proofs.Times.{each-filter, has_once, total_part}
 
 -- the entry's seat, and the others
 module _ (b : Base) (e : Entry) where
-  own_seat : seat_after b (e ∷ []) e.seat ≡ seat_then b.header.object e (seat_of b e.seat)
+  pub own_seat : seat_after b (e ∷ []) e.seat ≡ seat_then b.header.object e (seat_of b e.seat)
   own_seat =
       ap (λ t. record {
         calls = (seat_of b e.seat).calls + cond (t && ends_call e.word) 1 0;

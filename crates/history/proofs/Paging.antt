@@ -1,10 +1,11 @@
 -- Entries in pages.
-use Rattle.std.proofs.Common.{◌≡◌, ℕ, zero, suc, ◌+◌, ◌-◌, ◌*◌, ◌/◌, ◌%◌, ◌<◌, ◌≤◌, List, [], ◌∷◌, ◌++◌, length, reverse, get_or, set, replicate, Option, Some, None, refl, ap, ◌∙◌, sym, subst, ⊎_elim, arith}
+use Rattle.std.proofs.Common.{◌≡◌, ℕ, zero, suc, ◌+◌, ◌-◌, ◌*◌, ◌/◌, ◌%◌, ◌<◌, ◌≤◌, List, [], ◌∷◌, ◌++◌, map, length, reverse, get_or, set, replicate, Option, Some, None, refl, ap, ◌∙◌, sym, subst, ⊎_elim, arith}
 use Rattle.std.specs.Prelude.{slice_get}
 use Rattle.std.proofs.lemmas.Bool.{cases_lt}
-use Rattle.std.proofs.lemmas.List.{length-append, append_assoc, append-nil, length-reverse, reverse-reverse, length-set, length-replicate}
+use Rattle.std.proofs.lemmas.List.{length-append, length-map, append_assoc, append-nil, length-reverse, reverse-reverse, length-set, length-replicate}
 use Rattle.std.proofs.lemmas.Option.{slice_get_past}
 use Rattle.history.specs.declared.entry.Entry.{Entry}
+use Rattle.history.specs.Base.{Base}
 use Rattle.history.specs.Entries.{HistoryView, ended_calls}
 use Rattle.history.specs.Pages.{in_pages, AreFilled, AreKept}
 use Rattle.history.proofs.Lists.{reverse_push}
@@ -117,6 +118,20 @@ pub in_pages_more : (pages : List (List Entry)) (k : ℕ) → in_pages (pages ++
 in_pages_more [] k = nothing_there k
 in_pages_more (p ∷ ps) k = ap (λ rest. p ++ rest) (in_pages_more ps k)
 
+-- the same pages with nothing in them
+abbrev pub cleared : List (List Entry) → List (List Entry)
+cleared pages = map (λ page. []) pages
+
+cleared_empty : (pages : List (List Entry)) → cleared pages ≡ replicate (length pages) []
+cleared_empty [] = refl
+cleared_empty (p ∷ ps) = ap (λ rest. [] ∷ rest) (cleared_empty ps)
+
+none_cleared : (pages : List (List Entry)) → in_pages (cleared pages) ≡ []
+none_cleared pages = ap in_pages (cleared_empty pages) ∙ nothing_there (length pages)
+
+length-cleared : (pages : List (List Entry)) → length (cleared pages) ≡ length pages
+length-cleared pages = length-map pages (λ page. [])
+
 -- the pages of a history
 module _ (pages : List (List Entry)) (len cap owed calls : ℕ) (kept : AreKept pages len cap owed calls) where
   pub kept_length : length (reverse (in_pages pages)) ≡ len
@@ -153,18 +168,20 @@ module _ (pages : List (List Entry)) (len cap owed calls : ℕ) (kept : AreKept 
         (omega arith) (page_within owed' room))
         ∙ reverse_push (in_pages pages) e
 
-    pub view_next : (let v : HistoryView = record {
+    pub view_next : (base : Option Base) → (let v : HistoryView = record {
       cap = cap;
+      base = base;
       entries = reverse (in_pages (set pages (len / 1024) page'));
       owed = owed';
       places = 1024 * length (set pages (len / 1024) page');
     } in v) ≡ record {
       cap = cap;
+      base = base;
       entries = e ∷ reverse (in_pages pages);
       owed = owed';
       places = 1024 * length pages;
     }
-    view_next = rw (entries_next, length-set pages (len / 1024) page') refl
+    view_next base = rw (entries_next, length-set pages (len / 1024) page') refl
 
     pub kept_next : (calls' : ℕ) → len + 1 + owed' ≤ cap →
         calls' ≡ ended_calls (e ∷ reverse (in_pages pages)) →
@@ -195,4 +212,26 @@ module _ (pages : List (List Entry)) (len cap owed calls : ℕ) (kept : AreKept 
         short = kept.short;
         bounded = omega (arith, longer, bounded);
         counted = kept.counted ∙ ap (λ h. ended_calls (reverse h)) (sym (in_pages_more pages k));
+      }
+
+  -- all entries fewer
+  pub view_none : (base : Option Base) → (let v : HistoryView = record {
+    cap = cap;
+    base = base;
+    entries = reverse (in_pages (cleared pages));
+    owed = owed;
+    places = 1024 * length (cleared pages);
+  } in v) ≡ record { cap = cap; base = base; entries = []; owed = owed; places = 1024 * length pages }
+  view_none base = rw (none_cleared pages, length-cleared pages) refl
+
+  pub kept_none : AreKept (cleared pages) 0 cap owed 0
+  kept_none =
+      let same = length-cleared pages in
+      record {
+        filled = subst (AreFilled 0) (sym (cleared_empty pages)) (empty_pages (length pages) 0 refl);
+        reserved = let r = kept.reserved in omega (arith, same, r);
+        within_cap = let w = kept.within_cap in omega (arith, w);
+        short = kept.short;
+        bounded = let b = kept.bounded in omega (arith, same, b);
+        counted = ap (λ h. ended_calls (reverse h)) (sym (none_cleared pages));
       }

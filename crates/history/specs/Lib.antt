@@ -30,5 +30,7 @@ pub mod Waiting
 pub mod GoodBase
 pub mod Point
 pub mod NextBase
+pub mod BasePlaces
+pub mod Fold
 pub mod Numbering
 pub mod Awaiting

@@ -40,21 +40,24 @@ abbrev pub signalled_on : ℕ → Sleeper → Standing
 signalled_on c x =
     record { who = coming_back x.seat; condition = c; holds = x.holds; how = end.Signalled }
 
--- who joins the line
-abbrev pub joins_line : Base → Word → Entry → List Standing
-joins_line b Queued e =
+-- who joins the line, where these sleep on the entry's condition
+abbrev pub joins_from : Word → Entry → List Sleeper → List Standing
+joins_from Queued e xs =
     stands_from (record { seat = e.seat; mode = e.mode; n = e.n; back = false }) awake ∷ []
-joins_line b Signal e = map (signalled_on e.at) (take e.n (sleepers_of b e.at))
-joins_line b SignalAll e = map (signalled_on e.at) (sleepers_of b e.at)
-joins_line b Lapse e =
+joins_from Signal e xs = map (signalled_on e.at) (take e.n xs)
+joins_from SignalAll e xs = map (signalled_on e.at) xs
+joins_from Lapse e xs =
     record {
       who = coming_back e.seat;
       condition = e.at;
-      holds = (or_awake (sleep_on e.at e.seat (sleepers_of b e.at))).holds;
+      holds = (or_awake (sleep_on e.at e.seat xs)).holds;
       how = e.end;
     }
     ∷ []
-joins_line b _ e = []
+joins_from _ e xs = []
+
+abbrev pub joins_line : Base → Word → Entry → List Standing
+joins_line b w e = joins_from w e (sleepers_of b e.at)
 
 -- who sleeps on the entry's condition
 abbrev pub sleepers_then : Word → Entry → List Sleeper → List Sleeper

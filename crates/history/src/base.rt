@@ -1,12 +1,20 @@
 //! The base of a history: what is left of entries that were folded.
 
-ghost use Rattle.std.specs.Prelude.{◌≡◌, ◌≤◌, [], length, map, All, IfOk, IfErr, vec_capacity};
+ghost use Rattle.std.specs.Prelude.{◌≡◌, ◌+◌, ◌≤◌, ◌↔◌, [], length, map, All, IfOk, IfErr, IsTrue, vec_capacity};
 ghost use Rattle.history.specs.declared.fault.Fault.TheVariants.{OutOfMemory};
 ghost use Rattle.history.specs.Base.{each_below, opening_base};
+ghost use Rattle.history.specs.BasePlaces.{HasPlaces};
+ghost use Rattle.history.specs.Fold.{MayFold};
+ghost use Rattle.history.specs.GoodBase.{most_folded};
+ghost use Rattle.history.specs.Header.{IsInRange};
+ghost use Rattle.history.specs.NextBase.{next_base};
 ghost use Rattle.history.specs.Object.{opening_count};
 
 use crate::arrival::Arrival;
-use crate::entry::End;
+use crate::base_parts::{
+    beyond, count_then, follow_sleepers, join_line, leave_line, seat_then, sleepers_on,
+};
+use crate::entry::{End, Entry};
 use crate::fault::Fault;
 use crate::header::{Header, Object};
 use std::alloc::Global;
@@ -78,6 +86,9 @@ impl Model for Base {
         × All (λ list. a.header.seats ≤ vec_capacity list) a.sleepers.items };
 }
 
+/// The greatest number of entries that may be folded.
+const MOST_FOLDED: u128 = 1_000_000_000_000_000;
+
 /// What a seat has that did nothing yet.
 const NOTHING: SeatBase = SeatBase {
     calls: 0,
@@ -89,6 +100,7 @@ impl Base {
     /// The base of an object as it is opened. It reserves all places; `OutOfMemory` is the only fault.
     pub fn open(alloc: Global, header: &Header) -> Result<Base, Fault>
         ensures opened { IfOk result (λ base. base ≡ opening_base header.now) }
+        ensures may_fold { IsInRange header.now → IfOk result (λ base. MayFold base []) }
         ensures refused { IfErr result (λ fault. fault ≡ OutOfMemory) }
     {
         let seats = vec![in alloc; NOTHING; header.seats as usize]?;
@@ -103,6 +115,31 @@ impl Base {
             line,
             sleepers,
         })
+    }
+
+    /// Whether so many entries more may be folded.
+    pub(crate) fn may_fold(&self, more: u64) -> bool
+        requires { self.now.entries ≤ most_folded }
+        ensures { IsTrue result ↔ (self.now.entries + more ≤ most_folded) }
+    {
+        u128::from(more) <= MOST_FOLDED - self.entries
+    }
+
+    /// Takes up one entry more, as a fold goes on. It takes no memory.
+    pub(crate) fn add(&mut self, entry: Entry)
+        requires { HasPlaces self.old entry }
+        ensures { self.new ≡ next_base self.old entry }
+    {
+        let object = self.header.object;
+        let seat = entry.seat as usize;
+        let has = self.seats[seat];
+        self.entries += 1;
+        self.seats[seat] = seat_then(object, entry, has);
+        self.unheld += beyond(object, entry, has);
+        self.count = count_then(entry.word, self.count);
+        leave_line(&mut self.line, entry);
+        join_line(&mut self.line, sleepers_on(&self.sleepers, entry.at), entry);
+        follow_sleepers(&mut self.sleepers, entry);
     }
 }
 

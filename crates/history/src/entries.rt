@@ -1,14 +1,20 @@
-//! A list of entries that only grows, with room that stays reserved.
+//! A list of entries that only grows or is folded into a base, with room that stays reserved.
 
-ghost use Rattle.std.specs.Prelude.{◌≡◌, ◌+◌, ◌*◌, ◌^◌, ◌<◌, ◌≤◌, ◌↔◌, ◌⊎◌, max, [], ◌∷◌, length, reverse, slice_get, IsTrue, IsOk, IsErrOf, OnOk, OnErr, IfErr};
+ghost use Rattle.std.specs.Prelude.{◌≡◌, ◌+◌, ◌*◌, ◌^◌, ◌<◌, ◌≤◌, ◌↔◌, ◌⊎◌, max, [], ◌∷◌, length, reverse, slice_get, Some, None, IsTrue, IsOk, IsErrOf, OnOk, OnErr, IfErr, IfSome, IsNone, IsSomeAnd, OnSome};
+ghost use Rattle.std.specs.Option.{option_copied, option_map};
 ghost use Rattle.history.specs.declared.fault.Fault.TheVariants.{HistoryFull, OutOfMemory};
+ghost use Rattle.history.specs.Base.{folded};
 ghost use Rattle.history.specs.Entry.{ends_call};
 ghost use Rattle.history.specs.Entries.{ended_calls};
+ghost use Rattle.history.specs.Fold.{MayFold};
+ghost use Rattle.history.specs.GoodBase.{most_folded};
 ghost use Rattle.history.specs.Pages.{whole_pages};
 
+use crate::base::Base;
 use crate::entry::{Entry, Word};
 use crate::fault::Fault;
-use crate::page::{PLACES, Page, reserve_pages};
+use crate::fold::fold_onto;
+use crate::page::{PLACES, Page, clear_pages, reserve_pages};
 use std::alloc::Global;
 use std::marker::Model;
 use std::mem::size_of;
@@ -25,6 +31,7 @@ const _: () = prove!(size_of::<Entry>() <= 12);
 /// ever lacks a place or memory.
 #[derive(Debug, Drop)]
 pub struct History {
+    base: Option<Base>,
     pages: Vec<Page>,
     len: u64,
     cap: u32,
@@ -41,6 +48,7 @@ impl Model for History {
 
     ghost view = { λ a. record {
       cap = a.cap;
+      base = a.base;
       entries = reverse (in_pages a.pages.items);
       owed = a.owed;
       places = 1024 * length a.pages.items;
@@ -52,15 +60,33 @@ impl Model for History {
 impl History {
     /// An empty history. It takes no memory.
     pub fn open(alloc: Global, cap: u32) -> Self
-        ensures { result ≡ record { cap = cap; entries = []; owed = 0; places = 0 } }
+        ensures { result ≡ record { cap = cap; base = None; entries = []; owed = 0; places = 0 } }
     {
         History {
+            base: None,
             pages: Vec::new(alloc),
             len: 0,
             cap,
             owed: 0,
             calls: 0,
         }
+    }
+
+    /// An empty history on a base. It takes no memory.
+    pub fn open_on(cap: u32, base: Base) -> Self
+        ensures { result ≡ record { cap = cap; base = Some base; entries = []; owed = 0; places = 0 } }
+    {
+        let alloc = *base.line.allocator();
+        let mut history = History::open(alloc, cap);
+        history.base = Some(base);
+        history
+    }
+
+    /// What the entries that were folded left, where the history began on a base.
+    pub fn base(&self) -> Option<&Base>
+        ensures { option_copied result ≡ self.now.base }
+    {
+        self.base.as_ref()
     }
 
     /// How many entries there are.
@@ -185,6 +211,35 @@ impl History {
         self.len += 1;
         self.owed = owed;
         self.calls += u64::from(ends_call(entry.word));
+    }
+
+    /// Folds all entries into the base, and answers how many. It takes no memory. What is reserved and what
+    /// is owed stay.
+    ///
+    /// `None`: more entries would be folded than there may be. Then nothing has changed.
+    pub fn fold(&mut self) -> Option<u64>
+        // It began on a base, and its entries are legal from there.
+        requires { IsSomeAnd self.old.base (λ base. MayFold base self.old.entries) }
+        ensures count { IfSome result (λ count. count ≡ length self.old.entries) }
+        ensures folded { OnSome result (self.new ≡ record self.old {
+          base = option_map (λ base. folded base self.old.entries) self.old.base;
+          entries = [];
+        }) }
+
+        // The base may fold what comes next.
+        ensures goes_on { OnSome result (IsSomeAnd self.new.base (λ base. MayFold base [])) }
+        ensures full { IsNone result
+            ↔ IsSomeAnd self.old.base (λ base. most_folded < base.entries + length self.old.entries) }
+        ensures none { IsNone result → self.new ≡ self.old }
+    {
+        let count = self.len;
+        if !fold_onto(&mut self.base, &self.pages, count) {
+            return None;
+        }
+        clear_pages(&mut self.pages);
+        self.len = 0;
+        self.calls = 0;
+        Some(count)
     }
 }
 

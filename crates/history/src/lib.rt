@@ -6,11 +6,13 @@
 
 pub mod arrival;
 pub mod base;
+mod base_parts;
 pub mod entries;
 pub mod entry;
 pub mod entry_reading;
 pub mod entry_text;
 pub mod fault;
+mod fold;
 pub mod header;
 pub mod header_text;
 pub mod laws;

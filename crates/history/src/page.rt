@@ -1,6 +1,6 @@
 //! A page of a history.
 
-ghost use Rattle.std.specs.Prelude.{◌≡◌, ◌+◌, ◌<◌, ◌++◌, [], ◌∷◌, length, slice_get, IfOk, OnOk, OnErr, replicate};
+ghost use Rattle.std.specs.Prelude.{◌≡◌, ◌+◌, ◌<◌, ◌++◌, [], ◌∷◌, length, map, slice_get, IfOk, OnOk, OnErr, replicate};
 
 use crate::entry::Entry;
 use std::alloc::{AllocError, Global};
@@ -42,12 +42,35 @@ impl Page {
         self.entries.get(place).copied()
     }
 
+    /// The entries in their order.
+    pub(crate) fn entries(&self) -> &[Entry]
+        ensures { result.now ≡ self.now }
+    {
+        &self.entries
+    }
+
     /// Writes an entry at the next place.
     pub(crate) fn add(&mut self, entry: Entry)
         requires { length self.old < 1024 }
         ensures { self.new ≡ self.old ++ entry ∷ [] }
     {
         self.entries.push_reserved(entry);
+    }
+
+    /// Removes all entries. Their places stay.
+    pub(crate) fn clear(&mut self)
+        ensures { self.new ≡ [] }
+    {
+        self.entries.clear();
+    }
+}
+
+/// Removes the entries of these pages.
+pub(crate) fn clear_pages(pages: &mut [Page])
+    ensures { pages.new ≡ map (λ page. []) pages.old }
+{
+    for page in pages.iter_mut() {
+        page.clear();
     }
 }
 

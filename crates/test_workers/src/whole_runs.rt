@@ -7,13 +7,14 @@ use std::sync::Wait;
 use std::test::Fail;
 use std::thread::Threads;
 use std::time::Clock;
+use streams::device::Device;
 use streams::memory_sink::MemorySink;
 use streams::memory_source::MemorySource;
 use streams::stream_fault::StreamFault;
 use tasks::fault::Fault;
 use tasks::run_script::run_script;
 use test_support::memory::Memory;
-use workers::{OpenGate, run_threads};
+use workers::{OpenGate, RunFault, run_threads};
 
 /// The calls of one thread, whose order is known. One answer in each round is recorded nowhere.
 const SCRIPT: &str = "{\"objects\":[[\"a\",\"lock fair seats 1 conditions 0 cap 16\"],\
@@ -159,4 +160,68 @@ fn the_text_of_a_run_lacks_memory(rt: HostRuntime) -> Result<(), Fail> {
         }
     }
     Err(Fail::from("never spelt"))
+}
+
+/// Runs the script over bytes that take no memory of their own. How it ended; what it wrote is left.
+fn run_within<R: Threads + Wait + Clock + AllocGlobal + Sync>(
+    rt: &R,
+    written: &mut Vec<u8>,
+) -> Result<u8, Fault> {
+    written.clear();
+    let mut source = Device::new(SCRIPT.as_bytes());
+    run_script(rt, &mut source, &mut Device::new(&mut *written))
+}
+
+/// Whether a run tells that it lacked memory: nothing was written.
+fn tells_want(ended: &Result<u8, Fault>, written: &[u8]) -> bool {
+    match ended {
+        Ok(_) => false,
+        Err(Fault::Run(RunFault::NotStarted(worker))) => *worker == 0 && written.is_empty(),
+        Err(fault) => fault.status() == 5 && written.is_empty(),
+    }
+}
+
+/// The run text where the thread lacked memory for each entry.
+const UNRECORDED: &str = "object a\n\
+    aqs-history 1 lock fair seats 1 conditions 0 cap 16\nend 0 0\n\
+    legal\nentries 0\ncalls 0\nholds x 0 s 0 line 0 sleepers 0\nshares 0\n\
+    object b\n\
+    aqs-history 1 semaphore nonfair seats 1 permits 2 cap 16\nend 0 0\n\
+    legal\nentries 0\ncalls 0\nheld 0 free 2 created 2 unheld 0 line 0\nshares 0\n\
+    unrecorded 10\n";
+
+/// Whether a run is written in so many pieces of memory, each of 256 bytes. If it isn't, it lacked memory.
+///
+/// The system keeps the thread of a run that has ended, with its stack, and lends it to the next. It has no
+/// heap for that thread while the test has all memory, so its calls lack memory to the end.
+fn is_run<R: Threads + Wait + Clock + AllocGlobal + Sync + Abort>(
+    rt: &R,
+    written: &mut Vec<u8>,
+    pieces: usize,
+) -> Result<bool, Fail> {
+    let mut memory = Memory::take_all(rt.alloc(), 256)?;
+    memory.give_pieces(pieces);
+    let ended = run_within(rt, written);
+    if ended == Ok(0) {
+        assert!(rt; written.as_slice() == UNRECORDED.as_bytes());
+        return Ok(true);
+    }
+    assert!(rt; tells_want(&ended, written), "{pieces}");
+    Ok(false)
+}
+
+/// Each run has a piece more than the one before. With all memory again it is whole.
+#[test]
+fn a_whole_run_lacks_memory(rt: HostRuntime) -> Result<(), Fail> {
+    let mut written = Vec::with_capacity(rt.alloc(), PLACES)?;
+    assert!(rt; run_within(&rt, &mut written) == Ok(0));
+    for pieces in 0..1000 {
+        if is_run(&rt, &mut written, pieces)? {
+            assert!(rt; 256 <= pieces, "{pieces}");
+            assert!(rt; run_within(&rt, &mut written) == Ok(0));
+            assert!(rt; written.as_slice() == WRITTEN.as_bytes());
+            return Ok(());
+        }
+    }
+    Err(Fail::from("never run"))
 }

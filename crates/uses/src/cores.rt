@@ -41,7 +41,7 @@ pub fn acquire<H: Hooks + Drop>(core: &mut Core<H>, seat: u16) -> Result<u64, Fa
     ensures err { OnErr result (core.new ≡ core.old) }
 {
     let answer = core.step(seat, Step::Acquire(Mode::X, 1));
-    core.is_lawful();
+    core.recall_lawful();
     match answer {
         Ok(_) => Ok(core.holds(seat, Mode::X)),
         Err(fault) => Err(fault),

@@ -65,7 +65,7 @@ impl<H: Hooks + Drop> Core<H> {
 
     /// The history is legal, nobody in line is passed, what is owed has room and places, and its length fits
     /// in 32 bits.
-    pub fn is_lawful(&self)
+    pub fn recall_lawful(&self)
         ensures legal { IsLegal (start_of self.now) self.now.entries }
         ensures seated { AreSeated (start_of self.now) self.now.entries }
         ensures order { IsInOrder (start_of self.now) self.now.entries }

@@ -151,7 +151,7 @@ impl AnyCore {
     }
 
     pub fn told(&self) -> Told {
-        self.core.is_lawful();
+        self.core.recall_lawful();
         let history = self.core.history();
         Told {
             entries: history.len(),

@@ -28,7 +28,7 @@ pub fn answer_found(
     if header.seats <= seat {
         return Err(Fault::OutOfPhase);
     }
-    core.is_lawful();
+    core.recall_lawful();
     answer(alloc, header, history, seat, asked)
 }
 
@@ -39,6 +39,6 @@ pub fn totals_found(alloc: Global, core: &AnyCore) -> Result<Totals, Fault> {
     if !header.in_range() {
         return Err(Fault::BadAmount);
     }
-    core.is_lawful();
+    core.recall_lawful();
     totals(alloc, header, core.history())
 }

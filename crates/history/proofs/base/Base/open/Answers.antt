@@ -1,6 +1,8 @@
-use Rattle.std.proofs.Common.{sym, ◌∙◌}
-use Rattle.history.specs.Base.{nothing}
+use Rattle.std.proofs.Common.{[], subst, sym, ◌∙◌}
+use Rattle.history.specs.Base.{Base, nothing}
+use Rattle.history.specs.Fold.{MayFold}
 use Rattle.history.proofs.Folding.{each_same}
+use Rattle.history.proofs.FoldSteps.{may_open}
 use Rattle.history.proofs.base.Base.open.Goals as goal
 
 pub returns-clause-opened : goal.returns-clause-opened
@@ -16,3 +18,8 @@ returns-clause-opened c =
       line = c.in_ok-line.ensures.items j;
       sleepers = c.in_ok-sleepers.ensures.empty j;
     }
+
+pub returns-clause-may_fold : goal.returns-clause-may_fold
+returns-clause-may_fold c =
+    λ range. subst (λ (b : Base). MayFold b []) (sym (returns-clause-opened c))
+    (may_open c.args.header.now range)

@@ -54,6 +54,7 @@ returns c =
     let n = kept_length a.pages.items a.len a.cap a.owed a.calls c.self.invariant in
     view_next a.pages.items a.len a.cap a.owed a.calls c.self.invariant c.args.owed c.args.entry
     c.index_mut.result.now c.add.new.self (omega (arith, n, room)) c.index_mut.ensures.value c.add.ensures
+    a.base
     ∙ ap (λ (v : HistoryView).
     (let w : HistoryView = record v { entries = c.args.entry ∷ v.entries; owed = c.args.owed } in w))
     c.self.view_is

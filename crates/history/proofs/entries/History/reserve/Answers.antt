@@ -19,6 +19,12 @@ returns-clause-same c =
     let same = ap (λ pages. reverse (in_pages pages)) c.in_ok-reserve_pages.ensures.ok
     ∙ ap reverse (in_pages_more a.pages.items _) in
     let places = 1024 * length new in
-    ap (λ h. (let v : HistoryView = record { cap = a.cap; entries = h; owed = a.owed; places = places } in v))
+    ap (λ h. (let v : HistoryView = record {
+      cap = a.cap;
+      base = a.base;
+      entries = h;
+      owed = a.owed;
+      places = places;
+    } in v))
     same
     ∙ ap (λ (v : HistoryView). (let w : HistoryView = record v { places = places } in w)) c.self.view_is

@@ -5,7 +5,7 @@ use Rattle.history.specs.Room.{owed}
 use Rattle.history.specs.Start.{opening}
 use Rattle.history.proofs.Passing.{in_order, fair_order}
 use Rattle.frame.specs.Core.{CoreView, start_of}
-use Rattle.frame.proofs.machine.Core.is_lawful.Goals as goal
+use Rattle.frame.proofs.machine.Core.recall_lawful.Goals as goal
 
 pub returns : goal.returns
 returns g c =

@@ -1,0 +1,17 @@
+-- What an entry needs so that a base takes it up in the places that it has.
+use Rattle.std.specs.Prelude.{◌≡◌, ◌<◌, ◌≤◌, ◌+◌, ◌^◌, length}
+use Rattle.history.specs.declared.entry.Entry.{Entry}
+use Rattle.history.specs.declared.entry.Word.TheVariants.{Await}
+use Rattle.history.specs.Base.{Base, seat_of, sleepers_of}
+use Rattle.history.specs.NextBase.{next_base, seat_then}
+
+-- Its seat is there, the line and the sleepers have room, and the numbers behind it fit their fields.
+pub record HasPlaces (b : Base) (e : Entry) : Type 0 where
+  pub seat : e.seat < length b.seats
+  pub line : length (next_base b e).line ≤ b.header.seats
+  pub sleepers : e.word ≡ Await → length (sleepers_of b e.at) < b.header.seats
+  pub entries : b.entries + 1 < 2 ^ 128
+  pub calls : (seat_of b e.seat).calls + 1 < 2 ^ 64
+  pub exclusive : (seat_then b.header.object e (seat_of b e.seat)).exclusive < 2 ^ 32
+  pub shared : (seat_then b.header.object e (seat_of b e.seat)).shared < 2 ^ 128
+  pub unheld : (next_base b e).unheld < 2 ^ 128

@@ -1,0 +1,249 @@
+//! What one entry makes of each part of a base.
+
+ghost use Rattle.std.specs.Prelude.{◌≡◌, ℕ, ◌+◌, ◌<◌, ◌≤◌, ◌^◌, [], ◌∷◌, ◌++◌, length, map, drop, filter, get_or, set, All, if◌then◌else◌, vec_len, vec_capacity};
+ghost use Rattle.history.specs.declared.entry.Word.TheVariants.{Await, Lapse, Queued};
+ghost use Rattle.history.specs.Base.{holds_of, or_awake, sleep_on};
+ghost use Rattle.history.specs.Counts.{beyond, holds_after};
+ghost use Rattle.history.specs.Entry.{ends_arrival};
+ghost use Rattle.history.specs.Line.{coming_back};
+ghost use Rattle.history.specs.NextBase.{count_then, joins_from, seat_then, signalled_on, sleepers_then, stays_there};
+ghost use Rattle.history.specs.Object.{in_holds, is_semaphore};
+
+use crate::arrival::Arrival;
+use crate::base::{SeatBase, Sleeper, Standing};
+use crate::entries::ends_call;
+use crate::entry::{End, Entry, Mode, Word};
+use crate::header::Object;
+
+/// What the entry's seat has behind it.
+pub(crate) fn seat_then(object: Object, entry: Entry, has: SeatBase) -> SeatBase
+    requires calls { has.calls + 1 < 2 ^ 64 }
+    requires exclusive { (seat_then object entry has).exclusive < 2 ^ 32 }
+    requires shared { (seat_then object entry has).shared < 2 ^ 128 }
+    ensures { result ≡ seat_then object entry has }
+{
+    let calls = has.calls + u64::from(ends_call(entry.word));
+    let mut then = SeatBase { calls, ..has };
+    match entry.mode {
+        Mode::X => then.exclusive = holds_after(object, entry, u128::from(has.exclusive)) as u32,
+        Mode::S => then.shared = holds_after(object, entry, has.shared),
+    }
+    then
+}
+
+/// The holds of a seat in a mode.
+fn holds_of(has: SeatBase, mode: Mode) -> u128
+    ensures { result ≡ holds_of has mode }
+{
+    match mode {
+        Mode::X => u128::from(has.exclusive),
+        Mode::S => has.shared,
+    }
+}
+
+/// The holds behind an entry, of those before it in its mode.
+fn holds_after(object: Object, entry: Entry, had: u128) -> u128
+    requires { holds_after object entry.word entry.n had < 2 ^ 128 }
+    ensures { result ≡ holds_after object entry.word entry.n had }
+{
+    match entry.word {
+        Word::Got | Word::TryGot | Word::Granted => had + in_holds(object, entry.n),
+        Word::Drained | Word::Back => had + u128::from(entry.n),
+        Word::Gave => had.saturating_sub(in_holds(object, entry.n)),
+        Word::Await => 0,
+        _ => had,
+    }
+}
+
+/// What a request for n is in holds.
+fn in_holds(object: Object, n: u32) -> u128
+    ensures { result ≡ in_holds object n }
+{
+    match object {
+        Object::Lock(_) | Object::ReadWrite(_) => 1,
+        Object::Semaphore(_, _) => u128::from(n),
+        Object::Latch(_) => 0,
+    }
+}
+
+/// The permits that an entry releases beyond those that its seat held.
+pub(crate) fn beyond(object: Object, entry: Entry, has: SeatBase) -> u128
+    ensures { result
+        ≡ (if is_semaphore object then beyond entry.word entry.n (holds_of has entry.mode) else 0) }
+{
+    match (object, entry.word) {
+        (Object::Semaphore(_, _permits), Word::Gave) => {
+            u128::from(entry.n).saturating_sub(holds_of(has, entry.mode))
+        }
+        _ => 0,
+    }
+}
+
+/// The count of a latch behind an entry.
+pub(crate) fn count_then(word: Word, count: u32) -> u32
+    ensures { result ≡ count_then word count }
+{
+    match word {
+        Word::Counted => count.saturating_sub(1),
+        _ => count,
+    }
+}
+
+/// Whether a seat leaves the line by an entry of this word.
+fn ends_arrival(word: Word) -> bool
+    ensures { result ≡ ends_arrival word }
+{
+    matches!(word, Word::Granted | Word::Left | Word::Back)
+}
+
+/// Lets the entry's seat leave the line where the entry ends its wait.
+pub(crate) fn leave_line(line: &mut Vec<Standing>, entry: Entry)
+    ensures items { line.new.items ≡ filter (stays_there entry) line.old.items }
+    ensures capacity { vec_capacity line.new ≡ vec_capacity line.old }
+{
+    let leaves = ends_arrival(entry.word);
+    line.retain(|standing| !(leaves && entry.seat == standing.who.seat));
+}
+
+/// Has those stand in line whom the entry puts there, of the sleepers on its condition.
+pub(crate) fn join_line(line: &mut Vec<Standing>, asleep: &[Sleeper], entry: Entry)
+    requires { length (line.old.items ++ joins_from entry.word entry asleep.now) ≤ vec_capacity line.old }
+    ensures items { line.new.items ≡ line.old.items ++ joins_from entry.word entry asleep.now }
+    ensures capacity { vec_capacity line.new ≡ vec_capacity line.old }
+{
+    match entry.word {
+        Word::Queued => line.push_reserved(queued(entry)),
+        Word::Lapse => line.push_reserved(lapsed(entry, asleep)),
+        Word::Signal => {
+            let woken = asleep.len().min(entry.n as usize);
+            stand_signalled(line, entry.at, &asleep[..woken]);
+        }
+        Word::SignalAll => stand_signalled(line, entry.at, asleep),
+        _ => {}
+    }
+}
+
+/// One that waits for what its acquire asks for.
+fn queued(entry: Entry) -> Standing
+    ensures { result ∷ [] ≡ joins_from Queued entry [] }
+{
+    Standing {
+        who: Arrival {
+            seat: entry.seat,
+            mode: entry.mode,
+            n: entry.n,
+            back: false,
+        },
+        condition: 0,
+        holds: 0,
+        how: End::None,
+    }
+}
+
+/// One that comes back from a condition asks for X and 1.
+fn coming_back(seat: u16) -> Arrival
+    ensures { result ≡ coming_back seat }
+{
+    Arrival {
+        seat,
+        mode: Mode::X,
+        n: 1,
+        back: true,
+    }
+}
+
+/// One whose sleep ended by a timeout or an interrupt.
+fn lapsed(entry: Entry, asleep: &[Sleeper]) -> Standing
+    ensures { result ∷ [] ≡ joins_from Lapse entry asleep.now }
+{
+    Standing {
+        who: coming_back(entry.seat),
+        condition: entry.at,
+        holds: gave_up(asleep, entry.seat),
+        how: entry.end,
+    }
+}
+
+/// The holds that a sleeper gave up.
+fn gave_up(asleep: &[Sleeper], seat: u16) -> u32
+    ensures { (c : ℕ) → result ≡ (or_awake (sleep_on c seat asleep.now)).holds }
+{
+    for sleeper in asleep {
+        if sleeper.seat == seat {
+            return sleeper.holds;
+        }
+    }
+    0
+}
+
+/// Has these sleepers of a condition stand in line, in their order.
+fn stand_signalled(line: &mut Vec<Standing>, condition: u8, woken: &[Sleeper])
+    requires { vec_len line.old + length woken.now ≤ vec_capacity line.old }
+    ensures items { line.new.items ≡ line.old.items ++ map (signalled_on condition) woken.now }
+    ensures capacity { vec_capacity line.new ≡ vec_capacity line.old }
+{
+    for sleeper in woken {
+        line.push_reserved(Standing {
+            who: coming_back(sleeper.seat),
+            condition,
+            holds: sleeper.holds,
+            how: End::Signalled,
+        });
+    }
+}
+
+/// Who sleeps on a condition; nobody sleeps on one that the object lacks.
+pub(crate) fn sleepers_on(sleepers: &[Vec<Sleeper>], condition: u8) -> &[Sleeper]
+    ensures { result.now ≡ get_or (map (λ list. list.items) sleepers.now) condition [] }
+{
+    match sleepers.get(condition as usize) {
+        Some(list) => list,
+        None => &[],
+    }
+}
+
+/// Has the lists of sleepers follow an entry.
+pub(crate) fn follow_sleepers(sleepers: &mut Vec<Vec<Sleeper>>, entry: Entry)
+    // Where it goes to sleep, each list has a number of places above that of those who sleep there.
+    requires { entry.word ≡ Await → (n : ℕ)
+        × (length (get_or (map (λ list. list.items) sleepers.old.items) entry.at []) < n)
+        × All (λ list. n ≤ vec_capacity list) sleepers.old.items }
+    ensures items { map (λ list. list.items) sleepers.new.items
+        ≡ set (map (λ list. list.items) sleepers.old.items) entry.at
+        (sleepers_then entry.word entry (get_or (map (λ list. list.items) sleepers.old.items) entry.at [])) }
+    ensures places { (n : ℕ) → All (λ list. n ≤ vec_capacity list) sleepers.old.items →
+        All (λ list. n ≤ vec_capacity list) sleepers.new.items }
+{
+    let at = entry.at as usize;
+    if at < sleepers.len() {
+        follow_asleep(&mut sleepers[at], entry);
+    }
+}
+
+/// Has those who sleep on the entry's condition follow it.
+fn follow_asleep(asleep: &mut Vec<Sleeper>, entry: Entry)
+    requires { entry.word ≡ Await → vec_len asleep.old < vec_capacity asleep.old }
+    ensures items { asleep.new.items ≡ sleepers_then entry.word entry asleep.old.items }
+    ensures capacity { vec_capacity asleep.new ≡ vec_capacity asleep.old }
+{
+    match entry.word {
+        Word::Await => asleep.push_reserved(Sleeper {
+            seat: entry.seat,
+            holds: entry.n,
+        }),
+        Word::Lapse => asleep.retain(|sleeper| sleeper.seat != entry.seat),
+        Word::Signal => drop_front(asleep, entry.n as usize),
+        Word::SignalAll => asleep.clear(),
+        _ => {}
+    }
+}
+
+/// Removes so many sleepers, or all where there are fewer, from the front of a list.
+fn drop_front(asleep: &mut Vec<Sleeper>, most: usize)
+    ensures items { asleep.new.items ≡ drop most asleep.old.items }
+    ensures capacity { vec_capacity asleep.new ≡ vec_capacity asleep.old }
+{
+    for _ in 0..most.min(asleep.len()) {
+        asleep.remove(0);
+    }
+}

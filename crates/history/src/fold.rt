@@ -1,0 +1,56 @@
+//! Entries, folded into a base.
+
+ghost use Rattle.std.specs.Prelude.{◌≡◌, ◌+◌, ◌<◌, ◌≤◌, ◌↔◌, length, reverse, IsSomeAnd, IsTrue, IsFalse};
+ghost use Rattle.std.specs.Option.{option_map};
+ghost use Rattle.history.specs.Base.{folded};
+ghost use Rattle.history.specs.Fold.{MayFold};
+ghost use Rattle.history.specs.GoodBase.{most_folded};
+ghost use Rattle.history.specs.Pages.{in_pages};
+
+use crate::base::Base;
+use crate::entry::Entry;
+use crate::page::Page;
+
+/// Folds the entries of these pages, of which there are so many, into the base, if there is one and it may
+/// have folded as many more. Else nothing changes.
+pub(crate) fn fold_onto(base: &mut Option<Base>, pages: &[Page], count: u64) -> bool
+    requires may { IsSomeAnd base.old (λ base. MayFold base (reverse (in_pages pages.now))) }
+    requires count { count ≡ length (reverse (in_pages pages.now)) }
+    ensures folded { IsTrue result →
+        base.new ≡ option_map (λ base. folded base (reverse (in_pages pages.now))) base.old }
+    ensures full { IsFalse result ↔ IsSomeAnd base.old (λ base. most_folded < base.entries + count) }
+    ensures stays { IsFalse result → base.new ≡ base.old }
+{
+    match base {
+        Some(base) => {
+            let fits = base.may_fold(count);
+            if fits {
+                fold_pages(base, pages);
+            }
+            fits
+        }
+        None => false,
+    }
+}
+
+/// Folds the entries of pages into a base, page by page.
+fn fold_pages(base: &mut Base, pages: &[Page])
+    requires may { MayFold base.old (reverse (in_pages pages.now)) }
+    requires few { base.old.entries + length (reverse (in_pages pages.now)) ≤ most_folded }
+    ensures { base.new ≡ folded base.old (reverse (in_pages pages.now)) }
+{
+    for page in pages {
+        fold_entries(base, page.entries());
+    }
+}
+
+/// Folds entries into a base, the oldest first.
+fn fold_entries(base: &mut Base, entries: &[Entry])
+    requires may { MayFold base.old (reverse entries.now) }
+    requires few { base.old.entries + length (reverse entries.now) ≤ most_folded }
+    ensures { base.new ≡ folded base.old (reverse entries.now) }
+{
+    for entry in entries {
+        base.add(*entry);
+    }
+}
