@@ -90,6 +90,15 @@ impl Hooks for AnyHooks {
         }
     }
 
+    fn strict(&self) -> bool {
+        match self {
+            AnyHooks::Lock(hooks) => hooks.strict(),
+            AnyHooks::ReadWrite(hooks) => hooks.strict(),
+            AnyHooks::Semaphore(hooks) => hooks.strict(),
+            AnyHooks::Latch(hooks) => hooks.strict(),
+        }
+    }
+
     fn take(&mut self, who: u16, mode: Mode, n: u32) -> Taken {
         match self {
             AnyHooks::Lock(hooks) => hooks.take(who, mode, n),

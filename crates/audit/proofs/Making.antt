@@ -17,7 +17,7 @@ use Rattle.history.specs.declared.header.Object.{Object}
 use Rattle.history.specs.declared.header.Object.TheVariants.{Lock, ReadWrite, Semaphore, Latch}
 use Rattle.history.specs.declared.step.Step.{Step}
 use Rattle.history.specs.declared.step.Step.TheVariants.{Acquire, Try, TryFair, EntryInterrupt, Give, Look, Expire, Interrupt, Await, Signal, SignalAll, Drain}
-use Rattle.history.specs.Could.{is_seat, limit, held_back, could}
+use Rattle.history.specs.Could.{is_seat, limit, held_back, could, try_held_back}
 use Rattle.history.specs.Counts.{Counts, counts, owner}
 use Rattle.history.specs.Faults.{is_wrong_mode, is_no_condition, max_amount}
 use Rattle.history.specs.Line.{first_mode}
@@ -61,12 +61,14 @@ acquired_by false true c i m n = inl refl
 acquired_by false false true i m n = inl refl
 acquired_by false false false i m n = inl refl
 
-tried_by : (l c : Bool) (i : ℕ) (m : Mode) (n : ℕ) →
-    IsCandidate (plain i (cond l (word.Refused fault.TooManyHolds) (cond c word.TryGot word.Missed)) m n)
+tried_by : (b l c : Bool) (i : ℕ) (m : Mode) (n : ℕ) →
+    IsCandidate (plain i
+    (cond b word.Missed (cond l (word.Refused fault.TooManyHolds) (cond c word.TryGot word.Missed))) m n)
     (Try m n)
-tried_by true c i m n = inr (inl refl)
-tried_by false true i m n = inl refl
-tried_by false false i m n = inl refl
+tried_by true l c i m n = inl refl
+tried_by false true c i m n = inr (inl refl)
+tried_by false false true i m n = inl refl
+tried_by false false false i m n = inl refl
 
 tried_fairly_by : (b l c : Bool) (i : ℕ) (m : Mode) (n : ℕ) →
     IsCandidate (plain i
@@ -165,8 +167,9 @@ idle_found s h i (Acquire m n) e idle mode condition suit same q =
     found_itself s h i (Acquire m n) _ e
     (acquired_by (held_back k (first_mode s h) i m) (limit k i m) (could k i m n) i m n) same q
 idle_found s h i (Try m n) e idle mode condition suit same q =
-    let k = counts s h in found_itself s h i (Try m n) _ e (tried_by (limit k i m) (could k i m n) i m n)
-    same q
+    let k = counts s h in
+    found_itself s h i (Try m n) _ e
+    (tried_by (try_held_back k (first_mode s h) i m) (limit k i m) (could k i m n) i m n) same q
 idle_found s h i (TryFair m n) e idle mode condition suit same q =
     let k = counts s h in
     found_itself s h i (TryFair m n) _ e

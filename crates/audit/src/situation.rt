@@ -4,7 +4,6 @@ ghost use Rattle.std.specs.Prelude.{◌≡◌, ◌<◌, List, length};
 ghost use Rattle.history.specs.Could.{is_none_or, is_reentrant, is_seat, line_blocks};
 ghost use Rattle.history.specs.Counts.{counts};
 ghost use Rattle.history.specs.Line.{first_mode};
-ghost use Rattle.history.specs.Object.{is_fair_policy};
 ghost use Rattle.history.specs.Start.{Start};
 ghost use Rattle.history.specs.declared.entry.Entry.{Entry};
 ghost use Rattle.audit.specs.Ledger.{LedgerStand};
@@ -14,7 +13,7 @@ use deciding::situation::Situation;
 use deciding::sleep::LastSleep;
 use history::arrival::Arrival;
 use history::entry::Mode;
-use history::header::{Header, Object, Policy};
+use history::header::{Header, Object};
 
 /// The most holds of a lock by one seat.
 const MAX_HOLDS: u64 = 2_147_483_647;
@@ -61,8 +60,8 @@ impl Ledger {
             Some(first) => first.mode,
         };
         match self.header.object {
-            Object::Lock(policy) | Object::Semaphore(policy, _) => is_fair(policy),
-            Object::ReadWrite(policy) => is_fair(policy)
+            Object::Lock(policy) | Object::Semaphore(policy, _) => policy.is_fair(),
+            Object::ReadWrite(policy) => policy.is_fair()
                 || (matches!(mode, Mode::S) && matches!(first, Mode::X)),
             Object::Latch(_count) => false,
         }
@@ -78,6 +77,10 @@ impl Situation for Ledger {
 
     fn header(&self) -> &Header {
         &self.header
+    }
+
+    fn is_strict(&self) -> bool {
+        self.header.object.is_strict()
     }
 
     fn is_held_back(&self, seat: u16, mode: Mode) -> bool {
@@ -145,10 +148,4 @@ impl Situation for Ledger {
     fn last_sleep(&self, seat: u16) -> LastSleep {
         self.waiting.last_sleep[seat as usize]
     }
-}
-
-fn is_fair(policy: Policy) -> bool
-    ensures { result ≡ is_fair_policy policy }
-{
-    matches!(policy, Policy::Fair)
 }

@@ -61,6 +61,10 @@ impl Hooks for LatchHooks {
         false
     }
 
+    fn strict(&self) -> bool {
+        false
+    }
+
     fn take(&mut self, _who: u16, _mode: Mode, _n: u32) -> Taken {
         Taken::More
     }

@@ -66,11 +66,12 @@ impl Hooks for SemaphoreHooks {
     fn holds_back(&self, _who: u16, _mode: Mode, line: Line) -> bool {
         match line {
             Line::Empty => false,
-            Line::FirstX | Line::FirstS => match self.policy {
-                Policy::Fair => true,
-                Policy::NonFair => false,
-            },
+            Line::FirstX | Line::FirstS => self.policy.is_fair(),
         }
+    }
+
+    fn strict(&self) -> bool {
+        self.policy.is_strict()
     }
 
     // Never Last: a request of 0 could be granted where nothing is free.

@@ -78,9 +78,11 @@ fn acquired<T: Situation>(state: &T, seat: u16, mode: Mode, n: u32) -> Word
 fn tried<T: Situation>(state: &T, seat: u16, mode: Mode, n: u32) -> Word
     requires { HasSeat T.stands state.now seat }
     ensures { (s : Start) (h : List Entry) → T.stands s h state.now
-        → result ≡ tried (counts s h) seat mode n }
+        → result ≡ tried (counts s h) (first_mode s h) seat mode n }
 {
-    if state.is_at_limit(seat, mode) {
+    if state.is_strict() && state.is_held_back(seat, mode) {
+        Word::Missed
+    } else if state.is_at_limit(seat, mode) {
         Word::Refused(Fault::TooManyHolds)
     } else if state.could_take(seat, mode, n) {
         Word::TryGot

@@ -4,7 +4,7 @@ ghost use Rattle.std.specs.Prelude.{◌≡◌, List, length, true};
 ghost use Rattle.history.specs.Could.{could, held_back, limit};
 ghost use Rattle.history.specs.Counts.{counts, free, held};
 ghost use Rattle.history.specs.Line.{first_mode, first_of, line, place_of};
-ghost use Rattle.history.specs.Object.{is_semaphore};
+ghost use Rattle.history.specs.Object.{is_semaphore, is_strict};
 ghost use Rattle.history.specs.Sleepers.{last_sleep, sleepers, sleeps_below};
 ghost use Rattle.history.specs.Start.{Start};
 ghost use Rattle.history.specs.declared.entry.Entry.{Entry};
@@ -25,6 +25,10 @@ pub trait Situation {
 
     fn header(&self) -> &Header
         ensures { (s : Start) (h : List Entry) → stands s h self.now → result.now ≡ s.header };
+
+    /// Whether a line holds back tries too.
+    fn is_strict(&self) -> bool
+        ensures { (s : Start) (h : List Entry) → stands s h self.now → result ≡ is_strict s.header.object };
 
     /// Whether the line holds a new call back.
     fn is_held_back(&self, seat: u16, mode: Mode) -> bool

@@ -8,6 +8,7 @@ ghost use Rattle.std.specs.Prelude.{◌≡◌, ◌≢◌, ℕ, ◌<◌, ◌≤�
 ghost use Rattle.history.specs.Changes.{took, given, let_go, restored, drained};
 ghost use Rattle.history.specs.Could.{could, limit, held_back};
 ghost use Rattle.history.specs.Counts.{Counts};
+ghost use Rattle.history.specs.Object.{is_strict};
 ghost use Rattle.history.specs.declared.entry.Mode.{Mode};
 ghost use Rattle.history.specs.declared.entry.Mode.TheVariants.{X, S};
 ghost use Rattle.history.specs.declared.header.Object.{Object};
@@ -66,6 +67,10 @@ pub trait Hooks {
     /// Whether a new call stands behind a line rather than pass it.
     fn holds_back(&self, who: u16, mode: Mode, line: Line) -> bool
         ensures { (k : Counts) → agrees self.now k → result ≡ held_back k (line_mode line) who mode };
+
+    /// Whether a new call that only tries stands behind a line too.
+    fn strict(&self) -> bool
+        ensures { result ≡ is_strict (object_of self.now) };
 
     /// Takes. The caller has asked whether the seat could.
     fn take(&mut self, who: u16, mode: Mode, n: u32) -> Taken

@@ -27,7 +27,7 @@ use Rattle.history.specs.Faults.{is_bad_amount, is_no_condition, is_wrong_mode}
 use Rattle.history.specs.Legal.{calls}
 use Rattle.history.specs.Line.{arrivals_by, coming_back, first_mode, first_of, line, mode_of, place_of}
 use Rattle.history.specs.Naming.{named, named_by, ready, ready_by}
-use Rattle.history.specs.Object.{is_lock, is_semaphore, opening_count}
+use Rattle.history.specs.Object.{is_lock, is_semaphore, opening_count, is_strict}
 use Rattle.history.specs.Ownership.{is_away}
 use Rattle.history.specs.Phase.{Phase, Idle, InLine, Sleeping, phase, phase_by, suits}
 use Rattle.history.specs.Room.{arrival_owes, holds_owe, owed, sleeper_owes, sleepers_owe, sum_of}
@@ -105,7 +105,7 @@ module _ (n : ℕ) (had : ℕ → Mode → ℕ) (c : ℕ) (f f' : ℤ) (first : 
 -- the entry of an idle seat's step, by what it is made of
 abbrev made : Object → Counts → Option Mode → (ℕ → ℕ) → ℕ → Step → Entry
 made o k first asleep i (step.Acquire m n) = plain i (acquired k first i m n) m n
-made o k first asleep i (step.Try m n) = plain i (tried k i m n) m n
+made o k first asleep i (step.Try m n) = plain i (tried k first i m n) m n
 made o k first asleep i (step.TryFair m n) = plain i (tried_fairly k first i m n) m n
 made o k first asleep i (step.EntryInterrupt m n) = plain i (word.Refused fault.Interrupted) m n
 made o k first asleep i (step.Give m n) = plain i (gave o k i m n) m n
@@ -152,8 +152,9 @@ module _ (o : Object) (n : ℕ) (had : ℕ → Mode → ℕ) (c : ℕ) (f f' : �
       (cond (limit_at m j) (word.Refused fault.TooManyHolds)
       (cond (could_at m x j) word.Got word.Queued))) m x
   made_alike (step.Try m x) right =
-      λ j. plain i (cond (limit_at m j) (word.Refused fault.TooManyHolds)
-      (cond (could_at m x j) word.TryGot word.Missed)) m x
+      λ j. plain i (cond (is_strict o && back_at m j) word.Missed
+      (cond (limit_at m j) (word.Refused fault.TooManyHolds)
+      (cond (could_at m x j) word.TryGot word.Missed))) m x
   made_alike (step.TryFair m x) right =
       λ j. plain i (cond (back_at m j) word.Missed
       (cond (limit_at m j) (word.Refused fault.TooManyHolds)

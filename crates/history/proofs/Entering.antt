@@ -14,7 +14,7 @@ use Rattle.history.specs.declared.header.Object.{Object}
 use Rattle.history.specs.declared.header.Object.TheVariants.{Lock, ReadWrite, Semaphore, Latch}
 use Rattle.history.specs.declared.step.Step.{Step}
 use Rattle.history.specs.declared.step.Step.TheVariants.{Acquire, Try, TryFair, EntryInterrupt, Give, Look, Expire, Interrupt, Await, Signal, SignalAll, Drain}
-use Rattle.history.specs.Could.{could, limit, held_back, is_seat}
+use Rattle.history.specs.Could.{could, limit, held_back, is_seat, try_held_back}
 use Rattle.history.specs.Counts.{Counts, counts, owner, held, free}
 use Rattle.history.specs.Faults.{is_wrong_mode, is_no_condition, is_bad_amount, lacks_mode, is_bad_number}
 use Rattle.history.specs.Line.{line, first_mode, place_of}
@@ -92,8 +92,9 @@ abbrev pub KnownBy : Start → List Entry → Entry → Word → Type 0
 KnownBy s h e word.Got =
     Asked s h e × (could (counts s h) e.seat e.mode e.n ≡ true)
     × (held_back (counts s h) (first_mode s h) e.seat e.mode ≡ false)
-KnownBy s h e word.TryGot = Asked s h e × (could (counts s h) e.seat e.mode e.n ≡ true)
-    × (is_latch s.header.object ≡ false)
+KnownBy s h e word.TryGot =
+    Asked s h e × (could (counts s h) e.seat e.mode e.n ≡ true) × (is_latch s.header.object ≡ false)
+    × (try_held_back (counts s h) (first_mode s h) e.seat e.mode ≡ false)
 KnownBy s h e word.Queued = Asked s h e
 KnownBy s h e word.Missed = Asked s h e
 KnownBy s h e (word.Refused f) = Asked s h e
@@ -146,12 +147,14 @@ acquired_known s h i m n a false false true p q = (a word.Got, q, p)
 acquired_known s h i m n a false false false p q = a word.Queued
 
 tried_known : (s : Start) (h : List Entry) (i : ℕ) (m : Mode) (n : ℕ) →
-    ((w : Word) → Asked s h (plain i w m n)) → is_latch s.header.object ≡ false → (c d : Bool) →
-    could (counts s h) i m n ≡ d → Known s h
-    (plain i (cond c (word.Refused fault.TooManyHolds) (cond d word.TryGot word.Missed)) m n)
-tried_known s h i m n a l true d q = a (word.Refused fault.TooManyHolds)
-tried_known s h i m n a l false true q = (a word.TryGot, q, l)
-tried_known s h i m n a l false false q = a word.Missed
+    ((w : Word) → Asked s h (plain i w m n)) → is_latch s.header.object ≡ false → (b c d : Bool) →
+    try_held_back (counts s h) (first_mode s h) i m ≡ b → could (counts s h) i m n ≡ d → Known s h
+    (plain i (cond b word.Missed
+    (cond c (word.Refused fault.TooManyHolds) (cond d word.TryGot word.Missed))) m n)
+tried_known s h i m n a l true c d p q = a word.Missed
+tried_known s h i m n a l false true d p q = a (word.Refused fault.TooManyHolds)
+tried_known s h i m n a l false false true p q = (a word.TryGot, q, l, p)
+tried_known s h i m n a l false false false p q = a word.Missed
 
 tried_fairly_known : (s : Start) (h : List Entry) (i : ℕ) (m : Mode) (n : ℕ) →
     ((w : Word) → Asked s h (plain i w m n)) → (b c d : Bool) →
@@ -249,7 +252,8 @@ idle_known s h i (Acquire m n) idle mode condition amount suit =
     acquired_known s h i m n (λ w. asked s h i w m n idle mode amount) _ (limit (counts s h) i m) _ refl refl
 idle_known s h i (Try m n) idle mode condition amount suit =
     let parts = or_parts (lacks_mode s.header.object m) (is_latch s.header.object) mode in
-    tried_known s h i m n (λ w. asked s h i w m n idle parts.0 amount) parts.1 (limit (counts s h) i m) _ refl
+    tried_known s h i m n (λ w. asked s h i w m n idle parts.0 amount) parts.1 _ (limit (counts s h) i m) _
+    refl refl
 idle_known s h i (TryFair m n) idle mode condition amount suit =
     tried_fairly_known s h i m n (λ w. asked s h i w m n idle mode amount) _ (limit (counts s h) i m) _ refl
     refl

@@ -9,7 +9,7 @@ use Rattle.history.specs.declared.header.Header.{Header}
 use Rattle.history.specs.declared.header.Object.{Object}
 use Rattle.history.specs.declared.header.Object.TheVariants.{Lock, ReadWrite, Semaphore, Latch}
 use Rattle.history.specs.declared.header.Policy.{Policy}
-use Rattle.history.specs.declared.header.Policy.TheVariants.{Fair, NonFair}
+use Rattle.history.specs.declared.header.Policy.TheVariants.{Fair, NonFair, Strict}
 use Rattle.history.specs.Header.{IsInRange, IsOpening}
 use Rattle.history.specs.Text.{line_of, words_of}
 use Rattle.history.specs.Spelling.{policy_word, object_words, part_words, part_of}
@@ -43,6 +43,7 @@ permits_again (negsuc n) fits =
 policy_again : (p : Policy) (ws : Words) → policy_at (policy_word p ∷ ws) ≡ Some (p, ws)
 policy_again Fair ws = refl
 policy_again NonFair ws = refl
+policy_again Strict ws = refl
 
 lock_again : (o : Policy → Object) (p : Policy) (n c k : ℕ) → 1 ≤ n → n ≤ 256 → c ≤ 16 → 16 ≤ k → k < 2 ^ 32
     → lock_at o (policy_word p ∷ codes "seats" ∷ decimal n ∷ codes "conditions" ∷ decimal c
@@ -91,6 +92,7 @@ object_again (Latch q) n c k o n1 n2 k1 k2 = rw o.0 (latch_again q n k o.1 n1 n2
 policy_plain : (p : Policy) → is_plain (policy_word p) ≡ true
 policy_plain Fair = refl
 policy_plain NonFair = refl
+policy_plain Strict = refl
 
 part_plain : (o : Object) (n c k : ℕ) → IsOpening o c → n ≤ 256 → k < 2 ^ 32 → ArePlain (object_words o n c k)
 part_plain (Lock p) n c k o n2 k2 = (

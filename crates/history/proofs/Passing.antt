@@ -3,7 +3,7 @@ use Rattle.std.proofs.Common.{◌≡◌, ◌⊎◌, inl, inr, ⊎_elim, ℕ, ◌
 use Rattle.std.specs.List.{filter, AllByRecursion}
 use Rattle.std.proofs.lemmas.List.Elements.{filter-append}
 use Rattle.std.proofs.lemmas.List.{map-append}
-use Rattle.std.proofs.lemmas.Bool.{and_parts, eqb-true, eq-eqb}
+use Rattle.std.proofs.lemmas.Bool.{and_parts, eqb-true, eq-eqb, or_left}
 use Rattle.history.specs.declared.arrival.Arrival.{Arrival}
 use Rattle.history.specs.declared.entry.Entry.{Entry}
 use Rattle.history.specs.declared.entry.Mode.{Mode}
@@ -12,15 +12,16 @@ use Rattle.history.specs.declared.entry.Word.TheVariants as word
 use Rattle.history.specs.declared.header.Header.{Header}
 use Rattle.history.specs.declared.header.Object.{Object}
 use Rattle.history.specs.declared.header.Object.TheVariants.{Lock, ReadWrite, Semaphore, Latch}
-use Rattle.history.specs.declared.header.Policy.TheVariants.{Fair, NonFair}
+use Rattle.history.specs.declared.header.Policy.{Policy}
+use Rattle.history.specs.declared.header.Policy.TheVariants.{Fair, NonFair, Strict}
 use Rattle.history.specs.Could.{held_back, is_reentrant, line_blocks}
 use Rattle.history.specs.Counts.{counts}
 use Rattle.history.specs.Entry.{ends_arrival}
 use Rattle.history.specs.Legal.{IsLegal}
 use Rattle.history.specs.Line.{Arrived, arrived_at, arrivals, arrivals_by, Ending, ending, first_ending, is_open, stands, line, first_of, mode_of, first_mode, place_of}
 use Rattle.history.specs.Naming.{ready}
-use Rattle.history.specs.Object.{is_fair}
-use Rattle.history.specs.Order.{is_passage, EndedBefore, IsInOrder, IsFairOrder}
+use Rattle.history.specs.Object.{is_fair, is_fair_policy, is_strict, is_strict_policy}
+use Rattle.history.specs.Order.{is_passage, takes_in_turn, EndedBefore, IsInOrder, IsFairOrder}
 use Rattle.history.specs.Start.{Start, opening}
 use Rattle.history.specs.Waiting.{StandOnce}
 use Rattle.history.proofs.Entering.{Known, KnownBy, known}
@@ -106,33 +107,54 @@ no_first : (q : List Arrival) → mode_of (first_of q) ≡ None → q ≡ []
 no_first [] e = refl
 no_first (a ∷ q) e = cc
 
+apart : true ≡ false → ⊥
+apart q = cc
+
 -- a fair object with somebody in line holds back what isn't reentrant
 not_blocked : (o : Object) (m : Mode) (first : Option Mode) → is_fair o ≡ true →
     line_blocks o m first ≡ false → first ≡ None
 not_blocked o m None f b = refl
-not_blocked (Lock Fair) m (Some x) f b = cc
-not_blocked (Lock NonFair) m (Some x) f b = cc
-not_blocked (ReadWrite Fair) m (Some x) f b = cc
-not_blocked (ReadWrite NonFair) m (Some x) f b = cc
-not_blocked (Semaphore Fair c) m (Some x) f b = cc
-not_blocked (Semaphore NonFair c) m (Some x) f b = cc
+not_blocked (Lock p) m (Some x) f b = absurd (apart (sym f ∙ b))
+not_blocked (ReadWrite p) m (Some x) f b = absurd (apart (sym (or_left (is_fair_policy p) _ f) ∙ b))
+not_blocked (Semaphore p c) m (Some x) f b = absurd (apart (sym f ∙ b))
 not_blocked (Latch c) m (Some x) f b = cc
 
--- in a fair object a new call that isn't reentrant takes only where nobody waits
+-- a strict policy holds back all that a fair one does
+strict_fair_policy : (p : Policy) → is_strict_policy p ≡ true → is_fair_policy p ≡ true
+strict_fair_policy Fair t = refl
+strict_fair_policy NonFair t = cc
+strict_fair_policy Strict t = refl
+
+strict_fair : (o : Object) → is_strict o ≡ true → is_fair o ≡ true
+strict_fair (Lock p) t = strict_fair_policy p t
+strict_fair (ReadWrite p) t = strict_fair_policy p t
+strict_fair (Semaphore p c) t = strict_fair_policy p t
+strict_fair (Latch c) t = cc
+
+-- an object in which a word takes in turn holds back those who pass a line
+turn_fair : (o : Object) (w : Word) → takes_in_turn o w ≡ true → is_fair o ≡ true
+turn_fair o word.Got t = t
+turn_fair o word.TryGot t = strict_fair o t
+turn_fair o _ t = cc
+
+-- a new call that takes in turn and isn't reentrant finds that nobody waits
 pub fair_order : (s : Start) (h : List Entry) → IsLegal s h → IsFairOrder s h
 fair_order s [] l = tt
 fair_order s (e ∷ h) l = (now, fair_order s h l.1)
   where
-    got : (w : Word) → w ≡ word.Got → KnownBy s h e w →
+    free : (w : Word) → takes_in_turn s.header.object w ≡ true → KnownBy s h e w →
         held_back (counts s h) (first_mode s h) e.seat e.mode ≡ false
-    got w q x = let P : Word → Type 0 = λ v. KnownBy s h e v in let y : P word.Got = subst P q x in y.2
+    free word.Got t k = k.2
+    free word.TryGot t k = rw t at k.3
+    free _ t k = cc
 
-    now : e.word ≡ word.Got → is_fair s.header.object ≡ true →
+    now : takes_in_turn s.header.object e.word ≡ true →
         is_reentrant (counts s h) e.seat e.mode ≡ false →
         AllByRecursion (EndedBefore h (length h)) (arrivals s h)
-    now g f r =
+    now t r =
+        let f : is_fair s.header.object ≡ true = turn_fair s.header.object e.word t in
         let b : held_back (counts s h) (first_mode s h) e.seat e.mode ≡ false =
-        got e.word g (known s h l.0.0 e l.0.1) in
+        free e.word t (known s h l.0.0 e l.0.1) in
         let c : line_blocks s.header.object e.mode (first_mode s h) ≡ false = rw r at b in
         let n : first_mode s h ≡ None = not_blocked s.header.object e.mode _ f c in
         all_gone h (arrivals s h) (map_nil _ (no_first (line s h) n))

@@ -33,19 +33,20 @@ Joins s h i (step.Acquire m n) = acquired (counts s h) (first_mode s h) i m n �
 Joins s h i _ = ⊥
 
 module _ (s : Start) (h : List Entry) (i : ℕ) where
-  not_tried_fairly : (b c d : Bool) →
-      cond b word.Missed (cond c (word.Refused fault.TooManyHolds) (cond d word.Got word.Missed))
+  -- a try, in fair order or not, that takes by a word
+  not_tried : (w : Word) → (w ≡ word.Queued → ⊥) → (b c d : Bool) →
+      cond b word.Missed (cond c (word.Refused fault.TooManyHolds) (cond d w word.Missed))
       ≡ word.Queued → ⊥
-  not_tried_fairly true c d q = cc
-  not_tried_fairly false true d q = cc
-  not_tried_fairly false false true q = cc
-  not_tried_fairly false false false q = cc
+  not_tried w apart true c d q = cc
+  not_tried w apart false true d q = cc
+  not_tried w apart false false true q = apart q
+  not_tried w apart false false false q = cc
 
-  not_tried : (c d : Bool) →
-      cond c (word.Refused fault.TooManyHolds) (cond d word.TryGot word.Missed) ≡ word.Queued → ⊥
-  not_tried true d q = cc
-  not_tried false true q = cc
-  not_tried false false q = cc
+  got_apart : word.Got ≡ word.Queued → ⊥
+  got_apart q = cc
+
+  try_got_apart : word.TryGot ≡ word.Queued → ⊥
+  try_got_apart q = cc
 
   not_awaits : (b c : Bool) (n at : ℕ) →
       (cond b (plain i (word.Refused fault.NotOwner) X 1)
@@ -70,8 +71,8 @@ module _ (s : Start) (h : List Entry) (i : ℕ) where
 
   joins : (x : Step) → (idle_entry s h i x).word ≡ word.Queued → Joins s h i x
   joins (step.Acquire m n) q = q
-  joins (step.Try m n) q = not_tried _ _ q
-  joins (step.TryFair m n) q = not_tried_fairly _ _ _ q
+  joins (step.Try m n) q = not_tried word.TryGot try_got_apart _ _ _ q
+  joins (step.TryFair m n) q = not_tried word.Got got_apart _ _ _ q
   joins (step.EntryInterrupt m n) q = cc
   joins (step.Give m n) q =
       subst (GaveWord s.header.object) q (gave_word s.header.object (counts s h) i m n)

@@ -6,7 +6,7 @@ use Rattle.history.specs.declared.header.Object.{Object}
 use Rattle.history.specs.declared.header.Object.TheVariants.{Lock, ReadWrite, Semaphore, Latch}
 use Rattle.history.specs.Counts.{Counts, owner, readers}
 use Rattle.history.specs.Entry.{is_exclusive}
-use Rattle.history.specs.Object.{is_fair_policy}
+use Rattle.history.specs.Object.{is_fair_policy, is_strict}
 
 -- the greatest number of holds of a lock by one seat, and of write holds, or of all read holds
 abbrev pub max_holds : ℕ
@@ -62,8 +62,8 @@ is_reentrant_of _ k i m = false
 abbrev pub is_reentrant : Counts → ℕ → Mode → Bool
 is_reentrant k i m = is_reentrant_of k.object k i m
 
--- The new calls that a line holds back, by the mode that its first asks for: all in a fair object, and in a
--- non-fair read-write lock the reads where the first asks to write. A latch holds nobody back.
+-- The new calls that a line holds back, by the mode that its first asks for: all in a fair or strict object,
+-- and in a non-fair read-write lock the reads where the first asks to write. A latch holds nobody back.
 abbrev pub line_blocks : Object → Mode → Option Mode → Bool
 line_blocks o m None = false
 line_blocks (Lock policy) m (Some first) = is_fair_policy policy
@@ -75,3 +75,7 @@ line_blocks (Latch opening) m (Some first) = false
 -- a new call that isn't reentrant, and that the line holds back
 abbrev pub held_back : Counts → Option Mode → ℕ → Mode → Bool
 held_back k first i m = not (is_reentrant k i m) && line_blocks k.object m first
+
+-- A try passes a line. In a strict object the line holds it back as it does an acquire.
+abbrev pub try_held_back : Counts → Option Mode → ℕ → Mode → Bool
+try_held_back k first i m = is_strict k.object && held_back k first i m

@@ -3,11 +3,19 @@ use Rattle.std.specs.Prelude.{ℕ, Bool, true, false, ℤ, pos}
 use Rattle.history.specs.declared.header.Object.{Object}
 use Rattle.history.specs.declared.header.Object.TheVariants.{Lock, ReadWrite, Semaphore, Latch}
 use Rattle.history.specs.declared.header.Policy.{Policy}
-use Rattle.history.specs.declared.header.Policy.TheVariants.{Fair, NonFair}
+use Rattle.history.specs.declared.header.Policy.TheVariants.{Fair, NonFair, Strict}
 
+-- the policies in which no new timed or untimed acquire passes those who wait
 abbrev pub is_fair_policy : Policy → Bool
 is_fair_policy Fair = true
 is_fair_policy NonFair = false
+is_fair_policy Strict = true
+
+-- the policy in which no try does either
+abbrev pub is_strict_policy : Policy → Bool
+is_strict_policy Fair = false
+is_strict_policy NonFair = false
+is_strict_policy Strict = true
 
 -- a latch has no policy
 abbrev pub is_fair : Object → Bool
@@ -15,6 +23,12 @@ is_fair (Lock policy) = is_fair_policy policy
 is_fair (ReadWrite policy) = is_fair_policy policy
 is_fair (Semaphore policy permits) = is_fair_policy policy
 is_fair (Latch count) = false
+
+abbrev pub is_strict : Object → Bool
+is_strict (Lock policy) = is_strict_policy policy
+is_strict (ReadWrite policy) = is_strict_policy policy
+is_strict (Semaphore policy permits) = is_strict_policy policy
+is_strict (Latch count) = false
 
 -- a lock or a read-write lock, which are owned, have conditions and keep room for each hold
 abbrev pub is_lock : Object → Bool

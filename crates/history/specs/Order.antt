@@ -3,11 +3,12 @@ use Rattle.std.specs.Prelude.{◌≡◌, ◌<◌, ℕ, Bool, true, false, List, 
 use Rattle.std.specs.List.{AllByRecursion}
 use Rattle.history.specs.declared.entry.Entry.{Entry}
 use Rattle.history.specs.declared.entry.Word.{Word}
-use Rattle.history.specs.declared.entry.Word.TheVariants.{Got, Granted, Back}
+use Rattle.history.specs.declared.entry.Word.TheVariants.{Got, TryGot, Granted, Back}
 use Rattle.history.specs.Could.{is_reentrant}
 use Rattle.history.specs.Counts.{counts}
 use Rattle.history.specs.Line.{Arrived, arrivals, Ending, ending}
-use Rattle.history.specs.Object.{is_fair}
+use Rattle.history.specs.declared.header.Object.{Object}
+use Rattle.history.specs.Object.{is_fair, is_strict}
 use Rattle.history.specs.Start.{Start}
 
 -- an arrival that was granted, or came back
@@ -29,10 +30,17 @@ IsInOrder s h =
     arrivals s h ≡ before ++ b ∷ after → ending h b.who.seat b.place ≡ Some x → is_passage x.word ≡ true →
     AllByRecursion (EndedBefore h x.place) before
 
--- in a fair object a new call that isn't reentrant takes only where all who arrived before have ended
+-- The words by which a new call takes without passing anybody: of an acquire, timed or not, in a fair or strict
+-- object, and of a try in a strict one.
+abbrev pub takes_in_turn : Object → Word → Bool
+takes_in_turn o Got = is_fair o
+takes_in_turn o TryGot = is_strict o
+takes_in_turn o _ = false
+
+-- such a call, unless it is reentrant, takes only where all who arrived before have ended
 abbrev pub IsFairOrder : Start → List Entry → Type 0
 IsFairOrder s [] = Unit {0}
 IsFairOrder s (e ∷ h) =
-    (e.word ≡ Got → is_fair s.header.object ≡ true → is_reentrant (counts s h) e.seat e.mode ≡ false →
+    (takes_in_turn s.header.object e.word ≡ true → is_reentrant (counts s h) e.seat e.mode ≡ false →
     AllByRecursion (EndedBefore h (length h)) (arrivals s h))
     × IsFairOrder s h

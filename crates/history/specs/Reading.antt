@@ -8,7 +8,7 @@ use Rattle.history.specs.declared.header.Header.{Header}
 use Rattle.history.specs.declared.header.Object.{Object}
 use Rattle.history.specs.declared.header.Object.TheVariants.{Lock, ReadWrite, Semaphore, Latch}
 use Rattle.history.specs.declared.header.Policy.{Policy}
-use Rattle.history.specs.declared.header.Policy.TheVariants.{Fair, NonFair}
+use Rattle.history.specs.declared.header.Policy.TheVariants.{Fair, NonFair, Strict}
 
 abbrev pub Words : Type 0
 Words = List (List ℕ)
@@ -47,7 +47,8 @@ number_at least most words = do
 abbrev pub policy_at : Words → Option (Policy × Words)
 policy_at [] = None
 policy_at (w ∷ ws) = if bytes_eq w (codes "fair") then Some (Fair, ws)
-    else if bytes_eq w (codes "nonfair") then Some (NonFair, ws) else None
+    else if bytes_eq w (codes "nonfair") then Some (NonFair, ws)
+    else if bytes_eq w (codes "strict") then Some (Strict, ws) else None
 
 abbrev pub mode_at : Words → Option (Mode × Words)
 mode_at [] = None

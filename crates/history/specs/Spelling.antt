@@ -5,12 +5,13 @@ use Rattle.history.specs.declared.header.Header.{Header}
 use Rattle.history.specs.declared.header.Object.{Object}
 use Rattle.history.specs.declared.header.Object.TheVariants.{Lock, ReadWrite, Semaphore, Latch}
 use Rattle.history.specs.declared.header.Policy.{Policy}
-use Rattle.history.specs.declared.header.Policy.TheVariants.{Fair, NonFair}
+use Rattle.history.specs.declared.header.Policy.TheVariants.{Fair, NonFair, Strict}
 use Rattle.history.specs.Text.{line_of}
 
 abbrev pub policy_word : Policy → List ℕ
 policy_word Fair = codes "fair"
 policy_word NonFair = codes "nonfair"
+policy_word Strict = codes "strict"
 
 -- an object with its seats, conditions and cap
 abbrev pub object_words : Object → ℕ → ℕ → ℕ → List (List ℕ)

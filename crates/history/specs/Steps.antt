@@ -14,7 +14,7 @@ use Rattle.history.specs.declared.header.Object.{Object}
 use Rattle.history.specs.declared.header.Object.TheVariants.{Lock, ReadWrite, Semaphore, Latch}
 use Rattle.history.specs.declared.step.Step.{Step}
 use Rattle.history.specs.declared.step.Step.TheVariants.{Acquire, Try, TryFair, EntryInterrupt, Give, Look, Expire, Interrupt, Await, Signal, SignalAll, Drain}
-use Rattle.history.specs.Could.{could, limit, held_back, is_seat}
+use Rattle.history.specs.Could.{could, limit, held_back, is_seat, try_held_back}
 use Rattle.history.specs.Counts.{Counts, counts, owner}
 use Rattle.history.specs.Faults.{is_wrong_mode, is_no_condition, is_bad_amount, max_amount}
 use Rattle.history.specs.Line.{first_mode}
@@ -35,9 +35,10 @@ acquired k first i m n =
     else if could k i m n then word.Got
     else word.Queued
 
-abbrev pub tried : Counts → ℕ → Mode → ℕ → Word
-tried k i m n =
-    if limit k i m then word.Refused fault.TooManyHolds
+abbrev pub tried : Counts → Option Mode → ℕ → Mode → ℕ → Word
+tried k first i m n =
+    if try_held_back k first i m then word.Missed
+    else if limit k i m then word.Refused fault.TooManyHolds
     else if could k i m n then word.TryGot
     else word.Missed
 
@@ -80,7 +81,7 @@ at_least_none z = if int_lt z (pos 0) then 0 else nat_abs z
 -- the entry of an idle seat's step
 abbrev pub idle_entry : Start → List Entry → ℕ → Step → Entry
 idle_entry s h i (Acquire m n) = plain i (acquired (counts s h) (first_mode s h) i m n) m n
-idle_entry s h i (Try m n) = plain i (tried (counts s h) i m n) m n
+idle_entry s h i (Try m n) = plain i (tried (counts s h) (first_mode s h) i m n) m n
 idle_entry s h i (TryFair m n) = plain i (tried_fairly (counts s h) (first_mode s h) i m n) m n
 idle_entry s h i (EntryInterrupt m n) = plain i (word.Refused fault.Interrupted) m n
 idle_entry s h i (Give m n) = plain i (gave s.header.object (counts s h) i m n) m n

@@ -2,12 +2,42 @@
 
 ghost use Rattle.std.specs.Prelude.{◌↔◌, IsTrue};
 
-/// Whether new acquires that aren't reentrant stand behind those who wait (fair), or may pass
-/// them (non-fair).
+/// Which new calls stand behind those who wait. A reentrant call never does.
 #[derive(Clone, Copy, Debug, PartialEq, Eq)]
 pub enum Policy {
+    /// Acquires, timed or not. An untimed try passes those who wait, as in Java.
     Fair,
+    /// None, but for a read where the first in line asks to write.
     NonFair,
+    /// Acquires and tries: nobody passes. Java has no such policy.
+    Strict,
+}
+
+impl Policy {
+    ghost use Rattle.std.specs.Prelude.{◌≡◌};
+    ghost use Rattle.history.specs.Object.{is_fair_policy, is_strict_policy};
+
+    /// Whether a line holds back each new acquire, timed or not, that isn't reentrant.
+    #[inline(always)]
+    pub fn is_fair(self) -> bool
+        ensures { result ≡ is_fair_policy self }
+    {
+        match self {
+            Policy::Fair | Policy::Strict => true,
+            Policy::NonFair => false,
+        }
+    }
+
+    /// Whether a line holds back an untimed try too.
+    #[inline(always)]
+    pub fn is_strict(self) -> bool
+        ensures { result ≡ is_strict_policy self }
+    {
+        match self {
+            Policy::Strict => true,
+            Policy::Fair | Policy::NonFair => false,
+        }
+    }
 }
 
 /// A synchroniser with its opening number: a semaphore's permits, which may be below 0, or a
@@ -31,6 +61,24 @@ pub struct Header {
     pub conditions: u8,
     /// 16 to 4294967295.
     pub cap: u32,
+}
+
+impl Object {
+    ghost use Rattle.std.specs.Prelude.{◌≡◌};
+    ghost use Rattle.history.specs.Object.{is_strict};
+
+    /// Whether a line holds back an untimed try. A latch has no policy, and no tries.
+    #[inline(always)]
+    pub fn is_strict(&self) -> bool
+        ensures { result ≡ is_strict self.now }
+    {
+        match *self {
+            Object::Lock(policy) | Object::ReadWrite(policy) | Object::Semaphore(policy, _) => {
+                policy.is_strict()
+            }
+            Object::Latch(_count) => false,
+        }
+    }
 }
 
 impl Header {

@@ -229,6 +229,7 @@ impl Policy {
         match self {
             Policy::Fair => b"fair",
             Policy::NonFair => b"nonfair",
+            Policy::Strict => b"strict",
         }
     }
 }

@@ -92,6 +92,8 @@ impl<'a> Words<'a> {
             Some(Policy::Fair)
         } else if word == b"nonfair".as_slice() {
             Some(Policy::NonFair)
+        } else if word == b"strict".as_slice() {
+            Some(Policy::Strict)
         } else {
             None
         }

@@ -42,19 +42,14 @@ acquired_by false true d = omega arith
 acquired_by false false true = tt
 acquired_by false false false = tt
 
-tried_by : (c d : Bool) → RefusesByRecorded (cond c (word.Refused fault.TooManyHolds)
-    (cond d word.TryGot word.Missed))
-tried_by true d = omega arith
-tried_by false true = tt
-tried_by false false = tt
-
-tried_fairly_by : (b c d : Bool) →
+-- a try, in fair order or not, that takes by a word
+tried_by : (w : Word) → RefusesByRecorded w → (b c d : Bool) →
     RefusesByRecorded (cond b word.Missed
-    (cond c (word.Refused fault.TooManyHolds) (cond d word.Got word.Missed)))
-tried_fairly_by true c d = tt
-tried_fairly_by false true d = omega arith
-tried_fairly_by false false true = tt
-tried_fairly_by false false false = tt
+    (cond c (word.Refused fault.TooManyHolds) (cond d w word.Missed)))
+tried_by w r true c d = tt
+tried_by w r false true d = omega arith
+tried_by w r false false true = r
+tried_by w r false false false = tt
 
 owned_by : (b : Bool) → RefusesByRecorded (cond b word.Gave (word.Refused fault.NotOwner))
 owned_by true = tt
@@ -93,8 +88,8 @@ signals_made k w n i c r = signals_by w n i c (not (is_seat (owner k) i)) r
 
 idle_made : (s : Start) (h : List Entry) (i : ℕ) (step : Step) → IsMadeBy i (idle_entry s h i step)
 idle_made s h i (Acquire m n) = made_plain i _ m n (acquired_by _ _ _)
-idle_made s h i (Try m n) = made_plain i _ m n (tried_by _ _)
-idle_made s h i (TryFair m n) = made_plain i _ m n (tried_fairly_by _ _ _)
+idle_made s h i (Try m n) = made_plain i _ m n (tried_by word.TryGot tt _ _ _)
+idle_made s h i (TryFair m n) = made_plain i _ m n (tried_by word.Got tt _ _ _)
 idle_made s h i (EntryInterrupt m n) = made_plain i _ m n (omega arith)
 idle_made s h i (Give m n) = made_plain i _ m n (gave_by s.header.object (counts s h) i m n)
 idle_made s h i (Await c) = awaits_by (counts s h) i c _ _

@@ -169,8 +169,9 @@ queued_why s h i (step.Acquire m n) t =
     by false false true p r t = cc
     by false false false p r t = inr r
 queued_why s h i (step.Try m n) t =
-    absurd (never _ (word.Refused fault.TooManyHolds) _ (refused_never fault.TooManyHolds)
-    (never _ word.TryGot word.Missed (λ u. cc) (λ u. cc)) t)
+    absurd (never _ word.Missed _ (λ u. cc)
+    (never _ (word.Refused fault.TooManyHolds) _ (refused_never fault.TooManyHolds)
+    (never _ word.TryGot word.Missed (λ u. cc) (λ u. cc))) t)
 queued_why s h i (step.TryFair m n) t =
     absurd (never _ word.Missed _ (λ u. cc)
     (never _ (word.Refused fault.TooManyHolds) _ (refused_never fault.TooManyHolds)

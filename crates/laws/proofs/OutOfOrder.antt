@@ -14,7 +14,7 @@ use Rattle.history.specs.Start.{opening}
 use Rattle.history.specs.Waiting.{IsOneWait}
 use Rattle.history.proofs.Entering.{Known, known}
 use Rattle.laws.specs.Fold.{fold}
-use Rattle.laws.specs.OutOfTurn.{fair_lock, gave_first, got_past_the_line, granted_out_of_turn, of, queued_twice, taken}
+use Rattle.laws.specs.OutOfTurn.{fair_lock, gave_first, got_past_the_line, granted_out_of_turn, of, queued_twice, strict_lock, taken, tried_past_the_line}
 
 never_ends : (end : Ending) → None ≡ Some end → ⊥
 never_ends end q = cc
@@ -49,7 +49,7 @@ granted_illegal l =
     another k.2
 
 pub got_passes : IsFairOrder (opening fair_lock) got_past_the_line → ⊥
-got_passes law = let ended = law.0 refl refl refl in never_ends ended.0.end ended.0.is
+got_passes law = let ended = law.0 refl refl in never_ends ended.0.end ended.0.is
 
 pub got_illegal : IsLegal (opening fair_lock) got_past_the_line → ⊥
 got_illegal l =
@@ -57,6 +57,16 @@ got_illegal l =
     let k : Known (opening fair_lock) h (of 2 word.Got) =
     known (opening fair_lock) h l.0.0 (of 2 word.Got) l.0.1 in
     held_back_not k.2
+
+pub tried_passes : IsFairOrder (opening strict_lock) tried_past_the_line → ⊥
+tried_passes law = let ended = law.0 refl refl in never_ends ended.0.end ended.0.is
+
+pub tried_illegal : IsLegal (opening strict_lock) tried_past_the_line → ⊥
+tried_illegal l =
+    let h : List Entry = of 0 word.Gave ∷ of 1 word.Queued ∷ of 0 word.Got ∷ [] in
+    let k : Known (opening strict_lock) h (of 2 word.TryGot) =
+    known (opening strict_lock) h l.0.0 (of 2 word.TryGot) l.0.1 in
+    held_back_not k.3
 
 pub waits_twice : IsOneWait (opening fair_lock) queued_twice → ⊥
 waits_twice law = let l : 2 ≤ 1 = law 1 in omega (arith, l)

@@ -6,7 +6,7 @@ use Rattle.history.specs.declared.entry.Word.{Word}
 use Rattle.history.specs.declared.entry.Word.TheVariants as word
 use Rattle.history.specs.declared.header.Header.{Header}
 use Rattle.history.specs.declared.header.Object.TheVariants.{Lock}
-use Rattle.history.specs.declared.header.Policy.TheVariants.{Fair}
+use Rattle.history.specs.declared.header.Policy.TheVariants.{Fair, Strict}
 use Rattle.history.specs.Steps.{plain}
 
 -- a fair lock of three seats
@@ -24,6 +24,14 @@ granted_out_of_turn = of 2 word.Granted ∷ of 0 word.Gave ∷ of 2 word.Queued 
 -- seat 1 stands in line, and a new call of 2 takes
 abbrev pub got_past_the_line : List Entry
 got_past_the_line = of 2 word.Got ∷ of 0 word.Gave ∷ of 1 word.Queued ∷ of 0 word.Got ∷ []
+
+-- a strict lock of three seats
+abbrev pub strict_lock : Header
+strict_lock = record { object = Lock Strict; seats = 3; conditions = 0; cap = 64 }
+
+-- seat 1 stands in line, and a try of 2 takes
+abbrev pub tried_past_the_line : List Entry
+tried_past_the_line = of 2 word.TryGot ∷ of 0 word.Gave ∷ of 1 word.Queued ∷ of 0 word.Got ∷ []
 
 -- seat 1 stands in line and joins it again
 abbrev pub queued_twice : List Entry

@@ -7,6 +7,7 @@ ghost use Rattle.history.specs.Legal.{IsLegal};
 ghost use Rattle.history.specs.Order.{IsFairOrder, IsInOrder};
 ghost use Rattle.history.specs.Start.{opening};
 ghost use Rattle.laws.specs.OutOfTurn.{fair_lock, got_past_the_line, granted_out_of_turn};
+ghost use Rattle.laws.specs.OutOfTurn.{strict_lock, tried_past_the_line};
 
 /// Nobody in line is passed: whoever is granted, or comes back from a condition, finds that the waits of
 /// all who arrived in line before it have ended.
@@ -14,8 +15,9 @@ pub fn nobody_in_line_is_passed()
     ensures { (k : Header) (h : List Entry) → IsLegal (opening k) h → IsInOrder (opening k) h }
 {}
 
-/// In a fair object a new acquire, timed or untimed, that isn't reentrant takes only where nobody waits:
-/// the waits of all who ever arrived have ended. An untimed try is no such call, and barges.
+/// In a fair or strict object a new acquire, timed or untimed, that isn't reentrant takes only where nobody
+/// waits: the waits of all who ever arrived have ended. In a strict object so does an untimed try, which barges
+/// in a fair one.
 pub fn fair_mode_lets_nobody_pass()
     ensures { (k : Header) (h : List Entry) → IsLegal (opening k) h → IsFairOrder (opening k) h }
 {}
@@ -30,4 +32,10 @@ pub fn a_grant_out_of_turn_is_not_legal()
 pub fn a_fair_take_past_the_line_is_not_legal()
     ensures passed { IsFairOrder (opening fair_lock) got_past_the_line → ⊥ }
     ensures illegal { IsLegal (opening fair_lock) got_past_the_line → ⊥ }
+{}
+
+/// A history of a strict lock in which a try takes past one in line isn't legal.
+pub fn a_strict_try_past_the_line_is_not_legal()
+    ensures passed { IsFairOrder (opening strict_lock) tried_past_the_line → ⊥ }
+    ensures illegal { IsLegal (opening strict_lock) tried_past_the_line → ⊥ }
 {}

@@ -11,7 +11,7 @@ use Rattle.history.specs.declared.header.Header.{Header}
 use Rattle.history.specs.declared.header.Object.{Object}
 use Rattle.history.specs.declared.header.Object.TheVariants.{Lock, ReadWrite, Semaphore, Latch}
 use Rattle.history.specs.declared.header.Policy.{Policy}
-use Rattle.history.specs.declared.header.Policy.TheVariants.{Fair, NonFair}
+use Rattle.history.specs.declared.header.Policy.TheVariants.{Fair, NonFair, Strict}
 use Rattle.history.specs.Header.{IsInRange, IsOpening}
 use Rattle.history.specs.Spelling.{object_words, part_of, part_words, policy_word}
 use Rattle.history.specs.Text.{line_of}
@@ -46,6 +46,7 @@ signed_short (negsuc n) fits =
 policy_short : (p : Policy) → length (policy_word p) ≤ 20
 policy_short Fair = omega arith
 policy_short NonFair = omega arith
+policy_short Strict = omega arith
 
 part_short : (o : Object) (n c k : ℕ) → IsOpening o c → n ≤ 256 → k < 2 ^ 32 →
     AreShort (object_words o n c k) × (length (object_words o n c k) ≤ 8)

@@ -130,13 +130,13 @@ impl RwHooks {
         }
     }
 
-    /// A fair line holds back all, and any line new readers where its first asks to write.
+    /// A fair or strict line holds back all, and any line new readers where its first asks to write.
     fn is_blocked(&self, mode: Mode, line: Line) -> bool
         ensures { result ≡ line_blocks (ReadWrite self.now.policy) mode (line_mode line) }
     {
         match (line, self.policy) {
             (Line::Empty, _) => false,
-            (_, Policy::Fair) => true,
+            (_, Policy::Fair | Policy::Strict) => true,
             (Line::FirstS, Policy::NonFair) => false,
             (Line::FirstX, Policy::NonFair) => match mode {
                 Mode::X => false,
@@ -178,6 +178,10 @@ impl Hooks for RwHooks {
 
     fn holds_back(&self, who: u16, mode: Mode, line: Line) -> bool {
         !self.is_reentrant(who, mode) && self.is_blocked(mode, line)
+    }
+
+    fn strict(&self) -> bool {
+        self.policy.is_strict()
     }
 
     fn take(&mut self, who: u16, mode: Mode, _n: u32) -> Taken {

@@ -96,11 +96,12 @@ impl Hooks for LockHooks {
     fn holds_back(&self, who: u16, _mode: Mode, line: Line) -> bool {
         match line {
             Line::Empty => false,
-            Line::FirstX | Line::FirstS => match self.policy {
-                Policy::Fair => !self.owns(who),
-                Policy::NonFair => false,
-            },
+            Line::FirstX | Line::FirstS => self.policy.is_fair() && !self.owns(who),
         }
+    }
+
+    fn strict(&self) -> bool {
+        self.policy.is_strict()
     }
 
     fn take(&mut self, who: u16, _mode: Mode, _n: u32) -> Taken {

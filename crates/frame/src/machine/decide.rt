@@ -78,6 +78,10 @@ impl<H: Hooks + Drop> Situation for Core<H> {
         &self.header
     }
 
+    fn is_strict(&self) -> bool {
+        self.hooks.strict()
+    }
+
     fn is_held_back(&self, seat: u16, mode: Mode) -> bool {
         self.hooks.holds_back(seat, mode, self.line())
     }

@@ -1,7 +1,7 @@
 -- Worked examples of locks.
 use Rattle.std.specs.Prelude.{◌≡◌, [], ◌∷◌, refl}
 use Rattle.history.specs.declared.fault.Fault.TheVariants.{HistoryFull}
-use Rattle.history.specs.declared.header.Policy.TheVariants.{Fair, NonFair}
+use Rattle.history.specs.declared.header.Policy.TheVariants.{Fair, NonFair, Strict}
 use Rattle.laws.proofs.Told.{told, lock, acquire, try, try_fair, give, look, expire, interrupt, timeout, interrupted, got, try_got, queued, granted, missed, gave, left, sleeps, fault, ◌wakes◌}
 
 -- A lock is taken and given back.
@@ -29,6 +29,18 @@ a_try_passes_a_fair_line :
     ((0, acquire) ∷ (1, acquire) ∷ (0, give) ∷ (2, try_fair) ∷ (2, try) ∷ (1, look) ∷ [])
     ≡ (got 0 ∷ queued 1 ∷ gave 0 wakes 1 ∷ missed 2 ∷ try_got 2 ∷ sleeps ∷ [], 5, 4)
 a_try_passes_a_fair_line = refl
+
+-- In a strict lock the untimed try misses too, and the owner's own try takes past the line.
+a_try_waits_behind_a_strict_line :
+    told (lock Strict 3 0 64)
+    ((0, acquire) ∷ (1, acquire) ∷ (0, give) ∷ (2, try_fair) ∷ (2, try) ∷ (1, look) ∷ (2, acquire) ∷
+    (1, try) ∷ [])
+    ≡ (
+      got 0 ∷ queued 1 ∷ gave 0 wakes 1 ∷ missed 2 ∷ missed 2 ∷ granted 1 ∷ queued 2 ∷ try_got 1 ∷ [],
+      8,
+      6,
+    )
+a_try_waits_behind_a_strict_line = refl
 
 -- One whose time is up takes all the same where it could go; the next leaves.
 times_up_for_one_that_could_go :

@@ -1,7 +1,7 @@
 -- Worked examples of semaphores.
 use Rattle.std.specs.Prelude.{◌≡◌, [], ◌∷◌, pos, negsuc, refl}
 use Rattle.history.specs.declared.fault.Fault.TheVariants.{BadAmount, TooManyPermits}
-use Rattle.history.specs.declared.header.Policy.TheVariants.{Fair, NonFair}
+use Rattle.history.specs.declared.header.Policy.TheVariants.{Fair, NonFair, Strict}
 use Rattle.laws.proofs.Told.{told, permits, semaphore, acquire_shared, try_shared, try_fair_shared, give_shared, look, drain, got_shared, try_got_shared, queued_shared, granted_shared, missed_shared, gave_shared, refused_shared, drained, fault, ◌wakes◌}
 
 -- A semaphore made with fewer permits than none: three releases by one that holds nothing, and one acquire.
@@ -36,6 +36,13 @@ a_small_request_passes :
     ((0, acquire_shared 9) ∷ (1, acquire_shared 1) ∷ (2, try_shared 1) ∷ [])
     ≡ (queued_shared 0 9 ∷ got_shared 1 1 ∷ try_got_shared 2 1 ∷ [], 3, 2)
 a_small_request_passes = refl
+
+-- In a strict semaphore the small request waits, and the try misses.
+a_try_waits_too :
+    told (semaphore Strict (pos 5) 3 64)
+    ((0, acquire_shared 9) ∷ (1, acquire_shared 1) ∷ (2, try_shared 1) ∷ [])
+    ≡ (queued_shared 0 9 ∷ queued_shared 1 1 ∷ missed_shared 2 1 ∷ [], 3, 1)
+a_try_waits_too = refl
 
 -- Releases past the greatest number are refused, whoever holds; drains take all, or nothing.
 as_many_permits_as_may_be :
