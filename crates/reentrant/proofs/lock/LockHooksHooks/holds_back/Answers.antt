@@ -7,12 +7,13 @@ and_true : (b : Bool) → (b && true) ≡ b
 and_true true = refl
 and_true false = refl
 
-pub returns-in-Fair : goal.returns-in-Fair
-returns-in-Fair c k h =
+pub returns-then-is_fair : goal.returns-then-is_fair
+returns-then-is_fair c k h =
     let s = c.args.self.now in
     let e =
     held_back_is s.policy s.owner s.holds k s.owned h (line_mode c.args.line) c.args.who c.args._mode in
+    let fair = sym c.is_fair.ensures ∙ c.if-is_fair.true in
     let blocked = and_true (not c.owns.result) in
     let by = rw c.owns.ensures at blocked in
     ap not c.owns.ensures
-    ∙ sym (e ∙ ⊎_elim (λ x. rw x (rw c.in-Fair.is by)) (λ x. rw x (rw c.in-Fair.is by)) c.in-FirstX.is)
+    ∙ sym (e ∙ ⊎_elim (λ x. rw x (rw fair by)) (λ x. rw x (rw fair by)) c.in-FirstX.is)
