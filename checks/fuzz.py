@@ -26,7 +26,7 @@ def header(chance):
     """An object part. Most are small, so that threads meet and histories fill up."""
     seats = chance.choice((1, 2, 2, 3, 3, 4, 5, 8, chance.randint(1, 256)))
     cap = chance.choice((16, 17, 20, 32, 64, 100, 1000, 4294967295, chance.randint(16, 4294967295)))
-    policy = chance.choice(("fair", "nonfair"))
+    policy = chance.choice(("fair", "nonfair", "strict"))
     kind = chance.choice(("lock", "lock", "rw", "rw", "semaphore", "semaphore", "latch"))
     if kind == "latch":
         return f"latch seats {seats} count {chance.choice((0, 1, 2, 3, 2147483647))} cap {cap}"

@@ -12,7 +12,7 @@ LIMIT = 2147483647
 READS = 65535
 CONDITIONS = 16
 
-Header = namedtuple("Header", "kind fair seats conditions permits count cap part")
+Header = namedtuple("Header", "kind policy seats conditions permits count cap part")
 Entry = namedtuple("Entry", "seat word mode n at end")
 Arrival = namedtuple("Arrival", "seat mode n back")
 Step = namedtuple("Step", "name mode n at")
@@ -45,14 +45,14 @@ def header_part(part):
     """The header that an object part spells, or None."""
     words = part.split(b" ")
     if words[0] == b"latch":
-        names, kind, fair = words[1::2], "latch", False
+        names, kind, policy = words[1::2], "latch", None
         values = words[2::2]
         wanted = [b"seats", b"count", b"cap"]
     else:
         kind = {b"lock": "lock", b"rw": "rw", b"semaphore": "semaphore"}.get(words[0])
-        if kind is None or len(words) < 2 or words[1] not in (b"fair", b"nonfair"):
+        if kind is None or len(words) < 2 or words[1] not in (b"fair", b"nonfair", b"strict"):
             return None
-        fair = words[1] == b"fair"
+        policy = words[1].decode()
         names, values = words[2::2], words[3::2]
         wanted = [b"seats", b"permits" if kind == "semaphore" else b"conditions", b"cap"]
     if names != wanted or len(values) != 3:
@@ -71,7 +71,7 @@ def header_part(part):
     conditions = middle if kind in ("lock", "rw") else 0
     permits = middle if kind == "semaphore" else 0
     count = middle if kind == "latch" else 0
-    return Header(kind, fair, seats, conditions, permits, count, cap, part)
+    return Header(kind, policy, seats, conditions, permits, count, cap, part)
 
 
 class State:
@@ -126,7 +126,7 @@ class State:
             return False
         if kind == "rw" and mode == "s" and self.holds[seat]["s"]:
             return False
-        if self.header.fair:
+        if self.header.policy in ("fair", "strict"):
             return True
         return kind == "rw" and mode == "s" and self.line[0].mode == "x"
 
@@ -190,7 +190,8 @@ class State:
         plain = lambda word: Entry(seat, word, mode, n, 0, None)
         refused = lambda fault: Entry(seat, "refused " + fault, mode or "x", n if mode else 1, 0, None)
         if name in ("acquire", "try", "tryfair"):
-            if name != "try" and self.is_held_back(seat, mode):
+            in_turn = name != "try" or self.header.policy == "strict"
+            if in_turn and self.is_held_back(seat, mode):
                 return plain("queued" if name == "acquire" else "missed")
             could, at_limit = self.could(seat, mode, n)
             if at_limit:

@@ -21,7 +21,8 @@ answer_text Replay h steps = replay_text h steps
 answer_text History h steps = history_text h (history_behind h steps)
 
 -- The text is a steps text, and this is written for it. The history behind the answers is legal; nobody in
--- line is passed by who was granted after it, and in a fair object by no new call that isn't reentrant.
+-- line is passed by who was granted after it, and in a fair or strict object by no new acquire that isn't
+-- reentrant, in a strict one by no such try.
 pub record Replayed (form : Form) (text : List ℕ) (Written : List ℕ → Type 0) : Type 0 where
   pub header : Header
   pub steps : List (ℕ × Step)

@@ -7,9 +7,10 @@ use crate::entry::{Entry, Mode};
 pub enum Step {
     /// Takes, or joins the line.
     Acquire(Mode, u32),
-    /// Takes or misses, past any line: an untimed try barges.
+    /// Takes or misses, past any line: an untimed try barges, but in a strict object.
     Try(Mode, u32),
-    /// Takes or misses, as an acquire with no time to wait: in a fair object not past the line.
+    /// Takes or misses, as an acquire with no time to wait: in a fair or strict object not past
+    /// the line.
     TryFair(Mode, u32),
     /// Is refused, for an interrupt was pending at the entry of an acquire or await.
     EntryInterrupt(Mode, u32),

@@ -77,7 +77,8 @@ impl<'m> ReentrantLock<'m> {
         )
     }
 
-    /// `ReentrantLock.tryLock()`: whether it got the lock. It goes past those who wait, a fair lock too.
+    /// `ReentrantLock.tryLock()`: whether it got the lock. It goes past those who wait, in a fair
+    /// lock too, but not in a strict one.
     pub fn try_lock<P: Parking, R: Wait + Clock>(
         &self,
         rt: &R,
@@ -95,7 +96,8 @@ impl<'m> ReentrantLock<'m> {
     }
 
     /// `ReentrantLock.tryLock(time, unit)`: whether it got the lock within `ms` milliseconds.
-    /// With 0 it doesn't wait, and under a fair policy it doesn't go past those who wait.
+    /// With 0 it doesn't wait, and under a fair or strict policy it doesn't go past those who
+    /// wait.
     pub fn try_lock_for<P: Parking, R: Wait + Clock>(
         &self,
         rt: &R,

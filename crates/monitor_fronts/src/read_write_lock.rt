@@ -78,7 +78,8 @@ impl<'m> ReadWriteLock<'m> {
         )
     }
 
-    /// `WriteLock.tryLock()`: whether it got the lock. It goes past those who wait, a fair lock too.
+    /// `WriteLock.tryLock()`: whether it got the lock. It goes past those who wait, in a fair
+    /// lock too, but not in a strict one.
     pub fn write_try_lock<P: Parking, R: Wait + Clock>(
         &self,
         rt: &R,
@@ -96,7 +97,8 @@ impl<'m> ReadWriteLock<'m> {
     }
 
     /// `WriteLock.tryLock(time, unit)`: whether it got the lock within `ms` milliseconds.
-    /// With 0 it doesn't wait, and under a fair policy it doesn't go past those who wait.
+    /// With 0 it doesn't wait, and under a fair or strict policy it doesn't go past those who
+    /// wait.
     pub fn write_try_lock_for<P: Parking, R: Wait + Clock>(
         &self,
         rt: &R,
@@ -284,7 +286,8 @@ impl<'m> ReadWriteLock<'m> {
         )
     }
 
-    /// `ReadLock.tryLock()`: whether it got the lock. It goes past those who wait, a fair lock too.
+    /// `ReadLock.tryLock()`: whether it got the lock. It goes past those who wait, in a fair
+    /// lock too, but not in a strict one.
     pub fn read_try_lock<P: Parking, R: Wait + Clock>(
         &self,
         rt: &R,
@@ -302,7 +305,8 @@ impl<'m> ReadWriteLock<'m> {
     }
 
     /// `ReadLock.tryLock(time, unit)`: whether it got the lock within `ms` milliseconds.
-    /// With 0 it doesn't wait, and under a fair policy it doesn't go past those who wait.
+    /// With 0 it doesn't wait, and under a fair or strict policy it doesn't go past those who
+    /// wait.
     pub fn read_try_lock_for<P: Parking, R: Wait + Clock>(
         &self,
         rt: &R,

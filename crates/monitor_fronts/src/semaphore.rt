@@ -79,7 +79,7 @@ impl<'m> Semaphore<'m> {
     }
 
     /// `Semaphore.tryAcquire(permits)`: whether `n` permits were free. It goes past those who wait,
-    /// also where the semaphore is fair.
+    /// also where the semaphore is fair, but not where it is strict.
     pub fn try_acquire<P: Parking, R: Wait + Clock>(
         &self,
         rt: &R,

@@ -12,12 +12,12 @@ pub struct Example {
 
 /// The known situations.
 pub fn situations() -> &'static [Example]
-    ensures { length result.now ≡ 26 }
+    ensures { length result.now ≡ 28 }
 {
     &EXAMPLES
 }
 
-const EXAMPLES: [Example; 26] = [
+const EXAMPLES: [Example; 28] = [
     Example {
         name: "one_hold",
         steps: "aqs-steps 1 lock fair seats 1 conditions 0 cap 16\n\
@@ -750,5 +750,56 @@ const EXAMPLES: [Example; 26] = [
             4 0 gave s 1\n\
             5 2 granted s 1\n\
             end 6 4\n",
+    },
+    Example {
+        name: "strict_try_waits_its_turn",
+        steps: "aqs-steps 1 lock strict seats 3 conditions 0 cap 64\n\
+            0 acquire x 1\n\
+            1 acquire x 1\n\
+            0 give x 1\n\
+            2 tryfair x 1\n\
+            2 try x 1\n\
+            1 look\n\
+            2 acquire x 1\n\
+            1 try x 1\n\
+            end 8\n",
+        replay: "aqs-replay 1 lock strict seats 3 conditions 0 cap 64\n\
+            0 0 got x 1\n\
+            1 1 queued x 1\n\
+            2 0 gave x 1 wakes 1\n\
+            3 2 missed x 1\n\
+            4 2 missed x 1\n\
+            5 1 granted x 1\n\
+            6 2 queued x 1\n\
+            7 1 trygot x 1\n\
+            end 8 6\n",
+        history: "aqs-history 1 lock strict seats 3 conditions 0 cap 64\n\
+            0 0 got x 1\n\
+            1 1 queued x 1\n\
+            2 0 gave x 1\n\
+            3 2 missed x 1\n\
+            4 2 missed x 1\n\
+            5 1 granted x 1\n\
+            6 2 queued x 1\n\
+            7 1 trygot x 1\n\
+            end 8 6\n",
+    },
+    Example {
+        name: "strict_try_waits_behind_a_large_request",
+        steps: "aqs-steps 1 semaphore strict seats 3 permits 5 cap 64\n\
+            0 acquire s 9\n\
+            1 acquire s 1\n\
+            2 try s 1\n\
+            end 3\n",
+        replay: "aqs-replay 1 semaphore strict seats 3 permits 5 cap 64\n\
+            0 0 queued s 9\n\
+            1 1 queued s 1\n\
+            2 2 missed s 1\n\
+            end 3 1\n",
+        history: "aqs-history 1 semaphore strict seats 3 permits 5 cap 64\n\
+            0 0 queued s 9\n\
+            1 1 queued s 1\n\
+            2 2 missed s 1\n\
+            end 3 1\n",
     },
 ];

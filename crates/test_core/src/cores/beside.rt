@@ -100,7 +100,7 @@ fn play_lists<R: Abort + AllocGlobal>(rt: &R, object: Object) -> Result<Seen, Fa
 
 #[test]
 fn locks_answer_like_the_plain_program(rt: HostRuntime) -> Result<(), Fail> {
-    for policy in [Policy::Fair, Policy::NonFair] {
+    for policy in [Policy::Fair, Policy::NonFair, Policy::Strict] {
         let seen = play_lists(&rt, Object::Lock(policy))?;
         assert_seen(&rt, &seen, &TAKEN);
         assert_seen(&rt, &seen, &OWNED);
@@ -110,7 +110,7 @@ fn locks_answer_like_the_plain_program(rt: HostRuntime) -> Result<(), Fail> {
 
 #[test]
 fn read_write_locks_answer_like_the_plain_program(rt: HostRuntime) -> Result<(), Fail> {
-    for policy in [Policy::Fair, Policy::NonFair] {
+    for policy in [Policy::Fair, Policy::NonFair, Policy::Strict] {
         let seen = play_lists(&rt, Object::ReadWrite(policy))?;
         assert_seen(&rt, &seen, &TAKEN);
         assert_seen(&rt, &seen, &OWNED);
@@ -121,7 +121,7 @@ fn read_write_locks_answer_like_the_plain_program(rt: HostRuntime) -> Result<(),
 
 #[test]
 fn semaphores_answer_like_the_plain_program(rt: HostRuntime) -> Result<(), Fail> {
-    for policy in [Policy::Fair, Policy::NonFair] {
+    for policy in [Policy::Fair, Policy::NonFair, Policy::Strict] {
         for permits in [-1, 3] {
             let seen = play_lists(&rt, Object::Semaphore(policy, permits))?;
             assert_seen(&rt, &seen, &TAKEN);

@@ -140,6 +140,20 @@ fn a_fair_line_stands_behind_an_abandoned_head(rt: HostRuntime) -> Result<(), Fa
     abandon(&rt, Policy::Fair, &IN_LINE, &behind, Word::TryGot)
 }
 
+/// Nobody passes it. A try misses, as one with no time to wait does.
+#[test]
+fn a_strict_lock_is_not_tried_past_an_abandoned_head(rt: HostRuntime) -> Result<(), Fail> {
+    let behind = [
+        (0, TRY, Some(Word::TryGot), None),
+        (0, GIVE, Some(Word::Gave), None),
+        (0, GIVE, Some(Word::Gave), Some(1)),
+        (0, TRY, Some(Word::Missed), None),
+        (1, TRY_FAIR, Some(Word::Missed), None),
+        (1, TRY, Some(Word::Missed), None),
+    ];
+    abandon(&rt, Policy::Strict, &IN_LINE, &behind, Word::Missed)
+}
+
 #[test]
 fn a_non_fair_lock_is_taken_past_an_abandoned_head(rt: HostRuntime) -> Result<(), Fail> {
     let behind = [

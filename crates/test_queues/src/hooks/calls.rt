@@ -10,6 +10,7 @@ pub enum Call {
     Could(u16, Mode, u32),
     AtLimit(u16, Mode),
     HoldsBack(u16, Mode, Line),
+    Strict,
     /// Takes where the seat could.
     Take(u16, Mode, u32),
     /// Takes 1 so many times.

@@ -1,7 +1,7 @@
 //! The locks.
 
 use crate::hooks::calls::Call::{
-    AsOpened, AtLimit, Could, Drain, Give, HoldsBack, LetGo, Level, Sleep, Take, TakeAll,
+    AsOpened, AtLimit, Could, Drain, Give, HoldsBack, LetGo, Level, Sleep, Strict, Take, TakeAll,
 };
 use crate::hooks::calls::Reply::{No, NotTaken, Number, Refused, Yes};
 use crate::hooks::calls::{Call, Reply};
@@ -58,6 +58,36 @@ fn a_fair_line_holds_back_all_but_the_owner(rt: HostRuntime) {
     play(&rt, LockHooks::open(Policy::Fair), 2, &fair);
     let barging = [(Take(0, X, 1), LAST), (HoldsBack(1, X, Line::FirstX), No)];
     play(&rt, LockHooks::open(Policy::NonFair), 2, &barging);
+}
+
+/// A strict line holds back what a fair one does, and tries too.
+#[test]
+fn strict_locks_alone_are_strict(rt: HostRuntime) -> Result<(), Fail> {
+    let strict = [
+        (Strict, Yes),
+        (Take(0, X, 1), LAST),
+        (HoldsBack(0, X, Line::FirstX), No),
+        (HoldsBack(1, X, Line::FirstX), Yes),
+        (HoldsBack(1, X, Line::Empty), No),
+        (Strict, Yes),
+    ];
+    play(&rt, LockHooks::open(Policy::Strict), 2, &strict);
+    let readers = [
+        (Strict, Yes),
+        (Take(0, S, 1), MORE),
+        (HoldsBack(0, S, Line::FirstX), No),
+        (HoldsBack(0, X, Line::FirstX), Yes),
+        (HoldsBack(1, S, Line::FirstS), Yes),
+        (HoldsBack(1, S, Line::FirstX), Yes),
+        (HoldsBack(1, X, Line::FirstS), Yes),
+        (HoldsBack(1, S, Line::Empty), No),
+    ];
+    play(&rt, rw(rt.alloc(), Policy::Strict)?, 3, &readers);
+    for policy in [Policy::Fair, Policy::NonFair] {
+        play(&rt, LockHooks::open(policy), 2, &[(Strict, No)]);
+        play(&rt, rw(rt.alloc(), policy)?, 3, &[(Strict, No)]);
+    }
+    Ok(())
 }
 
 #[test]

@@ -1,7 +1,7 @@
 //! The semaphore and the latch.
 
 use crate::hooks::calls::Call::{
-    AsOpened, AtLimit, Could, Drain, Give, HoldsBack, LetGo, Level, Take,
+    AsOpened, AtLimit, Could, Drain, Give, HoldsBack, LetGo, Level, Strict, Take,
 };
 use crate::hooks::calls::Reply::{No, NotTaken, Number, Refused, Yes};
 use crate::hooks::calls::{Call, Reply};
@@ -109,6 +109,22 @@ fn a_latch_opens_at_its_last_count(rt: HostRuntime) {
         2,
         &[(Level, Number(2_147_483_647))],
     );
+}
+
+/// A strict line holds back every request. A latch has no policy.
+#[test]
+fn strict_semaphores_alone_are_strict(rt: HostRuntime) {
+    let strict = [
+        (Strict, Yes),
+        (HoldsBack(0, S, Line::FirstS), Yes),
+        (HoldsBack(0, S, Line::Empty), No),
+    ];
+    play(&rt, SemaphoreHooks::open(Policy::Strict, 2), 2, &strict);
+    for policy in [Policy::Fair, Policy::NonFair] {
+        play(&rt, SemaphoreHooks::open(policy, 2), 2, &[(Strict, No)]);
+    }
+    let latch = [(Strict, No), (Give(0, S, 1), KEPT), (Strict, No)];
+    play(&rt, LatchHooks::open(2), 2, &latch);
 }
 
 #[test]

@@ -101,6 +101,7 @@ fn reply<H: Hooks>(hooks: &mut H, seats: u16, call: Call) -> Reply
         Call::Could(who, mode, n) => truth(hooks.could(who, mode, n)),
         Call::AtLimit(who, mode) => truth(hooks.at_limit(who, mode)),
         Call::HoldsBack(who, mode, line) => truth(hooks.holds_back(who, mode, line)),
+        Call::Strict => truth(hooks.strict()),
         Call::Take(who, mode, n) => take(hooks, seats, who, mode, n),
         Call::TakeAll(who, mode, times) => take_all(hooks, seats, who, mode, times),
         Call::Give(who, mode, n) => give(hooks, seats, who, mode, n),

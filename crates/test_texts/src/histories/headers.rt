@@ -1,6 +1,6 @@
 //! Object parts.
 
-use history::header::Policy::{Fair, NonFair};
+use history::header::Policy::{Fair, NonFair, Strict};
 use history::header::{Header, Object};
 use std::process::Abort;
 use std::test::Fail;
@@ -15,7 +15,7 @@ fn of(object: Object, seats: u16, conditions: u8, cap: u32) -> Header {
 }
 
 /// Parts, and the object, seats, conditions and cap that they spell.
-const PARTS: [(&str, (Object, u16, u8, u32)); 9] = [
+const PARTS: [(&str, (Object, u16, u8, u32)); 12] = [
     (
         "lock fair seats 2 conditions 0 cap 64",
         (Object::Lock(Fair), 2, 0, 64),
@@ -43,6 +43,18 @@ const PARTS: [(&str, (Object, u16, u8, u32)); 9] = [
     (
         "semaphore nonfair seats 3 permits 2147483647 cap 64",
         (Object::Semaphore(NonFair, 2_147_483_647), 3, 0, 64),
+    ),
+    (
+        "lock strict seats 3 conditions 1 cap 64",
+        (Object::Lock(Strict), 3, 1, 64),
+    ),
+    (
+        "rw strict seats 3 conditions 1 cap 64",
+        (Object::ReadWrite(Strict), 3, 1, 64),
+    ),
+    (
+        "semaphore strict seats 3 permits -5 cap 64",
+        (Object::Semaphore(Strict, -5), 3, 0, 64),
     ),
     ("latch seats 9 count 0 cap 16", (Object::Latch(0), 9, 0, 16)),
     (
@@ -98,7 +110,7 @@ fn what_is_out_of_range_is_no_header(rt: HostRuntime) {
 }
 
 /// What looks like a part, and is none.
-const OTHERS: [&str; 60] = [
+const OTHERS: [&str; 63] = [
     "",
     " ",
     "lock",
@@ -107,6 +119,8 @@ const OTHERS: [&str; 60] = [
     "Lock fair seats 2 conditions 0 cap 64",
     "lock Fair seats 2 conditions 0 cap 64",
     "lock unfair seats 2 conditions 0 cap 64",
+    "lock stric seats 2 conditions 0 cap 64",
+    "lock Strict seats 2 conditions 0 cap 64",
     "lock seats 2 conditions 0 cap 64",
     "lock fair conditions 0 seats 2 cap 64",
     "lock fair seats 2 cap 64",
@@ -156,6 +170,7 @@ const OTHERS: [&str; 60] = [
     "semaphore fair seats 2 permits -18446744073709551617 cap 64",
     "semaphore fair seats 2 permits 1 conditions 0 cap 64",
     "latch fair seats 2 count 1 cap 64",
+    "latch strict seats 2 count 1 cap 64",
     "latch seats 2 count -1 cap 64",
     "latch seats 2 count 2147483648 cap 64",
     "latch seats 2 permits 1 cap 64",

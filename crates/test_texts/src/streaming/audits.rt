@@ -38,7 +38,7 @@ calls 4\n\
 holds x 0 s 0 line 0 sleepers 0\n";
 
 /// The entries, the ended calls and the totals of the history of each worked example.
-const TOTALS: [(&str, u64, u64, &str); 26] = [
+const TOTALS: [(&str, u64, u64, &str); 28] = [
     ("one_hold", 2, 2, "holds x 0 s 0 line 0 sleepers 0"),
     ("no_steps", 0, 0, "holds x 0 s 0 line 0 sleepers 0"),
     ("barging", 6, 5, "holds x 1 s 0 line 0 sleepers 0"),
@@ -164,6 +164,18 @@ const TOTALS: [(&str, u64, u64, &str); 26] = [
         6,
         4,
         "holds x 0 s 1 line 0 sleepers 0",
+    ),
+    (
+        "strict_try_waits_its_turn",
+        8,
+        6,
+        "holds x 2 s 0 line 1 sleepers 0",
+    ),
+    (
+        "strict_try_waits_behind_a_large_request",
+        3,
+        1,
+        "held 0 free 5 created 5 unheld 0 line 2",
     ),
 ];
 

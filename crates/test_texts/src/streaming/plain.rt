@@ -77,10 +77,10 @@ fn good_step(alloc: Global, line: &[u8], seats: u16) -> Result<Option<(u16, Step
 fn loose_header(line: &[u8]) -> Option<Header> {
     let line = str::from_utf8(line).ok()?;
     let kind = line.split(' ').nth(2)?;
-    let policy = if line.split(' ').nth(3)? == "fair" {
-        Policy::Fair
-    } else {
-        Policy::NonFair
+    let policy = match line.split(' ').nth(3)? {
+        "fair" => Policy::Fair,
+        "strict" => Policy::Strict,
+        _ => Policy::NonFair,
     };
     let mut numbers = line
         .split(' ')
@@ -136,6 +136,7 @@ fn policy_word(policy: Policy) -> &'static str {
     match policy {
         Policy::Fair => "fair",
         Policy::NonFair => "nonfair",
+        Policy::Strict => "strict",
     }
 }
 

@@ -99,7 +99,7 @@ const CROWDS: [(u16, u16); 4] = [(5, 3), (17, 10), (60, 30), (256, 100)];
 
 #[test]
 fn crowds_at_a_lock_are_answered_like_the_plain_program(rt: HostRuntime) -> Result<(), Fail> {
-    for policy in [Policy::Fair, Policy::NonFair] {
+    for policy in [Policy::Fair, Policy::NonFair, Policy::Strict] {
         let seen = play_crowds(&rt, Object::Lock(policy), &CROWDS)?;
         assert_seen(&rt, &seen, &TAKEN);
         assert_seen(&rt, &seen, &OWNED);
@@ -111,7 +111,7 @@ fn crowds_at_a_lock_are_answered_like_the_plain_program(rt: HostRuntime) -> Resu
 fn crowds_at_a_read_write_lock_are_answered_like_the_plain_program(
     rt: HostRuntime,
 ) -> Result<(), Fail> {
-    for policy in [Policy::Fair, Policy::NonFair] {
+    for policy in [Policy::Fair, Policy::NonFair, Policy::Strict] {
         let seen = play_crowds(&rt, Object::ReadWrite(policy), &CROWDS)?;
         assert_seen(&rt, &seen, &TAKEN);
         assert_seen(&rt, &seen, &OWNED);
@@ -121,7 +121,7 @@ fn crowds_at_a_read_write_lock_are_answered_like_the_plain_program(
 
 #[test]
 fn crowds_at_a_semaphore_are_answered_like_the_plain_program(rt: HostRuntime) -> Result<(), Fail> {
-    for policy in [Policy::Fair, Policy::NonFair] {
+    for policy in [Policy::Fair, Policy::NonFair, Policy::Strict] {
         let seen = play_crowds(&rt, Object::Semaphore(policy, 3), &CROWDS)?;
         assert_seen(&rt, &seen, &TAKEN);
         assert_seen(&rt, &seen, &PERMITTED);
