@@ -19,7 +19,7 @@ use std::process::Abort;
 use std::sync::Wait;
 use std::test::Fail;
 use steps::{StepsText, read_steps};
-use test_support::examples::situations;
+use test_support::examples::{Example, situations, strict_situations};
 
 /// A core over hooks as an open makes them.
 fn core_of<H: Hooks + Drop>(alloc: Global, hooks: H, header: &Header) -> Result<Core<H>, Fault> {
@@ -135,15 +135,20 @@ fn play_object<R: Abort + AllocGlobal + Wait>(rt: &R, said: &StepsText) -> Resul
     }
 }
 
+fn play_examples<R: Abort + AllocGlobal + Wait>(rt: &R, examples: &[Example]) -> Result<(), Fail> {
+    for example in examples {
+        let said = read_steps(rt.alloc(), example.steps.as_bytes())?;
+        play_object(rt, &said)?;
+    }
+    Ok(())
+}
+
 #[test]
 fn step_now_by_one_thread_answers_as_the_core_and_is_never_busy(
     rt: HostRuntime,
 ) -> Result<(), Fail> {
-    for example in situations() {
-        let said = read_steps(rt.alloc(), example.steps.as_bytes())?;
-        play_object(&rt, &said)?;
-    }
-    Ok(())
+    play_examples(&rt, situations())?;
+    play_examples(&rt, strict_situations())
 }
 
 /// So many readers a lock has at most.

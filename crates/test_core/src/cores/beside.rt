@@ -20,7 +20,7 @@ use std::alloc::{AllocError, Global};
 use std::process::Abort;
 use std::test::Fail;
 use sums::totals_told;
-use test_support::examples::{Example, situations};
+use test_support::examples::{Example, situations, strict_situations};
 
 /// A step, answered by the core as by the plain program.
 fn step_beside<R: Abort + AllocGlobal>(
@@ -155,10 +155,15 @@ fn play_example<R: Abort + AllocGlobal>(rt: &R, example: &Example) -> Result<(),
     Ok(())
 }
 
-#[test]
-fn known_situations_are_answered_like_the_plain_program(rt: HostRuntime) -> Result<(), Fail> {
-    for example in situations() {
-        play_example(&rt, example)?;
+fn play_examples<R: Abort + AllocGlobal>(rt: &R, examples: &[Example]) -> Result<(), Fail> {
+    for example in examples {
+        play_example(rt, example)?;
     }
     Ok(())
+}
+
+#[test]
+fn known_situations_are_answered_like_the_plain_program(rt: HostRuntime) -> Result<(), Fail> {
+    play_examples(&rt, situations())?;
+    play_examples(&rt, strict_situations())
 }

@@ -7,7 +7,7 @@ use std::process::Abort;
 use std::test::Fail;
 use steps::TextFault;
 use streams::stream_fault::StreamFault;
-use test_support::examples::{Example, situations};
+use test_support::examples::{Example, situations, strict_situations};
 
 /// More places than any answer here takes.
 pub const AMPLE: usize = 16384;
@@ -43,17 +43,22 @@ fn is_answered<R: Abort + AllocGlobal>(rt: &R, text: &str, form: Form, expected:
     }
 }
 
-#[test]
-fn answers_each_example(rt: HostRuntime) {
+fn are_answered<R: Abort + AllocGlobal>(rt: &R, examples: &[Example]) {
     for Example {
         name,
         steps,
         replay,
         history,
-    } in situations() {
-        is_answered(&rt, steps, Form::Replay, replay, name);
-        is_answered(&rt, steps, Form::History, history, name);
+    } in examples {
+        is_answered(rt, steps, Form::Replay, replay, name);
+        is_answered(rt, steps, Form::History, history, name);
     }
+}
+
+#[test]
+fn answers_each_example(rt: HostRuntime) {
+    are_answered(&rt, situations());
+    are_answered(&rt, strict_situations());
 }
 
 #[test]
