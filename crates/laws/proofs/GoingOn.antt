@@ -138,7 +138,7 @@ idle_goes_on : (s : Start) (g h : List Entry) (i : ℕ) (x : Step) →
     idle_entry (fold s g) h i x ≡ idle_entry s (h ++ g) i x
 idle_goes_on s g h i (step.Acquire m n) =
     λ j. plain i (acquired (counts_go_on s g h j) (first_goes_on s g h j) i m n) m n
-idle_goes_on s g h i (step.Try m n) = 
+idle_goes_on s g h i (step.Try m n) =
     λ j. plain i (tried (counts_go_on s g h j) (first_goes_on s g h j) i m n) m n
 idle_goes_on s g h i (step.TryFair m n) =
     λ j. plain i (tried_fairly (counts_go_on s g h j) (first_goes_on s g h j) i m n) m n
