@@ -17,7 +17,8 @@ pub fn situations() -> &'static [Example]
     &EXAMPLES
 }
 
-/// Situations of strict objects: the checker computes so long a list as one, and no longer one.
+/// The known situations of strict objects. They have a list of their own, since one constant of all
+/// situations takes the checker more steps than it may make.
 pub fn strict_situations() -> &'static [Example]
     ensures { length result.now ≡ 2 }
 {
