@@ -46,24 +46,24 @@ def bars(state, entries):
     return done + [(key, count, first, len(entries) - 1) for key, (count, first) in begun.items()]
 
 
-def legal_part(header, entries):
+def legal_part(lines):
     """The entries that are drawn, and the number of the first that isn't legal."""
-    state = rules.State(header)
+    state, entries = lines.start(), lines.entries
     for number, entry in enumerate(entries):
         if not state.is_entry(entry):
-            return entries[:min(number, MOST)], number
+            return entries[:min(number, MOST)], state.folded + number
         state.add(entry)
     return entries[:MOST], None
 
 
 def wanted(text):
     """The bars, labels and marks by their places, and which entry is named as not legal."""
-    header, entries = rules.read_history(text)
-    shown, wrong = legal_part(header, entries)
+    header, lines = rules.read_history(text)
+    shown, wrong = legal_part(lines)
     step = 20 if len(shown) <= 200 else 8
     top = 72 if header.kind in ("lock", "rw") else 160
     rects, labels, marks = set(), set(), set()
-    for (seat, kind, condition), count, first, last in bars(rules.State(header), shown):
+    for (seat, kind, condition), count, first, last in bars(lines.start(), shown):
         x, width = 72 + first * step, (last + 1 - first) * step
         y = top + seat * 40 + (17 if kind == "s" else 3)
         rects.add((kind, x, y, width))

@@ -96,7 +96,7 @@ def round_trips(program, folder, scratch):
         kept = scratch / (file.stem + ".history")
         kept.write_bytes(history)
         verdict = run(program, ["audit", kept])
-        good = (status, error) == (0, b"") and verdict[0] == 0 and verdict[1].startswith(b"legal\nentries ")
+        good = (status, error) == (0, b"") and verdict[0] == 0 and verdict[1].startswith(b"legal\n")
         yield f"replay {file.name} --history, audit", good and verdict[2] == b""
 
 
@@ -160,7 +160,7 @@ def script(objects, calls):
 def faults(scratch):
     header = b"aqs-steps 1 lock fair seats 2 conditions 0 cap 16\n"
     texts = {
-        "bad_header": b"aqs-steps 2 lock fair seats 2 conditions 0 cap 16\nend 0\n",
+        "bad_header": b"aqs-steps 3 lock fair seats 2 conditions 0 cap 16\nend 0\n",
         "bad_line": header + b"0 acquire x 1\n2 acquire x 1\nend 2\n",
         "cut_short": header + b"0 acquire x 1\n",
         "not_legal": b"aqs-history 1 lock fair seats 2 conditions 0 cap 16\n"

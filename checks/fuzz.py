@@ -75,14 +75,20 @@ def spelt(seat, asked):
 
 
 def steps_text(chance):
+    """A steps text; two of five are of format 2, and have trims."""
     part = header(chance)
     state = rules.State(rules.header_part(part.encode()))
+    trims = chance.choice((0, 0, 0, 0.05, 0.2))
     lines = []
     for _ in range(chance.choice((0, 1, 2, 5, 10, 20, 40, 40, 80))):
+        if chance.random() < trims:
+            state.trim()
+            lines.append("trim")
+            continue
         seat, asked = step(chance, state)
         state.answer(seat, asked)
         lines.append(spelt(seat, asked))
-    return "\n".join([f"aqs-steps 1 {part}", *lines, f"end {len(lines)}", ""]).encode()
+    return "\n".join([f"aqs-steps {2 if trims else 1} {part}", *lines, f"end {len(lines)}", ""]).encode()
 
 
 NUMBERS = (b"0", b"1", b"2", b"00", b"-1", b"+1", b"255", b"256", b"2147483647", b"2147483648", b"4294967295",
@@ -121,9 +127,10 @@ def spoilt_bytes(chance, text):
 def spoilt_entries(chance, text):
     """A history text that still reads well, with an entry changed, left out, said twice or elsewhere."""
     try:
-        head, entries = rules.read_history(text)
+        head, lines = rules.read_history(text)
     except rules.TextFault:
         return text
+    entries = list(lines.entries)
     if not entries:
         return text
     at = chance.randrange(len(entries))
@@ -142,14 +149,18 @@ def spoilt_entries(chance, text):
         n = max(0, min(rules.LIMIT, entry.n + chance.choice((-1, 1))))
         values = {"seat": chance.randrange(head.seats), "n": n, "at": chance.randrange(16)}
         entries[at] = entry._replace(**{field: values.get(field, other)})
-    return history_text(head, entries)
+    before = text.split(b"\n")[:-2 - len(lines.entries)]
+    return history_text(before, lines, entries)
 
 
-def history_text(head, entries):
-    lines = [f"{number} {entry.seat} {rules.spelt(entry)}" for number, entry in enumerate(entries)]
-    calls = sum(entry.word not in rules.NO_CALL for entry in entries)
-    part = head.part.decode()
-    return "\n".join([f"aqs-history 1 {part}", *lines, f"end {len(entries)} {calls}", ""]).encode()
+def history_text(before, lines, entries):
+    """The lines before the entries, these entries in place of those that were read, and their end line."""
+    state = lines.start()
+    for entry in entries:
+        before.append(f"{state.entries} {entry.seat} {rules.spelt(entry)}".encode())
+        state.entries += 1
+    calls = sum(state.calls) + sum(entry.word not in rules.NO_CALL for entry in entries)
+    return b"\n".join([*before, f"end {state.entries} {calls}".encode(), b""])
 
 
 def tries(chance):

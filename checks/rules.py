@@ -4,6 +4,7 @@ Written from that page alone, so that a program and a reading of it that share n
 `replay(text, history)` and `audit(text)` give the status, the output and the line on standard error.
 `script_fault(text)` gives the first fault of a thread script, or None.
 """
+import copy
 import json
 import re
 from collections import namedtuple
@@ -16,6 +17,10 @@ Header = namedtuple("Header", "kind policy seats conditions permits count cap pa
 Entry = namedtuple("Entry", "seat word mode n at end")
 Arrival = namedtuple("Arrival", "seat mode n back")
 Step = namedtuple("Step", "name mode n at")
+TRIM = "trim"
+
+FOLDED = 10 ** 15
+HELD = 10 ** 25
 
 REFUSALS = ("NotOwner", "TooManyHolds", "TooManyPermits", "Interrupted", "HoldsRead")
 NO_CALL = ("queued", "await", "lapse")
@@ -87,8 +92,9 @@ class State:
         self.sleepers = [[] for _ in range(header.conditions)]
         self.saved = {}
         self.ends = {}
+        self.folded = 0
         self.entries = 0
-        self.calls = 0
+        self.calls = [0] * header.seats
 
     def owner(self):
         for seat, holds in enumerate(self.holds):
@@ -228,7 +234,7 @@ class State:
         could = first is not None and self.could(first.seat, first.mode, first.n)[0]
         self.follow(entry)
         self.entries += 1
-        self.calls += entry.word not in NO_CALL
+        self.calls[entry.seat] += entry.word not in NO_CALL
         head = self.line[0] if self.line else None
         if head is None or head.seat == entry.seat:
             return None
@@ -306,9 +312,17 @@ class State:
         entry = self.entry_of(seat, step)
         if entry is None:
             return "sleep"
-        if self.entries + 1 + self.owed_behind(entry) > self.header.cap:
+        if self.entries - self.folded + 1 + self.owed_behind(entry) > self.header.cap:
             return "HistoryFull"
         return entry, self.add(entry)
+
+    def trim(self):
+        """Folds all entries, and tells how many; None if that would be more than may be."""
+        if self.entries > FOLDED:
+            return None
+        count = self.entries - self.folded
+        self.folded = self.entries
+        return count
 
     def is_entry(self, entry):
         """Whether an entry is that of some step of its seat."""
@@ -331,6 +345,147 @@ class State:
         exclusive = sum(holds["x"] for holds in self.holds)
         asleep = sum(len(asleep) for asleep in self.sleepers)
         return f"holds x {exclusive} s {shared} line {line} sleepers {asleep}\n"
+
+
+def base_lines(state):
+    """The lines of the base that a state has just folded all entries into."""
+    kind = state.header.kind
+    also = {"semaphore": f" unheld {state.unheld}", "latch": f" count {state.count}"}.get(kind, "")
+    lines = [f"base {state.folded}{also}\n"]
+    for seat, holds in enumerate(state.holds):
+        lines.append(f"seat {seat} calls {state.calls[seat]} x {holds['x']} s {holds['s']}\n")
+    for arrival in state.line:
+        seat = arrival.seat
+        if arrival.back:
+            at, saved = state.saved[seat]
+            lines.append(f"line {seat} back {at} {saved} {state.ends[seat]}\n")
+        else:
+            lines.append(f"line {seat} queued {arrival.mode} {arrival.n}\n")
+    for at, asleep in enumerate(state.sleepers):
+        lines.extend(f"sleeper {at} {seat} {state.saved[seat][1]}\n" for seat in asleep)
+    return lines
+
+
+class BaseReader:
+    """The lines of a base, one after the other, each added only if a good base can begin so."""
+
+    def __init__(self, header):
+        self.state = State(header)
+        self.seats = None
+        self.waiting = set()
+        self.condition = 0
+
+    def has_all_seats(self):
+        return self.seats == self.state.header.seats
+
+    def takes(self, words):
+        """Whether a line is the next of a good base. None: it is no line of a base, and the base is whole."""
+        if self.seats is None:
+            return self.begins(words)
+        if not self.has_all_seats():
+            return self.takes_seat(words)
+        if words[0] == b"line" and self.condition == 0 and not any(self.state.sleepers):
+            return self.takes_waiter(words[1:])
+        if words[0] == b"sleeper":
+            return self.takes_sleeper(words[1:])
+        return None
+
+    def begins(self, words):
+        header, state = self.state.header, self.state
+        wanted = {"semaphore": [b"unheld"], "latch": [b"count"]}.get(header.kind, [])
+        if words[0] != b"base" or len(words) != 2 + 2 * len(wanted) or words[2:3] != wanted:
+            return False
+        state.folded = state.entries = number(words[1], FOLDED) or 0
+        if state.folded == 0:
+            return False
+        if wanted:
+            value = number(words[3], HELD if header.kind == "semaphore" else header.count)
+            if value is None:
+                return False
+            if header.kind == "semaphore":
+                state.unheld = value
+            else:
+                state.count = value
+        self.seats = 0
+        return self.can_be_free()
+
+    def can_be_free(self):
+        """Whether the seats that are to come can hold what is missing of the permits."""
+        state = self.state
+        if state.header.kind != "semaphore":
+            return True
+        state.free = state.header.permits + state.unheld - state.readers()
+        to_come = (state.header.seats - self.seats) * HELD
+        return state.free >= min(state.header.permits, 0) and state.free - to_come <= LIMIT
+
+    def takes_seat(self, words):
+        state, kind, seat = self.state, self.state.header.kind, self.seats
+        if len(words) != 8 or words[::2] != [b"seat", b"calls", b"x", b"s"] or words[1] != b"%d" % seat:
+            return False
+        calls = number(words[3], state.folded)
+        most = {"lock": LIMIT, "rw": READS}.get(kind, 0)
+        exclusive = number(words[5], most)
+        shared = number(words[7], {"rw": READS, "semaphore": HELD}.get(kind, 0))
+        if calls is None or exclusive is None or shared is None:
+            return False
+        owner, readers = state.owner(), state.readers()
+        state.calls[seat] = calls
+        state.holds[seat] = {"x": exclusive, "s": shared}
+        self.seats += 1
+        if sum(state.calls) > state.folded:
+            return False
+        if kind == "semaphore":
+            return self.can_be_free()
+        if exclusive and (owner is not None or readers):
+            return False
+        return not (shared and owner is not None) and readers + shared <= READS
+
+    def takes_waiter(self, words):
+        state, kind = self.state, self.state.header.kind
+        seat = number(words[0], state.header.seats - 1) if words else None
+        if seat is None or seat in self.waiting:
+            return False
+        if len(words) == 4 and words[1] == b"queued":
+            n = number(words[3], LIMIT)
+            mode = words[2].decode() if words[2] in (b"x", b"s") else None
+            modes = {"lock": ("x",), "rw": ("x", "s")}.get(kind, ("s",))
+            if mode not in modes or n is None or (n != 1 and kind != "semaphore") or state.holds[seat]["x"]:
+                return False
+            state.line.append(Arrival(seat, mode, n, False))
+        elif len(words) == 5 and words[1] == b"back" and words[4] in (b"signalled", b"timeout", b"interrupt"):
+            if not self.saves(seat, words[2], words[3]):
+                return False
+            state.arrive(seat, words[4].decode())
+        else:
+            return False
+        self.waiting.add(seat)
+        return True
+
+    def saves(self, seat, condition, holds):
+        """Whether a seat that sleeps or comes back may have saved so many holds on this condition."""
+        header = self.state.header
+        at = number(condition, header.conditions - 1) if header.conditions else None
+        saved = number(holds, LIMIT if header.kind == "lock" else READS)
+        own = self.state.holds[seat]
+        if at is None or not saved or own["x"] or own["s"]:
+            return False
+        self.state.saved[seat] = (at, saved)
+        return True
+
+    def takes_sleeper(self, words):
+        state = self.state
+        if len(words) != 3:
+            return False
+        seat = number(words[1], state.header.seats - 1)
+        if seat is None or seat in self.waiting or not self.saves(seat, words[0], words[2]):
+            return False
+        at = int(words[0])
+        if at < self.condition:
+            return False
+        self.condition = at
+        state.sleepers[at].append(seat)
+        self.waiting.add(seat)
+        return True
 
 
 def spelt(entry):
@@ -401,88 +556,163 @@ def entry_of(seat, words):
     return None
 
 
-def read(text, name, end, parse):
-    """A text line by line: its header and what its lines spell; the first fault is raised.
+class Steps:
+    """The lines of a steps text behind its header: steps of seats, and trims in format 2."""
 
-    `end(items)` is the end line behind the items; `parse(header, items, words)` is an item or None.
-    """
+    def __init__(self, header, trims):
+        self.header, self.trims, self.steps = header, trims, []
+
+    def is_end(self, line):
+        return line == b"end %d" % len(self.steps)
+
+    def takes(self, words):
+        if self.trims and words == [b"trim"]:
+            self.steps.append(TRIM)
+            return True
+        seat = number(words[0], self.header.seats - 1)
+        step = step_of(words[1:]) if len(words) > 1 else None
+        if seat is None or step is None:
+            return False
+        self.steps.append((seat, step))
+        return True
+
+
+class History:
+    """The lines of a history text behind its header: those of its base in format 2, and entries."""
+
+    def __init__(self, header, based):
+        self.header, self.entries = header, []
+        self.base = BaseReader(header) if based else None
+        self.is_whole = not based
+
+    def folded(self):
+        return self.base.state.folded if self.base else 0
+
+    def start(self):
+        """What the entries begin from."""
+        return copy.deepcopy(self.base.state) if self.base else State(self.header)
+
+    def is_end(self, line):
+        if not self.is_whole and not self.base.has_all_seats():
+            return False
+        ended = sum(entry.word not in NO_CALL for entry in self.entries)
+        calls = ended + (sum(self.base.state.calls) if self.base else 0)
+        return line == b"end %d %d" % (self.folded() + len(self.entries), calls)
+
+    def takes(self, words):
+        if not self.is_whole:
+            taken = self.base.takes(words)
+            if taken is not None:
+                return taken
+            self.is_whole = True
+        if len(words) < 3 or words[0] != b"%d" % (self.folded() + len(self.entries)):
+            return False
+        if len(self.entries) >= self.header.cap:
+            return False
+        seat = number(words[1], self.header.seats - 1)
+        entry = None if seat is None else entry_of(seat, words[2:])
+        if entry is None:
+            return False
+        self.entries.append(entry)
+        return True
+
+
+def read(text, name, lines_of):
+    """A text line by line: its header and its lines, by its format; the first fault is raised."""
     at = text.find(b"\n")
     if at < 0:
         raise TextFault("cut short")
-    line, items, line_number = text[:at], [], 1
-    header = header_part(line[len(name):]) if line.startswith(name) else None
+    line, line_number = text[:at], 1
+    is_second = line.startswith(name + b"2 ")
+    begins = is_second or line.startswith(name + b"1 ")
+    header = header_part(line[len(name) + 2:]) if begins else None
     if header is None:
         raise TextFault("bad header")
+    lines = lines_of(header, is_second)
     while True:
         line_number += 1
         start, at = at + 1, text.find(b"\n", at + 1)
         if at < 0:
             raise TextFault("cut short")
         line = text[start:at]
-        if line == end(items):
+        if lines.is_end(line):
             break
-        item = parse(header, items, line.split(b" "))
-        if item is None:
+        if not lines.takes(line.split(b" ")):
             raise TextFault(f"bad line {line_number}")
-        items.append(item)
     if at + 1 < len(text):
         raise TextFault(f"bad line {line_number + 1}")
-    return header, items
+    return header, lines
 
 
 def read_steps(text):
-    def parse(header, _items, words):
-        seat = number(words[0], header.seats - 1)
-        step = step_of(words[1:]) if len(words) > 1 else None
-        return None if seat is None or step is None else (seat, step)
-
-    return read(text, b"aqs-steps 1 ", lambda items: b"end %d" % len(items), parse)
+    """The header of a steps text, and its steps."""
+    return read(text, b"aqs-steps ", Steps)
 
 
 def read_history(text):
-    def parse(header, items, words):
-        if len(words) < 3 or words[0] != b"%d" % len(items) or len(items) >= header.cap:
-            return None
-        seat = number(words[1], header.seats - 1)
-        return None if seat is None else entry_of(seat, words[2:])
+    """The header of a history text, and its base and entries."""
+    return read(text, b"aqs-history ", History)
 
-    def end(items):
-        return b"end %d %d" % (len(items), sum(entry.word not in NO_CALL for entry in items))
 
-    return read(text, b"aqs-history 1 ", end, parse)
+class Answers:
+    """What a replay writes: answers, or the history that they leave."""
+
+    def __init__(self, header, second, history):
+        self.state, self.second, self.history = State(header), second, history
+        self.base, self.lines = [], []
+
+    def trim(self):
+        count = self.state.trim()
+        if self.history and count is not None:
+            self.base, self.lines = base_lines(self.state) if self.state.folded else [], []
+        if not self.history:
+            self.lines.append("- TrimFull\n" if count is None else f"- trim {count}\n")
+
+    def step(self, seat, step):
+        answer = self.state.answer(seat, step)
+        if not isinstance(answer, str):
+            entry, named = answer
+            self.lines.append(entry_line(self.state.entries - 1, entry, None if self.history else named))
+        elif not self.history:
+            self.lines.append(f"- {seat} {answer}\n")
+
+    def text(self):
+        state = self.state
+        number_of_format = 2 if (state.folded if self.history else self.second) else 1
+        first = f"aqs-{'history' if self.history else 'replay'} {number_of_format} {state.header.part.decode()}\n"
+        last = f"end {state.entries} {sum(state.calls)}\n"
+        return "".join([first, *self.base, *self.lines, last]).encode()
 
 
 def replay(text, history=False):
     """What `aqs replay`, with `--history` or without, answers to a text."""
     try:
-        header, steps = read_steps(text)
+        header, read_ = read_steps(text)
     except TextFault as fault:
         return 3, b"", f"aqs: {fault}\n".encode()
-    state = State(header)
-    lines = [("aqs-history 1 " if history else "aqs-replay 1 ") + header.part.decode() + "\n"]
-    for seat, step in steps:
-        answer = state.answer(seat, step)
-        if isinstance(answer, str):
-            lines.append("" if history else f"- {seat} {answer}\n")
+    answers = Answers(header, read_.trims, history)
+    for step in read_.steps:
+        if step == TRIM:
+            answers.trim()
         else:
-            entry, named = answer
-            lines.append(entry_line(state.entries - 1, entry, None if history else named))
-    lines.append(f"end {state.entries} {state.calls}\n")
-    return 0, "".join(lines).encode(), b""
+            answers.step(*step)
+    return 0, answers.text(), b""
 
 
 def audit(text):
     """What `aqs audit` answers to a text."""
     try:
-        header, entries = read_history(text)
+        header, read_ = read_history(text)
     except TextFault as fault:
         return 3, b"", f"aqs: {fault}\n".encode()
-    state = State(header)
-    for at, entry in enumerate(entries):
+    state = read_.start()
+    for at, entry in enumerate(read_.entries):
         if not state.is_entry(entry):
-            return 1, f"not legal at {at}\n".encode(), b""
+            return 1, f"not legal at {state.folded + at}\n".encode(), b""
         state.add(entry)
-    return 0, f"legal\nentries {state.entries}\ncalls {state.calls}\n{state.totals()}".encode(), b""
+    base = f"base {state.folded}\n" if read_.base else ""
+    counts = f"entries {state.entries}\ncalls {sum(state.calls)}\n"
+    return 0, f"legal\n{base}{counts}{state.totals()}".encode(), b""
 
 
 def is_call(text, names, threads):
@@ -497,7 +727,7 @@ def is_call(text, names, threads):
         wanted = ["mode", 4294967295]
     elif name in (b"await", b"await-interruptible", b"await-timed", b"signal", b"signalall"):
         wanted = [255]
-    elif name == b"drain":
+    elif name in (b"drain", b"trim"):
         wanted = []
     else:
         return False

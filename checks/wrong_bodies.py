@@ -1,7 +1,7 @@
 #!/usr/bin/env python3
 """Tries the wrong bodies crates/NAME/must-fail/*.edit, as rt must-fail does, but many in one check.
 
-usage: checks/wrong_bodies.py [--built] [--alone] [NAME..]     at the top, of all crates or of these
+usage: checks/wrong_bodies.py [--built] [--alone] [--anew] [NAME..]     at the top, of all crates or of these
 
 A check reports each function by itself, so one copy of a crate takes a wrong body of each of many functions.
 A wrong body is refused where its own function is not proved, and one of that function's own goals fails. What
@@ -13,7 +13,9 @@ contract.
 Each crate is a process of its own, the largest first, as many at once as there are processors and memory, or
 as RT_JOBS says.
 
---built   the libraries stand as rt ci has just left them, and nothing else that earlier checks kept is taken
+--built   the libraries stand as rt ci has just left them, and nothing else that earlier checks kept is taken.
+          A crate whose wrong bodies are all refused so is not tried again while nothing of it changes (kept.py)
+--anew    tries those too
 --alone   tries each edit alone
 The last line is 'N refused, M not refused', and the status is 1 where any is not.
 """
@@ -25,6 +27,7 @@ import time
 
 sys.dont_write_bytecode = True
 
+import kept
 import selftest
 from kit import rt
 from trial import ONE_JOB, seconds, tried
@@ -41,17 +44,21 @@ def try_one(name, flags):
     [crate] = [it for it in rt.rtlib.crates_below(os.getcwd()) if it.name == name]
     edits, bad = rt.edits_of(crate)
     lacking = [it.name for it in crate.below() if not os.path.exists(it.rlib)]
-    kept = None if "--built" in flags else f"{crate.folder}/out/incremental"
+    is_built = "--built" in flags
+    begin_with = None if is_built else f"{crate.folder}/out/incremental"
+    mark = kept.mark_of(crate)
     results = []
     if lacking:
         tell(f"{name}: NOT TRIED: its library {lacking[0]} is not built")
     else:
-        results = tried(crate, edits, lambda text: tell(f"{name}: {text}"), "--alone" in flags, kept)
+        results = tried(crate, edits, lambda text: tell(f"{name}: {text}"), "--alone" in flags, begin_with)
     for edit, it in zip(edits, results):
         tell(f"{name}/{os.path.basename(edit)}: {'refused' if it.is_refused else 'NOT REFUSED'}: {it.text}")
     for it in bad:
         tell(f"{name}/{os.path.basename(it)}: BAD EDIT: not a file NAME.edit right in must-fail/")
     refused = sum(it.is_refused for it in results)
+    if is_built and not bad and refused == len(edits) and mark == kept.mark_of(crate):
+        kept.keep(mark)
     tell(f"{name}: {seconds():.0f} processor seconds")
     print(f"{refused} refused, {len(edits) + len(bad) - refused} not refused")
     return 0
@@ -92,7 +99,7 @@ def in_processes(crates, flags):
 def main(words):
     flags = [it for it in words if it.startswith("--")]
     names = [it for it in words if it not in flags]
-    unknown = {*flags} - {"--built", "--alone", "--crate"}
+    unknown = {*flags} - {"--built", "--alone", "--anew", "--crate"}
     if unknown:
         sys.exit(__doc__)
     rt.rtlib.guarded()
@@ -110,7 +117,12 @@ def main(words):
         upwards = sorted(libraries.values(), key=lambda it: len(it.below()))
         if any(it.build_rlib(ONE_JOB, anew=False) for it in upwards):
             return 1
-    refused, others = in_processes(crates, [it for it in flags if it != "--crate"])
+    before = [it for it in crates if "--built" in flags and "--anew" not in flags and kept.are_refused(it)]
+    for crate in before:
+        tell(f"{crate.name}: {len(rt.edits_of(crate)[0])} refused in an earlier run, and nothing has changed since")
+    left = [it for it in crates if it not in before]
+    refused, others = in_processes(left, [it for it in flags if it != "--crate"])
+    refused += sum(len(rt.edits_of(it)[0]) for it in before)
     tell(f"{(time.monotonic() - at) / 60:.0f} minutes, {seconds() / 60:.0f} processor minutes")
     print(f"{refused} refused, {others} not refused", flush=True)
     return 1 if others else 0

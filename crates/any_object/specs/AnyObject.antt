@@ -3,7 +3,7 @@ use Rattle.std.specs.Prelude.{◌≡◌, ℕ}
 use Rattle.history.specs.declared.header.Object.{Object}
 use Rattle.history.specs.declared.header.Object.TheVariants as object
 use Rattle.history.specs.Counts.{Counts}
-use Rattle.frame.specs.Hooks.{opening_counts}
+use Rattle.frame.specs.Hooks.{AreAlike, opening_counts}
 use Rattle.any_object.specs.declared.any_hooks.AnyHooks.{AnyHooks}
 use Rattle.any_object.specs.declared.any_hooks.AnyHooks.TheVariants.{Lock, ReadWrite, Semaphore, Latch}
 use Rattle.counting.specs.Latch as latch
@@ -47,6 +47,12 @@ same_object (Lock s) k h = lock_laws.same_policy s k h
 same_object (ReadWrite s) k h = rw_laws.same_policy s k h
 same_object (Semaphore s) k h = semaphore.same_semaphore s k h
 same_object (Latch s) k h = latch.same_latch s k h
+
+pub alike_so : (s : AnyHooks) (k l : Counts) → AreAlike k l → Stands s k → Stands s l
+alike_so (Lock s) k l same h = lock_laws.alike_so s k l same h
+alike_so (ReadWrite s) k l same h = rw_laws.alike_so s k l same h
+alike_so (Semaphore s) k l same h = semaphore.alike_so s k l same h
+alike_so (Latch s) k l same h = latch.alike_so s k l same h
 
 pub some_counts : (s : AnyHooks) → (k : Counts) × Stands s k
 some_counts (Lock s) = lock_laws.some_counts s

@@ -49,7 +49,7 @@ impl AnyHooks {
 }
 
 impl Hooks for AnyHooks {
-    ghost use Rattle.any_object.specs.AnyObject.{Stands, object_of, IsOpened, opens_so, same_object, some_counts};
+    ghost use Rattle.any_object.specs.AnyObject.{Stands, object_of, IsOpened, alike_so, opens_so, same_object, some_counts};
 
     ghost agrees = { Stands };
 
@@ -60,6 +60,8 @@ impl Hooks for AnyHooks {
     ghost opens = { opens_so };
 
     ghost same_object = { same_object };
+
+    ghost alike = { alike_so };
 
     ghost stands = { some_counts };
 

@@ -239,7 +239,7 @@ const SCRIPT: &[u8] = b"{\"objects\":[[\"a\",\"lock fair seats 1 conditions 0 ca
 /// From the command line and the input to the exit status, the output and what standard error was told.
 #[test]
 fn ends_with_a_status(rt: HostRuntime) -> Result<(), Fail> {
-    let header = b"aqs-steps 2 lock fair seats 1 conditions 0 cap 16\nend 0\n";
+    let header = b"aqs-steps 3 lock fair seats 1 conditions 0 cap 16\nend 0\n";
     let line = b"aqs-steps 1 lock fair seats 1 conditions 0 cap 16\n0 acquire x 01\nend 1\n";
     let replayed = "aqs-replay 1 lock fair seats 1 conditions 0 cap 16\n0 0 got x 1\nend 1 1\n";
     let recorded = "aqs-history 1 lock fair seats 1 conditions 0 cap 16\n0 0 got x 1\nend 1 1\n";

@@ -4,9 +4,8 @@ use Rattle.std.proofs.lemmas.Option.{get_or_from_slice_get}
 use Rattle.std.proofs.lemmas.List.{get_or-reverse}
 use Rattle.std.specs.Prelude.{slice_get}
 use Rattle.history.specs.declared.entry.Entry.{Entry}
-use Rattle.history.specs.declared.header.Header.{Header}
 use Rattle.history.specs.Legal.{IsLegal, AreSeated}
-use Rattle.history.specs.Start.{Start, opening}
+use Rattle.history.specs.Start.{Start}
 use Rattle.audit.specs.declared.ledger.Ledger.{Ledger}
 use Rattle.audit.specs.Ledger.{HasSeat, IsNext, LedgerStand}
 use Rattle.audit.specs.Verdict.{front, IsFirstWrong}
@@ -57,14 +56,13 @@ pub has_seat : (s : Start) (h : List Entry) (l : Ledger) (i : ℕ) → LedgerSta
 has_seat s h l i st seat room = record { start = s; front = h; stand = st; seat = seat; room = room }
 
 -- the seat of the next entry
-pub has_seat_next : (k : Header) (h : List Entry) (n end : ℕ) (e : Entry) (l : Ledger) →
-    LedgerStand (opening k) (front n h) l → AreSeated (opening k) h → n < end → end ≡ length h →
-    end < 4294967296 →
+pub has_seat_next : (s : Start) (h : List Entry) (n end : ℕ) (e : Entry) (l : Ledger) →
+    LedgerStand s (front n h) l → AreSeated s h → n < end → end ≡ length h → end < 4294967296 →
     slice_get (reverse h) n ≡ Some e → HasSeat l e.seat
-has_seat_next k h n end e l st seated less is few q =
+has_seat_next s h n end e l st seated less is few q =
     let long = front_length h n (omega (arith, less, is)) in
-    has_seat (opening k) (front n h) l e.seat st
-    (next_seat (opening k) h n e seated (omega (arith, less, is)) q)
+    has_seat s (front n h) l e.seat st
+    (next_seat s h n e seated (omega (arith, less, is)) q)
     (omega (arith, long, less, few))
 
 -- one more entry, behind those that were followed
@@ -77,11 +75,11 @@ front_same : (h : List Entry) → front (length h) h ≡ h
 front_same h = front_all h (length h) (omega arith)
 
 -- it is the first that isn't legal
-pub wrong_now : (k : Header) (h : List Entry) (e : Entry) → IsLegal (opening k) h →
-    (IsNext (opening k) h e → ⊥) →
-    IsFirstWrong k (e ∷ h) (length h) × (IsLegal (opening k) (e ∷ h) → ⊥)
-wrong_now k h e legal wrong =
-    let L : List Entry → Type 0 = λ x. IsLegal (opening k) x in
+pub wrong_now : (s : Start) (h : List Entry) (e : Entry) → IsLegal s h →
+    (IsNext s h e → ⊥) →
+    IsFirstWrong s (e ∷ h) (length h) × (IsLegal s (e ∷ h) → ⊥)
+wrong_now s h e legal wrong =
+    let L : List Entry → Type 0 = λ x. IsLegal s x in
     let all : front (length h + 1) (e ∷ h) ≡ e ∷ h = front_all (e ∷ h) (length h + 1) (omega arith) in (
       record {
         stands = omega arith;
@@ -92,11 +90,11 @@ wrong_now k h e legal wrong =
     )
 
 -- or the first one stays the first
-pub wrong_still : (k : Header) (h : List Entry) (e : Entry) (number : ℕ) → IsFirstWrong k h number →
-    (IsLegal (opening k) h → ⊥) →
-    IsFirstWrong k (e ∷ h) number × (IsLegal (opening k) (e ∷ h) → ⊥)
-wrong_still k h e number first wrong =
-    let L : List Entry → Type 0 = λ x. IsLegal (opening k) x in
+pub wrong_still : (s : Start) (h : List Entry) (e : Entry) (number : ℕ) → IsFirstWrong s h number →
+    (IsLegal s h → ⊥) →
+    IsFirstWrong s (e ∷ h) number × (IsLegal s (e ∷ h) → ⊥)
+wrong_still s h e number first wrong =
+    let L : List Entry → Type 0 = λ x. IsLegal s x in
     let before : number ≤ length h = omega (arith, first.stands) in
     let with_it : number + 1 ≤ length h = omega (arith, first.stands) in (
       record {

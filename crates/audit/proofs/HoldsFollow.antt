@@ -9,6 +9,7 @@ use Rattle.history.specs.declared.header.Object.{Object}
 use Rattle.history.specs.Could.{is_seat}
 use Rattle.history.specs.Counts.{counts, held, holds_after, owner, readers}
 use Rattle.history.specs.Entry.{same_mode}
+use Rattle.history.specs.GoodBase.{most_permits}
 use Rattle.history.specs.Object.{is_lock}
 use Rattle.history.specs.declared.header.Header.{Header}
 use Rattle.history.specs.Start.{Start, opening}
@@ -96,7 +97,7 @@ stands_exclusive s e h old new st seat mode amount only x sh ow re =
           ∙ owner_follows s e h old.owner seat same (only l).0 (only l).1 (st.owns l);
       reads = re ∙ st.reads ∙ total_same s.header.seats (λ i. held s h i S) (λ i. held s (e ∷ h) i S)
           (λ i. sym (held_other_mode s e h i S other));
-      exclusive_bound = bound_follows s e h X amount st.exclusive_bound;
+      exclusive_bound = bound_follows most_permits s e h X amount st.exclusive_bound;
       shared_bound = let a : readers (counts s (e ∷ h)) ≡ readers (counts s h) =
           total_same s.header.seats (λ i. held s (e ∷ h) i S) (λ i. held s h i S)
           (λ i. held_other_mode s e h i S other) in omega (arith, a, st.shared_bound);
@@ -135,14 +136,14 @@ stands_shared s e h old new st seat mode amount sh x ow re =
       owns = λ l. ow ∙ st.owns l ∙ seat_with_same s.header.seats (λ i. held s h i X)
           (λ i. held s (e ∷ h) i X) (λ i b. sym (held_other_mode s e h i X other));
       reads = omega (arith, re, had, has, part, change, st.reads);
-      exclusive_bound = bound_follows s e h X amount st.exclusive_bound;
+      exclusive_bound = bound_follows most_permits s e h X amount st.exclusive_bound;
       shared_bound = omega (arith, had, has, part, change, more, st.shared_bound);
     }
 
--- the holds of one seat fit 64 bits with an entry more
+-- the holds of one seat fit 128 bits with an entry more
 pub exclusive_fits : (s : Start) (h : List Entry) (holds : Holds) (o : Object) (w : Word) (n i v : ℕ) →
     HoldsStand s h holds → length h + 1 < 4294967296 → n ≤ 4294967295 → v ≡ get_or holds.exclusive.items i 0 →
-    holds_after o w n v < 18446744073709551616
+    holds_after o w n v < 340282366920938463463374607431768211456
 exclusive_fits s h holds o w n i v st l b is =
     let had : get_or holds.exclusive.items i 0 ≡ held s h i X = st.exclusive i in
     omega (arith, is, had, l, st.exclusive_bound i, holds_more o w n v b)
@@ -150,7 +151,7 @@ exclusive_fits s h holds o w n i v st l b is =
 pub shared_fits : (s : Start) (h : List Entry) (holds : Holds) (o : Object) (w : Word) (n i v : ℕ) →
     HoldsStand s h holds → i < s.header.seats → length h + 1 < 4294967296 → n ≤ 4294967295 →
     v ≡ get_or holds.shared.items i 0 →
-    (holds_after o w n v < 18446744073709551616) × (v ≤ holds.readers)
+    (holds_after o w n v < 340282366920938463463374607431768211456) × (v ≤ holds.readers)
 shared_fits s h holds o w n i v st seat l b is =
     let part : held s h i S ≤ readers (counts s h) =
     total_part s.header.seats (λ j. held s h j S) i seat in

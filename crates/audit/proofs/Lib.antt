@@ -1,6 +1,10 @@
 pub mod HoldsLemmas
 pub mod HoldsFollow
+pub mod Beginnings
+pub mod HoldsOnBase
 pub mod WaitingFollow
+pub mod BaseWaits
+pub mod WaitingOnBase
 pub mod Limits
 pub mod Making
 pub mod Fronts

@@ -26,7 +26,9 @@ pub one_more : (s : Start) (h : List Entry) (e : Entry) → IsHistory s h → Is
     e.seat < s.header.seats → IsHistory s (e ∷ h)
 one_more s h e past next seat =
     record {
-      opened = past.opened;
+      base = past.base;
+      good = past.good;
+      start = past.start;
       range = past.range;
       legal = (next, past.legal);
       seated = (seat, past.seated);

@@ -17,7 +17,7 @@ abbrev faults : List Fault
 faults =
     fault.NotOwner ∷ fault.NotOwner ∷ fault.TooManyHolds ∷ fault.TooManyPermits ∷ fault.Interrupted
     ∷ fault.HoldsRead ∷ fault.OutOfPhase ∷ fault.NoSuchCondition ∷ fault.BadAmount ∷ fault.WrongMode
-    ∷ fault.HistoryFull ∷ fault.OutOfMemory ∷ []
+    ∷ fault.HistoryFull ∷ fault.OutOfMemory ∷ fault.TrimFull ∷ []
 
 fault_again : (f : Fault) → get_or faults (fault_number f) fault.NotOwner ≡ f
 fault_again fault.NotOwner = refl
@@ -31,6 +31,7 @@ fault_again fault.BadAmount = refl
 fault_again fault.WrongMode = refl
 fault_again fault.HistoryFull = refl
 fault_again fault.OutOfMemory = refl
+fault_again fault.TrimFull = refl
 
 abbrev words : Fault → List Word
 words f =

@@ -1,5 +1,5 @@
 -- That the audit's line and sleepers stand for one more entry, and are as it needs them.
-use Rattle.std.proofs.Common.{◌≡◌, ⊎_elim, ℕ, zero, suc, ◌<◌, true, false, eqb, List, [], ◌∷◌, length, get_or, set, replicate, refl, ap, ◌∙◌, sym, arith}
+use Rattle.std.proofs.Common.{◌≡◌, ⊎_elim, ℕ, zero, suc, ◌+◌, ◌<◌, None, true, false, eqb, List, [], ◌∷◌, length, get_or, set, replicate, refl, ap, ◌∙◌, sym, arith}
 use Rattle.std.proofs.Math.ListN.{length-set}
 use Rattle.std.proofs.lemmas.Bool.{cases_eq, eq-eqb, ne_eqb}
 use Rattle.std.proofs.lemmas.List.{length-replicate, get_or-set_same, get_or-set_other}
@@ -12,18 +12,17 @@ use Rattle.history.specs.Start.{Start, opening}
 use Rattle.history.specs.Start as start
 use Rattle.history.proofs.Changes.{either_way}
 use Rattle.history.proofs.Entering.{known}
-use Rattle.history.proofs.OneWait.{Waits, waits}
-use Rattle.acquire_queue.specs.Line.{Line}
-use Rattle.condition_queue.specs.Following.{IsMovable, Keeps}
-use Rattle.condition_queue.specs.Sleepers.{Sleepers, asleep_on}
+use Rattle.history.proofs.OneWait.{Waits}
+use Rattle.condition_queue.specs.Following.{IsMovable, JoinedBy, Keeps}
+use Rattle.condition_queue.specs.Sleepers.{asleep_on, sleeper_of}
 use Rattle.condition_queue.proofs.Movable.{movable}
-use Rattle.deciding.proofs.Bounds.{at_opening}
+use Rattle.deciding.proofs.Bounds.{waits_by}
 use Rattle.deciding.specs.Sleep.{sleep_of}
 use Rattle.deciding.specs.declared.sleep.LastSleep.{LastSleep}
 use Rattle.audit.specs.declared.ledger.Ledger.{Ledger}
 use Rattle.audit.specs.declared.waiting.Waiting.{Waiting}
 use Rattle.audit.specs.Ledger.{IsNext, LedgerStand}
-use Rattle.audit.specs.Waiting.{ended_by, never_slept, saved_by, sleep_by, WaitingStand}
+use Rattle.audit.specs.Waiting.{ended_by, never_slept, NobodyWaits, saved_by, sleep_by, WaitingStand}
 
 -- a table of last sleeps that stays, or is written at the entry's seat
 slept_same : (s : Start) (e : Entry) (h : List Entry) (table : List LastSleep) →
@@ -79,11 +78,13 @@ saved s e h table w q seat is =
 
 pub stands_next : (s : Start) (h : List Entry) (e : Entry) (old new : Waiting) → WaitingStand s h old →
     e.seat < length old.last_sleep.items → Keeps s (e ∷ h) new.line new.asleep →
-    new.last_sleep.items ≡ saved_by e.word e old.last_sleep.items → WaitingStand s (e ∷ h) new
-stands_next s h e old new st seat kept is =
+    JoinedBy (length h + 2) new.line → new.last_sleep.items ≡ saved_by e.word e old.last_sleep.items →
+    WaitingStand s (e ∷ h) new
+stands_next s h e old new st seat kept joined is =
     let all = saved s e h old.last_sleep.items e.word refl seat st.slept in
     record {
       kept = kept;
+      joins = omega (arith, joined);
       seats = ap length is ∙ all.seats ∙ st.seats;
       slept = λ i. ap (λ l. sleep_of (get_or l i never_slept)) is ∙ all.slept i;
     }
@@ -94,38 +95,44 @@ never zero i = refl
 never (suc n) zero = refl
 never (suc n) (suc i) = never n i
 
-pub stands_opened : (k : Header) (w : Waiting) → Keeps (opening k) [] w.line w.asleep →
-    w.last_sleep.items ≡ replicate k.seats never_slept → WaitingStand (opening k) [] w
-stands_opened k w kept is =
-    record {
-      kept = kept;
-      seats = ap length is ∙ length-replicate k.seats never_slept;
-      slept = λ i. ap (λ l. sleep_of (get_or l i never_slept)) is ∙ ap sleep_of (never k.seats i);
-    }
-
-pub keeps_opened : (k : Header) (queue : Line) (waiters : Sleepers) → queue.arrivals ≡ [] →
-    queue.joined ≡ 0 → queue.seats ≡ k.seats → ((c : ℕ) → asleep_on waiters c ≡ []) →
-    waiters.conditions ≡ k.conditions → waiters.seats ≡ k.seats → Keeps (opening k) [] queue waiters
-keeps_opened k queue waiters line joined places asleep conditions beds =
+pub nobody_waits : (k : Header) (w : Waiting) → w.line.arrivals ≡ [] → w.line.joined ≡ 0 →
+    w.line.seats ≡ k.seats → ((c : ℕ) → asleep_on w.asleep c ≡ []) →
+    ((i : ℕ) → sleeper_of w.asleep i ≡ None) → w.asleep.conditions ≡ k.conditions →
+    w.asleep.seats ≡ k.seats → w.last_sleep.items ≡ replicate k.seats never_slept → NobodyWaits k w
+nobody_waits k w line joined places asleep awake conditions beds is =
     record {
       line = line;
+      joined = joined;
       places = places;
-      joins = omega (arith, joined);
-      sleepers = asleep;
+      asleep = asleep;
+      awake = awake;
       conditions = conditions;
       beds = beds;
+      seats = ap length is ∙ length-replicate k.seats never_slept;
+      slept = λ i. ap (λ l. get_or l i never_slept) is ∙ never k.seats i;
     }
+
+pub stands_opened : (k : Header) (w : Waiting) → NobodyWaits k w → WaitingStand (opening k) [] w
+stands_opened k w none =
+    record {
+      kept = record {
+        line = none.line;
+        places = none.places;
+        sleepers = none.asleep;
+        conditions = none.conditions;
+        beds = none.beds;
+      };
+      joins = let j = none.joined in omega (arith, j);
+      seats = none.seats;
+      slept = λ i. ap sleep_of (none.slept i);
+    }
+
+pub each_waits_once : (s : Start) (h : List Entry) (l : Ledger) → LedgerStand s h l → Waits s h
+each_waits_once s h l st = waits_by s h st.past
 
 -- a legal front's queue and waiters are as the next entry needs them
 pub next_movable : (s : Start) (h : List Entry) (e : Entry) (l : Ledger) → LedgerStand s h l → IsNext s h e →
     e.seat < s.header.seats → length h < 4294967296 → IsMovable e l.waiting.line l.waiting.asleep
 next_movable s h e l st next seat few =
-    let k = s.header in
-    let past = st.past in
-    let M : Start → Type 0 = λ x. Keeps x h l.waiting.line l.waiting.asleep → IsNext x h e →
-    IsMovable e l.waiting.line l.waiting.asleep in
-    at_opening M s h past (λ legal seated kept made. movable k h e l.waiting.line l.waiting.asleep kept
-    past.range legal seated few seat (known (opening k) h made.0 e made.1)) st.waits.kept next
-
-pub each_waits_once : (s : Start) (h : List Entry) (l : Ledger) → LedgerStand s h l → Waits s h
-each_waits_once s h l st = at_opening (λ x. Waits x h) s h st.past (λ legal seated. waits s.header h legal)
+    movable s h e l.waiting.line l.waiting.asleep (length h + 1) st.waits.kept st.waits.joins
+    (omega (arith, few)) st.past seat (known s h next.0 e next.1)

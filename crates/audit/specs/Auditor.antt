@@ -1,35 +1,34 @@
 -- What an auditor knows of the entries so far.
 use Rattle.std.specs.Prelude.{◌≡◌, ◌<◌, ◌+◌, ◌^◌, ℕ, List, length, Option, None, Some}
 use Rattle.history.specs.declared.entry.Entry.{Entry}
-use Rattle.history.specs.declared.header.Header.{Header}
 use Rattle.history.specs.Legal.{IsLegal}
-use Rattle.history.specs.Start.{opening}
+use Rattle.history.specs.Start.{Start}
 use Rattle.audit.specs.declared.auditor.Auditor.{Auditor}
 use Rattle.audit.specs.declared.ledger.Ledger.{Ledger}
 use Rattle.audit.specs.Ledger.{LedgerStand}
 use Rattle.audit.specs.Verdict.{IsFirstWrong}
 
 -- they are legal and the ledger stands for them, or this is the first that isn't legal
-abbrev pub IsSoFar : Header → List Entry → Ledger → Option ℕ → Type 0
-IsSoFar k h ledger None = LedgerStand (opening k) h ledger
-IsSoFar k h ledger (Some number) = IsFirstWrong k h number × (IsLegal (opening k) h → ⊥)
+abbrev pub IsSoFar : Start → List Entry → Ledger → Option ℕ → Type 0
+IsSoFar s h ledger None = LedgerStand s h ledger
+IsSoFar s h ledger (Some number) = IsFirstWrong s h number × (IsLegal s h → ⊥)
 
--- these entries of the header's object were followed
-pub record HasJudged (k : Header) (h : List Entry) (a : Auditor) : Type 0 where
+-- these entries behind a start were followed
+pub record HasJudged (s : Start) (h : List Entry) (a : Auditor) : Type 0 where
   pub count : a.count ≡ length h
-  pub so_far : IsSoFar k h a.ledger a.wrong
+  pub so_far : IsSoFar s h a.ledger a.wrong
 
 -- one that has followed some entries, of which there may be one more, of one of the seats
 pub record CanFollow (a : Auditor) (e : Entry) : Type 0 where
-  pub header : Header
+  pub start : Start
   pub entries : List Entry
-  pub judged : HasJudged header entries a
-  pub seat : e.seat < header.seats
+  pub judged : HasJudged start entries a
+  pub seat : e.seat < start.header.seats
   pub room : length entries + 1 < 2 ^ 32
 
 -- one that has followed some entries
 pub record IsAuditor (a : Auditor) : Type 0 where
-  pub header : Header
+  pub start : Start
   pub entries : List Entry
-  pub judged : HasJudged header entries a
+  pub judged : HasJudged start entries a
   pub room : length entries < 2 ^ 32

@@ -1,10 +1,11 @@
 -- What the audit's tables of holds stand for.
-use Rattle.std.specs.Prelude.{◌≡◌, ◌≢◌, ℕ, ◌<◌, ◌≤◌, List, length, slice_index, true, Option, Some, None, nat_lt, if◌then◌else◌}
+use Rattle.std.specs.Prelude.{◌≡◌, ◌≢◌, ℕ, ◌*◌, ◌<◌, ◌≤◌, List, length, slice_index, true, Option, Some, None, nat_lt, if◌then◌else◌}
 use Rattle.deciding.specs.Holds.{most_held}
 use Rattle.history.specs.declared.entry.Entry.{Entry}
 use Rattle.history.specs.declared.entry.Mode.TheVariants.{X, S}
 use Rattle.history.specs.Could.{is_seat}
 use Rattle.history.specs.Counts.{counts, held, owner, readers}
+use Rattle.history.specs.GoodBase.{most_permits}
 use Rattle.history.specs.Object.{is_lock}
 use Rattle.history.specs.Start.{Start}
 use Rattle.audit.specs.declared.holds.Holds.{Holds}
@@ -16,8 +17,8 @@ pub record HoldsStand (s : Start) (h : List Entry) (holds : Holds) : Type 0 wher
   pub shared : (i : ℕ) → slice_index holds.shared.items i ≡ held s h i S
   pub owns : is_lock s.header.object ≡ true → holds.owner ≡ owner (counts s h)
   pub reads : holds.readers ≡ readers (counts s h)
-  pub exclusive_bound : (i : ℕ) → held s h i X ≤ most_held h
-  pub shared_bound : readers (counts s h) ≤ most_held h
+  pub exclusive_bound : (i : ℕ) → held s h i X ≤ most_held most_permits h
+  pub shared_bound : readers (counts s h) ≤ most_held (most_permits * 256) h
 
 -- whoever has exclusive holds is the only one
 abbrev pub IsOnlyOwner : Start → List Entry → Type 0

@@ -1,14 +1,18 @@
 //! The entries of a history, judged one after another.
 
 ghost use Rattle.std.specs.Prelude.{◌≡◌, ◌<◌, ◌∷◌, [], List, None, IfOk, OnOk, OnErr, IsErr, IsOk, IsOkUnless};
+ghost use Rattle.history.specs.Base.{based};
+ghost use Rattle.history.specs.GoodBase.{IsGood};
 ghost use Rattle.history.specs.Header.{IsInRange};
+ghost use Rattle.history.specs.Start.{Start, opening};
 ghost use Rattle.history.specs.declared.entry.Entry.{Entry};
-ghost use Rattle.history.specs.declared.header.Header.{Header};
 ghost use Rattle.audit.specs.Auditor.{CanFollow, HasJudged, IsAuditor};
+ghost use Rattle.audit.specs.Ledger.{LedgerStand};
 ghost use Rattle.audit.specs.Verdict.{IsJudgement};
 
 use crate::ledger::Ledger;
 use crate::verdict::Judgement;
+use history::base::Base;
 use history::entry::Entry;
 use history::fault::Fault;
 use history::header::Header;
@@ -29,16 +33,37 @@ impl Auditor {
     /// `OutOfMemory`.
     pub fn open(alloc: Global, header: Header) -> Result<Self, Fault>
         requires { IsInRange header }
-        ensures judged { IfOk result (HasJudged header []) }
+        ensures judged { IfOk result (HasJudged (opening header) []) }
         ensures memory { IsOkUnless result Fault.OutOfMemory }
     {
         match Ledger::open(alloc, header) {
-            Ok(ledger) => Ok(Auditor {
-                ledger,
-                count: 0,
-                wrong: None,
-            }),
+            Ok(ledger) => Ok(Auditor::new(ledger)),
             Err(fault) => Err(fault),
+        }
+    }
+
+    /// Judges an object that begins on a base, to which nothing has happened since. Where memory is refused
+    /// the answer is `OutOfMemory`.
+    pub fn open_on(alloc: Global, base: &Base) -> Result<Self, Fault>
+        requires range { IsInRange base.now.header }
+        requires good { IsGood base.now }
+        ensures judged { IfOk result (HasJudged (based base.now) []) }
+        ensures memory { IsOkUnless result Fault.OutOfMemory }
+    {
+        match Ledger::open_on(alloc, base) {
+            Ok(ledger) => Ok(Auditor::new(ledger)),
+            Err(fault) => Err(fault),
+        }
+    }
+
+    /// An auditor with this ledger, which has seen no entry.
+    fn new(ledger: Ledger) -> Self
+        ensures { (s : Start) → LedgerStand s [] ledger → HasJudged s [] result }
+    {
+        Auditor {
+            ledger,
+            count: 0,
+            wrong: None,
         }
     }
 
@@ -46,13 +71,13 @@ impl Auditor {
     #[inline(always)]
     pub fn follow(&mut self, entry: Entry) -> Result<(), Fault>
         requires { CanFollow self.old entry }
-        ensures judged { OnOk result ((k : Header) (h : List Entry) → HasJudged k h self.old →
-            entry.seat < k.seats → HasJudged k (entry ∷ h) self.new) }
+        ensures judged { OnOk result ((s : Start) (h : List Entry) → HasJudged s h self.old →
+            entry.seat < s.header.seats → HasJudged s (entry ∷ h) self.new) }
         ensures memory { IsOkUnless result Fault.OutOfMemory }
         ensures uncounted { OnErr result ((self.new.count ≡ self.old.count)
             × (self.new.wrong ≡ self.old.wrong)) }
-        ensures err { OnErr result ((k : Header) (h : List Entry) → HasJudged k h self.old →
-            HasJudged k h self.new) }
+        ensures err { OnErr result ((s : Start) (h : List Entry) → HasJudged s h self.old →
+            HasJudged s h self.new) }
         ensures wanted { IsErr result → self.old.wrong ≡ None }
         ensures sure { IsOk result }
     {
@@ -71,7 +96,7 @@ impl Auditor {
     /// The judgement on the entries so far.
     pub fn judgement(&self) -> Judgement
         requires { IsAuditor self.now }
-        ensures { (k : Header) (h : List Entry) → HasJudged k h self.now → IsJudgement k h result }
+        ensures { (s : Start) (h : List Entry) → HasJudged s h self.now → IsJudgement s h result }
     {
         match self.wrong {
             Some(number) => Judgement::NotLegal(number),

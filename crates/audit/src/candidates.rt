@@ -58,7 +58,8 @@ fn refusal_candidates(fault: Fault, entry: Entry) -> Candidates
         | Fault::BadAmount
         | Fault::WrongMode
         | Fault::HistoryFull
-        | Fault::OutOfMemory => only(Step::Look),
+        | Fault::OutOfMemory
+        | Fault::TrimFull => only(Step::Look),
     }
 }
 

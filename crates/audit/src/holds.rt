@@ -1,6 +1,10 @@
 //! The holds of each seat, who owns and how many read.
 
-ghost use Rattle.std.specs.Prelude.{◌≡◌, ◌≢◌, ℕ, ◌+◌, ◌*◌, ◌<◌, ◌≤◌, ◌^◌, ◌∷◌, List, IfOk, length, slice_index, true, [], IsOkUnless};
+ghost use Rattle.std.specs.Prelude.{◌≡◌, ◌≢◌, ℕ, ◌+◌, ◌*◌, ◌<◌, ◌≤◌, ◌^◌, ◌∷◌, List, IfOk, get_or, length, map, slice_index, true, [], IsOkUnless};
+ghost use Rattle.history.specs.Base.{based, holds_of, nothing, seat_of};
+ghost use Rattle.history.specs.Counts.{seat_with, total};
+ghost use Rattle.history.specs.GoodBase.{IsGood};
+ghost use Rattle.history.specs.Header.{IsInRange};
 ghost use Rattle.history.specs.Object.{is_lock};
 ghost use Rattle.history.specs.Start.{Start, opening};
 ghost use Rattle.history.specs.declared.entry.Entry.{Entry};
@@ -8,19 +12,21 @@ ghost use Rattle.history.specs.declared.entry.Mode.TheVariants.{X, S};
 ghost use Rattle.history.specs.declared.header.Header.{Header};
 ghost use Rattle.audit.specs.Holds.{HoldsStand, IsOnlyOwner, owner_after};
 
-use deciding::holds::holds_after;
+use deciding::tables::{held_in, sum};
+use history::base::{Base, SeatBase};
 use history::entry::{Entry, Mode};
 use history::fault::Fault;
 use history::header::Object;
+use history::holds::holds_after;
 use std::alloc::Global;
 
 /// The holds of each seat by mode. Of a lock also the owner, so that asking for it needs no walk.
 #[derive(Drop)]
 pub(crate) struct Holds {
-    pub(crate) exclusive: Vec<u64>,
-    pub(crate) shared: Vec<u64>,
+    pub(crate) exclusive: Vec<u128>,
+    pub(crate) shared: Vec<u128>,
     pub(crate) owner: Option<u16>,
-    pub(crate) readers: u64,
+    pub(crate) readers: u128,
 }
 
 impl Holds {
@@ -37,6 +43,26 @@ impl Holds {
             shared,
             owner: None,
             readers: 0,
+        })
+    }
+
+    /// The seats hold what they hold on a base.
+    pub(crate) fn open_on(alloc: Global, base: &Base) -> Result<Self, Fault>
+        requires range { IsInRange base.now.header }
+        requires good { IsGood base.now }
+        ensures stand { IfOk result (HoldsStand (based base.now) []) }
+        ensures held { IfOk result (λ holds.
+            holds.readers ≡ total base.now.header.seats (λ i. (seat_of base.now i).shared)) }
+        ensures memory { IsOkUnless result Fault.OutOfMemory }
+    {
+        let exclusive = held_in(alloc, &base.seats, Mode::X)?;
+        let shared = held_in(alloc, &base.seats, Mode::S)?;
+        let readers = sum(&shared);
+        Ok(Holds {
+            exclusive,
+            shared,
+            owner: owner_of(&base.seats),
+            readers,
         })
     }
 
@@ -67,8 +93,22 @@ impl Holds {
     }
 }
 
+/// The seat of a base that holds exclusively, if any.
+fn owner_of(seats: &[SeatBase]) -> Option<u16>
+    requires { length seats.now ≤ 65535 }
+    ensures { result ≡ seat_with (length seats.now) (λ i. (get_or seats.now i nothing).exclusive) }
+{
+    let mut owner = None;
+    for seat in 0..seats.len() {
+        if seats[seat].exclusive > 0 {
+            owner = Some(seat as u16);
+        }
+    }
+    owner
+}
+
 /// The owner, once this seat has so many exclusive holds.
-fn owner_after(owner: Option<u16>, seat: u16, has: u64) -> Option<u16>
+fn owner_after(owner: Option<u16>, seat: u16, has: u128) -> Option<u16>
     ensures { result ≡ owner_after owner seat has }
 {
     if has > 0 {

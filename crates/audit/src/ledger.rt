@@ -1,6 +1,8 @@
 //! All that a front of a history says, kept so that each question about the next entry is one step.
 
 ghost use Rattle.std.specs.Prelude.{◌≡◌, ◌<◌, ◌≤◌, ◌∷◌, [], List, IfOk, OnOk, OnErr, IsOk, IsOkUnless};
+ghost use Rattle.history.specs.Base.{based};
+ghost use Rattle.history.specs.GoodBase.{IsGood};
 ghost use Rattle.history.specs.Header.{IsInRange};
 ghost use Rattle.history.specs.Start.{Start, opening};
 ghost use Rattle.history.specs.declared.entry.Entry.{Entry};
@@ -11,6 +13,7 @@ use crate::holds::Holds;
 use crate::permits::Permits;
 use crate::waiting::Waiting;
 use deciding::situation::Situation;
+use history::base::Base;
 use history::entry::Entry;
 use history::fault::Fault;
 use history::header::Header;
@@ -19,8 +22,9 @@ use std::alloc::Global;
 /// What a front of a legal history says: who holds what, who waits and who sleeps, and the numbers of
 /// permits.
 ///
-/// It is opened for no entries, and follows one more with each [`note`](Ledger::note). It keeps no history:
-/// each question about the next entry is answered from its counts and lists.
+/// It is opened for no entries, or for those that a base has folded, and follows one more with each
+/// [`note`](Ledger::note). It keeps no history: each question about the next entry is answered from its
+/// counts and lists.
 #[derive(Drop)]
 pub struct Ledger {
     pub(crate) header: Header,
@@ -44,6 +48,25 @@ impl Ledger {
             holds,
             waiting,
             permits: Permits::open(header.object),
+        })
+    }
+
+    /// The ledger of a base, behind which nothing has happened. Where memory is refused the answer is
+    /// `OutOfMemory`.
+    pub fn open_on(alloc: Global, base: &Base) -> Result<Self, Fault>
+        requires range { IsInRange base.now.header }
+        requires good { IsGood base.now }
+        ensures stand { IfOk result (LedgerStand (based base.now) []) }
+        ensures memory { IsOkUnless result Fault.OutOfMemory }
+    {
+        let holds = Holds::open_on(alloc, base)?;
+        let waiting = Waiting::open_on(alloc, base)?;
+        let permits = Permits::open_on(base, holds.readers);
+        Ok(Ledger {
+            header: base.header,
+            holds,
+            waiting,
+            permits,
         })
     }
 

@@ -30,3 +30,4 @@ mod tests;
 pub mod totals;
 pub mod verdict;
 mod waiting;
+mod waiting_base;

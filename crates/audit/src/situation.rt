@@ -16,10 +16,10 @@ use history::entry::Mode;
 use history::header::{Header, Object};
 
 /// The most holds of a lock by one seat.
-const MAX_HOLDS: u64 = 2_147_483_647;
+const MAX_HOLDS: u128 = 2_147_483_647;
 
 /// The most write holds of a read-write lock, and the most read holds of all seats together.
-const MAX_READ_WRITE_HOLDS: u64 = 65_535;
+const MAX_READ_WRITE_HOLDS: u128 = 65_535;
 
 impl Ledger {
     fn owns(&self, seat: u16) -> bool
@@ -118,7 +118,7 @@ impl Situation for Ledger {
         }
     }
 
-    fn held(&self, seat: u16, mode: Mode) -> u64 {
+    fn held(&self, seat: u16, mode: Mode) -> u128 {
         match mode {
             Mode::X => self.holds.exclusive[seat as usize],
             Mode::S => self.holds.shared[seat as usize],

@@ -14,6 +14,7 @@ ghost use Rattle.condition_queue.specs.Sleepers.{asleep_on};
 
 use crate::ledger::Ledger;
 use condition_queue::waiters::Waiters;
+use deciding::tables::sum;
 use history::header::Object;
 
 /// The numbers behind a history's last entry. Those that an object of the header's kind doesn't have are 0.
@@ -47,18 +48,18 @@ impl Ledger {
         let line = self.line_length();
         match self.header.object {
             Object::Lock(_) | Object::ReadWrite(_) => Totals {
-                x: i128::from(self.exclusive_total()),
-                s: i128::from(self.holds.readers),
+                x: whole(self.exclusive_total()),
+                s: whole(self.holds.readers),
                 line: i128::from(line),
                 sleepers: i128::from(self.sleepers_total()),
                 ..nothing()
             },
             Object::Semaphore(_, permits) => Totals {
                 line: i128::from(line),
-                held: i128::from(self.holds.readers),
+                held: whole(self.holds.readers),
                 free: self.permits.amounts.free,
                 created: i128::from(permits),
-                unheld: i128::from(self.permits.unheld),
+                unheld: whole(self.permits.unheld),
                 ..nothing()
             },
             Object::Latch(opening) => Totals {
@@ -76,11 +77,12 @@ impl Ledger {
     }
 
     /// The exclusive holds of all seats of a lock.
-    fn exclusive_total(&self) -> u64
+    fn exclusive_total(&self) -> u128
         requires ledger { IsLedger self.now }
         requires lock { is_lock self.now.header.object ≡ true }
-        ensures { (s : Start) (h : List Entry) → LedgerStand s h self.now →
+        ensures held { (s : Start) (h : List Entry) → LedgerStand s h self.now →
             result ≡ total s.header.seats (λ i. held s h i X) }
+        ensures few { result < 2 ^ 127 }
     {
         sum(&self.holds.exclusive)
     }
@@ -111,17 +113,11 @@ fn nothing() -> Totals
     }
 }
 
-/// The sum of numbers of 31 bits.
-fn sum(numbers: &[u64]) -> u64
-    requires each { (i : ℕ) → slice_index numbers.now i ≤ 2147483647 }
-    requires few { length numbers.now ≤ 65536 }
-    ensures { result ≡ total (length numbers.now) (slice_index numbers.now) }
+fn whole(number: u128) -> i128
+    requires { number < 2 ^ 127 }
+    ensures { result ≡ pos number }
 {
-    let mut sum: u64 = 0;
-    for number in numbers {
-        sum += *number;
-    }
-    sum
+    number as i128
 }
 
 /// How many sleep on the conditions below a number.

@@ -1,9 +1,9 @@
 //! What a legal history adds up to.
 
 ghost use Rattle.std.specs.Prelude.{◌≡◌, IfOk, IsOkUnless};
+ghost use Rattle.history.specs.Entries.{IsBasedWell, start_on};
 ghost use Rattle.history.specs.Header.{IsInRange};
 ghost use Rattle.history.specs.Legal.{AreSeated, IsLegal};
-ghost use Rattle.history.specs.Start.{opening};
 ghost use Rattle.audit.specs.Totals.{totals_of};
 
 use crate::sums::Totals;
@@ -18,9 +18,10 @@ use std::alloc::Global;
 /// Where memory for what it counts is refused the answer is `OutOfMemory`.
 pub fn totals(alloc: Global, header: &Header, history: &History) -> Result<Totals, Fault>
     requires range { IsInRange header.now }
-    requires seated { AreSeated (opening header.now) history.now.entries }
-    requires legal { IsLegal (opening header.now) history.now.entries }
-    ensures are { IfOk result (λ t. t ≡ totals_of (opening header.now) history.now.entries) }
+    requires based { IsBasedWell header.now history.now.base }
+    requires seated { AreSeated (start_on header.now history.now) history.now.entries }
+    requires legal { IsLegal (start_on header.now history.now) history.now.entries }
+    ensures are { IfOk result (λ t. t ≡ totals_of (start_on header.now history.now) history.now.entries) }
     ensures memory { IsOkUnless result Fault.OutOfMemory }
 {
     match judge(alloc, header, history) {

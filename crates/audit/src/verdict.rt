@@ -1,9 +1,10 @@
 //! The verdict on a history.
 
-ghost use Rattle.std.specs.Prelude.{◌≡◌, ◌↔◌, ℕ, IfOk, IsOkUnless};
+ghost use Rattle.std.specs.Prelude.{◌≡◌, ◌↔◌, [], ℕ, IfOk, IsOkUnless};
+ghost use Rattle.history.specs.Entries.{IsBasedWell, start_on};
 ghost use Rattle.history.specs.Header.{IsInRange};
 ghost use Rattle.history.specs.Legal.{AreSeated, IsLegal};
-ghost use Rattle.history.specs.Start.{opening};
+ghost use Rattle.audit.specs.Auditor.{HasJudged};
 ghost use Rattle.audit.specs.Verdict.{IsFirstWrong, IsJudgement, verdict_of};
 ghost use Rattle.audit.specs.declared.verdict.Verdict.TheVariants.{Legal, NotLegal};
 
@@ -44,19 +45,21 @@ impl Judgement {
 
 /// Judges a history of the header's object, whatever its source, and adds it up if it is legal.
 ///
-/// It is legal exactly where each entry is the one that some step of its seat makes behind the entries before
-/// it. Room and whom an entry names are no part of that. What follows the first wrong entry isn't looked at,
-/// and each entry before it is looked at once.
+/// It begins on its base, or where it has none as the object is opened. It is legal exactly where each entry
+/// is the one that some step of its seat makes behind the entries before it. Room and whom an entry names are
+/// no part of that. What follows the first wrong entry isn't looked at, and each entry before it is looked at
+/// once.
 ///
-/// The header is in range, and each entry is of one of its seats. Where memory for what it counts is refused
-/// the answer is `OutOfMemory`.
+/// The header is in range, the base is a good one of this header, and each entry is of one of its seats.
+/// Where memory for what it counts is refused the answer is `OutOfMemory`.
 pub fn judge(alloc: Global, header: &Header, history: &History) -> Result<Judgement, Fault>
     requires range { IsInRange header.now }
-    requires seated { AreSeated (opening header.now) history.now.entries }
-    ensures judged { IfOk result (IsJudgement header.now history.now.entries) }
+    requires based { IsBasedWell header.now history.now.base }
+    requires seated { AreSeated (start_on header.now history.now) history.now.entries }
+    ensures judged { IfOk result (IsJudgement (start_on header.now history.now) history.now.entries) }
     ensures memory { IsOkUnless result Fault.OutOfMemory }
 {
-    let mut auditor = Auditor::open(alloc, *header)?;
+    let mut auditor = begun(alloc, header, history)?;
     for number in 0..history.len() {
         let Some(entry) = history.get(number) else {
             unreachable!()
@@ -66,13 +69,28 @@ pub fn judge(alloc: Global, header: &Header, history: &History) -> Result<Judgem
     Ok(auditor.judgement())
 }
 
+/// An auditor that has seen what a history begins from, and none of its entries.
+fn begun(alloc: Global, header: &Header, history: &History) -> Result<Auditor, Fault>
+    requires range { IsInRange header.now }
+    requires based { IsBasedWell header.now history.now.base }
+    ensures judged { IfOk result (HasJudged (start_on header.now history.now) []) }
+    ensures memory { IsOkUnless result Fault.OutOfMemory }
+{
+    match history.base() {
+        Some(base) => Auditor::open_on(alloc, base),
+        None => Auditor::open(alloc, *header),
+    }
+}
+
 /// The verdict on a history, as [`judge`] finds it.
 pub fn check(alloc: Global, header: &Header, history: &History) -> Result<Verdict, Fault>
     requires range { IsInRange header.now }
-    requires seated { AreSeated (opening header.now) history.now.entries }
-    ensures legal { IfOk result (λ v. (v ≡ Legal) ↔ IsLegal (opening header.now) history.now.entries) }
+    requires based { IsBasedWell header.now history.now.base }
+    requires seated { AreSeated (start_on header.now history.now) history.now.entries }
+    ensures legal { IfOk result (λ v. (v ≡ Legal)
+        ↔ IsLegal (start_on header.now history.now) history.now.entries) }
     ensures first { IfOk result (λ v. (no : ℕ) → v ≡ NotLegal no →
-        IsFirstWrong header.now history.now.entries no) }
+        IsFirstWrong (start_on header.now history.now) history.now.entries no) }
     ensures memory { IsOkUnless result Fault.OutOfMemory }
 {
     match judge(alloc, header, history) {

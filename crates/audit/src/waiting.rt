@@ -1,15 +1,21 @@
 //! Who stands in line, who sleeps on which condition, and what each sleeper gave up.
 
 ghost use Rattle.std.specs.Prelude.{◌≡◌, ◌<◌, ◌∷◌, [], List, IfOk, IsOkUnless, length};
+ghost use Rattle.history.specs.Base.{based};
+ghost use Rattle.history.specs.GoodBase.{IsGood};
+ghost use Rattle.history.specs.Header.{IsInRange};
 ghost use Rattle.history.specs.Start.{Start, opening};
 ghost use Rattle.history.specs.declared.entry.Entry.{Entry};
 ghost use Rattle.condition_queue.specs.Following.{IsMovable};
-ghost use Rattle.audit.specs.Waiting.{saved_by, WaitingStand};
+ghost use Rattle.deciding.specs.Situation.{IsHistory};
+ghost use Rattle.audit.specs.Waiting.{NobodyWaits, saved_by, WaitingStand};
 
+use crate::waiting_base::{lay_down, save_returning, save_sleepers, stand_in};
 use acquire_queue::queue::Queue;
 use condition_queue::following::move_waiters;
 use condition_queue::waiters::Waiters;
 use deciding::sleep::LastSleep;
+use history::base::Base;
 use history::entry::{End, Entry, Word};
 use history::fault::Fault;
 use history::header::Header;
@@ -26,7 +32,8 @@ pub(crate) struct Waiting {
 impl Waiting {
     /// Nobody waits.
     pub(crate) fn open(alloc: Global, header: Header) -> Result<Self, Fault>
-        ensures stand { IfOk result (λ waiting. WaitingStand (opening header) [] waiting) }
+        ensures nobody { IfOk result (NobodyWaits header) }
+        ensures stand { IfOk result (WaitingStand (opening header) []) }
         ensures memory { IsOkUnless result Fault.OutOfMemory }
     {
         let Header {
@@ -49,12 +56,35 @@ impl Waiting {
         })
     }
 
+    /// Those of a base wait.
+    pub(crate) fn open_on(alloc: Global, base: &Base) -> Result<Self, Fault>
+        requires range { IsInRange base.now.header }
+        requires good { IsGood base.now }
+        ensures stand { IfOk result (WaitingStand (based base.now) []) }
+        ensures memory { IsOkUnless result Fault.OutOfMemory }
+    {
+        let Waiting {
+            mut line,
+            mut asleep,
+            mut last_sleep,
+        } = Waiting::open(alloc, base.header)?;
+        stand_in(&mut line, &base.line);
+        lay_down(&mut asleep, base);
+        save_sleepers(&mut last_sleep, base);
+        save_returning(&mut last_sleep, &base.line);
+        Ok(Waiting {
+            line,
+            asleep,
+            last_sleep,
+        })
+    }
+
     /// Follows one more entry of one of the seats. It takes no memory.
     #[inline(always)]
     pub(crate) fn note(&mut self, entry: Entry)
         requires seat { entry.seat < length self.old.last_sleep.items }
         requires movable { IsMovable entry self.old.line self.old.asleep }
-        ensures { (s : Start) (h : List Entry) → WaitingStand s h self.old →
+        ensures { (s : Start) (h : List Entry) → WaitingStand s h self.old → IsHistory s h →
             WaitingStand s (entry ∷ h) self.new }
     {
         move_waiters(&mut self.line, &mut self.asleep, entry);

@@ -15,16 +15,18 @@ use Rattle.history.specs.Header.{IsInRange}
 use Rattle.history.specs.Legal.{IsLegal, AreSeated}
 use Rattle.history.specs.Line.{line, arrivals_by, place_of}
 use Rattle.history.specs.Sleepers.{sleepers, sleepers_after, has, last_sleep, sleeps_below}
-use Rattle.history.specs.Start.{Start, opening}
+use Rattle.history.specs.Start.{Start}
+use Rattle.deciding.specs.Situation.{IsHistory}
+use Rattle.deciding.proofs.Bounds.{all_below, waits_by}
 use Rattle.history.specs.Steps.{at_most_one}
 use Rattle.history.specs.Waiting.{asleep}
 use Rattle.history.proofs.Changes.{all_stay}
 use Rattle.history.proofs.Entering.{Known, KnownBy, OnCondition}
 use Rattle.history.proofs.LineLemmas.{line_after, stays}
-use Rattle.history.proofs.OneWait.{Waits, waits}
+use Rattle.history.proofs.OneWait.{Waits}
 use Rattle.history.proofs.SleepLemmas.{idle_parts, sleeping_parts, sleeps_at, sleeps_there}
-use Rattle.history.proofs.WhoWaits.{asleep_out_of_line, sleeper_condition, no_sleepers_above, few_wait, line_seated}
-use Rattle.condition_queue.specs.Following.{Keeps, line_behind, IsMovable, IsMovableBy, MayJoin, MayMove}
+use Rattle.history.proofs.WhoWaits.{asleep_out_of_line, sleeper_condition, no_sleepers_above, few_wait}
+use Rattle.condition_queue.specs.Following.{JoinedBy, Keeps, line_behind, IsMovable, IsMovableBy, MayJoin, MayMove}
 
 -- the line
 line_by : (s : Start) (h : List Entry) (e : Entry) (w : Word) →
@@ -79,95 +81,95 @@ asleep_part (suc n) s h c l =
     (λ ne. let m = asleep_part n s h c (omega (arith, ne, l)) in omega (arith, sum, m))
     (cases_eq c n)
 
-pub few_sleepers : (k : Header) (h : List Entry) → IsLegal (opening k) h → AreSeated (opening k) h → (c : ℕ) →
-    length (sleepers (opening k) h c) ≤ k.seats
-few_sleepers k h legal seated c = by (cases_lt c k.conditions)
+pub few_sleepers : (s : Start) (h : List Entry) → IsHistory s h → (c : ℕ) →
+    length (sleepers s h c) ≤ s.header.seats
+few_sleepers s h past c = by (cases_lt c s.header.conditions)
   where
-    v : Waits (opening k) h
-    v = waits k h legal
+    v : Waits s h
+    v = waits_by s h past
 
-    by : (c < k.conditions) ⊎ (k.conditions ≤ c) → length (sleepers (opening k) h c) ≤ k.seats
+    by : (c < s.header.conditions) ⊎ (s.header.conditions ≤ c) → length (sleepers s h c) ≤ s.header.seats
     by p = ⊎_elim
         (λ below.
-        let part = asleep_part k.conditions (opening k) h c below in
-        let few = few_wait (opening k) h v (line_seated k h legal seated) in
+        let part = asleep_part s.header.conditions s h c below in
+        let few = few_wait s h v (all_below s h past) in
         omega (arith, part, few))
-        (λ above. let none = ap length (no_sleepers_above (opening k) h v c above) in omega (arith, none))
+        (λ above. let none = ap length (no_sleepers_above s h v c above) in omega (arith, none))
         p
 
-joins_line : (k : Header) (h : List Entry) (e : Entry) (queue : Line) (waiters : Sleepers) →
-    Keeps (opening k) h queue waiters →
-    e.seat < k.seats → place_of e.seat (line (opening k) h) ≡ None → MayJoin e queue
-joins_line k h e queue waiters kept seat absent =
+joins_line : (s : Start) (h : List Entry) (e : Entry) (queue : Line) (waiters : Sleepers) →
+    Keeps s h queue waiters →
+    e.seat < s.header.seats → place_of e.seat (line s h) ≡ None → MayJoin e queue
+joins_line s h e queue waiters kept seat absent =
     record {
       seat = let p = kept.places in omega (arith, p, seat);
       absent = ap (place_of e.seat) kept.line ∙ absent;
     }
 
-moves : (k : Header) (h : List Entry) (e : Entry) (queue : Line) (waiters : Sleepers) (n : ℕ) →
-    Keeps (opening k) h queue waiters →
-    Waits (opening k) h → OnCondition (opening k) h e → e.n ≡ n → MayMove n e queue waiters
-moves k h e queue waiters n kept v on is =
+moves : (s : Start) (h : List Entry) (e : Entry) (queue : Line) (waiters : Sleepers) (n : ℕ) →
+    Keeps s h queue waiters →
+    Waits s h → OnCondition s h e → e.n ≡ n → MayMove n e queue waiters
+moves s h e queue waiters n kept v on is =
     record {
       condition = let p = kept.conditions in let l = on.condition in omega (arith, p, l);
       apart = λ i t.
           ap (place_of i) kept.line
-          ∙ asleep_out_of_line (opening k) h i v.once
-          (sleeps_there k.conditions (opening k) h i e.at on.condition
+          ∙ asleep_out_of_line s h i v.once
+          (sleeps_there s.header.conditions s h i e.at on.condition
           (ap (has i) (sym (kept.sleepers e.at)) ∙ t));
       number = is;
     }
 
-movable_by : (k : Header) (h : List Entry) (e : Entry) (queue : Line) (waiters : Sleepers) (w : Word) →
-    Keeps (opening k) h queue waiters →
-    Waits (opening k) h → e.seat < k.seats → KnownBy (opening k) h e w → IsMovableBy w e queue waiters
-movable_by k h e queue waiters word.Queued kept v seat m =
-    joins_line k h e queue waiters kept seat (idle_parts _ _ m.idle).0
-movable_by k h e queue waiters word.Await kept v seat m =
+movable_by : (s : Start) (h : List Entry) (e : Entry) (queue : Line) (waiters : Sleepers) (w : Word) →
+    Keeps s h queue waiters →
+    Waits s h → e.seat < s.header.seats → KnownBy s h e w → IsMovableBy w e queue waiters
+movable_by s h e queue waiters word.Queued kept v seat m =
+    joins_line s h e queue waiters kept seat (idle_parts _ _ m.idle).0
+movable_by s h e queue waiters word.Await kept v seat m =
     record {
       condition = let p = kept.conditions in let l = m.0.condition in omega (arith, p, l);
       seat = let p = kept.beds in omega (arith, p, seat);
       awake = λ c. ap (has e.seat) (kept.sleepers c)
-          ∙ awake_everywhere (opening k) h e.seat v (idle_parts _ _ m.0.idle).1 c;
+          ∙ awake_everywhere s h e.seat v (idle_parts _ _ m.0.idle).1 c;
     }
-movable_by k h e queue waiters word.Lapse kept v seat m =
+movable_by s h e queue waiters word.Lapse kept v seat m =
     let parts = sleeping_parts _ _ m.0 in
-    let at : (last_sleep (opening k) h e.seat).condition ≡ e.at = sym (ap (λ (x : Entry). x.at) m.2) in
-    let there = (sleeper_condition (opening k) h v e.seat parts.1).1 in
+    let at : (last_sleep s h e.seat).condition ≡ e.at = sym (ap (λ (x : Entry). x.at) m.2) in
+    let there = (sleeper_condition s h v e.seat parts.1).1 in
     record {
-      join = joins_line k h e queue waiters kept seat parts.0;
+      join = joins_line s h e queue waiters kept seat parts.0;
       asleep = ap (has e.seat) (kept.sleepers e.at)
-          ∙ ap (λ c. has e.seat (sleepers (opening k) h c)) (sym at) ∙ there;
+          ∙ ap (λ c. has e.seat (sleepers s h c)) (sym at) ∙ there;
     }
-movable_by k h e queue waiters word.Signal kept v seat m =
-    moves k h e queue waiters _ kept v m.0 (m.1 ∙ ap (λ l. at_most_one (length l)) (sym (kept.sleepers e.at)))
-movable_by k h e queue waiters word.SignalAll kept v seat m =
-    moves k h e queue waiters _ kept v m.0 (m.1 ∙ ap length (sym (kept.sleepers e.at)))
-movable_by k h e queue waiters word.Got kept v seat m = tt
-movable_by k h e queue waiters word.TryGot kept v seat m = tt
-movable_by k h e queue waiters word.Granted kept v seat m = tt
-movable_by k h e queue waiters word.Missed kept v seat m = tt
-movable_by k h e queue waiters word.Left kept v seat m = tt
-movable_by k h e queue waiters word.Gave kept v seat m = tt
-movable_by k h e queue waiters (word.Refused f) kept v seat m = tt
-movable_by k h e queue waiters word.Back kept v seat m = tt
-movable_by k h e queue waiters word.Counted kept v seat m = tt
-movable_by k h e queue waiters word.Drained kept v seat m = tt
+movable_by s h e queue waiters word.Signal kept v seat m =
+    moves s h e queue waiters _ kept v m.0 (m.1 ∙ ap (λ l. at_most_one (length l)) (sym (kept.sleepers e.at)))
+movable_by s h e queue waiters word.SignalAll kept v seat m =
+    moves s h e queue waiters _ kept v m.0 (m.1 ∙ ap length (sym (kept.sleepers e.at)))
+movable_by s h e queue waiters word.Got kept v seat m = tt
+movable_by s h e queue waiters word.TryGot kept v seat m = tt
+movable_by s h e queue waiters word.Granted kept v seat m = tt
+movable_by s h e queue waiters word.Missed kept v seat m = tt
+movable_by s h e queue waiters word.Left kept v seat m = tt
+movable_by s h e queue waiters word.Gave kept v seat m = tt
+movable_by s h e queue waiters (word.Refused f) kept v seat m = tt
+movable_by s h e queue waiters word.Back kept v seat m = tt
+movable_by s h e queue waiters word.Counted kept v seat m = tt
+movable_by s h e queue waiters word.Drained kept v seat m = tt
 
-pub movable : (k : Header) (h : List Entry) (e : Entry) (queue : Line) (waiters : Sleepers) →
-    Keeps (opening k) h queue waiters →
-    IsInRange k → IsLegal (opening k) h → AreSeated (opening k) h → length h < 4294967296 → e.seat < k.seats →
-    Known (opening k) h e → IsMovable e queue waiters
-movable k h e queue waiters kept range legal seated short seat m =
+-- what an entry asks of those who wait, where no more have joined than so many entries let join
+pub movable : (s : Start) (h : List Entry) (e : Entry) (queue : Line) (waiters : Sleepers) (n : ℕ) →
+    Keeps s h queue waiters → JoinedBy n queue → n ≤ 2000000000000000 → IsHistory s h →
+    e.seat < s.header.seats → Known s h e → IsMovable e queue waiters
+movable s h e queue waiters n kept joined few past seat m =
     record {
-      by_word = movable_by k h e queue waiters e.word kept (waits k h legal) seat m;
+      by_word = movable_by s h e queue waiters e.word kept (waits_by s h past) seat m;
       seats = let p = kept.places in let b = kept.beds in omega (arith, p, b);
       few =
-          let f = few_sleepers k h legal seated e.at in
+          let f = few_sleepers s h past e.at in
           let l = ap length (kept.sleepers e.at) in
-          let r = range.seats in
+          let r = past.range.seats in
           omega (arith, f, l, r);
-      countable = let j = kept.joins in omega (arith, j, short);
+      countable = omega (arith, joined, few);
     }
 
 pub keeps_next : (s : Start) (h : List Entry) (e : Entry) (queue queue' : Line)
@@ -175,9 +177,9 @@ pub keeps_next : (s : Start) (h : List Entry) (e : Entry) (queue queue' : Line)
     queue'.arrivals ≡ line_behind e.word e queue.arrivals (asleep_on waiters e.at) →
     ((c : ℕ) → asleep_on waiters' c ≡ cond (eqb e.at c)
     (sleepers_after e.word e.seat e.n (asleep_on waiters c)) (asleep_on waiters c)) →
-    queue'.joined ≤ queue.joined + 65536 → queue'.seats ≡ queue.seats → waiters'.seats ≡ waiters.seats →
+    queue'.seats ≡ queue.seats → waiters'.seats ≡ waiters.seats →
     waiters'.conditions ≡ waiters.conditions → Keeps s (e ∷ h) queue' waiters'
-keeps_next s h e queue queue' waiters waiters' kept arrivals lists joined places beds conditions =
+keeps_next s h e queue queue' waiters waiters' kept arrivals lists places beds conditions =
     record {
       line =
           arrivals
@@ -185,12 +187,22 @@ keeps_next s h e queue queue' waiters waiters' kept arrivals lists joined places
           ∙ ap (line_behind e.word e (line s h)) (kept.sleepers e.at)
           ∙ sym (line_next s h e);
       places = places ∙ kept.places;
-      joins = let j = kept.joins in omega (arith, j, joined);
       sleepers =
           λ c. lists c ∙ ap (λ l. cond (eqb e.at c) (sleepers_after e.word e.seat e.n l) l) (kept.sleepers c);
       conditions = conditions ∙ kept.conditions;
       beds = beds ∙ kept.beds;
     }
+
+-- one entry more lets join its seat and who sleeps on its condition
+pub joined_next : (s : Start) (h : List Entry) (e : Entry) (queue queue' : Line) (waiters : Sleepers) (n :
+    ℕ) →
+    Keeps s h queue waiters → JoinedBy n queue → IsHistory s h →
+    queue'.joined ≤ queue.joined + 1 + length (asleep_on waiters e.at) → JoinedBy (n + 1) queue'
+joined_next s h e queue queue' waiters n kept joined past more =
+    let f = few_sleepers s h past e.at in
+    let l = ap length (kept.sleepers e.at) in
+    let r = past.range.seats in
+    omega (arith, joined, more, f, l, r)
 
 -- who sleeps on no condition is awake
 pub awake_none : (w : Sleepers) (i : ℕ) (r : Option Sleeper) → r ≡ sleeper_of w i →

@@ -12,11 +12,14 @@ use Rattle.history.specs.Sleepers.{has, sleepers}
 use Rattle.history.specs.Start.{Start}
 use Rattle.history.specs.Steps.{at_most_one}
 
+-- No more have joined the line than so many entries can have let join: their seats, and all who slept.
+abbrev pub JoinedBy : ℕ → Line → Type 0
+JoinedBy n queue = queue.joined ≤ 257 * n
+
 -- The line and the sleepers are those of the history.
 pub record Keeps (s : Start) (h : List Entry) (queue : Line) (waiters : Sleepers) : Type 0 where
   pub line : queue.arrivals ≡ line s h
   pub places : queue.seats ≡ s.header.seats
-  pub joins : queue.joined ≤ 65536 * length h
   pub sleepers : (c : ℕ) → asleep_on waiters c ≡ sleepers s h c
   pub conditions : waiters.conditions ≡ s.header.conditions
   pub beds : waiters.seats ≡ s.header.seats

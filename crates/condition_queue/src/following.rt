@@ -1,6 +1,6 @@
 //! What an entry makes of those who wait: in line, or asleep on a condition.
 
-ghost use Rattle.std.specs.Prelude.{◌≡◌, ◌≤◌, ◌+◌, ◌==◌, if◌then◌else◌, ℕ};
+ghost use Rattle.std.specs.Prelude.{◌≡◌, ◌≤◌, ◌+◌, ◌==◌, if◌then◌else◌, length, ℕ};
 ghost use Rattle.history.specs.Sleepers.{sleepers_after};
 ghost use Rattle.condition_queue.specs.Sleepers.{asleep_on, sleeper_of};
 ghost use Rattle.condition_queue.specs.Following.{IsMovable, line_behind, sleeper_behind};
@@ -21,7 +21,7 @@ pub fn move_waiters(queue: &mut Queue, waiters: &mut Waiters, entry: Entry)
         else asleep_on waiters.old c) }
     ensures saved { (i : ℕ) → sleeper_of waiters.new i
         ≡ sleeper_behind entry.word entry (asleep_on waiters.old entry.at) i (sleeper_of waiters.old i) }
-    ensures joined { queue.new.joined ≤ queue.old.joined + 65536 }
+    ensures joined { queue.new.joined ≤ queue.old.joined + 1 + length (asleep_on waiters.old entry.at) }
     ensures places { queue.new.seats ≡ queue.old.seats }
     ensures beds { waiters.new.seats ≡ waiters.old.seats }
     ensures conditions { waiters.new.conditions ≡ waiters.old.conditions }

@@ -4,7 +4,7 @@ use Rattle.std.proofs.Math.Nat.{sub-zero}
 use Rattle.history.specs.declared.header.Object.{Object}
 use Rattle.history.specs.declared.header.Object.TheVariants.{Latch}
 use Rattle.history.specs.Counts.{Counts}
-use Rattle.frame.specs.Hooks.{opening_counts}
+use Rattle.frame.specs.Hooks.{AreAlike, opening_counts}
 use Rattle.counting.specs.declared.latch.LatchHooks.{LatchHooks}
 
 -- The counts are those of a latch with this count.
@@ -27,6 +27,9 @@ opens_so s seats opened = record { object = refl; level = sub-zero _ ∙ sym ope
 
 pub same_latch : (s : LatchHooks) (k : Counts) → Stands s k → k.object ≡ latch_of s
 same_latch s k h = h.object
+
+pub alike_so : (s : LatchHooks) (k l : Counts) → AreAlike k l → Stands s k → Stands s l
+alike_so s k l same h = record { object = same.object ∙ h.object; level = same.count ∙ h.level }
 
 abbrev some_counts_of : LatchHooks → Counts
 some_counts_of s = record { object = latch_of s; seats = 1; held = λ i m. 0; free = pos 0; count = s.count }

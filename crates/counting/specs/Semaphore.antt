@@ -1,10 +1,11 @@
 -- What the fields of a semaphore's hooks stand for: the free permits alone.
-use Rattle.std.proofs.Common.{◌≡◌, ℕ, ℤ, refl, sym}
+use Rattle.std.proofs.Common.{◌≡◌, ℕ, ℤ, refl, ap, sym, ◌∙◌}
 use Rattle.history.specs.declared.header.Object.{Object}
 use Rattle.history.specs.declared.header.Object.TheVariants.{Semaphore}
 use Rattle.history.specs.declared.header.Policy.{Policy}
 use Rattle.history.specs.Counts.{Counts}
-use Rattle.frame.specs.Hooks.{opening_counts}
+use Rattle.history.specs.Object.{is_semaphore}
+use Rattle.frame.specs.Hooks.{AreAlike, opening_counts}
 use Rattle.counting.specs.declared.semaphore.SemaphoreHooks.{SemaphoreHooks}
 
 -- The counts are those of a semaphore with so many free permits, whoever holds the others.
@@ -28,6 +29,10 @@ opens_so s seats opened = record { object = refl; level = sym opened }
 
 pub same_semaphore : (s : SemaphoreHooks) (k : Counts) → Stands s k → k.object ≡ semaphore_of s
 same_semaphore s k h = h.object
+
+pub alike_so : (s : SemaphoreHooks) (k l : Counts) → AreAlike k l → Stands s k → Stands s l
+alike_so s k l same h =
+    record { object = same.object ∙ h.object; level = same.free (ap is_semaphore h.object) ∙ h.level }
 
 abbrev some_counts_of : SemaphoreHooks → Counts
 some_counts_of s = record { object = semaphore_of s; seats = 1; held = λ i m. 0; free = s.free; count = 0 }

@@ -32,7 +32,7 @@ impl LatchHooks {
 }
 
 impl Hooks for LatchHooks {
-    ghost use Rattle.counting.specs.Latch.{Stands, latch_of, IsOpened, opens_so, same_latch, some_counts};
+    ghost use Rattle.counting.specs.Latch.{Stands, latch_of, IsOpened, alike_so, opens_so, same_latch, some_counts};
 
     ghost agrees = { Stands };
 
@@ -43,6 +43,8 @@ impl Hooks for LatchHooks {
     ghost opens = { opens_so };
 
     ghost same_object = { same_latch };
+
+    ghost alike = { alike_so };
 
     ghost stands = { some_counts };
 

@@ -38,7 +38,7 @@ impl SemaphoreHooks {
 }
 
 impl Hooks for SemaphoreHooks {
-    ghost use Rattle.counting.specs.Semaphore.{Stands, semaphore_of, IsOpened, opens_so, same_semaphore, some_counts};
+    ghost use Rattle.counting.specs.Semaphore.{Stands, semaphore_of, IsOpened, alike_so, opens_so, same_semaphore, some_counts};
 
     ghost agrees = { Stands };
 
@@ -49,6 +49,8 @@ impl Hooks for SemaphoreHooks {
     ghost opens = { opens_so };
 
     ghost same_object = { same_semaphore };
+
+    ghost alike = { alike_so };
 
     ghost stands = { some_counts };
 

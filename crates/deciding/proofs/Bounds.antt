@@ -4,35 +4,52 @@ use Rattle.std.specs.Int.{w32, w64}
 use Rattle.std.specs.Prelude.{FitsSigned}
 use mir.Val.{to_z, of_z}
 use Rattle.std.proofs.lemmas.Bool.{cases_eq, eq-eqb, ne_eqb, lt-ltb, le-ltb}
-use Rattle.std.proofs.lemmas.Int.{to_z-of_z}
+use Rattle.std.proofs.lemmas.Int.{ints, to_z-of_z}
 use Rattle.history.specs.declared.arrival.Arrival.{Arrival}
 use Rattle.history.specs.declared.entry.Entry.{Entry}
 use Rattle.history.specs.declared.entry.Mode.TheVariants.{X}
+use Rattle.history.specs.Base.{based}
 use Rattle.history.specs.Could.{is_seat}
 use Rattle.history.specs.Counts.{Counts, counts, free, held, owner}
 use Rattle.history.specs.Faults.{max_amount}
+use Rattle.history.specs.Header.{IsInRange}
 use Rattle.history.specs.Legal.{IsLegal, AreSeated}
 use Rattle.history.specs.Line.{line, first_of}
 use Rattle.history.specs.Object.{is_lock, is_semaphore}
 use Rattle.history.specs.Ownership.{IsOwned}
-use Rattle.history.specs.Start.{Start, opening}
-use Rattle.history.proofs.OneOwner.{owned}
+use Rattle.history.specs.Point.{CanFold}
+use Rattle.history.specs.Start.{Start}
+use Rattle.history.proofs.GoodBases.{good_waits}
+use Rattle.history.proofs.GoodFolds.{free_fits_base, line_seated_on, owned_behind}
+use Rattle.history.proofs.OneWait.{Waits, waits_from}
 use Rattle.history.proofs.Owners.{most_fits, owner_holds, nobody_holds}
-use Rattle.history.proofs.Permits.{free_fits, free_at_most}
-use Rattle.history.proofs.WhoWaits.{LineSeated, line_seated}
+use Rattle.history.proofs.WhoWaits.{LineSeated}
 use Rattle.deciding.specs.Situation.{IsHistory}
 
--- what holds of a legal history of each opened object
-pub at_opening : (P : Start → Type 0) (s : Start) (h : List Entry) → IsHistory s h →
-    (IsLegal (opening s.header) h → AreSeated (opening s.header) h → P (opening s.header)) → P s
-at_opening P s h past f =
+-- what holds of a legal history on each good base
+pub at_base : (P : Start → Type 0) (s : Start) (h : List Entry) (past : IsHistory s h) →
+    (IsInRange past.base.header → CanFold past.base h → P (based past.base)) → P s
+at_base P s h past f =
     let L : Start → Type 0 = λ x. IsLegal x h in
     let A : Start → Type 0 = λ x. AreSeated x h in
-    subst P (sym past.opened) (f (subst L past.opened past.legal) (subst A past.opened past.seated))
+    let R : Start → Type 0 = λ x. IsInRange x.header in
+    subst P (sym past.start) (f (subst R past.start past.range) (record {
+      good = past.good;
+      seated = subst A past.start past.seated;
+      legal = subst L past.start past.legal;
+    }))
+
+-- those who wait behind a legal history
+pub waits_by : (s : Start) (h : List Entry) → IsHistory s h → Waits s h
+waits_by s h past =
+    at_base (λ x. Waits x h) s h past
+    (λ range can. waits_from (based past.base) h (good_waits past.base can.good) can.legal)
 
 pub owned_by : (s : Start) (h : List Entry) → IsHistory s h → is_lock s.header.object ≡ true → IsOwned s h
 owned_by s h past lock =
-    at_opening (λ x. IsOwned x h) s h past (λ legal seated. owned s.header h lock legal seated)
+    at_base (λ x. IsOwned x h) s h past
+    (λ range can. owned_behind past.base can.good h
+    (ap (λ (x : Start). is_lock x.header.object) (sym past.start) ∙ lock) can.legal can.seated)
 
 -- the exclusive holds of one seat of a lock
 pub exclusive_fits : (s : Start) (h : List Entry) (i : ℕ) → IsHistory s h →
@@ -71,29 +88,37 @@ owner_holds_any s h i past lock seat = owner_is (counts s h) i seat (owned_by s 
 wide : (z : ℤ) → FitsSigned w32 z → FitsSigned w64 z
 wide z f = let l = f.sfits in record { sfits = omega (arith, l) }
 
+at_most : (z : ℤ) → FitsSigned w32 z → z ≤ℤ pos max_amount
+at_most z f = omega (arith, ints)
+
+free_narrow : (s : Start) (h : List Entry) → IsHistory s h → is_semaphore s.header.object ≡ true →
+    FitsSigned w32 (free s h)
+free_narrow s h past semaphore =
+    at_base (λ x. FitsSigned w32 (free x h)) s h past
+    (λ range can. free_fits_base past.base h range can
+    (ap (λ (x : Start). is_semaphore x.header.object) (sym past.start) ∙ semaphore))
+
 pub free_wide : (s : Start) (h : List Entry) → IsHistory s h → is_semaphore s.header.object ≡ true →
     FitsSigned w64 (free s h)
-free_wide s h past semaphore =
-    at_opening (λ x. FitsSigned w64 (free x h)) s h past
-    (λ legal seated. wide _ (free_fits s.header h past.range semaphore legal))
+free_wide s h past semaphore = wide (free s h) (free_narrow s h past semaphore)
 
 pub free_most : (s : Start) (h : List Entry) (z : ℤ) → IsHistory s h →
     is_semaphore s.header.object ≡ true → z ≡ free s h → to_z w64 (of_z w64 z) ≤ℤ pos max_amount
 free_most s h z past semaphore is =
     let fits : FitsSigned w64 z = subst (FitsSigned w64) (sym is) (free_wide s h past semaphore) in
-    let most : free s h ≤ℤ pos max_amount =
-    at_opening (λ x. free x h ≤ℤ pos max_amount) s h past
-    (λ legal seated. free_at_most s.header h past.range semaphore legal) in
-    subst (λ x. x ≤ℤ pos max_amount) (sym (to_z-of_z w64 z fits ∙ is)) most
+    subst (λ x. x ≤ℤ pos max_amount) (sym (to_z-of_z w64 z fits ∙ is))
+    (at_most (free s h) (free_narrow s h past semaphore))
 
 -- the first in line has one of the seats
+pub all_below : (s : Start) (h : List Entry) → IsHistory s h → LineSeated s.header.seats (line s h)
+all_below s h past =
+    at_base (λ x. LineSeated x.header.seats (line x h)) s h past
+    (λ range can. line_seated_on past.base can.good h can.legal can.seated)
+
 pub first_below : (s : Start) (h : List Entry) (a : Arrival) → IsHistory s h →
     Some a ≡ first_of (line s h) → a.seat < s.header.seats
-first_below s h a past q = by (line s h) all q
+first_below s h a past q = by (line s h) (all_below s h past) q
   where
-    all : LineSeated s.header.seats (line s h)
-    all = at_opening (λ x. LineSeated s.header.seats (line x h)) s h past (line_seated s.header h)
-
     by : (queue : List Arrival) → LineSeated s.header.seats queue → Some a ≡ first_of queue →
         a.seat < s.header.seats
     by [] each p = cc

@@ -58,12 +58,13 @@ holds_more o word.Gave n had b = omega arith
 holds_more o word.Await n had b = omega arith
 holds_more o _ n had b = omega arith
 
-pub bound_follows : (s : Start) (e : Entry) (h : List Entry) (m : Mode) → e.n ≤ 4294967295 →
-    ((i : ℕ) → held s h i m ≤ most_held h) → (i : ℕ) → held s (e ∷ h) i m ≤ most_held (e ∷ h)
-bound_follows s e h m amount bound i = by (eqb e.seat i && same_mode e.mode m)
+pub bound_follows : (first : ℕ) (s : Start) (e : Entry) (h : List Entry) (m : Mode) → e.n ≤ 4294967295 →
+    ((i : ℕ) → held s h i m ≤ most_held first h) → (i : ℕ) →
+    held s (e ∷ h) i m ≤ most_held first (e ∷ h)
+bound_follows first s e h m amount bound i = by (eqb e.seat i && same_mode e.mode m)
   where
     by : (b : Bool) → cond b (holds_after s.header.object e.word e.n (held s h i m)) (held s h i m)
-        ≤ most_held (e ∷ h)
+        ≤ most_held first (e ∷ h)
     by true =
         let more = holds_more s.header.object e.word e.n (held s h i m) amount in
         let was = bound i in

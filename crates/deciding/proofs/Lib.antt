@@ -2,3 +2,4 @@ pub mod AmountsFollow
 pub mod Bounds
 pub mod HoldsFollow
 pub mod InPhase
+pub mod HeldTables

@@ -11,4 +11,4 @@ pub record AreAmounts (s : Start) (h : List Entry) (a : Amounts) : Type 0 where
   pub is_counted : a.counted ≡ counted s h
   pub free_bound : nat_abs a.free ≤ 2147483648 + 4294967295 * length h
   pub free_fits : FitsSigned w128 a.free
-  pub counted_bound : a.counted ≤ length h
+  pub counted_bound : a.counted ≤ 2147483647 + length h

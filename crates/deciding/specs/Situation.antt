@@ -1,13 +1,17 @@
 -- What a state of an object stands for: a history.
 use Rattle.std.specs.Prelude.{◌≡◌, ◌<◌, ℕ, List}
 use Rattle.history.specs.declared.entry.Entry.{Entry}
+use Rattle.history.specs.Base.{Base, based}
+use Rattle.history.specs.GoodBase.{IsGood}
 use Rattle.history.specs.Header.{IsInRange}
 use Rattle.history.specs.Legal.{IsLegal, AreSeated}
-use Rattle.history.specs.Start.{Start, opening}
+use Rattle.history.specs.Start.{Start}
 
--- a legal history of an object as opened
+-- A legal history from a good base. That of the object as it is opened is one.
 pub record IsHistory (s : Start) (h : List Entry) : Type 0 where
-  pub opened : s ≡ opening s.header
+  pub base : Base
+  pub good : IsGood base
+  pub start : s ≡ based base
   pub range : IsInRange s.header
   pub legal : IsLegal s h
   pub seated : AreSeated s h

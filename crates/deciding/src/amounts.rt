@@ -1,13 +1,18 @@
 //! The free permits of a semaphore, and how often a latch was counted down.
 
-ghost use Rattle.std.specs.Prelude.{◌≡◌, ◌≤◌, ◌<◌, ◌+◌, ◌∷◌, [], ◌^◌, List, length, nat_abs, ℕ, FitsSigned};
+ghost use Rattle.std.specs.Prelude.{◌≡◌, ◌≤◌, ◌<◌, ◌+◌, ◌∷◌, [], ◌^◌, List, length, nat_abs, ℕ, FitsSigned, pos, ◌+ℤ◌, ◌-ℤ◌};
 ghost use Rattle.std.specs.Int.{w128};
-ghost use Rattle.history.specs.Counts.{counted_after, free_after};
+ghost use Rattle.history.specs.Base.{based, seat_of};
+ghost use Rattle.history.specs.Counts.{counted_after, free_after, total};
+ghost use Rattle.history.specs.GoodBase.{IsGood};
+ghost use Rattle.history.specs.Header.{IsInRange};
+ghost use Rattle.history.specs.Object.{created};
 ghost use Rattle.history.specs.Start.{Start, opening};
 ghost use Rattle.history.specs.declared.entry.Entry.{Entry};
 ghost use Rattle.history.specs.declared.header.Header.{Header};
 ghost use Rattle.deciding.specs.Amounts.{AreAmounts};
 
+use history::base::{Base, opening_count};
 use history::entry::{Entry, Word};
 use history::header::Object;
 
@@ -23,11 +28,24 @@ impl Amounts {
     pub fn open(object: Object) -> Self
         ensures { (k : Header) → k.object ≡ object → AreAmounts (opening k) [] result }
     {
-        let free = match object {
-            Object::Semaphore(_, permits) => i128::from(permits),
-            Object::Lock(_) | Object::ReadWrite(_) | Object::Latch(_) => 0,
-        };
-        Amounts { free, counted: 0 }
+        Amounts {
+            free: created(object),
+            counted: 0,
+        }
+    }
+
+    /// The numbers of a base, of whose permits the seats hold so many together.
+    pub fn open_on(base: &Base, held: u128) -> Self
+        requires range { IsInRange base.now.header }
+        requires good { IsGood base.now }
+        requires held { held ≡ total base.now.header.seats (λ i. (seat_of base.now i).shared) }
+        ensures { AreAmounts (based base.now) [] result }
+    {
+        let object = base.header.object;
+        Amounts {
+            free: left_free(created(object), base.unheld, held),
+            counted: u64::from(opening_count(object) - base.count),
+        }
     }
 
     /// Follows one more entry.
@@ -40,6 +58,26 @@ impl Amounts {
         self.free = free_after(entry.word, entry.n, self.free);
         self.counted += counted_by(entry.word);
     }
+}
+
+/// The permits that a semaphore was made with.
+fn created(object: Object) -> i128
+    ensures { result ≡ created object }
+{
+    match object {
+        Object::Semaphore(_, permits) => i128::from(permits),
+        Object::Lock(_) | Object::ReadWrite(_) | Object::Latch(_) => 0,
+    }
+}
+
+/// The permits that are free of those created and those released unheld, where so many are held.
+fn left_free(created: i128, unheld: u128, held: u128) -> i128
+    requires created { nat_abs created ≤ 2147483648 }
+    requires unheld { unheld ≤ 10000000000000000000000000 }
+    requires held { held ≤ 2560000000000000000000000000 }
+    ensures { result ≡ (created +ℤ pos unheld) -ℤ pos held }
+{
+    created + unheld as i128 - held as i128
 }
 
 /// The free permits after an entry.

@@ -1,10 +1,10 @@
 //! The one entry that a step of a seat makes now.
 
-ghost use Rattle.std.specs.Prelude.{◌≡◌, ◌<◌, ◌≤ℤ◌, List, None, true, false, pos, nat_lt, IfSome};
+ghost use Rattle.std.specs.Prelude.{◌≡◌, ◌<◌, ◌≤ℤ◌, List, Some, None, true, false, pos, nat_lt, IfSome};
 ghost use Rattle.history.specs.Could.{is_seat};
 ghost use Rattle.history.specs.Counts.{counts, free, held, owner};
 ghost use Rattle.history.specs.Faults.{max_amount};
-ghost use Rattle.history.specs.Line.{first_mode};
+ghost use Rattle.history.specs.Line.{first_mode, line, place_of};
 ghost use Rattle.history.specs.Naming.{ready};
 ghost use Rattle.history.specs.Object.{is_lock, is_semaphore};
 ghost use Rattle.history.specs.Phase.{phase, waits};
@@ -241,7 +241,9 @@ fn idle_entry<T: Situation>(state: &T, seat: u16, step: Step) -> Entry
 
 /// The entry of one in line, or sleep.
 fn line_entry<T: Situation>(state: &T, seat: u16, arrival: Arrival, step: Step) -> Option<Entry>
-    requires { HasSeat T.stands state.now seat }
+    requires seat { HasSeat T.stands state.now seat }
+    requires stands { (s : Start) (h : List Entry) → T.stands s h state.now
+        → place_of seat (line s h) ≡ Some arrival }
     ensures { (s : Start) (h : List Entry) → T.stands s h state.now
         → result ≡ line_entry s h (is_seat (ready s h) seat) seat arrival step }
 {

@@ -10,9 +10,9 @@ pub mod arrivals;
 pub mod checks;
 pub mod decide;
 pub mod entries;
-pub mod holds;
 pub mod room;
 pub mod situation;
 pub mod sleep;
+pub mod tables;
 #[cfg(test)]
 mod tests;

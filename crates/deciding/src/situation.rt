@@ -5,6 +5,8 @@ ghost use Rattle.history.specs.Could.{could, held_back, limit};
 ghost use Rattle.history.specs.Counts.{counts, free, held};
 ghost use Rattle.history.specs.Line.{first_mode, first_of, line, place_of};
 ghost use Rattle.history.specs.Object.{is_semaphore, is_strict};
+ghost use Rattle.history.specs.Ownership.{is_away};
+ghost use Rattle.history.specs.Phase.{phase};
 ghost use Rattle.history.specs.Sleepers.{last_sleep, sleepers, sleeps_below};
 ghost use Rattle.history.specs.Start.{Start};
 ghost use Rattle.history.specs.declared.entry.Entry.{Entry};
@@ -49,7 +51,7 @@ pub trait Situation {
             → result ≡ could (counts s h) seat mode n };
 
     /// The holds of the seat in a mode.
-    fn held(&self, seat: u16, mode: Mode) -> u64
+    fn held(&self, seat: u16, mode: Mode) -> u128
         requires { HasSeat stands self.now seat }
         ensures { (s : Start) (h : List Entry) → stands s h self.now → result ≡ held s h seat mode };
 
@@ -77,12 +79,12 @@ pub trait Situation {
         ensures { (s : Start) (h : List Entry) → stands s h self.now
             → result ≡ length (sleepers s h condition) };
 
-    /// What the seat gave up when it last slept.
+    /// What the seat gave up when it last slept, where it sleeps or is on its way back.
     fn last_sleep(&self, seat: u16) -> LastSleep
         requires { HasSeat stands self.now seat }
-        ensures { (s : Start) (h : List Entry) → stands s h self.now
+        ensures { (s : Start) (h : List Entry) → stands s h self.now → is_away (phase s h seat) ≡ true
             → sleep_of result ≡ last_sleep s h seat };
 
-    /// A state stands only for legal histories of an object as opened.
+    /// A state stands only for legal histories from a good base.
     ghost is_history: { (s : Start) (h : List Entry) (state : Self) → stands s h state → IsHistory s h };
 }

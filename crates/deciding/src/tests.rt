@@ -7,13 +7,13 @@ use crate::amounts::Amounts;
 use crate::arrivals::{coming_back, queued};
 use crate::checks::{is_lock, refused_as, waits};
 use crate::entries::{back, named, plain, queued_entry, sleeping_entry};
-use crate::holds::holds_after;
 use crate::room::owed_behind;
 use crate::sleep::LastSleep;
 use history::arrival::Arrival;
 use history::entry::{End, Entry, Mode, Word};
 use history::fault::Fault;
 use history::header::{Header, Object, Policy};
+use history::holds::holds_after;
 use history::step::Step;
 
 const LOCK: Object = Object::Lock(Policy::Fair);
@@ -151,7 +151,7 @@ fn an_entry_names_who_became_able_to_go(rt: HostRuntime) {
 }
 
 /// An object, a word with n, the room owed behind it where 10 places were owed, and what it makes of 6 holds.
-const EFFECTS: [(Object, Word, u32, u64, u64); 9] = [
+const EFFECTS: [(Object, Word, u32, u64, u128); 9] = [
     (LOCK, Word::Got, 1, 11, 7),
     (LOCK, Word::Queued, 1, 12, 6),
     (LOCK, Word::Gave, 1, 9, 5),

@@ -4,7 +4,7 @@ use Rattle.std.specs.List.{All}
 use Rattle.std.proofs.lemmas.List.Elements.{All-append, All-cons, All-map, All-nil, All-push, All-weaker}
 use Rattle.history.specs.declared.entry.Entry.{Entry}
 use Rattle.history.specs.declared.header.Header.{Header}
-use Rattle.history.specs.Start.{Start, opening}
+use Rattle.history.specs.Start.{Start}
 use Rattle.drawing.specs.declared.bar.Stretch.{Stretch}
 use Rattle.drawing.specs.declared.kind.Kind.TheVariants.{Exclusive, Shared, InLine, Asleep}
 use Rattle.drawing.specs.Levels.{Track, asleep_tracks, track, tracks, tracks_below, tracks_of_seat}
@@ -39,13 +39,14 @@ stretch_seat s from h t = by (ltb from (length h)) _ refl
     by true x q = q
     by false x q = refl
 
-pub stretches_seated : (k : Header) (from : ℕ) (h : List Entry) →
-    All (λ x. x.seat < k.seats) (stretches (opening k) from h)
-stretches_seated k from h =
-    All-map (λ (x : Stretch). x.seat < k.seats) (stretch (opening k) from h) (tracks k)
-    (All-weaker (λ t. t.seat < k.seats) (λ t. (stretch (opening k) from h t).seat < k.seats)
-    (λ t l. subst (λ n. n < k.seats) (sym (stretch_seat (opening k) from h t)) l) (tracks k)
-    (tracks_seated k))
+pub stretches_seated : (s : Start) (from : ℕ) (h : List Entry) →
+    All (λ x. x.seat < s.header.seats) (stretches s from h)
+stretches_seated s from h =
+    let n = s.header.seats in
+    All-map (λ (x : Stretch). x.seat < n) (stretch s from h) (tracks s.header)
+    (All-weaker (λ t. t.seat < n) (λ t. (stretch s from h t).seat < n)
+    (λ t l. subst (λ i. i < n) (sym (stretch_seat s from h t)) l) (tracks s.header)
+    (tracks_seated s.header))
 
 pub stretches_before : (s : Start) (from : ℕ) (h : List Entry) (n : ℕ) → n ≡ length h →
     All (λ x. 0 < x.holds → 0 < n) (stretches s from h)

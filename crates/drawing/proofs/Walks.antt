@@ -1,6 +1,7 @@
 -- A list that is changed from its front on, and what is gathered on the way.
 use Rattle.std.proofs.Common.{◌≡◌, ℕ, zero, suc, ◌+◌, ◌<◌, Bool, true, false, ◌||◌, eqb, List, [], ◌∷◌, ◌++◌, length, get_or, set, map, take, drop, refl, ap, ◌∙◌, sym, arith}
 use Rattle.std.specs.List.{flat_map}
+use Rattle.std.specs.Prelude.{Result, Ok, Err, IfOk}
 use Rattle.std.proofs.lemmas.List.{append-nil, append_assoc, set-get_or}
 use Rattle.history.specs.Sleepers.{has}
 
@@ -80,3 +81,8 @@ has_more i xs n l = ap (λ k. has i (take k xs)) (next n) ∙ by xs n l
         assoc : (a b c : Bool) → (a || (b || c)) ≡ ((a || b) || c)
         assoc true b c = refl
         assoc false b c = refl
+
+-- what holds of a result where it is Ok
+pub weaker : {T E : Type 0} {P Q : T → Type 0} (r : Result T E) → ((x : T) → P x → Q x) → IfOk r P → IfOk r Q
+weaker (Ok x) more p = more x p
+weaker (Err e) more p = p

@@ -2,8 +2,7 @@
 use Rattle.std.specs.Prelude.{◌≡◌, ◌<◌, ◌+◌, ◌^◌, ℕ, List, length}
 use Rattle.deciding.specs.Amounts.{AreAmounts}
 use Rattle.history.specs.declared.entry.Entry.{Entry}
-use Rattle.history.specs.declared.header.Header.{Header}
-use Rattle.history.specs.Start.{opening}
+use Rattle.history.specs.Start.{Start}
 use Rattle.drawing.specs.declared.drawing.Drawing.{Drawing}
 use Rattle.drawing.specs.Bars.{ended}
 use Rattle.drawing.specs.Curve.{curve}
@@ -11,30 +10,30 @@ use Rattle.drawing.specs.Marks.{marks}
 use Rattle.drawing.specs.Standings.{AreStanding}
 use Rattle.drawing.specs.Stretches.{stretches}
 
--- these entries of the header's object were followed, and are drawn from one of them on
-pub record HasDrawn (k : Header) (from : ℕ) (h : List Entry) (d : Drawing) : Type 0 where
-  pub header : d.header ≡ k
+-- these entries behind a start were followed, and are drawn from one of them on
+pub record HasDrawn (s : Start) (from : ℕ) (h : List Entry) (d : Drawing) : Type 0 where
+  pub header : d.header ≡ s.header
   pub begins : d.from ≡ from
   pub count : d.count ≡ length h
-  pub standing : AreStanding (opening k) h d.standings
-  pub numbers : AreAmounts (opening k) h d.amounts
-  pub under_way : d.stretches.items ≡ stretches (opening k) from h
-  pub ended : d.bars.items ≡ ended (opening k) from h
+  pub standing : AreStanding s h d.standings
+  pub numbers : AreAmounts s h d.amounts
+  pub under_way : d.stretches.items ≡ stretches s from h
+  pub ended : d.bars.items ≡ ended s from h
   pub marked : d.marks.items ≡ marks from h
-  pub points : d.curve.items ≡ curve (opening k) from h
+  pub points : d.curve.items ≡ curve s from h
 
 -- one that has followed some entries, of which there may be one more, of one of the seats
 pub record CanDraw (d : Drawing) (e : Entry) : Type 0 where
-  pub header : Header
+  pub start : Start
   pub from : ℕ
   pub entries : List Entry
-  pub drawn : HasDrawn header from entries d
-  pub seat : e.seat < header.seats
+  pub drawn : HasDrawn start from entries d
+  pub seat : e.seat < start.header.seats
   pub room : length entries + 1 < 2 ^ 32
 
 -- one that has followed some entries
 pub record IsDrawing (d : Drawing) : Type 0 where
-  pub header : Header
+  pub start : Start
   pub from : ℕ
   pub entries : List Entry
-  pub drawn : HasDrawn header from entries d
+  pub drawn : HasDrawn start from entries d

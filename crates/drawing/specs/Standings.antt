@@ -1,5 +1,5 @@
 -- What the tables of holds, of the line and of sleepers stand for, and what an entry makes of them.
-use Rattle.std.specs.Prelude.{◌≡◌, ℕ, ◌<◌, ◌≤◌, Bool, true, false, List, [], length, if◌then◌else◌, slice_index, slice_index_or, slice_set}
+use Rattle.std.specs.Prelude.{◌≡◌, ℕ, ◌<◌, ◌≤◌, Bool, true, false, List, [], length, map, if◌then◌else◌, slice_index, slice_index_or, slice_set}
 use Rattle.std.specs.List.{All}
 use Rattle.deciding.specs.Holds.{most_held}
 use Rattle.history.specs.declared.entry.Entry.{Entry}
@@ -8,6 +8,8 @@ use Rattle.history.specs.declared.entry.Mode.TheVariants.{X, S}
 use Rattle.history.specs.declared.entry.Word.{Word}
 use Rattle.history.specs.declared.entry.Word.TheVariants.{Queued, Lapse, Granted, Left, Back}
 use Rattle.history.specs.declared.header.Object.{Object}
+use Rattle.history.specs.Base.{Base, sleepers_of}
+use Rattle.history.specs.GoodBase.{most_permits}
 use Rattle.history.specs.Counts.{held, holds_after}
 use Rattle.history.specs.Entry.{same_mode}
 use Rattle.history.specs.Line.{line, place_of}
@@ -32,6 +34,10 @@ line_by Left i table = slice_set table i false
 line_by Back i table = slice_set table i false
 line_by _ i table = table
 
+-- the seats that sleep on a condition of a base
+abbrev pub sleeping_seats : Base → ℕ → List ℕ
+sleeping_seats b c = map (λ x. x.seat) (sleepers_of b c)
+
 pub record AreStanding (s : Start) (h : List Entry) (a : Standings) : Type 0 where
   pub exclusive_seats : length a.exclusive.items ≡ s.header.seats
   pub shared_seats : length a.shared.items ≡ s.header.seats
@@ -43,5 +49,5 @@ pub record AreStanding (s : Start) (h : List Entry) (a : Standings) : Type 0 whe
       slice_index_or a.in_line.items i false ≡ is_there (place_of i (line s h))
   pub sleeps : (c : ℕ) → c < 256 → slice_index_or a.asleep.items c [] ≡ sleepers s h c
   pub seated : (c : ℕ) → All (λ i. i < s.header.seats) (sleepers s h c)
-  pub exclusive_bound : (i : ℕ) → held s h i X ≤ most_held h
-  pub shared_bound : (i : ℕ) → held s h i S ≤ most_held h
+  pub exclusive_bound : (i : ℕ) → held s h i X ≤ most_held most_permits h
+  pub shared_bound : (i : ℕ) → held s h i S ≤ most_held most_permits h

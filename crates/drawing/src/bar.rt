@@ -16,7 +16,7 @@ pub struct Bar {
     /// The number of the last one.
     pub last: u64,
     /// How many holds there were; 1 where the seat waits or sleeps.
-    pub holds: u64,
+    pub holds: u128,
 }
 
 /// A seat's number of holds of a kind, and the number of the entry since which it has been the same.
@@ -25,7 +25,7 @@ pub(crate) struct Stretch {
     pub(crate) seat: u16,
     pub(crate) kind: Kind,
     pub(crate) first: u64,
-    pub(crate) holds: u64,
+    pub(crate) holds: u128,
 }
 
 /// Adds the bar of a stretch that ends before the entry of a number, where it is one of holds.

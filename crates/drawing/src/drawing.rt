@@ -2,13 +2,16 @@
 
 ghost use Rattle.std.specs.Prelude.{◌≡◌, ℕ, ◌+◌, ◌<◌, ◌^◌, ◌∷◌, [], List, IfOk, OnOk};
 ghost use Rattle.history.specs.Header.{IsInRange};
-ghost use Rattle.history.specs.Start.{opening};
+ghost use Rattle.deciding.specs.Amounts.{AreAmounts};
+ghost use Rattle.history.specs.Base.{based};
+ghost use Rattle.history.specs.GoodBase.{IsGood};
+ghost use Rattle.history.specs.Start.{Start, opening};
 ghost use Rattle.history.specs.declared.entry.Entry.{Entry};
-ghost use Rattle.history.specs.declared.header.Header.{Header};
 ghost use Rattle.drawing.specs.Bars.{bars};
 ghost use Rattle.drawing.specs.Curve.{curve};
 ghost use Rattle.drawing.specs.Drawing.{CanDraw, HasDrawn, IsDrawing};
 ghost use Rattle.drawing.specs.Marks.{marks};
+ghost use Rattle.drawing.specs.Standings.{AreStanding};
 
 use crate::amounts::put_point;
 use crate::bar::{Bar, Stretch};
@@ -16,6 +19,8 @@ use crate::mark::{Mark, put_mark};
 use crate::standings::Standings;
 use crate::stretches::{begin_all, end_all, go_on};
 use deciding::amounts::Amounts;
+use deciding::tables::sum;
+use history::base::Base;
 use history::entry::Entry;
 use history::header::Header;
 use std::alloc::{AllocError, Global};
@@ -47,29 +52,29 @@ pub struct Drawing {
 impl Drawing {
     /// What is drawn of an object as opened, from the entry of a number on.
     pub fn open(alloc: Global, header: Header, from: u64) -> Result<Self, AllocError>
-        ensures { IfOk result (HasDrawn header from []) }
+        ensures { IfOk result (HasDrawn (opening header) from []) }
     {
         let standings = Standings::open(alloc, header.seats)?;
-        let stretches = begin_all(alloc, header, from)?;
-        Ok(Drawing {
-            header,
-            from,
-            count: 0,
-            standings,
-            amounts: Amounts::open(header.object),
-            stretches,
-            bars: Vec::new(alloc),
-            marks: Vec::new(alloc),
-            curve: Vec::new(alloc),
-        })
+        begin(alloc, header, from, standings, Amounts::open(header.object))
+    }
+
+    /// What is drawn of an object that begins on a base, from the entry of a number on.
+    pub fn open_on(alloc: Global, base: &Base, from: u64) -> Result<Self, AllocError>
+        requires range { IsInRange base.now.header }
+        requires good { IsGood base.now }
+        ensures { IfOk result (HasDrawn (based base.now) from []) }
+    {
+        let standings = Standings::open_on(alloc, base)?;
+        let amounts = Amounts::open_on(base, sum(&standings.shared));
+        begin(alloc, base.header, from, standings, amounts)
     }
 
     /// Follows one more entry of one of the seats, whether it is legal or not. Behind an Err nothing more can
     /// be drawn.
     pub fn follow(&mut self, entry: Entry) -> Result<(), AllocError>
         requires { CanDraw self.old entry }
-        ensures { OnOk result ((k : Header) (from : ℕ) (h : List Entry) → HasDrawn k from h self.old →
-            entry.seat < k.seats → HasDrawn k from (entry ∷ h) self.new) }
+        ensures { OnOk result ((s : Start) (from : ℕ) (h : List Entry) → HasDrawn s from h self.old →
+            entry.seat < s.header.seats → HasDrawn s from (entry ∷ h) self.new) }
     {
         let object = self.header.object;
         self.standings.note(object, entry)?;
@@ -88,12 +93,12 @@ impl Drawing {
     /// What is drawn of the entries that were followed.
     pub fn finish(self) -> Result<Drawn, AllocError>
         requires { IsDrawing self }
-        ensures bars { IfOk result (λ drawn. (k : Header) (from : ℕ) (h : List Entry) →
-            HasDrawn k from h self → drawn.bars.items ≡ bars (opening k) from h) }
-        ensures marks { IfOk result (λ drawn. (k : Header) (from : ℕ) (h : List Entry) →
-            HasDrawn k from h self → drawn.marks.items ≡ marks from h) }
-        ensures curve { IfOk result (λ drawn. (k : Header) (from : ℕ) (h : List Entry) →
-            HasDrawn k from h self → drawn.curve.items ≡ curve (opening k) from h) }
+        ensures bars { IfOk result (λ drawn. (s : Start) (from : ℕ) (h : List Entry) →
+            HasDrawn s from h self → drawn.bars.items ≡ bars s from h) }
+        ensures marks { IfOk result (λ drawn. (s : Start) (from : ℕ) (h : List Entry) →
+            HasDrawn s from h self → drawn.marks.items ≡ marks from h) }
+        ensures curve { IfOk result (λ drawn. (s : Start) (from : ℕ) (h : List Entry) →
+            HasDrawn s from h self → drawn.curve.items ≡ curve s from h) }
     {
         let mut bars = self.bars;
         end_all(&self.stretches, &mut bars, self.count)?;
@@ -103,4 +108,29 @@ impl Drawing {
             curve: self.curve,
         })
     }
+}
+
+/// A drawing that has seen no entry.
+fn begin(
+    alloc: Global,
+    header: Header,
+    from: u64,
+    standings: Standings,
+    amounts: Amounts,
+) -> Result<Drawing, AllocError>
+    ensures { IfOk result (λ drawing. (s : Start) → s.header ≡ header → AreStanding s [] standings →
+        AreAmounts s [] amounts → HasDrawn s from [] drawing) }
+{
+    let stretches = begin_all(alloc, header, from)?;
+    Ok(Drawing {
+        header,
+        from,
+        count: 0,
+        standings,
+        amounts,
+        stretches,
+        bars: Vec::new(alloc),
+        marks: Vec::new(alloc),
+        curve: Vec::new(alloc),
+    })
 }

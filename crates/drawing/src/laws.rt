@@ -2,16 +2,15 @@
 
 ghost use Rattle.std.specs.Prelude.{◌↔◌, ℕ, List};
 ghost use Rattle.std.specs.List.{Contains};
-ghost use Rattle.history.specs.Start.{opening};
+ghost use Rattle.history.specs.Start.{Start};
 ghost use Rattle.history.specs.declared.entry.Entry.{Entry};
-ghost use Rattle.history.specs.declared.header.Header.{Header};
 ghost use Rattle.drawing.specs.Bars.{bars};
 ghost use Rattle.drawing.specs.IsBar.{IsBar};
 ghost use Rattle.drawing.specs.declared.bar.Bar.{Bar};
 
-/// Each bar is a longest stretch of entries behind which a seat has the same holds, stands in line, or sleeps
-/// on a condition; and each such stretch has its bar.
+/// Whatever a history begins from, each bar is a longest stretch of entries behind which a seat has the same
+/// holds, stands in line, or sleeps on a condition; and each such stretch has its bar.
 pub fn bars_are_the_longest_stretches()
-    ensures { (k : Header) (from : ℕ) (h : List Entry) (b : Bar) →
-        Contains (bars (opening k) from h) b ↔ IsBar (opening k) from h b }
+    ensures { (s : Start) (from : ℕ) (h : List Entry) (b : Bar) →
+        Contains (bars s from h) b ↔ IsBar s from h b }
 {}

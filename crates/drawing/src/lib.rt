@@ -4,7 +4,8 @@
 //! [`Drawing`](drawing::Drawing) follows the entries of a history one after another;
 //! [`drawn_of`](whole::drawn_of) goes through a list of them.
 //!
-//! A drawing stands on the definitions of `history` alone. It asks of no entry whether it is legal: its bars
+//! A history begins on its base, or as the object is opened. A drawing stands on the definitions of `history`
+//! alone. It asks of no entry whether it is legal: its bars
 //! are those of any list of entries of the object's seats.
 #![tactic(auto)]
 

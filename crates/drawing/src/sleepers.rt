@@ -1,10 +1,11 @@
 //! The sleepers of one condition, and who of them joins the line.
 
-ghost use Rattle.std.specs.Prelude.{◌≡◌, ℕ, ◌<◌, ◌≤◌, ◌||◌, [], false, length, drop, slice_index_or, OnOk};
+ghost use Rattle.std.specs.Prelude.{◌≡◌, ℕ, ◌<◌, ◌≤◌, ◌||◌, [], false, length, drop, map, slice_index_or, IfOk, OnOk};
 ghost use Rattle.std.specs.List.{All};
 ghost use Rattle.history.specs.Sleepers.{has, sleepers_after, without};
 ghost use Rattle.drawing.specs.Woken.{woken};
 
+use history::base::Sleeper;
 use history::entry::{Entry, Word};
 use std::alloc::{AllocError, Global};
 use std::marker::Model;
@@ -31,6 +32,17 @@ impl Sleepers {
         Sleepers {
             seats: Vec::new(alloc),
         }
+    }
+
+    /// Those sleep who sleep on a condition of a base.
+    pub(crate) fn of(alloc: Global, sleepers: &[Sleeper]) -> Result<Self, AllocError>
+        ensures { IfOk result (λ asleep. asleep ≡ map (λ x. x.seat) sleepers.now) }
+    {
+        let mut seats = Vec::new(alloc);
+        for sleeper in sleepers {
+            seats.push(sleeper.seat)?;
+        }
+        Ok(Sleepers { seats })
     }
 
     /// Whether a seat sleeps there.

@@ -1,18 +1,24 @@
 //! What a front of a history says of each seat.
 
-ghost use Rattle.std.specs.Prelude.{◌≡◌, ℕ, ◌+◌, ◌<◌, ◌≤◌, ◌^◌, ◌∷◌, [], List, IfOk, OnOk, length, replicate, slice_index};
+ghost use Rattle.std.specs.Prelude.{◌≡◌, ℕ, ◌+◌, ◌<◌, ◌≤◌, ◌^◌, ◌||◌, ◌∷◌, [], List, IfOk, OnOk, false, length, map, replicate, slice_index, slice_index_or};
+ghost use Rattle.std.specs.List.{AllByRecursion};
+ghost use Rattle.history.specs.Base.{based, each_below};
+ghost use Rattle.history.specs.GoodBase.{IsGood};
+ghost use Rattle.history.specs.Line.{place_of};
 ghost use Rattle.history.specs.Start.{Start, opening};
 ghost use Rattle.history.specs.declared.entry.Entry.{Entry};
 ghost use Rattle.history.specs.declared.entry.Mode.TheVariants.{X, S};
 ghost use Rattle.history.specs.declared.header.Header.{Header};
-ghost use Rattle.drawing.specs.Levels.{level};
-ghost use Rattle.drawing.specs.Standings.{AreStanding, holds_by, line_by, table_by};
+ghost use Rattle.drawing.specs.Levels.{is_there, level};
+ghost use Rattle.drawing.specs.Standings.{AreStanding, holds_by, line_by, sleeping_seats, table_by};
 
 use crate::kind::Kind;
 use crate::sleepers::Sleepers;
-use deciding::holds::holds_after;
+use deciding::tables::held_in;
+use history::base::{Base, Standing};
 use history::entry::{Entry, Mode, Word};
 use history::header::Object;
+use history::holds::holds_after;
 use std::alloc::{AllocError, Global};
 
 /// An entry has so many conditions to name.
@@ -21,8 +27,8 @@ const CONDITIONS: usize = 256;
 /// The holds of each seat by mode, who stands in line, and who sleeps on which condition.
 #[derive(Drop)]
 pub(crate) struct Standings {
-    pub(crate) exclusive: Vec<u64>,
-    pub(crate) shared: Vec<u64>,
+    pub(crate) exclusive: Vec<u128>,
+    pub(crate) shared: Vec<u128>,
     pub(crate) in_line: Vec<bool>,
     pub(crate) asleep: Vec<Sleepers>,
 }
@@ -45,6 +51,24 @@ impl Standings {
         })
     }
 
+    /// The seats hold what they hold on a base, and wait and sleep as there.
+    pub(crate) fn open_on(alloc: Global, base: &Base) -> Result<Self, AllocError>
+        requires { IsGood base.now }
+        ensures { IfOk result (AreStanding (based base.now) []) }
+    {
+        let exclusive = held_in(alloc, &base.seats, Mode::X)?;
+        let shared = held_in(alloc, &base.seats, Mode::S)?;
+        let mut in_line = vec![in alloc; false; base.header.seats as usize]?;
+        mark_standing(&mut in_line, &base.line);
+        let asleep = all_asleep(alloc, base)?;
+        Ok(Standings {
+            exclusive,
+            shared,
+            in_line,
+            asleep,
+        })
+    }
+
     /// Follows one more entry of one of the seats.
     pub(crate) fn note(&mut self, object: Object, entry: Entry) -> Result<(), AllocError>
         requires { (s : Start) × (h : List Entry) × AreStanding s h self.old × (entry.seat < s.header.seats)
@@ -58,25 +82,25 @@ impl Standings {
     }
 
     /// The level of a seat of a kind.
-    pub(crate) fn level(&self, seat: u16, kind: Kind) -> u64
+    pub(crate) fn level(&self, seat: u16, kind: Kind) -> u128
         requires { (s : Start) × (h : List Entry) × AreStanding s h self.now × (seat < s.header.seats) }
         ensures { (s : Start) (h : List Entry) → AreStanding s h self.now → result ≡ level s h seat kind }
     {
         match kind {
             Kind::Exclusive => self.exclusive[seat as usize],
             Kind::Shared => self.shared[seat as usize],
-            Kind::InLine => u64::from(self.in_line[seat as usize]),
-            Kind::Asleep(condition) => u64::from(self.asleep[condition as usize].contains(seat)),
+            Kind::InLine => u128::from(self.in_line[seat as usize]),
+            Kind::Asleep(condition) => u128::from(self.asleep[condition as usize].contains(seat)),
         }
     }
 }
 
 /// What an entry makes of the holds of its seat in its mode.
-fn note_holds(exclusive: &mut Vec<u64>, shared: &mut Vec<u64>, object: Object, entry: Entry)
+fn note_holds(exclusive: &mut Vec<u128>, shared: &mut Vec<u128>, object: Object, entry: Entry)
     requires exclusive { entry.seat < length exclusive.old.items }
     requires shared { entry.seat < length shared.old.items }
-    requires few { slice_index exclusive.old.items entry.seat + 4294967295 < 2 ^ 64 }
-    requires few_shared { slice_index shared.old.items entry.seat + 4294967295 < 2 ^ 64 }
+    requires few { slice_index exclusive.old.items entry.seat + 4294967295 < 2 ^ 128 }
+    requires few_shared { slice_index shared.old.items entry.seat + 4294967295 < 2 ^ 128 }
     ensures exclusive { exclusive.new.items ≡ holds_by X object entry exclusive.old.items }
     ensures shared { shared.new.items ≡ holds_by S object entry shared.old.items }
 {
@@ -87,9 +111,9 @@ fn note_holds(exclusive: &mut Vec<u64>, shared: &mut Vec<u64>, object: Object, e
 }
 
 /// What an entry makes of a table of holds.
-fn note_table(table: &mut Vec<u64>, object: Object, entry: Entry)
+fn note_table(table: &mut Vec<u128>, object: Object, entry: Entry)
     requires seat { entry.seat < length table.old.items }
-    requires few { slice_index table.old.items entry.seat + 4294967295 < 2 ^ 64 }
+    requires few { slice_index table.old.items entry.seat + 4294967295 < 2 ^ 128 }
     ensures { table.new.items ≡ table_by object entry table.old.items }
 {
     let seat = entry.seat as usize;
@@ -119,4 +143,27 @@ fn nobody_asleep(alloc: Global) -> Result<Vec<Sleepers>, AllocError>
         asleep.push(Sleepers::open(alloc))?;
     }
     Ok(asleep)
+}
+
+/// A list for each condition that an entry may name, of those who sleep there on a base.
+fn all_asleep(alloc: Global, base: &Base) -> Result<Vec<Sleepers>, AllocError>
+    ensures { IfOk result (λ asleep. asleep.items ≡ each_below 256 (sleeping_seats base.now)) }
+{
+    let mut asleep = Vec::new(alloc);
+    for condition in 0..CONDITIONS {
+        asleep.push(Sleepers::of(alloc, base.sleepers_of(condition as u8))?)?;
+    }
+    Ok(asleep)
+}
+
+/// Has all these stand in line.
+fn mark_standing(in_line: &mut Vec<bool>, line: &[Standing])
+    requires { AllByRecursion (λ p. p.who.seat < length in_line.old.items) line.now }
+    ensures marked { (i : ℕ) → slice_index_or in_line.new.items i false
+        ≡ (slice_index_or in_line.old.items i false || is_there (place_of i (map (λ p. p.who) line.now))) }
+    ensures seats { length in_line.new.items ≡ length in_line.old.items }
+{
+    for place in (0..line.len()).rev() {
+        in_line[line[place].who.seat as usize] = true;
+    }
 }

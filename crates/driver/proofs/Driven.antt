@@ -1,128 +1,226 @@
--- The steps of a text are answered as their lines are read.
-use Rattle.std.proofs.Common.{◌≡◌, ℕ, ◌<◌, List, [], ◌∷◌, ◌++◌, length, reverse, Option, None, Some, Result, Ok, IfSome, refl, subst, sym, ap, ◌∙◌, arith, append_assoc}
+-- The acts of a text are done as their lines are read.
+use Rattle.std.proofs.Common.{◌≡◌, ℕ, ◌+◌, List, [], ◌∷◌, ◌++◌, All, length, reverse, Option, None, Some, Result, Ok, IfSome, refl, subst, sym, ap, ◌∙◌, arith}
+use Rattle.std.proofs.lemmas.List.{length-append, length-reverse}
+use Rattle.std.proofs.lemmas.List.Elements.{All-nil}
+use Rattle.frame.specs.declared.acts.Act.{Act}
+use Rattle.frame.specs.declared.acts.Act.TheVariants.{Do, Trim}
+use Rattle.frame.specs.Core.{CoreView}
 use Rattle.history.specs.declared.entry.Entry.{Entry}
 use Rattle.history.specs.declared.fault.Fault.{Fault}
-use Rattle.history.specs.declared.header.Header.{Header}
 use Rattle.history.specs.declared.step.Answer.{Answer}
 use Rattle.history.specs.declared.step.Step.{Step}
-use Rattle.history.specs.Answers.{answer, results}
+use Rattle.history.specs.Answers.{answer}
+use Rattle.history.specs.Base.{Base, based, opening_base}
 use Rattle.history.specs.Entries.{ended_calls}
-use Rattle.history.specs.Legal.{IsLegal, calls}
-use Rattle.history.specs.Start.{opening}
+use Rattle.history.specs.EntryWords.{IsSpelt}
+use Rattle.history.specs.Legal.{calls}
+use Rattle.history.specs.Fold.{MayFold}
+use Rattle.history.specs.Point.{CanFold}
+use Rattle.history.specs.Start.{Start}
 use Rattle.history.specs.Text.{ended}
-use Rattle.history.proofs.Lists.{calls-ended}
+use Rattle.history.proofs.Lists.{calls-ended, ended_append}
+use Rattle.history.proofs.OpeningBase.{based_opening}
 use Rattle.history_text.specs.EntryLines.{counts_line}
-use Rattle.history_text.specs.HistoryText.{history_form, history_text}
-use Rattle.history_text.proofs.HistoryReading.{end_of}
-use Rattle.line_text.specs.Form.{lines_of}
+use Rattle.history_text.specs.HistoryText.{history_text}
 use Rattle.line_text.specs.Reading.{IsText}
+use Rattle.steps.specs.declared.header.StepsHeader.{StepsHeader}
 use Rattle.steps.specs.StepsText.{steps_form}
-use Rattle.driver.specs.declared.form.Form.TheVariants.{Replay, History}
-use Rattle.driver.specs.ReplayStream.{AreAnswersBehind, IsAnswerTo, answer_text}
-use Rattle.driver.specs.Answers.{answers_text, first_line}
-use Rattle.driver.specs.Remarks.{IsKept, remark_of}
+use Rattle.driver.proofs.EntryLines.{ended_calls-reverse}
 use Rattle.driver.specs.declared.form.Form.{Form}
+use Rattle.driver.specs.declared.form.Form.TheVariants.{Replay, History}
 use Rattle.driver.specs.declared.remark.Remark.{Remark}
-use Rattle.driver.specs.ReplayText.{answer_line, answer_lines, header_line, history_behind}
+use Rattle.driver.specs.Answers.{AllAnswers, answers_text}
+use Rattle.driver.specs.Logged.{IsLogged, Logged, gone}
+use Rattle.driver.specs.Remarks.{IsKept, remark_of, told_lines, trim_remark}
+use Rattle.driver.specs.ReplayStream.{AreAnswersBehind, IsAnswerTo, IsLawful, answer_text}
+use Rattle.driver.specs.ReplayText.{answer_line, behind_acts, done_lines, header_line, trim_line}
 use Rattle.driver.specs.TextReader.{Progress, IsNext}
 use Rattle.driver.proofs.ReadingAhead.{ReadOn}
 use Rattle.driver.proofs.Behind.{replayed}
-use Rattle.driver.proofs.Remarking.{Remarked, remarked_none, remarked_on, remarked_all}
-use Rattle.driver.proofs.Told.{Told, told_none, told_more, told_all, behind_all}
+use Rattle.driver.proofs.Doing.{all_counted, all_in_order, all_stay, folded_calls, folded_counted, has_trimmed, spelt_more}
+use Rattle.driver.proofs.Remarking.{Remarked, remarked_all, remarked_none, remarked_on, remarked_trim}
+use Rattle.driver.proofs.Told.{IsTrimOf, Told, answered, base_all, base_behind, entries_all, list_behind, told_all, told_more, told_none, told_trim}
 
--- these steps were read, and the history with these remarks tells their answers
-pub record Answering (first now : Progress Header (ℕ × Step)) (h : List Entry)
+-- These acts were read. The entries that were folded, the oldest first, and the list behind them, with these
+-- remarks, tell their answers.
+pub record Answering (first now : Progress StepsHeader Act) (b : Base) (h past : List Entry)
     (remarks : List Remark) : Type 0 where
-  pub steps : List (ℕ × Step)
+  pub acts : List Act
   pub lines : List ℕ
-  pub read : ReadOn steps_form first steps now
-  pub told : Told now.so_far.header steps lines h
-  pub remarked : Remarked h remarks lines
+  pub read : ReadOn steps_form first acts now
+  pub told : Told now.so_far.header.header acts lines b h
+  pub remarked : Remarked (h ++ reverse past) remarks lines
+  pub counted : b.entries ≡ length past
+  pub ended : calls (based b) [] ≡ ended_calls past
+  pub spelt : All IsSpelt past
 
-pub answering_none : (p : Progress Header (ℕ × Step)) (h : List Entry) → h ≡ [] → Answering p p h []
-answering_none p h none =
-    rw none (record {
-      steps = [];
+pub answering_none : (p : Progress StepsHeader Act) (b : Base) (h : List Entry) →
+    b ≡ opening_base p.so_far.header.header → h ≡ [] → Answering p p b h [] []
+answering_none p b h base none =
+    rw (base, none) (record {
+      acts = [];
       lines = [];
       read = λ text were. were;
-      told = told_none p.so_far.header;
+      told = told_none p.so_far.header.header;
       remarked = remarked_none;
+      counted = refl;
+      ended = ap (λ (s : Start). s.calls) (based_opening p.so_far.header.header);
+      spelt = All-nil IsSpelt;
     })
 
 -- one more step was answered
-pub answering_on : (first old new : Progress Header (ℕ × Step)) (x : ℕ × Step) (r : Result Answer Fault)
-    (h h' : List Entry) (remarks remarks' : List Remark) (left : Option (List ℕ))
-    → IsNext steps_form old (Ok (Some x)) new left → new.so_far.header ≡ old.so_far.header →
-    x.0 < old.so_far.header.seats → r ≡ (answer (opening new.so_far.header) h x.0 x.1).0 →
-    h' ≡ (answer (opening new.so_far.header) h x.0 x.1).1
-    → IsKept remarks (remark_of (length h) x.0 r) remarks' → Answering first old h remarks →
-    Answering first new h' remarks'
-answering_on first old new x r h h' remarks remarks' left next same below p q more a =
-    let told = subst (λ (k : Header). Told k a.steps a.lines h) (sym same) a.told in
-    let seated = subst (λ (k : Header). x.0 < k.seats) (sym same) below in
-    let line = ended (answer_line (length h) x.0 r) in
+pub answering_step : (first old new : Progress StepsHeader Act) (i : ℕ) (step : Step) (r : Result Answer Fault)
+    (b : Base) (h h' past : List Entry) (remarks remarks' : List Remark) (left : Option (List ℕ))
+    → IsNext steps_form old (Ok (Some (Do i step))) new left → new.so_far.header ≡ old.so_far.header →
+    r ≡ (answer (based b) h i step).0 → h' ≡ (answer (based b) h i step).1
+    → IsKept remarks (remark_of (length past + length h) i r) remarks' → Answering first old b h past remarks →
+    Answering first new b h' past remarks'
+answering_step first old new i step r b h h' past remarks remarks' left next same p q more a =
+    let told = subst (λ (k : StepsHeader). Told k.header a.acts a.lines b h) (sym same) a.told in
+    let all = h ++ reverse past in
+    let number : b.entries + length h ≡ length all = omega (arith, a.counted, all_counted past h) in
+    let line = λ (n : ℕ). a.lines ++ ended (answer_line n i r) in
+    let kept = subst (λ (n : ℕ). IsKept remarks (remark_of n i r) remarks') (sym (all_counted past h)) more in
     record {
-      steps = a.steps ++ x ∷ [];
-      lines = a.lines ++ line;
-      read = λ text were. next text a.steps (a.read text were);
-      told = told_more new.so_far.header a.steps a.lines h x r h' told seated p q;
-      remarked =
-          remarked_on (opening new.so_far.header) h x.0 x.1 r h' remarks remarks' a.lines p q more a.remarked;
+      acts = a.acts ++ Do i step ∷ [];
+      lines = line (length all);
+      read = λ text were. next text a.acts (a.read text were);
+      told = subst (λ (n : ℕ). Told new.so_far.header.header (a.acts ++ Do i step ∷ []) (line n) b h') number
+          (told_more new.so_far.header.header a.acts a.lines b h i step r h' told p q);
+      remarked = remarked_on (based b) h (reverse past) i step r h' remarks remarks' a.lines p q kept a.remarked;
+      counted = a.counted;
+      ended = a.ended;
+      spelt = a.spelt;
     }
 
-counts_are : (header : Header) (h : List Entry) (steps : List (ℕ × Step)) → h ≡ history_behind header steps
-    → ended (counts_line (length h) (ended_calls h))
-    ≡ ended (counts_line (length (history_behind header steps))
-    (calls (opening header) (history_behind header steps)))
-counts_are header h steps behind =
-    let ends : ended_calls h ≡ calls (opening header) h = omega (arith, calls-ended (opening header) h) in
-    ap (λ (n : ℕ). ended (counts_line (length h) n)) ends
-    ∙ ap (λ (es : List Entry). ended (counts_line (length es) (calls (opening header) es))) behind
+-- one more trim was answered
+pub answering_trim : (first old new : Progress StepsHeader Act) (r : Result ℕ Fault) (b : Base)
+    (h past : List Entry) (remarks : List Remark) (left : Option (List ℕ))
+    → IsNext steps_form old (Ok (Some Trim)) new left → new.so_far.header ≡ old.so_far.header →
+    IsTrimOf r b h → CanFold b h → Answering first old b h past remarks
+    → Answering first new (base_behind r b h) (list_behind r h) (past ++ gone r h)
+    (remarks ++ trim_remark (length past + length h) r ∷ [])
+answering_trim first old new r b h past remarks left next same is can a =
+    let told = subst (λ (k : StepsHeader). Told k.header a.acts a.lines b h) (sym same) a.told in
+    let more = remarks ++ trim_remark (length past + length h) r ∷ [] in
+    let remarked : Remarked (h ++ reverse past) more (a.lines ++ ended (trim_line r)) =
+    subst (λ (n : ℕ). Remarked (h ++ reverse past) (remarks ++ trim_remark n r ∷ [])
+    (a.lines ++ ended (trim_line r))) (all_counted past h)
+    (remarked_trim (h ++ reverse past) r remarks a.lines a.remarked) in
+    record {
+      acts = a.acts ++ Trim ∷ [];
+      lines = a.lines ++ ended (trim_line r);
+      read = λ text were. next text a.acts (a.read text were);
+      told = told_trim new.so_far.header.header a.acts a.lines b h r told is;
+      remarked = subst (λ (es : List Entry). Remarked es more (a.lines ++ ended (trim_line r)))
+          (sym (all_stay r past h)) remarked;
+      counted = folded_counted r b past h a.counted;
+      ended = folded_calls r b past h can a.ended;
+      spelt = spelt_more r b past h can a.spelt;
+    }
+
+-- one more act was done by a core
+pub answering_act : (first old new : Progress StepsHeader Act) (act : Act) (core core' : CoreView)
+    (log log' : Logged) (left : Option (List ℕ))
+    → IsNext steps_form old (Ok (Some act)) new left → new.so_far.header ≡ old.so_far.header →
+    IsLogged core log act core' log' → (act ≡ Trim → MayFold core.base core.entries)
+    → Answering first old core.base core.entries log.past log.remarks
+    → Answering first new core'.base core'.entries log'.past log'.remarks × (core'.header ≡ core.header)
+answering_act first old new (Do i step) core core' log log' left next same is may a =
+    let now = answered core core' i step is.0 is.1 is.2 in
+    let more =
+    answering_step first old new i step is.0 core.base core.entries core'.entries log.past log.remarks
+    log'.remarks left next same now.0 now.1 is.4 a in
+    let based : Answering first new core'.base core'.entries log.past log'.remarks =
+    subst (λ (b : Base). Answering first new b core'.entries log.past log'.remarks) (sym now.3) more in (
+      subst (λ (es : List Entry). Answering first new core'.base core'.entries es log'.remarks) (sym is.3) based,
+      now.2,
+    )
+answering_act first old new Trim core core' log log' left next same is may a =
+    let t = has_trimmed core core' is.0 is.1 in
+    let more =
+    answering_trim first old new is.0 core.base core.entries log.past log.remarks left next same t.is
+    (may refl).can a in (
+      rw (t.base, t.entries, is.2, is.3) more,
+      t.header,
+    )
+
+-- ---- all acts were done
+
+end_is : (b : Base) (h past : List Entry) → b.entries ≡ length past →
+    calls (based b) [] ≡ ended_calls past
+    → counts_line (length (past ++ reverse h)) (ended_calls (past ++ reverse h))
+    ≡ counts_line (b.entries + length h) (calls (based b) h)
+end_is b h past counted ends =
+    let entries : length (past ++ reverse h) ≡ b.entries + length h =
+    omega (arith, counted, length-append past (reverse h), length-reverse h) in
+    let several : ended_calls (past ++ reverse h) ≡ calls (based b) h =
+    ended_append past (reverse h) ∙ ap (λ (n : ℕ). ended_calls past + n) (ended_calls-reverse h)
+    ∙ ap (λ (n : ℕ). n + ended_calls h) (sym ends) ∙ sym (calls-ended (based b) h) in
+    ap (λ (n : ℕ). counts_line n (ended_calls (past ++ reverse h))) entries
+    ∙ ap (λ (n : ℕ). counts_line (b.entries + length h) n) several
 
 -- the text of all answers, in each form
-text_is : (form : Form) (header : Header) (h : List Entry) (remarks : List Remark) (steps : List (ℕ × Step))
-    (lines : List ℕ) → Told header steps lines h → Remarked h remarks lines
-    → answers_text form (record { header = header; entries = h; remarks = remarks })
-    ≡ answer_text form header steps
-text_is Replay header h remarks steps lines told remarked =
-    ap (λ (t : List ℕ). ended (header_line header) ++ t)
-    (ap (λ (t : List ℕ). t ++ ended (counts_line (length h) (ended_calls h)))
-    (remarked_all h remarks lines remarked ∙ told_all header steps lines h told)
-    ∙ ap (λ (t : List ℕ). answer_lines 0 steps (results (opening header) [] steps).0 ++ t)
-    (counts_are header h steps (behind_all header steps h told.behind)))
-    ∙ sym (append_assoc (ended (header_line header))
-    (answer_lines 0 steps (results (opening header) [] steps).0)
-    (ended (counts_line (length (history_behind header steps))
-    (calls (opening header) (history_behind header steps)))))
-text_is History header h remarks steps lines told remarked =
-    ap (λ (t : List ℕ). ended (first_line History header)
-    ++ (lines_of history_form 0 (reverse h) ++ ended t)) (end_of h (length h) (ended_calls h) refl refl)
-    ∙ ap (history_text header) (behind_all header steps h told.behind)
+text_is : (form : Form) (header : StepsHeader) (b : Base) (h past : List Entry) (remarks : List Remark)
+    (acts : List Act) (lines : List ℕ) → Told header.header acts lines b h →
+    Remarked (h ++ reverse past) remarks lines
+    → b.entries ≡ length past → calls (based b) [] ≡ ended_calls past
+    → answers_text form
+    (record { header = header; past = past; base = b; entries = h; remarks = remarks })
+    ≡ answer_text form header acts
+text_is Replay header b h past remarks acts lines told remarked counted ends =
+    let o = behind_acts header acts in
+    let all = past ++ reverse h in
+    let first = ended (header_line header) in
+    let of_all : told_lines all 0 remarks ≡ done_lines 0 acts o.done =
+    ap (λ (es : List Entry). told_lines es 0 remarks) (sym (all_in_order past h))
+    ∙ remarked_all (h ++ reverse past) remarks lines remarked
+    ∙ told_all header.header acts lines b h told in
+    ap (λ (t : List ℕ). first ++ (t ++ ended (counts_line (length all) (ended_calls all)))) of_all
+    ∙ ap (λ (t : List ℕ). first ++ (done_lines 0 acts o.done ++ ended t)) (end_is b h past counted ends)
+    ∙ ap (λ (x : Base). first ++ (done_lines 0 acts o.done
+    ++ ended (counts_line (x.entries + length h) (calls (based x) h))))
+    (base_all header.header acts lines b h told)
+    ∙ ap (λ (es : List Entry). first ++ (done_lines 0 acts o.done
+    ++ ended (counts_line (o.base.entries + length es) (calls (based o.base) es))))
+    (entries_all header.header acts lines b h told)
+text_is History header b h past remarks acts lines told remarked counted ends =
+    ap (λ (x : Base). history_text x h) (base_all header.header acts lines b h told)
+    ∙ ap (history_text (behind_acts header acts).base) (entries_all header.header acts lines b h told)
 
-answer_is : (form : Form) (text : Option (List ℕ)) (header : Header) (h : List Entry)
-    (remarks : List Remark) (steps : List (ℕ × Step)) (lines : List ℕ) → Told header steps lines h →
-    Remarked h remarks lines
-    → IfSome text (λ t. IsText steps_form t header steps) →
-    IsAnswerTo form text (answers_text form (record { header = header; entries = h; remarks = remarks }))
-answer_is form None header h remarks steps lines told remarked is = tt
-answer_is form (Some t) header h remarks steps lines told remarked is =
-    replayed form t header steps _ is (text_is form header h remarks steps lines told remarked)
+lawful_is : (header : StepsHeader) (b : Base) (h : List Entry) (acts : List Act) (lines : List ℕ) →
+    Told header.header acts lines b h → IsLawful b h →
+    IsLawful (behind_acts header acts).base (behind_acts header acts).entries
+lawful_is header b h acts lines told lawful =
+    subst (λ (x : Base). IsLawful x (behind_acts header acts).entries)
+    (base_all header.header acts lines b h told)
+    (subst (IsLawful b) (entries_all header.header acts lines b h told) lawful)
 
--- the last step was answered
-pub answering_all : (first now new : Progress Header (ℕ × Step)) (h : List Entry) (remarks : List Remark)
-    (left : Option (List ℕ)) →
-    now.so_far.header ≡ first.so_far.header → IsNext steps_form now (Ok None) new left →
-    Answering first now h remarks
-    → AreAnswersBehind first (record { header = first.so_far.header; entries = h; remarks = remarks })
-answering_all first now new h remarks left same all a = λ form text were.
-    let told : Told first.so_far.header a.steps a.lines h =
-    subst (λ (k : Header). Told k a.steps a.lines h) same a.told in
-    let is = subst (λ (k : Header). IfSome text (λ t. IsText steps_form t k a.steps)) same
-    (all text a.steps (a.read text were)) in
-    answer_is form text first.so_far.header h remarks a.steps a.lines told a.remarked is
+answer_is : (form : Form) (text : Option (List ℕ)) (header : StepsHeader) (acts : List Act)
+    (answers : AllAnswers) → answers_text form answers ≡ answer_text form header acts
+    → IsLawful (behind_acts header acts).base (behind_acts header acts).entries
+    → IfSome text (λ t. IsText steps_form t header acts) → IsAnswerTo form text (answers_text form answers)
+answer_is form None header acts answers same lawful is = tt
+answer_is form (Some t) header acts answers same lawful is = replayed form t header acts _ is lawful same
 
-pub legal_behind : (first now : Progress Header (ℕ × Step)) (h : List Entry) (remarks : List Remark) →
-    now.so_far.header ≡ first.so_far.header → Answering first now h remarks →
-    IsLegal (opening first.so_far.header) h
-legal_behind first now h remarks same a =
-    subst (λ (k : Header). IsLegal (opening k) h) same a.told.behind.legal
+-- the last act was done
+pub answering_all : (first now new : Progress StepsHeader Act) (b : Base) (h past : List Entry)
+    (remarks : List Remark) (left : Option (List ℕ)) →
+    now.so_far.header ≡ first.so_far.header → IsNext steps_form now (Ok None) new left → IsLawful b h →
+    Answering first now b h past remarks
+    → AreAnswersBehind first (record {
+      header = first.so_far.header;
+      past = past;
+      base = b;
+      entries = h;
+      remarks = remarks;
+    })
+answering_all first now new b h past remarks left same all lawful a = λ form text were.
+    let header = first.so_far.header in
+    let told : Told header.header a.acts a.lines b h =
+    subst (λ (k : StepsHeader). Told k.header a.acts a.lines b h) same a.told in
+    let is = subst (λ (k : StepsHeader). IfSome text (λ t. IsText steps_form t k a.acts)) same
+    (all text a.acts (a.read text were)) in
+    answer_is form text header a.acts _
+    (text_is form header b h past remarks a.acts a.lines told a.remarked a.counted a.ended)
+    (lawful_is header b h a.acts a.lines told lawful) is

@@ -1,5 +1,5 @@
 -- The entries of a text are judged, and the first of them kept, as their lines are read.
-use Rattle.std.proofs.Common.{◌≡◌, ℕ, ◌-◌, ◌<◌, ◌≤◌, ◌^◌, Bool, true, false, List, [], ◌∷◌, ◌++◌, length, reverse, take, Option, None, Some, Ok, IfSome, refl, sym, ap, ◌∙◌, arith, subst}
+use Rattle.std.proofs.Common.{◌≡◌, ℕ, ◌+◌, ◌-◌, ◌<◌, ◌≤◌, ◌^◌, Bool, true, false, List, [], ◌∷◌, ◌++◌, length, reverse, take, Option, None, Some, Ok, IfSome, refl, sym, ap, ◌∙◌, arith, subst}
 use Rattle.std.proofs.lemmas.Bool.{ltb-true, ltb-false}
 use Rattle.std.proofs.lemmas.List.{length-append, length-reverse, reverse-append, take_all, take-append-le}
 use Rattle.std.proofs.lemmas.List.Elements.{All-push}
@@ -12,35 +12,51 @@ use Rattle.audit.specs.Auditor.{HasJudged}
 use Rattle.audit.specs.Verdict.{IsJudgement, verdict_of}
 use Rattle.history.specs.declared.entry.Entry.{Entry}
 use Rattle.history.specs.declared.header.Header.{Header}
-use Rattle.history.specs.Entries.{ended_calls}
+use Rattle.history.specs.Base.{Base, based}
+use Rattle.history.specs.Entries.{IsBasedWell, or_opening}
+use Rattle.history.specs.Entry.{ends_call}
 use Rattle.history.specs.Header.{IsInRange}
-use Rattle.history_text.specs.HistoryText.{history_form}
-use Rattle.line_text.specs.Reading.{IsText}
+use Rattle.history.specs.Legal.{calls}
+use Rattle.history.specs.Start.{Start}
+use Rattle.history_text.specs.HistoryText.{IsHistoryText}
 use Rattle.driver.specs.declared.judged.Judged.{Judged}
 use Rattle.driver.specs.AuditStream.{IsVerdict}
-use Rattle.driver.specs.HistoryReader.{AreCounted, EntriesHeld, entries_read}
+use Rattle.driver.specs.HistoryReader.{AreCounted, EntriesHeld, IsEntryNext, base_held}
 use Rattle.driver.specs.Judged.{IsJudged, kept_with}
-use Rattle.driver.specs.TextReader.{Progress, IsNext}
-use Rattle.driver.proofs.ReadingAhead.{ReadOn}
+use Rattle.driver.proofs.EntriesAhead.{EntriesOn}
 
-pub verdict_is : (h : Header) (entries : List Entry) (j : Judgement) → IsJudgement h entries j →
-    IsVerdict h entries (verdict_of j)
-verdict_is h entries (Legal totals) judged = judged.0
-verdict_is h entries (NotLegal number) judged = judged.0
+pub verdict_is : (b : Base) (entries : List Entry) (j : Judgement) → IsJudgement (based b) entries j →
+    IsVerdict b entries (verdict_of j)
+verdict_is b entries (Legal totals) judged = judged.0
+verdict_is b entries (NotLegal number) judged = judged.0
 
--- these entries were read from the header on, and followed, and those before the end were kept
-pub record Judging (first : Progress Header Entry) (now : EntriesHeld) (left : Option (List ℕ))
+-- a history begins from the same base as long as it is read
+pub base_kept : (old new : EntriesHeld) → new.header ≡ old.header → new.base ≡ old.base →
+    base_held new ≡ base_held old
+base_kept old new header base =
+    ap (λ (k : Header). or_opening k new.base) header
+    ∙ ap (λ (o : Option Base). or_opening old.header o) base
+
+header_of : (k : Header) (o : Option Base) → IsBasedWell k o → (or_opening k o).header ≡ k
+header_of k None well = refl
+header_of k (Some b) well = well.0
+
+-- these entries were read from the base on, and followed, and those before the end were kept
+pub record Judging (first : EntriesHeld) (left : Option (List ℕ)) (now : EntriesHeld) (mid : Option (List ℕ))
     (a : Auditor) (end : ℕ) (kept : List Entry) : Type 0 where
   pub entries : List Entry
-  pub read : ReadOn history_form first (reverse entries) (entries_read now left)
-  pub judged : HasJudged first.so_far.header entries a
-  pub header : now.header ≡ first.so_far.header
-  pub count : now.count ≡ length entries
-  pub calls : now.calls ≡ ended_calls entries
+  pub read : EntriesOn first left (reverse entries) now mid
+  pub judged : HasJudged (based (base_held first)) entries a
+  pub header : now.header ≡ first.header
+  pub base : now.base ≡ first.base
+  pub folded : now.place.folded ≡ (base_held first).entries
+  pub count : now.place.count ≡ length entries
+  pub calls : now.place.calls ≡ calls (based (base_held first)) entries
   pub front : kept ≡ take end (reverse entries)
-  pub seated : All (λ e. e.seat < first.so_far.header.seats) kept
+  pub seated : All (λ e. e.seat < first.header.seats) kept
   pub few : length entries < 2 ^ 32
-  pub range : IsInRange first.so_far.header
+  pub range : IsInRange first.header
+  pub well : IsBasedWell first.header first.base
 
 more_by : (xs : List Entry) (e : Entry) (n end : ℕ) (b : Bool) → nat_lt n end ≡ b → n ≡ length xs →
     (if b then take end xs ++ e ∷ [] else take end xs) ≡ take end (xs ++ e ∷ [])
@@ -61,51 +77,58 @@ seated_by : (P : Entry → Type 0) (kept : List Entry) (e : Entry) (b : Bool) �
 seated_by P kept e true all seat = All-push P kept e all seat
 seated_by P kept e false all seat = all
 
-pub judging_on : (first : Progress Header Entry) (old new : EntriesHeld) (left left' : Option (List ℕ))
-    (a b : Auditor) (e : Entry) (end : ℕ) (kept kept' : List Entry) →
-    IsNext history_form (entries_read old left) (Ok (Some e)) (entries_read new left') left' →
-    new.header ≡ old.header → AreCounted old (Some e) new →
-    ((k : Header) (h : List Entry) → HasJudged k h a → e.seat < k.seats → HasJudged k (e ∷ h) b) →
-    kept' ≡ kept_with kept e (new.count - 1) end →
-    Judging first old left a end kept → Judging first new left' b end kept'
-judging_on first old new left left' a b e end kept kept' next same counted follow with j =
-    let seat = subst (λ (k : Header). e.seat < k.seats) j.header counted.3 in
-    let within = subst (λ (k : Header). new.count ≤ k.cap) j.header counted.2 in
-    let P : Entry → Type 0 = λ x. x.seat < first.so_far.header.seats in
+pub judging_on : (first old new : EntriesHeld) (left mid after : Option (List ℕ)) (a b : Auditor)
+    (e : Entry) (end : ℕ) (kept kept' : List Entry) →
+    IsEntryNext old mid (Ok (Some e)) new after → new.header ≡ old.header → new.base ≡ old.base →
+    AreCounted old (Some e) new →
+    ((s : Start) (h : List Entry) → HasJudged s h a → e.seat < s.header.seats → HasJudged s (e ∷ h) b) →
+    kept' ≡ kept_with kept e (new.place.count - 1) end →
+    Judging first left old mid a end kept → Judging first left new after b end kept'
+judging_on first old new left mid after a b e end kept kept' next same same_base counted follow with j =
+    let seat = subst (λ (k : Header). e.seat < k.seats) j.header counted.2 in
+    let within = subst (λ (k : Header). new.place.count ≤ k.cap) j.header counted.1 in
+    let one = ap (λ p. p.count) counted.0 in
+    let P : Entry → Type 0 = λ x. x.seat < first.header.seats in
+    let based_seat =
+    subst (λ (k : Header). e.seat < k.seats) (sym (header_of first.header first.base j.well)) seat in
     record {
       entries = e ∷ j.entries;
       read = rw (reverse-append (e ∷ []) j.entries)
           (λ text were. next text (reverse j.entries) (j.read text were));
-      judged = follow first.so_far.header j.entries j.judged seat;
+      judged = follow (based (base_held first)) j.entries j.judged based_seat;
       header = same ∙ j.header;
-      count = omega (arith, counted.0, j.count);
-      calls = omega (arith, counted.1, j.calls);
-      front = with ∙ ap (λ xs. kept_with xs e (new.count - 1) end) j.front
-          ∙ kept_more (reverse j.entries) e (new.count - 1) end
-          (omega (arith, counted.0, j.count, length-reverse j.entries))
+      base = same_base ∙ j.base;
+      folded = ap (λ p. p.folded) counted.0 ∙ j.folded;
+      count = omega (arith, one, j.count);
+      calls = ap (λ p. p.calls) counted.0 ∙ ap (λ n. n + (if ends_call e.word then 1 else 0)) j.calls;
+      front = with ∙ ap (λ xs. kept_with xs e (new.place.count - 1) end) j.front
+          ∙ kept_more (reverse j.entries) e (new.place.count - 1) end
+          (omega (arith, one, j.count, length-reverse j.entries))
           ∙ ap (take end) (sym (reverse-append (e ∷ []) j.entries));
-      seated = subst (All P) (sym with) (seated_by P kept e (nat_lt (new.count - 1) end) j.seated seat);
-      few = omega (arith, counted.0, within, j.count, j.range.cap);
+      seated = subst (All P) (sym with) (seated_by P kept e (nat_lt (new.place.count - 1) end) j.seated seat);
+      few = omega (arith, one, within, j.count, j.range.cap);
       range = j.range;
+      well = j.well;
     }
 
-pub all_judged : (first : Progress Header Entry) (now new : EntriesHeld) (left left' : Option (List ℕ))
-    (a : Auditor) (end : ℕ) (kept : List Entry) (result : Judged) →
-    IsNext history_form (entries_read now left) (Ok None) (entries_read new left') left' →
-    new.header ≡ now.header → AreCounted now None new →
-    ((k : Header) (h : List Entry) → HasJudged k h a → IsJudgement k h result.judgement) →
-    result.entries.items ≡ kept → Judging first now left a end kept → IsJudged first new end result
-all_judged first now new left left' a end kept result all same counted judges items j =
-    let P : Entry → Type 0 = λ x. x.seat < first.so_far.header.seats in
+pub all_judged : (first now new : EntriesHeld) (left mid after : Option (List ℕ)) (a : Auditor) (end : ℕ)
+    (kept : List Entry) (result : Judged) → IsEntryNext now mid (Ok None) new after →
+    new.header ≡ now.header → new.base ≡ now.base → AreCounted now None new →
+    ((s : Start) (h : List Entry) → HasJudged s h a → IsJudgement s h result.judgement) →
+    result.entries.items ≡ kept → Judging first left now mid a end kept → IsJudged first left new end result
+all_judged first now new left mid after a end kept result all same same_base counted judges items j =
+    let P : Entry → Type 0 = λ x. x.seat < first.header.seats in
     record {
       entries = j.entries;
       is = λ text were.
-          subst (λ (k : Header). IfSome text (λ t. IsText history_form t k (reverse j.entries))) j.header
-          (all text (reverse j.entries) (j.read text were));
-      judged = judges first.so_far.header j.entries j.judged;
+          subst (λ (b : Base). IfSome text (λ t. IsHistoryText t b (reverse j.entries)))
+          (base_kept first now j.header j.base) (all text (reverse j.entries) (j.read text were));
+      judged = judges (based (base_held first)) j.entries j.judged;
       header = same ∙ j.header;
-      count = counted.0 ∙ j.count;
-      calls = counted.1 ∙ j.calls;
+      base = same_base ∙ j.base;
+      folded = ap (λ p. p.folded) counted ∙ j.folded;
+      count = ap (λ p. p.count) counted ∙ j.count;
+      calls = ap (λ p. p.calls) counted ∙ j.calls;
       front = items ∙ j.front;
       seated = subst (All P) (sym items) j.seated;
       few = j.few;

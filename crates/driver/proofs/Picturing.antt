@@ -1,24 +1,29 @@
 -- The picture of the entries that were kept.
-use Rattle.std.proofs.Common.{◌≡◌, ℕ, ◌<◌, ◌^◌, Bool, true, false, List, [], ◌∷◌, length, get_or, Option, None, Some, ap, ◌∙◌, arith}
+use Rattle.std.proofs.Common.{◌≡◌, ℕ, ◌<◌, ◌^◌, Bool, true, false, List, [], ◌∷◌, length, reverse, get_or, Option, None, Some, IfSome, sym, subst, ap, ◌∙◌, arith}
 use Rattle.std.specs.Prelude.{◌↔◌, nat_lt, if◌then◌else◌}
 use Rattle.std.specs.List.{All, Contains}
 use Rattle.std.proofs.lemmas.List.{length-take}
 use Rattle.std.proofs.lemmas.List.Elements.{All-append, All-contains_itself, All-push}
+use Rattle.audit.specs.declared.verdict.Judgement.{Judgement}
 use Rattle.audit.specs.declared.verdict.Verdict.{Verdict}
 use Rattle.audit.specs.declared.verdict.Verdict.TheVariants.{Legal, NotLegal}
+use Rattle.audit.specs.Verdict.{IsJudgement, verdict_of}
 use Rattle.drawing.specs.declared.bar.Bar.{Bar}
 use Rattle.drawing.specs.declared.mark.Sign.{Sign}
 use Rattle.drawing.specs.Bars.{bars}
 use Rattle.drawing.specs.IsBar.{IsBar}
 use Rattle.drawing.specs.Marks.{mark_of, marks, sign_of}
 use Rattle.history.specs.declared.entry.Entry.{Entry}
-use Rattle.history.specs.declared.header.Header.{Header}
+use Rattle.history.specs.Base.{Base, based}
 use Rattle.history.specs.Start.{Start}
+use Rattle.history_text.specs.HistoryText.{IsHistoryText}
 use Rattle.picture.specs.Document.{svg_text}
 use Rattle.picture.specs.Layout.{IsShort}
 use Rattle.picture.specs.Marks.{IsEarly}
 use Rattle.driver.specs.declared.choice.Choice.{Choice}
-use Rattle.driver.specs.DrawStream.{legal_front, pictured}
+use Rattle.driver.specs.AuditStream.{IsToldOf, IsVerdict}
+use Rattle.driver.specs.DrawStream.{drawn_text, legal_front, pictured}
+use Rattle.driver.proofs.Judging.{verdict_is}
 
 short : (s : Start) (from : ℕ) (h : List Entry) (b : Bar) → length h < 2 ^ 32 → IsBar s from h b → IsShort b
 short s from h b few is = record { order = is.order; last = omega (arith, is.ends_within, few) }
@@ -55,12 +60,27 @@ pub front_short : (verdict : Verdict) (entries : List Entry) → length entries 
 front_short Legal entries few = few
 front_short (NotLegal number) entries few = omega (arith, few, length-take number entries)
 
--- a picture of the same
-pub same_picture : (choice : Choice) (verdict : Verdict) (k k' : Header) (all all' : ℕ)
-    (entries others : List Entry) (text : List ℕ) → k ≡ k' → all ≡ all' → entries ≡ others →
-    text ≡ svg_text (pictured k choice all verdict (legal_front verdict entries)) →
-    text ≡ svg_text (pictured k' choice all' verdict (legal_front verdict others))
-same_picture choice verdict k k' all all' entries others text same count items is =
-    is ∙ ap (λ h. svg_text (pictured h choice all verdict (legal_front verdict entries))) same
-    ∙ ap (λ n. svg_text (pictured k' choice n verdict (legal_front verdict entries))) count
-    ∙ ap (λ xs. svg_text (pictured k' choice all' verdict (legal_front verdict xs))) items
+-- the text of a picture of the same
+pub same_picture : (choice : Choice) (verdict : Verdict) (b b' : Base) (count count' : ℕ)
+    (entries others : List Entry) (text : List ℕ) → b ≡ b' → count ≡ count' → entries ≡ others →
+    text ≡ svg_text (pictured b choice count verdict (legal_front verdict entries)) →
+    text ≡ svg_text (pictured b' choice count' verdict (legal_front verdict others))
+same_picture choice verdict b b' count count' entries others text base counts items is =
+    is ∙ ap (λ h. svg_text (pictured h choice count verdict (legal_front verdict entries))) base
+    ∙ ap (λ n. svg_text (pictured b' choice n verdict (legal_front verdict entries))) counts
+    ∙ ap (λ xs. svg_text (pictured b' choice count' verdict (legal_front verdict xs))) items
+
+-- it tells the history text
+pub drawn_so : (choice : Choice) (left : Option (List ℕ)) (b : Base) (entries : List Entry) (j : Judgement)
+    (verdict : Verdict) (text : List ℕ) → IfSome left (λ t. IsHistoryText t b (reverse entries)) →
+    IsJudgement (based b) entries j → verdict ≡ verdict_of j → text ≡ drawn_text choice b entries verdict →
+    IfSome left (λ t. IsToldOf (drawn_text choice) t verdict (λ written. text ≡ written))
+drawn_so choice None b entries j verdict text is judged same written = tt
+drawn_so choice (Some t) b entries j verdict text is judged same written =
+    record {
+      base = b;
+      entries = entries;
+      is = is;
+      judged = subst (IsVerdict b entries) (sym same) (verdict_is b entries j judged);
+      written = written;
+    }

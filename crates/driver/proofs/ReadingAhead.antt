@@ -76,7 +76,7 @@ keeps_stays old new (Some xs) (Some ys) keeps =
     }
 
 -- what stands in the window begins with a good line: nothing of it was let go of
-all_kept : (old window good rest : List ℕ) (left after : Option (List ℕ)) →
+pub all_kept : (old window good rest : List ℕ) (left after : Option (List ℕ)) →
     StaysAhead old left window after → window ≡ good ++ 10 ∷ rest → length good < 256 →
     Keeps (prepend_known old left) (prepend_known window after)
 all_kept old window good rest None after s is lt = tt
@@ -106,20 +106,19 @@ further form None so_far known window after left items x ahead next were = tt
 further form (Some t) so_far known window after None items x ahead next were = absurd were
 further form (Some t) so_far known window after (Some more) items x ahead next were =
     let parts = ap (λ (b : List ℕ). b ++ more) ahead.parts
-    ∙ append_assoc (ended (form.item_line so_far.count x)) after more in
+    ∙ append_assoc (ended (form.item_line x)) after more in
     read_on form t so_far known items (window ++ more) x (after ++ more)
     (record { fits = ahead.fits; parts = parts }) (next were.known) were
 
--- the next line was found
+-- the next line was found, which is short
 pub item_kept : {H I : Type 0} (form : Form H I) (so_far : SoFar H I) (old window : List ℕ)
-    (left after : Option (List ℕ)) (x : I) (n : ℕ) → HasShortLines form 256 → form.IsHeader so_far.header →
+    (left after : Option (List ℕ)) (x : I) (n : ℕ) → length (form.item_line x) < 256 →
     StaysAhead old left window after → IsLineBehind form so_far window (Ok (Some (x, n)))
     → Keeps (prepend_known old left) (prepend_known window after)
-item_kept form so_far old window left after x n short header s is =
+item_kept form so_far old window left after x n few s is =
     let found = is [] in
-    all_kept old window (form.item_line so_far.count x) found.0 left after s
-    (found.1.parts ∙ broken (form.item_line so_far.count x) found.0)
-    (short.item so_far.header so_far.count x header found.1.fits)
+    all_kept old window (form.item_line x) found.0 left after s
+    (found.1.parts ∙ broken (form.item_line x) found.0) few
 
 -- the end line was found
 pub end_kept : (old window good : List ℕ) (left after : Option (List ℕ)) → StaysAhead old left window after →
@@ -135,8 +134,8 @@ part_left form t h items rest begun =
     omega (
       arith,
       ap length begun.parts,
-      length-append (ended (form.header_line h)) (lines_of form 0 items ++ rest),
-      length-append (lines_of form 0 items) rest,
+      length-append (ended (form.header_line h)) (lines_of form items ++ rest),
+      length-append (lines_of form items) rest,
     )
 
 pub left_of : {H I : Type 0} (form : Form H I) (text : Option (List ℕ)) (so_far : SoFar H I)
@@ -178,7 +177,8 @@ whole_left None = tt
 whole_left (Some t) = omega arith
 
 -- the faults of reading
-reading_fault : {H I : Type 0} (form : Form H I) (text left after : Option (List ℕ)) (fault : StreamFault) →
+pub reading_fault : {H I : Type 0} (form : Form H I) (text left after : Option (List ℕ))
+    (fault : StreamFault) →
     IsOfReading fault → (fault ≡ Memory → IfSome left IsTooLong) → IsPartLeft text left →
     IsFaultOf form text after fault
 reading_fault form text left after ReadFailed of long part = tt
@@ -195,14 +195,14 @@ pub item_ahead : {H I : Type 0} (form : Form H I) (text : Option (List ℕ)) (so
     (items ++ x ∷ [])
 item_ahead form text so_far known window left items x n is next were =
     let found = is [] in
-    rw (last_bytes window (ended (form.item_line so_far.count x)) found.0 n found.1.parts found.2)
+    rw (last_bytes window (ended (form.item_line x)) found.0 n found.1.parts found.2)
     (further form text so_far known window found.0 left items x found.1 next were)
 
 pub line_within : {H I : Type 0} (form : Form H I) (so_far : SoFar H I) (window : List ℕ) (x : I) (n : ℕ) →
     IsLineBehind form so_far window (Ok (Some (x, n))) → n ≤ length window
 line_within form so_far window x n is =
     let found = is [] in
-    omega (arith, shorter window (form.item_line so_far.count x) found.0 n found.1.parts found.2)
+    omega (arith, shorter window (form.item_line x) found.0 n found.1.parts found.2)
 
 stays : {H I : Type 0} (form : Form H I) (front more : List ℕ) (fault : TextFault) →
     (fault ≡ CutShort → more ≡ []) → IsReading form front (Err fault) →
@@ -223,7 +223,7 @@ front_read form t so_far window more items were =
     }
 
 -- the fault of the next line, of which bytes may have been let go of
-fault_ahead : {H I : Type 0} (form : Form H I) (text : Option (List ℕ)) (so_far : SoFar H I)
+pub fault_ahead : {H I : Type 0} (form : Form H I) (text : Option (List ℕ)) (so_far : SoFar H I)
     (old window : List ℕ) (left after : Option (List ℕ)) (items : List I) (fault : TextFault)
     → IsLawful form → HasShortLines form 256 → StaysAhead old left window after →
     IsLineBehind form so_far window (Err fault) → (fault ≡ CutShort → IsAtEnd after) →
@@ -275,7 +275,7 @@ all_ahead form (Some t) so_far window (Some more) items is end were =
     )
     (front_whole form t so_far window more items is were)
 
-more_ahead : {H I : Type 0} (form : Form H I) (text : Option (List ℕ)) (so_far : SoFar H I)
+pub more_ahead : {H I : Type 0} (form : Form H I) (text : Option (List ℕ)) (so_far : SoFar H I)
     (window : List ℕ) (left : Option (List ℕ)) (items : List I)
     → IsLineBehind form so_far window (Ok None) → IfSome left (λ more. more ≢ []) →
     WereRead form text (reader_at so_far window left) items →

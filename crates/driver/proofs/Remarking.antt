@@ -15,13 +15,11 @@ use Rattle.history.specs.Start.{Start}
 use Rattle.history.specs.Steps.{entry_for}
 use Rattle.history.specs.Text.{ended}
 use Rattle.history_text.specs.EntryLines.{entry_line}
-use Rattle.history_text.specs.HistoryText.{history_form}
-use Rattle.line_text.specs.Form.{lines_of}
-use Rattle.line_text.proofs.Growing.{lines_of-push}
 use Rattle.driver.specs.declared.remark.Remark.{Remark}
 use Rattle.driver.specs.declared.remark.Said.TheVariants.{IsNamed}
-use Rattle.driver.specs.Remarks.{IsKept, entries_said, remark_of, said_line, told_lines}
-use Rattle.driver.specs.ReplayText.{answer_line}
+use Rattle.driver.specs.Remarks.{IsKept, entries_said, entry_lines, remark_of, said_line, told_lines, trim_remark}
+use Rattle.driver.specs.ReplayText.{answer_line, entries_of, trim_line}
+use Rattle.driver.proofs.EntryLines.{entry_lines-push}
 
 -- the entries behind an answer
 abbrev added : Result Answer Fault → List Entry → List Entry
@@ -52,7 +50,7 @@ pub record Remarked (h : List Entry) (remarks : List Remark) (out : List ℕ) : 
   pub within : number ≤ length h
   pub lines : (left : List Remark) (more : List Entry) →
       told_lines (reverse h ++ more) 0 (remarks ++ left) ≡ front ++ told_lines (reverse h ++ more) number left
-  pub rest : out ≡ front ++ lines_of history_form number (drop number (reverse h))
+  pub rest : out ≡ front ++ entry_lines number (drop number (reverse h))
 
 pub remarked_none : Remarked [] [] []
 remarked_none =
@@ -70,11 +68,11 @@ remarked_plain h remarks out e was =
     let within : n ≤ length (reverse h) = omega (arith, was.within, length-reverse h) in
     let last : n + length old ≡ length h =
     omega (arith, within, length-drop n (reverse h), length-reverse h) in
-    let lines : lines_of history_form n (drop n (reverse h ++ e ∷ [])) ≡ lines_of history_form n old
+    let lines : entry_lines n (drop n (reverse h ++ e ∷ [])) ≡ entry_lines n old
     ++ ended (entry_line (length h) e) =
-    ap (lines_of history_form n) (drop-append-le n (reverse h) (e ∷ []) within)
-    ∙ lines_of-push history_form n old e
-    ∙ ap (λ (k : ℕ). lines_of history_form n old ++ ended (entry_line k e)) last in
+    ap (entry_lines n) (drop-append-le n (reverse h) (e ∷ []) within)
+    ∙ entry_lines-push n old e
+    ∙ ap (λ (k : ℕ). entry_lines n old ++ ended (entry_line k e)) last in
     record {
       number = n;
       front = was.front;
@@ -83,9 +81,9 @@ remarked_plain h remarks out e was =
           ++ told_lines es n left) (sym (ap (λ (es : List Entry). es ++ more) (newest_last e h)
           ∙ append_assoc (reverse h) (e ∷ []) more)) (was.lines left (e ∷ more));
       rest = ap (λ (t : List ℕ). t ++ ended (entry_line (length h) e)) was.rest
-          ∙ append_assoc was.front (lines_of history_form n old) (ended (entry_line (length h) e))
+          ∙ append_assoc was.front (entry_lines n old) (ended (entry_line (length h) e))
           ∙ ap (λ (t : List ℕ). was.front ++ t) (sym lines)
-          ∙ ap (λ (es : List Entry). was.front ++ lines_of history_form n (drop n es))
+          ∙ ap (λ (es : List Entry). was.front ++ entry_lines n (drop n es))
           (sym (newest_last e h));
     }
 
@@ -108,13 +106,13 @@ told_behind h remarks out r here was left more =
     ap (take (r.before - n)) (drop-append-le n (reverse h) more within)
     ∙ take_at old more (r.before - n) count in
     ap (told_lines all 0) (append_assoc remarks (r ∷ []) left) ∙ was.lines (r ∷ left) more
-    ∙ ap (λ (t : List Entry). was.front ++ (lines_of history_form n t ++ (line ++ after))) since
-    ∙ sym (append_assoc was.front (lines_of history_form n old) (line ++ after))
+    ∙ ap (λ (t : List Entry). was.front ++ (entry_lines n t ++ (line ++ after))) since
+    ∙ sym (append_assoc was.front (entry_lines n old) (line ++ after))
     ∙ ap (λ (t : List ℕ). t ++ (line ++ after)) (sym was.rest)
     ∙ sym (append_assoc out line after)
 
-nothing_behind : (xs : List Entry) (n : ℕ) → n ≡ length xs → lines_of history_form n (drop n xs) ≡ []
-nothing_behind xs n all = ap (lines_of history_form n) (drop_all n xs (omega (arith, all)))
+nothing_behind : (xs : List Entry) (n : ℕ) → n ≡ length xs → entry_lines n (drop n xs) ≡ []
+nothing_behind xs n all = ap (entry_lines n) (drop_all n xs (omega (arith, all)))
 
 -- the step was answered by no entry
 pub remarked_aside : (h : List Entry) (remarks : List Remark) (out : List ℕ) (r : Remark) (line : List ℕ) →
@@ -174,6 +172,23 @@ remarked_all h remarks out was =
     ∙ was.lines [] [] ∙ ap (λ (es : List Entry). was.front ++ told_lines es was.number [])
     (append-nil (reverse h)) ∙ sym was.rest
 
+-- the entries that an answer adds are counted
+pub added_count : (r : Result Answer Fault) (h : List Entry) → length (added r h) ≡ length h + entries_of r
+added_count (Ok (Recorded e whom)) h = omega arith
+added_count (Ok Sleep) h = omega arith
+added_count (Err fault) h = omega arith
+
+pub added_is : (s : Start) (h : List Entry) (i : ℕ) (step : Step) (r : Result Answer Fault)
+    (h' : List Entry) → r ≡ (answer s h i step).0 → h' ≡ (answer s h i step).1 → h' ≡ added r h
+added_is s h i step r h' p q = q ∙ answer_adds s h i step
+    ∙ ap (λ (a : Result Answer Fault). added a h) (sym p)
+
+-- behind others
+added_behind : (r : Result Answer Fault) (h past : List Entry) → added r h ++ past ≡ added r (h ++ past)
+added_behind (Ok (Recorded e whom)) h past = refl
+added_behind (Ok Sleep) h past = refl
+added_behind (Err fault) h past = refl
+
 step_remarked : (h : List Entry) (seat : ℕ) (r : Result Answer Fault) (remarks remarks' : List Remark)
     (out : List ℕ) → IsKept remarks (remark_of (length h) seat r) remarks'
     → Remarked h remarks out → Remarked (added r h) remarks' (out ++ ended (answer_line (length h) seat r))
@@ -186,12 +201,20 @@ step_remarked h seat (Ok Sleep) remarks remarks' out is was =
 step_remarked h seat (Err fault) remarks remarks' out is was =
     rw is (remarked_aside h remarks out _ _ refl refl (λ e. refl) was)
 
-pub remarked_on : (s : Start) (h : List Entry) (i : ℕ) (step : Step) (r : Result Answer Fault)
+-- a step was answered, behind entries some of which were folded
+pub remarked_on : (s : Start) (h past : List Entry) (i : ℕ) (step : Step) (r : Result Answer Fault)
     (h' : List Entry) (remarks remarks' : List Remark) (out : List ℕ) → r ≡ (answer s h i step).0 →
     h' ≡ (answer s h i step).1
-    → IsKept remarks (remark_of (length h) i r) remarks' → Remarked h remarks out →
-    Remarked h' remarks' (out ++ ended (answer_line (length h) i r))
-remarked_on s h i step r h' remarks remarks' out p q more was =
-    let same : h' ≡ added r h = q ∙ answer_adds s h i step
-    ∙ ap (λ (a : Result Answer Fault). added a h) (sym p) in
-    rw same (step_remarked h i r remarks remarks' out more was)
+    → IsKept remarks (remark_of (length (h ++ past)) i r) remarks' → Remarked (h ++ past) remarks out →
+    Remarked (h' ++ past) remarks' (out ++ ended (answer_line (length (h ++ past)) i r))
+remarked_on s h past i step r h' remarks remarks' out p q more was =
+    let same : h' ++ past ≡ added r (h ++ past) = ap (λ (es : List Entry). es ++ past)
+    (added_is s h i step r h' p q) ∙ added_behind r h past in
+    rw same (step_remarked (h ++ past) i r remarks remarks' out more was)
+
+-- a trim was answered
+pub remarked_trim : (h : List Entry) (r : Result ℕ Fault) (remarks : List Remark) (out : List ℕ) →
+    Remarked h remarks out
+    → Remarked h (remarks ++ trim_remark (length h) r ∷ []) (out ++ ended (trim_line r))
+remarked_trim h (Ok count) remarks out was = remarked_aside h remarks out _ _ refl refl (λ e. refl) was
+remarked_trim h (Err fault) remarks out was = remarked_aside h remarks out _ _ refl refl (λ e. refl) was

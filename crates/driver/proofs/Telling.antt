@@ -6,43 +6,29 @@ use Rattle.std.proofs.lemmas.Option.{get_or_from_slice_get, slice_get_within, sl
 use Rattle.history.specs.declared.entry.Entry.{Entry}
 use Rattle.history.specs.Text.{ended}
 use Rattle.history_text.specs.EntryLines.{entry_line}
-use Rattle.history_text.specs.HistoryText.{history_form}
-use Rattle.line_text.specs.Form.{lines_of}
-use Rattle.line_text.proofs.Growing.{lines_of-push}
 use Rattle.streams.specs.declared.source.DeviceFailed.{DeviceFailed}
 use Rattle.driver.specs.declared.remark.Remark.{Remark}
-use Rattle.driver.specs.Remarks.{entries_said, said_line, told_lines}
+use Rattle.driver.specs.Remarks.{entries_said, entry_lines, said_line, told_lines}
 use Rattle.driver.specs.LineWriter.{Gathers, IsGathered}
 use Rattle.streams.specs.Whole.{AppendsFront}
+use Rattle.driver.proofs.EntryLines.{entry_lines-append, entry_lines-push}
 use Rattle.driver.proofs.Gathering.{gathered_more, front_more, front_longer}
-
-lines_of-append : (k : ℕ) (xs ys : List Entry) →
-    lines_of history_form k (xs ++ ys) ≡ lines_of history_form k xs ++
-    lines_of history_form (k + length xs) ys
-lines_of-append k [] ys = ap (λ (n : ℕ). lines_of history_form n ys) (omega arith)
-lines_of-append k (x ∷ xs) ys =
-    let line = ended (entry_line k x) in
-    let here : (k + 1) + length xs ≡ k + length (x ∷ xs) = omega arith in
-    ap (λ (t : List ℕ). line ++ t) (lines_of-append (k + 1) xs ys
-    ∙ ap (λ (n : ℕ). lines_of history_form (k + 1) xs ++ lines_of history_form n ys) here)
-    ∙ sym (append_assoc line (lines_of history_form (k + 1) xs)
-    (lines_of history_form (k + length (x ∷ xs)) ys))
 
 -- the lines of more entries begin with those of fewer
 pub lines_longer : (xs : List Entry) (k few many : ℕ) → few ≤ many
-    → lines_of history_form k (take many xs) ≡ lines_of history_form k (take few xs)
-    ++ lines_of history_form (k + length (take few xs)) (drop few (take many xs))
+    → entry_lines k (take many xs) ≡ entry_lines k (take few xs)
+    ++ entry_lines (k + length (take few xs)) (drop few (take many xs))
 lines_longer xs k few many less =
     let front : take few (take many xs) ≡ take few xs = take-take few many xs less in
-    ap (lines_of history_form k) (sym (take-append-drop few (take many xs)))
-    ∙ ap (λ (es : List Entry). lines_of history_form k (es ++ drop few (take many xs))) front
-    ∙ lines_of-append k (take few xs) (drop few (take many xs))
+    ap (entry_lines k) (sym (take-append-drop few (take many xs)))
+    ∙ ap (λ (es : List Entry). entry_lines k (es ++ drop few (take many xs))) front
+    ∙ entry_lines-append k (take few xs) (drop few (take many xs))
 
 -- one more entry
 pub entry_more : (xs : List Entry) (from number : ℕ) (e : Entry) → from ≤ number →
     slice_get xs number ≡ Some e
-    → lines_of history_form from (take ((number + 1) - from) (drop from xs))
-    ≡ lines_of history_form from (take (number - from) (drop from xs)) ++ ended (entry_line number e)
+    → entry_lines from (take ((number + 1) - from) (drop from xs))
+    ≡ entry_lines from (take (number - from) (drop from xs)) ++ ended (entry_line number e)
 entry_more xs from number e since at =
     let k = number - from in
     let ys = drop from xs in
@@ -54,11 +40,11 @@ entry_more xs from number e since at =
     ∙ get_or_from_slice_get xs number e e at in
     let counted : from + length (take k ys) ≡ number =
     omega (arith, place, within, length-take-le k ys (omega (arith, within))) in
-    ap (λ (n : ℕ). lines_of history_form from (take n ys)) next
-    ∙ ap (lines_of history_form from) (take_more ys k e within
+    ap (λ (n : ℕ). entry_lines from (take n ys)) next
+    ∙ ap (entry_lines from) (take_more ys k e within
     ∙ ap (λ (x : Entry). take k ys ++ x ∷ []) last)
-    ∙ lines_of-push history_form from (take k ys) e
-    ∙ ap (λ (n : ℕ). lines_of history_form from (take k ys) ++ ended (entry_line n e)) counted
+    ∙ entry_lines-push from (take k ys) e
+    ∙ ap (λ (n : ℕ). entry_lines from (take k ys) ++ ended (entry_line n e)) counted
 
 some_is_none : {X : Type 0} (x : X) → Some x ≡ None → ⊥
 some_is_none x e = cc
@@ -78,7 +64,7 @@ no_more xs from number to since upto none = by (slice_get_cases xs number).1
 -- one more remark
 pub told_on : (es : List Entry) (remarks : List Remark) (index number : ℕ) (d : Remark)
     (all told : List ℕ) → index < length remarks → all ≡ told ++ told_lines es number (drop index remarks)
-    → all ≡ (told ++ lines_of history_form number
+    → all ≡ (told ++ entry_lines number
     (take ((get_or remarks index d).before - number) (drop number es)))
     ++ (said_line (get_or remarks index d).said (get_or remarks index d).before
     (get_or remarks index d).seat (slice_get es (get_or remarks index d).before)
@@ -87,13 +73,13 @@ pub told_on : (es : List Entry) (remarks : List Remark) (index number : ℕ) (d 
 told_on es remarks index number d all told lt is =
     let r = get_or remarks index d in
     is ∙ ap (λ (rs : List Remark). told ++ told_lines es number rs) (drop_more remarks index d lt)
-    ∙ sym (append_assoc told (lines_of history_form number (take (r.before - number) (drop number es)))
+    ∙ sym (append_assoc told (entry_lines number (take (r.before - number) (drop number es)))
     (said_line r.said r.before r.seat (slice_get es r.before)
     ++ told_lines es (r.before + entries_said r.said) (drop (index + 1) remarks)))
 
 pub told_further : (es : List Entry) (remarks : List Remark) (index number : ℕ) (d : Remark)
     (all told : List ℕ) → index < length remarks → all ≡ told ++ told_lines es number (drop index remarks)
-    → all ≡ ((told ++ lines_of history_form number
+    → all ≡ ((told ++ entry_lines number
     (take ((get_or remarks index d).before - number) (drop number es)))
     ++ said_line (get_or remarks index d).said (get_or remarks index d).before (get_or remarks index d).seat
     (slice_get es (get_or remarks index d).before))
@@ -102,17 +88,17 @@ pub told_further : (es : List Entry) (remarks : List Remark) (index number : ℕ
 told_further es remarks index number d all told lt is =
     let r = get_or remarks index d in
     told_on es remarks index number d all told lt is
-    ∙ sym (append_assoc (told ++ lines_of history_form number (take (r.before - number) (drop number es)))
+    ∙ sym (append_assoc (told ++ entry_lines number (take (r.before - number) (drop number es)))
     (said_line r.said r.before r.seat (slice_get es r.before))
     (told_lines es (r.before + entries_said r.said) (drop (index + 1) remarks)))
 
 -- no further remark
 pub told_last : (es : List Entry) (remarks : List Remark) (index number count : ℕ) (all told : List ℕ) →
     length remarks ≤ index → count ≡ length es → all ≡ told ++ told_lines es number (drop index remarks)
-    → all ≡ told ++ lines_of history_form number (take (count - number) (drop number es))
+    → all ≡ told ++ entry_lines number (take (count - number) (drop number es))
 told_last es remarks index number count all told past counted is =
     is ∙ ap (λ (rs : List Remark). told ++ told_lines es number rs) (drop_all index remarks past)
-    ∙ ap (λ (xs : List Entry). told ++ lines_of history_form number xs)
+    ∙ ap (λ (xs : List Entry). told ++ entry_lines number xs)
     (sym (take_all (count - number) (drop number es) (omega (arith, counted, length-drop number es))))
 
 -- adding goes on

@@ -14,7 +14,7 @@ five o p q r s t a w b x c y d z e v first second third fourth fifth =
     fifth ∙ rw (four o p q r s a w b x c y d z first second third fourth) (simp append_assoc)
 
 -- lines, of which the last is ended behind its words
-pub lines : (p q r s t a b c d : List ℕ) → p ≡ a → q ≡ p ++ b → r ≡ q ++ c → s ≡ r ++ d → t ≡ s ++ 10 ∷ [] →
-    t ≡ a ++ b ++ c ++ (d ++ 10 ∷ [])
-lines p q r s t a b c d first second third fourth fifth =
-    fifth ∙ rw (fourth, third, second, first) (append_assoc (a ++ b ++ c) d (10 ∷ []))
+pub lines : (p o q r s t a b c d e : List ℕ) → p ≡ a → o ≡ p ++ b → q ≡ o ++ c → r ≡ q ++ d → s ≡ r ++ e →
+    t ≡ s ++ 10 ∷ [] → t ≡ a ++ b ++ c ++ d ++ (e ++ 10 ∷ [])
+lines p o q r s t a b c d e first second third fourth fifth sixth =
+    sixth ∙ rw (fifth, fourth, third, second, first) (append_assoc (a ++ b ++ c ++ d) e (10 ∷ []))

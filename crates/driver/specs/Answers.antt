@@ -1,29 +1,48 @@
--- The answers to the steps of a text, and what is written of them.
-use Rattle.std.specs.Prelude.{ℕ, List, [], ◌++◌, Option, Result, Ok, Err, codes, length, reverse}
+-- The answers to the steps and trims of a text, and what is written of them.
+use Rattle.std.specs.Prelude.{◌≡◌, ℕ, List, [], ◌++◌, Option, Result, Ok, Err, codes, length, reverse}
 use Rattle.std.specs.Io.KnownBytes.{Appends, Keeps}
 use Rattle.history.specs.declared.entry.Entry.{Entry}
 use Rattle.history.specs.declared.header.Header.{Header}
+use Rattle.history.specs.Base.{Base}
 use Rattle.history.specs.Entries.{ended_calls}
+use Rattle.history.specs.GoodBase.{IsGood}
 use Rattle.history.specs.Spelling.{part_of}
 use Rattle.history.specs.Text.{ended}
 use Rattle.history_text.specs.EntryLines.{counts_line}
+use Rattle.history_text.specs.HistoryText.{history_text}
+use Rattle.steps.specs.declared.header.StepsHeader.{StepsHeader}
 use Rattle.driver.specs.declared.form.Form.{Form}
 use Rattle.driver.specs.declared.form.Form.TheVariants.{Replay, History}
 use Rattle.driver.specs.declared.remark.Remark.{Remark}
+use Rattle.driver.specs.ReplayText.{header_line}
 use Rattle.streams.specs.declared.stream_fault.StreamFault.{StreamFault}
 use Rattle.streams.specs.declared.stream_fault.StreamFault.TheVariants.{WriteFailed, Memory}
 use Rattle.driver.specs.Remarks.{told_lines}
 use Rattle.streams.specs.Whole.{AppendsFront}
 
--- the header, the entries, the newest first, and what there is to remark beside them
+-- The header; the entries that were folded, the oldest first; the base that they left, and the entries behind
+-- it, the newest first; and what there is to remark beside all these.
 pub record AllAnswers : Type 0 where
-  pub header : Header
+  pub header : StepsHeader
+  pub past : List Entry
+  pub base : Base
   pub entries : List Entry
   pub remarks : List Remark
 
-abbrev pub first_line : Form → Header → List ℕ
-first_line Replay h = codes "aqs-replay 1 " ++ part_of h
-first_line History h = codes "aqs-history 1 " ++ part_of h
+-- all entries, the oldest first
+abbrev pub all_of : AllAnswers → List Entry
+all_of a = a.past ++ reverse a.entries
+
+-- These entries were folded into the base, which is good.
+pub record AreFolded (k : Header) (past : List Entry) (b : Base) : Type 0 where
+  pub header : b.header ≡ k
+  pub entries : b.entries ≡ length past
+  pub good : IsGood b
+
+-- the first line of the lines of all entries
+abbrev pub first_line : Form → StepsHeader → List ℕ
+first_line Replay h = header_line h
+first_line History h = codes "aqs-history 1 " ++ part_of h.header
 
 -- a history text has no line but those of the entries
 abbrev pub remarks_in : Form → List Remark → List Remark
@@ -33,11 +52,17 @@ remarks_in History remarks = []
 -- what follows the first line
 abbrev pub text_behind : Form → AllAnswers → List ℕ
 text_behind form a =
-    told_lines (reverse a.entries) 0 (remarks_in form a.remarks)
-    ++ ended (counts_line (length a.entries) (ended_calls a.entries))
+    told_lines (all_of a) 0 (remarks_in form a.remarks)
+    ++ ended (counts_line (length (all_of a)) (ended_calls (all_of a)))
 
+-- the lines of all entries, those that were folded among them
+abbrev pub lines_text : Form → AllAnswers → List ℕ
+lines_text form a = ended (first_line form a.header) ++ text_behind form a
+
+-- what is written: in the history text the base that was left stands for the entries that were folded
 abbrev pub answers_text : Form → AllAnswers → List ℕ
-answers_text form a = ended (first_line form a.header) ++ text_behind form a
+answers_text Replay a = lines_text Replay a
+answers_text History a = history_text a.base a.entries
 
 -- what writing a text leaves: all of it, a front of it or, where memory is refused, nothing
 abbrev pub Writes : Option (List ℕ) → Result (Unit {0}) StreamFault → Option (List ℕ) → List ℕ → Type 0

@@ -4,33 +4,31 @@ use Rattle.audit.specs.declared.verdict.Verdict.{Verdict}
 use Rattle.audit.specs.declared.verdict.Verdict.TheVariants.{Legal, NotLegal}
 use Rattle.audit.specs.Verdict.{IsFirstWrong}
 use Rattle.history.specs.declared.entry.Entry.{Entry}
-use Rattle.history.specs.declared.header.Header.{Header}
+use Rattle.history.specs.Base.{Base, based}
 use Rattle.history.specs.Legal.{IsLegal}
-use Rattle.history.specs.Start.{opening}
-use Rattle.history_text.specs.HistoryText.{history_form}
-use Rattle.line_text.specs.Reading.{IsText}
+use Rattle.history_text.specs.HistoryText.{IsHistoryText, history_form}
 use Rattle.streams.specs.declared.stream_fault.StreamFault.{StreamFault}
 use Rattle.driver.specs.declared.verdict_text.VerdictText.{VerdictText}
 use Rattle.driver.specs.AuditText.{audit_text}
 use Rattle.streams.specs.Streams.{IsReadOut, Streams}
 
--- the history is legal, or this is its first entry that isn't
-abbrev pub IsVerdict : Header → List Entry → Verdict → Type 0
-IsVerdict h entries Legal = IsLegal (opening h) entries
-IsVerdict h entries (NotLegal number) = IsFirstWrong h entries number
+-- the history is legal from its base on, or this is its first entry that isn't, counted from the base
+abbrev pub IsVerdict : Base → List Entry → Verdict → Type 0
+IsVerdict b entries Legal = IsLegal (based b) entries
+IsVerdict b entries (NotLegal number) = IsFirstWrong (based b) entries number
 
--- The text is the history text of these entries, the newest first; this is the verdict on them, and of what
--- is told of both, this is written.
-pub record IsToldOf (Tells : Header → List Entry → Verdict → List ℕ) (text : List ℕ) (verdict : Verdict)
+-- The text is the history text of a base and these entries, the newest first; this is the verdict on them,
+-- and of what is told of both, this is written.
+pub record IsToldOf (Tells : Base → List Entry → Verdict → List ℕ) (text : List ℕ) (verdict : Verdict)
     (Written : List ℕ → Type 0) : Type 0 where
-  pub header : Header
+  pub base : Base
   pub entries : List Entry
-  pub is : IsText history_form text header (reverse entries)
-  pub judged : IsVerdict header entries verdict
-  pub written : Written (Tells header entries verdict)
+  pub is : IsHistoryText text base (reverse entries)
+  pub judged : IsVerdict base entries verdict
+  pub written : Written (Tells base entries verdict)
 
 -- of what is left of a text this is told, with this text
-abbrev pub IsTold : (Header → List Entry → Verdict → List ℕ) → Option (List ℕ) → VerdictText → Type 0
+abbrev pub IsTold : (Base → List Entry → Verdict → List ℕ) → Option (List ℕ) → VerdictText → Type 0
 IsTold Tells left told =
     IfSome left (λ text. IsToldOf Tells text told.verdict (λ written. told.text.items ≡ written))
 

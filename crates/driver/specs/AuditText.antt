@@ -1,16 +1,15 @@
 -- The audit text: the verdict on a history, and what a legal one adds up to.
-use Rattle.std.specs.Prelude.{ℕ, List, ◌++◌, codes, decimal, length}
+use Rattle.std.specs.Prelude.{ℕ, ◌+◌, nat_lt, if◌then◌else◌, List, [], ◌++◌, codes, decimal, length}
 use Rattle.std.specs.Fmt.{signed_decimal}
 use Rattle.audit.specs.declared.sums.Totals.{Totals}
 use Rattle.audit.specs.declared.verdict.Verdict.{Verdict}
 use Rattle.audit.specs.declared.verdict.Verdict.TheVariants.{Legal, NotLegal}
 use Rattle.audit.specs.Totals.{totals_of}
 use Rattle.history.specs.declared.entry.Entry.{Entry}
-use Rattle.history.specs.declared.header.Header.{Header}
 use Rattle.history.specs.declared.header.Object.{Object}
 use Rattle.history.specs.declared.header.Object.TheVariants.{Lock, ReadWrite, Semaphore, Latch}
+use Rattle.history.specs.Base.{Base, based}
 use Rattle.history.specs.Legal.{calls}
-use Rattle.history.specs.Start.{opening}
 use Rattle.history.specs.Text.{ended}
 
 abbrev pub holds_line : Totals → List ℕ
@@ -38,16 +37,28 @@ totals_line (Latch opening) t = count_line t
 abbrev pub number_line : List ℕ → ℕ → List ℕ
 number_line name number = name ++ decimal number
 
--- of a legal history: its entries, those that end a call, and its totals
-abbrev pub legal_text : Object → ℕ → ℕ → Totals → List ℕ
-legal_text object entries calls totals =
+-- how many entries were folded, where some were
+abbrev pub base_line : ℕ → List ℕ
+base_line folded = if nat_lt 0 folded then ended (number_line (codes "base ") folded) else []
+
+-- of a legal history: how many of its entries were folded, all entries, those that end a call, and its totals
+abbrev pub legal_text : Object → ℕ → ℕ → ℕ → Totals → List ℕ
+legal_text object folded entries calls totals =
     ended (codes "legal")
+    ++ base_line folded
     ++ ended (number_line (codes "entries ") entries)
     ++ ended (number_line (codes "calls ") calls)
     ++ ended (totals_line object totals)
 
--- what is said of a history, whose entries stand newest first
-abbrev pub audit_text : Header → List Entry → Verdict → List ℕ
-audit_text h entries Legal =
-    legal_text h.object (length entries) (calls (opening h) entries) (totals_of (opening h) entries)
-audit_text h entries (NotLegal number) = ended (number_line (codes "not legal at ") number)
+-- What is said of a history on a base, whose entries stand newest first. An entry's number counts those that
+-- were folded too.
+abbrev pub audit_text : Base → List Entry → Verdict → List ℕ
+audit_text b entries Legal =
+    legal_text b.header.object b.entries (b.entries + length entries) (calls (based b) entries)
+    (totals_of (based b) entries)
+audit_text b entries (NotLegal number) = ended (number_line (codes "not legal at ") (b.entries + number))
+
+-- how many entries stand before the first that isn't legal, if one isn't
+abbrev pub before_wrong : Verdict → ℕ
+before_wrong Legal = 0
+before_wrong (NotLegal number) = number

@@ -6,18 +6,18 @@ abbrev pub or_zero : Option ℕ → ℕ
 or_zero None = 0
 or_zero (Some number) = number
 
--- the number of the first
-abbrev pub first_of : Choice → ℕ
-first_of c = or_zero c.from
+-- how many entries stand before the first, behind so many that were folded
+abbrev pub first_of : Choice → ℕ → ℕ
+first_of c folded = or_zero c.from - folded
 
--- the number behind the last: where nobody asks for some, the first 2,000 are drawn
-abbrev pub end_between : Option ℕ → Option ℕ → ℕ
-end_between from (Some number) = min (number + 1) (2 ^ 64 - 1)
-end_between (Some number) None = 2 ^ 64 - 1
-end_between None None = 2000
+-- how many stand before the end: where nobody asks for some, the first 2,000 are drawn
+abbrev pub end_between : Option ℕ → Option ℕ → ℕ → ℕ
+end_between from (Some number) folded = min (number + 1) (2 ^ 64 - 1) - folded
+end_between (Some number) None folded = 2 ^ 64 - 1
+end_between None None folded = 2000
 
-abbrev pub end_of : Choice → ℕ
-end_of c = end_between c.from c.to
+abbrev pub end_of : Choice → ℕ → ℕ
+end_of c folded = end_between c.from c.to folded
 
 -- some are left out though nobody asked for some
 abbrev pub is_cut_between : Option ℕ → Option ℕ → ℕ → Bool

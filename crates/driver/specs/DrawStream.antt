@@ -1,13 +1,12 @@
 -- What is drawn of a history text.
-use Rattle.std.specs.Prelude.{ℕ, List, Option, Some, None, Result, length, reverse, take}
+use Rattle.std.specs.Prelude.{ℕ, ◌+◌, List, Option, Some, None, Result, length, reverse, take}
 use Rattle.audit.specs.declared.verdict.Verdict.{Verdict}
 use Rattle.audit.specs.declared.verdict.Verdict.TheVariants.{Legal, NotLegal}
 use Rattle.drawing.specs.Bars.{bars}
 use Rattle.drawing.specs.Curve.{curve}
 use Rattle.drawing.specs.Marks.{marks}
 use Rattle.history.specs.declared.entry.Entry.{Entry}
-use Rattle.history.specs.declared.header.Header.{Header}
-use Rattle.history.specs.Start.{opening}
+use Rattle.history.specs.Base.{Base, based}
 use Rattle.history_text.specs.HistoryText.{history_form}
 use Rattle.picture.specs.Document.{svg_text}
 use Rattle.picture.specs.View.{View}
@@ -22,33 +21,35 @@ abbrev pub legal_front : Verdict → List Entry → List Entry
 legal_front Legal entries = entries
 legal_front (NotLegal number) entries = take number entries
 
-abbrev pub wrong_of : Verdict → Option ℕ
-wrong_of Legal = None
-wrong_of (NotLegal number) = Some number
+-- the number of the first entry that isn't legal, behind so many that were folded
+abbrev pub wrong_of : ℕ → Verdict → Option ℕ
+wrong_of folded Legal = None
+wrong_of folded (NotLegal number) = Some (folded + number)
 
--- a picture of some entries, the oldest first, that a history of so many begins with
-abbrev pub pictured : Header → Choice → ℕ → Verdict → List Entry → View
-pictured k choice all verdict drawn =
+-- a picture of some entries, the oldest first, with which so many behind a base begin
+abbrev pub pictured : Base → Choice → ℕ → Verdict → List Entry → View
+pictured b choice count verdict drawn =
     record {
-      header = k;
-      from = first_of choice;
+      header = b.header;
+      folded = b.entries;
+      from = first_of choice b.entries;
       to = length drawn;
-      entries = all;
-      is_cut = is_cut choice all;
-      wrong = wrong_of verdict;
-      bars = bars (opening k) (first_of choice) (reverse drawn);
-      marks = marks (first_of choice) (reverse drawn);
-      curve = curve (opening k) (first_of choice) (reverse drawn);
+      entries = b.entries + count;
+      is_cut = is_cut choice count;
+      wrong = wrong_of b.entries verdict;
+      bars = bars (based b) (first_of choice b.entries) (reverse drawn);
+      marks = marks (first_of choice b.entries) (reverse drawn);
+      curve = curve (based b) (first_of choice b.entries) (reverse drawn);
     }
 
--- the picture of a history, whose entries stand newest first
-abbrev pub picture_of : Choice → Header → List Entry → Verdict → View
-picture_of choice k entries verdict =
-    pictured k choice (length entries) verdict
-    (legal_front verdict (take (end_of choice) (reverse entries)))
+-- the picture of a history on a base, whose entries stand newest first
+abbrev pub picture_of : Choice → Base → List Entry → Verdict → View
+picture_of choice b entries verdict =
+    pictured b choice (length entries) verdict
+    (legal_front verdict (take (end_of choice b.entries) (reverse entries)))
 
-abbrev pub drawn_text : Choice → Header → List Entry → Verdict → List ℕ
-drawn_text choice k entries verdict = svg_text (picture_of choice k entries verdict)
+abbrev pub drawn_text : Choice → Base → List Entry → Verdict → List ℕ
+drawn_text choice b entries verdict = svg_text (picture_of choice b entries verdict)
 
 -- what drawing leaves
 abbrev pub Draws : Choice → Option (List ℕ) → Option (List ℕ) → Option (List ℕ) → Result Verdict StreamFault →

@@ -1,29 +1,30 @@
 -- The entries of a history text, judged as they are read.
-use Rattle.std.specs.Prelude.{◌≡◌, ℕ, ◌<◌, ◌^◌, nat_lt, if◌then◌else◌, List, [], ◌∷◌, ◌++◌, length, reverse, take}
+use Rattle.std.specs.Prelude.{◌≡◌, ℕ, ◌<◌, ◌^◌, nat_lt, if◌then◌else◌, List, [], ◌∷◌, ◌++◌, length, reverse, take, Option}
 use Rattle.std.specs.List.{All}
 use Rattle.audit.specs.Verdict.{IsJudgement}
 use Rattle.history.specs.declared.entry.Entry.{Entry}
-use Rattle.history.specs.declared.header.Header.{Header}
-use Rattle.history.specs.Entries.{ended_calls}
-use Rattle.history_text.specs.HistoryText.{history_form}
-use Rattle.line_text.specs.Reading.{IsText}
+use Rattle.history.specs.Base.{based}
+use Rattle.history.specs.Legal.{calls}
+use Rattle.history_text.specs.HistoryText.{IsHistoryText}
 use Rattle.driver.specs.declared.judged.Judged.{Judged}
-use Rattle.driver.specs.HistoryReader.{EntriesHeld}
-use Rattle.driver.specs.TextReader.{Progress, OfText}
+use Rattle.driver.specs.HistoryReader.{EntriesHeld, OfHistory, base_held}
 
 -- the entries that were kept with one more, of this number
 abbrev pub kept_with : List Entry → Entry → ℕ → ℕ → List Entry
 kept_with kept e number end = if nat_lt number end then kept ++ e ∷ [] else kept
 
--- The text is a history text of this header, whose entries were judged so; the reader has counted them, and
--- those before the end, the oldest first, were kept.
-pub record IsJudged (p : Progress Header Entry) (now : EntriesHeld) (end : ℕ) (j : Judged) : Type 0 where
+-- The text is a history text on the base that was read, whose entries were judged so; the reader has counted
+-- them, and so many of them, the oldest first, were kept.
+pub record IsJudged (first : EntriesHeld) (left : Option (List ℕ)) (now : EntriesHeld) (kept : ℕ)
+    (j : Judged) : Type 0 where
   pub entries : List Entry
-  pub is : OfText history_form p (λ text. IsText history_form text p.so_far.header (reverse entries))
-  pub judged : IsJudgement p.so_far.header entries j.judgement
-  pub header : now.header ≡ p.so_far.header
-  pub count : now.count ≡ length entries
-  pub calls : now.calls ≡ ended_calls entries
-  pub front : j.entries.items ≡ take end (reverse entries)
-  pub seated : All (λ e. e.seat < p.so_far.header.seats) j.entries.items
+  pub is : OfHistory first left (λ text. IsHistoryText text (base_held first) (reverse entries))
+  pub judged : IsJudgement (based (base_held first)) entries j.judgement
+  pub header : now.header ≡ first.header
+  pub base : now.base ≡ first.base
+  pub folded : now.place.folded ≡ (base_held first).entries
+  pub count : now.place.count ≡ length entries
+  pub calls : now.place.calls ≡ calls (based (base_held first)) entries
+  pub front : j.entries.items ≡ take kept (reverse entries)
+  pub seated : All (λ e. e.seat < first.header.seats) j.entries.items
   pub few : length entries < 2 ^ 32

@@ -1,6 +1,7 @@
 pub mod Answers
 pub mod AuditStream
 pub mod AuditText
+pub mod BaseReader
 pub mod Choice
 pub mod DrawStream
 pub mod Judged
@@ -12,3 +13,4 @@ pub mod ReplayText
 pub mod StepReader
 pub mod HistoryReader
 pub mod TextReader
+pub mod Logged

@@ -5,12 +5,11 @@ use Rattle.history.specs.declared.fault.Fault.{Fault}
 use Rattle.history.specs.declared.step.Answer.{Answer}
 use Rattle.history.specs.declared.step.Answer.TheVariants.{Recorded, Sleep}
 use Rattle.history.specs.Text.{ended}
-use Rattle.history_text.specs.HistoryText.{history_form}
-use Rattle.line_text.specs.Form.{lines_of}
+use Rattle.history_text.specs.EntryLines.{entry_line}
 use Rattle.driver.specs.declared.remark.Remark.{Remark}
 use Rattle.driver.specs.declared.remark.Said.{Said}
-use Rattle.driver.specs.declared.remark.Said.TheVariants.{IsNamed, Sleeps, Fails}
-use Rattle.driver.specs.ReplayText.{answer_line}
+use Rattle.driver.specs.declared.remark.Said.TheVariants.{IsNamed, Sleeps, Fails, Folds, FoldsNone}
+use Rattle.driver.specs.ReplayText.{answer_line, trim_line}
 
 -- what there is to remark of an answer
 abbrev pub remark_of : ℕ → ℕ → Result Answer Fault → Option Remark
@@ -20,29 +19,43 @@ remark_of before seat (Ok (Recorded e (Some named))) =
 remark_of before seat (Ok Sleep) = Some (record { before = before; seat = seat; said = Sleeps })
 remark_of before seat (Err fault) = Some (record { before = before; seat = seat; said = Fails fault })
 
+-- and of a trim, which is of no seat
+abbrev pub trim_remark : ℕ → Result ℕ Fault → Remark
+trim_remark before (Ok count) = record { before = before; seat = 0; said = Folds count }
+trim_remark before (Err fault) = record { before = before; seat = 0; said = FoldsNone fault }
+
 -- a remark is added where there is one
 abbrev pub IsKept : List Remark → Option Remark → List Remark → Type 0
 IsKept old None new = new ≡ old
 IsKept old (Some r) new = new ≡ old ++ r ∷ []
 
--- the line of an answer of which this is said of a seat, at a number, where an entry with that number may
--- stand
+-- the line of an answer of which this is said of a seat or of a trim, at a number, where an entry with that
+-- number may stand
 abbrev pub said_line : Said → ℕ → ℕ → Option Entry → List ℕ
 said_line IsNamed number seat (Some e) = ended (answer_line number seat (Ok (Recorded e (Some seat))))
 said_line IsNamed number seat None = []
 said_line Sleeps number seat e = ended (answer_line number seat (Ok Sleep))
 said_line (Fails fault) number seat e = ended (answer_line number seat (Err fault))
+said_line (Folds count) number seat e = ended (trim_line (Ok count))
+said_line (FoldsNone fault) number seat e = ended (trim_line (Err fault))
 
 -- how many entries such an answer adds
 abbrev pub entries_said : Said → ℕ
 entries_said IsNamed = 1
 entries_said Sleeps = 0
 entries_said (Fails fault) = 0
+entries_said (Folds count) = 0
+entries_said (FoldsNone fault) = 0
+
+-- the lines of entries from a number on
+abbrev pub entry_lines : ℕ → List Entry → List ℕ
+entry_lines number [] = []
+entry_lines number (e ∷ entries) = ended (entry_line number e) ++ entry_lines (number + 1) entries
 
 -- the lines from a number on: those of the entries of which nothing is remarked, and those of the remarks
 abbrev pub told_lines : List Entry → ℕ → List Remark → List ℕ
-told_lines entries number [] = lines_of history_form number (drop number entries)
+told_lines entries number [] = entry_lines number (drop number entries)
 told_lines entries number (r ∷ remarks) =
-    lines_of history_form number (take (r.before - number) (drop number entries))
+    entry_lines number (take (r.before - number) (drop number entries))
     ++ (said_line r.said r.before r.seat (slice_get entries r.before)
     ++ told_lines entries (r.before + entries_said r.said) remarks)

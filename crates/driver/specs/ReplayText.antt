@@ -1,21 +1,30 @@
--- The replay text: a line for the answer to each step.
+-- The replay text: a line for the answer to each step, and for each trim.
 use Rattle.std.specs.Prelude.{ℕ, ◌+◌, List, [], ◌∷◌, ◌++◌, Some, None, Result, Ok, Err, codes, decimal, length}
-use Rattle.history.specs.declared.entry.Entry.{Entry}
+use Rattle.frame.specs.declared.acts.Act.{Act}
+use Rattle.frame.specs.declared.acts.Act.TheVariants.{Do, Trim}
+use Rattle.frame.specs.declared.acts.Done.{Done}
+use Rattle.frame.specs.declared.acts.Done.TheVariants.{Answered, Trimmed}
+use Rattle.frame.specs.Acts.{Outcome, outcome}
 use Rattle.history.specs.declared.fault.Fault.{Fault}
-use Rattle.history.specs.declared.header.Header.{Header}
 use Rattle.history.specs.declared.step.Answer.{Answer}
 use Rattle.history.specs.declared.step.Answer.TheVariants.{Recorded, Sleep}
-use Rattle.history.specs.declared.step.Step.{Step}
-use Rattle.history.specs.Answers.{results}
+use Rattle.history.specs.Base.{based, opening_base}
 use Rattle.history.specs.Fault.{fault_name}
 use Rattle.history.specs.Legal.{calls}
 use Rattle.history.specs.Spelling.{part_of}
-use Rattle.history.specs.Start.{opening}
 use Rattle.history.specs.Text.{ended}
 use Rattle.history_text.specs.EntryLines.{entry_line, counts_line}
+use Rattle.steps.specs.declared.header.Format.{Format}
+use Rattle.steps.specs.declared.header.Format.TheVariants.{One, Two}
+use Rattle.steps.specs.declared.header.StepsHeader.{StepsHeader}
 
-abbrev pub header_line : Header → List ℕ
-header_line h = codes "aqs-replay 1 " ++ part_of h
+-- the answer is of the format of the steps
+abbrev pub name_of : Format → List ℕ
+name_of One = codes "aqs-replay 1 "
+name_of Two = codes "aqs-replay 2 "
+
+abbrev pub header_line : StepsHeader → List ℕ
+header_line h = name_of h.format ++ part_of h.header
 
 -- the line of an answer to a seat, where so many entries stand before it
 abbrev pub answer_line : ℕ → ℕ → Result Answer Fault → List ℕ
@@ -25,26 +34,49 @@ answer_line number seat (Ok (Recorded e (Some named))) =
 answer_line number seat (Ok Sleep) = codes "- " ++ decimal seat ++ codes " sleep"
 answer_line number seat (Err fault) = codes "- " ++ decimal seat ++ codes " " ++ fault_name fault
 
+-- the line of a trim: how many entries it folded, or its fault
+abbrev pub trim_line : Result ℕ Fault → List ℕ
+trim_line (Ok count) = codes "- trim " ++ decimal count
+trim_line (Err fault) = codes "- " ++ fault_name fault
+
+-- The line of an act, where so many entries stand before it. No step is answered by a count, and no trim by
+-- an answer.
+abbrev pub done_line : ℕ → Act → Result Done Fault → List ℕ
+done_line number (Do seat step) (Ok (Answered answer)) = answer_line number seat (Ok answer)
+done_line number (Do seat step) (Ok (Trimmed count)) = []
+done_line number (Do seat step) (Err fault) = answer_line number seat (Err fault)
+done_line number Trim (Ok (Answered answer)) = []
+done_line number Trim (Ok (Trimmed count)) = trim_line (Ok count)
+done_line number Trim (Err fault) = trim_line (Err fault)
+
 -- how many entries an answer adds
 abbrev pub entries_of : Result Answer Fault → ℕ
 entries_of (Ok (Recorded e named)) = 1
 entries_of (Ok Sleep) = 0
 entries_of (Err fault) = 0
 
--- a line for each step and its answer, from an entry number on
-abbrev pub answer_lines : ℕ → List (ℕ × Step) → List (Result Answer Fault) → List ℕ
-answer_lines number [] answers = []
-answer_lines number (step ∷ steps) [] = []
-answer_lines number (step ∷ steps) (answer ∷ answers) =
-    ended (answer_line number step.0 answer) ++ answer_lines (number + entries_of answer) steps answers
+-- a trim adds none, so that the numbers go on behind it
+abbrev pub entries_done : Result Done Fault → ℕ
+entries_done (Ok (Answered answer)) = entries_of (Ok answer)
+entries_done (Ok (Trimmed count)) = 0
+entries_done (Err fault) = 0
 
--- the history behind a list of steps of an object as opened
-abbrev pub history_behind : Header → List (ℕ × Step) → List Entry
-history_behind h steps = (results (opening h) [] steps).1
+-- a line for each act, from an entry number on
+abbrev pub done_lines : ℕ → List Act → List (Result Done Fault) → List ℕ
+done_lines number [] done = []
+done_lines number (act ∷ acts) [] = []
+done_lines number (act ∷ acts) (r ∷ done) =
+    ended (done_line number act r) ++ done_lines (number + entries_done r) acts done
 
--- the end line has the number of entries, and of those that end a call
-abbrev pub replay_text : Header → List (ℕ × Step) → List ℕ
-replay_text h steps =
+-- what acts leave of an object as opened, and what they are answered
+abbrev pub behind_acts : StepsHeader → List Act → Outcome
+behind_acts h acts = outcome (opening_base h.header) [] acts
+
+-- the end line has the number of entries, and of those that end a call, those that were folded among them
+abbrev pub end_line : Outcome → List ℕ
+end_line o = counts_line (o.base.entries + length o.entries) (calls (based o.base) o.entries)
+
+abbrev pub replay_text : StepsHeader → List Act → List ℕ
+replay_text h acts =
     ended (header_line h)
-    ++ answer_lines 0 steps (results (opening h) [] steps).0
-    ++ ended (counts_line (length (history_behind h steps)) (calls (opening h) (history_behind h steps)))
+    ++ (done_lines 0 acts (behind_acts h acts).done ++ ended (end_line (behind_acts h acts)))

@@ -1,9 +1,9 @@
-//! The line of an answer.
+//! The line of an answer, to a step or a trim.
 
 ghost use Rattle.std.specs.Prelude.{◌≡◌, ◌+◌, ◌++◌, ◌≤◌, IfSome, codes, decimal, length, take};
 ghost use Rattle.history.specs.Text.{ended};
 ghost use Rattle.driver.specs.Replay.{HasLine};
-ghost use Rattle.driver.specs.ReplayText.{answer_line};
+ghost use Rattle.driver.specs.ReplayText.{answer_line, trim_line};
 
 use history::fault::Fault;
 use history::number::{Numbering, spell};
@@ -63,4 +63,23 @@ fn put_waking(line: &mut [u8], at: usize, named: Option<u16>) -> usize
             spell(line, named_at, u64::from(named))
         }
     }
+}
+
+/// Puts the line of a trim from a place on, over bytes that are there, and returns the place behind it.
+pub fn spell_trim(line: &mut [u8], at: usize, answer: &Result<u64, Fault>) -> usize
+    requires { at + 136 ≤ length line.old }
+    ensures end { result ≤ at + 136 }
+    ensures line { take result line.new ≡ take at line.old ++ ended (trim_line answer.now) }
+{
+    let break_at = match answer {
+        Ok(count) => {
+            let count_at = put_bytes(line, at, b"- trim ");
+            spell(line, count_at, *count)
+        }
+        Err(fault) => {
+            let name_at = put_bytes(line, at, b"- ");
+            put_bytes(line, name_at, fault.name().as_bytes())
+        }
+    };
+    put_byte(line, break_at, b'\n')
 }

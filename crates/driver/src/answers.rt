@@ -1,71 +1,92 @@
-//! The answers to the steps of a text, kept short until they are written.
+//! The answers to the steps and trims of a text, kept short until they are written.
 
-ghost use Rattle.std.specs.Prelude.{◌≡◌, ◌↔◌, ◌-◌, ◌++◌, [], false, All, IfOk, IfErr, IsErr, IsErrOf, IsTrue, OnErr, OnOk, drop, length, reverse, slice_get, take};
+ghost use Rattle.std.specs.Prelude.{◌≡◌, ◌↔◌, ◌-◌, ◌++◌, ◌≤◌, [], false, All, IfOk, IfErr, IsErr, IsErrOf, IsTrue, OnErr, OnOk, drop, length, reverse, slice_get, take};
 ghost use Rattle.std.specs.Io.KnownBytes.{Appends};
+ghost use Rattle.history.specs.Base.{based};
+ghost use Rattle.history.specs.Entries.{base_on, ended_calls};
 ghost use Rattle.history.specs.EntryWords.{IsSpelt};
 ghost use Rattle.history.specs.Header.{IsInRange};
 ghost use Rattle.history.specs.Legal.{IsLegal};
-ghost use Rattle.history.specs.Start.{opening};
 ghost use Rattle.history.specs.Text.{ended};
-ghost use Rattle.history_text.specs.HistoryText.{history_form};
-ghost use Rattle.line_text.specs.Form.{lines_of};
 ghost use Rattle.streams.specs.declared.stream_fault.StreamFault.TheVariants.{Memory};
-ghost use Rattle.driver.specs.Answers.{Writes, answers_text, first_line, remarks_in, text_behind};
+ghost use Rattle.driver.specs.Answers.{AreFolded, Writes, all_of, answers_text, first_line, lines_text, remarks_in, text_behind};
 ghost use Rattle.driver.specs.LineWriter.{Gathers};
-ghost use Rattle.driver.specs.Remarks.{said_line, told_lines};
+ghost use Rattle.driver.specs.Remarks.{entry_lines, said_line, told_lines};
+ghost use Rattle.driver.specs.ReplayText.{name_of};
 ghost use Rattle.streams.specs.Whole.{AppendsFront};
 
 use crate::form::Form;
 use crate::line_writer::LineWriter;
 use crate::remark::{Remark, Said};
-use history::entries::History;
-use history::header::Header;
+use crate::replay::Log;
+use history::entries::{History, ends_call};
+use history::entry::Entry;
 use history::step::Answer;
+use history_text::history_text::write_text;
 use std::alloc::Global;
 use std::marker::Model;
+use steps::header::{Format, StepsHeader};
 use streams::sink::Sink;
 use streams::source::DeviceFailed;
 use streams::stream_fault::StreamFault;
+use streams::whole::write_all;
 
-/// The answers of an object to all steps of a text.
+/// The answers of an object to all steps and trims of a text.
 ///
-/// An entry says almost all of the answer that it is: so the history is kept, and a remark where there is
-/// more to say.
+/// An entry says almost all of the answer that it is: so the history is kept, with the entries that were
+/// folded before, and a remark where there is more to say.
 #[derive(Drop)]
 pub struct Answers {
-    header: Header,
+    header: StepsHeader,
+    past: Vec<Entry>,
     history: History,
     remarks: Vec<Remark>,
 }
 
 impl Model for Answers {
+    ghost use Rattle.std.specs.Prelude.{All, reverse, ◌++◌};
+    ghost use Rattle.history.specs.Entries.{base_on};
+    ghost use Rattle.history.specs.EntryWords.{IsSpelt};
     ghost use Rattle.history.specs.Header.{IsInRange};
-    ghost use Rattle.history.specs.Legal.{IsLegal};
-    ghost use Rattle.history.specs.Start.{opening};
-    ghost use Rattle.driver.specs.Answers.{AllAnswers};
+    ghost use Rattle.driver.specs.Answers.{AllAnswers, AreFolded};
 
     ghost Value = { AllAnswers };
 
-    ghost view = { λ a.
-        record { header = a.header; entries = a.history.entries; remarks = a.remarks.items } };
+    ghost view = { λ a. record {
+      header = a.header;
+      past = a.past.items;
+      base = base_on a.header.header a.history;
+      entries = a.history.entries;
+      remarks = a.remarks.items;
+    } };
 
-    ghost invariant = { λ a. IsInRange a.header × IsLegal (opening a.header) a.history.entries };
+    ghost invariant = { λ a. IsInRange a.header.header
+        × All IsSpelt (a.past.items ++ reverse a.history.entries)
+        × AreFolded a.header.header a.past.items (base_on a.header.header a.history) };
 }
 
 impl Answers {
-    pub fn new(header: Header, history: History, remarks: Vec<Remark>) -> Self
-        requires range { IsInRange header }
-        requires legal { IsLegal (opening header) history.entries }
-        ensures { result ≡ record { header = header; entries = history.entries; remarks = remarks.items } }
+    pub fn new(header: StepsHeader, history: History, log: Log) -> Self
+        requires range { IsInRange header.header }
+        requires spelt { All IsSpelt (log.past.items ++ reverse history.entries) }
+        requires folded { AreFolded header.header log.past.items (base_on header.header history) }
+        ensures { result ≡ record {
+          header = header;
+          past = log.past.items;
+          base = base_on header.header history;
+          entries = history.entries;
+          remarks = log.remarks.items;
+        } }
     {
         Answers {
             header,
+            past: log.past,
             history,
-            remarks,
+            remarks: log.remarks,
         }
     }
 
-    /// Writes the answers, piece by piece. All memory is found before the first piece is written.
+    /// Writes the answers. All memory is found before the first piece is written.
     pub fn write<W: Sink>(
         &self,
         alloc: Global,
@@ -76,9 +97,46 @@ impl Answers {
         ensures writes { Writes (W.held writer.old) result (W.held writer.new) (answers_text form self.now) }
         ensures failing { IsErrOf result StreamFault.WriteFailed ↔ IsTrue (W.failed writer.new) }
     {
+        match form {
+            Form::Replay => self.write_lines(alloc, writer, Form::Replay),
+            Form::History if self.past.as_slice().is_empty() => {
+                self.write_lines(alloc, writer, Form::History)
+            }
+            Form::History => self.write_left(alloc, writer),
+        }
+    }
+
+    /// Writes the lines of all entries, piece by piece, those that were folded among them.
+    fn write_lines<W: Sink>(
+        &self,
+        alloc: Global,
+        writer: &mut W,
+        form: Form,
+    ) -> Result<(), StreamFault>
+        requires { W.failed writer.old ≡ false }
+        ensures writes { Writes (W.held writer.old) result (W.held writer.new) (lines_text form self.now) }
+        ensures failing { IsErrOf result StreamFault.WriteFailed ↔ IsTrue (W.failed writer.new) }
+    {
         let first = first_line(alloc, form, &self.header)?;
         let mut lines = LineWriter::open(alloc, &first)?;
         match self.put_all(&mut lines, writer, form) {
+            Ok(()) => Ok(()),
+            Err(_) => Err(StreamFault::WriteFailed),
+        }
+    }
+
+    /// Writes the history that trims left, on its base.
+    fn write_left<W: Sink>(&self, alloc: Global, writer: &mut W) -> Result<(), StreamFault>
+        requires writer { W.failed writer.old ≡ false }
+        requires folded { 1 ≤ length self.now.past }
+        ensures writes { Writes (W.held writer.old) result (W.held writer.new)
+            (answers_text Form.History self.now) }
+        ensures failing { IsErrOf result StreamFault.WriteFailed ↔ IsTrue (W.failed writer.new) }
+    {
+        let Ok(text) = write_text(alloc, &self.header.header, &self.history) else {
+            return Err(StreamFault::Memory);
+        };
+        match write_all(writer, &text) {
             Ok(()) => Ok(()),
             Err(_) => Err(StreamFault::WriteFailed),
         }
@@ -92,6 +150,33 @@ impl Answers {
             Form::Replay => &self.remarks,
             Form::History => &self.remarks[..0],
         }
+    }
+
+    /// The entry of a number, those that were folded among them.
+    #[inline(always)]
+    fn entry(&self, number: u64) -> Option<Entry>
+        ensures { result ≡ slice_get (all_of self.now) number }
+    {
+        let past = self.past.len() as u64;
+        if number < past {
+            return self.past.get(number as usize).copied();
+        }
+        self.history.get(number - past)
+    }
+
+    /// How many entries there are, those that were folded among them.
+    fn count(&self) -> u64
+        ensures { result ≡ length (all_of self.now) }
+    {
+        self.past.len() as u64 + self.history.len()
+    }
+
+    /// How many of all entries end a call.
+    fn calls(&self) -> u64
+        ensures { result ≡ ended_calls (all_of self.now) }
+    {
+        let _few = self.history.len();
+        calls_in(&self.past) + self.history.calls()
     }
 
     /// Writes what was gathered, and all that follows the first line. No memory is taken.
@@ -109,25 +194,47 @@ impl Answers {
         ensures none { OnOk result (lines.new.bytes ≡ []) }
         ensures failing { IsTrue (W.failed writer.new) ↔ IsErr result }
     {
-        let history = &self.history;
-        put_lines(lines, writer, history, self.remarks_in(form))?;
-        lines.put_counts(writer, history.len(), history.calls())?;
+        let _past = &self.past;
+        put_lines(lines, writer, self, self.remarks_in(form))?;
+        lines.put_counts(writer, self.count(), self.calls())?;
         lines.flush(writer)
     }
 }
 
+/// How many of these entries end a call.
+fn calls_in(entries: &[Entry]) -> u64
+    ensures calls { result ≡ ended_calls entries.now }
+    ensures few { result ≤ length entries.now }
+{
+    let mut calls = 0;
+    for entry in entries {
+        calls += u64::from(ends_call(entry.word));
+    }
+    calls
+}
+
+/// What the first line of a replay text begins with.
+fn name_of(format: Format) -> &'static [u8]
+    ensures { result.now ≡ name_of format }
+{
+    match format {
+        Format::One => b"aqs-replay 1 ",
+        Format::Two => b"aqs-replay 2 ",
+    }
+}
+
 /// The first line of what is written.
-pub fn first_line(alloc: Global, form: Form, header: &Header) -> Result<Vec<u8>, StreamFault>
-    requires { IsInRange header.now }
+pub fn first_line(alloc: Global, form: Form, header: &StepsHeader) -> Result<Vec<u8>, StreamFault>
+    requires { IsInRange header.now.header }
     ensures ok { IfOk result (λ out. out.items ≡ ended (first_line form header.now)) }
     ensures err { IfErr result (λ fault. fault ≡ Memory) }
 {
     let mut out = Vec::new(alloc);
     match form {
-        Form::Replay => out.extend_from_slice(b"aqs-replay 1 ")?,
+        Form::Replay => out.extend_from_slice(name_of(header.format))?,
         Form::History => out.extend_from_slice(b"aqs-history 1 ")?,
     }
-    if header.write_part(&mut out).is_err() {
+    if header.header.write_part(&mut out).is_err() {
         return Err(StreamFault::Memory);
     }
     out.push(b'\n')?;
@@ -138,23 +245,23 @@ pub fn first_line(alloc: Global, form: Form, header: &Header) -> Result<Vec<u8>,
 fn put_lines<W: Sink>(
     lines: &mut LineWriter,
     writer: &mut W,
-    history: &History,
+    answers: &Answers,
     remarks: &[Remark],
 ) -> Result<(), DeviceFailed>
     requires writer { W.failed writer.old ≡ false }
-    requires spelt { All IsSpelt (reverse history.now.entries) }
+    requires spelt { All IsSpelt (all_of answers.now) }
     ensures adds { Gathers (W.held writer.old) lines.old.bytes result (W.held writer.new) lines.new.bytes
-        (told_lines (reverse history.now.entries) 0 remarks.now) }
+        (told_lines (all_of answers.now) 0 remarks.now) }
     ensures failing { IsTrue (W.failed writer.new) ↔ IsErr result }
 {
     let mut number = 0;
     for remark in remarks {
         let before = u64::from(remark.before);
-        put_entries(lines, writer, history, number, before)?;
-        put_remark(lines, writer, history, remark)?;
+        put_entries(lines, writer, answers, number, before)?;
+        put_remark(lines, writer, answers, remark)?;
         number = before + remark.entries();
     }
-    put_entries(lines, writer, history, number, history.len())
+    put_entries(lines, writer, answers, number, answers.count())
 }
 
 /// Adds the lines of the entries from a number up to another, of which nothing is remarked.
@@ -162,19 +269,19 @@ fn put_lines<W: Sink>(
 fn put_entries<W: Sink>(
     lines: &mut LineWriter,
     writer: &mut W,
-    history: &History,
+    answers: &Answers,
     from: u64,
     to: u64,
 ) -> Result<(), DeviceFailed>
     requires writer { W.failed writer.old ≡ false }
-    requires spelt { All IsSpelt (reverse history.now.entries) }
+    requires spelt { All IsSpelt (all_of answers.now) }
     ensures adds { Gathers (W.held writer.old) lines.old.bytes result (W.held writer.new) lines.new.bytes
-        (lines_of history_form from (take (to - from) (drop from (reverse history.now.entries)))) }
+        (entry_lines from (take (to - from) (drop from (all_of answers.now)))) }
     ensures failing { IsTrue (W.failed writer.new) ↔ IsErr result }
 {
     let mut number = from;
     while number < to {
-        let Some(entry) = history.get(number) else {
+        let Some(entry) = answers.entry(number) else {
             return Ok(());
         };
         let answer = Ok(Answer::Recorded(entry, None));
@@ -188,24 +295,26 @@ fn put_entries<W: Sink>(
 fn put_remark<W: Sink>(
     lines: &mut LineWriter,
     writer: &mut W,
-    history: &History,
+    answers: &Answers,
     remark: &Remark,
 ) -> Result<(), DeviceFailed>
     requires writer { W.failed writer.old ≡ false }
-    requires spelt { All IsSpelt (reverse history.now.entries) }
+    requires spelt { All IsSpelt (all_of answers.now) }
     ensures adds { Gathers (W.held writer.old) lines.old.bytes result (W.held writer.new) lines.new.bytes
         (said_line remark.now.said remark.now.before remark.now.seat
-        (slice_get (reverse history.now.entries) remark.now.before)) }
+        (slice_get (all_of answers.now) remark.now.before)) }
     ensures failing { IsTrue (W.failed writer.new) ↔ IsErr result }
 {
     let number = u64::from(remark.before);
     let answer = match remark.said {
-        Said::IsNamed => match history.get(number) {
+        Said::IsNamed => match answers.entry(number) {
             Some(entry) => Ok(Answer::Recorded(entry, Some(remark.seat))),
             None => return Ok(()),
         },
         Said::Sleeps => Ok(Answer::Sleep),
         Said::Fails(fault) => Err(fault),
+        Said::Folds(count) => return lines.put_trim(writer, &Ok(u64::from(count))),
+        Said::FoldsNone(fault) => return lines.put_trim(writer, &Err(fault)),
     };
     lines.put_answer(writer, number, remark.seat, &answer)
 }

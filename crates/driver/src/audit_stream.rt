@@ -18,10 +18,10 @@ use streams::sink::Sink;
 use streams::source::Source;
 use streams::stream_fault::StreamFault;
 
-/// Reads a history text, judges the history, and writes what an audit says of it. The verdict is answered
-/// too.
+/// Reads a history text, judges the history from its base on, and writes what an audit says of it. The
+/// verdict is answered too; it counts entries from the base, and the text counts those before it too.
 ///
-/// Each entry is judged as its line is read, and none is kept. As in
+/// Each entry is judged as its line is read, and none is kept. Of a base the places of its seats are. As in
 /// [`replay_stream`](crate::replay_stream::replay_stream) all is read before anything is written, and nothing
 /// is written where the text has a fault, where reading fails or where memory is refused. A text is read to
 /// its end where it is answered, and where it has a fault; where memory is refused nothing more is read.
@@ -52,11 +52,12 @@ fn audit_of<R: Source>(alloc: Global, reader: &mut R) -> Result<VerdictText, Str
 {
     let mut entries = HistoryReader::open(alloc, reader)?;
     let judged = judged_of(alloc, &mut entries, reader, 0)?;
-    let object = entries.header().object;
+    let folded = entries.folded();
     let text = audit_text(
         alloc,
-        object,
-        entries.count(),
+        entries.header().object,
+        folded,
+        folded + entries.count(),
         entries.calls(),
         &judged.judgement,
     )?;

@@ -1,13 +1,13 @@
 //! The audit text.
 
-ghost use Rattle.std.specs.Prelude.{◌≡◌, ◌++◌, List, IfOk, OnOk, length};
+ghost use Rattle.std.specs.Prelude.{◌≡◌, ◌+◌, ◌<◌, ◌^◌, ◌++◌, List, IfOk, OnOk, length};
 ghost use Rattle.std.specs.Fmt.{signed_decimal};
 ghost use Rattle.audit.specs.Verdict.{IsJudgement, verdict_of};
 ghost use Rattle.history.specs.declared.entry.Entry.{Entry};
-ghost use Rattle.history.specs.declared.header.Header.{Header};
-ghost use Rattle.history.specs.Entries.{ended_calls};
+ghost use Rattle.history.specs.Base.{Base, based};
+ghost use Rattle.history.specs.Legal.{calls as history_calls};
 ghost use Rattle.history.specs.Text.{ended};
-ghost use Rattle.driver.specs.AuditText.{audit_text, legal_text, number_line, totals_line};
+ghost use Rattle.driver.specs.AuditText.{audit_text, base_line, before_wrong, legal_text, number_line, totals_line};
 ghost use Rattle.driver.specs.AuditText.{holds_line, permits_line, count_line};
 
 use audit::sums::Totals;
@@ -17,23 +17,27 @@ use history::number::put_number;
 use itoa::Buffer;
 use std::alloc::{AllocError, Global};
 
-/// What is said of a history of so many entries, of which so many end a call, with this judgement.
+/// What is said of a history with this judgement: of its entries so many were folded, so many there are with
+/// these, and so many end a call.
 pub fn audit_text(
     alloc: Global,
     object: Object,
+    folded: u64,
     entries: u64,
     calls: u64,
     judgement: &Judgement,
 ) -> Result<Vec<u8>, AllocError>
-    ensures { (k : Header) (h : List Entry) → k.object ≡ object → entries ≡ length h → calls ≡ ended_calls h →
-        IsJudgement k h judgement.now →
-        IfOk result (λ text. text.items ≡ audit_text k h (verdict_of judgement.now)) }
+    requires { folded + before_wrong (verdict_of judgement.now) < 2 ^ 64 }
+    ensures { (b : Base) (h : List Entry) → b.header.object ≡ object → folded ≡ b.entries →
+        entries ≡ b.entries + length h → calls ≡ history_calls (based b) h →
+        IsJudgement (based b) h judgement.now →
+        IfOk result (λ text. text.items ≡ audit_text b h (verdict_of judgement.now)) }
 {
     match judgement {
-        Judgement::Legal(totals) => legal_text(alloc, object, entries, calls, totals),
+        Judgement::Legal(totals) => legal_text(alloc, object, folded, entries, calls, totals),
         Judgement::NotLegal(number) => {
             let mut out = Vec::new(alloc);
-            put_line(&mut out, b"not legal at ", *number)?;
+            put_line(&mut out, b"not legal at ", folded + *number)?;
             Ok(out)
         }
     }
@@ -43,18 +47,30 @@ pub fn audit_text(
 fn legal_text(
     alloc: Global,
     object: Object,
+    folded: u64,
     entries: u64,
     calls: u64,
     totals: &Totals,
 ) -> Result<Vec<u8>, AllocError>
-    ensures { IfOk result (λ text. text.items ≡ legal_text object entries calls totals.now) }
+    ensures { IfOk result (λ text. text.items ≡ legal_text object folded entries calls totals.now) }
 {
     let mut out = Vec::from_slice(alloc, b"legal\n")?;
+    put_base(&mut out, folded)?;
     put_line(&mut out, b"entries ", entries)?;
     put_line(&mut out, b"calls ", calls)?;
     put_totals(&mut out, object, totals)?;
     out.push(b'\n')?;
     Ok(out)
+}
+
+/// Appends the line of a base of so many entries, if there are some, or a front of it.
+fn put_base(out: &mut Vec<u8>, folded: u64) -> Result<(), AllocError>
+    ensures { OnOk result (out.new.items ≡ out.old.items ++ base_line folded) }
+{
+    if folded > 0 {
+        put_line(out, b"base ", folded)?;
+    }
+    Ok(())
 }
 
 /// Appends a line of a name and a number, or a front of it.

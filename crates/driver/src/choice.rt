@@ -6,32 +6,32 @@ ghost use Rattle.driver.specs.Choice.{end_of, first_of, is_cut};
 /// So many entries are drawn where nobody asks for some.
 const UNCHOSEN: u64 = 2000;
 
-/// The first and the last entry that are asked for, by their numbers.
+/// The first and the last entry that are asked for, by their numbers, which count those that were folded.
 #[derive(Clone, Copy, Debug, PartialEq, Eq)]
 pub struct Choice {
     /// None: from the beginning.
     pub from: Option<u64>,
-    /// None: to the end, or where no first entry is asked for, either, to the 2,000th.
+    /// None: to the end, or where no first entry is asked for, either, to the 2,000th that wasn't folded.
     pub to: Option<u64>,
 }
 
 impl Choice {
-    /// The number of the first entry.
-    pub(crate) fn first(self) -> u64
-        ensures { result ≡ first_of self }
+    /// How many entries stand before the first, of those behind so many that were folded.
+    pub(crate) fn first(self, folded: u64) -> u64
+        ensures { result ≡ first_of self folded }
     {
         match self.from {
-            Some(number) => number,
+            Some(number) => number.saturating_sub(folded),
             None => 0,
         }
     }
 
-    /// The number behind the last entry.
-    pub(crate) fn end(self) -> u64
-        ensures { result ≡ end_of self }
+    /// How many entries stand before the end of those that are asked for, behind so many that were folded.
+    pub(crate) fn end(self, folded: u64) -> u64
+        ensures { result ≡ end_of self folded }
     {
         match self.to {
-            Some(number) => number.saturating_add(1),
+            Some(number) => number.saturating_add(1).saturating_sub(folded),
             None => match self.from {
                 Some(_) => u64::MAX,
                 None => UNCHOSEN,

@@ -1,12 +1,13 @@
 //! A history text is answered by a picture of the history.
 
-ghost use Rattle.std.specs.Prelude.{◌≡◌, ◌<◌, ◌^◌, ◌↔◌, IsTrue, IfErr, IfOk, IsErrOf, OnOk, false, length, reverse, take};
+ghost use Rattle.std.specs.Prelude.{◌≡◌, ◌+◌, ◌<◌, ◌^◌, ◌↔◌, IsTrue, IfErr, IfOk, IsErrOf, OnOk, false, length, reverse, take};
 ghost use Rattle.std.specs.List.{All};
 ghost use Rattle.std.specs.Io.KnownBytes.{IsAtEnd};
 ghost use Rattle.driver.specs.AuditStream.{IsTold};
+ghost use Rattle.driver.specs.AuditText.{before_wrong};
 ghost use Rattle.driver.specs.DrawStream.{Draws, drawn_text, legal_front, pictured, wrong_of};
+ghost use Rattle.driver.specs.HistoryReader.{base_held};
 ghost use Rattle.driver.specs.TextReader.{IsFaultOf};
-ghost use Rattle.history.specs.Header.{IsInRange};
 ghost use Rattle.history_text.specs.HistoryText.{history_form};
 ghost use Rattle.picture.specs.Document.{svg_text};
 ghost use Rattle.streams.specs.Streams.{IsReadNoFurther, IsReadOut};
@@ -19,7 +20,6 @@ use audit::verdict::Verdict;
 use drawing::laws::bars_are_the_longest_stretches;
 use drawing::whole::drawn_of;
 use history::entry::Entry;
-use history::header::Header;
 use picture::document::svg_text;
 use picture::picture::Picture;
 use std::alloc::{AllocError, Global};
@@ -27,8 +27,8 @@ use streams::sink::Sink;
 use streams::source::Source;
 use streams::stream_fault::StreamFault;
 
-/// Reads a history text, judges the history, and writes a picture of the chosen entries. The verdict is
-/// answered too. A history that isn't legal is drawn up to its first entry that isn't.
+/// Reads a history text, judges the history from its base on, and writes a picture of the chosen entries. The
+/// verdict is answered too. A history that isn't legal is drawn up to its first entry that isn't.
 ///
 /// The entries up to the last that is drawn are kept, and none behind it. As in
 /// [`audit_stream`](crate::audit_stream::audit_stream) all is read, and all memory found, before anything is
@@ -64,45 +64,42 @@ fn sketch_of<R: Source>(
     ensures failing { IsErrOf result StreamFault.ReadFailed ↔ IsTrue (R.failed reader.new) }
 {
     let mut entries = HistoryReader::open(alloc, reader)?;
-    let judged = judged_of(alloc, &mut entries, reader, choice.end())?;
+    let folded = entries.folded();
+    let judged = judged_of(alloc, &mut entries, reader, choice.end(folded))?;
     let verdict = judged.judgement.verdict();
-    let all = entries.count();
-    let text = drawn_text(
-        alloc,
-        entries.header(),
-        choice,
-        all,
-        verdict,
-        &judged.entries,
-    )?;
+    let text = drawn_text(alloc, &entries, choice, verdict, &judged.entries)?;
     Ok(VerdictText { verdict, text })
 }
 
-/// The text of the picture of the entries that were kept, of so many.
+/// The text of the picture of the entries that were kept, of those that were read.
 fn drawn_text(
     alloc: Global,
-    header: Header,
+    entries: &HistoryReader,
     choice: Choice,
-    all: u64,
     verdict: Verdict,
     kept: &[Entry],
 ) -> Result<Vec<u8>, AllocError>
-    requires range { IsInRange header }
-    requires seated { All (λ e. e.seat < header.seats) kept.now }
+    requires base { entries.now.place.folded ≡ (base_held entries.now).entries }
+    requires wrong { before_wrong verdict < 2 ^ 32 }
+    requires seated { All (λ e. e.seat < entries.now.header.seats) kept.now }
     requires few { length kept.now < 2 ^ 32 }
-    ensures { IfOk result (λ text. text.items ≡ svg_text (pictured header choice all verdict
-        (legal_front verdict kept.now))) }
+    ensures { IfOk result (λ text. text.items ≡ svg_text (pictured (base_held entries.now) choice
+        entries.now.place.count verdict (legal_front verdict kept.now))) }
 {
     let shown = legal_front(kept, verdict);
-    let from = choice.first();
-    let drawn = drawn_of(alloc, header, from, shown)?;
+    let header = entries.header();
+    let folded = entries.folded();
+    let count = entries.count();
+    let from = choice.first(folded);
+    let drawn = drawn_of(alloc, header, entries.base(), from, shown)?;
     let picture = Picture {
         header,
+        folded,
         from,
         to: shown.len() as u64,
-        entries: all,
-        is_cut: choice.is_cut(all),
-        wrong: wrong_of(verdict),
+        entries: folded + count,
+        is_cut: choice.is_cut(count),
+        wrong: wrong_of(folded, verdict),
         drawn,
     };
     bars_are_the_longest_stretches();
@@ -125,12 +122,13 @@ fn legal_front(entries: &[Entry], verdict: Verdict) -> &[Entry]
     }
 }
 
-/// The first entry that isn't legal.
-fn wrong_of(verdict: Verdict) -> Option<u64>
-    ensures { result ≡ wrong_of verdict }
+/// The number of the first entry that isn't legal, behind so many that were folded.
+fn wrong_of(folded: u64, verdict: Verdict) -> Option<u64>
+    requires { folded + before_wrong verdict < 2 ^ 64 }
+    ensures { result ≡ wrong_of folded verdict }
 {
     match verdict {
         Verdict::Legal => None,
-        Verdict::NotLegal(number) => Some(number),
+        Verdict::NotLegal(number) => Some(folded + number),
     }
 }

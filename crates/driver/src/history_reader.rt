@@ -1,38 +1,47 @@
 //! The entries of a history text, read from its source as they are asked for.
 
 ghost use Rattle.std.specs.Prelude.{◌≡◌, ◌<◌, ◌≤◌, ◌↔◌, [], false, length, None, Ok, IsTrue, IsErrOf, IfOk, IfErr, IfSome, OnErr};
+ghost use Rattle.std.specs.Option.{option_copied};
 ghost use Rattle.std.specs.Io.KnownBytes.{IsAtEnd};
+ghost use Rattle.history.specs.Entries.{IsBasedWell, or_opening};
+ghost use Rattle.history.specs.GoodBase.{IsBaseOf, most_folded};
 ghost use Rattle.history.specs.Header.{IsInRange};
 ghost use Rattle.history.specs.Text.{HasNoBreak};
-ghost use Rattle.driver.specs.HistoryReader.{AreCounted, entries_read, entry_passed};
-ghost use Rattle.driver.specs.TextReader.{IsFaultOf, IsNext, Stands, WereRead};
+ghost use Rattle.driver.specs.BaseReader.{IsBeginningRead, IsPlacedBehind};
+ghost use Rattle.driver.specs.HistoryReader.{AreCounted, EntriesRead, IsEntryNext, IsStart, entry_passed};
+ghost use Rattle.driver.specs.TextReader.{IsFaultOf, Stands};
 ghost use Rattle.history_text.specs.HistoryText.{history_form};
 ghost use Rattle.streams.specs.Window.{room};
 
+use crate::base_reader::read_base;
 use crate::end_of::end_of;
-use history::entries::ends_call;
+use history::base::Base;
 use history::entry::Entry;
 use history::header::Header;
 use history::number::Numbering;
-use history_text::next_entry::{header_of, next_entry};
+use history_text::next_entry::{head_of, next_entry};
+use history_text::place::{Head, Place};
 use std::alloc::Global;
 use std::marker::Model;
 use streams::source::Source;
 use streams::stream_fault::StreamFault;
 use streams::window::Window;
 
-/// A history text of which the header, and so many entries, were read.
+/// A history text of which the header, the lines of a base, if there are some, and so many entries behind
+/// them were read.
 #[derive(Drop)]
 pub struct HistoryReader {
     header: Header,
-    count: u64,
-    calls: u64,
+    base: Option<Base>,
+    place: Place,
     numbering: Numbering,
     window: Window,
 }
 
 impl Model for HistoryReader {
-    ghost use Rattle.std.specs.Prelude.{◌≡◌, ◌≤◌, length};
+    ghost use Rattle.std.specs.Prelude.{◌≡◌, ◌≤◌, ◌+◌, ◌<◌, length};
+    ghost use Rattle.history.specs.Entries.{or_opening};
+    ghost use Rattle.history.specs.GoodBase.{IsBaseOf, most_folded};
     ghost use Rattle.history.specs.Header.{IsInRange};
     ghost use Rattle.driver.specs.HistoryReader.{EntriesHeld};
     ghost use Rattle.streams.specs.Window.{room};
@@ -41,36 +50,38 @@ impl Model for HistoryReader {
 
     ghost view = { λ r. record {
       header = r.header;
-      count = r.count;
-      calls = r.calls;
+      base = r.base;
+      place = r.place;
       bytes = r.window.bytes;
       places = r.window.places;
     } };
 
-    ghost invariant = { λ r. (r.count ≤ r.header.cap) × (r.calls ≤ r.count) × IsInRange r.header
-        × (r.window.places ≡ room) × (length r.window.bytes ≤ room) };
+    ghost invariant = { λ r. (r.place.count ≤ r.header.cap) × (r.place.calls ≤ most_folded + r.place.count)
+        × (r.place.lines ≤ 1024) × (r.place.folded ≤ most_folded) × IsInRange r.header
+        × IsBaseOf r.header (or_opening r.header r.base) × (r.window.places ≡ room)
+        × (length r.window.bytes ≤ room) };
 }
 
 impl HistoryReader {
-    /// Reads the header of a text.
+    /// Reads the header of a text, and the lines of a base that follow it in a text of format 2.
     pub fn open<R: Source>(alloc: Global, reader: &mut R) -> Result<Self, StreamFault>
         requires { R.failed reader.old ≡ false }
-        ensures ok { IfOk result (λ entries. WereRead history_form (R.left reader.old)
-            (entries_read entries (R.left reader.new)) []) }
+        ensures ok { IfOk result (λ entries. EntriesRead (R.left reader.old) entries (R.left reader.new) []) }
         ensures err { IfErr result (IsFaultOf history_form (R.left reader.old) (R.left reader.new)) }
         ensures room { IfOk result (λ entries. entries.places ≡ room) }
         ensures failing { IsErrOf result StreamFault.ReadFailed ↔ IsTrue (R.failed reader.new) }
-        ensures none { IfOk result (λ entries. (entries.count ≡ 0) × (entries.calls ≡ 0)) }
+        ensures start { IfOk result IsStart }
     {
         let mut window = Window::open(alloc)?;
         window.read_line(reader)?;
-        let (header, after) = header_of(window.bytes())?;
+        let (head, after) = head_of(window.bytes())?;
         let left = after.len();
         window.keep_last(left);
+        let (base, place) = base_of(alloc, &head, &mut window, reader)?;
         Ok(HistoryReader {
-            header,
-            count: 0,
-            calls: 0,
+            header: head.header,
+            base,
+            place,
             numbering: Numbering::new(),
             window,
         })
@@ -85,30 +96,44 @@ impl HistoryReader {
         self.header
     }
 
-    /// How many entries were read.
-    pub fn count(&self) -> u64
-        ensures { result ≡ self.now.count }
+    /// The base that the text tells, if it tells one.
+    pub fn base(&self) -> Option<&Base>
+        ensures value { option_copied result ≡ self.now.base }
+        ensures well { IsBasedWell self.now.header self.now.base }
     {
-        self.count
+        self.base.as_ref()
     }
 
-    /// How many of them end a call.
-    pub fn calls(&self) -> u64
-        ensures { result ≡ self.now.calls }
+    /// How many entries were folded into the base.
+    pub fn folded(&self) -> u64
+        ensures value { result ≡ self.now.place.folded }
+        ensures few { result ≤ most_folded }
     {
-        self.calls
+        self.place.folded
+    }
+
+    /// How many entries were read behind the base.
+    pub fn count(&self) -> u64
+        ensures value { result ≡ self.now.place.count }
+        ensures few { result ≤ self.now.header.cap }
+    {
+        self.place.count
+    }
+
+    /// How many calls ended, those before the base among them.
+    pub fn calls(&self) -> u64
+        ensures { result ≡ self.now.place.calls }
+    {
+        self.place.calls
     }
 
     /// Counts one more entry, which ends where so many bytes are left.
     #[inline(always)]
     fn pass(&mut self, entry: Entry, left: usize)
-        requires { (left ≤ length self.old.bytes) × (self.old.count < self.old.header.cap) }
+        requires { (left ≤ length self.old.bytes) × (self.old.place.count < self.old.header.cap) }
         ensures { self.new ≡ entry_passed entry left self.old }
     {
-        self.count += 1;
-        if ends_call(entry.word) {
-            self.calls += 1;
-        }
+        self.place = self.place.behind(&entry);
         self.window.keep_last(left);
     }
 
@@ -120,12 +145,11 @@ impl HistoryReader {
     ) -> Result<Option<Entry>, StreamFault>
         requires { R.failed reader.old ≡ false }
         ensures header { self.new.header ≡ self.old.header }
-        ensures next { IsNext history_form (entries_read self.old (R.left reader.old)) result
-            (entries_read self.new (R.left reader.new)) (R.left reader.new) }
+        ensures base { self.new.base ≡ self.old.base }
+        ensures next { IsEntryNext self.old (R.left reader.old) result self.new (R.left reader.new) }
         ensures stands { Stands self.old.bytes (R.left reader.old) result self.new.bytes (R.left reader.new) }
         ensures counted { IfOk result (λ next. AreCounted self.old next self.new) }
-        ensures uncounted { OnErr result
-            ((self.new.count ≡ self.old.count) × (self.new.calls ≡ self.old.calls)) }
+        ensures uncounted { OnErr result (self.new.place ≡ self.old.place) }
         ensures places { self.new.places ≡ self.old.places }
         ensures held { length self.new.bytes ≤ room }
         ensures ready { (HasNoBreak self.old.bytes → ⊥) →
@@ -138,11 +162,11 @@ impl HistoryReader {
             self.window.bytes(),
             &self.header,
             &mut self.numbering,
-            self.count,
-            self.calls,
+            self.place,
         )?
         else {
-            return end_of(&mut self.window, reader, self.count);
+            let lines = self.place.lines + self.place.count;
+            return end_of(&mut self.window, reader, lines);
         };
         self.pass(entry, left);
         Ok(Some(entry))
@@ -156,12 +180,11 @@ impl HistoryReader {
     pub fn next<R: Source>(&mut self, reader: &mut R) -> Result<Option<Entry>, StreamFault>
         requires { R.failed reader.old ≡ false }
         ensures header { self.new.header ≡ self.old.header }
-        ensures next { IsNext history_form (entries_read self.old (R.left reader.old)) result
-            (entries_read self.new (R.left reader.new)) (R.left reader.new) }
+        ensures base { self.new.base ≡ self.old.base }
+        ensures next { IsEntryNext self.old (R.left reader.old) result self.new (R.left reader.new) }
         ensures stands { Stands self.old.bytes (R.left reader.old) result self.new.bytes (R.left reader.new) }
         ensures counted { IfOk result (λ next. AreCounted self.old next self.new) }
-        ensures uncounted { OnErr result
-            ((self.new.count ≡ self.old.count) × (self.new.calls ≡ self.old.calls)) }
+        ensures uncounted { OnErr result (self.new.place ≡ self.old.place) }
         ensures places { self.new.places ≡ self.old.places }
         ensures held { length self.new.bytes ≤ room }
         ensures ready { (HasNoBreak self.old.bytes → ⊥) →
@@ -173,8 +196,7 @@ impl HistoryReader {
             self.window.bytes(),
             &self.header,
             &mut self.numbering,
-            self.count,
-            self.calls,
+            self.place,
         ) {
             Ok(Some((entry, left))) => {
                 self.pass(entry, left);
@@ -183,4 +205,37 @@ impl HistoryReader {
             _ => self.next_after_reading(reader),
         }
     }
+}
+
+/// The base that the lines behind the first one say, if the first one says that they do, and where a reader
+/// stands behind them.
+fn base_of<R: Source>(
+    alloc: Global,
+    head: &Head,
+    window: &mut Window,
+    reader: &mut R,
+) -> Result<(Option<Base>, Place), StreamFault>
+    requires reader { R.failed reader.old ≡ false }
+    requires range { IsInRange head.now.header }
+    requires room { window.old.places ≡ room }
+    requires held { length window.old.bytes ≤ room }
+    ensures read { IsBeginningRead head.now window.old.bytes (R.left reader.old) result window.new.bytes
+        (R.left reader.new) }
+    ensures base { IfOk result (λ r. IsBaseOf head.now.header (or_opening head.now.header r.0)) }
+    ensures place { IfOk result (λ r. IsPlacedBehind (or_opening head.now.header r.0) r.1) }
+    ensures places { window.new.places ≡ window.old.places }
+    ensures held { length window.new.bytes ≤ room }
+    ensures failing { IsErrOf result StreamFault.ReadFailed ↔ IsTrue (R.failed reader.new) }
+{
+    if head.is_based {
+        let (base, place) = read_base(alloc, head, window, reader)?;
+        return Ok((Some(base), place));
+    }
+    let place = Place {
+        lines: 0,
+        folded: 0,
+        count: 0,
+        calls: 0,
+    };
+    Ok((None, place))
 }

@@ -1,17 +1,23 @@
 //! The entries of a history text, judged as their lines are read.
 
-ghost use Rattle.std.specs.Prelude.{◌≡◌, ◌↔◌, IsTrue, IfErr, IfOk, IsErrOf, OnOk, false};
+ghost use Rattle.std.specs.Prelude.{◌≡◌, ◌↔◌, IsTrue, IfErr, IfOk, IsErrOf, IsOkUnless, OnOk, [], false};
+ghost use Rattle.std.specs.Option.{option_copied};
 ghost use Rattle.std.specs.Io.KnownBytes.{IsAtEnd};
-ghost use Rattle.driver.specs.HistoryReader.{entries_read};
+ghost use Rattle.audit.specs.Auditor.{HasJudged};
+ghost use Rattle.history.specs.Base.{based};
+ghost use Rattle.history.specs.Entries.{IsBasedWell, or_opening};
+ghost use Rattle.history.specs.Header.{IsInRange};
+ghost use Rattle.driver.specs.HistoryReader.{IsFaultBehindBase, IsStart};
 ghost use Rattle.driver.specs.Judged.{IsJudged, kept_with};
-ghost use Rattle.driver.specs.TextReader.{IsFaultBehind};
-ghost use Rattle.history_text.specs.HistoryText.{history_form};
 ghost use Rattle.streams.specs.declared.stream_fault.StreamFault.TheVariants.{Memory};
 
 use crate::history_reader::HistoryReader;
 use audit::auditor::Auditor;
 use audit::verdict::Judgement;
+use history::base::Base;
 use history::entry::Entry;
+use history::fault::Fault;
+use history::header::Header;
 use std::alloc::{AllocError, Global};
 use streams::source::Source;
 use streams::stream_fault::StreamFault;
@@ -23,26 +29,26 @@ pub(crate) struct Judged {
     pub(crate) entries: Vec<Entry>,
 }
 
-/// The judgement on the entries of a text, each of which is followed as its line is read. The entries before
-/// the one of a number are kept: none where it is 0.
+/// The judgement on the entries of a text from its base on, each of which is followed as its line is read.
+/// The first so many of them are kept: none where it is 0.
 #[inline(always)]
 pub(crate) fn judged_of<R: Source>(
     alloc: Global,
     entries: &mut HistoryReader,
     reader: &mut R,
-    end: u64,
+    most: u64,
 ) -> Result<Judged, StreamFault>
     requires reader { R.failed reader.old ≡ false }
-    requires fresh { (entries.old.count ≡ 0) × (entries.old.calls ≡ 0) }
-    ensures ok { IfOk result (IsJudged (entries_read entries.old (R.left reader.old)) entries.new end) }
-    ensures err { IfErr result (IsFaultBehind history_form (entries_read entries.old (R.left reader.old))
-        (R.left reader.new)) }
-    ensures memory { OnOk result (IsFaultBehind history_form (entries_read entries.old (R.left reader.old))
-        (R.left reader.new) Memory) }
+    requires fresh { IsStart entries.old }
+    ensures ok { IfOk result (IsJudged entries.old (R.left reader.old) entries.new most) }
+    ensures err { IfErr result (IsFaultBehindBase entries.old (R.left reader.old) (R.left reader.new)) }
+    ensures memory { OnOk result
+        (IsFaultBehindBase entries.old (R.left reader.old) (R.left reader.new) Memory) }
     ensures ended { OnOk result (IsAtEnd (R.left reader.new)) }
     ensures failing { IsErrOf result StreamFault.ReadFailed ↔ IsTrue (R.failed reader.new) }
 {
-    let Ok(mut auditor) = Auditor::open(alloc, entries.header()) else {
+    let header = entries.header();
+    let Ok(mut auditor) = auditor_on(alloc, &header, entries.base()) else {
         return Err(StreamFault::Memory);
     };
     let mut kept = Vec::new(alloc);
@@ -51,7 +57,7 @@ pub(crate) fn judged_of<R: Source>(
             Ok(()) => {}
             Err(_) => return Err(StreamFault::Memory),
         }
-        match keep(&mut kept, entry, entries.count() - 1, end) {
+        match keep(&mut kept, entry, entries.count() - 1, most) {
             Ok(()) => {}
             Err(_) => return Err(StreamFault::Memory),
         }
@@ -60,6 +66,19 @@ pub(crate) fn judged_of<R: Source>(
         judgement: auditor.judgement(),
         entries: kept,
     })
+}
+
+/// An auditor that has seen no entry of an object that begins on a base, or as opened.
+fn auditor_on(alloc: Global, header: &Header, base: Option<&Base>) -> Result<Auditor, Fault>
+    requires range { IsInRange header.now }
+    requires based { IsBasedWell header.now (option_copied base) }
+    ensures judged { IfOk result (HasJudged (based (or_opening header.now (option_copied base.entry))) []) }
+    ensures memory { IsOkUnless result Fault.OutOfMemory }
+{
+    match base {
+        Some(base) => Auditor::open_on(alloc, base),
+        None => Auditor::open(alloc, *header),
+    }
 }
 
 /// Keeps the entry of a number, if it stands before the end.

@@ -10,6 +10,7 @@ mod answer_line;
 pub mod answers;
 pub mod audit_stream;
 pub mod audit_text;
+mod base_reader;
 pub mod choice;
 pub mod draw_stream;
 mod end_of;

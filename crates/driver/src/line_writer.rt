@@ -6,10 +6,10 @@ ghost use Rattle.history.specs.Text.{ended};
 ghost use Rattle.history_text.specs.EntryLines.{counts_line};
 ghost use Rattle.driver.specs.LineWriter.{Gathers};
 ghost use Rattle.driver.specs.Replay.{HasLine};
-ghost use Rattle.driver.specs.ReplayText.{answer_line};
+ghost use Rattle.driver.specs.ReplayText.{answer_line, trim_line};
 ghost use Rattle.streams.specs.Whole.{AppendsFront};
 
-use crate::answer_line::spell_answer;
+use crate::answer_line::{spell_answer, spell_trim};
 use history::fault::Fault;
 use history::number::{Numbering, spell};
 use history::pieces::{put_byte, put_bytes};
@@ -117,6 +117,24 @@ impl LineWriter {
         Ok(())
     }
 
+    /// Adds the line of a trim, with how many entries it folded or its fault.
+    pub fn put_trim<W: Sink>(
+        &mut self,
+        writer: &mut W,
+        answer: &Result<u64, Fault>,
+    ) -> Result<(), DeviceFailed>
+        requires { W.failed writer.old ≡ false }
+        ensures adds { Gathers (W.held writer.old) self.old.bytes result (W.held writer.new) self.new.bytes
+            (ended (trim_line answer.now)) }
+        ensures gathers { 136 ≤ self.old.room → writer.new ≡ writer.old }
+        ensures places { length self.new.bytes + self.new.room ≡ length self.old.bytes + self.old.room }
+        ensures failing { IsTrue (W.failed writer.new) ↔ IsErr result }
+    {
+        self.make_room(writer)?;
+        self.spell_trim(answer);
+        Ok(())
+    }
+
     /// Adds the end line of so many entries, of which so many end a call.
     pub fn put_counts<W: Sink>(
         &mut self,
@@ -146,6 +164,16 @@ impl LineWriter {
     {
         let line = self.bytes.as_mut_slice();
         self.at = spell_answer(line, self.at, &mut self.numbering, number, seat, answer);
+    }
+
+    /// Adds the line of a trim, for which there is room.
+    fn spell_trim(&mut self, answer: &Result<u64, Fault>)
+        requires { 136 ≤ self.old.room }
+        ensures bytes { self.new.bytes ≡ self.old.bytes ++ ended (trim_line answer.now) }
+        ensures places { length self.new.bytes + self.new.room ≡ length self.old.bytes + self.old.room }
+    {
+        let line = self.bytes.as_mut_slice();
+        self.at = spell_trim(line, self.at, answer);
     }
 
     /// Adds an end line, for which there is room.

@@ -1,25 +1,42 @@
-//! The answers to the steps of a text.
+//! The answers to the steps and trims of a text.
 
-ghost use Rattle.std.specs.Prelude.{◌≡◌, ◌↔◌, [], false, IfErr, IfOk, IsErrOf, IsTrue, OnOk, Err, length};
+ghost use Rattle.std.specs.Prelude.{◌≡◌, ◌+◌, ◌++◌, ◌<◌, ◌^◌, ◌↔◌, [], All, false, IfErr, IfOk, IsErrOf, IsTrue, OnErr, OnOk, Err, length, reverse};
 ghost use Rattle.std.specs.Io.KnownBytes.{IsAtEnd};
+ghost use Rattle.frame.specs.Acts.{IsOfSeats};
+ghost use Rattle.frame.specs.Core.{IsTrimmed, start_of};
+ghost use Rattle.history.specs.Base.{opening_base};
+ghost use Rattle.history.specs.EntryWords.{IsSpelt};
+ghost use Rattle.history.specs.Fold.{MayFold};
 ghost use Rattle.history.specs.Legal.{IsLegal};
-ghost use Rattle.history.specs.Start.{opening};
 ghost use Rattle.streams.specs.declared.stream_fault.StreamFault.TheVariants.{Memory};
+ghost use Rattle.driver.specs.Answers.{AreFolded};
+ghost use Rattle.driver.specs.Logged.{IsLogged, IsStepLogged, IsTrimLogged, gone, logged};
 ghost use Rattle.driver.specs.Remarks.{IsKept};
 ghost use Rattle.driver.specs.ReplayStream.{AreAnswersBehind};
 ghost use Rattle.driver.specs.StepReader.{progress};
 ghost use Rattle.driver.specs.TextReader.{IsFaultBehind};
 ghost use Rattle.steps.specs.StepsText.{steps_form};
 
-use crate::remark::{Remark, remark_on};
+use crate::remark::{Remark, remark_on, remark_on_trim};
 use crate::step_reader::StepReader;
+use frame::acts::Act;
 use frame::hooks::Hooks;
 use frame::machine::Core;
+use history::entries::History;
+use history::entry::Entry;
 use history::fault::Fault;
-use history::step::Answer;
+use history::step::{Answer, Step};
 use std::alloc::Global;
 use streams::source::Source;
 use streams::stream_fault::StreamFault;
+
+/// What is kept of the answers beside the history of the core.
+#[derive(Drop)]
+pub struct Log {
+    /// The entries that trims folded.
+    pub past: Vec<Entry>,
+    pub remarks: Vec<Remark>,
+}
 
 /// Whether a step was refused for want of memory.
 #[inline(always)]
@@ -41,8 +58,109 @@ fn keep(remarks: &mut Vec<Remark>, remark: Option<Remark>) -> Result<(), StreamF
     Ok(())
 }
 
-/// Has a fresh core answer the steps of a text, each as its line is read, and answers what there is to
-/// remark beside the entries.
+/// How many entries there are, those that were folded among them. No good text has as many steps as 32 bits
+/// count: where they don't count the entries, it is answered by want of memory.
+#[inline(always)]
+fn count_of(past: &[Entry], history: &History) -> Result<u32, StreamFault>
+    ensures ok { IfOk result (λ count. count ≡ length past.now + length history.now.entries) }
+    ensures err { IfErr result (λ fault. fault ≡ Memory) }
+{
+    let count = past.len() as u64 + history.len();
+    if count > u64::from(u32::MAX) {
+        return Err(StreamFault::Memory);
+    }
+    Ok(count as u32)
+}
+
+/// Has a core answer a step, and keeps what there is to remark.
+#[inline(always)]
+fn answer_step<H: Hooks + Drop>(
+    core: &mut Core<H>,
+    log: &mut Log,
+    seat: u16,
+    step: Step,
+) -> Result<(), StreamFault>
+    requires { seat < core.old.header.seats }
+    ensures ok { OnOk result (IsStepLogged core.old (logged log.old) seat step core.new (logged log.new)) }
+    ensures err { IfErr result (λ fault. fault ≡ Memory) }
+{
+    let before = count_of(&log.past, core.history())?;
+    let answer = core.step(seat, step);
+    if lacks_memory(&answer) {
+        return Err(StreamFault::Memory);
+    }
+    keep(&mut log.remarks, remark_on(before, seat, &answer))
+}
+
+/// Keeps the entries of a history behind those that were folded before.
+fn keep_entries(past: &mut Vec<Entry>, history: &History) -> Result<(), StreamFault>
+    ensures ok { OnOk result (past.new.items ≡ past.old.items ++ reverse history.now.entries) }
+    ensures err { IfErr result (λ fault. fault ≡ Memory) }
+{
+    let mut number = 0;
+    while let Some(entry) = history.get(number) {
+        past.push(entry)?;
+        number += 1;
+    }
+    Ok(())
+}
+
+/// Trims a core, and keeps the entries that are folded.
+fn trim_keeping<H: Hooks + Drop>(
+    core: &mut Core<H>,
+    past: &mut Vec<Entry>,
+) -> Result<Result<u64, Fault>, StreamFault>
+    ensures trimmed { IfOk result (λ answer. IsTrimmed core.old answer core.new) }
+    ensures past { IfOk result (λ answer. past.new.items ≡ past.old.items ++ gone answer core.old.entries) }
+    ensures few { IfOk result (λ answer. IfOk answer (λ count. count < 2 ^ 32)) }
+    ensures may_fold { MayFold core.old.base core.old.entries }
+    ensures err { IfErr result (λ fault. fault ≡ Memory) }
+{
+    core.recall_lawful();
+    let kept = past.len();
+    keep_entries(past, core.history())?;
+    match core.trim() {
+        Ok(count) => Ok(Ok(count)),
+        Err(fault) => {
+            past.truncate(kept);
+            Ok(Err(fault))
+        }
+    }
+}
+
+/// Trims a core, and keeps what there is to tell of it.
+#[inline(never)]
+fn answer_trim<H: Hooks + Drop>(core: &mut Core<H>, log: &mut Log) -> Result<(), StreamFault>
+    ensures ok { OnOk result (IsTrimLogged core.old (logged log.old) core.new (logged log.new)) }
+    ensures may_fold { OnOk result (MayFold core.old.base core.old.entries) }
+    ensures err { IfErr result (λ fault. fault ≡ Memory) }
+{
+    let before = count_of(&log.past, core.history())?;
+    let answer = trim_keeping(core, &mut log.past)?;
+    log.remarks.push(remark_on_trim(before, &answer))?;
+    Ok(())
+}
+
+/// Has a core do an act, and keeps what there is to tell of it beside the history.
+#[inline(always)]
+fn answer_act<H: Hooks + Drop>(
+    core: &mut Core<H>,
+    log: &mut Log,
+    act: Act,
+) -> Result<(), StreamFault>
+    requires { IsOfSeats core.old.header.seats act }
+    ensures ok { OnOk result (IsLogged core.old (logged log.old) act core.new (logged log.new)) }
+    ensures may_fold { OnOk result (act ≡ Act.Trim → MayFold core.old.base core.old.entries) }
+    ensures err { IfErr result (λ fault. fault ≡ Memory) }
+{
+    match act {
+        Act::Do(seat, step) => answer_step(core, log, seat, step),
+        Act::Trim => answer_trim(core, log),
+    }
+}
+
+/// Has a fresh core do the acts of a text, each as its line is read, and answers what is to be told beside
+/// the history that it has then.
 ///
 /// A fault of the text or of its source ends the replay, and so does a step that is refused for want of
 /// memory.
@@ -51,17 +169,22 @@ pub fn replay<H: Hooks + Drop, R: Source>(
     core: &mut Core<H>,
     steps: &mut StepReader,
     reader: &mut R,
-) -> Result<Vec<Remark>, StreamFault>
+) -> Result<Log, StreamFault>
     requires reader { R.failed reader.old ≡ false }
-    requires header { core.old.header ≡ steps.old.header }
+    requires header { core.old.header ≡ steps.old.header.header }
+    requires base { core.old.base ≡ opening_base steps.old.header.header }
     requires fresh { core.old.entries ≡ [] }
-    ensures ok { IfOk result (λ remarks. AreAnswersBehind (progress steps.old (R.left reader.old))
+    ensures ok { IfOk result (λ log. AreAnswersBehind (progress steps.old (R.left reader.old))
         (record {
           header = steps.old.header;
+          past = log.past.items;
+          base = core.new.base;
           entries = core.new.entries;
-          remarks = remarks.items;
+          remarks = log.remarks.items;
         })) }
-    ensures legal { OnOk result (IsLegal (opening steps.old.header) core.new.entries) }
+    ensures legal { OnOk result (IsLegal (start_of core.new) core.new.entries) }
+    ensures spelt { IfOk result (λ log. All IsSpelt (log.past.items ++ reverse core.new.entries)) }
+    ensures folded { IfOk result (λ log. AreFolded steps.old.header.header log.past.items core.new.base) }
     ensures err { IfErr result (IsFaultBehind steps_form (progress steps.old (R.left reader.old))
         (R.left reader.new)) }
     ensures memory { OnOk result (IsFaultBehind steps_form (progress steps.old (R.left reader.old))
@@ -69,14 +192,13 @@ pub fn replay<H: Hooks + Drop, R: Source>(
     ensures ended { OnOk result (IsAtEnd (R.left reader.new)) }
     ensures failing { IsErrOf result StreamFault.ReadFailed ↔ IsTrue (R.failed reader.new) }
 {
-    let mut remarks = Vec::new(alloc);
-    while let Some((seat, step)) = steps.next(reader)? {
-        let before = core.history().len() as u32;
-        let answer = core.step(seat, step);
-        if lacks_memory(&answer) {
-            return Err(StreamFault::Memory);
-        }
-        keep(&mut remarks, remark_on(before, seat, &answer))?;
+    let mut log = Log {
+        past: Vec::new(alloc),
+        remarks: Vec::new(alloc),
+    };
+    while let Some(act) = steps.next(reader)? {
+        answer_act(core, &mut log, act)?;
     }
-    Ok(remarks)
+    core.recall_lawful();
+    Ok(log)
 }

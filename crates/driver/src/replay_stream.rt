@@ -26,7 +26,7 @@ use streams::source::Source;
 use streams::stream_fault::StreamFault;
 use streams::whole::told_at_the_end;
 
-/// Reads a steps text, and writes what a fresh object of its header answers to the steps.
+/// Reads a steps text, and writes what a fresh object of its header answers to the steps and trims.
 ///
 /// Each line is answered as it is read, and nothing is written before all was answered and all memory was
 /// found: nothing at all where the text has a fault, where reading fails or where memory is refused, to a
@@ -72,8 +72,8 @@ fn answered<H: Hooks + Drop, R: Source>(
     reader: &mut R,
 ) -> Result<Answers, StreamFault>
     requires reader { R.failed reader.old ≡ false }
-    requires hooks { H.is_opened hooks steps.old.header.seats }
-    requires object { H.object_of hooks ≡ steps.old.header.object }
+    requires hooks { H.is_opened hooks steps.old.header.header.seats }
+    requires object { H.object_of hooks ≡ steps.old.header.header.object }
     ensures ok { IfOk result (AreAnswersBehind (progress steps.old (R.left reader.old))) }
     ensures err { IfErr result (IsFaultBehind steps_form (progress steps.old (R.left reader.old))
         (R.left reader.new)) }
@@ -82,12 +82,13 @@ fn answered<H: Hooks + Drop, R: Source>(
     ensures ended { OnOk result (IsAtEnd (R.left reader.new)) }
     ensures failing { IsErrOf result StreamFault.ReadFailed ↔ IsTrue (R.failed reader.new) }
 {
-    let header = steps.header();
+    let text = steps.header();
+    let header = text.header;
     let Ok(mut core) = Core::open(alloc, hooks, header.seats, header.conditions, header.cap) else {
         return Err(StreamFault::Memory);
     };
-    let remarks = replay(alloc, &mut core, steps, reader)?;
-    Ok(Answers::new(header, core.into_history(), remarks))
+    let log = replay(alloc, &mut core, steps, reader)?;
+    Ok(Answers::new(text, core.into_history(), log))
 }
 
 /// The answers of a fresh object of the text's header.
@@ -105,7 +106,7 @@ fn answers_behind<R: Source>(
     ensures ended { OnOk result (IsAtEnd (R.left reader.new)) }
     ensures failing { IsErrOf result StreamFault.ReadFailed ↔ IsTrue (R.failed reader.new) }
 {
-    let header = steps.header();
+    let header = steps.header().header;
     match header.object {
         Object::Lock(policy) => answered(alloc, LockHooks::open(policy), steps, reader),
         Object::ReadWrite(policy) => match RwHooks::open(alloc, policy, header.seats) {

@@ -1,4 +1,4 @@
-//! The steps of a text, read from its source as they are asked for.
+//! The steps of a text, and the trims between them, read from their source as they are asked for.
 
 ghost use Rattle.std.specs.Prelude.{◌≡◌, ◌+◌, ◌^◌, ◌<◌, ◌≤◌, ◌∷◌, ◌++◌, ◌↔◌, ◌-◌, [], false, length, None, Ok, IsTrue, IsErrOf, IfOk, IfErr, IfSome, OnErr, OnOk};
 ghost use Rattle.std.specs.Io.KnownBytes.{IsAtEnd};
@@ -6,27 +6,28 @@ ghost use Rattle.history.specs.Header.{IsInRange};
 ghost use Rattle.history.specs.Text.{HasNoBreak};
 ghost use Rattle.driver.specs.StepReader.{passed, progress};
 ghost use Rattle.driver.specs.TextReader.{IsFaultOf, IsNext, Stands, WereRead};
+ghost use Rattle.steps.specs.StepLines.{IsAct};
 ghost use Rattle.steps.specs.StepsText.{steps_form};
 ghost use Rattle.streams.specs.Window.{room};
 ghost use Rattle.streams.specs.declared.stream_fault.StreamFault.TheVariants.{Memory};
 
 use crate::end_of::end_of;
-use history::header::Header;
-use history::step::Step;
+use frame::acts::Act;
 use std::alloc::Global;
 use std::marker::Model;
+use steps::header::StepsHeader;
 use steps::next_line::{header_of, next_line};
 use streams::source::Source;
 use streams::stream_fault::StreamFault;
 use streams::window::Window;
 
-/// Steps are counted up to here: a text with more is answered by want of memory.
+/// Acts are counted up to here: a text with more is answered by want of memory.
 const MOST: u64 = 18_446_744_073_709_551_612;
 
-/// A steps text of which the header, and so many steps, were read.
+/// A steps text of which the header, and so many acts, were read.
 #[derive(Drop)]
 pub struct StepReader {
-    header: Header,
+    header: StepsHeader,
     count: u64,
     window: Window,
 }
@@ -46,7 +47,7 @@ impl Model for StepReader {
       places = r.window.places;
     } };
 
-    ghost invariant = { λ r. (r.count + 3 < 2 ^ 64) × IsInRange r.header × (r.window.places ≡ room)
+    ghost invariant = { λ r. (r.count + 3 < 2 ^ 64) × IsInRange r.header.header × (r.window.places ≡ room)
         × (length r.window.bytes ≤ room) };
 }
 
@@ -74,15 +75,15 @@ impl StepReader {
     }
 
     /// The header that the text began with.
-    pub fn header(&self) -> Header
+    pub fn header(&self) -> StepsHeader
         ensures value { result ≡ self.now.header }
-        ensures range { IsInRange self.now.header }
+        ensures range { IsInRange self.now.header.header }
         ensures held { length self.now.bytes ≤ room }
     {
         self.header
     }
 
-    /// Counts one more step, which ends where so many bytes are left.
+    /// Counts one more act, whose line ends where so many bytes are left.
     #[inline(always)]
     fn pass(&mut self, left: usize) -> Result<(), StreamFault>
         requires { left ≤ length self.old.bytes }
@@ -100,18 +101,15 @@ impl StepReader {
         Ok(())
     }
 
-    /// The next step, where a whole line isn't in the window yet or no step is.
+    /// The next act, where a whole line isn't in the window yet or no act is.
     #[inline(never)]
-    fn next_after_reading<R: Source>(
-        &mut self,
-        reader: &mut R,
-    ) -> Result<Option<(u16, Step)>, StreamFault>
+    fn next_after_reading<R: Source>(&mut self, reader: &mut R) -> Result<Option<Act>, StreamFault>
         requires { R.failed reader.old ≡ false }
         ensures header { self.new.header ≡ self.old.header }
         ensures next { IsNext steps_form (progress self.old (R.left reader.old)) result
             (progress self.new (R.left reader.new)) (R.left reader.new) }
         ensures stands { Stands self.old.bytes (R.left reader.old) result self.new.bytes (R.left reader.new) }
-        ensures seated { IfOk result (λ next. IfSome next (λ step. step.0 < self.old.header.seats)) }
+        ensures seated { IfOk result (λ next. IfSome next (IsAct self.old.header)) }
         ensures few { self.new.count < 2 ^ 64 }
         ensures counted { IfOk result (λ next. IfSome next (λ _. self.new.count ≡ self.old.count + 1)) }
         ensures stays { result ≡ Ok None → self.new.count ≡ self.old.count }
@@ -124,25 +122,25 @@ impl StepReader {
         ensures failing { IsErrOf result StreamFault.ReadFailed ↔ IsTrue (R.failed reader.new) }
     {
         self.window.read_line(reader)?;
-        let Some((step, left)) = next_line(self.window.bytes(), &self.header, self.count)? else {
+        let Some((act, left)) = next_line(self.window.bytes(), &self.header, self.count)? else {
             return end_of(&mut self.window, reader, self.count);
         };
         self.pass(left)?;
-        Ok(Some(step))
+        Ok(Some(act))
     }
 
-    /// The next seat and its step, or None behind the last: nothing follows the end line.
+    /// The next act, or None behind the last: nothing follows the end line.
     ///
     /// Behind None, and behind a fault, the reader stands where it stood: only bytes of a line that is longer
     /// than any good one may be gone.
     #[inline(always)]
-    pub fn next<R: Source>(&mut self, reader: &mut R) -> Result<Option<(u16, Step)>, StreamFault>
+    pub fn next<R: Source>(&mut self, reader: &mut R) -> Result<Option<Act>, StreamFault>
         requires { R.failed reader.old ≡ false }
         ensures header { self.new.header ≡ self.old.header }
         ensures next { IsNext steps_form (progress self.old (R.left reader.old)) result
             (progress self.new (R.left reader.new)) (R.left reader.new) }
         ensures stands { Stands self.old.bytes (R.left reader.old) result self.new.bytes (R.left reader.new) }
-        ensures seated { IfOk result (λ next. IfSome next (λ step. step.0 < self.old.header.seats)) }
+        ensures seated { IfOk result (λ next. IfSome next (IsAct self.old.header)) }
         ensures few { self.new.count < 2 ^ 64 }
         ensures counted { IfOk result (λ next. IfSome next (λ _. self.new.count ≡ self.old.count + 1)) }
         ensures stays { result ≡ Ok None → self.new.count ≡ self.old.count }
@@ -155,9 +153,9 @@ impl StepReader {
         ensures failing { IsErrOf result StreamFault.ReadFailed ↔ IsTrue (R.failed reader.new) }
     {
         match next_line(self.window.bytes(), &self.header, self.count) {
-            Ok(Some((step, left))) => {
+            Ok(Some((act, left))) => {
                 self.pass(left)?;
-                Ok(Some(step))
+                Ok(Some(act))
             }
             _ => self.next_after_reading(reader),
         }

@@ -4,7 +4,7 @@ ghost use Rattle.std.specs.Prelude.{◌≡◌, ◌↔◌, ℕ, List, Option, IsT
 ghost use Rattle.std.specs.Io.KnownBytes.{IsAtEnd};
 ghost use Rattle.audit.specs.declared.verdict.Verdict.{Verdict};
 ghost use Rattle.history.specs.declared.entry.Entry.{Entry};
-ghost use Rattle.history.specs.declared.header.Header.{Header};
+ghost use Rattle.history.specs.Base.{Base};
 ghost use Rattle.driver.specs.AuditStream.{IsTold, IsToldOf};
 ghost use Rattle.driver.specs.TextReader.{IsFaultOf};
 ghost use Rattle.history_text.specs.HistoryText.{history_form};
@@ -33,7 +33,7 @@ pub(crate) fn tell<R: Source, W: Sink>(
     requires writer { W.failed writer.old ≡ false }
     requires reader { IsErrOf told StreamFault.ReadFailed ↔ IsTrue (R.failed reader.old) }
     requires fault { IsErrOf told StreamFault.WriteFailed → ⊥ }
-    ensures streams { (Tells : Header → List Entry → Verdict → List ℕ) (left : Option (List ℕ)) →
+    ensures streams { (Tells : Base → List Entry → Verdict → List ℕ) (left : Option (List ℕ)) →
         IfOk told (IsTold Tells left) → IfErr told (IsFaultOf history_form left (R.left reader.old)) →
         Streams history_form (IsToldOf Tells) left (W.held writer.old) (W.held writer.new) result }
     ensures end { (left : Option (List ℕ)) → OnOk told (IsAtEnd (R.left reader.old)) →

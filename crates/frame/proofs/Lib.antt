@@ -1,5 +1,6 @@
 pub mod Deciding
 pub mod Seats
+pub mod Telling
 pub mod Counting
 pub mod Bounds
 pub mod Stepping
@@ -8,4 +9,6 @@ pub mod Recording
 pub mod Owners
 pub mod Tables
 pub mod Opening
+pub mod Trimming
 pub mod Runs
+pub mod Acting

@@ -1,7 +1,8 @@
 -- Whom an entry names: nobody where the hooks let nobody go, and else the first in line, where it can go now.
 use Rattle.std.proofs.Common.{◌≡◌, ◌≢◌, ⊎_elim, ℕ, ◌<◌, ◌≤◌, Bool, true, false, cond, eqb, List, [], ◌∷◌, ◌++◌, map, take, Option, Some, None, Ok, refl, ap, ◌∙◌, sym, subst, arith}
 use Rattle.std.specs.List.{AllByRecursion}
-use Rattle.std.proofs.lemmas.Bool.{cases_eq, eq-eqb, ne_eqb, true≢false}
+use Rattle.std.specs.Prelude.{IfSome}
+use Rattle.std.proofs.lemmas.Bool.{cases_eq, cond_both, eq-eqb, ne_eqb, true≢false}
 use Rattle.history.specs.declared.arrival.Arrival.{Arrival}
 use Rattle.history.specs.declared.entry.Entry.{Entry}
 use Rattle.history.specs.declared.entry.Mode.TheVariants.{X}
@@ -18,15 +19,17 @@ use Rattle.history.specs.Header.{IsInRange}
 use Rattle.history.specs.Line.{line, first_of, arrivals_by, coming_back}
 use Rattle.history.specs.Naming.{named, named_by, ready, ready_by}
 use Rattle.history.specs.Sleepers.{sleepers}
-use Rattle.history.specs.Start.{Start, opening}
-use Rattle.history.proofs.Asking.{AsksFew, line_few}
+use Rattle.history.specs.Base.{Base, based}
+use Rattle.history.specs.Start.{Start}
+use Rattle.history.proofs.Asking.{AsksFew}
+use Rattle.history.proofs.SmallHolds.{asks_small}
 use Rattle.history.proofs.Changes.{all_stay}
-use Rattle.history.proofs.Entering.{KnownBy, known}
+use Rattle.history.proofs.Entering.{KnownBy}
 use Rattle.history.proofs.LineLemmas.{line_after}
-use Rattle.frame.specs.Core.{CoreView, start_of, IsAdded, IsNext, ready_of}
-use Rattle.frame.specs.Effects.{asks_before, may_name, OpensNobody}
+use Rattle.frame.specs.Effects.{OpensNobody, asks_before, counts_after, may_name}
 use Rattle.deciding.specs.Situation.{IsHistory}
 use Rattle.deciding.proofs.Bounds.{first_below}
+use Rattle.frame.proofs.Recording.{names_below}
 use Rattle.frame.proofs.Stepping.{Next}
 
 -- beside an owner nobody else could take X
@@ -108,29 +111,37 @@ could_before old new i a w none seat few ne goes = by w none
     by word.Left none = absurd none
     by _ none = (refl, before _ refl (none a.seat a.mode a.n seat few ne))
 
-pub named_nobody : (k : Header) (h : List Entry) (e : Entry) → IsInRange k → Next k h e →
-    OpensNobody e.word (counts (opening k) h) (counts (opening k) (e ∷ h)) e.seat →
-    named (opening k) h e ≡ None
-named_nobody k h e range n none = by (first_of (line (opening k) (e ∷ h))) refl
+pub named_nobody : (k : Header) (b : Base) (h : List Entry) (e : Entry) → IsInRange k → Next k b h e →
+    OpensNobody e.word (counts (based b) h) (counts (based b) (e ∷ h)) e.seat →
+    named (based b) h e ≡ None
+named_nobody k b h e range n none = by (first_of (line (based b) (e ∷ h))) refl
   where
     new : Counts
-    new = counts (opening k) (e ∷ h)
+    new = counts (based b) (e ∷ h)
 
-    other : (a : Arrival) → first_of (line (opening k) (e ∷ h)) ≡ Some a →
-        could new a.seat a.mode a.n ≡ true → a.seat ≢ e.seat → ready (opening k) h ≡ Some a.seat
+    other : (a : Arrival) → first_of (line (based b) (e ∷ h)) ≡ Some a →
+        could new a.seat a.mode a.n ≡ true → a.seat ≢ e.seat → ready (based b) h ≡ Some a.seat
     other a is goes ne =
-        let past : IsHistory (opening k) (e ∷ h) =
-        record { opened = refl; range = range; legal = n.legal; seated = n.seated } in
-        let below : a.seat < k.seats = first_below (opening k) (e ∷ h) a past (sym is) in
+        let past : IsHistory (based b) (e ∷ h) =
+        record {
+          base = b;
+          good = n.can.good;
+          start = refl;
+          range = subst IsInRange (sym n.same) range;
+          legal = n.can.legal;
+          seated = n.can.seated;
+        } in
+        let below : a.seat < b.header.seats = first_below (based b) (e ∷ h) a past (sym is) in
         let most = range.seats in
-        let few = first_few (line (opening k) (e ∷ h)) a (line_few k (e ∷ h) n.legal) is in
-        let was = could_before (counts (opening k) h) new e.seat a e.word none
-        (omega (arith, below, most)) few ne goes in
-        rw (first_stays (opening k) h e a n.known was.0 is ne was.1, was.1) refl
+        let seats = ap (λ (x : Header). x.seats) n.same in
+        let few = first_few (line (based b) (e ∷ h)) a (asks_small b (e ∷ h) n.can) is in
+        let was = could_before (counts (based b) h) new e.seat a e.word none
+        (omega (arith, below, most, seats)) few ne goes in
+        rw (first_stays (based b) h e a n.known was.0 is ne was.1, was.1) refl
 
-    going : (a : Arrival) → first_of (line (opening k) (e ∷ h)) ≡ Some a → (b : Bool) →
-        could new a.seat a.mode a.n ≡ b →
-        named_by (ready (opening k) h) (cond b (Some a.seat) None) e.seat ≡ None
+    going : (a : Arrival) → first_of (line (based b) (e ∷ h)) ≡ Some a → (goes : Bool) →
+        could new a.seat a.mode a.n ≡ goes →
+        named_by (ready (based b) h) (cond goes (Some a.seat) None) e.seat ≡ None
     going a is false t = refl
     going a is true t =
         ⊎_elim (λ (same : a.seat ≡ e.seat). rw (eq-eqb a.seat e.seat same) refl)
@@ -138,8 +149,8 @@ named_nobody k h e range n none = by (first_of (line (opening k) (e ∷ h))) ref
         rw (other a is t ne, ne_eqb a.seat e.seat ne, eq-eqb a.seat a.seat refl) refl)
         (cases_eq a.seat e.seat)
 
-    by : (o : Option Arrival) → first_of (line (opening k) (e ∷ h)) ≡ o →
-        named_by (ready (opening k) h) (ready_by new o) e.seat ≡ None
+    by : (o : Option Arrival) → first_of (line (based b) (e ∷ h)) ≡ o →
+        named_by (ready (based b) h) (ready_by new o) e.seat ≡ None
     by None is = refl
     by (Some a) is = going a is (could new a.seat a.mode a.n) refl
 
@@ -163,13 +174,60 @@ named_asked s h e after word.Counted known may = refl
 named_asked s h e after word.Await known may = refl
 named_asked s h e after _ known may = cc
 
-pub named_now : (v new : CoreView) (e : Entry) (opens : Bool) (before after : Option ℕ) → IsNext v e →
-    IsAdded v e (Ok opens) new → may_name e.word ≡ true →
-    before ≡ cond (asks_before e.word) (ready_of v) None → after ≡ ready_of new →
-    named_by before after e.seat ≡ named (start_of v) v.entries e
-named_now v new e opens before after next added may b a =
-    let s = start_of v in
-    let there : ready_of new ≡ ready s (e ∷ v.entries) = ap (λ (w : CoreView). ready_of w) added.1 in
-    ap (λ x. named_by x after e.seat) b
-    ∙ named_asked s v.entries e after e.word (known s v.entries next.step e next.made) may
-    ∙ ap (λ x. named_by (ready s v.entries) x e.seat) (a ∙ there)
+pub named_now : (k : Header) (b : Base) (h : List Entry) (e : Entry) (may : Bool) (before name : Option ℕ)
+    (q : List Arrival) → IsInRange k → Next k b h e →
+    before ≡ cond (asks_before e.word) (ready (based b) h) None →
+    name ≡ cond may (named_by before (ready_by (counts_after e.word (counts (based b) h) e) (first_of q))
+    e.seat)
+    None → q ≡ line (based b) (e ∷ h) →
+    (may ≡ false → OpensNobody e.word (counts (based b) h) (counts_after e.word (counts (based b) h) e)
+    e.seat) →
+    (may ≡ true → may_name e.word ≡ true) → name ≡ named (based b) h e
+named_now k b h e may before name q range n was is waits none some = by may is none some
+  where
+    after : ready_by (counts_after e.word (counts (based b) h) e) (first_of q) ≡ ready (based b) (e ∷ h)
+    after =
+        ap (λ x. ready_by x (first_of q)) (sym n.counts)
+        ∙ ap (λ l. ready_by (counts (based b) (e ∷ h)) (first_of l)) waits
+
+    by : (may : Bool) →
+        name ≡ cond may (named_by before
+        (ready_by (counts_after e.word (counts (based b) h) e) (first_of q)) e.seat)
+        None →
+        (may ≡ false →
+        OpensNobody e.word (counts (based b) h) (counts_after e.word (counts (based b) h) e) e.seat) →
+        (may ≡ true → may_name e.word ≡ true) → name ≡ named (based b) h e
+    by true is none some =
+        is ∙ ap (λ x. named_by before x e.seat) after
+        ∙ ap (λ x. named_by x (ready (based b) (e ∷ h)) e.seat) was
+        ∙ named_asked (based b) h e (ready (based b) (e ∷ h)) e.word n.known (some refl)
+    by false is none some =
+        is ∙ sym (named_nobody k b h e range n
+        (subst (λ x. OpensNobody e.word (counts (based b) h) x e.seat) (sym n.counts) (none refl)))
+
+-- whom an entry names is one of the seats
+pub named_below : (k : Header) (b : Base) (h : List Entry) (e : Entry) (name : Option ℕ) → IsInRange k →
+    Next k b h e → name ≡ named (based b) h e → IfSome name (λ j. j < k.seats)
+named_below k b h e name range n is =
+    names_below k.seats e (ready (based b) h) (ready (based b) (e ∷ h)) name
+    (by (first_of (line (based b) (e ∷ h))) refl) is
+  where
+    past : IsHistory (based b) (e ∷ h)
+    past =
+        record {
+          base = b;
+          good = n.can.good;
+          start = refl;
+          range = subst IsInRange (sym n.same) range;
+          legal = n.can.legal;
+          seated = n.can.seated;
+        }
+
+    by : (o : Option Arrival) → first_of (line (based b) (e ∷ h)) ≡ o →
+        IfSome (ready_by (counts (based b) (e ∷ h)) o) (λ j. j < k.seats)
+    by None first = tt
+    by (Some a) first =
+        let below = first_below (based b) (e ∷ h) a past (sym first) in
+        let seats = ap (λ (x : Header). x.seats) n.same in
+        cond_both (could (counts (based b) (e ∷ h)) a.seat a.mode a.n) (Some a.seat) None
+        (λ x. IfSome x (λ j. j < k.seats)) (λ t. omega (arith, below, seats)) (λ t. tt)

@@ -1,55 +1,84 @@
 -- A core that was just opened.
-use Rattle.std.proofs.Common.{◌≡◌, ℕ, List, [], length, get_or, replicate, Some, None, refl, ap, ◌∙◌, sym, subst, arith}
+use Rattle.std.proofs.Common.{◌≡◌, ℕ, List, [], length, get_or, replicate, Some, refl, ap, ◌∙◌, sym, subst, arith}
 use Rattle.std.proofs.lemmas.List.{length-replicate, get_or-replicate}
-use Rattle.std.proofs.lemmas.Option.{slice_get-get_or}
 use Rattle.acquire_queue.specs.Line.{Line}
+use Rattle.condition_queue.specs.Following.{Keeps}
 use Rattle.condition_queue.specs.Sleepers.{Sleepers, asleep_on}
 use Rattle.history.specs.declared.header.Header.{Header}
+use Rattle.history.specs.Base.{Base, based, opening_base}
 use Rattle.history.specs.Counts.{Counts, counts}
 use Rattle.history.specs.Entries.{HistoryView}
+use Rattle.history.specs.Fold.{MayFold}
 use Rattle.history.specs.Header.{IsInRange}
-use Rattle.history.specs.Start.{opening}
+use Rattle.history.specs.Marks.{AreRight, unmarked}
+use Rattle.history.specs.Room.{owed}
+use Rattle.history.specs.Start.{Start, opening}
+use Rattle.history.proofs.Marking.{opening_right}
+use Rattle.history.proofs.OpeningBase.{based_opening}
 use Rattle.history.proofs.RoomLemmas.{nothing_owed}
 use Rattle.frame.specs.declared.seat.Seat.{Seat}
 use Rattle.frame.specs.Core.{Stands}
-use Rattle.frame.specs.Seat.{no_holds}
+use Rattle.frame.specs.Seat.{IsSeat, no_holds}
+use Rattle.frame.proofs.Seats.{seat_free}
+use Rattle.frame.proofs.Telling.{marks_free}
 
-pub opening_stands : (agrees : Counts → Type 0) (k : Header) (kept : HistoryView) (queue : Line)
-    (waiters : Sleepers)
-    (table : List Seat) → IsInRange k → agrees (counts (opening k) []) →
-    kept ≡ record { cap = k.cap; base = None; entries = []; owed = 0; places = 0 } → queue.arrivals ≡ [] →
+-- What stands for an object as it is opened.
+record Opened (agrees : Counts → Type 0) (s : Start) (queue : Line) (waiters : Sleepers) : Type 0 where
+  hooks : agrees (counts s [])
+  waiting : Keeps s [] queue waiters
+  seat : (i : ℕ) → IsSeat s [] i no_holds
+  right : AreRight s [] unmarked
+  owed : owed s [] ≡ 0
+
+abbrev opened_view : Header → Base → HistoryView
+opened_view k b = record { cap = k.cap; base = Some b; entries = []; owed = 0; places = 0 }
+
+pub opening_stands : (agrees : Counts → Type 0) (k : Header) (b : Base) (kept : HistoryView) (queue : Line)
+    (waiters : Sleepers) (table : List Seat) → IsInRange k → b ≡ opening_base k → MayFold b [] →
+    agrees (counts (opening k) []) →
+    kept ≡ record { cap = k.cap; base = Some b; entries = []; owed = 0; places = 0 } → queue.arrivals ≡ [] →
     queue.seats ≡ k.seats →
     queue.joined ≡ 0 → ((c : ℕ) → asleep_on waiters c ≡ []) → waiters.conditions ≡ k.conditions →
     waiters.seats ≡ k.seats →
     table ≡ replicate k.seats no_holds → Stands agrees k kept queue waiters table
-opening_stands agrees k kept queue waiters table range told is line places joined asleep
+opening_stands agrees k b kept queue waiters table range opens may told is line places joined asleep
     conditions beds free =
-    let n : length table ≡ k.seats = ap length free ∙ length-replicate k.seats no_holds in
-    let none = nothing_owed k in
-    let empty : kept.entries ≡ [] = ap (λ (y : HistoryView). y.entries) is in
-    let owes : kept.owed ≡ 0 = ap (λ (y : HistoryView). y.owed) is in
-    let cap : kept.cap ≡ k.cap = ap (λ (y : HistoryView). y.cap) is in
-    let stands : Stands agrees k (record { cap = k.cap; base = None; entries = []; owed = 0; places = 0 }) queue
-    waiters table =
-    record {
+    subst (λ y. Stands agrees k y queue waiters table) (sym is) (record {
       range = range;
-      hooks = told;
-      waiting = record {
-        line = line;
-        places = places;
-        joins = omega (arith, joined);
-        sleepers = asleep;
-        conditions = conditions;
-        beds = beds;
-      };
-      seats = n;
+      began = refl;
+      based = ap (λ (x : Base). x.header) opens;
+      may_fold = may;
+      hooks = here.hooks;
+      waiting = here.waiting;
+      joins = omega (arith, joined);
+      seats = ap length free ∙ length-replicate k.seats no_holds;
       tabled = λ i l.
-          slice_get-get_or table i no_holds (omega (arith, n, l))
-          ∙ ap Some (ap (λ t. get_or t i no_holds) free ∙ get_or-replicate k.seats i no_holds no_holds l);
+          subst (IsSeat (based b) [] i)
+          (sym (ap (λ t. get_or t i no_holds) free ∙ get_or-replicate k.seats i no_holds no_holds l))
+          (here.seat i);
+      told = subst (AreRight (based b) []) (sym (marks_free k.seats table free)) here.right;
       cap = refl;
-      owed = sym none;
+      owed = sym here.owed;
       room = omega arith;
-      legal = tt;
-      seated = tt;
-    } in
-    subst (λ y. Stands agrees k y queue waiters table) (sym is) stands
+    })
+  where
+    at_opening : Opened agrees (opening k) queue waiters
+    at_opening =
+        record {
+          hooks = told;
+          waiting = record {
+            line = line;
+            places = places;
+            sleepers = asleep;
+            conditions = conditions;
+            beds = beds;
+          };
+          seat = λ i. seat_free (opening k) i (λ m. refl) refl;
+          right = opening_right k;
+          owed = nothing_owed k;
+        }
+
+    here : Opened agrees (based b) queue waiters
+    here =
+        subst (λ s. Opened agrees s queue waiters)
+        (sym (based_opening k) ∙ ap based (sym opens)) at_opening

@@ -9,7 +9,7 @@ use Rattle.history.specs.Counts.{Counts, owner, seat_with}
 use Rattle.history.specs.Object.{in_holds}
 use Rattle.history.proofs.Sums.{seat_with_none, seat_with_one}
 use Rattle.history.specs.declared.header.Object.{Object}
-use Rattle.frame.specs.Hooks.{opening_counts}
+use Rattle.frame.specs.Hooks.{AreAlike, opening_counts}
 use Rattle.frame.specs.Owners.{holds_of, owner_in, is_owner_in, is_owned, Owns}
 
 -- the holds of the owner, and of any other seat
@@ -186,3 +186,11 @@ seats_for (Some i) = i + 1
 pub owner_below : (o : Option ℕ) → owner_in (seats_for o) o
 owner_below None = tt
 owner_below (Some i) = omega arith
+
+-- counts that say the same have the same owner
+pub owns_alike : (o : Option ℕ) (holds : ℕ) (k l : Counts) → AreAlike k l → Owns o holds k → Owns o holds l
+owns_alike o holds k l same owns =
+    record {
+      held = λ i. same.held i X ∙ owns.held i;
+      seat = subst (λ n. owner_in n o) (sym same.seats) owns.seat;
+    }

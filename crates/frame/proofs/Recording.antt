@@ -14,24 +14,24 @@ use Rattle.history.specs.Answers.{recorded}
 use Rattle.history.specs.Naming.{named, named_by}
 use Rattle.history.specs.Room.{has_room, was_owed}
 use Rattle.history.specs.Steps.{entry_for}
-use Rattle.frame.specs.Core.{CoreView, start_of, IsAdded, IsRecorded, MakesOwed, IsOf, NamesBelow}
+use Rattle.frame.specs.Core.{CoreView, start_of, IsAdded, IsRecorded, IsTold, MakesOwed, IsOf, NamesBelow}
 
 -- an entry that has room, and one that hasn't
 room_for : (v : CoreView) (e : Entry) → has_room (start_of v) v.entries e ≡ true →
     recorded (start_of v) v.entries e ≡ (Ok (Recorded e (named (start_of v) v.entries e)), e ∷ v.entries)
 room_for v e t = rw t refl
 
-pub recorded_now : (v new : CoreView) (e : Entry) (opens : Bool) (name : Option ℕ) →
-    IsAdded v e (Ok opens) new → name ≡ named (start_of v) v.entries e →
+pub recorded_now : (v new : CoreView) (e : Entry) (name : Option ℕ) → IsAdded v e (Ok name) new →
     IsRecorded v e (Ok (Recorded e name)) new
-recorded_now v new e opens name is names =
+recorded_now v new e name is =
     let made = room_for v e is.0 in
     inl (record {
-      answer = ap (λ x. (let r : Result Answer Fault = Ok (Recorded e x) in r)) names
+      answer = ap (λ x. (let r : Result Answer Fault = Ok (Recorded e x) in r)) is.1
           ∙ sym (ap (λ p. p.0) made);
-      entries = ap (λ (w : CoreView). w.entries) is.1 ∙ sym (ap (λ p. p.1) made);
-      header = ap (λ (w : CoreView). w.header) is.1;
-      places = ap (λ (w : CoreView). w.places) is.1;
+      entries = ap (λ (w : CoreView). w.entries) is.2 ∙ sym (ap (λ p. p.1) made);
+      header = ap (λ (w : CoreView). w.header) is.2;
+      base = ap (λ (w : CoreView). w.base) is.2;
+      places = ap (λ (w : CoreView). w.places) is.2;
     })
 
 -- nothing has changed after a fault, and a fault isn't answered to an entry that was owed
@@ -53,6 +53,15 @@ owed_entry v i step e q m =
 
     some_same : {x y : Entry} → Some x ≡ Some y → x ≡ y
     some_same p = cc
+
+-- marks that an entry's own seat left are those that the step's seat left
+pub own_told : (v new : CoreView) (i : ℕ) (step : Step) (made : Option Entry) (e : Entry)
+    (r : Result Answer Fault) → Ok made ≡ entry_for (start_of v) v.entries i step → made ≡ Some e →
+    IsTold v e.seat r new → IsTold v i r new
+own_told v new i step made e r q some told =
+    subst (λ j. IsTold v j r new)
+    (entry_seat (start_of v) v.entries i step e
+    (sym q ∙ ap (λ x. (let y : Result (Option Entry) Fault = Ok x in y)) some)) told
 
 pub own_entry : (v : CoreView) (i : ℕ) (step : Step) (made : Option Entry) (e : Entry)
     (r : Result Answer Fault) →

@@ -1,42 +1,49 @@
 -- What the table of seats tells of a history.
-use Rattle.std.proofs.Common.{◌≡◌, ℕ, Bool, true, false, ◌&&◌, cond, eqb, List, [], ◌∷◌, refl, ap, ◌∙◌}
+use Rattle.std.proofs.Common.{◌≡◌, ◌≢◌, ⊎_elim, ℕ, true, cond, List, [], ◌∷◌, refl, ap, ◌∙◌, sym}
+use Rattle.std.proofs.lemmas.Bool.{eq-eqb}
 use Rattle.history.specs.declared.entry.Entry.{Entry}
 use Rattle.history.specs.declared.entry.Mode.{Mode}
 use Rattle.history.specs.declared.entry.Mode.TheVariants.{X, S}
 use Rattle.history.specs.declared.entry.Word.{Word}
 use Rattle.history.specs.declared.entry.Word.TheVariants.{Await, Lapse}
-use Rattle.history.specs.declared.header.Header.{Header}
 use Rattle.history.specs.declared.header.Object.{Object}
+use Rattle.history.specs.Base.{Base, based, folded}
 use Rattle.history.specs.Counts.{held, holds_after}
 use Rattle.history.specs.Entry.{is_exclusive, same_mode}
+use Rattle.history.specs.Ownership.{is_away}
+use Rattle.history.specs.Phase.{phase}
 use Rattle.history.specs.Sleepers.{last_sleep, sleep_after}
-use Rattle.history.specs.Start.{opening}
+use Rattle.history.specs.Start.{Start}
+use Rattle.history.proofs.Alike.{Alike, away_alike, phase_alike}
+use Rattle.history.proofs.Away.{was_away}
+use Rattle.history.proofs.Entering.{Known}
+use Rattle.history.proofs.OneWait.{Waits}
+use Rattle.history.proofs.SleepLemmas.{held_other, last_sleep_other}
 use Rattle.deciding.specs.declared.sleep.LastSleep.{LastSleep}
-use Rattle.frame.specs.declared.seat.Seat.{Seat}
 use Rattle.deciding.specs.Sleep.{sleep_of}
-use Rattle.frame.specs.Seat.{seat_of, seat_after, holds_in, sleep_behind}
+use Rattle.frame.specs.declared.seat.Seat.{Seat}
+use Rattle.frame.specs.Seat.{IsSeat, holds_in, no_holds, seat_after, sleep_behind}
+
+pub seat_holds : (s : Start) (h : List Entry) (i : ℕ) (m : Mode) (x : Seat) → IsSeat s h i x →
+    holds_in m x ≡ held s h i m
+seat_holds s h i X x is = is.exclusive
+seat_holds s h i S x is = is.shared
+
+-- a seat that did nothing yet
+pub seat_free : (s : Start) (i : ℕ) → ((m : Mode) → held s [] i m ≡ 0) →
+    sleep_of no_holds.sleep ≡ last_sleep s [] i → IsSeat s [] i no_holds
+seat_free s i none slept = record { exclusive = sym (none X); shared = sym (none S); sleep = λ t. slept }
 
 -- the holds
-seat_held_more : (o : Object) (w : Word) (n : ℕ) (b : Bool) (k m : Mode) (was : Seat) (next : LastSleep)
-    (x : ℕ) →
-    holds_in m was ≡ x →
-    holds_in m (cond b (record {
-      exclusive = cond (is_exclusive k) (holds_after o w n was.exclusive) was.exclusive;
-      shared = cond (is_exclusive k) was.shared (holds_after o w n was.shared);
-      sleep = next;
-    }) was) ≡ cond (b && same_mode k m) (holds_after o w n x) x
-seat_held_more o w n false k m was next x p = p
-seat_held_more o w n true X X was next x p = ap (holds_after o w n) p
-seat_held_more o w n true X S was next x p = p
-seat_held_more o w n true S X was next x p = p
-seat_held_more o w n true S S was next x p = ap (holds_after o w n) p
+exclusive_more : (o : Object) (w : Word) (n : ℕ) (k : Mode) (x y : ℕ) → x ≡ y →
+    cond (is_exclusive k) (holds_after o w n x) x ≡ cond (same_mode k X) (holds_after o w n y) y
+exclusive_more o w n X x y p = ap (holds_after o w n) p
+exclusive_more o w n S x y p = p
 
-pub seat_held : (k : Header) (h : List Entry) (i : ℕ) (m : Mode) →
-    holds_in m (seat_of k.object h i) ≡ held (opening k) h i m
-seat_held k [] i X = refl
-seat_held k [] i S = refl
-seat_held k (e ∷ h) i m =
-    seat_held_more k.object e.word e.n (eqb e.seat i) e.mode m (seat_of k.object h i) _ _ (seat_held k h i m)
+shared_more : (o : Object) (w : Word) (n : ℕ) (k : Mode) (x y : ℕ) → x ≡ y →
+    cond (is_exclusive k) x (holds_after o w n x) ≡ cond (same_mode k S) (holds_after o w n y) y
+shared_more o w n X x y p = p
+shared_more o w n S x y p = ap (holds_after o w n) p
 
 -- the last sleep
 sleep_more : (word : Word) (e : Entry) (was : LastSleep) →
@@ -45,13 +52,54 @@ sleep_more Await e was = refl
 sleep_more Lapse e was = refl
 sleep_more _ e was = refl
 
-pub seat_sleep : (k : Header) (h : List Entry) (i : ℕ) →
-    sleep_of (seat_of k.object h i).sleep ≡ last_sleep (opening k) h i
-seat_sleep k [] i = refl
-seat_sleep k (e ∷ h) i = by (eqb e.seat i) (seat_sleep k h i)
+-- the entry's own seat
+own_held : (s : Start) (h : List Entry) (e : Entry) (m : Mode) →
+    cond (same_mode e.mode m) (holds_after s.header.object e.word e.n (held s h e.seat m)) (held s h e.seat m)
+    ≡ held s (e ∷ h) e.seat m
+own_held s h e m = rw (eq-eqb e.seat e.seat refl) refl
+
+pub seat_next : (s : Start) (h : List Entry) (e : Entry) (x : Seat) → Waits s h → Known s h e →
+    IsSeat s h e.seat x → IsSeat s (e ∷ h) e.seat (seat_after s.header.object e x)
+seat_next s h e x v k is =
+    record {
+      exclusive = exclusive_more s.header.object e.word e.n e.mode x.exclusive _ is.exclusive
+          ∙ own_held s h e X;
+      shared = shared_more s.header.object e.word e.n e.mode x.shared _ is.shared ∙ own_held s h e S;
+      sleep = λ t. sleep_more e.word e x.sleep
+          ∙ ⊎_elim (λ awaits. slept awaits.1)
+          (λ away. ap (sleep_after e.word e) (is.sleep away)) (was_away s h e v k e.seat t)
+          ∙ own_sleep;
+    }
   where
-    by : (b : Bool) → sleep_of (seat_of k.object h i).sleep ≡ last_sleep (opening k) h i →
-        sleep_of (cond b (seat_after k.object e (seat_of k.object h i)) (seat_of k.object h i)).sleep
-        ≡ cond b (sleep_after e.word e (last_sleep (opening k) h i)) (last_sleep (opening k) h i)
-    by true ih = sleep_more e.word e (seat_of k.object h i).sleep ∙ ap (sleep_after e.word e) ih
-    by false ih = ih
+    slept : e.word ≡ Await → sleep_after e.word e (sleep_of x.sleep) ≡ sleep_after e.word e (last_sleep s h
+        e.seat)
+    slept w = ap (λ u. sleep_after u e (sleep_of x.sleep)) w
+        ∙ sym (ap (λ u. sleep_after u e (last_sleep s h e.seat)) w)
+
+    own_sleep : sleep_after e.word e (last_sleep s h e.seat) ≡ last_sleep s (e ∷ h) e.seat
+    own_sleep = rw (eq-eqb e.seat e.seat refl) refl
+
+-- any other seat
+pub seat_other : (s : Start) (h : List Entry) (e : Entry) (i : ℕ) (x : Seat) → Waits s h → Known s h e →
+    e.seat ≢ i → IsSeat s h i x → IsSeat s (e ∷ h) i x
+seat_other s h e i x v k ne is =
+    record {
+      exclusive = is.exclusive ∙ sym (held_other s e h i X ne);
+      shared = is.shared ∙ sym (held_other s e h i S ne);
+      sleep = λ t.
+          ⊎_elim (λ awaits. absurd (ne awaits.0)) (λ away. is.sleep away) (was_away s h e v k i t)
+          ∙ sym (last_sleep_other s e h i ne);
+    }
+
+-- a fold tells the same of each seat
+pub seat_folded : (b : Base) (g : List Entry) (i : ℕ) (x : Seat) →
+    Alike b.header (based b) (based (folded b g)) g [] → IsSeat (based b) g i x →
+    IsSeat (based (folded b g)) [] i x
+seat_folded b g i x same is =
+    record {
+      exclusive = is.exclusive ∙ ap (λ f. f i X) same.holds;
+      shared = is.shared ∙ ap (λ f. f i S) same.holds;
+      sleep = λ t.
+          (let away : is_away (phase (based b) g i) ≡ true = ap is_away (phase_alike _ _ _ _ _ same i) ∙ t in
+          is.sleep away ∙ away_alike _ _ _ _ _ same i away);
+    }

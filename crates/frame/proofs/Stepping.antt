@@ -1,138 +1,168 @@
 -- What stands for a history stands for it with one entry more.
-use Rattle.std.proofs.Common.{◌≡◌, ◌≢◌, ◌⊎◌, ⊎_elim, ◌↔◌, ℕ, ◌+◌, ◌-◌, ◌^◌, ◌<◌, ◌≤◌, max, Bool, true, false, List, ◌∷◌, length, get_or, set, Some, Result, Ok, Err, refl, ap, ◌∙◌, sym, subst, arith}
-use Rattle.std.specs.Prelude.{slice_get}
-use Rattle.std.proofs.lemmas.Bool.{cases_eq, eq-eqb, ne_eqb, le-leb, lt-leb, cases_lt}
+use Rattle.std.proofs.Common.{◌≡◌, ◌≢◌, ◌⊎◌, ⊎_elim, ◌↔◌, ℕ, ◌+◌, ◌-◌, ◌^◌, ◌<◌, ◌≤◌, max, Bool, true, false, List, ◌∷◌, length, get_or, set, Option, Some, Result, Ok, Err, refl, ap, ◌∙◌, sym, subst, arith}
+use Rattle.std.proofs.lemmas.Bool.{cases_eq, le-leb, lt-leb, cases_lt}
 use Rattle.std.proofs.lemmas.List.{length-set, get_or-set_same, get_or-set_other}
-use Rattle.std.proofs.lemmas.Option.{slice_get-get_or, get_or_from_slice_get}
 use Rattle.acquire_queue.specs.Line.{Line}
 use Rattle.condition_queue.specs.Sleepers.{Sleepers}
 use Rattle.history.specs.declared.entry.Entry.{Entry}
-use Rattle.history.specs.declared.entry.Mode.TheVariants.{X, S}
 use Rattle.history.specs.declared.fault.Fault.{Fault}
 use Rattle.history.specs.declared.fault.Fault.TheVariants as fault
+use Rattle.history.specs.declared.step.Answer.TheVariants.{Recorded}
+use Rattle.history.specs.declared.step.Step.{Step}
+use Rattle.history.specs.Steps.{entry_for}
+use Rattle.std.specs.Prelude.{IfSome}
 use Rattle.history.specs.declared.header.Header.{Header}
-use Rattle.history.specs.Counts.{Counts, counts, held}
-use Rattle.history.specs.Entries.{HistoryView}
+use Rattle.history.specs.Base.{Base, based}
+use Rattle.history.specs.Counts.{Counts, counts}
+use Rattle.history.specs.Entries.{HistoryView, base_on, or_opening, start_on}
+use Rattle.history.specs.Fold.{MayFold}
 use Rattle.history.specs.Header.{IsInRange}
-use Rattle.history.specs.Legal.{IsLegal, AreSeated}
+use Rattle.history.specs.Marks.{AreRight, remarked}
+use Rattle.history.specs.Naming.{named, ready}
 use Rattle.history.specs.Pages.{whole_pages}
+use Rattle.history.specs.Point.{CanFold}
 use Rattle.history.specs.Room.{owed, was_owed, releases, reserves}
-use Rattle.history.specs.Start.{opening}
 use Rattle.history.proofs.RoomLemmas.{owed_releases}
 use Rattle.history.proofs.Entering.{Known, known}
-use Rattle.history.proofs.OneWait.{waits}
-use Rattle.history.proofs.Owing.{owed_step}
+use Rattle.history.proofs.GoodBases.{good_waits}
+use Rattle.history.proofs.Marking.{right_recorded, right_slept}
+use Rattle.history.proofs.OneWait.{Waits, waits_from}
+use Rattle.history.proofs.Owing.{owed_known}
+use Rattle.history.proofs.SmallHolds.{exclusive_small, shared_small}
+use Rattle.deciding.specs.Situation.{IsHistory}
 use Rattle.frame.specs.declared.seat.Seat.{Seat}
-use Rattle.condition_queue.specs.Following.{Keeps}
-use Rattle.frame.specs.Core.{CoreView, Stands, IsNext, IsAdded, with_history}
+use Rattle.condition_queue.specs.Following.{JoinedBy, Keeps}
+use Rattle.frame.specs.Core.{CoreView, IsTold, Stands, IsNext, IsAdded, with_history}
 use Rattle.frame.specs.Effects.{IsAllowed, counts_after}
-use Rattle.frame.specs.Seat.{seat_of, seat_after, no_holds}
-use Rattle.frame.proofs.Bounds.{exclusive_fits, shared_fits}
+use Rattle.frame.specs.Seat.{IsSeat, marks_in, no_holds, seat_after, told_in, with_mark}
 use Rattle.frame.proofs.Counting.{allowed, counts_next}
-use Rattle.frame.proofs.Seats.{seat_held}
+use Rattle.frame.proofs.Seats.{seat_next, seat_other}
+use Rattle.frame.proofs.Telling.{length_telling, marks_behind, marks_untold, table_behind, tabled_mark, tabled_telling, told_behind}
 
--- What is known of an entry that a core is to add.
-pub record Next (k : Header) (h : List Entry) (e : Entry) : Type 0 where
-  pub seat : e.seat < k.seats
-  pub known : Known (opening k) h e
-  pub legal : IsLegal (opening k) (e ∷ h)
-  pub seated : AreSeated (opening k) (e ∷ h)
-  pub owed : owed (opening k) (e ∷ h) + releases k.object e ≡ owed (opening k) h + reserves k.object e
-  pub allowed : IsAllowed e.word (counts (opening k) h) e
-  pub counts : counts (opening k) (e ∷ h) ≡ counts_after e.word (counts (opening k) h) e
-
-pub next : (k : Header) (h : List Entry) (places : ℕ) (e : Entry) → IsLegal (opening k) h →
-    AreSeated (opening k) h → IsNext (record { header = k; entries = h; places = places }) e → Next k h e
-next k h places e legal seated is =
-    let more : IsLegal (opening k) (e ∷ h) = ((is.step, is.made), legal) in
-    let all : AreSeated (opening k) (e ∷ h) = (is.seat, seated) in
-    let m = known (opening k) h is.step e is.made in
+-- the history that a core stands for
+pub history_of : {agrees : Counts → Type 0} {k : Header} {kept : HistoryView} {queue : Line}
+    {waiters : Sleepers} {table : List Seat} → Stands agrees k kept queue waiters table →
+    IsHistory (start_on k kept) kept.entries
+history_of {k} {kept} s =
     record {
+      base = base_on k kept;
+      good = s.may_fold.can.good;
+      start = refl;
+      range = s.may_fold.range;
+      legal = s.may_fold.can.legal;
+      seated = s.may_fold.can.seated;
+    }
+
+-- What is known of an entry that a core is to add, of an object of this header, behind entries on this base.
+pub record Next (k : Header) (b : Base) (h : List Entry) (e : Entry) : Type 0 where
+  pub same : b.header ≡ k
+  pub seat : e.seat < k.seats
+  pub known : Known (based b) h e
+  pub waits : Waits (based b) h
+  pub can : CanFold b (e ∷ h)
+  pub owed : owed (based b) (e ∷ h) + releases k.object e ≡ owed (based b) h + reserves k.object e
+  pub allowed : IsAllowed e.word (counts (based b) h) e
+  pub step : Step
+  pub made : entry_for (based b) h e.seat step ≡ Ok (Some e)
+  pub counts : counts (based b) (e ∷ h) ≡ counts_after e.word (counts (based b) h) e
+
+pub next : (k : Header) (b : Base) (h : List Entry) (places : ℕ) (told : List Bool) (e : Entry) →
+    b.header ≡ k →
+    CanFold b h → IsNext (record { header = k; base = b; entries = h; places = places; told = told }) e →
+    Next k b h e
+next k b h places told e same can is =
+    let m = known (based b) h is.step e is.made in
+    let v = waits_from (based b) h (good_waits b can.good) can.legal in
+    let seat : e.seat < b.header.seats =
+    let l = is.seat in let q = ap (λ (x : Header). x.seats) same in omega (arith, l, q) in
+    record {
+      same = same;
       seat = is.seat;
       known = m;
-      legal = more;
-      seated = all;
-      owed = owed_step k e h more all;
-      allowed = allowed (opening k) h e (waits k h legal) m is.seat;
-      counts = counts_next (opening k) h e m;
+      waits = v;
+      can = record { good = can.good; seated = (seat, can.seated); legal = ((is.step, is.made), can.legal) };
+      owed = subst (λ (x : Header). owed (based b) (e ∷ h) + releases x.object e
+          ≡ owed (based b) h + reserves x.object e) same (owed_known (based b) e h m v seat);
+      allowed = allowed (based b) h e v m seat;
+      step = is.step;
+      made = is.made;
+      counts = counts_next (based b) h e m;
     }
 
 -- the same, where the fields stand for the history and a caller sees it
 pub next_seen : {agrees : Counts → Type 0} {queue : Line} {waiters : Sleepers} {table : List Seat}
     (k : Header) (kept : HistoryView) (e : Entry)
     (seen : CoreView) → Stands agrees k kept queue waiters table →
-    with_history k kept ≡ seen → IsNext seen e →
-    Next k kept.entries e
-next_seen k kept e seen s q is =
-    next k kept.entries kept.places e s.legal s.seated (subst (λ v. IsNext v e) (sym q) is)
+    with_history k kept (told_in table) ≡ seen → IsNext seen e →
+    Next k (base_on k kept) kept.entries e
+next_seen {table} k kept e seen s q is =
+    next k (base_on k kept) kept.entries kept.places (told_in table) e s.based s.may_fold.can
+    (subst (λ v. IsNext v e) (sym q) is)
 
 -- the table
-pub tabled : (k : Header) (h : List Entry) (table : List Seat) → length table ≡ k.seats →
-    ((i : ℕ) → i < k.seats → slice_get table i ≡ Some (seat_of k.object h i)) → (i : ℕ) → i < k.seats →
-    get_or table i no_holds ≡ seat_of k.object h i
-tabled k h table n all i l = get_or_from_slice_get table i (seat_of k.object h i) no_holds (all i l)
-
-pub tabled_next : (k : Header) (h : List Entry) (e : Entry) (table : List Seat) → length table ≡ k.seats →
-    e.seat < k.seats →
-    ((i : ℕ) → i < k.seats → slice_get table i ≡ Some (seat_of k.object h i)) → (i : ℕ) → i < k.seats →
-    slice_get (set table e.seat (seat_after k.object e (get_or table e.seat no_holds))) i
-    ≡ Some (seat_of k.object (e ∷ h) i)
-tabled_next k h e table n seat all i l =
-    let x = seat_after k.object e (get_or table e.seat no_holds) in
-    let len : length (set table e.seat x) ≡ k.seats = length-set table e.seat x ∙ n in
-    let at = slice_get-get_or (set table e.seat x) i no_holds (omega (arith, len, l)) in
-    at ∙ ap Some (⊎_elim
+pub tabled_next : (k : Header) (b : Base) (h : List Entry) (e : Entry) (table : List Seat) →
+    length table ≡ k.seats → Next k b h e →
+    ((i : ℕ) → i < k.seats → IsSeat (based b) h i (get_or table i no_holds)) → (i : ℕ) → i < k.seats →
+    IsSeat (based b) (e ∷ h) i
+    (get_or (set table e.seat (seat_after k.object e (get_or table e.seat no_holds))) i no_holds)
+tabled_next k b h e table n m all i l =
+    ⊎_elim
     (λ (same : e.seat ≡ i).
-    let own : get_or (set table e.seat x) e.seat no_holds ≡ x =
-    get_or-set_same table e.seat x no_holds (omega (arith, n, seat)) in
-    let was : get_or table e.seat no_holds ≡ seat_of k.object h i =
-    tabled k h table n all e.seat seat ∙ ap (seat_of k.object h) same in
-    ap (λ j. get_or (set table e.seat x) j no_holds) (sym same) ∙ own ∙ ap (seat_after k.object e) was
-    ∙ rw (eq-eqb e.seat i same) refl)
+    subst (λ j. IsSeat (based b) (e ∷ h) j (get_or (set table e.seat x) j no_holds)) same
+    (subst (IsSeat (based b) (e ∷ h) e.seat)
+    (sym (get_or-set_same table e.seat x no_holds (let s = m.seat in omega (arith, n, s)))) own))
     (λ (ne : e.seat ≢ i).
-    get_or-set_other table e.seat i x no_holds (λ q. ne (sym q)) ∙ tabled k h table n all i l
-    ∙ rw (ne_eqb e.seat i ne) refl)
-    (cases_eq e.seat i))
+    subst (IsSeat (based b) (e ∷ h) i) (sym (get_or-set_other table e.seat i x no_holds (λ q. ne (sym q))))
+    (seat_other (based b) h e i (get_or table i no_holds) m.waits m.known ne (all i l)))
+    (cases_eq e.seat i)
+  where
+    x : Seat
+    x = seat_after k.object e (get_or table e.seat no_holds)
+
+    own : IsSeat (based b) (e ∷ h) e.seat x
+    own =
+        subst (λ (y : Header). IsSeat (based b) (e ∷ h) e.seat
+        (seat_after y.object e (get_or table e.seat no_holds))) m.same
+        (seat_next (based b) h e (get_or table e.seat no_holds) m.waits m.known (all e.seat m.seat))
 
 -- the seat of the entry has room for what it will hold
-own_seat : (k : Header) (h : List Entry) (e : Entry) →
-    seat_of k.object (e ∷ h) e.seat ≡ seat_after k.object e (seat_of k.object h e.seat)
-own_seat k h e = rw (eq-eqb e.seat e.seat refl) refl
+own_next : (k : Header) (b : Base) (h : List Entry) (e : Entry) (x : Seat) → Next k b h e →
+    IsSeat (based b) h e.seat x → IsSeat (based b) (e ∷ h) e.seat (seat_after k.object e x)
+own_next k b h e x n is =
+    subst (λ (y : Header). IsSeat (based b) (e ∷ h) e.seat (seat_after y.object e x)) n.same
+    (seat_next (based b) h e x n.waits n.known is)
 
-pub exclusive_next : (k : Header) (h : List Entry) (e : Entry) (x : Seat) → IsLegal (opening k) (e ∷ h) →
-    AreSeated (opening k) (e ∷ h) →
-    x ≡ seat_of k.object h e.seat → (seat_after k.object e x).exclusive < 2 ^ 32
-exclusive_next k h e x legal seated is =
-    let l = exclusive_fits k (e ∷ h) legal seated e.seat in
-    let q : (seat_after k.object e x).exclusive ≡ held (opening k) (e ∷ h) e.seat X =
-    ap (λ (y : Seat). (seat_after k.object e y).exclusive) is
-    ∙ ap (λ (y : Seat). y.exclusive) (sym (own_seat k h e)) ∙ seat_held k (e ∷ h) e.seat X in
+pub exclusive_next : (k : Header) (b : Base) (h : List Entry) (e : Entry) (x : Seat) → Next k b h e →
+    IsSeat (based b) h e.seat x → (seat_after k.object e x).exclusive < 2 ^ 32
+exclusive_next k b h e x n is =
+    let l = exclusive_small b (e ∷ h) n.can e.seat in
+    let q = (own_next k b h e x n is).exclusive in
     omega (arith, l, q)
 
-pub shared_next : (k : Header) (h : List Entry) (e : Entry) (x : Seat) → IsInRange k →
-    IsLegal (opening k) (e ∷ h) → AreSeated (opening k) (e ∷ h) →
-    length h ≤ k.cap → x ≡ seat_of k.object h e.seat → (seat_after k.object e x).shared < 2 ^ 64
-shared_next k h e x range legal seated short is =
-    let l = shared_fits k (e ∷ h) range legal seated e.seat seated.0 in
+pub shared_next : (k : Header) (b : Base) (h : List Entry) (e : Entry) (x : Seat) → IsInRange k →
+    Next k b h e → length h ≤ k.cap → IsSeat (based b) h e.seat x →
+    (seat_after k.object e x).shared < 2 ^ 128
+shared_next k b h e x range n short is =
+    let l = shared_small b (e ∷ h) n.can (subst IsInRange (sym n.same) range) e.seat n.can.seated.0 in
     let c = range.cap in
-    let q : (seat_after k.object e x).shared ≡ held (opening k) (e ∷ h) e.seat S =
-    ap (λ (y : Seat). (seat_after k.object e y).shared) is
-    ∙ ap (λ (y : Seat). y.shared) (sym (own_seat k h e)) ∙ seat_held k (e ∷ h) e.seat S in
+    let q = (own_next k b h e x n is).shared in
     omega (arith, l, q, c, short)
 
 -- no more is released than was owed and is reserved
-pub within : (k : Header) (h : List Entry) (e : Entry) (was : ℕ) → Next k h e → was ≡ owed (opening k) h →
+pub within : (k : Header) (b : Base) (h : List Entry) (e : Entry) (was : ℕ) → Next k b h e →
+    was ≡ owed (based b) h →
     releases k.object e ≤ was + reserves k.object e
-within k h e was n q = let o = n.owed in omega (arith, o, q)
+within k b h e was n q = let o = n.owed in omega (arith, o, q)
 
 -- The room that an entry needs, by what was owed before it and is owed behind it.
-pub record Needs (k : Header) (h : List Entry) (e : Entry) (was owes : ℕ) : Type 0 where
-  pub owed : owes ≡ owed (opening k) (e ∷ h)
+pub record Needs (k : Header) (b : Base) (h : List Entry) (e : Entry) (was owes : ℕ) : Type 0 where
+  pub owed : owes ≡ owed (based b) (e ∷ h)
   pub none : was_owed k.object e ≡ true → (owes + 1) - was ≡ 0
 
-pub needs : (k : Header) (h : List Entry) (e : Entry) (was owes : ℕ) → Next k h e → was ≡ owed (opening k) h →
-    owes ≡ was + reserves k.object e - releases k.object e → Needs k h e was owes
-needs k h e was owes n p q =
+pub needs : (k : Header) (b : Base) (h : List Entry) (e : Entry) (was owes : ℕ) → Next k b h e →
+    was ≡ owed (based b) h →
+    owes ≡ was + reserves k.object e - releases k.object e → Needs k b h e was owes
+needs k b h e was owes n p q =
     let o = n.owed in
     record {
       owed = omega (arith, o, p, q);
@@ -144,16 +174,18 @@ needs k h e was owes n p q =
     }
 
 -- room was asked for, and refused
-not_owed : (k : Header) (h : List Entry) (e : Entry) (was owes : ℕ) → Needs k h e was owes →
+not_owed : (k : Header) (b : Base) (h : List Entry) (e : Entry) (was owes : ℕ) → Needs k b h e was owes →
     0 < (owes + 1) - was → was_owed k.object e ≡ false
-not_owed k h e was owes n some = by (was_owed k.object e) refl
+not_owed k b h e was owes n some = by (was_owed k.object e) refl
   where
     by : (b : Bool) → was_owed k.object e ≡ b → b ≡ false
     by false t = refl
     by true t = let z = n.none t in absurd (omega (arith, z, some))
 
-pub refused : (k : Header) (e : Entry) (f : Fault) (kept kept' : HistoryView) (was owes needed : ℕ) →
-    Needs k kept.entries e was owes → kept.cap ≡ k.cap → was ≡ kept.owed →
+pub refused : (k : Header) (e : Entry) (f : Fault) (kept kept' : HistoryView) (told : List Bool)
+    (was owes needed : ℕ) →
+    (base_on k kept).header ≡ k → Needs k (base_on k kept) kept.entries e was owes → kept.cap ≡ k.cap →
+    was ≡ kept.owed →
     length kept.entries + was ≤ kept.cap → length kept.entries + was ≤ kept.places →
     needed ≡ (owes + 1) - was →
     ((◌≡◌ {A = Result (Unit {0}) Fault} (Err f) (Err fault.HistoryFull))
@@ -161,31 +193,33 @@ pub refused : (k : Header) (e : Entry) (f : Fault) (kept kept' : HistoryView) (w
     (f ≡ fault.HistoryFull) ⊎ (f ≡ fault.OutOfMemory) →
     ((◌≡◌ {A = Result (Unit {0}) Fault} (Err f) (Err fault.OutOfMemory))
     → kept.places < length kept.entries + kept.owed + needed) → kept' ≡ kept →
-    IsAdded (with_history k kept) e (Err f) (with_history k kept')
-refused k e f kept kept' was owes needed n cap is within room q full which memory same =
+    IsAdded (with_history k kept told) e (Err f) (with_history k kept' told)
+refused k e f kept kept' told was owes needed header n cap is within room q full which memory same =
     ⊎_elim no_room no_memory which
   where
-    err : Fault → Result Bool Fault
+    err : Fault → Result (Option ℕ) Fault
     err x = Err x
 
     P : Fault → Type 0
-    P g = IsAdded (with_history k kept) e (err g) (with_history k kept')
+    P g = IsAdded (with_history k kept told) e (err g) (with_history k kept' told)
 
     no_room : f ≡ fault.HistoryFull → P f
     no_room p =
         let o = n.owed in
+        let most = ap (λ (x : Header). x.cap) header in
         let over = full.0 (ap (λ x. (let r : Result (Unit {0}) Fault = Err x in r)) p) in
         let some : 0 < (owes + 1) - was = omega (arith, over, within, is, q) in
         let here : P fault.HistoryFull = (
-          lt-leb _ _ (omega (arith, is, o, over, some, q, cap)),
-          not_owed k kept.entries e was owes n some,
-          ap (with_history k) same,
+          lt-leb _ _ (omega (arith, is, o, over, some, q, cap, most)),
+          not_owed k (base_on k kept) kept.entries e was owes n some,
+          ap (λ (y : HistoryView). with_history k y told) same,
         ) in
         subst P (sym p) here
 
     no_memory : f ≡ fault.OutOfMemory → P f
     no_memory p =
         let o = n.owed in
+        let most = ap (λ (x : Header). x.cap) header in
         let fits : length kept.entries + kept.owed + needed ≤ kept.cap =
         ⊎_elim
         (λ (over : kept.cap < length kept.entries + kept.owed + needed).
@@ -195,9 +229,9 @@ refused k e f kept kept' was owes needed n cap is within room q full which memor
         let lacks = memory (ap (λ x. (let r : Result (Unit {0}) Fault = Err x in r)) p) in
         let some : 0 < (owes + 1) - was = omega (arith, lacks, room, is, q) in
         let here : P fault.OutOfMemory = (
-          le-leb _ _ (omega (arith, is, o, fits, some, q, cap)),
-          not_owed k kept.entries e was owes n some,
-          ap (with_history k) same,
+          le-leb _ _ (omega (arith, is, o, fits, some, q, cap, most)),
+          not_owed k (base_on k kept) kept.entries e was owes n some,
+          ap (λ (y : HistoryView). with_history k y told) same,
           omega (arith, is, o, lacks, some, q),
         ) in
         subst P (sym p) here
@@ -226,14 +260,15 @@ placed places places' len was owes needed q stays room is =
 
 -- What is known of the history that the entry was added to, room being there.
 pub record Grown (k : Header) (e : Entry) (kept new : HistoryView) : Type 0 where
+  pub base : new.base ≡ kept.base
   pub entries : new.entries ≡ e ∷ kept.entries
   pub cap : new.cap ≡ kept.cap
-  pub owed : new.owed ≡ owed (opening k) (e ∷ kept.entries)
+  pub owed : new.owed ≡ owed (start_on k kept) (e ∷ kept.entries)
   pub room : length kept.entries + 1 + new.owed ≤ k.cap
   pub places : new.places ≡ max kept.places (whole_pages (length kept.entries + 1 + new.owed))
 
 pub grown : (k : Header) (e : Entry) (kept mid new : HistoryView) (was owes needed : ℕ) →
-    owes ≡ owed (opening k) (e ∷ kept.entries) → was ≡ kept.owed → needed ≡ (owes + 1) - was →
+    owes ≡ owed (start_on k kept) (e ∷ kept.entries) → was ≡ kept.owed → needed ≡ (owes + 1) - was →
     length mid.entries + mid.owed + needed ≤ mid.cap → mid ≡ record kept { places = mid.places } →
     kept.cap ≡ k.cap → new ≡ record mid { entries = e ∷ mid.entries; owed = owes } →
     length kept.entries + was ≤ kept.places →
@@ -245,6 +280,7 @@ grown k e kept mid new was owes needed now is q fits same cap added room stays p
     let c : mid.cap ≡ kept.cap = ap (λ (y : HistoryView). y.cap) same in
     let o : new.owed ≡ owes = ap (λ (y : HistoryView). y.owed) added in
     record {
+      base = ap (λ (y : HistoryView). y.base) added ∙ ap (λ (y : HistoryView). y.base) same;
       entries = ap (λ (y : HistoryView). y.entries) added
           ∙ ap (λ (y : HistoryView). e ∷ y.entries) same;
       cap = ap (λ (y : HistoryView). y.cap) added ∙ c;
@@ -257,41 +293,127 @@ grown k e kept mid new was owes needed now is q fits same cap added room stays p
           ∙ ap (λ n. max kept.places (whole_pages (length kept.entries + 1 + n))) (sym o);
     }
 
-pub is_added : (k : Header) (e : Entry) (opens : Bool) (kept new : HistoryView) → Grown k e kept new →
-    IsAdded (with_history k kept) e (Ok opens) (with_history k new)
-is_added k e opens kept new n =
+-- whom it names is one of the seats
+pub record Names (k : Header) (kept : HistoryView) (e : Entry) (name : Option ℕ) : Type 0 where
+  pub is : name ≡ named (start_on k kept) kept.entries e
+  pub below : IfSome name (λ j. j < k.seats)
+
+seated : (name : Option ℕ) (n m : ℕ) → n ≡ m → IfSome name (λ j. j < m) → IfSome name (λ j. j < n)
+seated name n m same below = subst (λ x. IfSome name (λ j. j < x)) (sym same) below
+
+pub is_added : (agrees : Counts → Type 0) (k : Header) (e : Entry) (name : Option ℕ) (kept new : HistoryView)
+    (queue : Line) (waiters : Sleepers) (table table' : List Seat) →
+    Stands agrees k kept queue waiters table → Next k (base_on k kept) kept.entries e → Grown k e kept new →
+    Names k kept e name → table' ≡ table_behind k.object e name table →
+    IsAdded (with_history k kept (told_in table)) e (Ok name) (with_history k new (told_in table'))
+is_added agrees k e name kept new queue waiters table table' s m n names is =
     let o = n.owed in
     let fits = n.room in
+    let most = ap (λ (x : Header). x.cap) s.based in
+    let seat : e.seat < length table = let l = m.seat in let z = s.seats in omega (arith, l, z) in
     let places = n.places ∙ ap (λ m. max kept.places (whole_pages (length kept.entries + 1 + m))) o in (
-      le-leb _ _ (omega (arith, fits, o)),
-      ap (λ g. (let w : CoreView = record { header = k; entries = g; places = new.places } in w)) n.entries
-          ∙ ap (λ m. (let w : CoreView = record { header = k; entries = e ∷ kept.entries; places = m } in w))
-          places,
+      le-leb _ _ (omega (arith, fits, o, most)),
+      names.is,
+      λ j. record {
+        header = k;
+        base = or_opening k (n.base j);
+        entries = n.entries j;
+        places = places j;
+        told = told_in table';
+      },
+      told_behind k kept new k.object e name table table' seat
+          (seated name (length table) k.seats s.seats names.below) is names.is s.told.stand,
     )
 
 -- all that is kept
 pub stands_next : (agrees agrees' : Counts → Type 0)
     (k : Header) (kept kept' : HistoryView) (queue queue' : Line)
-    (waiters waiters' : Sleepers) (table table' : List Seat) (e : Entry) →
-    Stands agrees k kept queue waiters table → Next k kept.entries e →
-    agrees' (counts_after e.word (counts (opening k) kept.entries) e) →
-    Keeps (opening k) (e ∷ kept.entries) queue' waiters' →
-    table' ≡ set table e.seat (seat_after k.object e (get_or table e.seat no_holds)) →
-    Grown k e kept kept' → Stands agrees' k kept' queue' waiters' table'
-stands_next agrees agrees' k kept kept' queue queue' waiters waiters' table table' e s n told waiting is new =
-    let h = kept.entries in
-    let entries = new.entries in
+    (waiters waiters' : Sleepers) (table table' : List Seat) (e : Entry) (name : Option ℕ) →
+    Stands agrees k kept queue waiters table → Next k (base_on k kept) kept.entries e →
+    agrees' (counts_after e.word (counts (start_on k kept) kept.entries) e) →
+    Keeps (start_on k kept) (e ∷ kept.entries) queue' waiters' →
+    JoinedBy ((base_on k kept).entries + length kept.entries + 1) queue' →
+    Names k kept e name → table' ≡ table_behind k.object e name table → Grown k e kept kept' →
+    Stands agrees' k kept' queue' waiters' table'
+stands_next agrees agrees' k kept kept' queue queue' waiters waiters' table table' e name s n told waiting
+    joined names is new =
     record {
       range = s.range;
-      hooks = subst agrees' (sym n.counts ∙ ap (counts (opening k)) (sym entries)) told;
-      waiting = subst (λ g. Keeps (opening k) g queue' waiters') (sym entries) waiting;
-      seats = ap length is ∙ length-set table e.seat _ ∙ s.seats;
+      began = new.base ∙ s.began ∙ ap Some (sym same);
+      based = ap (λ (b : Base). b.header) same ∙ s.based;
+      may_fold = subst (λ b. MayFold b kept'.entries) (sym same) (subst (MayFold base) (sym entries) (record {
+        range = s.may_fold.range;
+        modest = s.may_fold.modest;
+        can = n.can;
+      }));
+      hooks = subst (λ b. agrees' (counts (based b) kept'.entries)) (sym same)
+          (subst agrees' (sym n.counts ∙ ap (counts (based base)) (sym entries)) told);
+      waiting = subst (λ b. Keeps (based b) kept'.entries queue' waiters') (sym same)
+          (subst (λ g. Keeps (based base) g queue' waiters') (sym entries) waiting);
+      joins = let t = ap (λ (b : Base). b.entries) same in let l = ap length entries in
+          omega (arith, joined, t, l);
+      seats = ap length is ∙ length_telling name _ ∙ length-set table e.seat _ ∙ s.seats;
       tabled = λ i l.
-          ap (λ t. slice_get t i) is ∙ tabled_next k h e table s.seats n.seat s.tabled i l
-          ∙ ap (λ g. Some (seat_of k.object g i)) (sym entries);
+          subst (λ b. IsSeat (based b) kept'.entries i (get_or table' i no_holds)) (sym same)
+          (subst (λ g. IsSeat (based base) g i (get_or table' i no_holds)) (sym entries)
+          (subst (λ t. IsSeat (based base) (e ∷ kept.entries) i (get_or t i no_holds)) (sym is)
+          (tabled_telling (based base) (e ∷ kept.entries) k.seats name mid
+          (subst (λ m. IfSome name (λ j. j < m))
+          (sym (length-set table e.seat _)) below)
+          (tabled_next k base kept.entries e table s.seats n s.tabled)
+          i l)));
+      told = subst (λ b. AreRight (based b) kept'.entries (marks_in table')) (sym same)
+          (subst (λ g. AreRight (based base) g (marks_in table')) (sym entries)
+          (subst (λ t. AreRight (based base) (e ∷ kept.entries) (marks_in t)) (sym is)
+          (subst (AreRight (based base) (e ∷ kept.entries))
+          (ap (λ w. remarked e w (marks_in table)) (sym names.is)
+          ∙ sym (marks_behind k.object e name table seat below))
+          (right_recorded (based base) kept.entries n.step (marks_in table) e n.made s.told))));
       cap = new.cap ∙ s.cap;
-      owed = new.owed ∙ ap (owed (opening k)) (sym entries);
+      owed = new.owed ∙ ap (owed (based base)) (sym entries) ∙ ap (λ b. owed (based b) kept'.entries) (sym
+          same);
       room = let l = ap length entries in let r = new.room in omega (arith, l, r);
-      legal = subst (IsLegal (opening k)) (sym entries) n.legal;
-      seated = subst (AreSeated (opening k)) (sym entries) n.seated;
     }
+  where
+    base : Base
+    base = base_on k kept
+
+    same : base_on k kept' ≡ base_on k kept
+    same = ap (or_opening k) new.base
+
+    entries : kept'.entries ≡ e ∷ kept.entries
+    entries = new.entries
+
+    mid : List Seat
+    mid = set table e.seat (seat_after k.object e (get_or table e.seat no_holds))
+
+    seat : e.seat < length table
+    seat = let l = n.seat in let z = s.seats in omega (arith, l, z)
+
+    below : IfSome name (λ j. j < length table)
+    below = seated name (length table) k.seats s.seats names.below
+
+-- a seat that isn't ready is told no more
+pub stands_untold : (agrees : Counts → Type 0) (k : Header) (kept : HistoryView) (queue : Line)
+    (waiters : Sleepers) (table table' : List Seat) (i : ℕ) → Stands agrees k kept queue waiters table →
+    i < k.seats → (ready (start_on k kept) kept.entries ≡ Some i → ⊥) → table' ≡ with_mark false i table →
+    Stands agrees k kept queue waiters table'
+stands_untold agrees k kept queue waiters table table' i s below waits is =
+    subst (Stands agrees k kept queue waiters) (sym is) (record {
+      range = s.range;
+      began = s.began;
+      based = s.based;
+      may_fold = s.may_fold;
+      hooks = s.hooks;
+      waiting = s.waiting;
+      joins = s.joins;
+      seats = length-set table i _ ∙ s.seats;
+      tabled = tabled_mark (start_on k kept) kept.entries k.seats false i table
+          (let z = s.seats in omega (arith, below, z)) s.tabled;
+      told = subst (AreRight (start_on k kept) kept.entries)
+          (sym (marks_untold (start_on k kept) kept.entries table i))
+          (right_slept (start_on k kept) kept.entries i (marks_in table) waits s.told);
+      cap = s.cap;
+      owed = s.owed;
+      room = s.room;
+    })

@@ -1,54 +1,62 @@
 -- What a core is to its callers, and how its fields stand for it.
-use Rattle.std.specs.Prelude.{◌≡◌, Bool, ◌⊎◌, ◌≤◌, ◌<◌, ℕ, ◌+◌, max, true, false, List, [], ◌∷◌, length, slice_get, Result, Ok, Err, Option, Some, IfSome}
+use Rattle.std.specs.Prelude.{◌≡◌, Bool, ◌⊎◌, ◌≤◌, ◌<◌, ℕ, ◌+◌, max, true, false, List, [], ◌∷◌, length, slice_index_or, slice_set, Result, Ok, Err, Option, Some, IfSome}
 use Rattle.acquire_queue.specs.Line.{Line}
-use Rattle.condition_queue.specs.Following.{Keeps}
+use Rattle.condition_queue.specs.Following.{JoinedBy, Keeps}
 use Rattle.condition_queue.specs.Sleepers.{Sleepers}
 use Rattle.deciding.specs.Situation.{IsHistory}
 use Rattle.history.specs.declared.entry.Entry.{Entry}
 use Rattle.history.specs.declared.entry.Mode.{Mode}
 use Rattle.history.specs.declared.entry.Word.TheVariants.{Refused}
 use Rattle.history.specs.declared.fault.Fault.{Fault}
-use Rattle.history.specs.declared.fault.Fault.TheVariants.{HistoryFull, OutOfMemory}
+use Rattle.history.specs.declared.fault.Fault.TheVariants.{HistoryFull, OutOfMemory, TrimFull}
 use Rattle.history.specs.declared.header.Header.{Header}
 use Rattle.history.specs.declared.header.Object.{Object}
 use Rattle.history.specs.declared.step.Answer.{Answer}
 use Rattle.history.specs.declared.step.Answer.TheVariants.{Recorded, Sleep}
 use Rattle.history.specs.declared.step.Step.{Step}
 use Rattle.history.specs.Answers.{answer, recorded}
+use Rattle.history.specs.Base.{Base, based, folded}
 use Rattle.history.specs.Counts.{Counts, counts, held}
-use Rattle.history.specs.Entries.{HistoryView}
+use Rattle.history.specs.Entries.{HistoryView, base_on, start_on}
+use Rattle.history.specs.Fold.{MayFold}
+use Rattle.history.specs.GoodBase.{most_folded}
 use Rattle.history.specs.Header.{IsInRange}
-use Rattle.history.specs.Legal.{IsLegal, AreSeated}
 use Rattle.history.specs.Line.{first_mode}
-use Rattle.history.specs.Naming.{ready}
+use Rattle.history.specs.Marks.{AreRight, marks_after}
+use Rattle.history.specs.Naming.{named, ready}
 use Rattle.history.specs.Pages.{whole_pages}
 use Rattle.history.specs.Room.{owed, has_room, was_owed}
-use Rattle.history.specs.Start.{Start, opening}
+use Rattle.history.specs.Start.{Start}
 use Rattle.history.specs.Steps.{entry_for}
 use Rattle.frame.specs.declared.seat.Seat.{Seat}
-use Rattle.frame.specs.Seat.{seat_of}
+use Rattle.frame.specs.Seat.{IsSeat, marks_in, no_holds}
 
 -- the header of an object as opened
 abbrev pub header_of : Object → ℕ → ℕ → ℕ → Header
 header_of o seats conditions cap = record { object = o; seats = seats; conditions = conditions; cap = cap }
 
--- A header that stays, and a history that only grows, the newest entry first.
+-- A header that stays, a base, a history that only grows or is folded into the base, the newest entry first,
+-- and a mark of each seat.
 pub record CoreView : Type 0 where
   pub header : Header
+  pub base : Base
   pub entries : List Entry
   pub places : ℕ  -- how many entries the reserved memory holds
+  pub told : List Bool  -- whether each seat was told that it could go
 
--- a core with this history
-abbrev pub with_history : Header → HistoryView → CoreView
-with_history k kept = record { header = k; entries = kept.entries; places = kept.places }
+-- a core with this history and these marks
+abbrev pub with_history : Header → HistoryView → List Bool → CoreView
+with_history k kept told =
+    record { header = k; base = base_on k kept; entries = kept.entries; places = kept.places; told = told }
 
--- what stood before the first entry: the object as opened
+-- what stood before the first entry
 abbrev pub start_of : CoreView → Start
-start_of v = opening v.header
+start_of v = based v.base
 
 -- the one history that a core stands for, which is legal
 pub record StandsFor (s : Start) (h : List Entry) (v : CoreView) : Type 0 where
   pub start : s ≡ start_of v
+  pub header : s.header ≡ v.header
   pub entries : h ≡ v.entries
   pub past : IsHistory s h
 
@@ -62,20 +70,32 @@ first_mode_of v = first_mode (start_of v) v.entries
 abbrev pub ready_of : CoreView → Option ℕ
 ready_of v = ready (start_of v) v.entries
 
--- The fields stand for the history: hooks, line, sleepers and seats are as its entries make them, and room is
--- kept as it asks.
+-- whether a seat is marked
+abbrev pub marks_of : CoreView → ℕ → Bool
+marks_of v i = slice_index_or v.told i false
+
+-- the marks behind an answer are those that the definitions give
+abbrev pub IsTold : CoreView → ℕ → Result Answer Fault → CoreView → Type 0
+IsTold old i r new = marks_of new ≡ marks_after (start_of old) old.entries i r (marks_of old)
+
+-- The fields stand for the history on its base: hooks, line, sleepers and seats are as its entries make them,
+-- room is kept as it asks, and whoever is first in line and could go is marked.
 pub record Stands (agrees : Counts → Type 0) (k : Header) (kept : HistoryView) (queue : Line)
     (waiters : Sleepers) (table : List Seat) : Type 0 where
   pub range : IsInRange k
-  pub hooks : agrees (counts (opening k) kept.entries)
-  pub waiting : Keeps (opening k) kept.entries queue waiters
+  pub began : kept.base ≡ Some (base_on k kept)
+  pub based : (base_on k kept).header ≡ k
+  pub may_fold : MayFold (base_on k kept) kept.entries
+  pub hooks : agrees (counts (start_on k kept) kept.entries)
+  pub waiting : Keeps (start_on k kept) kept.entries queue waiters
+  pub joins : JoinedBy ((base_on k kept).entries + length kept.entries) queue
   pub seats : length table ≡ k.seats
-  pub tabled : (i : ℕ) → i < k.seats → slice_get table i ≡ Some (seat_of k.object kept.entries i)
+  pub tabled : (i : ℕ) → i < k.seats →
+      IsSeat (start_on k kept) kept.entries i (slice_index_or table i no_holds)
+  pub told : AreRight (start_on k kept) kept.entries (marks_in table)
   pub cap : kept.cap ≡ k.cap
-  pub owed : kept.owed ≡ owed (opening k) kept.entries
+  pub owed : kept.owed ≡ owed (start_on k kept) kept.entries
   pub room : length kept.entries + kept.owed ≤ k.cap
-  pub legal : IsLegal (opening k) kept.entries
-  pub seated : AreSeated (opening k) kept.entries
 
 -- the places that an entry takes, with all that is owed before it and behind it
 abbrev pub places_for : CoreView → Entry → ℕ
@@ -97,12 +117,14 @@ pub record IsNext (v : CoreView) (e : Entry) : Type 0 where
   pub step : Step
   pub made : entry_for (start_of v) v.entries e.seat step ≡ Ok (Some e)
 
--- An entry was added, or there was no room, or no memory. What was owed finds both. Memory is lacking only
--- where places are.
-abbrev pub IsAdded : CoreView → Entry → Result Bool Fault → CoreView → Type 0
-IsAdded old e (Ok opens) new =
+-- An entry was added and names whom it names, or there was no room, or no memory. What was owed finds both.
+-- Memory is lacking only where places are.
+abbrev pub IsAdded : CoreView → Entry → Result (Option ℕ) Fault → CoreView → Type 0
+IsAdded old e (Ok name) new =
     (has_room (start_of old) old.entries e ≡ true)
-    × (new ≡ record old { entries = e ∷ old.entries; places = places_with old e })
+    × (name ≡ named (start_of old) old.entries e)
+    × (new ≡ record old { entries = e ∷ old.entries; places = places_with old e; told = new.told })
+    × IsTold old e.seat (Ok (Recorded e name)) new
 IsAdded old e (Err HistoryFull) new =
     (has_room (start_of old) old.entries e ≡ false) × (was_owed old.header.object e ≡ false) × (new ≡ old)
 IsAdded old e (Err OutOfMemory) new =
@@ -126,6 +148,7 @@ pub record IsAnswer (old : CoreView) (given : Result Answer Fault × List Entry)
   pub answer : r ≡ given.0
   pub entries : new.entries ≡ given.1
   pub header : new.header ≡ old.header
+  pub base : new.base ≡ old.base
   pub places : new.places ≡ places_behind old r
 
 -- an entry's answer, or want of memory
@@ -134,13 +157,18 @@ IsRecorded old e r new =
     IsAnswer old (recorded (start_of old) old.entries e) r new
     ⊎ ((r ≡ Err OutOfMemory) × LacksMemory old (Ok (Some e)) new)
 
--- a refusal is one entry more, and no holding has changed; a sleep changes nothing
-abbrev pub KeepsHolds : CoreView → Answer → CoreView → Type 0
-KeepsHolds old (Recorded e named) new =
+-- with a seat's mark cleared
+abbrev pub unmarked_at : ℕ → CoreView → CoreView
+unmarked_at i v = record v { told = slice_set v.told i false }
+
+-- a refusal is one entry more, and no holding has changed; a sleep clears the seat's mark and changes nothing
+-- else
+abbrev pub KeepsHolds : CoreView → ℕ → Answer → CoreView → Type 0
+KeepsHolds old i (Recorded e named) new =
     (fault : Fault) → e.word ≡ Refused fault →
     (new.entries ≡ e ∷ old.entries)
     × ((i : ℕ) (m : Mode) → held (start_of old) new.entries i m ≡ held (start_of old) old.entries i m)
-KeepsHolds old Sleep new = new ≡ old
+KeepsHolds old i Sleep new = new ≡ unmarked_at i old
 
 -- what an answer recorded
 abbrev pub made_by : Result Answer Fault → List Entry
@@ -168,3 +196,16 @@ abbrev pub IsAnswered : CoreView → ℕ → Step → Result Answer Fault → Co
 IsAnswered old i step r new =
     IsAnswer old (answer (start_of old) old.entries i step) r new
     ⊎ ((r ≡ Err OutOfMemory) × LacksMemory old (entry_for (start_of old) old.entries i step) new)
+
+-- the numbers of entries that were folded, and of those behind, are more together than may be folded
+abbrev pub IsTrimFull : CoreView → Type 0
+IsTrimFull v = most_folded < v.base.entries + length v.entries
+
+-- all entries folded into the base
+abbrev pub trimmed : CoreView → CoreView
+trimmed v = record v { base = folded v.base v.entries; entries = [] }
+
+-- Entries were folded and counted, or there were too many, and nothing has changed.
+abbrev pub IsTrimmed : CoreView → Result ℕ Fault → CoreView → Type 0
+IsTrimmed old (Ok count) new = (IsTrimFull old → ⊥) × (count ≡ length old.entries) × (new ≡ trimmed old)
+IsTrimmed old (Err fault) new = IsTrimFull old × (fault ≡ TrimFull) × (new ≡ old)

@@ -11,7 +11,7 @@ use Rattle.history.specs.declared.header.Object.TheVariants.{Lock, ReadWrite, Se
 use Rattle.history.specs.Could.{could, is_seat, max_holds, max_shared}
 use Rattle.history.specs.Counts.{Counts, counts, owner, readers}
 use Rattle.history.specs.Faults.{max_amount}
-use Rattle.history.specs.Object.{is_lock}
+use Rattle.history.specs.Object.{is_lock, is_semaphore}
 use Rattle.history.specs.Start.{opening}
 use Rattle.history.specs.Steps.{gave, at_least_none}
 use Rattle.frame.specs.declared.hooks.Line.{Line}
@@ -26,6 +26,14 @@ abbrev pub line_mode : Line → Option Mode
 line_mode Empty = None
 line_mode FirstX = Some X
 line_mode FirstS = Some S
+
+-- Counts that say the same of what their object has: free permits count for a semaphore alone.
+pub record AreAlike (k l : Counts) : Type 0 where
+  pub object : l.object ≡ k.object
+  pub seats : l.seats ≡ k.seats
+  pub held : (i : ℕ) (m : Mode) → l.held i m ≡ k.held i m
+  pub free : is_semaphore k.object ≡ true → l.free ≡ k.free
+  pub count : l.count ≡ k.count
 
 -- the counts of an object as opened
 abbrev pub opening_counts : Object → ℕ → Counts

@@ -5,3 +5,4 @@ pub mod Observed
 pub mod Core
 pub mod Owners
 pub mod Runs
+pub mod Acts

@@ -6,13 +6,14 @@ use Rattle.history.specs.declared.fault.Fault.TheVariants.{OutOfMemory}
 use Rattle.history.specs.declared.step.Answer.{Answer}
 use Rattle.history.specs.declared.step.Step.{Step}
 use Rattle.history.specs.Answers.{results}
-use Rattle.frame.specs.Core.{CoreView, start_of, IsAnswered}
+use Rattle.history.specs.Marks.{marks}
+use Rattle.frame.specs.Core.{CoreView, marks_of, start_of, IsAnswered, IsTold}
 
 -- each step is answered in turn, from what the one before it left
 abbrev pub AreAnswered : CoreView → List (ℕ × Step) → List (Result Answer Fault) → CoreView → Type 0
 AreAnswered old [] [] new = new ≡ old
 AreAnswered old (s ∷ steps) (r ∷ answers) new =
-    (mid : CoreView) × IsAnswered old s.0 s.1 r mid × AreAnswered mid steps answers new
+    (mid : CoreView) × IsAnswered old s.0 s.1 r mid × IsTold old s.0 r mid × AreAnswered mid steps answers new
 AreAnswered old [] (r ∷ answers) new = ⊥
 AreAnswered old (s ∷ steps) [] new = ⊥
 
@@ -20,9 +21,11 @@ AreAnswered old (s ∷ steps) [] new = ⊥
 abbrev pub NoneLacksMemory : List (Result Answer Fault) → Type 0
 NoneLacksMemory answers = AllByRecursion (λ r. r ≢ Err OutOfMemory) answers
 
--- the answers and the history are those of the definitions
+-- the answers, the history and the marks are those of the definitions
 pub record AreResults (old : CoreView) (steps : List (ℕ × Step)) (answers : List (Result Answer Fault))
     (new : CoreView) : Type 0 where
   pub answers_are : answers ≡ (results (start_of old) old.entries steps).0
   pub entries_are : new.entries ≡ (results (start_of old) old.entries steps).1
   pub header_is : new.header ≡ old.header
+  pub base_is : new.base ≡ old.base
+  pub told_are : marks_of new ≡ marks (start_of old) old.entries (marks_of old) steps

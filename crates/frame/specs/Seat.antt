@@ -1,5 +1,5 @@
--- What the core keeps of a seat, by the entries of that seat.
-use Rattle.std.specs.Prelude.{ℕ, ◌==◌, if◌then◌else◌, List, [], ◌∷◌, slice_index_or}
+-- What the core keeps of a seat, and what that tells of it.
+use Rattle.std.specs.Prelude.{◌≡◌, ℕ, Bool, true, false, if◌then◌else◌, List, map, Option, Some, None, slice_index_or, slice_set}
 use Rattle.history.specs.declared.entry.End.TheVariants as end
 use Rattle.history.specs.declared.entry.Entry.{Entry}
 use Rattle.history.specs.declared.entry.Mode.{Mode}
@@ -7,13 +7,25 @@ use Rattle.history.specs.declared.entry.Mode.TheVariants.{X, S}
 use Rattle.history.specs.declared.entry.Word.{Word}
 use Rattle.history.specs.declared.entry.Word.TheVariants.{Await, Lapse}
 use Rattle.history.specs.declared.header.Object.{Object}
-use Rattle.history.specs.Counts.{holds_after}
+use Rattle.history.specs.Counts.{held, holds_after}
 use Rattle.history.specs.Entry.{is_exclusive}
+use Rattle.history.specs.Marks.{own_mark}
+use Rattle.history.specs.Ownership.{is_away}
+use Rattle.history.specs.Phase.{phase}
+use Rattle.history.specs.Sleepers.{last_sleep}
+use Rattle.history.specs.Start.{Start}
 use Rattle.deciding.specs.declared.sleep.LastSleep.{LastSleep}
+use Rattle.deciding.specs.Sleep.{sleep_of}
 use Rattle.frame.specs.declared.seat.Seat.{Seat}
 
 abbrev pub no_holds : Seat
-no_holds = record { exclusive = 0; shared = 0; sleep = record { condition = 0; holds = 0; how = end.None } }
+no_holds =
+    record {
+      exclusive = 0;
+      shared = 0;
+      sleep = record { condition = 0; holds = 0; how = end.None };
+      told = false;
+    }
 
 abbrev pub holds_in : Mode → Seat → ℕ
 holds_in X seat = seat.exclusive
@@ -31,13 +43,31 @@ seat_after o e was =
       exclusive = if is_exclusive e.mode then holds_after o e.word e.n was.exclusive else was.exclusive;
       shared = if is_exclusive e.mode then was.shared else holds_after o e.word e.n was.shared;
       sleep = sleep_behind e.word e was.sleep;
+      told = own_mark e.word was.told;
     }
 
 -- what an entry makes of its seat in a table
 abbrev pub seat_behind : Object → Entry → List Seat → Seat
 seat_behind o e seats = seat_after o e (slice_index_or seats e.seat no_holds)
 
--- a seat behind the entries of an object as opened
-abbrev pub seat_of : Object → List Entry → ℕ → Seat
-seat_of o [] i = no_holds
-seat_of o (e ∷ h) i = if e.seat == i then seat_after o e (seat_of o h i) else seat_of o h i
+-- a table whose seat is marked, or not
+abbrev pub with_mark : Bool → ℕ → List Seat → List Seat
+with_mark told i seats = slice_set seats i (record (slice_index_or seats i no_holds) { told = told })
+
+-- a table that tells whom an entry names
+abbrev pub telling : Option ℕ → List Seat → List Seat
+telling None seats = seats
+telling (Some i) seats = with_mark true i seats
+
+-- the marks of a table, as a list and by seat
+abbrev pub told_in : List Seat → List Bool
+told_in seats = map (λ (seat : Seat). seat.told) seats
+
+abbrev pub marks_in : List Seat → ℕ → Bool
+marks_in seats i = (slice_index_or seats i no_holds).told
+
+-- It holds what the history says, and where it is away its last sleep is that of the history.
+pub record IsSeat (s : Start) (h : List Entry) (i : ℕ) (x : Seat) : Type 0 where
+  pub exclusive : x.exclusive ≡ held s h i X
+  pub shared : x.shared ≡ held s h i S
+  pub sleep : is_away (phase s h i) ≡ true → sleep_of x.sleep ≡ last_sleep s h i

@@ -1,10 +1,14 @@
 //! What an entry makes of the hooks.
 
-ghost use Rattle.std.specs.Prelude.{◌≡◌, true, false};
+ghost use Rattle.std.specs.Prelude.{◌≡◌, true, false, if◌then◌else◌, None};
 ghost use Rattle.history.specs.Counts.{Counts};
+ghost use Rattle.history.specs.Line.{first_of};
+ghost use Rattle.history.specs.Naming.{named_by, ready_by};
 ghost use Rattle.frame.specs.Effects.{IsAllowed, OpensNobody, counts_after, may_name};
 
 use crate::hooks::{Gave, Hooks, Taken};
+use acquire_queue::queue::Queue;
+use deciding::entries::named;
 use history::entry::{Entry, Word};
 
 /// Has the hooks take, give and the like what an entry says, and tells whether somebody might be named by it.
@@ -41,5 +45,38 @@ pub fn change<H: Hooks>(hooks: &mut H, entry: Entry) -> bool
             false
         }
         _ => false,
+    }
+}
+
+/// The seat of the first in a line, if the hooks say that it could take what it asks for.
+#[inline(always)]
+pub fn first_ready<H: Hooks>(hooks: &H, queue: &Queue) -> Option<u16>
+    ensures { (k : Counts) → H.agrees hooks.now k → result ≡ ready_by k (first_of queue.now.arrivals) }
+{
+    let first = queue.first()?;
+    if hooks.could(first.seat, first.mode, first.n) {
+        Some(first.seat)
+    } else {
+        None
+    }
+}
+
+/// Whom an entry of a seat names, by who was ready before it and what stands behind it.
+#[inline(always)]
+pub fn whom_named<H: Hooks>(
+    may_name: bool,
+    before: Option<u16>,
+    hooks: &H,
+    queue: &Queue,
+    seat: u16,
+) -> Option<u16>
+    ensures { (k : Counts) → H.agrees hooks.now k
+        → result ≡
+        (if may_name then named_by before (ready_by k (first_of queue.now.arrivals)) seat else None) }
+{
+    if may_name {
+        named(before, first_ready(hooks, queue), seat)
+    } else {
+        None
     }
 }

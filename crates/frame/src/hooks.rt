@@ -12,7 +12,7 @@ ghost use Rattle.history.specs.Object.{is_strict};
 ghost use Rattle.history.specs.declared.entry.Mode.{Mode};
 ghost use Rattle.history.specs.declared.entry.Mode.TheVariants.{X, S};
 ghost use Rattle.history.specs.declared.header.Object.{Object};
-ghost use Rattle.frame.specs.Hooks.{line_mode, opening_counts, gives, take_answer, give_answer, let_go_answer, drain_answer, level_of, IsRestorable, NobodyElse, NobodyElseIn, NobodyNew, NobodyElseNew};
+ghost use Rattle.frame.specs.Hooks.{line_mode, opening_counts, gives, take_answer, give_answer, let_go_answer, drain_answer, level_of, AreAlike, IsRestorable, NobodyElse, NobodyElseIn, NobodyNew, NobodyElseNew};
 
 use history::entry::Mode;
 use history::fault::Fault;
@@ -145,6 +145,9 @@ pub trait Hooks {
 
     /// The counts that the hooks stand for are of their object.
     ghost same_object: { (s : Self) (k : Counts) → agrees s k → k.object ≡ object_of s };
+
+    /// Hooks that stand for counts stand for those that say the same of what the object has.
+    ghost alike: { (s : Self) (k l : Counts) → AreAlike k l → agrees s k → agrees s l };
 
     /// All hooks stand for some counts.
     ghost stands: { (s : Self) → (k : Counts) × agrees s k };

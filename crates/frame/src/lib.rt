@@ -20,6 +20,8 @@
 //!    add it.
 //! 3. name: say whom the entry lets go. That is the first in the queue, if it could acquire now and could not
 //!    before, and if the entry isn't its own. A caller that runs threads has one thread to wake, or none.
+//!    Its seat is marked as told ([`Core::is_told`](machine::Core::is_told)) until it looks in vain or leaves
+//!    the queue. So whoever is first and could acquire is always marked.
 //!
 //! A step never blocks. A thread that has to wait is answered `Queued` or `Sleep`, and steps again with
 //! `Look` when it is woken, `Expire` at its timeout or `Interrupt`. So timeouts and interrupts are steps like
@@ -27,10 +29,14 @@
 //!
 //! # Why nothing looks back
 //!
-//! The history grows without end, so no step may search it. The core keeps what a step needs to know: the
+//! The history grows and grows, so no step may search it. The core keeps what a step needs to know: the
 //! hooks' state, the queue, the waiters of each condition and a record for each seat. One invariant says that
 //! these are what the definitions compute from the history (`specs/Core.antt`, `Stands`). Every entry, of
 //! whatever kind, goes through one function, which restores that invariant.
+//!
+//! [`Core::trim`](machine::Core::trim) folds all entries into the history's base, which has all that the
+//! definitions ask of them, and gives their room back. What the core keeps is what base and list say
+//! together, so a trim changes nothing of it.
 //!
 //! Room is kept in the same way. A hold of a lock owes the entry of its release, a waiter the entries that
 //! end its wait and release what it gets. That many places of the history stay reserved. So a release of a
@@ -50,6 +56,7 @@
 //! The framework is that of Doug Lea, *The java.util.concurrent Synchronizer Framework* (2005).
 #![tactic(auto)]
 
+pub mod acts;
 mod effects;
 pub mod hooks;
 pub mod machine;

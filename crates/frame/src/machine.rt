@@ -4,23 +4,27 @@ mod decide;
 mod observing;
 mod recording;
 mod stepping;
+mod trimming;
 
 ghost use Rattle.std.specs.Prelude.{◌≡◌, [], ℕ, IfOk, IfErr};
+ghost use Rattle.history.specs.Base.{opening_base};
 ghost use Rattle.history.specs.Header.{IsInRange};
+ghost use Rattle.history.specs.Marks.{unmarked};
 ghost use Rattle.history.specs.declared.fault.Fault.TheVariants.{OutOfMemory};
-ghost use Rattle.frame.specs.Core.{header_of};
+ghost use Rattle.frame.specs.Core.{header_of, marks_of};
 
 use crate::hooks::Hooks;
 use crate::seat::Seat;
 use acquire_queue::queue::Queue;
 use condition_queue::waiters::Waiters;
+use history::base::Base;
 use history::entries::History;
 use history::fault::Fault;
 use history::header::Header;
 use std::alloc::Global;
 use std::marker::Model;
 
-/// An object of some hooks with its line, its sleepers, the holds of its seats and its history.
+/// An object of some hooks with its line, its sleepers, the holds and marks of its seats and its history.
 ///
 /// Each step of a seat is one change: it records the one entry that the step makes, or nothing. What it
 /// needs to know it keeps, so it never looks back into the history.
@@ -36,10 +40,11 @@ pub struct Core<H: Hooks + Drop> {
 
 impl<H: Hooks + Drop> Model for Core<H> {
     ghost use Rattle.frame.specs.Core.{CoreView, Stands, with_history};
+    ghost use Rattle.frame.specs.Seat.{told_in};
 
     ghost Value = { CoreView };
 
-    ghost view = { λ a. with_history a.header a.history };
+    ghost view = { λ a. with_history a.header a.history (told_in a.seats.items) };
 
     ghost invariant = { λ a. Stands (H.agrees a.hooks) a.header a.history a.queue a.waiters a.seats.items };
 }
@@ -57,23 +62,26 @@ impl<H: Hooks + Drop> Core<H> {
         requires range { IsInRange (header_of (H.object_of hooks) seats conditions cap) }
         ensures header { IfOk result (λ core.
             core.header ≡ header_of (H.object_of hooks) seats conditions cap) }
+        ensures base { IfOk result (λ core. core.base ≡ opening_base core.header) }
         ensures empty { IfOk result (λ core. core.entries ≡ []) }
         ensures places { IfOk result (λ core. core.places ≡ 0) }
+        ensures told { IfOk result (λ core. marks_of core ≡ unmarked) }
         ensures err { IfErr result (λ fault. fault ≡ OutOfMemory) }
     {
-        let queue = Queue::open(alloc, seats)?;
-        let waiters = Waiters::open(alloc, conditions, seats)?;
-        let table = vec![in alloc; Seat::free(); seats as usize]?;
         let header = Header {
             object: hooks.object(),
             seats,
             conditions,
             cap,
         };
+        let base = Base::open(alloc, &header)?;
+        let queue = Queue::open(alloc, seats)?;
+        let waiters = Waiters::open(alloc, conditions, seats)?;
+        let table = vec![in alloc; Seat::free(); seats as usize]?;
         Ok(Core {
             hooks,
             header,
-            history: History::open(alloc, cap),
+            history: History::open_on(cap, base),
             queue,
             waiters,
             seats: table,

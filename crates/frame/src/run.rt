@@ -22,7 +22,7 @@ pub fn run<H: Hooks + Drop>(
 ) -> Result<Vec<Result<Answer, Fault>>, Fault>
     requires { All (λ step. step.0 < core.old.header.seats) steps.now }
     ensures answered { IfOk result (λ answers. AreAnswered core.old steps.now answers.items core.new) }
-    // Where memory is never refused, answers and history are those of the definitions.
+    // Where memory is never refused, answers, history and marks are those of the definitions.
     ensures results { IfOk result (λ answers.
         NoneLacksMemory answers.items → AreResults core.old steps.now answers.items core.new) }
     ensures header { core.new.header ≡ core.old.header }

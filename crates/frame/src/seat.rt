@@ -1,20 +1,21 @@
 //! What the core keeps of each seat.
 
-ghost use Rattle.std.specs.Prelude.{◌≡◌, ◌+◌, ◌<◌, ◌^◌, length, slice_set};
-ghost use Rattle.frame.specs.Seat.{seat_after, seat_behind, no_holds, holds_in};
+ghost use Rattle.std.specs.Prelude.{◌≡◌, ◌+◌, ◌<◌, ◌^◌, length, slice_set, false, IfSome};
+ghost use Rattle.frame.specs.Seat.{seat_after, seat_behind, no_holds, holds_in, telling, with_mark};
 
-use deciding::holds::holds_after;
 use deciding::sleep::LastSleep;
 use history::entry::{End, Entry, Mode, Word};
 use history::header::Object;
+use history::holds::holds_after;
 
-/// The holds of a seat and its last sleep.
+/// The holds of a seat, its last sleep, and whether it was told that it could go.
 #[derive(Clone, Copy, Debug, PartialEq, Eq)]
 pub struct Seat {
     pub exclusive: u32,
-    /// Shared holds; a semaphore's may pass 32 bits.
-    pub shared: u64,
+    /// Shared holds; those of a semaphore may pass 64 bits.
+    pub shared: u128,
     pub sleep: LastSleep,
+    pub told: bool,
 }
 
 impl Seat {
@@ -30,14 +31,15 @@ impl Seat {
                 holds: 0,
                 how: End::None,
             },
+            told: false,
         }
     }
 
-    pub fn holds(self, mode: Mode) -> u64
+    pub fn holds(self, mode: Mode) -> u128
         ensures { result ≡ holds_in mode self }
     {
         match mode {
-            Mode::X => u64::from(self.exclusive),
+            Mode::X => u128::from(self.exclusive),
             Mode::S => self.shared,
         }
     }
@@ -46,12 +48,12 @@ impl Seat {
     #[inline(always)]
     pub fn follow(&mut self, object: Object, entry: Entry)
         requires exclusive { (seat_after object entry self.old).exclusive < 2 ^ 32 }
-        requires shared { (seat_after object entry self.old).shared < 2 ^ 64 }
+        requires shared { (seat_after object entry self.old).shared < 2 ^ 128 }
         ensures { self.new ≡ seat_after object entry self.old }
     {
         match entry.mode {
             Mode::X => {
-                self.exclusive = holds_after(object, entry, u64::from(self.exclusive)) as u32;
+                self.exclusive = holds_after(object, entry, u128::from(self.exclusive)) as u32;
             }
             Mode::S => self.shared = holds_after(object, entry, self.shared),
         }
@@ -63,7 +65,11 @@ impl Seat {
                     how: End::Signalled,
                 };
             }
-            Word::Lapse => self.sleep.how = entry.end,
+            Word::Lapse => {
+                self.sleep.how = entry.end;
+                self.told = true;
+            }
+            Word::Granted | Word::Left | Word::Back => self.told = false,
             _ => {}
         }
     }
@@ -74,9 +80,29 @@ impl Seat {
 pub fn update(seats: &mut Vec<Seat>, object: Object, entry: Entry)
     requires seat { entry.seat < length seats.old.items }
     requires exclusive { (seat_behind object entry seats.old.items).exclusive < 2 ^ 32 }
-    requires shared { (seat_behind object entry seats.old.items).shared < 2 ^ 64 }
+    requires shared { (seat_behind object entry seats.old.items).shared < 2 ^ 128 }
     ensures { seats.new.items
         ≡ slice_set seats.old.items entry.seat (seat_behind object entry seats.old.items) }
 {
     seats[entry.seat as usize].follow(object, entry);
+}
+
+/// Has a table of seats tell whom an entry names.
+#[inline(always)]
+pub fn tell(seats: &mut Vec<Seat>, name: Option<u16>)
+    requires { IfSome name (λ seat. seat < length seats.old.items) }
+    ensures { seats.new.items ≡ telling name seats.old.items }
+{
+    if let Some(seat) = name {
+        seats[seat as usize].told = true;
+    }
+}
+
+/// Has a table of seats forget that a seat was told.
+#[inline(always)]
+pub fn untell(seats: &mut Vec<Seat>, seat: u16)
+    requires { seat < length seats.old.items }
+    ensures { seats.new.items ≡ with_mark false seat seats.old.items }
+{
+    seats[seat as usize].told = false;
 }

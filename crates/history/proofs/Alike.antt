@@ -196,7 +196,7 @@ module _ (k : Header) (s t : Start) (g h : List Entry) (a : Alike k s t g h) whe
   pub phase_alike : (i : ℕ) → phase (on k s) g i ≡ phase (on k t) h i
   phase_alike i = λ j. phase_by (place_of i (a.stand j)) (sleeps_alike k.conditions i j)
 
-  ready_alike : ready (on k s) g ≡ ready (on k t) h
+  pub ready_alike : ready (on k s) g ≡ ready (on k t) h
   ready_alike =
       (λ j. ready_by (numbers k.object k.seats (a.holds j) (free (on k s) g) (a.left j))
       (first_of (a.stand j)))

@@ -15,7 +15,7 @@ use Rattle.history.specs.Object.{is_semaphore}
 use Rattle.history.specs.Sleepers.{sleepers}
 use Rattle.history.specs.Start.{Start, opening}
 use Rattle.history.proofs.Entering.{KnownBy, known}
-use Rattle.history.proofs.LineLemmas.{line_after, stays}
+use Rattle.history.proofs.LineLemmas.{line_after, line_at_first, stays}
 use Rattle.history.proofs.Times.{each-append, each-filter}
 
 -- what is asked for
@@ -39,11 +39,15 @@ arriving_few s h e word.Signal k = back_few (take e.n (sleepers s h e.at))
 arriving_few s h e word.SignalAll k = back_few (sleepers s h e.at)
 arriving_few s h e _ k = tt
 
+pub line_few_on : (s : Start) (h : List Entry) → AllByRecursion AsksFew s.line → IsLegal s h →
+    AllByRecursion AsksFew (line s h)
+line_few_on s [] few legal = subst (AllByRecursion AsksFew) (sym (line_at_first s)) few
+line_few_on s (e ∷ h) few legal =
+    subst (AllByRecursion AsksFew) (sym (line_after s e h))
+    (each-append AsksFew _ _ (each-filter AsksFew (stays e.word e.seat) (line s h) (line_few_on s h few
+    legal.1))
+    (arriving_few s h e e.word (known s h legal.0.0 e legal.0.1)))
+
 pub line_few : (k : Header) (h : List Entry) → IsLegal (opening k) h →
     AllByRecursion AsksFew (line (opening k) h)
-line_few k [] legal = tt
-line_few k (e ∷ h) legal =
-    let s = opening k in
-    subst (AllByRecursion AsksFew) (sym (line_after s e h))
-    (each-append AsksFew _ _ (each-filter AsksFew (stays e.word e.seat) (line s h) (line_few k h legal.1))
-    (arriving_few s h e e.word (known s h legal.0.0 e legal.0.1)))
+line_few k h legal = line_few_on (opening k) h tt legal

@@ -61,6 +61,7 @@ recorded_again fault.BadAmount low = absurd (omega (arith, low))
 recorded_again fault.WrongMode low = absurd (omega (arith, low))
 recorded_again fault.HistoryFull low = absurd (omega (arith, low))
 recorded_again fault.OutOfMemory low = absurd (omega (arith, low))
+recorded_again fault.TrimFull low = absurd (omega (arith, low))
 
 abbrev made : ℕ → Word → Mode → ℕ → ℕ → End → Entry
 made seat w m n at e = record { seat = seat; word = w; mode = m; n = n; at = at; end = e }
@@ -148,6 +149,7 @@ name_plain fault.BadAmount = refl
 name_plain fault.WrongMode = refl
 name_plain fault.HistoryFull = refl
 name_plain fault.OutOfMemory = refl
+name_plain fault.TrimFull = refl
 
 -- a mode and an amount, and a condition and an amount, hold no spaces
 asked_plain : (m : Mode) (n : ℕ) → n < 2 ^ 64 → ArePlain (mode_word m ∷ decimal n ∷ [])

@@ -4,17 +4,13 @@ use Rattle.std.proofs.lemmas.Bool.{cases_eq}
 use Rattle.std.proofs.lemmas.List.{length-append, length-map}
 use Rattle.history.specs.declared.base.SeatBase.{SeatBase}
 use Rattle.history.specs.declared.entry.Entry.{Entry}
-use Rattle.history.specs.declared.entry.Mode.TheVariants.{X, S}
 use Rattle.history.specs.declared.entry.Word.TheVariants as word
-use Rattle.history.specs.declared.header.Object.{Object}
-use Rattle.history.specs.declared.header.Object.TheVariants.{Lock, ReadWrite, Semaphore, Latch}
 use Rattle.history.specs.Base.{Base, based, folded, seat_of, sleepers_of, standing_after}
 use Rattle.history.specs.BasePlaces.{HasPlaces}
-use Rattle.history.specs.GoodBase.{AreCounted, AreHeld, IsGood, IsModest, most_folded, most_permits}
+use Rattle.history.specs.GoodBase.{IsGood, IsModest, most_folded}
 use Rattle.history.specs.Header.{IsInRange}
 use Rattle.history.specs.Line.{line}
 use Rattle.history.specs.NextBase.{next_base, seat_then}
-use Rattle.history.specs.Ownership.{most_exclusive, most_shared}
 use Rattle.history.specs.Point.{CanFold}
 use Rattle.history.specs.Sleepers.{sleepers}
 use Rattle.history.specs.Start.{Start}
@@ -25,43 +21,9 @@ use Rattle.history.proofs.GoodBases.{good_waits}
 use Rattle.history.proofs.GoodFolds.{fold_good, line_seated_on}
 use Rattle.history.proofs.NextBases.{next_is, own_seat}
 use Rattle.history.proofs.OneWait.{Waits, waits_from}
+use Rattle.history.proofs.SmallBases.{few_exclusive, few_shared, few_unheld}
 use Rattle.history.proofs.Times.{total_part}
 use Rattle.history.proofs.WhoWaits.{few_wait, idle_leaves_a_place}
-
--- the numbers of a good base are small
-few_exclusive : (b : Base) (o : Object) → b.header.object ≡ o → AreHeld o b → (i : ℕ) →
-    (seat_of b i).exclusive ≤ 2147483647
-few_exclusive b (Lock p) q v i =
-    let l = v.exclusive i in
-    let m = ap most_exclusive q in
-    omega (arith, l, m)
-few_exclusive b (ReadWrite p) q v i =
-    let l = v.exclusive i in
-    let m = ap most_exclusive q in
-    omega (arith, l, m)
-few_exclusive b (Semaphore p c) q v i = let l = v.exclusive i in omega (arith, l)
-few_exclusive b (Latch c) q v i = let l = v i X in omega (arith, l)
-
-few_shared : (b : Base) (o : Object) → b.header.object ≡ o → AreHeld o b → (i : ℕ) → i < b.header.seats →
-    (seat_of b i).shared ≤ most_permits
-few_shared b (Lock p) q v i l =
-    let t = total_part b.header.seats (λ j. (seat_of b j).shared) i l in
-    let a = v.shared in
-    let m = ap most_shared q in
-    omega (arith, t, a, m)
-few_shared b (ReadWrite p) q v i l =
-    let t = total_part b.header.seats (λ j. (seat_of b j).shared) i l in
-    let a = v.shared in
-    let m = ap most_shared q in
-    omega (arith, t, a, m)
-few_shared b (Semaphore p c) q v i l = v.shared i
-few_shared b (Latch c) q v i l = let n = v i S in omega (arith, n)
-
-few_unheld : (b : Base) (o : Object) → AreCounted o b → b.unheld ≤ most_permits
-few_unheld b (Lock p) v = let n = v.0 in omega (arith, n)
-few_unheld b (ReadWrite p) v = let n = v.0 in omega (arith, n)
-few_unheld b (Semaphore p c) v = v.0
-few_unheld b (Latch c) v = let n = v.0 in omega (arith, n)
 
 -- those asleep on one condition are some of all
 part_asleep : (n : ℕ) (s : Start) (c : ℕ) → c < n → length (sleepers s [] c) ≤ length (asleep n s [])

@@ -125,7 +125,7 @@ holds_folded b g seats s i m = ⊎_elim within beyond (cases_below i b.header.se
         (let n = length-each b.header.seats (seat_after b g) in omega (arith, n, l))))
 
 -- the calls of all seats are the calls
-calls_counted : (b : Base) (g : List Entry) → AreSeated (based b) g →
+pub calls_counted : (b : Base) (g : List Entry) → AreSeated (based b) g →
     total b.header.seats (calls_of b g) ≡ calls (based b) g
 calls_counted b [] s = refl
 calls_counted b (e ∷ g) s =

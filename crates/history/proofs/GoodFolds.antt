@@ -68,7 +68,7 @@ latch_lacks (Lock p) t = absurd (cc)
 latch_lacks (ReadWrite p) t = absurd (cc)
 latch_lacks (Semaphore p c) t = absurd (cc)
 
-latch_holds : (s : Start) (h : List Entry) → is_latch s.header.object ≡ true → Waits s [] → IsLegal s h →
+pub latch_holds : (s : Start) (h : List Entry) → is_latch s.header.object ≡ true → Waits s [] → IsLegal s h →
     ((i : ℕ) (m : Mode) → held s [] i m ≡ 0) → (i : ℕ) (m : Mode) → held s h i m ≡ 0
 latch_holds s [] t v legal none i m = none i m
 latch_holds s (e ∷ h) t v legal none i m =
@@ -227,6 +227,28 @@ module _ (b : Base) (good : IsGood b) where
       line_seated_next (based b) h e (waits_from (based b) h start legal.1)
       (known (based b) h legal.0.0 e legal.0.1) s.0 (line_seated_on h legal.1 s.1)
 
+-- free permits are numbers of 32 bits
+first_fits : (b : Base) → IsInRange b.header → (o : Object) → b.header.object ≡ o → AreHeld o b →
+    is_semaphore o ≡ true →
+    FitsSigned w32 (free (based b) [])
+first_fits b range (Semaphore p c) q v t =
+    by c (free (based b) []) (subst (FitsSigned w32) (ap created q) (created_fits b.header range
+    (ap is_semaphore q))) v.lowest v.highest
+  where
+    by : (c f : ℤ) → FitsSigned w32 c → IsLow c f → f ≤ℤ pos 2147483647 → FitsSigned w32 f
+    by c f fits (inl low) high = omega (arith, ints)
+    by c f fits (inr low) high = omega (arith, ints)
+first_fits b range (Lock p) q v t = absurd (cc)
+first_fits b range (ReadWrite p) q v t = absurd (cc)
+first_fits b range (Latch c) q v t = absurd (cc)
+
+pub free_fits_base : (b : Base) (h : List Entry) → IsInRange b.header → CanFold b h →
+    is_semaphore b.header.object ≡ true → FitsSigned w32 (free (based b) h)
+free_fits_base b h range can t =
+    free_fits_on (based b) h t (good_waits b can.good) (first_fits b range b.header.object refl
+    can.good.held t)
+    can.legal
+
 -- the fold, rule by rule
 module _ (b : Base) (g : List Entry) (range : IsInRange b.header) (can : CanFold b g)
     (few : b.entries + length g ≤ most_folded) (modest : IsModest b) where
@@ -252,21 +274,8 @@ module _ (b : Base) (g : List Entry) (range : IsInRange b.header) (can : CanFold
             shared = subst (λ f. total b.header.seats (λ i. f i S) ≤ most_shared b.header.object) q w.shared;
           }
 
-  first_fits : (o : Object) → b.header.object ≡ o → AreHeld o b → is_semaphore o ≡ true →
-      FitsSigned w32 (free (based b) [])
-  first_fits (Semaphore p c) q v t =
-      by c (free (based b) []) (subst (FitsSigned w32) (ap created q) (created_fits b.header range
-      (ap is_semaphore q))) v.lowest v.highest
-    where
-      by : (c f : ℤ) → FitsSigned w32 c → IsLow c f → f ≤ℤ pos 2147483647 → FitsSigned w32 f
-      by c f fits (inl low) high = omega (arith, ints)
-      by c f fits (inr low) high = omega (arith, ints)
-  first_fits (Lock p) q v t = absurd (cc)
-  first_fits (ReadWrite p) q v t = absurd (cc)
-  first_fits (Latch c) q v t = absurd (cc)
-
   fits_first : is_semaphore b.header.object ≡ true → FitsSigned w32 (free (based b) [])
-  fits_first t = first_fits b.header.object refl can.good.held t
+  fits_first t = first_fits b range b.header.object refl can.good.held t
 
   shared_few : is_semaphore b.header.object ≡ true → (i : ℕ) →
       held (based (folded b g)) [] i S ≤ 2147483647 * (b.entries + length g)

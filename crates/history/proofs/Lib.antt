@@ -36,7 +36,13 @@ pub mod Folding
 pub mod OpeningBase
 pub mod Queueing
 pub mod GoodFolds
+pub mod Away
+pub mod Marking
 pub mod Points
+pub mod Lasting
 pub mod NextBases
+pub mod SmallBases
+pub mod SmallHolds
 pub mod FoldRoom
 pub mod FoldSteps
+pub mod WideNumbers

@@ -7,16 +7,23 @@ use Rattle.std.proofs.lemmas.List.{append_assoc, get_or_past}
 use Rattle.history.specs.declared.base.SeatBase.{SeatBase}
 use Rattle.history.specs.declared.entry.Entry.{Entry}
 use Rattle.history.specs.declared.header.Header.{Header}
+use Rattle.history.specs.declared.point.Point.{Point}
 use Rattle.history.specs.Base.{Base, based, calls_of, each_below, folded, nothing, opening_base, seat_after, seat_of}
 use Rattle.history.specs.Entries.{ended_calls}
 use Rattle.history.specs.Entry.{ends_call}
-use Rattle.history.specs.Legal.{AreSeated}
-use Rattle.history.specs.Point.{Agrees, CanFold, ComesBefore, FollowsBy, Grows, IsFolded, Point, entries_of}
-use Rattle.history.specs.Start.{Start}
-use Rattle.history.proofs.Folding.{folds_on, legal_goes_on, length-each, seat_folded}
+use Rattle.history.specs.Legal.{AreSeated, IsLegal}
+use Rattle.history.specs.Ownership.{is_away}
+use Rattle.history.specs.Phase.{phase}
+use Rattle.history.specs.Point.{Agrees, CanFold, ComesBefore, FollowsBy, Grows, IsFolded, entries_of}
+use Rattle.history.specs.Sleepers.{last_sleep}
+use Rattle.history.specs.Start.{Start, opening}
+use Rattle.history.proofs.Alike.{Alike, away_alike, phase_alike}
+use Rattle.history.proofs.Away.{sleep_more}
+use Rattle.history.proofs.Folding.{fold_alike, folds_on, legal_goes_on, length-each, seat_folded}
+use Rattle.history.proofs.GoodBases.{good_waits}
 use Rattle.history.proofs.Lists.{ended_append}
 use Rattle.history.proofs.OneOwner.{cases_below}
-use Rattle.history.proofs.OpeningBase.{no_seat}
+use Rattle.history.proofs.OpeningBase.{based_opening, no_seat}
 
 pub seated_append : (s : Start) (h g : List Entry) → AreSeated s h → AreSeated s g → AreSeated s (h ++ g)
 seated_append s [] g a b = b
@@ -100,7 +107,7 @@ pub follows_before : (p q : Point) (added : List Entry) → CanFold p.base p.ent
 follows_before p q added can (inl grown) = inl (sym grown.0, (added, grown.1))
 follows_before p q added can (inr folds) = inr (record { more = []; can = can; base = folds.0 })
 
-calls_by_seat : (b : Base) (g : List Entry) (i : ℕ) →
+pub calls_by_seat : (b : Base) (g : List Entry) (i : ℕ) →
     calls_of b g i ≡ (seat_of b i).calls + ended_calls (entries_of i g)
 calls_by_seat b [] i = omega arith
 calls_by_seat b (e ∷ g) i = by (eqb e.seat i) (calls_by_seat b g i)
@@ -118,7 +125,7 @@ none_of s (e ∷ g) i a l =
     (ne_eqb e.seat i (λ same. (let f = a.0 in omega (arith, f, l, same))))
     ∙ none_of s g i a.1 l
 
-calls_folded : (b : Base) (g : List Entry) (i : ℕ) → CanFold b g →
+pub calls_folded : (b : Base) (g : List Entry) (i : ℕ) → CanFold b g →
     (seat_of (folded b g) i).calls ≡ (seat_of b i).calls + ended_calls (entries_of i g)
 calls_folded b g i can = ⊎_elim within beyond (cases_below i b.header.seats)
   where
@@ -147,50 +154,117 @@ agrees_opened k p i base none =
           let z = ap (λ (x : SeatBase). x.calls) (ap (λ b. seat_of b i) base ∙ no_seat k i) in
           let e = ap (λ l. ended_calls (entries_of i l)) none in
           omega (arith, z, e);
+      sleep = λ can t.
+          ap (λ l. last_sleep (based p.base) l i) none ∙ ap (λ b. (based b).last_sleep i) base
+          ∙ ap (λ (s : Start). s.last_sleep i) (based_opening k);
     }
 
--- what the added entries have of a seat
-agrees_more : (p q : Point) (i : ℕ) (added mine all : List Entry) → CanFold p.base p.entries →
-    FollowsBy p q added → entries_of i added ≡ mine → Agrees p i all → Agrees q i (mine ++ all)
-agrees_more p q i added mine all can (inl grown) own a =
+-- the base stays where entries are added, and its fold has the same last sleeps of those who are away
+can_fold_front : (b : Base) (g h : List Entry) → CanFold b (h ++ g) → CanFold b g
+can_fold_front b g h can =
+    record {
+      good = can.good;
+      seated = seated_behind (based b) h g can.seated;
+      legal = legal_front (based b) h g can.legal;
+    }
+  where
+    legal_front : (s : Start) (h g : List Entry) → IsLegal s (h ++ g) → IsLegal s g
+    legal_front s [] g legal = legal
+    legal_front s (e ∷ h) g legal = legal_front s h g legal.1
+
+sleep_grown : (p q : Point) (i : ℕ) (added mine all : List Entry) → q.base ≡ p.base →
+    q.entries ≡ added ++ p.entries → entries_of i added ≡ mine → Agrees p i all → CanFold q.base q.entries →
+    is_away (phase (based q.base) q.entries i) ≡ true →
+    last_sleep (based q.base) q.entries i ≡ last_sleep (opening q.base.header) (mine ++ all) i
+sleep_grown p q i added mine all base entries own a can t =
+    ap (λ b. last_sleep (based b) q.entries i) base
+    ∙ ap (λ l. last_sleep (based p.base) l i) entries
+    ∙ sleep_more (based p.base) (opening p.base.header) added p.entries all i (good_waits p.base now.good)
+    now.legal (a.sleep (can_fold_front p.base p.entries added now))
+    (subst (λ l. is_away (phase (based p.base) l i) ≡ true) entries
+    (subst (λ b. is_away (phase (based b) q.entries i) ≡ true) base t))
+    ∙ ap (λ l. last_sleep (opening p.base.header) (l ++ all) i) own
+    ∙ ap (λ (b : Base). last_sleep (opening b.header) (mine ++ all) i) (sym base)
+  where
+    now : CanFold p.base (added ++ p.entries)
+    now = subst (CanFold p.base) entries (subst (λ b. CanFold b q.entries) base can)
+
+sleep_folded : (p q : Point) (i : ℕ) (all : List Entry) → CanFold p.base p.entries →
+    q.base ≡ folded p.base p.entries → q.entries ≡ [] → Agrees p i all →
+    is_away (phase (based q.base) q.entries i) ≡ true →
+    last_sleep (based q.base) q.entries i ≡ last_sleep (opening q.base.header) all i
+sleep_folded p q i all can base none a t =
+    ap (λ b. last_sleep (based b) q.entries i) base
+    ∙ ap (λ l. last_sleep (based (folded p.base p.entries)) l i) none
+    ∙ sym (away_alike _ _ _ _ _ same i away)
+    ∙ a.sleep can away
+    ∙ ap (λ (b : Base). last_sleep (opening b.header) all i) (sym base)
+  where
+    same : Alike p.base.header (based p.base) (based (folded p.base p.entries)) p.entries []
+    same = fold_alike p.base p.entries can.good can.legal can.seated
+
+    away : is_away (phase (based p.base) p.entries i) ≡ true
+    away =
+        ap is_away (phase_alike _ _ _ _ _ same i)
+        ∙ subst (λ l. is_away (phase (based (folded p.base p.entries)) l i) ≡ true) none
+        (subst (λ b. is_away (phase (based b) q.entries i) ≡ true) base t)
+
+-- what a point has of a seat where entries are added
+pub agrees_grown : (p q : Point) (i : ℕ) (added mine all : List Entry) → q.base ≡ p.base →
+    q.entries ≡ added ++ p.entries → entries_of i added ≡ mine → Agrees p i all → Agrees q i (mine ++ all)
+agrees_grown p q i added mine all base entries own a =
     record {
       older = a.older;
       newest = ap (λ l. mine ++ l) a.newest ∙ sym (append_assoc mine (entries_of i p.entries) a.older)
           ∙ ap (λ l. l ++ a.older) (sym now);
       calls =
-          let b = ap (λ b. (seat_of b i).calls) grown.0 in
+          let b = ap (λ b. (seat_of b i).calls) base in
           let n = ap ended_calls now ∙ ended_append mine (entries_of i p.entries) in
           let m = ended_append mine all in
           let c = a.calls in
           omega (arith, b, n, m, c);
+      sleep = λ can t. sleep_grown p q i added mine all base entries own a can t;
     }
   where
     now : entries_of i q.entries ≡ mine ++ entries_of i p.entries
     now =
-        ap (entries_of i) grown.1 ∙ filter-append (λ e. e.seat == i) added p.entries
+        ap (entries_of i) entries ∙ filter-append (λ e. e.seat == i) added p.entries
         ∙ ap (λ l. l ++ entries_of i p.entries) own
-agrees_more p q i added mine all can (inr folds) own a =
+
+-- and where the list is folded
+pub agrees_folded : (p q : Point) (i : ℕ) (all : List Entry) → CanFold p.base p.entries →
+    q.base ≡ folded p.base p.entries → q.entries ≡ [] → Agrees p i all → Agrees q i all
+agrees_folded p q i all can base empty a =
     record {
-      older = mine ++ all;
-      newest = ap (λ l. l ++ (mine ++ all)) (sym none);
+      older = all;
+      newest = ap (λ l. l ++ all) (sym none);
       calls =
-          let b = ap (λ b. (seat_of b i).calls) folds.0 ∙ calls_folded p.base p.entries i can in
+          let b = ap (λ b. (seat_of b i).calls) base ∙ calls_folded p.base p.entries i can in
           let n = ap ended_calls none in
-          let m = ap (λ l. ended_calls (l ++ all)) (sym own ∙ ap (entries_of i) folds.2) in
           let c = a.calls in
-          omega (arith, b, n, m, c);
+          omega (arith, b, n, c);
+      sleep = λ _ t. sleep_folded p q i all can base empty a t;
     }
   where
     none : entries_of i q.entries ≡ []
-    none = ap (entries_of i) folds.1
+    none = ap (entries_of i) empty
 
-all_of : (i : ℕ) (added : List Entry) → AllByRecursion (λ e. e.seat ≡ i) added → entries_of i added ≡ added
+agrees_more : (p q : Point) (i : ℕ) (added mine all : List Entry) → CanFold p.base p.entries →
+    FollowsBy p q added → entries_of i added ≡ mine → Agrees p i all → Agrees q i (mine ++ all)
+agrees_more p q i added mine all can (inl grown) own a =
+    agrees_grown p q i added mine all grown.0 grown.1 own a
+agrees_more p q i added mine all can (inr folds) own a =
+    subst (λ l. Agrees q i (l ++ all)) (sym (ap (entries_of i) folds.2) ∙ own)
+    (agrees_folded p q i all can folds.0 folds.1 a)
+
+pub all_of : (i : ℕ) (added : List Entry) → AllByRecursion (λ e. e.seat ≡ i) added →
+    entries_of i added ≡ added
 all_of i [] all = refl
 all_of i (e ∷ added) all =
     ap (λ t. cond t (e ∷ entries_of i added) (entries_of i added)) (eq-eqb e.seat i all.0)
     ∙ ap (λ l. e ∷ l) (all_of i added all.1)
 
-none_of_other : (i j : ℕ) (added : List Entry) → i ≢ j → AllByRecursion (λ e. e.seat ≡ i) added →
+pub none_of_other : (i j : ℕ) (added : List Entry) → i ≢ j → AllByRecursion (λ e. e.seat ≡ i) added →
     entries_of j added ≡ []
 none_of_other i j [] ne all = refl
 none_of_other i j (e ∷ added) ne all =

@@ -79,6 +79,14 @@ arrives_by s e h i ne p =
     ∙ place_behind i (filter (stays e.word e.seat) (line s h)) _
     (place_filter (stays e.word e.seat) i (line s h) (other_stays e i ne) ∙ p)
 
+pub stays_while : (s : Start) (e : Entry) (h : List Entry) (i : ℕ) (a : Arrival) →
+    ends_arrival e.word ≡ false →
+    place_of i (line s h) ≡ Some a → place_of i (line s (e ∷ h)) ≡ Some a
+stays_while s e h i a t p =
+    ap (place_of i) (line_after s e h)
+    ∙ place_append i (filter (stays e.word e.seat) (line s h)) _ a
+    (place_filter (stays e.word e.seat) i (line s h) (λ b same. ap (λ x. not (x && eqb e.seat b.seat)) t) ∙ p)
+
 pub arrives_itself : (s : Start) (e : Entry) (h : List Entry) (i : ℕ) → ends_arrival e.word ≡ false →
     place_of i (line s h) ≡ None → place_of i (line s (e ∷ h)) ≡ place_of i (arrivals_by s e.word e h)
 arrives_itself s e h i t p =

@@ -1,8 +1,11 @@
 -- What a history's list is to its callers.
-use Rattle.std.specs.Prelude.{ℕ, ◌+◌, if◌then◌else◌, List, [], ◌∷◌, Option}
+use Rattle.std.specs.Prelude.{◌≡◌, ℕ, ◌+◌, if◌then◌else◌, List, [], ◌∷◌, Option, Some, None}
 use Rattle.history.specs.declared.entry.Entry.{Entry}
-use Rattle.history.specs.Base.{Base}
+use Rattle.history.specs.declared.header.Header.{Header}
+use Rattle.history.specs.Base.{Base, based, opening_base}
 use Rattle.history.specs.Entry.{ends_call}
+use Rattle.history.specs.GoodBase.{IsGood}
+use Rattle.history.specs.Start.{Start}
 
 pub record HistoryView : Type 0 where
   pub cap : ℕ  -- the greatest number of entries
@@ -15,3 +18,19 @@ pub record HistoryView : Type 0 where
 abbrev pub ended_calls : List Entry → ℕ
 ended_calls [] = 0
 ended_calls (e ∷ h) = ended_calls h + (if ends_call e.word then 1 else 0)
+
+-- what a history begins from: its base, or that of the object as it is opened
+abbrev pub or_opening : Header → Option Base → Base
+or_opening k None = opening_base k
+or_opening k (Some b) = b
+
+abbrev pub base_on : Header → HistoryView → Base
+base_on k v = or_opening k v.base
+
+abbrev pub start_on : Header → HistoryView → Start
+start_on k v = based (base_on k v)
+
+-- it has no base, or a good one of this header
+abbrev pub IsBasedWell : Header → Option Base → Type 0
+IsBasedWell k None = Unit {0}
+IsBasedWell k (Some b) = (b.header ≡ k) × IsGood b

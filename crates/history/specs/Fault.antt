@@ -1,7 +1,7 @@
 -- The number and the name of each fault, and which are recorded.
 use Rattle.std.specs.Prelude.{ℕ, ◌≤◌, List, codes}
 use Rattle.history.specs.declared.fault.Fault.{Fault}
-use Rattle.history.specs.declared.fault.Fault.TheVariants.{NotOwner, TooManyHolds, TooManyPermits, Interrupted, HoldsRead, OutOfPhase, NoSuchCondition, BadAmount, WrongMode, HistoryFull, OutOfMemory}
+use Rattle.history.specs.declared.fault.Fault.TheVariants.{NotOwner, TooManyHolds, TooManyPermits, Interrupted, HoldsRead, OutOfPhase, NoSuchCondition, BadAmount, WrongMode, HistoryFull, OutOfMemory, TrimFull}
 
 abbrev pub fault_number : Fault → ℕ
 fault_number NotOwner = 1
@@ -15,6 +15,7 @@ fault_number BadAmount = 8
 fault_number WrongMode = 9
 fault_number HistoryFull = 10
 fault_number OutOfMemory = 11
+fault_number TrimFull = 12
 
 -- the first five are recorded
 abbrev pub IsRecorded : Fault → Type 0
@@ -32,3 +33,4 @@ fault_name BadAmount = codes "BadAmount"
 fault_name WrongMode = codes "WrongMode"
 fault_name HistoryFull = codes "HistoryFull"
 fault_name OutOfMemory = codes "OutOfMemory"
+fault_name TrimFull = codes "TrimFull"

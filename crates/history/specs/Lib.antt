@@ -34,3 +34,4 @@ pub mod BasePlaces
 pub mod Fold
 pub mod Numbering
 pub mod Awaiting
+pub mod Marks

@@ -30,8 +30,8 @@ IsInOrder s h =
     arrivals s h ≡ before ++ b ∷ after → ending h b.who.seat b.place ≡ Some x → is_passage x.word ≡ true →
     AllByRecursion (EndedBefore h x.place) before
 
--- The words by which a new call takes without passing anybody: of an acquire, timed or not, in a fair or strict
--- object, and of a try in a strict one.
+-- The words by which a new call takes without passing anybody: of an acquire, timed or not, in a fair or
+-- strict object, and of a try in a strict one.
 abbrev pub takes_in_turn : Object → Word → Bool
 takes_in_turn o Got = is_fair o
 takes_in_turn o TryGot = is_strict o

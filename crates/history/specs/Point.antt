@@ -1,14 +1,15 @@
 -- What is seen of a history that may be folded: a base, and the entries behind it.
-use Rattle.std.specs.Prelude.{◌≡◌, ◌⊎◌, ℕ, ◌+◌, ◌==◌, List, [], ◌++◌, filter}
+use Rattle.std.specs.Prelude.{◌≡◌, ◌⊎◌, ℕ, ◌+◌, ◌==◌, true, List, [], ◌++◌, filter}
 use Rattle.history.specs.declared.entry.Entry.{Entry}
+use Rattle.history.specs.declared.point.Point.{Point}
 use Rattle.history.specs.Base.{Base, based, folded, seat_of}
 use Rattle.history.specs.Entries.{ended_calls}
 use Rattle.history.specs.GoodBase.{IsGood}
 use Rattle.history.specs.Legal.{AreSeated, IsLegal}
-
-pub record Point : Type 0 where
-  pub base : Base
-  pub entries : List Entry
+use Rattle.history.specs.Ownership.{is_away}
+use Rattle.history.specs.Phase.{phase}
+use Rattle.history.specs.Sleepers.{last_sleep}
+use Rattle.history.specs.Start.{opening}
 
 -- more entries behind the same base
 abbrev pub Grows : Point → Point → Type 0
@@ -35,11 +36,15 @@ abbrev pub entries_of : ℕ → List Entry → List Entry
 entries_of i h = filter (λ e. e.seat == i) h
 
 -- What a point has of all entries of a seat: the newest of them, and in its base the calls that the others
--- ended.
+-- ended. Where the entries can be folded and the seat sleeps or comes back, its last sleep is the one of
+-- which all say.
 pub record Agrees (p : Point) (i : ℕ) (all : List Entry) : Type 0 where
   pub older : List Entry
   pub newest : all ≡ entries_of i p.entries ++ older
   pub calls : (seat_of p.base i).calls + ended_calls (entries_of i p.entries) ≡ ended_calls all
+  pub sleep :
+      CanFold p.base p.entries → is_away (phase (based p.base) p.entries i) ≡ true →
+      last_sleep (based p.base) p.entries i ≡ last_sleep (opening p.base.header) all i
 
 -- The second point follows the first by some entries: they were added to its list, or nothing was added and
 -- the list was folded.

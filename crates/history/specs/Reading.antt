@@ -38,10 +38,22 @@ number_from w =
     if bytes_eq w (decimal (digits_value 10 w)) && nat_lt (digits_value 10 w) (2 ^ 64)
     then Some (digits_value 10 w) else None
 
+-- the number of 128 bits that a word spells
+unfoldable pub wide_from : List ℕ → Option ℕ
+wide_from w =
+    if bytes_eq w (decimal (digits_value 10 w)) && nat_lt (digits_value 10 w) (2 ^ 128)
+    then Some (digits_value 10 w) else None
+
 abbrev pub number_at : ℕ → ℕ → Words → Option (ℕ × Words)
 number_at least most words = do
   w ← word_at words
   n ← number_from w.0
+  if nat_le least n && nat_le n most then Some (n, w.1) else None
+
+abbrev pub wide_at : ℕ → ℕ → Words → Option (ℕ × Words)
+wide_at least most words = do
+  w ← word_at words
+  n ← wide_from w.0
   if nat_le least n && nat_le n most then Some (n, w.1) else None
 
 abbrev pub policy_at : Words → Option (Policy × Words)

@@ -2,7 +2,7 @@
 
 ghost use Rattle.std.specs.Prelude.{◌≡◌, ◌+◌, ◌≤◌, ◌↔◌, [], length, map, All, IfOk, IfErr, IsTrue, vec_capacity};
 ghost use Rattle.history.specs.declared.fault.Fault.TheVariants.{OutOfMemory};
-ghost use Rattle.history.specs.Base.{each_below, opening_base};
+ghost use Rattle.history.specs.Base.{each_below, opening_base, sleepers_of};
 ghost use Rattle.history.specs.BasePlaces.{HasPlaces};
 ghost use Rattle.history.specs.Fold.{MayFold};
 ghost use Rattle.history.specs.GoodBase.{most_folded};
@@ -117,6 +117,13 @@ impl Base {
         })
     }
 
+    /// Who sleeps on a condition, in order; nobody sleeps on one that the object lacks.
+    pub fn sleepers_of(&self, condition: u8) -> &[Sleeper]
+        ensures { result.now ≡ sleepers_of self.now condition }
+    {
+        sleepers_on(&self.sleepers, condition)
+    }
+
     /// Whether so many entries more may be folded.
     pub(crate) fn may_fold(&self, more: u64) -> bool
         requires { self.now.entries ≤ most_folded }
@@ -144,7 +151,7 @@ impl Base {
 }
 
 /// The number that a latch counts down from.
-fn opening_count(object: Object) -> u32
+pub fn opening_count(object: Object) -> u32
     ensures { result ≡ opening_count object }
 {
     match object {

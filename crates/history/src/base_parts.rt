@@ -3,17 +3,18 @@
 ghost use Rattle.std.specs.Prelude.{◌≡◌, ℕ, ◌+◌, ◌<◌, ◌≤◌, ◌^◌, [], ◌∷◌, ◌++◌, length, map, drop, filter, get_or, set, All, if◌then◌else◌, vec_len, vec_capacity};
 ghost use Rattle.history.specs.declared.entry.Word.TheVariants.{Await, Lapse, Queued};
 ghost use Rattle.history.specs.Base.{holds_of, or_awake, sleep_on};
-ghost use Rattle.history.specs.Counts.{beyond, holds_after};
+ghost use Rattle.history.specs.Counts.{beyond};
 ghost use Rattle.history.specs.Entry.{ends_arrival};
 ghost use Rattle.history.specs.Line.{coming_back};
 ghost use Rattle.history.specs.NextBase.{count_then, joins_from, seat_then, signalled_on, sleepers_then, stays_there};
-ghost use Rattle.history.specs.Object.{in_holds, is_semaphore};
+ghost use Rattle.history.specs.Object.{is_semaphore};
 
 use crate::arrival::Arrival;
 use crate::base::{SeatBase, Sleeper, Standing};
 use crate::entries::ends_call;
 use crate::entry::{End, Entry, Mode, Word};
 use crate::header::Object;
+use crate::holds::holds_after;
 
 /// What the entry's seat has behind it.
 pub(crate) fn seat_then(object: Object, entry: Entry, has: SeatBase) -> SeatBase
@@ -38,31 +39,6 @@ fn holds_of(has: SeatBase, mode: Mode) -> u128
     match mode {
         Mode::X => u128::from(has.exclusive),
         Mode::S => has.shared,
-    }
-}
-
-/// The holds behind an entry, of those before it in its mode.
-fn holds_after(object: Object, entry: Entry, had: u128) -> u128
-    requires { holds_after object entry.word entry.n had < 2 ^ 128 }
-    ensures { result ≡ holds_after object entry.word entry.n had }
-{
-    match entry.word {
-        Word::Got | Word::TryGot | Word::Granted => had + in_holds(object, entry.n),
-        Word::Drained | Word::Back => had + u128::from(entry.n),
-        Word::Gave => had.saturating_sub(in_holds(object, entry.n)),
-        Word::Await => 0,
-        _ => had,
-    }
-}
-
-/// What a request for n is in holds.
-fn in_holds(object: Object, n: u32) -> u128
-    ensures { result ≡ in_holds object n }
-{
-    match object {
-        Object::Lock(_) | Object::ReadWrite(_) => 1,
-        Object::Semaphore(_, _) => u128::from(n),
-        Object::Latch(_) => 0,
     }
 }
 

@@ -1,8 +1,8 @@
 //! A list of entries that only grows or is folded into a base, with room that stays reserved.
 
-ghost use Rattle.std.specs.Prelude.{◌≡◌, ◌+◌, ◌*◌, ◌^◌, ◌<◌, ◌≤◌, ◌↔◌, ◌⊎◌, max, [], ◌∷◌, length, reverse, slice_get, Some, None, IsTrue, IsOk, IsErrOf, OnOk, OnErr, IfErr, IfSome, IsNone, IsSomeAnd, OnSome};
+ghost use Rattle.std.specs.Prelude.{◌≡◌, ◌+◌, ◌*◌, ◌^◌, ◌<◌, ◌≤◌, ◌↔◌, ◌⊎◌, max, [], ◌∷◌, length, reverse, slice_get, Some, None, IsTrue, IsOk, IsErrOf, OnOk, OnErr, IfOk, IfErr, IsSomeAnd};
 ghost use Rattle.std.specs.Option.{option_copied, option_map};
-ghost use Rattle.history.specs.declared.fault.Fault.TheVariants.{HistoryFull, OutOfMemory};
+ghost use Rattle.history.specs.declared.fault.Fault.TheVariants.{HistoryFull, OutOfMemory, TrimFull};
 ghost use Rattle.history.specs.Base.{folded};
 ghost use Rattle.history.specs.Entry.{ends_call};
 ghost use Rattle.history.specs.Entries.{ended_calls};
@@ -216,30 +216,30 @@ impl History {
     /// Folds all entries into the base, and answers how many. It takes no memory. What is reserved and what
     /// is owed stay.
     ///
-    /// `None`: more entries would be folded than there may be. Then nothing has changed.
-    pub fn fold(&mut self) -> Option<u64>
+    /// `TrimFull`: more entries would be folded than there may be. Then nothing has changed.
+    pub fn fold(&mut self) -> Result<u64, Fault>
         // It began on a base, and its entries are legal from there.
         requires { IsSomeAnd self.old.base (λ base. MayFold base self.old.entries) }
-        ensures count { IfSome result (λ count. count ≡ length self.old.entries) }
-        ensures folded { OnSome result (self.new ≡ record self.old {
+        ensures count { IfOk result (λ count. count ≡ length self.old.entries) }
+        ensures folded { OnOk result (self.new ≡ record self.old {
           base = option_map (λ base. folded base self.old.entries) self.old.base;
           entries = [];
         }) }
 
         // The base may fold what comes next.
-        ensures goes_on { OnSome result (IsSomeAnd self.new.base (λ base. MayFold base [])) }
-        ensures full { IsNone result
+        ensures goes_on { OnOk result (IsSomeAnd self.new.base (λ base. MayFold base [])) }
+        ensures full { IsErrOf result TrimFull
             ↔ IsSomeAnd self.old.base (λ base. most_folded < base.entries + length self.old.entries) }
-        ensures none { IsNone result → self.new ≡ self.old }
+        ensures err { IfErr result (λ fault. (fault ≡ TrimFull) × (self.new ≡ self.old)) }
     {
         let count = self.len;
         if !fold_onto(&mut self.base, &self.pages, count) {
-            return None;
+            return Err(Fault::TrimFull);
         }
         clear_pages(&mut self.pages);
         self.len = 0;
         self.calls = 0;
-        Some(count)
+        Ok(count)
     }
 }
 

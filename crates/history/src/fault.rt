@@ -30,6 +30,8 @@ pub enum Fault {
     HistoryFull,
     /// Memory was refused.
     OutOfMemory,
+    /// More entries would be folded into a base than there may be.
+    TrimFull,
 }
 
 impl Fault {
@@ -52,6 +54,7 @@ impl Fault {
             Fault::WrongMode => 9,
             Fault::HistoryFull => 10,
             Fault::OutOfMemory => 11,
+            Fault::TrimFull => 12,
         }
     }
 
@@ -71,6 +74,7 @@ impl Fault {
             Fault::WrongMode => "WrongMode",
             Fault::HistoryFull => "HistoryFull",
             Fault::OutOfMemory => "OutOfMemory",
+            Fault::TrimFull => "TrimFull",
         }
     }
 }

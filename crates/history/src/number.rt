@@ -1,6 +1,6 @@
 //! Numbers in decimal, each with one spelling.
 
-ghost use Rattle.history.specs.Reading.{number_from, permits_from};
+ghost use Rattle.history.specs.Reading.{number_from, permits_from, wide_from};
 ghost use Rattle.std.specs.Int.{w32};
 ghost use Rattle.std.specs.Fmt.{signed_decimal};
 ghost use Rattle.std.specs.Prelude.{FitsSigned, drop};
@@ -10,6 +10,7 @@ use crate::pieces::{put_byte, put_bytes};
 use itoa::Buffer;
 use std::alloc::AllocError;
 use std::marker::Model;
+use std::str::from_utf8;
 
 /// No number below 2^64 has more digits.
 const MOST_DIGITS: usize = 20;
@@ -73,6 +74,43 @@ pub(crate) fn permits_of(bytes: &[u8]) -> Option<i32>
             }
         }
     }
+}
+
+/// The number below 2^128 that the bytes spell: digits alone, with no 0 before another.
+pub fn wide_of(bytes: &[u8]) -> Option<u128>
+    ensures is { result ≡ wide_from bytes.now }
+    ensures found { IfSome result (λ n. bytes.now ≡ decimal n) }
+    ensures none { IfNone result ((n : ℕ) → n < 2 ^ 128 → bytes.now ≢ decimal n) }
+{
+    wide_value(bytes)
+}
+
+/// The number that the bytes spell, one below 2^128: they are compared with its one spelling.
+fn wide_value(bytes: &[u8]) -> Option<u128>
+    ensures found { IfSome result (λ n. (bytes.now ≡ decimal n) × (n < 2 ^ 128)) }
+    ensures none { IfNone result ((n : ℕ) → n < 2 ^ 128 → bytes.now ≢ decimal n) }
+{
+    let Ok(text) = from_utf8(bytes) else {
+        return None;
+    };
+    let Ok(number) = text.parse::<u128>() else {
+        return None;
+    };
+    let mut buffer = Buffer::new();
+    if buffer.format(number).as_bytes() == bytes {
+        Some(number)
+    } else {
+        None
+    }
+}
+
+/// Appends a number of 128 bits, or a front of it.
+pub fn put_wide(out: &mut Vec<u8>, number: u128) -> Result<(), AllocError>
+    ensures ok { OnOk result (out.new.items ≡ out.old.items ++ decimal number) }
+    ensures err { OnErr result (out.new.items ≡ out.old.items) }
+{
+    let mut buffer = Buffer::new();
+    out.extend_from_slice(buffer.format(number).as_bytes())
 }
 
 /// Appends the number.

@@ -6,11 +6,11 @@ ghost use Rattle.std.specs.Fmt.{signed_decimal};
 ghost use Rattle.history.specs.Text.{words_of};
 ghost use Rattle.history.specs.Spelling.{policy_word};
 ghost use Rattle.history.specs.EntryWords.{mode_word};
-ghost use Rattle.history.specs.Reading.{with_rest, word_at, keyword_at, number_from, number_at, policy_at, mode_at, named_at, permits_at};
+ghost use Rattle.history.specs.Reading.{with_rest, word_at, keyword_at, number_from, number_at, wide_at, policy_at, mode_at, named_at, permits_at};
 
 use crate::entry::Mode;
 use crate::header::Policy;
-use crate::number::{number_of, permits_of};
+use crate::number::{number_of, permits_of, wide_of};
 use crate::text::place_of;
 use std::marker::Model;
 
@@ -82,6 +82,19 @@ impl<'a> Words<'a> {
         }
     }
 
+    /// Takes a number of 128 bits that is neither too small nor too large, if one comes next.
+    pub fn wide(&mut self, least: u128, most: u128) -> Option<u128>
+        ensures is { with_rest result self.new ≡ wide_at least most self.old }
+        ensures found { IfSome result (λ n. (self.old ≡ decimal n ∷ self.new) × (least ≤ n) × (n ≤ most)) }
+    {
+        let wide = wide_of(self.next()?)?;
+        if least <= wide && wide <= most {
+            Some(wide)
+        } else {
+            None
+        }
+    }
+
     /// Takes a policy, if one comes next.
     pub(crate) fn policy(&mut self) -> Option<Policy>
         ensures is { with_rest result self.new ≡ policy_at self.old }
@@ -116,7 +129,7 @@ impl<'a> Words<'a> {
     }
 
     /// Takes this name and a number, if they come next.
-    pub(crate) fn named(&mut self, name: &[u8], least: u64, most: u64) -> Option<u64>
+    pub fn named(&mut self, name: &[u8], least: u64, most: u64) -> Option<u64>
         ensures is { with_rest result self.new ≡ named_at name.now least most self.old }
         ensures found { IfSome result (λ n. (self.old ≡ name.now ∷ decimal n ∷ self.new) × (least ≤ n)
             × (n ≤ most)) }

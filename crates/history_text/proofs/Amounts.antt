@@ -1,10 +1,10 @@
 -- Each entry of a legal history of an object in range has a line of a history text: its amount and its
 -- condition are small.
-use Rattle.std.proofs.Common.{◌≡◌, ⊎_elim, ℕ, zero, suc, ℤ, pos, negsuc, ◌+◌, ◌<◌, ◌≤◌, Bool, true, false, not, ◌&&◌, cond, eqb, ltb, ltb-false, List, [], ◌∷◌, map, take, length, Some, ap, sym, subst, arith}
+use Rattle.std.proofs.Common.{◌≡◌, ⊎_elim, ℕ, zero, suc, ℤ, pos, negsuc, ◌+◌, ◌<◌, ◌≤◌, Bool, true, false, cond, eqb, ltb, List, [], ◌∷◌, map, length, Some, ap, sym, subst, arith}
 use Rattle.std.specs.Prelude.{FitsSigned}
 use Rattle.std.specs.Int.{w32}
 use Rattle.std.specs.List.{AllByRecursion}
-use Rattle.std.proofs.lemmas.Bool.{or_parts, cases_eq}
+use Rattle.std.proofs.lemmas.Bool.{cases_eq}
 use Rattle.std.proofs.lemmas.Int.{ints}
 use Rattle.std.proofs.lemmas.List.{length-append}
 use Rattle.history.specs.declared.arrival.Arrival.{Arrival}
@@ -14,27 +14,29 @@ use Rattle.history.specs.declared.entry.Word.TheVariants as word
 use Rattle.history.specs.declared.header.Header.{Header}
 use Rattle.history.specs.declared.header.Object.{Object}
 use Rattle.history.specs.declared.header.Object.TheVariants.{Lock, ReadWrite, Semaphore, Latch}
+use Rattle.history.specs.declared.base.Standing.{Standing}
+use Rattle.history.specs.Base.{Base, based}
 use Rattle.history.specs.Counts.{free}
-use Rattle.history.specs.EntryWords.{IsWritten}
-use Rattle.history.specs.Faults.{is_bad_number}
+use Rattle.history.specs.EntryWords.{IsSpelt, IsWritten}
+use Rattle.history.specs.GoodBase.{IsBaseOf, IsGood, StandsWell}
 use Rattle.history.specs.Header.{IsInRange, IsOpening}
 use Rattle.history.specs.Legal.{IsLegal, AreSeated}
-use Rattle.history.specs.Line.{line, arrivals_by, coming_back, place_of}
-use Rattle.history.specs.Object.{is_semaphore}
+use Rattle.history.specs.Line.{line, place_of}
 use Rattle.history.specs.Sleepers.{sleepers, last_sleep}
-use Rattle.history.specs.Start.{Start, opening}
+use Rattle.history.specs.Point.{CanFold}
+use Rattle.history.specs.Start.{Start}
 use Rattle.history.specs.Steps.{at_least_none, at_most_one}
 use Rattle.history.specs.Waiting.{asleep}
-use Rattle.history.proofs.Asking.{asked_few, AsksFew, line_few}
+use Rattle.history.proofs.Asking.{asked_few, AsksFew, line_few_on}
 use Rattle.history.proofs.Entering.{KnownBy, known}
-use Rattle.history.proofs.LineLemmas.{line_after, stays}
-use Rattle.history.proofs.OneWait.{Saved, Waits, waits, placed, lapsing}
+use Rattle.history.proofs.GoodBases.{good_waits}
+use Rattle.history.proofs.GoodFolds.{free_fits_base, line_seated_on}
+use Rattle.history.proofs.OneWait.{Saved, Waits, waits_from, placed, lapsing}
+use Rattle.history.proofs.OpeningBase.{opening_good}
 use Rattle.history.proofs.Owners.{most_holds}
-use Rattle.history.proofs.Permits.{free_fits}
-use Rattle.history.proofs.Times.{each-append, each-filter}
-use Rattle.history.proofs.WhoWaits.{comes_back, few_wait, line_seated}
+use Rattle.history.proofs.WhoWaits.{comes_back, few_wait}
 use Rattle.history_text.specs.EntryLines.{HasLine}
-use Rattle.history_text.proofs.Spelt.{spelt}
+use Rattle.history_text.proofs.Spelt.{all_spelt_on}
 
 -- no more sleep on one condition than on all
 asleep_part : (s : Start) (h : List Entry) (c n : ℕ) → c < n → length (sleepers s h c) ≤ length (asleep n s h)
@@ -83,47 +85,66 @@ few_conditions (Latch n) c r = omega (arith, r.0)
 back_saved : (s : Start) (h : List Entry) (e : Entry) → Waits s h → KnownBy s h e word.Back → Saved s h e.seat
 back_saved s h e v k = let b = comes_back s h v e.seat k.0 k.1 k.2 in subst (Saved s h) b.1 b.0.saved
 
-module _ (k : Header) (h : List Entry) (e : Entry) (range : IsInRange k) (legal : IsLegal (opening k) h) where
+-- those in line on a good base ask for little
+stands_few : (b : Base) (q : List Standing) → AllByRecursion (StandsWell b) q →
+    AllByRecursion AsksFew (map (λ p. p.who) q)
+stands_few b [] all = tt
+stands_few b (p ∷ q) all = (
+  ⊎_elim (λ asks. asked_few b.header.object p.who.n asks.1.amount)
+      (λ comes. let n : p.who.n ≡ 1 = ap (λ (a : Arrival). a.n) comes.1.who in omega (arith, n)) all.0,
+  stands_few b q all.1,
+)
+
+module _ (b : Base) (h : List Entry) (e : Entry) (range : IsInRange b.header) (can : CanFold b h) where
+  abbrev k : Header
+  k = b.header
+
   abbrev s : Start
-  s = opening k
+  s = based b
+
+  waits : Waits s h
+  waits = waits_from s h (good_waits b can.good) can.legal
+
+  few_in_line : AllByRecursion AsksFew (line s h)
+  few_in_line = line_few_on s h (stands_few b b.line can.good.line) can.legal
 
   left_few : (a : Arrival) → place_of e.seat (line s h) ≡ Some a → e.n ≡ a.n → e.n ≤ 2147483647
   left_few a p q =
-      subst (λ n. n ≤ 2147483647) (sym q) (placed AsksFew e.seat (line s h) a (line_few k h legal) p)
+      subst (λ n. n ≤ 2147483647) (sym q) (placed AsksFew e.seat (line s h) a few_in_line p)
 
-  amount : AreSeated s h → e.seat < k.seats → (w : Word) → KnownBy s h e w → e.n ≤ 2147483647
-  amount seated seat word.Got r = asked_few k.object e.n r.0.amount
-  amount seated seat word.TryGot r = asked_few k.object e.n r.0.amount
-  amount seated seat word.Queued r = asked_few k.object e.n r.amount
-  amount seated seat word.Missed r = asked_few k.object e.n r.amount
-  amount seated seat (word.Refused f) r = asked_few k.object e.n r.amount
-  amount seated seat word.Gave r = asked_few k.object e.n r.0.amount
-  amount seated seat word.Counted r = asked_few k.object e.n r.0.amount
-  amount seated seat word.Granted r = left_few r.0 r.1.stands (ap (λ (x : Entry). x.n) r.1.entry)
-  amount seated seat word.Left r = left_few r.0 r.1.stands (ap (λ (x : Entry). x.n) r.1.entry)
-  amount seated seat word.Back r =
-      let saved = back_saved s h e (waits k h legal) r in
+  amount : e.seat < k.seats → (w : Word) → KnownBy s h e w → e.n ≤ 2147483647
+  amount seat word.Got r = asked_few k.object e.n r.0.amount
+  amount seat word.TryGot r = asked_few k.object e.n r.0.amount
+  amount seat word.Queued r = asked_few k.object e.n r.amount
+  amount seat word.Missed r = asked_few k.object e.n r.amount
+  amount seat (word.Refused f) r = asked_few k.object e.n r.amount
+  amount seat word.Gave r = asked_few k.object e.n r.0.amount
+  amount seat word.Counted r = asked_few k.object e.n r.0.amount
+  amount seat word.Granted r = left_few r.0 r.1.stands (ap (λ (x : Entry). x.n) r.1.entry)
+  amount seat word.Left r = left_few r.0 r.1.stands (ap (λ (x : Entry). x.n) r.1.entry)
+  amount seat word.Back r =
+      let saved = back_saved s h e waits r in
       let n : e.n ≡ (last_sleep s h e.seat).holds = ap (λ (x : Entry). x.n) r.4 in
       let most = saved.most in
       let few = most_few k.object in
       omega (arith, n, most, few)
-  amount seated seat word.Await r =
-      let held = (waits k h legal).holds e.seat seat r.0.lock in
+  amount seat word.Await r =
+      let held = waits.holds e.seat seat r.0.lock in
       let n = r.2 in
       let few = most_few k.object in
       omega (arith, n, held, few)
-  amount seated seat word.Signal r = let n = r.1 in let few = one_few (length (sleepers s h e.at)) in
+  amount seat word.Signal r = let n = r.1 in let few = one_few (length (sleepers s h e.at)) in
       omega (arith, n, few)
-  amount seated seat word.SignalAll r =
+  amount seat word.SignalAll r =
       let n = r.1 in
       let part = asleep_part s h e.at k.conditions r.0.condition in
-      let all = few_wait s h (waits k h legal) (line_seated k h legal seated) in
+      let all = few_wait s h waits (line_seated_on b can.good h can.legal can.seated) in
       let seats = range.seats in
       omega (arith, n, part, all, seats)
-  amount seated seat word.Lapse r = let n : e.n ≡ 0 = ap (λ (x : Entry). x.n) r.2 in omega (arith, n)
-  amount seated seat word.Drained r =
+  amount seat word.Lapse r = let n : e.n ≡ 0 = ap (λ (x : Entry). x.n) r.2 in omega (arith, n)
+  amount seat word.Drained r =
       let n : e.n ≡ at_least_none (free s h) = ap (λ (x : Entry). x.n) r.2 in
-      let few = free_few (free s h) (free_fits k h range r.1 legal) in
+      let few = free_few (free s h) (free_fits_base b h range can r.1) in
       omega (arith, n, few)
 
   few_at : e.at < k.conditions → e.at ≤ 15
@@ -143,31 +164,43 @@ module _ (k : Header) (h : List Entry) (e : Entry) (range : IsInRange k) (legal 
   condition word.Granted r = none_at (ap (λ (x : Entry). x.at) r.1.entry)
   condition word.Left r = none_at (ap (λ (x : Entry). x.at) r.1.entry)
   condition word.Back r =
-      let saved = back_saved s h e (waits k h legal) r in
+      let saved = back_saved s h e waits r in
       few_at (subst (λ c. c < k.conditions) (sym (ap (λ (x : Entry). x.at) r.4)) saved.condition)
   condition word.Await r = few_at r.0.condition
   condition word.Signal r = few_at r.0.condition
   condition word.SignalAll r = few_at r.0.condition
   condition word.Lapse r =
-      let u = (lapsing s h e (waits k h legal) r.0 r.2).1 in
+      let u = (lapsing s h e waits r.0 r.2).1 in
       few_at (subst (λ c. c < k.conditions) u.condition u.saved.condition)
   condition word.Drained r = none_at (ap (λ (x : Entry). x.at) r.2)
 
-entry_written : (k : Header) (h : List Entry) (e : Entry) → IsInRange k → IsLegal (opening k) (e ∷ h) →
-    AreSeated (opening k) (e ∷ h) → IsWritten e
-entry_written k h e range legal seated =
-    let r = known (opening k) h legal.0.0 e legal.0.1 in
+entry_written : (b : Base) (h : List Entry) (e : Entry) → IsInRange b.header → CanFold b h →
+    IsLegal (based b) (e ∷ h) → e.seat < b.header.seats → IsSpelt e → IsWritten e
+entry_written b h e range can legal seat spelt =
+    let r = known (based b) h legal.0.0 e legal.0.1 in
     record {
-      words = spelt k h e.seat legal.0.0 e legal.1 legal.0.1;
-      amount = amount k h e range legal.1 seated.1 seated.0 e.word r;
-      condition = condition k h e range legal.1 e.word r;
+      words = spelt;
+      amount = amount b h e range can seat e.word r;
+      condition = condition b h e range can e.word r;
     }
 
-pub all_have_lines : (k : Header) (h : List Entry) → IsInRange k → IsLegal (opening k) h →
-    AreSeated (opening k) h →
-    AllByRecursion (HasLine k) h
-all_have_lines k [] range legal seated = tt
-all_have_lines k (e ∷ h) range legal seated = (
-  record { seat = seated.0; written = entry_written k h e range legal seated },
-  all_have_lines k h range legal.1 seated.1,
+lines_of : (b : Base) (h : List Entry) → IsInRange b.header → IsGood b → IsLegal (based b) h →
+    AreSeated (based b) h → AllByRecursion IsSpelt h → AllByRecursion (HasLine b.header) h
+lines_of b [] range good legal seated spelt = tt
+lines_of b (e ∷ h) range good legal seated spelt = (
+  record {
+    seat = seated.0;
+    written = entry_written b h e range (record { good = good; seated = seated.1; legal = legal.1 }) legal
+        seated.0 spelt.0;
+  },
+  lines_of b h range good legal.1 seated.1 spelt.1,
 )
+
+-- each entry of a legal history on a good base, or on the opening one, has a line
+pub all_have_lines : (b : Base) (h : List Entry) → IsInRange b.header → IsBaseOf b.header b →
+    IsLegal (based b) h → AreSeated (based b) h → AllByRecursion (HasLine b.header) h
+all_have_lines b h range is legal seated =
+    lines_of b h range good legal seated (all_spelt_on (based b) h (good_waits b good) legal)
+  where
+    good : IsGood b
+    good = ⊎_elim (λ e. subst IsGood (sym e) (opening_good b.header range)) (λ g. g.1) is.1

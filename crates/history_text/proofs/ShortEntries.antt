@@ -1,5 +1,5 @@
 -- The lines of a history text are short.
-use Rattle.std.proofs.Common.{◌≡◌, ℕ, ◌+◌, ◌*◌, ◌<◌, ◌≤◌, ◌^◌, List, [], ◌∷◌, ◌++◌, length, ap, arith, decimal}
+use Rattle.std.proofs.Common.{◌≡◌, ℕ, ◌+◌, ◌<◌, ◌≤◌, ◌^◌, Bool, true, false, List, [], ◌∷◌, length, refl, ap, arith, decimal}
 use Rattle.std.specs.Prelude.{codes}
 use Rattle.history.specs.declared.entry.End.{End}
 use Rattle.history.specs.declared.entry.End.TheVariants as end
@@ -8,21 +8,29 @@ use Rattle.history.specs.declared.entry.Mode.{Mode}
 use Rattle.history.specs.declared.entry.Mode.TheVariants.{X, S}
 use Rattle.history.specs.declared.entry.Word.{Word}
 use Rattle.history.specs.declared.entry.Word.TheVariants as word
+use Rattle.history.specs.declared.entry.Word.TheVariants.{Back, Queued}
 use Rattle.history.specs.declared.fault.Fault.{Fault}
-use Rattle.history.specs.declared.fault.Fault.TheVariants.{NotOwner, TooManyHolds, TooManyPermits, Interrupted, HoldsRead, OutOfPhase, NoSuchCondition, BadAmount, WrongMode, HistoryFull, OutOfMemory}
+use Rattle.history.specs.declared.fault.Fault.TheVariants.{NotOwner, TooManyHolds, TooManyPermits, Interrupted, HoldsRead, OutOfPhase, NoSuchCondition, BadAmount, WrongMode, HistoryFull, OutOfMemory, TrimFull}
 use Rattle.history.specs.declared.header.Header.{Header}
-use Rattle.history.specs.Entries.{ended_calls}
-use Rattle.history.specs.EntryWords.{end_word, entry_words, mode_word, spelt}
+use Rattle.history.specs.declared.base.Standing.{Standing}
+use Rattle.history.specs.EntryWords.{IsWritten, end_word, entry_words, mode_word, spelt}
 use Rattle.history.specs.Fault.{fault_name}
 use Rattle.history.specs.Header.{IsInRange}
-use Rattle.history.specs.Text.{ended, line_of}
-use Rattle.history.proofs.Lists.{ended_calls_le}
+use Rattle.history.specs.Text.{ended}
+use Rattle.history.specs.Spelling.{part_of}
+use Rattle.line_text.proofs.Lawful.{Stand}
 use Rattle.line_text.specs.Short.{HasShortLines}
 use Rattle.line_text.proofs.Lengths.{AreShort, decimal_short, header_short, line_length}
 use Rattle.std.proofs.lemmas.List.{length-append}
+use Rattle.history_text.specs.declared.place.Head.{Head}
+use Rattle.history_text.specs.BaseLines.{waiting_by}
 use Rattle.history_text.specs.EntryLines.{HasLine, counts_line, entry_line}
+use Rattle.history_text.specs.HistoryLines.{Based, Entered, Line, MayStand, base_of, head_line, line_text, name_of, reached}
 use Rattle.history_text.specs.HistoryText.{history_form}
+use Rattle.history_text.proofs.BaseLineLemmas.{base_short}
 use Rattle.history_text.proofs.EntryLemmas.{counts_line-words, entry_line-words}
+use Rattle.history_text.proofs.HistoryItems.{small}
+use Rattle.history_text.proofs.HistoryLawful.{spelt_next}
 
 mode_short : (m : Mode) → length (mode_word m) ≤ 20
 mode_short X = omega arith
@@ -46,8 +54,9 @@ fault_short BadAmount = omega arith
 fault_short WrongMode = omega arith
 fault_short HistoryFull = omega arith
 fault_short OutOfMemory = omega arith
+fault_short TrimFull = omega arith
 
-words_short : (w : Word) (m : Mode) (n at : ℕ) (e : End) → n ≤ 2147483647 → at ≤ 15 →
+pub words_short : (w : Word) (m : Mode) (n at : ℕ) (e : End) → n ≤ 2147483647 → at ≤ 15 →
     AreShort (spelt w m n at e) × (length (spelt w m n at e) ≤ 4)
 words_short word.Got m n at e lt le =
     ((omega arith, (mode_short m, (decimal_short n (omega (arith, lt)), tt))), omega arith)
@@ -115,16 +124,49 @@ counts_short entries calls few lt =
           (omega arith, (decimal_short entries few, (decimal_short calls lt, tt))),
     )
 
+name_length : (is_based : Bool) → length (name_of is_based) ≡ 14
+name_length true = refl
+name_length false = refl
+
+head_short : (h : Head) → IsInRange h.header → length (head_line h) < 256
+head_short h range =
+    omega (
+      arith,
+      header_short (codes "aqs-history 1 ") h.header (omega arith) range,
+      name_length h.is_based,
+      length-append (name_of h.is_based) (part_of h.header),
+      length-append (codes "aqs-history 1 ") (part_of h.header),
+    )
+
+pub waiting_short : (p : Standing) (b : Bool) → IsWritten (waiting_by b p) →
+    AreShort (entry_words (waiting_by b p)) × (length (entry_words (waiting_by b p)) ≤ 4)
+waiting_short p true written = words_short Back X p.holds p.condition p.how written.amount written.condition
+waiting_short p false written = words_short Queued p.who.mode p.who.n 0 end.None written.amount written.condition
+
+line_short : (h : Head) (before : List Line) (x : Line) → Stand history_form h before →
+    MayStand h (reached before) (base_of h.header before) x → length (line_text x) < 256
+line_short h before (Based x) stand may =
+    base_short x (spelt_next h before x stand may) (λ p fits. waiting_short p p.who.back fits.1)
+line_short h before (Entered number e) stand may =
+    let s = small h before stand.each in
+    entry_short h.header number e (omega (arith, may.1, s.entries, s.count, stand.header.cap)) stand.header
+    may.3
+
 pub short : HasShortLines history_form 256
 short =
     record {
-      header = λ h fits. header_short (codes "aqs-history 1 ") h (omega arith) fits;
-      item = λ h k e header fits. entry_short h k e (omega (arith, header.cap, fits.0)) header fits.1;
-      end = λ entries lt. omega (
-        arith,
-        counts_short (length entries) (ended_calls entries) (omega (arith, lt))
-            (omega (arith, lt, ended_calls_le entries)),
-      );
+      header = head_short;
+      item = λ h before x header each fits.
+          line_short h before x (record { header = header; each = each }) fits;
+      end = λ h lines header each ends.
+          let s = small h lines each in
+          omega (
+            arith,
+            counts_short ((reached lines).told.entries + (reached lines).count)
+                ((reached lines).told.calls + (reached lines).calls)
+                (omega (arith, s.entries, s.count, header.cap))
+                (omega (arith, s.entries, s.told_calls, s.count, s.calls, header.cap)),
+          );
     }
 
 -- the end line and its break

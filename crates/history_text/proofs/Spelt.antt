@@ -25,7 +25,7 @@ use Rattle.history.specs.Start.{Start, opening}
 use Rattle.history.specs.Steps.{entry_for}
 use Rattle.history.proofs.Entering.{KnownBy, known, by_phase}
 use Rattle.history_text.proofs.Made.{IsMadeBy, RefusesByRecorded, made}
-use Rattle.history.proofs.OneWait.{Waits, waits}
+use Rattle.history.proofs.OneWait.{Waits, waits, waits_from}
 use Rattle.history.proofs.WhoWaits.{comes_back}
 
 shared : (m : Mode) → lacks_mode (Latch 0) m ≡ false → m ≡ S
@@ -120,3 +120,13 @@ pub all_spelt : (header : Header) (h : List Entry) → IsLegal (opening header) 
 all_spelt header [] legal = tt
 all_spelt header (e ∷ h) legal =
     (spelt header h e.seat legal.0.0 e legal.1 legal.0.1, all_spelt header h legal.1)
+
+-- ---- a legal history from any start at which everybody who waits does so rightly
+
+pub all_spelt_on : (s : Start) (h : List Entry) → Waits s [] → IsLegal s h → AllByRecursion IsSpelt h
+all_spelt_on s [] w legal = tt
+all_spelt_on s (e ∷ h) w legal = (
+  spelt_by s h e e.word (waits_from s h w legal.1) (known s h legal.0.0 e legal.0.1)
+      (seat_made s h e.seat legal.0.0 e legal.0.1).fault,
+  all_spelt_on s h w legal.1,
+)

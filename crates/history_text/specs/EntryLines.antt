@@ -3,11 +3,7 @@ use Rattle.std.specs.Prelude.{ℕ, ◌<◌, List, ◌++◌, codes, decimal}
 use Rattle.history.specs.declared.entry.Entry.{Entry}
 use Rattle.history.specs.declared.header.Header.{Header}
 use Rattle.history.specs.EntryWords.{entry_words, IsWritten}
-use Rattle.history.specs.Spelling.{part_of}
 use Rattle.history.specs.Text.{line_of}
-
-abbrev pub header_line : Header → List ℕ
-header_line h = codes "aqs-history 1 " ++ part_of h
 
 -- the number, the seat and the words of an entry
 abbrev pub entry_line : ℕ → Entry → List ℕ

@@ -1,46 +1,77 @@
 -- History texts: their form, what is written, and what reading one answers.
-use Rattle.std.specs.Prelude.{◌≡◌, ℕ, ◌<◌, List, reverse, length, All, Result, Ok}
+use Rattle.std.specs.Prelude.{◌≡◌, ℕ, ◌+◌, ◌≤◌, List, reverse, All, Result, Ok, Err}
 use Rattle.history.specs.declared.entry.Entry.{Entry}
 use Rattle.history.specs.declared.header.Header.{Header}
-use Rattle.history.specs.Entries.{HistoryView, ended_calls}
+use Rattle.history.specs.Base.{Base}
+use Rattle.history.specs.Entries.{HistoryView, base_on}
+use Rattle.history.specs.GoodBase.{IsBaseOf}
 use Rattle.history.specs.Header.{IsInRange}
 use Rattle.line_text.specs.declared.fault.ReadFault.{ReadFault}
 use Rattle.line_text.specs.Form.{Form, text_of}
-use Rattle.line_text.specs.Reading.{IsReading}
+use Rattle.line_text.specs.Reading.{IsReading, IsText, Reading}
 use Rattle.line_text.specs.Reading as reading
 use Rattle.line_text.specs.UnderWay.{SoFar}
-use Rattle.history_text.specs.EntryLines.{HasLine, header_line, entry_line, counts_line}
+use Rattle.history_text.specs.declared.place.Head.{Head}
+use Rattle.history_text.specs.EntryLines.{HasLine, counts_line}
+use Rattle.history_text.specs.HistoryLines.{IsWhole, Line, MayStand, Reached, base_of, head_line, head_of, line_text, lines_on, reached}
 
--- a header of any object, entries of its seats with their numbers below its cap, and their two counts
-abbrev pub history_form : Form Header Entry
+-- the end line: how many entries there are, those folded among them, and how many of them end a call
+abbrev pub end_of : Reached → List ℕ
+end_of s = counts_line (s.told.entries + s.count) (s.told.calls + s.calls)
+
+-- a header of any object, the lines of a base if there is one, entries of its seats with their numbers, fewer
+-- than its cap, and two counts
+abbrev pub history_form : Form Head Line
 history_form =
     record {
-      IsHeader = IsInRange;
-      header_line = header_line;
-      IsItem = λ h number e. (number < h.cap) × HasLine h e;
-      item_line = entry_line;
-      end_line = λ entries. counts_line (length entries) (ended_calls entries);
+      IsHeader = λ h. IsInRange h.header;
+      header_line = head_line;
+      IsItem = λ h before x. MayStand h (reached before) (base_of h.header before) x;
+      item_line = line_text;
+      MayEnd = λ h lines. IsWhole h (reached lines);
+      end_line = λ lines. end_of (reached lines);
     }
 
--- what is written of a history, whose entries stand newest first
-abbrev pub history_text : Header → List Entry → List ℕ
-history_text h entries = text_of history_form h (reverse entries)
+-- what is written of a history on a base, whose entries stand newest first
+abbrev pub history_text : Base → List Entry → List ℕ
+history_text b entries = text_of history_form (head_of b) (lines_on b (reverse entries))
+
+-- the text of a history on this base, with these entries, the oldest first
+pub record IsHistoryText (text : List ℕ) (b : Base) (entries : List Entry) : Type 0 where
+  pub base : IsBaseOf b.header b
+  pub is : IsText history_form text (head_of b) (lines_on b entries)
+
+-- what a text says, or its first fault
+abbrev pub IsHistoryReading : List ℕ → Reading Base Entry → Type 0
+IsHistoryReading text (Ok said) = IsHistoryText text said.0 said.1
+IsHistoryReading text (Err fault) = IsReading history_form text (Err fault)
+
+-- a base has lines, or needs none, where it is the header's opening one, or a good one of a header in range
+pub record HasBaseText (h : Header) (b : Base) : Type 0 where
+  pub is : IsBaseOf h b
+  pub range : 1 ≤ b.entries → IsInRange h
 
 -- the history has a text under this header
 pub record Fits (h : Header) (kept : HistoryView) : Type 0 where
   pub cap : kept.cap ≡ h.cap
+  pub base : HasBaseText h (base_on h kept)
   pub each : All (HasLine h) (reverse kept.entries)
 
--- what was read: a list of the header's cap, with no room owed
+-- what was read: a list of the header's cap, on the base that the text tells, with no room owed
 pub record IsRead (text : List ℕ) (h : Header) (kept : HistoryView) : Type 0 where
-  pub reading : IsReading history_form text (Ok (h, reverse kept.entries))
+  pub reading : IsHistoryText text (base_on h kept) (reverse kept.entries)
+  pub header : (base_on h kept).header ≡ h
   pub cap : kept.cap ≡ h.cap
   pub owed : kept.owed ≡ 0
 
--- A reader of entries knows of the entries that it read how many there are, and how many of them end a call.
-abbrev pub entries_so_far : Header → ℕ → ℕ → SoFar Header Entry
-entries_so_far header count calls =
-    record { header = header; count = count; known = λ entries. calls ≡ ended_calls entries }
+-- A reader of entries knows of the lines that it read how many there are, what the base is, how many entries
+-- follow it, and how many of these end a call.
+pub record AreKnown (h : Head) (b : Base) (s : Reached) (lines : List Line) : Type 0 where
+  pub base : base_of h.header lines ≡ b
+  pub reached : reached lines ≡ s
+
+abbrev pub lines_so_far : Head → Base → Reached → ℕ → SoFar Head Line
+lines_so_far h b s lines = record { header = h; count = lines; known = AreKnown h b s }
 
 -- what a call answers: the reading of the text, or want of memory
 abbrev pub Reads : List ℕ → Result (Header × HistoryView) ReadFault → Type 0

@@ -1,4 +1,13 @@
-pub mod EntryLines
+pub mod BaseFollowing
+pub mod BaseLines
+pub mod BaseReading
+pub mod BaseRules
+pub mod BaseTelling
+pub mod BaseText
 pub mod CommonEntry
+pub mod EntryLines
 pub mod EntryReading
+pub mod HistoryLines
 pub mod HistoryText
+pub mod NextLine
+pub mod Pieces

@@ -1,31 +1,39 @@
-//! The text of a history: its writing and its reading.
+//! The text of a history, written.
 
-ghost use Rattle.std.specs.Prelude.{◌≡◌, ◌++◌, ◌≤◌, ◌↔◌, ◌<◌, ◌^◌, All, IfOk, IfErr, OnOk, IsTrue, reverse, length};
+ghost use Rattle.std.specs.Prelude.{◌≡◌, ◌≤◌, ◌++◌, All, IfOk, IfErr, OnOk, reverse};
+ghost use Rattle.std.specs.Option.{option_copied};
 ghost use Rattle.history.specs.declared.fault.Fault.TheVariants.{OutOfMemory};
+ghost use Rattle.history.specs.Entries.{IsBasedWell, base_on, or_opening};
 ghost use Rattle.history.specs.EntryWords.{IsSpelt};
+ghost use Rattle.history.specs.GoodBase.{IsBaseOf, IsGood};
 ghost use Rattle.history.specs.Header.{IsInRange};
-ghost use Rattle.history_text.specs.HistoryText.{history_text, Reads};
+ghost use Rattle.history.specs.Spelling.{part_of};
+ghost use Rattle.history.specs.Text.{ended};
+ghost use Rattle.history_text.specs.BaseText.{IsHeadPut};
+ghost use Rattle.history_text.specs.HistoryText.{history_text};
 
+use crate::base_writing::{calls_of, put_base};
 use crate::entry_line::{put_counts, put_entry};
-use crate::next_entry::{header_of, next_entry};
+use history::base::Base;
 use history::entries::History;
 use history::fault::Fault;
 use history::header::Header;
 use history::number::Numbering;
-use line_text::fault::ReadFault;
 use std::alloc::{AllocError, Global};
 
 /// More than the length of most entries' lines: the text is made for lines of this length.
 const LINE_LENGTH: usize = 32;
 
-/// The text of a history under its header.
+/// The text of a history under its header, which is its base's.
 ///
 /// It is a history text, and is read again, where the history [`fits`](crate::fitting::fits) its header;
-/// to be written, its entries need only be spelt.
+/// to be written, its base need only be good, and its entries be spelt.
 pub fn write_text(alloc: Global, header: &Header, history: &History) -> Result<Vec<u8>, Fault>
     requires range { IsInRange header.now }
+    requires base { IsBaseOf header.now (base_on header.now history.now) }
     requires spelt { All IsSpelt (reverse history.now.entries) }
-    ensures ok { IfOk result (λ text. text.items ≡ history_text header.now history.now.entries) }
+    ensures ok { IfOk result (λ text. text.items
+        ≡ history_text (base_on header.now history.now) history.now.entries) }
     ensures err { IfErr result (λ fault. fault ≡ OutOfMemory) }
 {
     match written(alloc, header, history) {
@@ -34,48 +42,67 @@ pub fn write_text(alloc: Global, header: &Header, history: &History) -> Result<V
     }
 }
 
+#[tactic(auto, using(crate::proofs::Heads::based_well))]
 fn written(alloc: Global, header: &Header, history: &History) -> Result<Vec<u8>, AllocError>
     requires range { IsInRange header.now }
+    requires base { IsBaseOf header.now (base_on header.now history.now) }
     requires spelt { All IsSpelt (reverse history.now.entries) }
-    ensures { IfOk result (λ text. text.items ≡ history_text header.now history.now.entries) }
+    ensures { IfOk result (λ text. text.items
+        ≡ history_text (base_on header.now history.now) history.now.entries) }
 {
     let mut out = Vec::with_capacity(alloc, (history.len() as usize).saturating_mul(LINE_LENGTH))?;
-    out.extend_from_slice(b"aqs-history 1 ")?;
-    header.write_part(&mut out).map_err(|_| AllocError)?;
-    out.push(b'\n')?;
+    let (folded, calls) = put_head(&mut out, header, history.base())?;
     let mut numbering = Numbering::new();
     let mut number = 0;
     while let Some(entry) = history.get(number) {
-        put_entry(&mut out, &mut numbering, number, &entry)?;
+        put_entry(&mut out, &mut numbering, folded + number, &entry)?;
         out.push(b'\n')?;
         number += 1;
     }
-    put_counts(&mut out, history.len(), history.calls())?;
+    put_counts(&mut out, folded + history.len(), calls + history.calls())?;
     out.push(b'\n')?;
     Ok(out)
 }
 
-/// The header and the history that a text spells, or its first fault, or want of memory.
-///
-/// No room is owed in what is read, which needn't be legal.
-pub fn read_text(alloc: Global, text: &[u8]) -> Result<(Header, History), ReadFault>
-    ensures { Reads text.now result }
+/// Appends the first line and the lines of a base, and returns how many entries were folded, and how many
+/// calls ended by them.
+pub fn put_head(
+    out: &mut Vec<u8>,
+    header: &Header,
+    base: Option<&Base>,
+) -> Result<(u64, u64), AllocError>
+    requires range { IsInRange header.now }
+    requires base { IsBasedWell header.now (option_copied base) }
+    ensures { IfOk result (λ r. IsHeadPut (or_opening header.now (option_copied base.entry)) out.old.items
+        out.new.items r.0 r.1) }
 {
-    let (header, mut rest) = header_of(text)?;
-    let mut history = History::open(alloc, header.cap);
-    let mut numbering = Numbering::new();
-    while let Some((entry, left)) = next_entry(
-        rest,
-        &header,
-        &mut numbering,
-        history.len(),
-        history.calls(),
-    )? {
-        if history.make_room(1).is_err() {
-            return Err(ReadFault::OutOfMemory);
+    if let Some(base) = base {
+        if base.entries != 0 {
+            return put_base_head(out, header, base);
         }
-        history.add(entry, 0);
-        rest = &rest[rest.len() - left..];
     }
-    Ok((header, history))
+    put_first_line(out, b"aqs-history 1 ", header)?;
+    Ok((0, 0))
+}
+
+fn put_base_head(out: &mut Vec<u8>, header: &Header, base: &Base) -> Result<(u64, u64), AllocError>
+    requires range { IsInRange header.now }
+    requires some { 1 ≤ base.now.entries }
+    requires base { (base.now.header ≡ header.now) × IsGood base.now }
+    ensures { IfOk result (λ r. IsHeadPut base.now out.old.items out.new.items r.0 r.1) }
+{
+    put_first_line(out, b"aqs-history 2 ", header)?;
+    put_base(out, base)?;
+    Ok((base.entries as u64, calls_of(&base.seats)))
+}
+
+/// Appends the name of a format and the object part, with the line's break.
+fn put_first_line(out: &mut Vec<u8>, name: &[u8], header: &Header) -> Result<(), AllocError>
+    requires { IsInRange header.now }
+    ensures { OnOk result (out.new.items ≡ out.old.items ++ ended (name.now ++ part_of header.now)) }
+{
+    out.extend_from_slice(name)?;
+    header.write_part(out).map_err(|_| AllocError)?;
+    out.push(b'\n')?;
+    Ok(())
 }

@@ -1,17 +1,21 @@
-//! The lines of a history text, one after another.
+//! The lines of a history text behind its base, one after another.
 
-ghost use Rattle.std.specs.Prelude.{◌≡◌, ◌+◌, ◌<◌, ◌≤◌, ◌^◌, Err, Ok, None, length, IfOk, IfErr, IsErrOf};
+ghost use Rattle.std.specs.Prelude.{◌≡◌, ◌+◌, ◌<◌, ◌≤◌, ◌^◌, [], codes, Err, Ok, None, length, IfOk, IfSome, IfErr, IsErrOf};
+ghost use Rattle.history.specs.GoodBase.{most_folded};
 ghost use Rattle.history.specs.Header.{IsInRange};
 ghost use Rattle.history.specs.Text.{HasNoBreak, ended};
-ghost use Rattle.line_text.specs.Reading.{IsReading};
+ghost use Rattle.line_text.specs.Reading.{Begins, IsReading};
+ghost use Rattle.line_text.specs.declared.fault.TextFault.{TextFault};
 ghost use Rattle.line_text.specs.declared.fault.TextFault.TheVariants.{CutShort};
-ghost use Rattle.line_text.specs.UnderWay.{IsHeaderOf, IsLineBehind};
+ghost use Rattle.line_text.specs.HeaderLine.{LacksHeader};
 ghost use Rattle.history_text.specs.EntryLines.{counts_line};
-ghost use Rattle.history_text.specs.HistoryText.{entries_so_far, history_form};
+ghost use Rattle.history_text.specs.HistoryText.{history_form};
+ghost use Rattle.history_text.specs.NextLine.{IsEntryBehind};
 
 use crate::common_entry::common_entry;
 use crate::end_line::is_end;
 use crate::entry_reading::entry_of;
+use crate::place::{Head, Place};
 use history::entry::Entry;
 use history::header::Header;
 use history::number::Numbering;
@@ -19,15 +23,45 @@ use history::text::first_line;
 use line_text::fault::TextFault;
 use line_text::header_line::first_header;
 
-/// The header of a text, and what follows its line.
-pub fn header_of(text: &[u8]) -> Result<(Header, &[u8]), TextFault>
-    ensures ok { IfOk result (IsHeaderOf history_form text.now) }
+/// What the first line of a text says, and what follows it.
+pub fn head_of(text: &[u8]) -> Result<(Head, &[u8]), TextFault>
+    ensures ok { IfOk result (λ r. Begins history_form text.now r.0 [] r.1.now) }
     ensures err { IfErr result (λ fault. IsReading history_form text.now (Err fault)) }
     ensures cut { IsErrOf result CutShort → HasNoBreak text.now }
     ensures shorter { IfOk result (λ r. length r.1.now ≤ length text.now) }
-    ensures range { IfOk result (λ r. IsInRange r.0) }
+    ensures range { IfOk result (λ r. IsInRange r.0.header) }
 {
-    first_header(b"aqs-history 1 ", text)
+    match first_header(b"aqs-history 1 ", text) {
+        Ok((header, rest)) => Ok((
+            Head {
+                is_based: false,
+                header,
+            },
+            rest,
+        )),
+        Err(_) => based_head(text),
+    }
+}
+
+/// The same of a text that begins with no header of a history without a base.
+fn based_head(text: &[u8]) -> Result<(Head, &[u8]), TextFault>
+    requires { (fault : TextFault) × LacksHeader (codes "aqs-history 1 ") text.now fault }
+    ensures ok { IfOk result (λ r. Begins history_form text.now r.0 [] r.1.now) }
+    ensures err { IfErr result (λ fault. IsReading history_form text.now (Err fault)) }
+    ensures cut { IsErrOf result CutShort → HasNoBreak text.now }
+    ensures shorter { IfOk result (λ r. length r.1.now ≤ length text.now) }
+    ensures range { IfOk result (λ r. IsInRange r.0.header) }
+{
+    match first_header(b"aqs-history 2 ", text) {
+        Ok((header, rest)) => Ok((
+            Head {
+                is_based: true,
+                header,
+            },
+            rest,
+        )),
+        Err(fault) => Err(fault),
+    }
 }
 
 /// The next line, word by word.
@@ -35,53 +69,66 @@ pub fn header_of(text: &[u8]) -> Result<(Header, &[u8]), TextFault>
 fn entry_by_words(
     rest: &[u8],
     header: &Header,
-    count: u64,
-    calls: u64,
+    place: Place,
 ) -> Result<Option<(Entry, usize)>, TextFault>
     requires range { IsInRange header.now }
-    requires few { count + 3 < 2 ^ 64 }
-    ensures line { IsLineBehind history_form (entries_so_far header.now count calls) rest.now result }
+    requires folded { place.folded ≤ most_folded }
+    requires few { place.count ≤ header.now.cap }
+    requires lines { place.lines + place.count + 3 < 2 ^ 64 }
+    ensures line { IsEntryBehind header.now place rest.now result }
     ensures cut { IsErrOf result CutShort → HasNoBreak rest.now }
-    ensures last { result ≡ Ok None → rest.now ≡ ended (counts_line count calls) }
+    ensures shorter { IfOk result (λ next. IfSome next (λ r. r.1 < length rest.now)) }
+    ensures seated { IfOk result (λ next. IfSome next (λ r. r.0.seat < header.now.seats)) }
+    ensures within { IfOk result (λ next. IfSome next (λ _. place.count < header.now.cap)) }
+    ensures last { result ≡ Ok None →
+        rest.now ≡ ended (counts_line (place.folded + place.count) place.calls) }
 {
+    let lines = place.lines + place.count;
+    let number = place.folded + place.count;
     let Some((line, after)) = first_line(rest) else {
         return Err(TextFault::CutShort);
     };
-    if is_end(line, count, calls) {
+    if is_end(line, number, place.calls) {
         if after.is_empty() {
             return Ok(None);
         }
-        return Err(TextFault::BadLine(count + 3));
+        return Err(TextFault::BadLine(lines + 3));
     }
-    if count >= u64::from(header.cap) {
-        return Err(TextFault::BadLine(count + 2));
+    if place.count >= u64::from(header.cap) {
+        return Err(TextFault::BadLine(lines + 2));
     }
-    match entry_of(line, count, header) {
+    match entry_of(line, number, header) {
         Some(entry) => Ok(Some((entry, after.len()))),
-        None => Err(TextFault::BadLine(count + 2)),
+        None => Err(TextFault::BadLine(lines + 2)),
     }
 }
 
-/// The entry of the next line of a text of which so many entries were read, so many of which end a call, and
-/// how many bytes follow it; or None where that is the end line, and nothing follows.
+/// The entry of the next line, and how many bytes follow it; or None where that is the end line, and nothing
+/// follows.
 #[inline(always)]
 pub fn next_entry(
     rest: &[u8],
     header: &Header,
     numbering: &mut Numbering,
-    count: u64,
-    calls: u64,
+    place: Place,
 ) -> Result<Option<(Entry, usize)>, TextFault>
     requires range { IsInRange header.now }
-    requires few { count + 3 < 2 ^ 64 }
-    ensures line { IsLineBehind history_form (entries_so_far header.now count calls) rest.now result }
+    requires folded { place.folded ≤ most_folded }
+    requires few { place.count ≤ header.now.cap }
+    requires lines { place.lines + place.count + 3 < 2 ^ 64 }
+    ensures line { IsEntryBehind header.now place rest.now result }
     ensures cut { IsErrOf result CutShort → HasNoBreak rest.now }
-    ensures last { result ≡ Ok None → rest.now ≡ ended (counts_line count calls) }
+    ensures shorter { IfOk result (λ next. IfSome next (λ r. r.1 < length rest.now)) }
+    ensures seated { IfOk result (λ next. IfSome next (λ r. r.0.seat < header.now.seats)) }
+    ensures within { IfOk result (λ next. IfSome next (λ _. place.count < header.now.cap)) }
+    ensures last { result ≡ Ok None →
+        rest.now ≡ ended (counts_line (place.folded + place.count) place.calls) }
 {
-    if count < u64::from(header.cap) {
-        if let Some((entry, left)) = common_entry(rest, numbering, count, header.seats) {
+    if place.count < u64::from(header.cap) {
+        let number = place.folded + place.count;
+        if let Some((entry, left)) = common_entry(rest, numbering, number, header.seats) {
             return Ok(Some((entry, left)));
         }
     }
-    entry_by_words(rest, header, count, calls)
+    entry_by_words(rest, header, place)
 }

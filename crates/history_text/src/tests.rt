@@ -2,6 +2,7 @@
 //! word, with the same answer.
 
 use crate::common_entry::common_entry;
+use crate::{ReadFault, TextFault, fits, read_text, write_text};
 use history::entry::{End, Entry, Mode, Word};
 use history::fault::Fault;
 use history::number::Numbering;
@@ -89,4 +90,34 @@ fn no_other_number_and_no_other_seat_is_found(rt: HostRuntime) {
     let line = b"12 7 got x 1\n";
     assert_eq!(rt; common_entry(line, &mut Numbering::new(), 13, 8), None);
     assert_eq!(rt; common_entry(line, &mut Numbering::new(), 12, 7), None);
+}
+
+/// A history on a base: a seat sleeps on a condition, another owns the lock.
+const TRIMMED: &[u8] =
+    b"aqs-history 2 lock fair seats 2 conditions 1 cap 16\nbase 4\nseat 0 calls 2 x 0 s 0\nseat 1 calls 1 x 1 s 0\nsleeper 0 0 2\n4 1 signal 0 1\n5 1 gave x 1\n6 0 back 0 2 signalled\nend 7 6\n";
+
+#[test]
+fn a_text_with_a_base_is_read_and_written_again(rt: HostRuntime) {
+    let read = read_text(rt.alloc(), TRIMMED);
+    assert!(rt; read.is_ok());
+    if let Ok((header, history)) = read {
+        assert!(rt; fits(&header, &history));
+        assert_eq!(rt; history.len(), 3);
+        let written = write_text(rt.alloc(), &header, &history);
+        assert!(rt; written.is_ok());
+        if let Ok(text) = written {
+            assert_eq!(rt; text.as_slice(), TRIMMED);
+        }
+    }
+}
+
+#[test]
+fn a_text_with_a_base_that_is_cut_is_cut_short(rt: HostRuntime) {
+    for end in 0..TRIMMED.len() {
+        let read = read_text(rt.alloc(), &TRIMMED[..end]);
+        assert!(rt;
+            matches!(read, Err(ReadFault::Text(TextFault::CutShort))),
+            "{end}"
+        );
+    }
 }

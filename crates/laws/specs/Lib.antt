@@ -1,6 +1,5 @@
 pub mod Breaks
 pub mod Fold
 pub mod Forgetful
-pub mod Marks
 pub mod OutOfTurn
 pub mod Woken

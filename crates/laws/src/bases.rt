@@ -4,6 +4,7 @@ ghost use Rattle.std.specs.Prelude.{◌≡◌, ◌≢◌, ◌↔◌, ◌+◌, �
 ghost use Rattle.std.specs.List.{AllByRecursion};
 ghost use Rattle.history.specs.declared.entry.Entry.{Entry};
 ghost use Rattle.history.specs.declared.header.Header.{Header};
+ghost use Rattle.history.specs.declared.point.Point.{Point};
 ghost use Rattle.history.specs.declared.step.Step.{Step};
 ghost use Rattle.history.specs.Base.{Base, based, folded, opening_base};
 ghost use Rattle.history.specs.Conservation.{IsConserved};
@@ -18,7 +19,7 @@ ghost use Rattle.history.specs.Object.{is_lock, is_semaphore};
 ghost use Rattle.history.specs.Order.{IsFairOrder, IsInOrder};
 ghost use Rattle.history.specs.Ownership.{IsOwned, is_away};
 ghost use Rattle.history.specs.Phase.{phase};
-ghost use Rattle.history.specs.Point.{Agrees, CanFold, ComesBefore, FollowsBy, Point};
+ghost use Rattle.history.specs.Point.{Agrees, CanFold, ComesBefore, FollowsBy};
 ghost use Rattle.history.specs.Room.{owed};
 ghost use Rattle.history.specs.Sleepers.{last_sleep, sleepers};
 ghost use Rattle.history.specs.Start.{opening};

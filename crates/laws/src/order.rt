@@ -16,8 +16,8 @@ pub fn nobody_in_line_is_passed()
 {}
 
 /// In a fair or strict object a new acquire, timed or untimed, that isn't reentrant takes only where nobody
-/// waits: the waits of all who ever arrived have ended. In a strict object so does an untimed try, which barges
-/// in a fair one.
+/// waits: the waits of all who ever arrived have ended. In a strict object so does an untimed try, which
+/// barges in a fair one.
 pub fn fair_mode_lets_nobody_pass()
     ensures { (k : Header) (h : List Entry) → IsLegal (opening k) h → IsFairOrder (opening k) h }
 {}

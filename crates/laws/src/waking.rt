@@ -1,14 +1,17 @@
 //! Waking: whoever can go is told, and nobody is woken for nothing.
 
-ghost use Rattle.std.specs.Prelude.{◌≡◌, ◌≢◌, ℕ, Bool, List, [], ◌∷◌, ◌++◌, Some};
+ghost use Rattle.std.specs.Prelude.{◌≡◌, ◌≢◌, ℕ, Bool, List, [], ◌∷◌, ◌++◌, Some, Ok};
 ghost use Rattle.history.specs.declared.entry.Entry.{Entry};
 ghost use Rattle.history.specs.declared.header.Header.{Header};
 ghost use Rattle.history.specs.declared.step.Step.{Step};
+ghost use Rattle.history.specs.declared.step.Answer.TheVariants.{Recorded};
 ghost use Rattle.history.specs.Answers.{answer, results};
+ghost use Rattle.history.specs.Base.{Base, based, folded};
 ghost use Rattle.history.specs.Naming.{named, ready};
+ghost use Rattle.history.specs.Point.{CanFold};
 ghost use Rattle.history.specs.Start.{Start, opening};
 ghost use Rattle.laws.specs.Fold.{fold};
-ghost use Rattle.laws.specs.Marks.{AreTold, marks, marks_after, unmarked};
+ghost use Rattle.history.specs.Marks.{AreRight, AreTold, StandInLine, marks, marks_after, remarked, unmarked};
 ghost use Rattle.laws.specs.OutOfTurn.{fair_lock, given_to_a_waiter};
 ghost use Rattle.laws.specs.Woken.{IsWoken};
 
@@ -38,6 +41,28 @@ pub fn whoever_could_go_was_told()
         AreTold s (results s h steps).1 (marks s h m steps) }
     ensures fold { (s : Start) (g h : List Entry) (m : ℕ → Bool) →
         AreTold s (h ++ g) m → AreTold (fold s g) h m }
+{}
+
+/// Only who stands in line is marked.
+pub fn only_who_waits_is_marked()
+    ensures opening { (k : Header) → StandInLine (opening k) [] unmarked }
+    ensures step { (s : Start) (h : List Entry) (i : ℕ) (step : Step) (m : ℕ → Bool) → StandInLine s h m →
+        StandInLine s (answer s h i step).1 (marks_after s h i (answer s h i step).0 m) }
+    ensures steps { (s : Start) (h : List Entry) (m : ℕ → Bool) (steps : List (ℕ × Step)) →
+        StandInLine s h m → StandInLine s (results s h steps).1 (marks s h m steps) }
+{}
+
+/// An entry changes the marks of two seats alone: of whom it names, and of its own. The latter comes with a
+/// lapse, and goes where the seat leaves the line.
+pub fn an_entry_changes_two_marks()
+    ensures { (s : Start) (h : List Entry) (i : ℕ) (m : ℕ → Bool) (e : Entry) → StandInLine s h m →
+        marks_after s h i (Ok (Recorded e (named s h e))) m ≡ remarked e (named s h e) m }
+{}
+
+/// Marks that are right behind entries on a base are right behind the base that these are folded into.
+pub fn marks_stand_behind_a_base()
+    ensures { (b : Base) (h : List Entry) (m : ℕ → Bool) → CanFold b h → AreRight (based b) h m →
+        AreRight (based (folded b h)) [] m }
 {}
 
 /// With all marks cleared, one who could go is forgotten.

@@ -1,12 +1,12 @@
 -- Each proper beginning of a text of a lawful form is cut short.
-use Rattle.std.proofs.Common.{◌≡◌, ◌≢◌, ℕ, ◌+◌, List, [], ◌∷◌, ◌++◌, refl, sym, ap, ◌∙◌, inl, inr, ◌⊎◌}
+use Rattle.std.proofs.Common.{◌≡◌, ◌≢◌, ℕ, List, [], ◌∷◌, ◌++◌, refl, sym, ap, ◌∙◌, inl, inr, ◌⊎◌}
 use Rattle.std.proofs.lemmas.List.Elements.{All-from_recursion}
 use Rattle.history.specs.Text.{HasNoBreak, ended}
 use Rattle.line_text.specs.Form.{Form, lines_of, AreItems}
 use Rattle.line_text.specs.Reading.{IsText, IsCutShort}
-use Rattle.line_text.proofs.Lawful.{Lacks, IsLawful}
+use Rattle.line_text.proofs.Lawful.{Lacks, IsLawful, Stand}
 use Rattle.line_text.proofs.Growing.{broken}
-use Rattle.line_text.proofs.OneReading.{head_is, tail_is, first_line}
+use Rattle.line_text.proofs.OneReading.{head_is, tail_is, first_line, one_further}
 
 pub line_from : (xs : List ℕ) → Lacks xs → HasNoBreak xs
 line_from xs h = All-from_recursion _ xs h
@@ -33,69 +33,69 @@ none_left [] more e = e
 none_left (x ∷ after) more e = absurd cc
 
 -- the items whose lines stand whole in a front, and the rest of it
-record Items {H I : Type 0} (form : Form H I) (h : H) (k : ℕ) (front : List ℕ) : Type 0 where
-  before : List I
+record Items {H I : Type 0} (form : Form H I) (h : H) (before : List I) (front : List ℕ) : Type 0 where
+  items : List I
   rest : List ℕ
-  are : AreItems form h k before
-  parts : front ≡ lines_of form k before ++ rest
+  are : AreItems form h before items
+  parts : front ≡ lines_of form items ++ rest
   whole : Lacks rest
 
-none_whole : {H I : Type 0} (form : Form H I) (h : H) (k : ℕ) (front : List ℕ) → Lacks front →
-    Items form h k front
-none_whole form h k front p = record { before = []; rest = front; are = tt; parts = refl; whole = p }
+none_whole : {H I : Type 0} (form : Form H I) (h : H) (before : List I) (front : List ℕ) → Lacks front →
+    Items form h before front
+none_whole form h before front p = record { items = []; rest = front; are = tt; parts = refl; whole = p }
 
-at_last : {H I : Type 0} (form : Form H I) (h : H) (k : ℕ) (end front more : List ℕ) → more ≢ [] →
-    Cut end [] front more → Items form h k front
-at_last form h k end front more some (inl p) = none_whole form h k front p
-at_last form h k end front more some (inr p) = absurd (some (none_left p.0 more p.2))
+at_last : {H I : Type 0} (form : Form H I) (h : H) (before : List I) (end front more : List ℕ) → more ≢ [] →
+    Cut end [] front more → Items form h before front
+at_last form h before end front more some (inl p) = none_whole form h before front p
+at_last form h before end front more some (inr p) = absurd (some (none_left p.0 more p.2))
 
-one_before : {H I : Type 0} (form : Form H I) (h : H) (k : ℕ) (x : I) (front after : List ℕ) →
-    form.IsItem h k x → front ≡ form.item_line k x ++ 10 ∷ after → Items form h (k + 1) after →
-    Items form h k front
-one_before form h k x front after fits e more =
+one_before : {H I : Type 0} (form : Form H I) (h : H) (before : List I) (x : I) (front after : List ℕ) →
+    form.IsItem h before x → front ≡ form.item_line x ++ 10 ∷ after → Items form h (before ++ x ∷ []) after →
+    Items form h before front
+one_before form h before x front after fits e more =
     record {
-      before = x ∷ more.before;
+      items = x ∷ more.items;
       rest = more.rest;
       are = (fits, more.are);
-      parts = e ∙ ap (λ (t : List ℕ). form.item_line k x ++ 10 ∷ t) more.parts
-          ∙ sym (first_line form k x more.before more.rest);
+      parts = e ∙ ap (λ (t : List ℕ). form.item_line x ++ 10 ∷ t) more.parts
+          ∙ sym (first_line form x more.items more.rest);
       whole = more.whole;
     }
 
-cut_further : {H I : Type 0} (form : Form H I) (h : H) (k : ℕ) (x : I) (rest front more : List ℕ) →
-    form.IsItem h k x → Cut (form.item_line k x) rest front more
-    → ((after : List ℕ) → after ++ more ≡ rest → Items form h (k + 1) after) → Items form h k front
-cut_further form h k x rest front more fits (inl p) further = none_whole form h k front p
-cut_further form h k x rest front more fits (inr p) further =
-    one_before form h k x front p.0 fits p.1 (further p.0 p.2)
+cut_further : {H I : Type 0} (form : Form H I) (h : H) (before : List I) (x : I) (rest front more : List ℕ) →
+    form.IsItem h before x → Cut (form.item_line x) rest front more
+    → ((after : List ℕ) → after ++ more ≡ rest → Items form h (before ++ x ∷ []) after) → Items form h before front
+cut_further form h before x rest front more fits (inl p) further = none_whole form h before front p
+cut_further form h before x rest front more fits (inr p) further =
+    one_before form h before x front p.0 fits p.1 (further p.0 p.2)
 
-cut_items : {H I : Type 0} (form : Form H I) (h : H) (k : ℕ) (items : List I) (end front more : List ℕ) →
-    IsLawful form → form.IsHeader h → AreItems form h k items → Lacks end → more ≢ []
-    → front ++ more ≡ lines_of form k items ++ ended end → Items form h k front
-cut_items form h k [] end front more lawful header all whole some e =
-    at_last form h k end front more some (cut_at end [] front more whole e)
-cut_items form h k (x ∷ xs) end front more lawful header all whole some e =
-    let rest = lines_of form (k + 1) xs ++ ended end in
-    cut_further form h k x rest front more all.0
-    (cut_at (form.item_line k x) rest front more (lawful.item_whole h k x header all.0) (e
-    ∙ first_line form k x xs (ended end)))
-    (λ after f. cut_items form h (k + 1) xs end after more lawful header all.1 whole some f)
+cut_items : {H I : Type 0} (form : Form H I) (h : H) (before : List I) (items : List I) (end front more : List ℕ) →
+    IsLawful form → Stand form h before → AreItems form h before items → Lacks end → more ≢ []
+    → front ++ more ≡ lines_of form items ++ ended end → Items form h before front
+cut_items form h before [] end front more lawful stand all whole some e =
+    at_last form h before end front more some (cut_at end [] front more whole e)
+cut_items form h before (x ∷ xs) end front more lawful stand all whole some e =
+    let rest = lines_of form xs ++ ended end in
+    cut_further form h before x rest front more all.0
+    (cut_at (form.item_line x) rest front more (lawful.item_whole h before x stand all.0) (e
+    ∙ first_line form x xs (ended end)))
+    (λ after f. cut_items form h (before ++ x ∷ []) xs end after more lawful (one_further form h before x stand all.0) all.1 whole some f)
 
 cut_header : {H I : Type 0} (form : Form H I) (h : H) (rest front more : List ℕ) → form.IsHeader h →
     Cut (form.header_line h) rest front more
-    → ((after : List ℕ) → after ++ more ≡ rest → Items form h 0 after) → IsCutShort form front
+    → ((after : List ℕ) → after ++ more ≡ rest → Items form h [] after) → IsCutShort form front
 cut_header form h rest front more header (inl p) further = inl (line_from front p)
 cut_header form h rest front more header (inr p) further =
     let it = further p.0 p.2 in
     inr (
       h,
-      it.before,
+      it.items,
       it.rest,
       record {
         header = header;
         each = it.are;
         parts = p.1 ∙ ap (λ (t : List ℕ). form.header_line h ++ 10 ∷ t) it.parts
-            ∙ sym (broken (form.header_line h) (lines_of form 0 it.before ++ it.rest));
+            ∙ sym (broken (form.header_line h) (lines_of form it.items ++ it.rest));
       },
       line_from it.rest it.whole,
     )
@@ -104,9 +104,10 @@ pub cut_short : {H I : Type 0} (form : Form H I) → IsLawful form →
     (text : List ℕ) (h : H) (items : List I) → IsText form text h items
     → (front more : List ℕ) → front ++ more ≡ text → more ≢ [] → IsCutShort form front
 cut_short form lawful text h items is front more e some =
-    let rest = lines_of form 0 items ++ ended (form.end_line items) in
+    let rest = lines_of form items ++ ended (form.end_line items) in
     cut_header form h rest front more is.begins.header
     (cut_at (form.header_line h) rest front more (lawful.header_whole h is.begins.header) (e
     ∙ is.begins.parts ∙ broken (form.header_line h) rest))
-    (λ after f. cut_items form h 0 items (form.end_line items) after more lawful is.begins.header
-    is.begins.each (lawful.end_whole items is.count) some f)
+    (λ after f. cut_items form h [] items (form.end_line items) after more lawful
+    (record { header = is.begins.header; each = tt }) is.begins.each (lawful.end_whole h items
+    (record { header = is.begins.header; each = is.begins.each }) is.ends) some f)

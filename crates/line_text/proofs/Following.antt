@@ -13,13 +13,13 @@ begins_more form text h xs rest more begun = record {
   header = begun.header;
   each = begun.each;
   parts = ap (λ (t : List ℕ). t ++ more) begun.parts
-      ∙ append_assoc (ended (form.header_line h)) (lines_of form 0 xs ++ rest) more
-      ∙ ap (λ (t : List ℕ). ended (form.header_line h) ++ t) (append_assoc (lines_of form 0 xs) rest more);
+      ∙ append_assoc (ended (form.header_line h)) (lines_of form xs ++ rest) more
+      ∙ ap (λ (t : List ℕ). ended (form.header_line h) ++ t) (append_assoc (lines_of form xs) rest more);
 }
 
 -- a text without what follows some of it
 pub without : {H I : Type 0} → Form H I → H → List I → List ℕ → List ℕ
-without form h xs rest = ended (form.header_line h) ++ (lines_of form 0 xs ++ rest)
+without form h xs rest = ended (form.header_line h) ++ (lines_of form xs ++ rest)
 
 pub begins_without : {H I : Type 0} (form : Form H I) (text : List ℕ) (h : H)
     (xs : List I) (rest more : List ℕ) → Begins form text h xs more →
@@ -33,8 +33,8 @@ pub with_rest : {H I : Type 0} (form : Form H I) (text : List ℕ) (h : H)
     text ≡ without form h xs rest ++ more
 unfolding without
 with_rest form text h xs rest more begun =
-    begun.parts ∙ sym (append_assoc (ended (form.header_line h)) (lines_of form 0 xs ++ rest) more
-    ∙ ap (λ (t : List ℕ). ended (form.header_line h) ++ t) (append_assoc (lines_of form 0 xs) rest more))
+    begun.parts ∙ sym (append_assoc (ended (form.header_line h)) (lines_of form xs ++ rest) more
+    ∙ ap (λ (t : List ℕ). ended (form.header_line h) ++ t) (append_assoc (lines_of form xs) rest more))
 
 header_stays : {H I : Type 0} (form : Form H I) (text more : List ℕ) → HasBadHeader form text →
     HasBadHeader form (text ++ more)
@@ -92,7 +92,7 @@ text_goes_on form text h xs more is some =
       xs,
       more,
       begins_more form text h xs (ended (form.end_line xs)) more is.begins,
-      is.count,
+      is.ends,
       some,
       refl,
     )

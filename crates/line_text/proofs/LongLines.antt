@@ -1,6 +1,6 @@
 -- A line that is longer than any good one: to let go of some of it, behind its first bytes, changes no
 -- reading.
-use Rattle.std.proofs.Common.{◌≡◌, ◌≢◌, ⊎_elim, ℕ, zero, suc, ◌+◌, ◌<◌, ◌≤◌, List, [], ◌∷◌, ◌++◌, length, take, Err, refl, sym, ap, subst, arith, append_assoc, inl, inr, ◌⊎◌, ◌∙◌}
+use Rattle.std.proofs.Common.{◌≡◌, ⊎_elim, ℕ, zero, suc, ◌+◌, ◌<◌, ◌≤◌, List, [], ◌∷◌, ◌++◌, length, take, Err, refl, sym, ap, subst, arith, append_assoc, inl, inr, ◌⊎◌, ◌∙◌}
 use Rattle.std.proofs.lemmas.Bool.{cases_eq, cases_order}
 use Rattle.std.proofs.lemmas.List.{length-append, length-take-le, take_all}
 use Rattle.history.specs.Text.{HasNoBreak}
@@ -95,11 +95,17 @@ long_line form bound short t h items xs rest begun p long (inr q) =
         no_item = λ x fits same. omega (
           arith,
           long,
-          short.item h (length items) x begun.header fits,
+          short.item h items x begun.header begun.each fits,
           ap length same,
           more,
         );
-        no_end = λ few same. omega (arith, long, short.end items few, ap length same, more);
+        no_end = λ ends same. omega (
+          arith,
+          long,
+          short.end h items begun.header begun.each ends,
+          ap length same,
+          more,
+        );
       },
       refl,
     )

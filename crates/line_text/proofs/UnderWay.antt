@@ -1,5 +1,5 @@
 -- A text under way goes on, or ends.
-use Rattle.std.proofs.Common.{false, ◌≡◌, ℕ, ◌+◌, ◌-◌, ◌<◌, ◌^◌, List, [], ◌∷◌, ◌++◌, length, length-append, append-nil, drop, take, ap, ◌∙◌, arith, inr, eqb}
+use Rattle.std.proofs.Common.{false, ◌≡◌, ℕ, ◌+◌, ◌-◌, ◌<◌, List, [], ◌∷◌, ◌++◌, length, length-append, append-nil, drop, take, ap, refl, ◌∙◌, arith, inr, eqb}
 use Rattle.std.proofs.lemmas.Bool.{eqb-false}
 use Rattle.std.proofs.lemmas.List.{take_rest}
 use Rattle.std.proofs.Math.Seq.{drop-append_seam}
@@ -40,12 +40,11 @@ pub read_on : {H I : Type 0} (form : Form H I) (text : List ℕ) (so_far : SoFar
     → IsAhead form so_far rest x after → known (items ++ x ∷ []) → AreRead form text so_far items rest →
     AreRead form text (one_further so_far known) (items ++ x ∷ []) after
 read_on form text so_far known items rest x after ahead more read =
-    let line = form.item_line so_far.count x in
-    let here = read.count in
+    let line = form.item_line x in
     record {
       begins = one_more form text so_far.header items rest line after x read.begins (ahead.parts
-          ∙ broken line after) (rw here at ahead.fits) (ap (λ (n : ℕ). form.item_line n x) here);
-      count = omega (arith, here, length-append items (x ∷ []));
+          ∙ broken line after) (ahead.fits items read.count read.known) refl;
+      count = omega (arith, read.count, length-append items (x ∷ []));
       known = more;
     }
 
@@ -54,7 +53,7 @@ read_on form text so_far known items rest x after ahead more read =
 -- behind whatever items were read, this is the end line
 abbrev pub IsEnd : {H I : Type 0} → Form H I → SoFar H I → List ℕ → List ℕ → Type 0
 IsEnd {H} {I} form so_far rest line =
-    (text : List ℕ) (items : List I) → AreRead form text so_far items rest → (length items < 2 ^ 32)
+    (text : List ℕ) (items : List I) → AreRead form text so_far items rest → form.MayEnd so_far.header items
     × (line ≡ form.end_line items)
 
 empty : (xs : List ℕ) → length xs ≡ 0 → xs ≡ []
@@ -73,7 +72,7 @@ all_read form text so_far rest line after parts end none items read =
     record {
       begins = rw last at (at_end form text so_far.header items rest line after read.begins parts
           is.1);
-      count = is.0;
+      ends = is.0;
     }
 
 pub more_behind : {H I : Type 0} (form : Form H I) (text : List ℕ)

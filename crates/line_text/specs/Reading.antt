@@ -1,5 +1,5 @@
 -- Which texts are of a form, and the first fault of a text that is not, line by line.
-use Rattle.std.specs.Prelude.{◌≡◌, ◌≢◌, ℕ, ◌+◌, ◌<◌, ◌^◌, List, [], ◌∷◌, ◌++◌, length, Result, Ok, Err, ◌⊎◌}
+use Rattle.std.specs.Prelude.{◌≡◌, ◌≢◌, ℕ, ◌+◌, List, [], ◌∷◌, ◌++◌, length, Result, Ok, Err, ◌⊎◌}
 use Rattle.line_text.specs.declared.fault.TextFault.{TextFault}
 use Rattle.line_text.specs.declared.fault.TextFault.TheVariants.{BadHeader, BadLine, CutShort}
 use Rattle.line_text.specs.declared.fault.ReadFault.{ReadFault}
@@ -11,13 +11,13 @@ use Rattle.line_text.specs.Form.{Form, lines_of, AreItems}
 pub record Begins {H I : Type 0} (form : Form H I) (text : List ℕ) (h : H) (items : List I)
     (rest : List ℕ) : Type 0 where
   pub header : form.IsHeader h
-  pub each : AreItems form h 0 items
-  pub parts : text ≡ ended (form.header_line h) ++ (lines_of form 0 items ++ rest)
+  pub each : AreItems form h [] items
+  pub parts : text ≡ ended (form.header_line h) ++ (lines_of form items ++ rest)
 
--- The text is the one spelling of a header and items, of which there are at most 4294967295.
+-- The text is the one spelling of a header and items.
 pub record IsText {H I : Type 0} (form : Form H I) (text : List ℕ) (h : H) (items : List I) : Type 0 where
   pub begins : Begins form text h items (ended (form.end_line items))
-  pub count : length items < 2 ^ 32
+  pub ends : form.MayEnd h items
 
 -- Its last line is not whole, and no end line came before.
 abbrev pub IsCutShort : {H I : Type 0} → Form H I → List ℕ → Type 0
@@ -31,21 +31,21 @@ HasBadHeader {H} form text =
     (line : List ℕ) × (rest : List ℕ) × (text ≡ line ++ 10 ∷ rest) × HasNoBreak line
     × ((h : H) → form.IsHeader h → line ≢ form.header_line h)
 
--- Behind so many items this line is neither an item nor the right end line.
+-- Behind these items this line is neither an item nor the right end line.
 pub record IsBadLine {H I : Type 0} (form : Form H I) (h : H)
-    (count : ℕ) (end_line line : List ℕ) : Type 0 where
+    (items : List I) (line : List ℕ) : Type 0 where
   pub whole : HasNoBreak line
-  pub no_item : (x : I) → form.IsItem h count x → line ≢ form.item_line count x
-  pub no_end : count < 2 ^ 32 → line ≢ end_line
+  pub no_item : (x : I) → form.IsItem h items x → line ≢ form.item_line x
+  pub no_end : form.MayEnd h items → line ≢ form.end_line items
 
 -- The lines before this number, counted from 1, are good, and this one isn't, or follows the end line.
 abbrev pub HasBadLine : {H I : Type 0} → Form H I → List ℕ → ℕ → Type 0
 HasBadLine {H} {I} form text number =
     ((h : H) × (items : List I) × (line : List ℕ) × (rest : List ℕ)
     × Begins form text h items (line ++ 10 ∷ rest)
-    × IsBadLine form h (length items) (form.end_line items) line × (number ≡ length items + 2))
+    × IsBadLine form h items line × (number ≡ length items + 2))
     ⊎ ((h : H) × (items : List I) × (rest : List ℕ)
-    × Begins form text h items (ended (form.end_line items) ++ rest) × (length items < 2 ^ 32)
+    × Begins form text h items (ended (form.end_line items) ++ rest) × form.MayEnd h items
     × (rest ≢ []) × (number ≡ length items + 3))
 
 -- what a text says, or its first fault

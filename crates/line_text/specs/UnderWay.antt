@@ -19,11 +19,12 @@ pub record AreRead {H I : Type 0} (form : Form H I) (text : List ℕ) (so_far : 
   pub count : so_far.count ≡ length items
   pub known : so_far.known items
 
--- what follows the items that were read begins with the line of the next, and goes on with this
+-- what follows whatever items were read begins with the line of the next, and goes on with this
 pub record IsAhead {H I : Type 0} (form : Form H I) (so_far : SoFar H I) (rest : List ℕ) (item : I)
     (after : List ℕ) : Type 0 where
-  pub fits : form.IsItem so_far.header so_far.count item
-  pub parts : rest ≡ ended (form.item_line so_far.count item) ++ after
+  pub fits : (items : List I) → so_far.count ≡ length items → so_far.known items →
+      form.IsItem so_far.header items item
+  pub parts : rest ≡ ended (form.item_line item) ++ after
 
 -- whatever items were read, they are all
 abbrev pub AllRead : {H I : Type 0} → Form H I → List ℕ → SoFar H I → List ℕ → Type 0

@@ -7,7 +7,8 @@ use Rattle.history.specs.Counts.{counts}
 use Rattle.history.specs.Line.{line, place_of, first_mode}
 use Rattle.history.specs.Phase.{Phase, Idle, InLine, Sleeping, phase, suits, waits}
 use Rattle.history.specs.Sleepers.{sleeps_below}
-use Rattle.history.specs.Start.{Start, opening}
+use Rattle.history.specs.Base.{Base, based}
+use Rattle.history.specs.Start.{Start}
 use Rattle.history.specs.Steps.{entry_for, phase_entry, idle_entry, plain}
 use Rattle.history.specs.declared.entry.Entry.{Entry}
 use Rattle.history.specs.declared.entry.Mode.{Mode}
@@ -15,7 +16,6 @@ use Rattle.history.specs.declared.entry.Word.{Word}
 use Rattle.history.specs.declared.entry.Word.TheVariants as word
 use Rattle.history.specs.declared.fault.Fault.{Fault}
 use Rattle.history.specs.declared.fault.Fault.TheVariants as fault
-use Rattle.history.specs.declared.header.Header.{Header}
 use Rattle.history.specs.declared.step.Answer.TheVariants.{Recorded}
 use Rattle.history.specs.declared.step.Step.{Step}
 use Rattle.history.specs.declared.step.Step.TheVariants.{Acquire, TryFair, EntryInterrupt}
@@ -23,8 +23,8 @@ use Rattle.history.proofs.Entering.{admitted}
 use Rattle.history.proofs.LineLemmas.{line_after, stays}
 use Rattle.history.proofs.SleepLemmas.{idle_parts}
 use Rattle.word_lock.specs.Point.{Before}
-use Rattle.word_lock.proofs.PointLaws.{before_refl}
-use Rattle.monitor.specs.Lawful.{view_of}
+use Rattle.word_lock.proofs.PointLaws.{before_refl, before_trans}
+use Rattle.monitor.specs.Lawful.{start_at, view_of}
 use Rattle.monitor.specs.Shown.{Shown}
 use Rattle.monitor.specs.Stepping.{IsSame, IsStep, IsEntered}
 use Rattle.monitor.specs.declared.how.How.{How}
@@ -151,29 +151,23 @@ at_once old new step e name s =
 pub made_later : (old mid new : Shown) (step : Step) (e : Entry) → Before old.seen mid.seen →
     mid.seat ≡ old.seat →
     IsMade mid.seen mid.seat step e new.seen → IsMade old.seen old.seat step e new.seen
-unfolding Before
-made_later old mid new step e up same x = record {
-  front = x.front;
-  begins = (
-    x.begins.0 ++ up.1.0,
-    x.begins.1 ∙ (ap (λ (w : List Entry). x.begins.0 ++ w) up.1.1 ∙ sym
-        (append_assoc x.begins.0 up.1.0 old.seen.list)),
-  );
-  made =
-      subst (λ (i : ℕ). entry_for (opening old.seen.header) x.front i step ≡ Ok (Some e)) same
-      (subst (λ (k : Header). entry_for (opening k) x.front mid.seat step ≡ Ok (Some e)) (sym up.0) x.made);
-  there = x.there;
-}
+made_later old mid new step e up same x =
+    record {
+      front = x.front;
+      begins = before_trans old.seen mid.seen x.front up x.begins;
+      made = subst (λ (i : ℕ). entry_for (start_at x.front) x.front.entries i step ≡ Ok (Some e)) same x.made;
+      there = x.there;
+    }
 
 -- the first step of an acquire that was recorded
 module _ (old mid : Shown) (how : How) (m : Mode) (n : ℕ) (e : Entry) (name : Option ℕ)
     (s : IsStep old (first_step how m n) (Ok (Recorded e name)) mid) where
-  rec : entry_for (opening s.found.header) s.found.list old.seat (first_step how m n) ≡ Ok (Some e)
-  rec = (records (view_of s.found s.places) (view_of mid.seen s.places_left) old.seat (first_step how m n) e
+  rec : entry_for (start_at s.found) s.found.entries old.seat (first_step how m n) ≡ Ok (Some e)
+  rec = (records (view_of s.found s.beside) (view_of mid.seen s.beside_left) old.seat (first_step how m n) e
       name s.answered).made
 
   first : First how m n (first_step how m n) e
-  first = first_words (opening s.found.header) s.found.list old.seat how m n e rec
+  first = first_words (start_at s.found) s.found.entries old.seat how m n e rec
 
   pub is_acquire : e.word ≡ word.Queued → first_step how m n ≡ Acquire m n
   unfolding First
@@ -194,18 +188,18 @@ module _ (old mid : Shown) (how : How) (m : Mode) (n : ℕ) (e : Entry) (name : 
   pub stands : e.word ≡ word.Queued → IsSame old mid → WaitsAs mid.seen mid.seat
       (in_line (asking mid.seat m n))
   stands w same =
-      let r = records (view_of s.found s.places) (view_of mid.seen s.places_left) old.seat
+      let r = records (view_of s.found s.beside) (view_of mid.seen s.beside_left) old.seat
       (first_step how m n) e name s.answered in
-      let made = subst (λ (t : Step). entry_for (opening s.found.header) s.found.list old.seat t ≡
+      let made = subst (λ (t : Step). entry_for (start_at s.found) s.found.entries old.seat t ≡
       Ok (Some e)) (is_acquire w) rec in
-      let q : place_of old.seat (line (opening s.found.header) (e ∷ s.found.list)) ≡
+      let q : place_of old.seat (line (start_at s.found) (e ∷ s.found.entries)) ≡
       Some (asking old.seat m n) =
-      queued_stands (opening s.found.header) s.found.list old.seat m n e made w in (
+      queued_stands (start_at s.found) s.found.entries old.seat m n e made w in (
         refl,
         subst (λ (i : ℕ). StandsFor mid.seen i (asking i m n)) (sym same.seat)
-            (subst (λ (k : Header). place_of old.seat (line (opening k) mid.seen.list) ≡
-            Some (asking old.seat m n)) (sym r.header)
-            (subst (λ (l : List Entry). place_of old.seat (line (opening s.found.header) l) ≡
+            (subst (λ (b : Base). place_of old.seat (line (based b) mid.seen.entries) ≡
+            Some (asking old.seat m n)) (sym r.base)
+            (subst (λ (l : List Entry). place_of old.seat (line (start_at s.found) l) ≡
             Some (asking old.seat m n)) (sym r.entries) q)),
       )
 
@@ -252,9 +246,9 @@ module _ (old mid : Shown) (how : How) (m : Mode) (n : ℕ) (e : Entry) (name : 
 pub refused_at_once : (old new : Shown) (m : Mode) (n : ℕ) (e : Entry) (name : Option ℕ) →
     IsStep old (EntryInterrupt m n) (Ok (Recorded e name)) new → e.word ≡ word.Refused fault.Interrupted
 refused_at_once old new m n e name s =
-    let r = records (view_of s.found s.places) (view_of new.seen s.places_left) old.seat (EntryInterrupt m n)
+    let r = records (view_of s.found s.beside) (view_of new.seen s.beside_left) old.seat (EntryInterrupt m n)
     e name s.answered in
-    let x = idle_made (opening s.found.header) s.found.list old.seat (EntryInterrupt m n) e refl r.made in
+    let x = idle_made (start_at s.found) s.found.entries old.seat (EntryInterrupt m n) e refl r.made in
     ap (λ (z : Entry). z.word) x.is
 
 pub refused : (old new : Shown) (how : How) (m : Mode) (n : ℕ) (r : Result Entry Fault) →

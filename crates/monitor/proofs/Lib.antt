@@ -6,3 +6,4 @@ pub mod OnCondition
 pub mod Opening
 pub mod Merging
 pub mod Looking
+pub mod Trims

@@ -2,7 +2,7 @@
 use Rattle.std.proofs.Common.{◌≡◌, ◌<◌, List, [], ◌++◌, ℕ, refl, sym, ap, ◌∙◌, subst}
 use Rattle.history.specs.Entries.{ended_calls}
 use Rattle.history.specs.declared.entry.Entry.{Entry}
-use Rattle.word_lock.specs.declared.point.Point.{Point}
+use Rattle.history.specs.declared.point.Point.{Point}
 use Rattle.word_lock.specs.Point.{Before}
 use Rattle.word_lock.specs.Rule.{AllAgree}
 use Rattle.word_lock.specs.Ticket.{LockId, Ticket, first_entries, after_lock, after_unlock}

@@ -1,18 +1,19 @@
 -- The passes of all seats: their shares together are the calls of the history.
-use Rattle.std.proofs.Common.{◌≡◌, ◌==◌, ℕ, zero, suc, ◌+◌, ◌<◌, ◌≤◌, Bool, true, false, cond, List, [], ◌∷◌, ◌++◌, length, refl, sym, ap, ◌∙◌, subst, arith}
-use Rattle.std.specs.List.{All, filter}
-use Rattle.std.proofs.lemmas.Bool.{eq-eqb, eqb-true, ne_eqb}
+use Rattle.std.proofs.Common.{◌≡◌, ⊎_elim, ◌==◌, ℕ, zero, suc, ◌+◌, ◌<◌, ◌≤◌, ltb, Bool, true, false, cond, List, [], ◌∷◌, ◌++◌, length, refl, sym, ap, ◌∙◌, subst, arith}
+use Rattle.std.specs.List.{All}
+use Rattle.std.proofs.lemmas.Bool.{cases_eq, cases_lt, eq-eqb, eqb-true, le-ltb, lt-ltb, ne_eqb}
 use Rattle.std.proofs.lemmas.List.Elements.{All-nil, All-cons, All-head, All-tail, All-weaker}
 use mathlib.Core.Option.{some}
 use lib.ListN.{get_elem?}
-use Rattle.history.specs.Entries.{ended_calls}
-use Rattle.history.specs.Entry.{ends_call}
-use Rattle.history.specs.Legal.{AreSeated}
-use Rattle.history.specs.Start.{Start}
-use Rattle.history.specs.declared.entry.Entry.{Entry}
-use Rattle.word_lock.specs.declared.point.Point.{Point}
+use Rattle.history.specs.Base.{based, calls_of}
+use Rattle.history.specs.Counts.{total}
+use Rattle.history.specs.Legal.{AreSeated, calls}
+use Rattle.history.specs.Point as points
+use Rattle.history.proofs.Folding.{calls_counted}
+use Rattle.history.proofs.Points.{calls_by_seat}
+use Rattle.history.specs.declared.point.Point.{Point}
 use Rattle.word_lock.specs.declared.view.SeatLog.{SeatLog}
-use Rattle.word_lock.specs.Point.{Before, Agrees, entries_of}
+use Rattle.word_lock.specs.Point.{Before, Agrees}
 use Rattle.word_lock.specs.Ticket.{LockId}
 use Rattle.word_lock.proofs.PointLaws.{before_trans}
 use Rattle.word_lock.specs.Rule.{AllAgree, AreDistinct}
@@ -26,70 +27,115 @@ abbrev pub logs_of : List Shown → List SeatLog
 logs_of [] = []
 logs_of (p ∷ ps) = record { seat = p.seat; entries = p.mine } ∷ logs_of ps
 
--- the calls in the history that were of the passes' seats
-calls_in : List Entry → List Shown → ℕ
-calls_in h [] = 0
-calls_in h (p ∷ ps) = ended_calls (filter (λ e. e.seat == p.seat) h) + calls_in h ps
+-- a number for the seat of each pass, together
+by_passes : (ℕ → ℕ) → List Shown → ℕ
+by_passes f [] = 0
+by_passes f (p ∷ ps) = f p.seat + by_passes f ps
 
-calls_in_none : (ps : List Shown) → calls_in [] ps ≡ 0
-unfolding calls_in
-calls_in_none [] = refl
-calls_in_none (p ∷ ps) = let h = calls_in_none ps in let goal : 0 + calls_in [] ps ≡ 0 =
-    omega (arith, h) in goal
+-- the same of the seats below n
+part : (ℕ → ℕ) → ℕ → Shown → ℕ
+part f n p = cond (ltb p.seat n) (f p.seat) 0
 
-counted_once : (a b : Bool) (f c d k : ℕ) → d ≡ c + cond a k 0 →
-    (cond b (f + cond a 1 0) f) + d ≡ (f + c) + cond a (k + cond b 1 0) 0
-counted_once true true f c d k h = omega (arith, h)
-counted_once true false f c d k h = omega (arith, h)
-counted_once false true f c d k h = omega (arith, h)
-counted_once false false f c d k h = omega (arith, h)
+by_below : (ℕ → ℕ) → ℕ → List Shown → ℕ
+by_below f n [] = 0
+by_below f n (p ∷ ps) = by_below f n ps + part f n p
 
-ended_in : (b : Bool) (e : Entry) (f : List Entry) →
-    ended_calls (cond b (e ∷ f) f) ≡ cond b (ended_calls f + cond (ends_call e.word) 1 0) (ended_calls f)
-ended_in true e f = refl
-ended_in false e f = refl
+times : ℕ → ℕ → ℕ
+times zero x = 0
+times (suc k) x = times k x + x
 
-calls_in_more : (e : Entry) (h : List Entry) (ps : List Shown) →
-    calls_in (e ∷ h) ps ≡ calls_in h ps + cond (ends_call e.word) (passes_of e.seat ps) 0
-unfolding calls_in
-calls_in_more e h [] = by (ends_call e.word)
-  where
-    by : (b : Bool) → 0 ≡ 0 + cond b 0 0
-    by true = refl
-    by false = refl
-calls_in_more e h (p ∷ ps) =
-    let f : List Entry = filter (λ x. x.seat == p.seat) h in
-    ap (λ (n : ℕ). n + calls_in (e ∷ h) ps) (ended_in (e.seat == p.seat) e f)
-    ∙ counted_once (ends_call e.word) (e.seat == p.seat) (ended_calls f) (calls_in h ps) (calls_in (e ∷ h) ps)
-    (passes_of e.seat ps) (calls_in_more e h ps)
+times_more : (b : Bool) (k x : ℕ) → times (k + cond b 1 0) x ≡ times k x + cond b x 0
+unfolding times
+times_more true k x = let e : k + 1 ≡ suc k = omega arith in ap (λ m. times m x) e
+times_more false k x = let e : k + 0 ≡ k = omega arith in
+    let z : times k x + 0 ≡ times k x = omega arith in ap (λ m. times m x) e ∙ sym z
 
--- with one pass for each seat these are all calls
-calls_in_all : (s : Start) (h : List Entry) (ps : List Shown) → AreSeated s h →
-    ((i : ℕ) → i < s.header.seats → passes_of i ps ≡ 1) → calls_in h ps ≡ ended_calls h
-calls_in_all s [] ps seated each = calls_in_none ps
-calls_in_all s (e ∷ h) ps seated each =
-    let n : ℕ = calls_in h ps in
-    calls_in_more e h ps
-    ∙ (ap (λ (k : ℕ). n + cond (ends_call e.word) k 0) (each e.seat seated.0)
-    ∙ ap (λ (k : ℕ). k + cond (ends_call e.word) 1 0) (calls_in_all s h ps seated.1 each))
+part_more : (f : ℕ → ℕ) (n : ℕ) (p : Shown) → part f (suc n) p ≡ part f n p + cond (n == p.seat) (f n) 0
+unfolding part
+part_more f n p =
+    ⊎_elim
+    (λ (less : p.seat < n).
+    let here = lt-ltb p.seat (suc n) (omega (arith, less)) in
+    let there = lt-ltb p.seat n less in
+    let apart : (n == p.seat) ≡ false = ne_eqb n p.seat (λ is. absurd (omega (arith, is, less))) in
+    let z : f p.seat ≡ f p.seat + 0 = omega arith in
+    rw (here, there, apart) z)
+    (λ (more : n ≤ p.seat). ⊎_elim (λ (same : n ≡ p.seat).
+    let here = lt-ltb p.seat (suc n) (omega (arith, same)) in
+    let there = le-ltb p.seat n (omega (arith, same)) in
+    let on : (n == p.seat) ≡ true = eq-eqb n p.seat same in
+    let z : f p.seat ≡ 0 + f n = let q = ap f same in omega (arith, q) in
+    rw (here, there, on) z)
+    (λ ne.
+    let here = le-ltb p.seat (suc n) (omega (arith, ne, more)) in
+    let there = le-ltb p.seat n more in
+    let off : (n == p.seat) ≡ false = ne_eqb n p.seat ne in
+    rw (here, there, off) refl)
+    (cases_eq n p.seat))
+    (cases_lt p.seat n)
 
+below_more : (f : ℕ → ℕ) (n : ℕ) (ps : List Shown) →
+    by_below f (suc n) ps ≡ by_below f n ps + times (passes_of n ps) (f n)
+unfolding by_below times
+below_more f n [] = refl
+below_more f n (p ∷ ps) =
+    let ih = below_more f n ps in
+    let one = part_more f n p in
+    let more = times_more (n == p.seat) (passes_of n ps) (f n) in
+    omega (arith, ih, one, more)
+
+below_none : (f : ℕ → ℕ) (ps : List Shown) → by_below f 0 ps ≡ 0
+unfolding by_below part
+below_none f [] = refl
+below_none f (p ∷ ps) =
+    let ih = below_none f ps in
+    let none : cond (ltb p.seat 0) (f p.seat) 0 ≡ 0 =
+    ap (λ b. cond b (f p.seat) 0) (le-ltb p.seat 0 (omega arith)) in
+    omega (arith, ih, none)
+
+below_total : (f : ℕ → ℕ) (n : ℕ) (ps : List Shown) → ((i : ℕ) → i < n → passes_of i ps ≡ 1) →
+    by_below f n ps ≡ total n f
+unfolding times
+below_total f zero ps each = below_none f ps
+below_total f (suc n) ps each =
+    let ih = below_total f n ps (λ i l. each i (omega (arith, l))) in
+    let more = below_more f n ps in
+    let one : times (passes_of n ps) (f n) ≡ 0 + f n = ap (λ k. times k (f n)) (each n (omega arith)) in
+    omega (arith, ih, more, one)
+
+all_below : (f : ℕ → ℕ) (n : ℕ) (ps : List Shown) → All (λ p. p.seat < n) ps →
+    by_below f n ps ≡ by_passes f ps
+unfolding by_below by_passes part
+all_below f n [] all = refl
+all_below f n (p ∷ ps) all =
+    let ih = all_below f n ps (All-tail (λ p. p.seat < n) p ps all) in
+    let here : cond (ltb p.seat n) (f p.seat) 0 ≡ f p.seat =
+    ap (λ b. cond b (f p.seat) 0) (lt-ltb p.seat n (All-head (λ p. p.seat < n) p ps all)) in
+    omega (arith, ih, here)
+
+-- a share is what the base and the entries behind it have of the seat
 shares_in : (q : Point) (ps : List Shown) → All (λ p. IsTrue p) ps → All (λ p. Agrees q p.seat p.mine) ps →
-    shares ps ≡ calls_in q.list ps
-unfolding calls_in Agrees entries_of
+    shares ps ≡ by_passes (calls_of q.base q.entries) ps
+unfolding by_passes Agrees
 shares_in q [] t agree = refl
 shares_in q (p ∷ ps) t agree =
     let here : IsTrue p = All-head (λ p. IsTrue p) p ps t in
-    let a : Agrees q p.seat p.mine = All-head (λ p. Agrees q p.seat p.mine) p ps agree in
-    let share : p.share ≡ ended_calls (filter (λ e. e.seat == p.seat) q.list) =
-    here.counted ∙ ap ended_calls a in
-    ap (λ (n : ℕ). n + shares ps) share
-    ∙ ap (λ (n : ℕ). ended_calls (filter (λ e. e.seat == p.seat) q.list) + n)
-    (shares_in q ps (All-tail (λ p. IsTrue p) p ps t) (All-tail (λ p. Agrees q p.seat p.mine) p ps agree))
+    let a : points.Agrees q p.seat p.mine = All-head (λ p. points.Agrees q p.seat p.mine) p ps agree in
+    let share : p.share ≡ calls_of q.base q.entries p.seat =
+    here.counted ∙ sym a.calls ∙ sym (calls_by_seat q.base q.entries p.seat) in
+    let ih = shares_in q ps (All-tail (λ p. IsTrue p) p ps t) (All-tail (λ p. points.Agrees q p.seat
+    p.mine) p ps
+    agree) in
+    omega (arith, share, ih)
 
-pub shares_are_calls : (s : Start) (q : Point) (ps : List Shown) → AreSeated s q.list →
-    ((i : ℕ) → i < s.header.seats → passes_of i ps ≡ 1) → All (λ p. IsTrue p) ps →
-    All (λ p. Agrees q p.seat p.mine) ps → shares ps ≡ ended_calls q.list
-shares_are_calls s q ps seated each t agree = shares_in q ps t agree ∙ calls_in_all s q.list ps seated each
+pub shares_are_calls : (q : Point) (ps : List Shown) → AreSeated (based q.base) q.entries →
+    All (λ p. p.seat < q.base.header.seats) ps →
+    ((i : ℕ) → i < q.base.header.seats → passes_of i ps ≡ 1) → All (λ p. IsTrue p) ps →
+    All (λ p. Agrees q p.seat p.mine) ps → shares ps ≡ calls (based q.base) q.entries
+shares_are_calls q ps seated below each t agree =
+    let f = calls_of q.base q.entries in
+    shares_in q ps t agree ∙ sym (all_below f q.base.header.seats ps below)
+    ∙ below_total f q.base.header.seats ps each ∙ calls_counted q.base q.entries seated
 
 -- the passes of the seats below n
 counted : ℕ → List Shown → ℕ

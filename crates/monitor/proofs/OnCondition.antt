@@ -2,7 +2,8 @@
 use Rattle.std.proofs.Common.{◌≡◌, ◌≢◌, ◌⊎◌, inl, inr, ℕ, eqb, nat_lt, Bool, true, false, not, cond, List, ◌∷◌, Option, Some, Result, Ok, Err, refl, sym, ap, ◌∙◌, subst}
 use Rattle.history.specs.Could.{is_seat}
 use Rattle.history.specs.Counts.{Counts, counts, owner}
-use Rattle.history.specs.Start.{Sleep, opening}
+use Rattle.history.specs.Base.{Base, based}
+use Rattle.history.specs.Start.{Sleep}
 use Rattle.history.specs.Steps.{entry_for, awaits, plain}
 use Rattle.history.specs.declared.entry.End.{End}
 use Rattle.history.specs.declared.entry.End.TheVariants as end
@@ -11,12 +12,11 @@ use Rattle.history.specs.declared.entry.Mode.TheVariants.{X, S}
 use Rattle.history.specs.declared.entry.Word.TheVariants as word
 use Rattle.history.specs.declared.fault.Fault.{Fault}
 use Rattle.history.specs.declared.fault.Fault.TheVariants as fault
-use Rattle.history.specs.declared.header.Header.{Header}
 use Rattle.history.specs.declared.step.Answer.TheVariants.{Recorded}
 use Rattle.history.specs.declared.step.Step.TheVariants.{Await, EntryInterrupt}
 use Rattle.word_lock.specs.Point.{Before}
 use Rattle.history.specs.Awaiting.{SleepsAs, signalled, lapsed, back_from, lapse_from}
-use Rattle.monitor.specs.Lawful.{view_of}
+use Rattle.monitor.specs.Lawful.{start_at, view_of}
 use Rattle.monitor.specs.Shown.{Shown}
 use Rattle.monitor.specs.Stepping.{IsSame, IsStep, IsEntered}
 use Rattle.monitor.specs.declared.how.How.{How}
@@ -65,15 +65,15 @@ may_for how l _ for m = absurd m
 -- the first step of an await that was recorded
 module _ (old mid : Shown) (c : ℕ) (how : How) (e : Entry) (name : Option ℕ)
     (s : IsStep old (Await c) (Ok (Recorded e name)) mid) where
-  rec : entry_for (opening s.found.header) s.found.list old.seat (Await c) ≡ Ok (Some e)
-  rec = (records (view_of s.found s.places) (view_of mid.seen s.places_left) old.seat (Await c) e name
+  rec : entry_for (start_at s.found) s.found.entries old.seat (Await c) ≡ Ok (Some e)
+  rec = (records (view_of s.found s.beside) (view_of mid.seen s.beside_left) old.seat (Await c) e name
       s.answered).made
 
   first : AwaitsFirst old.seat e
   first =
-      let x = idle_made (opening s.found.header) s.found.list old.seat (Await c) e refl rec in
+      let x = idle_made (start_at s.found) s.found.entries old.seat (Await c) e refl rec in
       subst (AwaitsFirst old.seat) (sym x.is)
-      (await_words (counts (opening s.found.header) s.found.list) old.seat c)
+      (await_words (counts (start_at s.found) s.found.entries) old.seat c)
 
   pub refuses : e.word ≢ word.Await → IsAwait old c how (Ok e) mid
   refuses w = by first.word
@@ -87,20 +87,20 @@ module _ (old mid : Shown) (c : ℕ) (how : How) (e : Entry) (name : Option ℕ)
   pub sleeps : e.word ≡ word.Await → IsSame old mid → WaitsAs mid.seen mid.seat
       (on_condition (signalled e.at e.n))
   sleeps w same =
-      let r = records (view_of s.found s.places) (view_of mid.seen s.places_left) old.seat (Await c) e
+      let r = records (view_of s.found s.beside) (view_of mid.seen s.beside_left) old.seat (Await c) e
       name s.answered in
       let seat : e.seat ≡ old.seat = first.seat in
-      let asleep : SleepsAs (opening s.found.header) (e ∷ s.found.list) e.seat (signalled e.at e.n) =
-      falls_asleep (opening s.found.header) s.found.list (Await c) e
-      (subst (λ (i : ℕ). entry_for (opening s.found.header) s.found.list i (Await c) ≡ Ok (Some e))
+      let asleep : SleepsAs (start_at s.found) (e ∷ s.found.entries) e.seat (signalled e.at e.n) =
+      falls_asleep (start_at s.found) s.found.entries (Await c) e
+      (subst (λ (i : ℕ). entry_for (start_at s.found) s.found.entries i (Await c) ≡ Ok (Some e))
       (sym seat) rec) w in
-      let here : SleepsAs (opening s.found.header) (e ∷ s.found.list) mid.seat (signalled e.at e.n) =
-      subst (λ (i : ℕ). SleepsAs (opening s.found.header) (e ∷ s.found.list) i (signalled e.at e.n))
+      let here : SleepsAs (start_at s.found) (e ∷ s.found.entries) mid.seat (signalled e.at e.n) =
+      subst (λ (i : ℕ). SleepsAs (start_at s.found) (e ∷ s.found.entries) i (signalled e.at e.n))
       (seat ∙ sym same.seat)
       asleep in
-      inl (subst (λ (k : Header). SleepsAs (opening k) mid.seen.list mid.seat
-      (signalled e.at e.n)) (sym r.header)
-      (subst (λ (l : List Entry). SleepsAs (opening s.found.header) l mid.seat (signalled e.at e.n))
+      inl (subst (λ (b : Base). SleepsAs (based b) mid.seen.entries mid.seat
+      (signalled e.at e.n)) (sym r.base)
+      (subst (λ (l : List Entry). SleepsAs (start_at s.found) l mid.seat (signalled e.at e.n))
       (sym r.entries) here))
 
   -- and the end of the wait behind it

@@ -1,11 +1,14 @@
 -- What a section of the lock with one step of the core leaves.
 use Rattle.std.proofs.Common.{◌≡◌, ◌==◌, inl, inr, ℕ, ◌+◌, ◌<◌, ◌≤◌, ◌^◌, Bool, cond, List, [], ◌∷◌, ◌++◌, length, Result, Ok, Err, Option, Some, None, IsOk, refl, sym, ap, ◌∙◌, subst, arith}
-use Rattle.std.specs.List.{All, filter}
+use Rattle.std.specs.List.{AllByRecursion, filter}
 use Rattle.std.proofs.lemmas.Bool.{cond_both}
-use Rattle.std.proofs.lemmas.List.Elements.{All-nil, All-cons}
 use Rattle.history.specs.Answers.{answer, answer_by}
 use Rattle.history.specs.Entries.{ended_calls}
 use Rattle.history.specs.Entry.{ends_call}
+use Rattle.history.specs.Base.{seat_of}
+use Rattle.history.specs.Legal.{calls}
+use Rattle.history.specs.Point.{entries_of}
+use Rattle.history.proofs.Times.{total_part}
 use Rattle.history.specs.Naming.{named}
 use Rattle.history.specs.Room.{has_room}
 use Rattle.history.specs.Start.{Start}
@@ -20,15 +23,15 @@ use Rattle.history.proofs.Answering.{entry_seat}
 use lib.ListN.{get_elem?}
 use Rattle.history.specs.declared.header.Header.{Header}
 use Rattle.frame.specs.Core.{CoreView, start_of, IsAnswered, MakesOwed}
-use Rattle.word_lock.specs.declared.point.Point.{Point}
+use Rattle.history.specs.declared.point.Point.{Point}
 use Rattle.word_lock.specs.declared.view.SeatLog.{SeatLog}
-use Rattle.word_lock.specs.Point.{header_of, Before, Follows, added, Agrees, entries_of}
+use Rattle.word_lock.specs.Point.{header_of, Before, Follows, added, Agrees}
 use Rattle.word_lock.specs.Rule.{AllAgree}
 use Rattle.word_lock.specs.Ticket.{LockId, Ticket, first_seat, first_entries, after_lock, after_unlock, after_meet}
 use Rattle.word_lock.proofs.PointLaws.{before_header, follows_more, added_more}
 use Rattle.word_lock.proofs.Sections.{IsSection, section}
 use Rattle.word_lock.proofs.Tokens.{one_log}
-use Rattle.monitor.specs.Lawful.{view_of, IsLawful}
+use Rattle.monitor.specs.Lawful.{point_of, start_at, view_of, beside_of, Beside, IsKept, IsLawful}
 use Rattle.monitor.specs.Shown.{Shown, shown, IsPass, IsTrue}
 use Rattle.monitor.specs.Stepping.{made_by, now_of, IsStep, IsStepNow}
 use Rattle.monitor.specs.declared.step.Now.{Now}
@@ -36,53 +39,53 @@ use Rattle.monitor.specs.declared.step.Now.{Now}
 -- an answer's history is what was, with the entry that it recorded, which is of the seat
 pub record Grows (i : ℕ) (h : List Entry) (given : Result Answer Fault × List Entry) : Type 0 where
   pub grown : given.1 ≡ made_by given.0 ++ h
-  pub own : All (λ e. e.seat ≡ i) (made_by given.0)
+  pub own : AllByRecursion (λ e. e.seat ≡ i) (made_by given.0)
 
 answer_grows : (s : Start) (h : List Entry) (i : ℕ) (step : Step) → Grows i h (answer s h i step)
 answer_grows s h i step = by (entry_for s h i step) refl
   where
     by : (r : Result (Option Entry) Fault) → entry_for s h i step ≡ r → Grows i h (answer_by s h r)
-    by (Err f) q = record { grown = refl; own = All-nil (λ e. e.seat ≡ i) }
-    by (Ok None) q = record { grown = refl; own = All-nil (λ e. e.seat ≡ i) }
+    by (Err f) q = record { grown = refl; own = tt }
+    by (Ok None) q = record { grown = refl; own = tt }
     by (Ok (Some e)) q =
         cond_both (has_room s h e) (Ok (Recorded e (named s h e)), e ∷ h)
         (Err fault.HistoryFull, h) (Grows i h)
         (λ room. record {
           grown = refl;
-          own = All-cons (λ x. x.seat ≡ i) e [] (entry_seat s h i step e q) (All-nil (λ x. x.seat ≡ i));
+          own = (entry_seat s h i step e q, tt);
         })
-        (λ full. record { grown = refl; own = All-nil (λ e. e.seat ≡ i) })
+        (λ full. record { grown = refl; own = tt })
 
 -- what a step that was answered leaves
 pub record Left (i : ℕ) (p q : Point) (r : Result Answer Fault) : Type 0 where
-  pub header : p.header ≡ q.header
-  pub grown : q.list ≡ made_by r ++ p.list
-  pub own : All (λ e. e.seat ≡ i) (made_by r)
+  pub base : p.base ≡ q.base
+  pub grown : q.entries ≡ made_by r ++ p.entries
+  pub own : AllByRecursion (λ e. e.seat ≡ i) (made_by r)
 
-pub left : (i : ℕ) (p q : Point) (m n : ℕ) (step : Step) (r : Result Answer Fault) →
+pub left : (i : ℕ) (p q : Point) (m n : Beside) (step : Step) (r : Result Answer Fault) →
     IsAnswered (view_of p m) i step r (view_of q n) → Left i p q r
 left i p q m n step r (inl a) =
-    let g = answer_grows (start_of (view_of p m)) p.list i step in
+    let g = answer_grows (start_of (view_of p m)) p.entries i step in
     let R : Result Answer Fault → Type 0 = λ z. Left i p q z in
     subst R (sym a.answer) record {
-      header = sym a.header;
+      base = sym a.base;
       grown = a.entries ∙ g.grown;
       own = g.own;
     }
 left i p q m n step r (inr b) =
     let R : Result Answer Fault → Type 0 = λ z. Left i p q z in
     subst R (sym b.0) record {
-      header = ap (λ (v : CoreView). v.header) (sym b.1.unchanged);
+      base = ap (λ (v : CoreView). v.base) (sym b.1.unchanged);
       grown = ap (λ (v : CoreView). v.entries) b.1.unchanged;
-      own = All-nil (λ e. e.seat ≡ i);
+      own = tt;
     }
 
-pub follows_step : (i : ℕ) (p q : Point) (m n : ℕ) (step : Step) (r : Result Answer Fault) →
+pub follows_step : (i : ℕ) (p q : Point) (m n : Beside) (step : Step) (r : Result Answer Fault) →
     IsAnswered (view_of p m) i step r (view_of q n) → Follows i p q
 follows_step i p q m n step r a = let l = left i p q m n step r a in
-    follows_more i p q (made_by r) l.header l.grown l.own
+    follows_more i p q (made_by r) l.base l.grown l.own
 
-pub added_step : (i : ℕ) (p q : Point) (m n : ℕ) (step : Step) (r : Result Answer Fault) →
+pub added_step : (i : ℕ) (p q : Point) (m n : Beside) (step : Step) (r : Result Answer Fault) →
     IsAnswered (view_of p m) i step r (view_of q n) → added p q ≡ made_by r
 added_step i p q m n step r a = added_more p q (made_by r) (left i p q m n step r a).grown
 
@@ -99,17 +102,60 @@ filter_few t (e ∷ es) = let h = filter_few t es in
     cond_both (t e) (e ∷ filter t es) (filter t es) (λ l. length l ≤ length (e ∷ es)) (λ q. omega (arith, h))
     (λ q. omega (arith, h))
 
-pub share_few : (p : Point) (i : ℕ) (es : List Entry) (share : ℕ) → Agrees p i es → length p.list < 2 ^ 32 →
-    share ≡ ended_calls es → share < 2 ^ 63
-unfolding Agrees entries_of
-share_few p i es share agrees few is =
-    let a = calls_few es in
-    let b : length es ≤ length p.list = subst (λ (l : List Entry). length l ≤ length p.list) (sym agrees)
-    (filter_few (λ e. e.seat == i) p.list) in
-    omega (arith, a, b, few, is)
+pub share_few : (p : Point) (i : ℕ) (es : List Entry) (share : ℕ) → Agrees p i es → IsLawful p →
+    i < p.base.header.seats → share ≡ ended_calls es → share < 2 ^ 63
+unfolding Agrees
+share_few p i es share agrees lawful below is =
+    let a = calls_few (entries_of i p.entries) in
+    let b = filter_few (λ e. e.seat == i) p.entries in
+    let c = agrees.calls in
+    let part = total_part p.base.header.seats (λ j. (seat_of p.base j).calls) i below in
+    let all = lawful.may_fold.can.good.calls in
+    let most = lawful.may_fold.can.good.entries in
+    let few = lawful.short in
+    omega (arith, a, b, c, part, all, most, few, is)
+
+-- the calls of all seats
+more_calls : (s : Start) (h : List Entry) → calls s h ≤ calls s [] + length h
+more_calls s [] = omega arith
+more_calls s (e ∷ h) = let m = more_calls s h in
+    cond_both (ends_call e.word) 1 0 (λ n. calls s h + n ≤ calls s [] + length (e ∷ h)) (λ t. omega (
+      arith,
+      m,
+    ))
+    (λ t. omega (arith, m))
+
+pub all_calls_few : (p : Point) → IsLawful p → calls (start_at p) p.entries < 2 ^ 63
+all_calls_few p lawful =
+    let more = more_calls (start_at p) p.entries in
+    let all = lawful.may_fold.can.good.calls in
+    let most = lawful.may_fold.can.good.entries in
+    let few = lawful.short in
+    omega (arith, more, all, most, few)
+
+-- a core that is kept, as its point shows it
+pub core_shown : (v : CoreView) → IsKept v → view_of (point_of v) (beside_of v) ≡ v
+core_shown v kept = λ d. record {
+  header = kept.header d;
+  base = v.base;
+  entries = v.entries;
+  places = v.places;
+  told = v.told;
+}
+
+pub answered_shown : (v w : CoreView) (i : ℕ) (step : Step) (r : Result Answer Fault) → IsKept v → IsKept w →
+    IsAnswered v i step r w →
+    IsAnswered (view_of (point_of v) (beside_of v)) i step r (view_of (point_of w) (beside_of w))
+answered_shown v w i step r kept left a =
+    subst (λ x. IsAnswered x i step r (view_of (point_of w) (beside_of w))) (sym (core_shown v kept))
+    (subst (λ y. IsAnswered v i step r y) (sym (core_shown w left)) a)
+
+pub owed_shown : (v : CoreView) (i : ℕ) (step : Step) (r : Result Answer Fault) → IsKept v →
+    (MakesOwed v i step → IsOk r) → MakesOwed (view_of (point_of v) (beside_of v)) i step → IsOk r
+owed_shown v i step r kept owed m = owed (subst (λ x. MakesOwed x i step) (core_shown v kept) m)
 
 pub seat_below : (p : Point) (k l : Header) (seat : ℕ) → header_of p ≡ k → k ≡ l → seat < l.seats →
-    seat < p.header.seats
+    seat < p.base.header.seats
 unfolding header_of
 seat_below p k l seat is same below = subst (λ (z : Header). seat < z.seats) (sym (is ∙ same)) below
 
@@ -135,21 +181,21 @@ module _ (t o n : Ticket) (p q : Point) (seat share : ℕ) (step : Step) (r : Re
     pub was : IsPass t seat share
     pub begins : Before t.seen p
     pub entries : AllAgree p t.logs
-    pub places : ℕ
-    pub places_left : ℕ
-    pub answered : IsAnswered (view_of p places) seat step r (view_of q places_left)
+    pub beside : Beside
+    pub beside_left : Beside
+    pub answered : IsAnswered (view_of p beside) seat step r (view_of q beside_left)
     pub found : IsLawful p
     pub lawful : IsLawful q
 
   pub sectioned : Section → IsSection t n p q seat
   sectioned s =
       section t o n p q seat s.taken s.given s.was.one s.was.seat_is s.begins s.entries
-      (follows_step seat p q s.places s.places_left step r s.answered)
+      (follows_step seat p q s.beside s.beside_left step r s.answered)
 
   mine_grown : Section → first_entries n.logs ≡ made_by r ++ first_entries t.logs
   mine_grown s =
       (sectioned s).grown ∙ ap (λ (l : List Entry). l ++ first_entries t.logs)
-      (added_step seat p q s.places s.places_left step r s.answered)
+      (added_step seat p q s.beside s.beside_left step r s.answered)
 
   pub section_pass : Section → (next : ℕ) → next ≡ ended_calls (made_by r) + share → IsPass n seat next
   section_pass s next is =
@@ -171,17 +217,17 @@ module _ (t o n : Ticket) (p q : Point) (seat share : ℕ) (step : Step) (r : Re
   section_true s next is = let z = section_pass s next is in
       record { lawful = z.lawful; header = z.header; below = z.below; agrees = z.agrees; counted = z.counted }
 
-  pub section_step : (s : Section) → (next : ℕ) → (MakesOwed (view_of p s.places) seat step → IsOk r) →
+  pub section_step : (s : Section) → (next : ℕ) → (MakesOwed (view_of p s.beside) seat step → IsOk r) →
       IsStep (shown t seat share) step r (shown n seat next)
   section_step s next owed = let x = sectioned s in record {
     found = p;
     begins = s.begins;
     lawful = s.found;
     agrees = own_entries t p seat s.was.one s.was.seat_is s.entries;
-    places = s.places;
-    places_left = s.places_left;
-    answered = subst (λ (z : Point). IsAnswered (view_of p s.places) seat step r
-        (view_of z s.places_left)) (sym x.seen)
+    beside = s.beside;
+    beside_left = s.beside_left;
+    answered = subst (λ (z : Point). IsAnswered (view_of p s.beside) seat step r
+        (view_of z s.beside_left)) (sym x.seen)
         s.answered;
     owed = owed;
     after = x.begins;

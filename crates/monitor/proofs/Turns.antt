@@ -1,11 +1,10 @@
 -- What a step of one who waits makes, and what it leaves of the wait.
 use Rattle.std.proofs.Common.{◌≡◌, ◌⊎◌, inl, inr, ℕ, ◌==◌, Bool, true, false, List, ◌∷◌, ◌++◌, Option, Some, None, Result, Ok, Err, IsOk, refl, sym, ap, ◌∙◌, subst, append_assoc}
-use Rattle.std.specs.List.{filter}
 use Rattle.history.specs.declared.arrival.Arrival.{Arrival}
 use Rattle.history.specs.declared.entry.End.{End}
 use Rattle.history.specs.declared.entry.Entry.{Entry}
 use Rattle.history.specs.declared.fault.Fault.{Fault}
-use Rattle.history.specs.declared.header.Header.{Header}
+use Rattle.history.specs.Base.{Base, based}
 use Rattle.history.specs.declared.step.Answer.{Answer}
 use Rattle.history.specs.declared.step.Answer.TheVariants as answer
 use Rattle.history.specs.declared.step.Step.{Step}
@@ -15,60 +14,49 @@ use Rattle.history.specs.Line.{line, place_of}
 use Rattle.history.specs.Naming.{ready}
 use Rattle.history.specs.Phase.{waits}
 use Rattle.history.specs.Room.{was_owed}
-use Rattle.history.specs.Start.{Sleep, opening}
+use Rattle.history.specs.Start.{Sleep}
 use Rattle.history.specs.Steps.{entry_for, queued_entry}
 use Rattle.frame.specs.Core.{CoreView}
-use Rattle.word_lock.specs.declared.point.Point.{Point}
-use Rattle.word_lock.specs.Point.{Before, Agrees, entries_of}
+use Rattle.history.specs.declared.point.Point.{Point}
+use Rattle.word_lock.specs.Point.{Before, Agrees}
 use Rattle.word_lock.proofs.PointLaws.{before_refl, before_trans}
 use Rattle.history.specs.Awaiting.{AwaitsAs, ReturnsAs, AwaitMakes, sleeps_on, comes_back, lapses, LapsesBy, lapsed, back_from, lapse_from}
-use Rattle.history.proofs.Awaiting.{await_turn, still_awaits, still_returns}
-use Rattle.monitor.specs.Lawful.{view_of}
+use Rattle.history.proofs.Awaiting.{await_turn}
+use Rattle.history.proofs.Lasting.{still_awaits_there, still_returns_there, still_stands}
+use Rattle.monitor.specs.Lawful.{view_of, IsLawful}
 use Rattle.monitor.specs.Shown.{Shown, IsTrue}
 use Rattle.monitor.specs.Stepping.{IsSame, IsStep}
 use Rattle.monitor.specs.declared.waiting.Limits.{Limits}
-use Rattle.monitor.specs.Waits.{IsMade, Cause, in_line, on_condition, on_way_back, WaitsAs, IsAllowed, IsNarrower, no_limits, IsEnd, EndsBy, MayLapse, HasLapsed, EndsLapsed, IsWait, SoFar, StillWaits, AllStillWait, is_lapse, unless_lapse, ending_of}
-use Rattle.monitor.proofs.InLine.{still_in_line, queued_made, ends_by, owed_by, IsEndBy, outcome, Outcome, made_in, same_self}
+use Rattle.monitor.specs.Waits.{IsMade, with_entry, Cause, in_line, on_condition, on_way_back, WaitsAs, IsAllowed, IsNarrower, no_limits, IsEnd, EndsBy, MayLapse, HasLapsed, EndsLapsed, IsWait, SoFar, StillWaits, AllStillWait, is_lapse, unless_lapse, ending_of}
+use Rattle.monitor.proofs.InLine.{queued_made, ends_by, owed_by, IsEndBy, outcome, Outcome, made_in, same_self}
 use Rattle.monitor.proofs.Sections.{left}
 
 -- who waits does so while no entry of its seat comes
-same_entries : (p q : Point) (i : ℕ) (es : List Entry) → (b : Before p q) → Agrees p i es → Agrees q i es →
-    filter (λ e. e.seat == i) q.list ≡ filter (λ e. e.seat == i) p.list
-unfolding Agrees entries_of
-same_entries p q i es b was is = sym is ∙ was
-
-pub still_waiting : (p q : Point) (i : ℕ) (es : List Entry) (k : Cause) → Before p q → Agrees p i es →
-    Agrees q i es →
-    WaitsAs p i k → WaitsAs q i k
-unfolding Before
-still_waiting p q i es (in_line a) b was is w = (w.0, still_in_line p q i es a b was is w.1)
-still_waiting p q i es (on_condition r) b was is w =
-    let f = same_entries p q i es b was is in
-    subst (λ (k : Header). AwaitsAs (opening k) q.list i r) b.0
-    (subst (λ (l : List Entry). AwaitsAs (opening p.header) l i r) (sym b.1.1)
-    (still_awaits (opening p.header) i r b.1.0 p.list
-    (subst (λ (l : List Entry). filter (λ e. e.seat == i) l ≡ filter (λ e. e.seat == i) p.list) b.1.1 f) w))
-still_waiting p q i es (on_way_back r) b was is w =
-    let f = same_entries p q i es b was is in
-    subst (λ (k : Header). ReturnsAs (opening k) q.list i r) b.0
-    (subst (λ (l : List Entry). ReturnsAs (opening p.header) l i r) (sym b.1.1)
-    (still_returns (opening p.header) i r b.1.0 p.list
-    (subst (λ (l : List Entry). filter (λ e. e.seat == i) l ≡ filter (λ e. e.seat == i) p.list) b.1.1 f) w))
+pub still_waiting : (p q : Point) (i : ℕ) (es : List Entry) (k : Cause) → IsLawful p → IsLawful q →
+    Before p q →
+    Agrees p i es → Agrees q i es → WaitsAs p i k → WaitsAs q i k
+unfolding Before Agrees
+still_waiting p q i es (in_line a) l m b was is w =
+    (w.0, still_stands p q i es b l.may_fold.can m.may_fold.can was is a w.1)
+still_waiting p q i es (on_condition r) l m b was is w =
+    still_awaits_there p q i es b l.may_fold.can m.may_fold.can was is r w
+still_waiting p q i es (on_way_back r) l m b was is w =
+    still_returns_there p q i es b l.may_fold.can m.may_fold.can was is r w
 
 -- what a step of one who waits may make
-abbrev pub TurnMakes : Header → List Entry → ℕ → Cause → Step → Entry → Type 0
-TurnMakes k l i (in_line a) step e = IsEndBy step i a e
-TurnMakes k l i (on_condition w) step e =
+abbrev pub TurnMakes : Base → List Entry → ℕ → Cause → Step → Entry → Type 0
+TurnMakes b l i (in_line a) step e = IsEndBy step i a e
+TurnMakes b l i (on_condition w) step e =
     (e ≡ back_from i w)
-    ⊎ ((how : End) × LapsesBy step how × (e ≡ lapse_from i w how) × ReturnsAs (opening k) l i (lapsed w how))
-TurnMakes k l i (on_way_back w) step e = e ≡ back_from i w
+    ⊎ ((how : End) × LapsesBy step how × (e ≡ lapse_from i w how) × ReturnsAs (based b) l i (lapsed w how))
+TurnMakes b l i (on_way_back w) step e = e ≡ back_from i w
 
 -- a step of one who waits is no fault, and its entry was owed
-record TurnAt (k : Header) (h : List Entry) (i : ℕ) (c : Cause) (step : Step) : Type 0 where
+record TurnAt (b : Base) (h : List Entry) (i : ℕ) (c : Cause) (step : Step) : Type 0 where
   made : Option Entry
-  is : entry_for (opening k) h i step ≡ Ok made
-  owed : (e : Entry) → made ≡ Some e → was_owed k.object e ≡ true
-  makes : (e : Entry) → made ≡ Some e → TurnMakes k (e ∷ h) i c step e
+  is : entry_for (based b) h i step ≡ Ok made
+  owed : (e : Entry) → made ≡ Some e → was_owed b.header.object e ≡ true
+  makes : (e : Entry) → made ≡ Some e → TurnMakes b (e ∷ h) i c step e
 
 some_same : (x e : Entry) → Some x ≡ Some e → e ≡ x
 some_same x e q = cc
@@ -77,21 +65,21 @@ none_some : (e : Entry) → ◌≡◌ {A = Option Entry} None (Some e) → ⊥
 none_some e q = cc
 
 turn_at : (p : Point) (i : ℕ) (c : Cause) (step : Step) → WaitsAs p i c → waits step ≡ true →
-    TurnAt p.header p.list i c step
+    TurnAt p.base p.entries i c step
 turn_at p i (in_line a) step w t =
-    let goes : Bool = is_seat (ready (opening p.header) p.list) i in record {
+    let goes : Bool = is_seat (ready (based p.base) p.entries) i in record {
       made = queued_entry goes i a step;
-      is = queued_made (opening p.header) p.list i a step t w.1 w.0;
-      owed = λ e q. owed_by goes step i a e p.header.object q;
+      is = queued_made (based p.base) p.entries i a step t w.1 w.0;
+      owed = λ e q. owed_by goes step i a e p.base.header.object q;
       makes = λ e q. ends_by goes step i a e q;
     }
 turn_at p i (on_condition w) step r t =
-    let x = await_turn (opening p.header) p.list i w step r t in
+    let x = await_turn (based p.base) p.entries i w step r t in
     record { made = x.made; is = x.is; owed = x.owed; makes = λ e q. by x.made x.makes e q }
   where
-    by : (made : Option Entry) → AwaitMakes (opening p.header) p.list i w step made → (e : Entry) →
+    by : (made : Option Entry) → AwaitMakes (based p.base) p.entries i w step made → (e : Entry) →
         made ≡ Some e →
-        TurnMakes p.header (e ∷ p.list) i (on_condition w) step e
+        TurnMakes p.base (e ∷ p.entries) i (on_condition w) step e
     by made (sleeps_on n) e q = absurd (none_some e (sym n ∙ q))
     by made (comes_back back n) e q = inl (some_same (back_from i w) e (sym n ∙ q))
     by made (lapses how ends n sleeps returns) e q =
@@ -100,19 +88,19 @@ turn_at p i (on_condition w) step r t =
           how,
           ends,
           same,
-          subst (λ (x : Entry). ReturnsAs (opening p.header) (x ∷ p.list) i (lapsed w how))
+          subst (λ (x : Entry). ReturnsAs (based p.base) (x ∷ p.entries) i (lapsed w how))
               (sym same) returns,
         )
 turn_at p i (on_way_back w) step r t =
-    let x = await_turn (opening p.header) p.list i w step (inr r) t in
+    let x = await_turn (based p.base) p.entries i w step (inr r) t in
     record { made = x.made; is = x.is; owed = x.owed; makes = λ e q. by x.made x.makes e q }
   where
-    nowhere : place_of i (line (opening p.header) p.list) ≡ None → ⊥
+    nowhere : place_of i (line (based p.base) p.entries) ≡ None → ⊥
     nowhere n = let z = r.place in cc
 
-    by : (made : Option Entry) → AwaitMakes (opening p.header) p.list i w step made → (e : Entry) →
+    by : (made : Option Entry) → AwaitMakes (based p.base) p.entries i w step made → (e : Entry) →
         made ≡ Some e →
-        TurnMakes p.header (e ∷ p.list) i (on_way_back w) step e
+        TurnMakes p.base (e ∷ p.entries) i (on_way_back w) step e
     by made (sleeps_on n) e q = absurd (none_some e (sym n ∙ q))
     by made (comes_back back n) e q = some_same (back_from i w) e (sym n ∙ q)
     by made (lapses how ends n sleeps returns) e q = absurd (nowhere sleeps.place)
@@ -120,25 +108,25 @@ turn_at p i (on_way_back w) step r t =
 -- a turn of one who waits
 abbrev pub Turn : Shown → Cause → Step → Result Answer Fault → Shown → Type 0
 Turn old c step (Ok answer.Sleep) new = WaitsAs new.seen old.seat c
-Turn old c step (Ok (answer.Recorded e name)) new = TurnMakes new.seen.header new.seen.list old.seat c step e
+Turn old c step (Ok (answer.Recorded e name)) new = TurnMakes new.seen.base new.seen.entries old.seat c step e
 Turn old c step (Err f) new = ⊥
 
 pub turn : (old new : Shown) (c : Cause) (step : Step) (r : Result Answer Fault) →
     IsStep old step r new → IsTrue old →
     WaitsAs old.seen old.seat c → waits step ≡ true → Turn old c step r new
 turn old new c step r s t stands w =
-    by x.made refl (outcome v (view_of new.seen s.places_left) i step r x.made x.is s.answered ok)
+    by x.made refl (outcome v (view_of new.seen s.beside_left) i step r x.made x.is s.answered ok)
   where
     v : CoreView
-    v = view_of s.found s.places
+    v = view_of s.found s.beside
 
     i : ℕ
     i = old.seat
 
     here : WaitsAs s.found i c
-    here = still_waiting old.seen s.found i old.mine c s.begins t.agrees s.agrees stands
+    here = still_waiting old.seen s.found i old.mine c t.lawful s.lawful s.begins t.agrees s.agrees stands
 
-    x : TurnAt s.found.header s.found.list i c step
+    x : TurnAt s.found.base s.found.entries i c step
     x = turn_at s.found i c step here w
 
     ok : (e : Entry) → x.made ≡ Some e → IsOk r
@@ -148,23 +136,23 @@ turn old new c step r s t stands w =
       x.owed e q,
     )
 
-    header : s.found.header ≡ new.seen.header
-    header = (left i s.found new.seen s.places s.places_left step r s.answered).header
+    base : s.found.base ≡ new.seen.base
+    base = (left i s.found new.seen s.beside s.beside_left step r s.answered).base
 
-    at : (k : Header) (l : List Entry) → s.found.header ≡ k → l ≡ s.found.list →
-        WaitsAs (record { header = k; list = l }) i c
-    at k l q e =
-        subst (λ (z : Header). WaitsAs (record { header = z; list = l }) i c) q
-        (subst (λ (z : List Entry). WaitsAs (record { header = s.found.header; list = z }) i c) (sym e) here)
+    at : (b : Base) (l : List Entry) → s.found.base ≡ b → l ≡ s.found.entries →
+        WaitsAs (record { base = b; entries = l }) i c
+    at b l q e =
+        subst (λ (z : Base). WaitsAs (record { base = z; entries = l }) i c) q
+        (subst (λ (z : List Entry). WaitsAs (record { base = s.found.base; entries = z }) i c) (sym e) here)
 
-    by : (m : Option Entry) → x.made ≡ m → Outcome v m r (view_of new.seen s.places_left) →
+    by : (m : Option Entry) → x.made ≡ m → Outcome v m r (view_of new.seen s.beside_left) →
         Turn old c step r new
     by None q o = subst (λ (z : Result Answer Fault). Turn old c step z new) (sym o.0)
-        (at new.seen.header new.seen.list header o.1)
+        (at new.seen.base new.seen.entries base o.1)
     by (Some e) q o =
         subst (λ (z : Result Answer Fault). Turn old c step z new) (sym o.0)
-        (subst (λ (k : Header). TurnMakes k new.seen.list i c step e) header
-        (subst (λ (l : List Entry). TurnMakes s.found.header l i c step e) (sym o.1) (x.makes e q)))
+        (subst (λ (b : Base). TurnMakes b new.seen.entries i c step e) base
+        (subst (λ (l : List Entry). TurnMakes s.found.base l i c step e) (sym o.1) (x.makes e q)))
 
 -- the limits of a step
 pub waits_allowed : (l : Limits) (step : Step) → IsAllowed l step → waits step ≡ true
@@ -215,17 +203,13 @@ true_false b t f = cc
 
 pub there_later : (p q r : Point) (i : ℕ) (step : Step) (e : Entry) → IsMade p i step e q → Before q r →
     IsMade p i step e r
-unfolding Before
-there_later p q r i step e m b = record {
-  front = m.front;
-  begins = m.begins;
-  made = m.made;
-  there = (
-    b.1.0 ++ m.there.0,
-    b.1.1 ∙ (ap (λ (w : List Entry). b.1.0 ++ w) m.there.1 ∙ sym
-        (append_assoc b.1.0 m.there.0 (e ∷ m.front))),
-  );
-}
+there_later p q r i step e m b =
+    record {
+      front = m.front;
+      begins = m.begins;
+      made = m.made;
+      there = before_trans (with_entry e m.front) q r m.there b;
+    }
 
 -- a turn of one who still waits, or the end of its wait
 module _ (first now new : Shown) (was : Cause) (l : Limits) (step : Step) (stays : StillWaits first was l now)
@@ -234,9 +218,9 @@ module _ (first now new : Shown) (was : Cause) (l : Limits) (step : Step) (stays
   turned r s = turn now new stays.cause step r s stays.shows stays.waits (waits_allowed l step allowed)
 
   makes : (e : Entry) (name : Option ℕ) → IsStep now step (Ok (answer.Recorded e name)) new →
-      TurnMakes new.seen.header new.seen.list first.seat stays.cause step e
+      TurnMakes new.seen.base new.seen.entries first.seat stays.cause step e
   makes e name s =
-      subst (λ (i : ℕ). TurnMakes new.seen.header new.seen.list i stays.cause step e) stays.same.seat
+      subst (λ (i : ℕ). TurnMakes new.seen.base new.seen.entries i stays.cause step e) stays.same.seat
       (turned (Ok (answer.Recorded e name)) s)
 
   so_far_later : Before now.seen new.seen → new.mine ≡ now.mine → SoFar first was l new stays.cause
@@ -287,7 +271,7 @@ module _ (first now new : Shown) (was : Cause) (l : Limits) (step : Step) (stays
   unfolding Lapsed
   after_lapse e name s lapse = by stays.cause stays.so_far (makes e name s)
     where
-      by : (k : Cause) → SoFar first was l now k → TurnMakes new.seen.header new.seen.list first.seat k
+      by : (k : Cause) → SoFar first was l now k → TurnMakes new.seen.base new.seen.entries first.seat k
           step e → Lapsed e
       by (in_line a) f m = absurd (true_false (is_lapse e.word) lapse (no_lapse step first.seat a e m))
       by (on_way_back w) f m =
@@ -333,7 +317,7 @@ module _ (first now new : Shown) (was : Cause) (l : Limits) (step : Step) (stays
       alone : now.mine ≡ first.mine → new.mine ≡ e ∷ first.mine
       alone f = s.mine ∙ ap (λ (x : List Entry). e ∷ x) f
 
-      by : (k : Cause) → SoFar first was l now k → TurnMakes new.seen.header new.seen.list first.seat k
+      by : (k : Cause) → SoFar first was l now k → TurnMakes new.seen.base new.seen.entries first.seat k
           step e → Ends e
       by (in_line a) (inl f) m =
           inl (

@@ -5,10 +5,10 @@ use Rattle.history.specs.declared.fault.Fault.{Fault}
 use Rattle.history.specs.declared.step.Answer.{Answer}
 use Rattle.history.specs.declared.step.Answer.TheVariants.{Recorded, Sleep}
 use Rattle.history.specs.declared.step.Step.{Step}
-use Rattle.frame.specs.Core.{IsAnswered, MakesOwed}
-use Rattle.word_lock.specs.declared.point.Point.{Point}
+use Rattle.frame.specs.Core.{IsAnswered, IsTrimmed, MakesOwed}
+use Rattle.history.specs.declared.point.Point.{Point}
 use Rattle.word_lock.specs.Point.{Before, Agrees}
-use Rattle.monitor.specs.Lawful.{view_of, IsLawful}
+use Rattle.monitor.specs.Lawful.{view_of, Beside, IsLawful}
 use Rattle.monitor.specs.Shown.{Shown}
 use Rattle.monitor.specs.declared.step.Now.{Now}
 use Rattle.monitor.specs.declared.step.Now.TheVariants.{Done, Busy}
@@ -24,17 +24,17 @@ pub record IsSame (old new : Shown) : Type 0 where
   pub lock : new.lock ≡ old.lock
   pub seat : new.seat ≡ old.seat
 
--- The step found a history that begins with what was seen, and which has no entries of the seat but those
+-- The step found a history that comes behind what was seen, and which has no entries of the seat but those
 -- that the pass knows. What it left, and the answer, are those of the core's step.
 pub record IsStep (old : Shown) (step : Step) (r : Result Answer Fault) (new : Shown) : Type 0 where
   pub found : Point
   pub begins : Before old.seen found
   pub lawful : IsLawful found
   pub agrees : Agrees found old.seat old.mine
-  pub places : ℕ  -- that the history had
-  pub places_left : ℕ  -- and has then
-  pub answered : IsAnswered (view_of found places) old.seat step r (view_of new.seen places_left)
-  pub owed : MakesOwed (view_of found places) old.seat step → IsOk r
+  pub beside : Beside  -- what the core had beside its point
+  pub beside_left : Beside  -- and has then
+  pub answered : IsAnswered (view_of found beside) old.seat step r (view_of new.seen beside_left)
+  pub owed : MakesOwed (view_of found beside) old.seat step → IsOk r
   pub after : Before old.seen new.seen
   pub mine : new.mine ≡ made_by r ++ old.mine
 
@@ -52,3 +52,16 @@ IsStepNow old step (Err fault) new = IsStep old step (Err fault) new
 abbrev pub IsEntered : Shown → Step → Result Entry Fault → Shown → Type 0
 IsEntered old step (Ok e) new = (named : Option ℕ) × IsStep old step (Ok (Recorded e named)) new
 IsEntered old step (Err f) new = IsStep old step (Err f) new
+
+-- A trim found such a history, and folded it, or there were too many entries. It has added nothing.
+pub record IsTrim (old : Shown) (r : Result ℕ Fault) (new : Shown) : Type 0 where
+  pub found : Point
+  pub begins : Before old.seen found
+  pub lawful : IsLawful found
+  pub agrees : Agrees found old.seat old.mine
+  pub beside : Beside  -- what the core had beside its point
+  pub beside_left : Beside  -- and has then
+  pub trimmed : IsTrimmed (view_of found beside) r (view_of new.seen beside_left)
+  pub after : Before old.seen new.seen
+  pub mine : new.mine ≡ old.mine
+  pub share : new.share ≡ old.share

@@ -13,13 +13,14 @@ use Rattle.history.specs.declared.step.Answer.TheVariants as answer
 use Rattle.history.specs.declared.step.Step.{Step}
 use Rattle.history.specs.declared.step.Step.TheVariants.{Look, Expire, Interrupt}
 use Rattle.history.specs.Line.{line, place_of}
-use Rattle.history.specs.Start.{Sleep, opening}
+use Rattle.history.specs.Start.{Sleep}
 use Rattle.history.specs.Steps.{entry_for, ended}
 use Rattle.permit.specs.declared.parking.Woke.{Woke}
 use Rattle.permit.specs.declared.parking.Woke.TheVariants.{Permit, Deadline, Interrupted}
-use Rattle.word_lock.specs.declared.point.Point.{Point}
-use Rattle.word_lock.specs.Point.{Begins, Before}
+use Rattle.history.specs.declared.point.Point.{Point}
+use Rattle.word_lock.specs.Point.{Before}
 use Rattle.history.specs.Awaiting.{AwaitsAs, ReturnsAs, lapsed, back_from, lapse_from}
+use Rattle.monitor.specs.Lawful.{start_at}
 use Rattle.monitor.specs.Shown.{Shown, IsTrue}
 use Rattle.monitor.specs.Stepping.{IsSame}
 use Rattle.monitor.specs.declared.waiting.Limits.{Limits}
@@ -29,18 +30,24 @@ asking seat mode n = record { seat = seat; mode = mode; n = n; back = false }
 
 -- the seat stands in line and asks for this
 abbrev pub StandsFor : Point → ℕ → Arrival → Type 0
-StandsFor p i a = place_of i (line (opening p.header) p.list) ≡ Some a
+StandsFor p i a = place_of i (line (start_at p) p.entries) ≡ Some a
 
--- The entry is the one of a step of the seat, at its place in what was seen: behind all that had been seen.
+-- a point with an entry more
+abbrev pub with_entry : Entry → Point → Point
+with_entry e p = record { base = p.base; entries = e ∷ p.entries }
+
+-- The entry is the one of a step of the seat, behind all that had been seen, and before all that was seen
+-- since.
+-- Where it still stands in the list, that is its place there.
 pub record IsMade (old : Point) (seat : ℕ) (step : Step) (e : Entry) (new : Point) : Type 0 where
-  pub front : List Entry
-  pub begins : Begins old.list front
-  pub made : entry_for (opening old.header) front seat step ≡ Ok (Some e)
-  pub there : Begins (e ∷ front) new.list
+  pub front : Point
+  pub begins : Before old front
+  pub made : entry_for (start_at front) front.entries seat step ≡ Ok (Some e)
+  pub there : Before (with_entry e front) new
 
 -- the entry is the last one
 abbrev pub IsLast : Entry → Point → Type 0
-IsLast e p = (rest : List Entry) × (p.list ≡ e ∷ rest)
+IsLast e p = (rest : List Entry) × (p.entries ≡ e ∷ rest)
 
 -- What a seat waits for: its turn in line, a signal, or its turn on its way back from a condition.
 pub data Cause : Type 0 where
@@ -50,8 +57,8 @@ pub data Cause : Type 0 where
 
 abbrev pub WaitsAs : Point → ℕ → Cause → Type 0
 WaitsAs p i (in_line a) = (a.back ≡ false) × StandsFor p i a
-WaitsAs p i (on_condition w) = AwaitsAs (opening p.header) p.list i w
-WaitsAs p i (on_way_back w) = ReturnsAs (opening p.header) p.list i w
+WaitsAs p i (on_condition w) = AwaitsAs (start_at p) p.entries i w
+WaitsAs p i (on_way_back w) = ReturnsAs (start_at p) p.entries i w
 
 abbrev pub Waits : Point → ℕ → Type 0
 Waits p i = (k : Cause) × WaitsAs p i k
@@ -99,7 +106,7 @@ MayLapse l end.Timeout = IsSome l.until
 MayLapse l end.Interrupt = l.interruptible ≡ true
 MayLapse l _ = ⊥
 
--- a sleeper has lapsed, and its lapse stands at its place
+-- a sleeper has lapsed, and its lapse was made behind what had been seen
 pub record HasLapsed (first : Shown) (w : Sleep) (l : Limits) (how : End) (now : Point) : Type 0 where
   pub may : MayLapse l how
   pub step : Step

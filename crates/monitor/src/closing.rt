@@ -1,7 +1,8 @@
 //! Passes that meet, and the end of a monitor.
 ghost use Rattle.std.specs.Prelude.{◌≡◌, ◌<◌, ◌≤◌, ◌*◌, ◌^◌, length, All, IfOk, IfErr};
-ghost use Rattle.history.specs.Entries.{ended_calls};
-ghost use Rattle.monitor.specs.Closing.{IsWithin, left_by, shares, passes_of, IsMissing};
+ghost use Rattle.history.specs.Entries.{IsBasedWell, start_on};
+ghost use Rattle.history.specs.Legal.{AreSeated, calls};
+ghost use Rattle.monitor.specs.Closing.{IsBased, IsWithin, left_by, shares, passes_of, IsMissing};
 ghost use Rattle.monitor.specs.Lawful.{IsLawful};
 ghost use Rattle.word_lock.specs.Point.{Before};
 ghost use Rattle.monitor.specs.Shown.{IsTrue};
@@ -17,7 +18,7 @@ use std::sync::Wait;
 /// What a monitor leaves.
 #[derive(Debug, Drop)]
 pub struct Closed {
-    /// All that was done to the object, in order.
+    /// All that was done to the object, in order: the base that was folded, and the entries behind it.
     pub history: History,
     /// The merged share: how many calls the passes saw end, all together.
     pub share: u64,
@@ -77,11 +78,16 @@ impl<H: Hooks + Drop> Monitor<H> {
         requires is_of { All (λ p. p.lock ≡ self) passes.items }
         ensures lawful { IfOk result (λ c. IsLawful (left_by self c.history)) }
         ensures within { IfOk result (λ c. All (λ p. IsWithin (left_by self c.history) p) passes.items) }
+        ensures base { IfOk result (λ c. IsBased self c.history) }
+        ensures good { IfOk result (λ c. IsBasedWell self.header c.history.base) }
+        ensures seated { IfOk result (λ c.
+            AreSeated (start_on self.header c.history) c.history.entries) }
         ensures cap { IfOk result (λ c. c.history.cap ≡ self.header.cap) }
         ensures each { IfOk result (λ _. (seat : _)
             → seat < self.header.seats → passes_of seat passes.items ≡ 1) }
         ensures share { IfOk result (λ c. c.share ≡ shares passes.items) }
-        ensures calls { IfOk result (λ c. c.share ≡ ended_calls c.history.entries) }
+        ensures calls { IfOk result (λ c.
+            c.share ≡ calls (start_on self.header c.history) c.history.entries) }
         ensures missing { IfErr result (λ r. (r.2 ≡ MissingPass) × IsMissing self.header.seats passes.items) }
         ensures back { IfErr result (λ r. (r.0 ≡ self) × (r.1 ≡ passes)) }
     {

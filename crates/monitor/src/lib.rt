@@ -10,20 +10,23 @@
 //! no more.
 //!
 //! A contract sees three things of a pass:
-//! - `seen`, the history that it saw at its last call. It is legal, and what was seen before begins it.
-//! - `mine`, the entries of its own seat in that, the newest first. Each call adds its own entries and no
-//!   others.
+//! - `seen`, the history that it saw at its last call: a base, and entries behind it. It is legal, and comes
+//!   behind what was seen before.
+//! - `mine`, all entries of its own seat, the newest first. Each call adds its own entries and no others.
 //! - `share`, how many calls those entries ended.
 //!
-//! Two passes may have seen histories of different length, and `meet` makes them the same. The histories
-//! that all passes saw are fronts of one history, which `close` gives.
+//! Two passes may have seen histories of different length, and `meet` makes them the same. All that the
+//! passes saw is of one history, which `close` gives.
+//!
+//! `trim` folds the entries so far into the base, so that an object runs on past its cap. What a pass had
+//! seen before stands: the fold says the same of all that comes after.
 //!
 //! A call that waits is `acquire` or `await_on`. Both wait in the same loop: park, step, and leave at the
 //! entry that ends the wait. [`How`] says what else ends it. A permit leads to the step Look, by which a
 //! waiter takes its turn if it has come; the end of its time to Expire; an interrupt to Interrupt. The
 //! reply is the entry that ended the call.
 //!
-//! Proved of each call that returns: what the pass has seen afterwards is legal and begins with what it had
+//! Proved of each call that returns: what the pass has seen afterwards is legal and comes behind what it had
 //! seen; `mine` grew by the entries that the call's contract lists, each the one entry of the named step at
 //! its own place; the reply is the last entry seen; a fault is the answer of the definitions, and nothing
 //! was recorded. `step_now` waits for nobody, and its Busy leaves the pass as it was.
@@ -46,6 +49,7 @@ mod monitor;
 mod observing;
 mod pass;
 mod step;
+mod trimming;
 mod waiting;
 
 pub use closing::{CloseFault, Closed};

@@ -1,10 +1,13 @@
 //! What a monitor tells of its object.
-ghost use Rattle.std.specs.Prelude.{◌≡◌, ◌<◌, length, is_some};
+ghost use Rattle.std.specs.Prelude.{◌≡◌, ◌<◌, true, length, is_some, Some};
 ghost use Rattle.frame.specs.Observed.{available};
 ghost use Rattle.history.specs.Counts.{count, counts, held, owner};
-ghost use Rattle.history.specs.Line.{line};
+ghost use Rattle.history.specs.Line.{line, place_of};
+ghost use Rattle.history.specs.Marks.{is_placed};
+ghost use Rattle.history.specs.Naming.{ready};
 ghost use Rattle.history.specs.Sleepers.{sleepers};
-ghost use Rattle.monitor.specs.Observing.{IsLook, opened};
+ghost use Rattle.monitor.specs.Lawful.{start_at};
+ghost use Rattle.monitor.specs.Observing.{IsLook};
 ghost use Rattle.monitor.specs.Shown.{IsTrue};
 
 use crate::monitor::Monitor;
@@ -17,12 +20,12 @@ use std::sync::Wait;
 /// before the caller reads it.
 impl<H: Hooks + Drop> Monitor<H> {
     /// The holds of a seat in a mode.
-    pub fn holds<R: Wait>(&self, rt: &R, pass: &mut Pass, seat: u16, mode: Mode) -> u64
+    pub fn holds<R: Wait>(&self, rt: &R, pass: &mut Pass, seat: u16, mode: Mode) -> u128
         requires is_of { pass.old.lock ≡ self.now }
         requires seat { seat < self.now.header.seats }
         ensures looked { IsLook pass.old pass.new }
         ensures shows { IsTrue pass.new }
-        ensures value { result ≡ held (opened pass.new.seen) pass.new.seen.list seat mode }
+        ensures value { result ≡ held (start_at pass.new.seen) pass.new.seen.entries seat mode }
     {
         let held = self.lock.lock(rt, &mut pass.token);
         let holds = held.value.core().holds(seat, mode);
@@ -35,7 +38,7 @@ impl<H: Hooks + Drop> Monitor<H> {
         requires is_of { pass.old.lock ≡ self.now }
         ensures looked { IsLook pass.old pass.new }
         ensures shows { IsTrue pass.new }
-        ensures value { result ≡ is_some (owner (counts (opened pass.new.seen) pass.new.seen.list)) }
+        ensures value { result ≡ is_some (owner (counts (start_at pass.new.seen) pass.new.seen.entries)) }
     {
         let held = self.lock.lock(rt, &mut pass.token);
         let is_held = held.value.core().is_held();
@@ -43,12 +46,32 @@ impl<H: Hooks + Drop> Monitor<H> {
         is_held
     }
 
+    /// Whether a seat in line was told that it could go: by an entry that names it, or by its own lapse.
+    /// Since then it has neither left the line nor been answered `Sleep`.
+    ///
+    /// Whoever is first in line and could go was told. That says nothing of a thread: one that was told may
+    /// still have to wake and to look.
+    pub fn is_told<R: Wait>(&self, rt: &R, pass: &mut Pass, seat: u16) -> bool
+        requires is_of { pass.old.lock ≡ self.now }
+        requires seat { seat < self.now.header.seats }
+        ensures looked { IsLook pass.old pass.new }
+        ensures shows { IsTrue pass.new }
+        ensures told { ready (start_at pass.new.seen) pass.new.seen.entries ≡ Some seat → result ≡ true }
+        ensures stand { result ≡ true
+            → is_placed (place_of seat (line (start_at pass.new.seen) pass.new.seen.entries)) ≡ true }
+    {
+        let held = self.lock.lock(rt, &mut pass.token);
+        let is_told = held.value.core().is_told(seat);
+        self.lock.unlock(&mut pass.token, held);
+        is_told
+    }
+
     /// How many stand in line.
     pub fn queue_length<R: Wait>(&self, rt: &R, pass: &mut Pass) -> u16
         requires is_of { pass.old.lock ≡ self.now }
         ensures looked { IsLook pass.old pass.new }
         ensures shows { IsTrue pass.new }
-        ensures value { result ≡ length (line (opened pass.new.seen) pass.new.seen.list) }
+        ensures value { result ≡ length (line (start_at pass.new.seen) pass.new.seen.entries) }
     {
         let held = self.lock.lock(rt, &mut pass.token);
         let queue_length = held.value.core().queue_length();
@@ -61,7 +84,7 @@ impl<H: Hooks + Drop> Monitor<H> {
         requires is_of { pass.old.lock ≡ self.now }
         ensures looked { IsLook pass.old pass.new }
         ensures shows { IsTrue pass.new }
-        ensures value { result ≡ length (sleepers (opened pass.new.seen) pass.new.seen.list condition) }
+        ensures value { result ≡ length (sleepers (start_at pass.new.seen) pass.new.seen.entries condition) }
     {
         let held = self.lock.lock(rt, &mut pass.token);
         let waiters = held.value.core().waiters(condition);
@@ -74,7 +97,7 @@ impl<H: Hooks + Drop> Monitor<H> {
         requires is_of { pass.old.lock ≡ self.now }
         ensures looked { IsLook pass.old pass.new }
         ensures shows { IsTrue pass.new }
-        ensures value { result ≡ available (opened pass.new.seen) pass.new.seen.list }
+        ensures value { result ≡ available (start_at pass.new.seen) pass.new.seen.entries }
     {
         let held = self.lock.lock(rt, &mut pass.token);
         let available = held.value.core().available();
@@ -87,7 +110,7 @@ impl<H: Hooks + Drop> Monitor<H> {
         requires is_of { pass.old.lock ≡ self.now }
         ensures looked { IsLook pass.old pass.new }
         ensures shows { IsTrue pass.new }
-        ensures value { result ≡ count (opened pass.new.seen) pass.new.seen.list }
+        ensures value { result ≡ count (start_at pass.new.seen) pass.new.seen.entries }
     {
         let held = self.lock.lock(rt, &mut pass.token);
         let count = held.value.core().count();

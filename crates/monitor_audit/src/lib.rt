@@ -1,15 +1,19 @@
 //! What the audit finds in the history that a monitor left.
 #![tactic(auto)]
 
-ghost use Rattle.std.specs.Prelude.{◌≡◌, IfOk, IsOkUnless};
+ghost use Rattle.std.specs.Prelude.{◌≡◌, ◌≤◌, IfOk, IsOkUnless, get_or, length};
 ghost use Rattle.audit.specs.Verdict.{IsJudgement};
-ghost use Rattle.history.specs.Entries.{ended_calls};
+ghost use Rattle.history.specs.Base.{nothing};
+ghost use Rattle.history.specs.Counts.{total};
+ghost use Rattle.history.specs.Entries.{IsBasedWell, start_on};
+ghost use Rattle.history.specs.GoodBase.{most_folded};
 ghost use Rattle.history.specs.Header.{IsInRange};
-ghost use Rattle.history.specs.Legal.{AreSeated};
-ghost use Rattle.history.specs.Start.{opening};
+ghost use Rattle.history.specs.Legal.{AreSeated, calls};
 
 use audit::sums::Totals;
 use audit::verdict::{Judgement, judge};
+use history::base::SeatBase;
+use history::entries::History;
 use history::fault::Fault;
 use history::header::{Header, Object};
 use monitor::Closed;
@@ -20,7 +24,7 @@ use std::io;
 #[derive(Clone, Copy, Debug, Drop)]
 pub struct Findings {
     pub object: Object,
-    /// How many calls the entries of the history ended.
+    /// How many calls ended, in the entries of the history and before its base.
     pub calls: u64,
     /// How many calls the passes saw end.
     pub share: u64,
@@ -28,21 +32,24 @@ pub struct Findings {
 }
 
 impl Findings {
-    /// Judges the history of a monitor that was opened with this header. `OutOfMemory` if memory for what the
-    /// audit counts is refused.
+    /// Judges the history of a monitor that was opened with this header, from its base on. `OutOfMemory` if
+    /// memory for what the audit counts is refused.
     pub fn of(alloc: Global, header: &Header, closed: &Closed) -> Result<Findings, Fault>
         requires range { IsInRange header.now }
-        requires seated { AreSeated (opening header.now) closed.now.history.entries }
+        requires based { IsBasedWell header.now closed.now.history.base }
+        requires seated { AreSeated (start_on header.now closed.now.history) closed.now.history.entries }
         ensures object { IfOk result (λ f. f.object ≡ header.now.object) }
-        ensures calls { IfOk result (λ f. f.calls ≡ ended_calls closed.now.history.entries) }
+        ensures calls { IfOk result (λ f.
+            f.calls ≡ calls (start_on header.now closed.now.history) closed.now.history.entries) }
         ensures share { IfOk result (λ f. f.share ≡ closed.now.share) }
-        ensures judged { IfOk result (λ f. IsJudgement header.now closed.now.history.entries f.judgement) }
+        ensures judged { IfOk result (λ f.
+            IsJudgement (start_on header.now closed.now.history) closed.now.history.entries f.judgement) }
         ensures memory { IsOkUnless result Fault.OutOfMemory }
     {
         match judge(alloc, header, &closed.history) {
             Ok(judgement) => Ok(Findings {
                 object: header.object,
-                calls: closed.history.calls(),
+                calls: calls_of(header, &closed.history),
                 share: closed.share,
                 judgement,
             }),
@@ -64,6 +71,41 @@ impl Findings {
             Judgement::NotLegal(number) => println!(rt; "not legal at {number}"),
         }
     }
+}
+
+/// How many calls ended, in the entries of a history and before its base.
+fn calls_of(header: &Header, history: &History) -> u64
+    requires range { IsInRange header.now }
+    requires based { IsBasedWell header.now history.now.base }
+    ensures { result ≡ calls (start_on header.now history.now) history.now.entries }
+{
+    let _few = history.len();
+    calls_before(header, history) + history.calls()
+}
+
+/// How many calls ended before the base of a history.
+fn calls_before(header: &Header, history: &History) -> u64
+    requires range { IsInRange header.now }
+    requires based { IsBasedWell header.now history.now.base }
+    ensures calls { result ≡ (start_on header.now history.now).calls }
+    ensures few { result ≤ most_folded }
+{
+    match history.base() {
+        None => 0,
+        Some(base) => sum_calls(&base.seats),
+    }
+}
+
+/// The calls that the seats of a base ended, all together.
+fn sum_calls(seats: &[SeatBase]) -> u64
+    requires { total (length seats.now) (λ i. (get_or seats.now i nothing).calls) ≤ most_folded }
+    ensures { result ≡ total (length seats.now) (λ i. (get_or seats.now i nothing).calls) }
+{
+    let mut sum: u64 = 0;
+    for seat in 0..seats.len() {
+        sum += seats[seat].calls;
+    }
+    sum
 }
 
 fn print_totals<R: Print>(rt: &R, object: &Object, totals: &Totals) -> io::Result<()> {

@@ -1,5 +1,5 @@
 -- The SVG document of a picture.
-use Rattle.std.specs.Prelude.{ℕ, ◌<◌, ◌^◌, ◌&&◌, ◌==◌, nat_le, if◌then◌else◌, List, [], ◌++◌, codes, Option, Some, None}
+use Rattle.std.specs.Prelude.{ℕ, ◌+◌, ◌<◌, ◌^◌, ◌&&◌, ◌==◌, nat_le, if◌then◌else◌, List, [], ◌++◌, codes, Option, Some, None}
 use Rattle.std.specs.List.{All}
 use Rattle.history.specs.Header.{IsInRange}
 use Rattle.picture.specs.declared.layout.Layout.{Layout}
@@ -14,15 +14,16 @@ use Rattle.picture.specs.Marks.{IsEarly, mark_lines}
 -- what lies below bars and marks: rows, scale and curve
 abbrev pub ground : Layout → View → List ℕ
 ground l p =
-    rows l p.header.seats ++ ticks l l.shown ++ curve_of p.header.object l.step p.curve
+    rows l p.header.seats ++ ticks l p.folded l.shown ++ curve_of p.header.object l.step p.curve
 
 -- the entry that isn't legal is marked where it follows those that are shown
-abbrev pub marked_at : Layout → ℕ → ℕ → Option ℕ → List ℕ
-marked_at l from to None = []
-marked_at l from to (Some number) = if number == to && nat_le from number then wrong_at l number else []
+abbrev pub marked_at : Layout → ℕ → ℕ → ℕ → Option ℕ → List ℕ
+marked_at l folded from to None = []
+marked_at l folded from to (Some number) =
+    if number == folded + to && nat_le from to then wrong_at l to else []
 
 abbrev pub wrong_mark : Layout → View → List ℕ
-wrong_mark l p = marked_at l p.from p.to p.wrong
+wrong_mark l p = marked_at l p.folded p.from p.to p.wrong
 
 abbrev pub text_in : Layout → View → List ℕ
 text_in l p =
@@ -36,5 +37,6 @@ svg_text p = text_in (layout_of p.header p.from p.to) p
 pub record IsPicture (p : View) : Type 0 where
   pub range : IsInRange p.header
   pub few : p.to < 2 ^ 32
+  pub folded : p.folded < 2 ^ 63
   pub bars : All IsShort p.bars
   pub marks : All IsEarly p.marks

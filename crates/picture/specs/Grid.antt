@@ -24,17 +24,18 @@ rows l (suc seat) = rows l seat ++ row l seat
 abbrev pub pitch_of : ℕ → ℕ
 pitch_of step = if step == 20 then 5 else 10
 
-abbrev pub tick : Layout → ℕ → List ℕ
-tick l number =
-    if nat_lt 0 (number % pitch_of l.step) then []
+-- the entry of an index, whose number counts folded entries too
+abbrev pub tick : Layout → ℕ → ℕ → List ℕ
+tick l folded index =
+    if nat_lt 0 ((folded + index) % pitch_of l.step) then []
     else
-    upright (x_of l number) l.top (bottom_of l + 4)
-    ++ number_at (x_of l number + 3) (bottom_of l + 14) (codes "'>") number
+    upright (x_of l index) l.top (bottom_of l + 4)
+    ++ number_at (x_of l index + 3) (bottom_of l + 14) (codes "'>") (folded + index)
 
 -- the scale of the first of the entries that are drawn
-abbrev pub ticks : Layout → ℕ → List ℕ
-ticks l zero = []
-ticks l (suc index) = ticks l index ++ tick l (l.from + index)
+abbrev pub ticks : Layout → ℕ → ℕ → List ℕ
+ticks l folded zero = []
+ticks l folded (suc index) = ticks l folded index ++ tick l folded (l.from + index)
 
 -- the mark of an entry that isn't legal, through all rows
 abbrev pub wrong_at : Layout → ℕ → List ℕ

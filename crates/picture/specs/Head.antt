@@ -34,7 +34,7 @@ abbrev pub shown_part : Layout → View → List ℕ
 shown_part l p =
     if l.shown == 0 then named (codes "no entry is shown of ") p.entries
     else if p.is_cut then cut l.shown p.entries
-    else chosen l.from (l.from + (l.shown - 1)) p.entries
+    else chosen (p.folded + l.from) (p.folded + l.from + (l.shown - 1)) p.entries
 
 -- which isn't legal
 abbrev pub wrong_part : Option ℕ → List ℕ

@@ -5,9 +5,11 @@ use Rattle.drawing.specs.declared.bar.Bar.{Bar}
 use Rattle.drawing.specs.declared.mark.Mark.{Mark}
 use Rattle.picture.specs.declared.picture.Picture.{Picture}
 
--- the entries from a number on, before another, of a history of so many, and its first entry that isn't legal
+-- The entries from an index on, before another, of a history of so many, and the number of its first entry
+-- that isn't legal. The numbers that are shown count the folded entries too.
 pub record View : Type 0 where
   pub header : Header
+  pub folded : ℕ
   pub from : ℕ
   pub to : ℕ
   pub entries : ℕ
@@ -21,6 +23,7 @@ abbrev pub view_of : Picture → View
 view_of p =
     record {
       header = p.header;
+      folded = p.folded;
       from = p.from;
       to = p.to;
       entries = p.entries;

@@ -6,7 +6,7 @@ ghost use Rattle.picture.specs.Layout.{IsLayout, IsShort};
 ghost use Rattle.picture.specs.Bars.{bar_line, bar_lines, inside, label, shape_of};
 
 use crate::layout::{Layout, Rect};
-use crate::pieces::{put, put_placed, put_rect};
+use crate::pieces::{put_placed, put_rect};
 use drawing::bar::Bar;
 use drawing::kind::Kind;
 use itoa::Buffer;
@@ -54,7 +54,7 @@ fn put_label(out: &mut Vec<u8>, area: Rect, bar: Bar) -> Result<(), AllocError>
         Kind::Exclusive => put_inside(out, b"<text class='i' x='", area, b"'>", bar.holds),
         Kind::Shared => put_inside(out, b"<text class='n' x='", area, b"'>", bar.holds),
         Kind::InLine => Ok(()),
-        Kind::Asleep(c) => put_inside(out, b"<text class='n' x='", area, b"'>c", u64::from(c)),
+        Kind::Asleep(c) => put_inside(out, b"<text class='n' x='", area, b"'>c", u128::from(c)),
     }
 }
 
@@ -64,17 +64,18 @@ fn put_inside(
     shape: &[u8],
     area: Rect,
     sign: &[u8],
-    number: u64,
+    number: u128,
 ) -> Result<(), AllocError>
     requires { (area.x < 2 ^ 40) × (area.y < 2 ^ 25) }
     ensures { OnOk result (out.new.items ≡ out.old.items ++ inside shape.now area sign.now number) }
 {
     let mut buffer = Buffer::new();
-    let digits = buffer.format(number).len() as u64;
-    if area.width < 6 * digits + 4 {
+    let digits = buffer.format(number);
+    if area.width < 6 * digits.len() as u64 + 4 {
         return Ok(());
     }
     put_placed(out, shape, area.x + 4, area.y + 10)?;
-    put(out, sign, number)?;
+    out.extend_from_slice(sign)?;
+    out.extend_from_slice(digits.as_bytes())?;
     out.extend_from_slice(b"</text>\n")
 }

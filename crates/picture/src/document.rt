@@ -32,11 +32,12 @@ pub fn svg_text(alloc: Global, picture: &Picture) -> Result<Vec<u8>, AllocError>
 
 /// Appends what lies below bars and marks: rows, scale and curve.
 fn put_ground(out: &mut Vec<u8>, layout: Layout, picture: &Picture) -> Result<(), AllocError>
-    requires { IsLayout layout }
+    requires layout { IsLayout layout }
+    requires folded { picture.now.folded < 2 ^ 63 }
     ensures { OnOk result (out.new.items ≡ out.old.items ++ ground layout (view_of picture.now)) }
 {
     put_rows(out, layout, picture.header.seats)?;
-    put_scale(out, layout)?;
+    put_scale(out, layout, picture.folded)?;
     put_curve(
         out,
         picture.header.object,
@@ -48,12 +49,12 @@ fn put_ground(out: &mut Vec<u8>, layout: Layout, picture: &Picture) -> Result<()
 /// Appends the mark of the entry that isn't legal, if it follows those that are shown.
 fn put_wrong_mark(out: &mut Vec<u8>, layout: Layout, picture: &Picture) -> Result<(), AllocError>
     requires layout { IsLayout layout }
-    requires few { picture.now.to < 2 ^ 32 }
+    requires few { (picture.now.to < 2 ^ 32) × (picture.now.folded < 2 ^ 63) }
     ensures { OnOk result (out.new.items ≡ out.old.items ++ wrong_mark layout (view_of picture.now)) }
 {
     match picture.wrong {
-        Some(number) if number == picture.to && picture.from <= number => {
-            put_wrong(out, layout, number)
+        Some(number) if number == picture.folded + picture.to && picture.from <= picture.to => {
+            put_wrong(out, layout, picture.to)
         }
         _ => Ok(()),
     }

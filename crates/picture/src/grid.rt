@@ -45,25 +45,29 @@ fn put_shade(out: &mut Vec<u8>, layout: Layout, seat: u16) -> Result<(), AllocEr
     put_rect(out, b"<rect class='r' x='", area)
 }
 
-/// Appends the scale: at entries of round numbers a line through all rows, and the number below.
-pub(crate) fn put_scale(out: &mut Vec<u8>, layout: Layout) -> Result<(), AllocError>
-    requires { IsLayout layout }
-    ensures { OnOk result (out.new.items ≡ out.old.items ++ ticks layout layout.shown) }
+/// Appends the scale: at entries of round numbers a line through all rows, and the number below, which counts
+/// folded entries too.
+pub(crate) fn put_scale(out: &mut Vec<u8>, layout: Layout, folded: u64) -> Result<(), AllocError>
+    requires layout { IsLayout layout }
+    requires folded { folded < 2 ^ 63 }
+    ensures { OnOk result (out.new.items ≡ out.old.items ++ ticks layout folded layout.shown) }
 {
     for index in 0..layout.shown {
-        put_tick(out, layout, layout.from + index)?;
+        put_tick(out, layout, folded, layout.from + index)?;
     }
     Ok(())
 }
 
-fn put_tick(out: &mut Vec<u8>, layout: Layout, number: u64) -> Result<(), AllocError>
-    requires { IsLayout layout × (number < 2 ^ 33) }
-    ensures { OnOk result (out.new.items ≡ out.old.items ++ tick layout number) }
+fn put_tick(out: &mut Vec<u8>, layout: Layout, folded: u64, index: u64) -> Result<(), AllocError>
+    requires layout { IsLayout layout × (index < 2 ^ 33) }
+    requires folded { folded < 2 ^ 63 }
+    ensures { OnOk result (out.new.items ≡ out.old.items ++ tick layout folded index) }
 {
+    let number = folded + index;
     if number % pitch_of(layout.step) > 0 {
         return Ok(());
     }
-    let x = layout.x(number);
+    let x = layout.x(index);
     let bottom = layout.bottom();
     put_upright(out, x, layout.top, bottom + 4)?;
     put_number_at(out, x + 3, bottom + 14, b"'>", number)

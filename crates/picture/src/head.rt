@@ -55,6 +55,7 @@ pub(crate) fn put_head(
 ) -> Result<(), AllocError>
     requires layout { IsLayout layout }
     requires range { IsInRange picture.now.header }
+    requires folded { picture.now.folded < 2 ^ 63 }
     ensures { OnOk result (out.new.items ≡ out.old.items ++ head layout (view_of picture.now)) }
 {
     put_opening(out, layout.width(), layout.height())?;
@@ -107,7 +108,8 @@ fn put_header(out: &mut Vec<u8>, header: Header) -> Result<(), AllocError>
 
 /// Appends the line that tells which entries are shown, and which isn't legal.
 fn put_shown(out: &mut Vec<u8>, layout: Layout, picture: &Picture) -> Result<(), AllocError>
-    requires { IsLayout layout }
+    requires layout { IsLayout layout }
+    requires folded { picture.now.folded < 2 ^ 63 }
     ensures { OnOk result (out.new.items ≡ out.old.items ++ shown_line layout (view_of picture.now)) }
 {
     out.extend_from_slice(b"<text x='8' y='36'>")?;
@@ -117,7 +119,8 @@ fn put_shown(out: &mut Vec<u8>, layout: Layout, picture: &Picture) -> Result<(),
 }
 
 fn put_shown_part(out: &mut Vec<u8>, layout: Layout, picture: &Picture) -> Result<(), AllocError>
-    requires { IsLayout layout }
+    requires layout { IsLayout layout }
+    requires folded { picture.now.folded < 2 ^ 63 }
     ensures { OnOk result (out.new.items ≡ out.old.items ++ shown_part layout (view_of picture.now)) }
 {
     let shown = layout.shown;
@@ -126,7 +129,8 @@ fn put_shown_part(out: &mut Vec<u8>, layout: Layout, picture: &Picture) -> Resul
     } else if picture.is_cut {
         put_cut(out, shown, picture.entries)
     } else {
-        put_chosen(out, layout.from, layout.from + (shown - 1), picture.entries)
+        let first = picture.folded + layout.from;
+        put_chosen(out, first, first + (shown - 1), picture.entries)
     }
 }
 

@@ -7,15 +7,18 @@ use history::header::Header;
 #[derive(Drop)]
 pub struct Picture {
     pub header: Header,
-    /// The number of the first entry that is drawn.
+    /// How many entries were folded before the first of the history. The numbers that a picture shows count
+    /// these too.
+    pub folded: u64,
+    /// How many entries stand before the first that is drawn.
     pub from: u64,
-    /// The number behind the last one.
+    /// How many stand before the end of those that are drawn.
     pub to: u64,
-    /// How many entries the history has.
+    /// How many entries the history has, those that were folded among them.
     pub entries: u64,
     /// Whether entries are left out though nobody chose some.
     pub is_cut: bool,
-    /// The first entry that isn't legal.
+    /// The first entry that isn't legal, by the number that is shown.
     pub wrong: Option<u64>,
     /// The bars, marks and curve of the entries that are drawn.
     pub drawn: Drawn,

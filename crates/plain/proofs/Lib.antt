@@ -1,3 +1,4 @@
 mod NextEntries
 mod Owes
 mod Recording
+mod BaseOwes

@@ -6,15 +6,32 @@ use Rattle.history.specs.declared.entry.Word.TheVariants.{Got, TryGot, Queued, G
 use Rattle.history.specs.declared.header.Header.{Header}
 use Rattle.history.specs.declared.header.Object.{Object}
 use Rattle.history.specs.Object.{is_lock}
-use Rattle.history.specs.Legal.{AreSeated, IsLegal}
 use Rattle.history.specs.Room.{owed, releases, reserved_by, reserves}
-use Rattle.history.specs.Start.{opening}
-use Rattle.history.proofs.Owing.{owed_step}
+use Rattle.history.specs.Start.{Start, opening}
+use Rattle.history.proofs.Entering.{known}
+use Rattle.history.proofs.Owing.{owed_known}
 use Rattle.history.proofs.RoomLemmas.{nothing_owed}
+use Rattle.deciding.proofs.Bounds.{waits_by}
+use Rattle.deciding.specs.Situation.{IsHistory}
 use Rattle.plain.specs.Owing.{IsOwed}
 
-pub opening_owes : (k : Header) → IsOwed k [] 0
+pub opening_owes : (k : Header) → IsOwed (opening k) [] 0
 opening_owes k = record { is = sym (nothing_owed k) }
+
+-- what one entry more of a history changes
+one_step : (s : Start) (e : Entry) (h : List Entry) → IsHistory s (e ∷ h) →
+    owed s (e ∷ h) + releases s.header.object e ≡ owed s h + reserves s.header.object e
+one_step s e h past =
+    let front : IsHistory s h =
+    record {
+      base = past.base;
+      good = past.good;
+      start = past.start;
+      range = past.range;
+      legal = past.legal.1;
+      seated = past.seated.1;
+    } in
+    owed_known s e h (known s h past.legal.0.0 e past.legal.0.1) (waits_by s h front) past.seated.0
 
 enough : (n more less new old r l : ℕ) → n ≡ old → more ≡ r → less ≡ l → new + l ≡ old + r → less ≤ n + more
 enough n more less new old r l a b c d = omega (arith, a, b, c, d)
@@ -24,24 +41,20 @@ behind : (n more less new old r l : ℕ) → n ≡ old → more ≡ r → less �
 behind n more less new old r l a b c d = omega (arith, a, b, c, d)
 
 -- an entry releases no more than is owed and reserved
-pub owed_enough : (k : Header) (e : Entry) (h : List Entry) (n more less : ℕ) → IsOwed k h n →
-    IsLegal (opening k) (e ∷ h) → AreSeated (opening k) (e ∷ h) → more ≡ reserves k.object e →
-    less ≡ releases k.object e →
+pub owed_enough : (s : Start) (e : Entry) (h : List Entry) (n more less : ℕ) → IsOwed s h n →
+    IsHistory s (e ∷ h) → more ≡ reserves s.header.object e → less ≡ releases s.header.object e →
     less ≤ n + more
-owed_enough k e h n more less o legal seated p q =
-    enough n more less (owed (opening k) (e ∷ h)) (owed (opening k) h) (reserves k.object e)
-    (releases k.object e) o.is p q
-    (owed_step k e h legal seated)
+owed_enough s e h n more less o past p q =
+    enough n more less (owed s (e ∷ h)) (owed s h) (reserves s.header.object e)
+    (releases s.header.object e) o.is p q (one_step s e h past)
 
-pub owed_next : (k : Header) (e : Entry) (h : List Entry) (n more less : ℕ) → IsOwed k h n →
-    IsLegal (opening k) (e ∷ h) → AreSeated (opening k) (e ∷ h) → more ≡ reserves k.object e →
-    less ≡ releases k.object e →
-    IsOwed k (e ∷ h) (n + more - less)
-owed_next k e h n more less o legal seated p q =
+pub owed_next : (s : Start) (e : Entry) (h : List Entry) (n more less : ℕ) → IsOwed s h n →
+    IsHistory s (e ∷ h) → more ≡ reserves s.header.object e → less ≡ releases s.header.object e →
+    IsOwed s (e ∷ h) (n + more - less)
+owed_next s e h n more less o past p q =
     record {
-      is = behind n more less (owed (opening k) (e ∷ h)) (owed (opening k) h) (reserves k.object e)
-          (releases k.object e) o.is p q
-          (owed_step k e h legal seated);
+      is = behind n more less (owed s (e ∷ h)) (owed s h) (reserves s.header.object e)
+          (releases s.header.object e) o.is p q (one_step s e h past);
     }
 
 -- no entry reserves more than two places

@@ -3,9 +3,9 @@
 ghost use Rattle.std.specs.Prelude.{◌≡◌, ◌+◌, ◌<◌, ◌^◌, length};
 ghost use Rattle.audit.specs.Ledger.{LedgerStand};
 ghost use Rattle.history.specs.Answers.{answer, recorded};
+ghost use Rattle.history.specs.Entries.{IsBasedWell, start_on};
 ghost use Rattle.history.specs.Header.{IsInRange};
 ghost use Rattle.history.specs.Legal.{AreSeated, IsLegal};
-ghost use Rattle.history.specs.Start.{opening};
 ghost use Rattle.plain.specs.Answered.{IsAnswer};
 ghost use Rattle.plain.specs.Owing.{IsNextEntry};
 
@@ -28,10 +28,12 @@ fn recorded(
     history: &History,
     entry: Entry,
 ) -> Result<Answer, Fault>
+    requires range { IsInRange header.now }
     requires few { length history.now.entries + 1 < 2 ^ 32 }
-    requires stand { LedgerStand (opening header.now) history.now.entries ledger }
-    requires next { IsNextEntry header.now history.now.entries entry }
-    ensures { IsAnswer (recorded (opening header.now) history.now.entries entry) result }
+    requires based { IsBasedWell header.now history.now.base }
+    requires stand { LedgerStand (start_on header.now history.now) history.now.entries ledger }
+    requires next { IsNextEntry (start_on header.now history.now) history.now.entries entry }
+    ensures { IsAnswer (recorded (start_on header.now history.now) history.now.entries entry) result }
 {
     let owed = owed_of(header, history);
     let behind = owed_behind(header, owed, entry);
@@ -46,8 +48,8 @@ fn recorded(
 
 /// What a seat's step is answered behind a legal history of the header's object.
 ///
-/// It reads the history from its start and changes nothing. It takes memory for what it counts: `OutOfMemory`
-/// is of this call alone, and no answer to the step.
+/// It reads the history from its base, or from its opening where it has none, and changes nothing. It takes
+/// memory for what it counts: `OutOfMemory` is of this call alone, and no answer to the step.
 pub fn answer(
     alloc: Global,
     header: &Header,
@@ -57,10 +59,11 @@ pub fn answer(
 ) -> Result<Answer, Fault>
     requires range { IsInRange header.now }
     requires few { length history.now.entries + 1 < 2 ^ 32 }
+    requires based { IsBasedWell header.now history.now.base }
     requires seat { seat < header.now.seats }
-    requires seated { AreSeated (opening header.now) history.now.entries }
-    requires legal { IsLegal (opening header.now) history.now.entries }
-    ensures { IsAnswer (answer (opening header.now) history.now.entries seat step) result }
+    requires seated { AreSeated (start_on header.now history.now) history.now.entries }
+    requires legal { IsLegal (start_on header.now history.now) history.now.entries }
+    ensures { IsAnswer (answer (start_on header.now history.now) history.now.entries seat step) result }
 {
     let ledger = ledger_of(alloc, header, history)?;
     match entry_for(&ledger, seat, step) {

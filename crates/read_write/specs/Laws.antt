@@ -1,9 +1,10 @@
 -- A read-write lock's hooks as an open makes them, and counts that hooks stand for.
-use Rattle.std.proofs.Common.{◌≡◌, ℕ, length, refl, sym, pos}
+use Rattle.std.proofs.Common.{◌≡◌, ℕ, length, refl, sym, ◌∙◌, pos}
 use Rattle.history.specs.Counts.{Counts}
-use Rattle.frame.specs.Hooks.{opening_counts}
+use Rattle.history.specs.declared.entry.Mode.TheVariants.{S}
+use Rattle.frame.specs.Hooks.{AreAlike, opening_counts}
 use Rattle.frame.specs.Owners.{Owns}
-use Rattle.frame.proofs.Owners.{owns_opening, owner_seated}
+use Rattle.frame.proofs.Owners.{owns_alike, owns_opening, owner_seated}
 use Rattle.frame.proofs.Tables.{table_empty}
 use Rattle.read_write.specs.State.{Stands, state_of, rw_of, holds_by, IsOpened}
 use Rattle.read_write.specs.declared.hooks.RwHooks.{RwHooks}
@@ -19,6 +20,15 @@ opens_so s seats opened =
 
 pub same_policy : (s : RwHooks) (k : Counts) → Stands s k → k.object ≡ rw_of s
 same_policy s k h = h.object
+
+pub alike_so : (s : RwHooks) (k l : Counts) → AreAlike k l → Stands s k → Stands s l
+alike_so s k l same h =
+    record {
+      object = same.object ∙ h.object;
+      seats = same.seats ∙ h.seats;
+      owns = owns_alike s.owner s.writes k l same h.owns;
+      shared = λ i. same.held i S ∙ h.shared i;
+    }
 
 abbrev some_counts_of : RwHooks → Counts
 some_counts_of s =

@@ -147,7 +147,7 @@ impl RwHooks {
 }
 
 impl Hooks for RwHooks {
-    ghost use Rattle.read_write.specs.Laws.{opens_so, same_policy, some_counts};
+    ghost use Rattle.read_write.specs.Laws.{alike_so, opens_so, same_policy, some_counts};
     ghost use Rattle.read_write.specs.State.{Stands, rw_of, IsOpened};
 
     ghost agrees = { Stands };
@@ -159,6 +159,8 @@ impl Hooks for RwHooks {
     ghost opens = { opens_so };
 
     ghost same_object = { same_policy };
+
+    ghost alike = { alike_so };
 
     ghost stands = { some_counts };
 

@@ -1,11 +1,12 @@
 -- A lock's hooks as an open makes them, and counts that hooks stand for.
 use Rattle.std.specs.Prelude.{◌≡◌, ℕ, Option, refl, pos}
+use Rattle.std.proofs.Common.{◌∙◌}
 use Rattle.history.specs.declared.entry.Mode.{Mode}
 use Rattle.history.specs.declared.entry.Mode.TheVariants.{X, S}
 use Rattle.history.specs.Counts.{Counts}
-use Rattle.frame.specs.Hooks.{opening_counts}
+use Rattle.frame.specs.Hooks.{AreAlike, opening_counts}
 use Rattle.frame.specs.Owners.{holds_of, Owns}
-use Rattle.frame.proofs.Owners.{owns_opening, seats_for, owner_below}
+use Rattle.frame.proofs.Owners.{owns_alike, owns_opening, seats_for, owner_below}
 use Rattle.reentrant.specs.Lock.{Stands, lock_of, IsOpened}
 use Rattle.reentrant.specs.declared.lock.LockHooks.{LockHooks}
 
@@ -19,6 +20,14 @@ opens_so s seats opened =
 
 pub same_policy : (s : LockHooks) (k : Counts) → Stands s k → k.object ≡ lock_of s
 same_policy s k h = h.object
+
+pub alike_so : (s : LockHooks) (k l : Counts) → AreAlike k l → Stands s k → Stands s l
+alike_so s k l same h =
+    record {
+      object = same.object ∙ h.object;
+      owns = owns_alike s.owner s.holds k l same h.owns;
+      none_shared = λ i. same.held i S ∙ h.none_shared i;
+    }
 
 abbrev held_by : Option ℕ → ℕ → ℕ → Mode → ℕ
 held_by o holds i X = holds_of o holds i

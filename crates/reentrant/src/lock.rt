@@ -64,7 +64,7 @@ impl LockHooks {
 }
 
 impl Hooks for LockHooks {
-    ghost use Rattle.reentrant.specs.Laws.{opens_so, same_policy, some_counts};
+    ghost use Rattle.reentrant.specs.Laws.{alike_so, opens_so, same_policy, some_counts};
     ghost use Rattle.reentrant.specs.Lock.{Stands, lock_of, IsOpened};
 
     ghost agrees = { Stands };
@@ -76,6 +76,8 @@ impl Hooks for LockHooks {
     ghost opens = { opens_so };
 
     ghost same_object = { same_policy };
+
+    ghost alike = { alike_so };
 
     ghost stands = { some_counts };
 

@@ -7,7 +7,7 @@ use Rattle.audit.specs.Totals.{totals_of}
 use Rattle.audit.specs.Verdict.{IsJudgement}
 use Rattle.audit.specs.declared.verdict.Judgement.TheVariants.{Legal}
 use Rattle.history.specs.declared.header.Header.{Header}
-use Rattle.history.specs.Start.{opening}
+use Rattle.history.specs.Entries.{start_on}
 use Rattle.monitor.specs.Shown.{Shown}
 use Rattle.script.specs.Script.{ScriptView}
 use Rattle.word_lock.specs.Ticket.{LockId}
@@ -19,9 +19,15 @@ use Rattle.run_text.specs.RunText.{IsJudged}
 part_judged : (lock : LockId) (passes : List Shown) (part : ObjectReport) → IsPart lock passes part →
     IsSound part → IsJudged part
 part_judged lock passes part is sound =
-    let judged = subst (λ (k : Header). part.judgement ≡ Legal (totals_of (opening k) part.history.entries))
-    (sym is.header) is.judged in
-    (sound.0, sound.1, subst (IsJudgement part.header part.history.entries) (sym judged) (sound.1, refl))
+    let judged = subst
+    (λ (k : Header). part.judgement ≡ Legal (totals_of (start_on k part.history) part.history.entries))
+    (sym is.header) is.judged in (
+      sound.0,
+      sound.1,
+      sound.2,
+      subst (IsJudgement (start_on part.header part.history) part.history.entries) (sym judged)
+          (sound.2, refl),
+    )
 
 -- each part's judgement is the audit's
 pub parts_judged : (locks : List LockId) (columns : List (List Shown)) (parts : List ObjectReport) →

@@ -1,3 +1,4 @@
+pub mod EntryLines
 pub mod Judged
 pub mod Texts
 pub mod Written

@@ -1,41 +1,94 @@
 -- The texts of objects.
-use Rattle.std.proofs.Common.{◌≡◌, ℕ, List, [], ◌∷◌, ◌++◌, length, reverse, refl, ap, sym, ◌∙◌, append_assoc, append-nil}
-use Rattle.history.specs.declared.entry.Entry.{Entry}
+use Rattle.std.proofs.Common.{◌≡◌, ℕ, ◌+◌, List, [], ◌∷◌, ◌++◌, Option, codes, length, reverse, refl, ap, sym, subst, ◌∙◌, append_assoc}
+use Rattle.std.specs.List.{All, concat}
+use Rattle.std.proofs.lemmas.List.Elements.{All-from_recursion}
+use Rattle.audit.specs.Verdict.{verdict_of}
+use Rattle.audit.proofs.Beginnings.{good_from, header_from}
+use Rattle.driver.specs.AuditText.{audit_text}
 use Rattle.history.specs.declared.header.Header.{Header}
-use Rattle.history.specs.Entries.{ended_calls}
+use Rattle.history.specs.Base.{Base, based}
+use Rattle.history.specs.Entries.{IsBasedWell, or_opening}
+use Rattle.history.specs.EntryWords.{IsSpelt}
+use Rattle.history.specs.GoodBase.{IsGood}
+use Rattle.history.specs.Header.{IsInRange}
+use Rattle.history.specs.Legal.{calls}
 use Rattle.history.specs.Text.{ended}
-use Rattle.history_text.specs.HistoryText.{history_form, history_text}
-use Rattle.history_text.proofs.HistoryReading.{end_of}
-use Rattle.line_text.specs.Form.{lines_of}
-use Rattle.driver.specs.Answers.{AllAnswers, first_line, text_behind}
-use Rattle.driver.specs.declared.form.Form.TheVariants.{History}
+use Rattle.history.proofs.GoodBases.{good_waits}
+use Rattle.history_text.specs.BaseText.{IsHeadPut, lines_text}
+use Rattle.history_text.specs.EntryLines.{counts_line}
+use Rattle.history_text.specs.HistoryLines.{head_line, head_of, lines_told}
+use Rattle.history_text.specs.Pieces.{entry_lines}
+use Rattle.history_text.proofs.HeadWritten.{sum_calls}
+use Rattle.history_text.proofs.Lists.{each-reverse}
+use Rattle.history_text.proofs.Pieces.{pieces}
+use Rattle.history_text.proofs.Spelt.{all_spelt_on}
 use Rattle.script.specs.Script.{Named}
 use Rattle.workers.specs.declared.report.ObjectReport.{ObjectReport}
-use Rattle.std.specs.List.{concat}
-use Rattle.run_text.specs.RunText.{part_text, parts_text}
+use Rattle.run_text.specs.RunText.{IsJudged, base_of, foot_text, head_text, name_line, part_text, parts_text, shares_line}
 use Rattle.run_text.proofs.Written.{concat_last}
 
--- the answers that a history says, without remarks
-abbrev pub answers_of : Header → List Entry → AllAnswers
-answers_of header h = record { header = header; entries = h; remarks = [] }
+regrouped : (name first base entries end audit shares : List ℕ) →
+    ((name ++ first) ++ base) ++ entries ++ ((end ++ audit) ++ shares)
+    ≡ (name ++ (first ++ (base ++ (entries ++ end)))) ++ audit ++ shares
+regrouped name first base entries end audit shares = simp append_assoc
 
-history_is : (header : Header) (h : List Entry) →
-    ended (first_line History header) ++ text_behind History (answers_of header h) ≡ history_text header h
-history_is header h =
-    ap (λ (t : List ℕ). ended (first_line History header) ++ (lines_of history_form 0 (reverse h) ++ ended t))
-    (end_of h (length h) (ended_calls h) refl refl)
+abbrev pub good_base : (part : ObjectReport) → IsJudged part → IsGood (base_of part)
+good_base part is = good_from part.header part.history.base is.0 is.1
 
--- a name's line, a history text, and two texts behind it
-pub part_is : (name : List ℕ) (header : Header) (h : List Entry) (audit shares : List ℕ) →
-    (name ++ ended (first_line History header)) ++ text_behind History (answers_of header h) ++
-    (audit ++ shares)
-    ≡ name ++ history_text header h ++ audit ++ shares
-part_is name header h audit shares =
-    let first = ended (first_line History header) in
-    let behind = text_behind History (answers_of header h) in
-    sym (append_assoc ((name ++ first) ++ behind) audit shares)
-    ∙ ap (λ (t : List ℕ). t ++ audit ++ shares)
-    (append_assoc name first behind ∙ ap (λ (t : List ℕ). name ++ t) (history_is header h))
+-- a name's line and the first lines of a history text, the lines of its entries, and what stands behind them
+pub part_is : (name : List ℕ) (part : ObjectReport) → IsJudged part →
+    head_text name (base_of part) ++ entry_lines (base_of part).entries (reverse part.history.entries)
+    ++ foot_text part
+    ≡ part_text name part
+part_is name part is =
+    let b = base_of part in
+    let audit = audit_text b part.history.entries (verdict_of part.judgement) in
+    let shares = ended (shares_line part.share) in
+    let range = subst IsInRange (sym (header_from part.header part.history.base is.1)) is.0 in
+    regrouped (ended (name_line name)) (ended (head_line (head_of b))) (lines_text (lines_told b))
+    (entry_lines b.entries (reverse part.history.entries))
+    (ended (counts_line (b.entries + length part.history.entries) (calls (based b) part.history.entries)))
+    audit shares
+    ∙ ap (λ (t : List ℕ). ended (name_line name) ++ t ++ audit ++ shares)
+    (sym (pieces b part.history.entries range (good_base part is)))
+
+-- each entry has a line
+pub lines_spelt : (part : ObjectReport) → IsJudged part → All IsSpelt (reverse part.history.entries)
+lines_spelt part is =
+    let h = part.history.entries in
+    let s = based (base_of part) in
+    All-from_recursion IsSpelt (reverse h)
+    (each-reverse IsSpelt h (all_spelt_on s h (good_waits (base_of part) (good_base part is)) is.2))
+
+-- the lines before the entries, one after another
+pub head_lines : (name named broken new : List ℕ) (b : Base) (n c : ℕ) → named ≡ codes "object " ++ name →
+    broken ≡ named ++ 10 ∷ [] → IsHeadPut b broken new n c → new ≡ head_text name b
+head_lines name named broken new b n c p q put =
+    let rest = lines_text (lines_told b) in
+    let first = ended (head_line (head_of b)) in
+    put.lines ∙ ap (λ (t : List ℕ). t ++ (first ++ rest)) (q ∙ ap (λ (t : List ℕ). t ++ 10 ∷ []) p)
+    ∙ sym (append_assoc (ended (name_line name)) first rest)
+
+-- the calls that were ended by the entries that were folded
+pub head_calls : (k : Header) (o : Option Base) (out new : List ℕ) (n c : ℕ) → IsInRange k → IsBasedWell k o →
+    IsHeadPut (or_opening k o) out new n c → c ≡ calls (based (or_opening k o)) []
+head_calls k o out new n c range well put =
+    put.calls ∙ sum_calls (or_opening k o) (good_from k o range well)
+
+-- the lines behind the entries, one after another
+pub foot_lines : (part : ObjectReport) (n c : ℕ) (counted broken said new : List ℕ) →
+    n ≡ (base_of part).entries + length part.history.entries →
+    c ≡ calls (based (base_of part)) part.history.entries →
+    counted ≡ counts_line n c → broken ≡ counted ++ 10 ∷ [] →
+    said ≡ broken ++ audit_text (base_of part) part.history.entries (verdict_of part.judgement) →
+    new ≡ said ++ ended (shares_line part.share) → new ≡ foot_text part
+foot_lines part n c counted broken said new p q r s t u =
+    let audit = audit_text (base_of part) part.history.entries (verdict_of part.judgement) in
+    let shares = ended (shares_line part.share) in
+    let line = r ∙ ap (λ (m : ℕ). counts_line m c) p
+    ∙ ap (counts_line ((base_of part).entries + length part.history.entries)) q in
+    u ∙ ap (λ (z : List ℕ). z ++ shares) (t ∙ ap (λ (z : List ℕ). z ++ audit) (s
+    ∙ ap (λ (z : List ℕ). z ++ 10 ∷ []) line))
 
 -- one more text of an object
 pub parts_more : (objects objects' : List Named) (o : Named) (rest rest' : List ObjectReport)

@@ -1,20 +1,30 @@
 -- The text of a run.
-use Rattle.std.specs.Prelude.{ℕ, List, [], ◌∷◌, ◌++◌, codes}
+use Rattle.std.specs.Prelude.{ℕ, ◌+◌, List, [], ◌∷◌, ◌++◌, codes, length}
 use Rattle.audit.specs.Verdict.{IsJudgement, verdict_of}
 use Rattle.driver.specs.AuditText.{audit_text, number_line}
+use Rattle.history.specs.Base.{Base, based}
+use Rattle.history.specs.Entries.{IsBasedWell, base_on, start_on}
 use Rattle.history.specs.Header.{IsInRange}
-use Rattle.history.specs.Legal.{IsLegal}
-use Rattle.history.specs.Start.{opening}
+use Rattle.history.specs.Legal.{IsLegal, calls}
 use Rattle.history.specs.Text.{ended}
+use Rattle.history_text.specs.BaseText.{lines_text}
+use Rattle.history_text.specs.EntryLines.{counts_line}
+use Rattle.history_text.specs.HistoryLines.{head_line, head_of, lines_told}
 use Rattle.history_text.specs.HistoryText.{history_text}
 use Rattle.script.specs.Script.{Named}
 use Rattle.workers.specs.declared.report.ObjectReport.{ObjectReport}
 
--- the header is in range, the history legal, and the judgement the history's
+-- the header is in range, the base a good one of it, the history legal from there, and the judgement the
+-- history's
 abbrev pub IsJudged : ObjectReport → Type 0
 IsJudged part =
-    IsInRange part.header × IsLegal (opening part.header) part.history.entries
-    × IsJudgement part.header part.history.entries part.judgement
+    IsInRange part.header × IsBasedWell part.header part.history.base
+    × IsLegal (start_on part.header part.history) part.history.entries
+    × IsJudgement (start_on part.header part.history) part.history.entries part.judgement
+
+-- what the object's entries that were folded left
+abbrev pub base_of : ObjectReport → Base
+base_of part = base_on part.header part.history
 
 abbrev pub name_line : List ℕ → List ℕ
 name_line name = codes "object " ++ name
@@ -31,8 +41,19 @@ unrecorded_line count = number_line (codes "unrecorded ") count
 abbrev pub part_text : List ℕ → ObjectReport → List ℕ
 part_text name part =
     ended (name_line name)
-    ++ history_text part.header part.history.entries
-    ++ audit_text part.header part.history.entries (verdict_of part.judgement)
+    ++ history_text (base_of part) part.history.entries
+    ++ audit_text (base_of part) part.history.entries (verdict_of part.judgement)
+    ++ ended (shares_line part.share)
+
+-- what stands before the lines of its entries, and behind them
+abbrev pub head_text : List ℕ → Base → List ℕ
+head_text name b = ended (name_line name) ++ ended (head_line (head_of b)) ++ lines_text (lines_told b)
+
+abbrev pub foot_text : ObjectReport → List ℕ
+foot_text part =
+    ended (counts_line ((base_of part).entries + length part.history.entries)
+    (calls (based (base_of part)) part.history.entries))
+    ++ audit_text (base_of part) part.history.entries (verdict_of part.judgement)
     ++ ended (shares_line part.share)
 
 -- of objects in order

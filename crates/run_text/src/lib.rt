@@ -5,6 +5,7 @@
 //! [`RunText::of`] takes all memory; [`RunText::write`] takes none, and writes the lines piece by piece.
 #![tactic(auto)]
 
+mod entry_lines;
 mod part;
 mod whole;
 

@@ -1,23 +1,22 @@
 //! The text of one object of a run.
 
-ghost use Rattle.std.specs.Prelude.{◌≡◌, ◌++◌, ◌↔◌, [], false, IfErr, IfOk, IsErr, IsTrue, OnErr, OnOk};
+ghost use Rattle.std.specs.Prelude.{◌≡◌, ◌↔◌, [], false, IfErr, IfOk, IsErr, IsTrue, OnErr, OnOk};
 ghost use Rattle.std.specs.Io.KnownBytes.{Appends};
-ghost use Rattle.audit.specs.Verdict.{IsJudgement, verdict_of};
-ghost use Rattle.driver.specs.Answers.{first_line};
-ghost use Rattle.driver.specs.AuditText.{audit_text};
+ghost use Rattle.history.specs.Base.{based};
+ghost use Rattle.history.specs.Entries.{IsBasedWell, base_on, start_on};
 ghost use Rattle.history.specs.Header.{IsInRange};
-ghost use Rattle.history.specs.Text.{ended};
-ghost use Rattle.run_text.specs.RunText.{IsJudged, name_line, part_text, shares_line};
+ghost use Rattle.history.specs.Legal.{calls};
+ghost use Rattle.run_text.specs.RunText.{IsJudged, base_of, foot_text, head_text, part_text};
 ghost use Rattle.streams.specs.Whole.{AppendsFront};
 ghost use Rattle.streams.specs.declared.stream_fault.StreamFault.TheVariants.{Memory};
 
-use audit::verdict::Judgement;
-use driver::answers::{Answers, first_line};
+use crate::entry_lines::write_entries;
 use driver::audit_text::{audit_text, put_line};
-use driver::form::Form;
 use driver::line_writer::LineWriter;
 use history::entries::History;
 use history::header::Header;
+use history_text::entry_line::put_counts;
+use history_text::history_text::put_head;
 use std::alloc::Global;
 use std::marker::Model;
 use streams::sink::Sink;
@@ -31,53 +30,80 @@ use workers::ObjectReport;
 pub(crate) struct PartText {
     /// The lines before those of the entries.
     head: Vec<u8>,
-    answers: Answers,
-    /// The lines behind the history text.
+    history: History,
+    /// The number of the first entry.
+    first: u64,
+    /// The lines behind those of the entries.
     foot: Vec<u8>,
 }
 
 impl Model for PartText {
-    ghost use Rattle.std.specs.Prelude.{◌++◌, ℕ, List};
-    ghost use Rattle.driver.specs.Answers.{text_behind};
-    ghost use Rattle.driver.specs.declared.form.Form.TheVariants.{History};
+    ghost use Rattle.std.specs.Prelude.{◌++◌, ◌≤◌, ℕ, List, All, reverse};
+    ghost use Rattle.history.specs.EntryWords.{IsSpelt};
+    ghost use Rattle.history.specs.GoodBase.{most_folded};
+    ghost use Rattle.history_text.specs.Pieces.{entry_lines};
 
     ghost Value = { List ℕ };
 
-    ghost view = { λ p. p.head.items ++ text_behind History p.answers ++ p.foot.items };
+    ghost view = { λ p.
+        p.head.items ++ entry_lines p.first (reverse p.history.entries) ++ p.foot.items };
+
+    ghost invariant = { λ p. All IsSpelt (reverse p.history.entries) × (p.first ≤ most_folded) };
 }
 
-/// The line of a name and the first line of a history text.
-fn head_of(alloc: Global, name: &[u8], header: &Header) -> Result<Vec<u8>, StreamFault>
-    requires { IsInRange header.now }
-    ensures ok { IfOk result (λ head.
-        head.items ≡ ended (name_line name.now) ++ ended (first_line Form.History header.now)) }
-    ensures err { IfErr result (λ fault. fault ≡ Memory) }
-{
-    let mut head = Vec::from_slice(alloc, b"object ")?;
-    head.extend_from_slice(name)?;
-    head.push(b'\n')?;
-    head.extend_from_slice(&first_line(alloc, Form::History, header)?)?;
-    Ok(head)
+/// What stands before the entries, and what it counts.
+#[derive(Drop)]
+struct Head {
+    lines: Vec<u8>,
+    /// How many entries were folded.
+    entries: u64,
+    /// How many calls these ended.
+    calls: u64,
 }
 
-/// What the audit says of a history, and the line of the merged share.
-fn foot_of(
+/// The line of a name, the first line of a history text and the lines of the base.
+fn head_of(
     alloc: Global,
+    name: &[u8],
     header: &Header,
     history: &History,
-    judgement: &Judgement,
-    share: u64,
-) -> Result<Vec<u8>, StreamFault>
-    requires { IsJudgement header.now history.now.entries judgement.now }
-    ensures ok { IfOk result (λ foot.
-        foot.items ≡ audit_text header.now history.now.entries (verdict_of judgement.now) ++
-        ended (shares_line share)) }
+) -> Result<Head, StreamFault>
+    requires range { IsInRange header.now }
+    requires based { IsBasedWell header.now history.now.base }
+    ensures lines { IfOk result (λ head. head.lines.items
+        ≡ head_text name.now (base_on header.now history.now)) }
+    ensures entries { IfOk result (λ head. head.entries ≡ (base_on header.now history.now).entries) }
+    ensures calls { IfOk result (λ head. head.calls ≡ calls (start_on header.now history.now) []) }
     ensures err { IfErr result (λ fault. fault ≡ Memory) }
 {
-    let entries = history.len();
-    let calls = history.calls();
-    let mut foot = audit_text(alloc, header.object, entries, calls, judgement)?;
-    put_line(&mut foot, b"shares ", share)?;
+    let mut lines = Vec::from_slice(alloc, b"object ")?;
+    lines.extend_from_slice(name)?;
+    lines.push(b'\n')?;
+    let (entries, calls) = put_head(&mut lines, header, history.base())?;
+    Ok(Head {
+        lines,
+        entries,
+        calls,
+    })
+}
+
+/// The end line of a history text, what the audit says of the history, and the line of the merged share.
+fn foot_of(alloc: Global, head: &Head, part: &ObjectReport) -> Result<Vec<u8>, StreamFault>
+    requires judged { IsJudged part.now }
+    requires folded { head.now.entries ≡ (base_of part.now).entries }
+    requires calls { head.now.calls ≡ calls (based (base_of part.now)) [] }
+    ensures ok { IfOk result (λ foot. foot.items ≡ foot_text part.now) }
+    ensures err { IfErr result (λ fault. fault ≡ Memory) }
+{
+    let object = part.header.object;
+    let entries = head.entries + part.history.len();
+    let calls = head.calls + part.history.calls();
+    let mut foot = Vec::new(alloc);
+    put_counts(&mut foot, entries, calls)?;
+    foot.push(b'\n')?;
+    let audit = audit_text(alloc, object, head.entries, entries, calls, &part.judgement)?;
+    foot.extend_from_slice(&audit)?;
+    put_line(&mut foot, b"shares ", part.share)?;
     Ok(foot)
 }
 
@@ -92,18 +118,12 @@ impl PartText {
         ensures text { IfOk result (λ text. text ≡ part_text name.now part) }
         ensures err { IfErr result (λ fault. fault ≡ Memory) }
     {
-        let ObjectReport {
-            header,
-            history,
-            judgement,
-            share,
-        } = part;
-        let head = head_of(alloc, name, &header)?;
-        let foot = foot_of(alloc, &header, &history, &judgement, share)?;
-        let answers = Answers::new(header, history, Vec::new(alloc));
+        let head = head_of(alloc, name, &part.header, &part.history)?;
+        let foot = foot_of(alloc, &head, &part)?;
         Ok(PartText {
-            head,
-            answers,
+            head: head.lines,
+            history: part.history,
+            first: head.entries,
             foot,
         })
     }
@@ -122,7 +142,7 @@ impl PartText {
         ensures failing { IsTrue (W.failed writer.new) ↔ IsErr result }
     {
         write_all(writer, &self.head)?;
-        self.answers.put_all(lines, writer, Form::History)?;
+        write_entries(lines, writer, &self.history, self.first)?;
         write_all(writer, &self.foot)
     }
 }

@@ -7,7 +7,7 @@ use Rattle.history.proofs.Plain.{ArePlain, words_again, decimal_plain}
 use Rattle.steps.proofs.StepLemmas.{asked_again, condition_again, mode_plain}
 use Rattle.monitor.specs.declared.how.How.TheVariants.{Plain, Interruptible, Timed}
 use Rattle.script.specs.declared.action.Action.{Action}
-use Rattle.script.specs.declared.action.Action.TheVariants.{Acquire, TryAcquire, Release, AwaitOn, Signal, SignalAll, Drain}
+use Rattle.script.specs.declared.action.Action.TheVariants.{Acquire, TryAcquire, Release, AwaitOn, Signal, SignalAll, Drain, Trim}
 use Rattle.script.specs.CallReading.{timed_at, timed_acquire_at, timed_await_at, waiting_at, action_at}
 use Rattle.script.specs.CallText.{action_words, HasAmounts}
 
@@ -22,6 +22,7 @@ action_words_again (AwaitOn c Interruptible) lt = rw (condition_again c [] lt) r
 action_words_again (Signal c) lt = rw (condition_again c [] lt) refl
 action_words_again (SignalAll c) lt = rw (condition_again c [] lt) refl
 action_words_again Drain lt = refl
+action_words_again Trim lt = refl
 action_words_again (Acquire m n (Timed ms)) lt =
     rw (
       asked_again m n (decimal ms ∷ []) lt.0,
@@ -60,6 +61,7 @@ action_plain (AwaitOn c (Timed ms)) lt =
 action_plain (Signal c) lt = (refl, (decimal_plain c (omega (arith, lt)), tt))
 action_plain (SignalAll c) lt = (refl, (decimal_plain c (omega (arith, lt)), tt))
 action_plain Drain lt = (refl, tt)
+action_plain Trim lt = (refl, tt)
 
 cut_again : (ws : Words) (x : Action × Words) → ArePlain ws → action_at ws ≡ Some x →
     words_of (line_of ws) ≡ ws
@@ -89,3 +91,4 @@ behind_name name (AwaitOn c (Timed ms)) = refl
 behind_name name (Signal c) = refl
 behind_name name (SignalAll c) = refl
 behind_name name Drain = refl
+behind_name name Trim = refl

@@ -5,7 +5,7 @@ use Rattle.history.specs.declared.entry.Mode.{Mode}
 use Rattle.monitor.specs.declared.how.How.{How}
 use Rattle.monitor.specs.declared.how.How.TheVariants.{Plain, Interruptible, Timed}
 use Rattle.script.specs.declared.action.Action.{Action}
-use Rattle.script.specs.declared.action.Action.TheVariants.{Acquire, TryAcquire, Release, AwaitOn, Signal, SignalAll, Drain}
+use Rattle.script.specs.declared.action.Action.TheVariants.{Acquire, TryAcquire, Release, AwaitOn, Signal, SignalAll, Drain, Trim}
 use Rattle.steps.specs.StepReading.{asked_at, condition_at}
 
 -- a wait with a deadline
@@ -44,6 +44,7 @@ waiting_at w ws = if bytes_eq w (codes "await") then on_condition_at (λ c. Awai
     else if bytes_eq w (codes "signal") then on_condition_at Signal ws
     else if bytes_eq w (codes "signalall") then on_condition_at SignalAll ws
     else if bytes_eq w (codes "drain") then Some (Drain, ws)
+    else if bytes_eq w (codes "trim") then Some (Trim, ws)
     else None
 
 -- a call of an object, by its first word

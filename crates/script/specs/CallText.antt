@@ -5,7 +5,7 @@ use Rattle.history.specs.Text.{line_of}
 use Rattle.monitor.specs.declared.how.How.TheVariants.{Plain, Interruptible, Timed}
 use Rattle.script.specs.Script.{Named}
 use Rattle.script.specs.declared.action.Action.{Action}
-use Rattle.script.specs.declared.action.Action.TheVariants.{Acquire, TryAcquire, Release, AwaitOn, Signal, SignalAll, Drain}
+use Rattle.script.specs.declared.action.Action.TheVariants.{Acquire, TryAcquire, Release, AwaitOn, Signal, SignalAll, Drain, Trim}
 use Rattle.script.specs.declared.call.Call.{Call}
 use Rattle.script.specs.declared.call.Call.TheVariants.{On, Interrupt}
 
@@ -21,6 +21,7 @@ action_words (AwaitOn c (Timed ms)) = codes "await-timed" ∷ decimal c ∷ deci
 action_words (Signal c) = codes "signal" ∷ decimal c ∷ []
 action_words (SignalAll c) = codes "signalall" ∷ decimal c ∷ []
 action_words Drain = codes "drain" ∷ []
+action_words Trim = codes "trim" ∷ []
 
 -- amounts and milliseconds of 32 bits, conditions of 8: more than an object may have, as in a steps text
 abbrev pub HasAmounts : Action → Type 0
@@ -35,6 +36,7 @@ HasAmounts (AwaitOn c (Timed ms)) = (c < 2 ^ 8) × (ms < 2 ^ 32)
 HasAmounts (Signal c) = c < 2 ^ 8
 HasAmounts (SignalAll c) = c < 2 ^ 8
 HasAmounts Drain = Unit {0}
+HasAmounts Trim = Unit {0}
 
 -- the name of one of the objects and what is asked of it, or the interrupt of one of so many threads
 abbrev pub Spells : List Named → ℕ → Call → List ℕ → Type 0

@@ -23,4 +23,6 @@ pub enum Action {
     SignalAll(u8),
     /// Takes all free permits.
     Drain,
+    /// Folds the entries of the history into its base. No entry tells of it.
+    Trim,
 }

@@ -65,6 +65,8 @@ fn waiting(name: &[u8], words: &mut Words<'_>) -> Option<Action>
         Some(Action::SignalAll(condition(words)?))
     } else if name == b"drain".as_slice() {
         Some(Action::Drain)
+    } else if name == b"trim".as_slice() {
+        Some(Action::Trim)
     } else {
         None
     }

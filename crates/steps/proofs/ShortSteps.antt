@@ -1,5 +1,5 @@
 -- The lines of a steps text are short.
-use Rattle.std.proofs.Common.{◌≡◌, ℕ, ◌+◌, ◌*◌, ◌<◌, ◌≤◌, ◌^◌, List, [], ◌∷◌, ◌++◌, length, arith, decimal}
+use Rattle.std.proofs.Common.{◌≡◌, ℕ, ◌<◌, ◌≤◌, ◌^◌, List, [], ◌∷◌, length, arith, decimal}
 use Rattle.std.specs.Prelude.{codes}
 use Rattle.history.specs.declared.entry.Mode.{Mode}
 use Rattle.history.specs.declared.entry.Mode.TheVariants.{X, S}
@@ -10,7 +10,13 @@ use Rattle.history.specs.Text.{ended}
 use Rattle.line_text.specs.Short.{HasShortLines}
 use Rattle.line_text.proofs.Lengths.{AreShort, decimal_short, header_short, line_length}
 use Rattle.std.proofs.lemmas.List.{length-append}
-use Rattle.steps.specs.StepLines.{HasAmounts, IsStep, end_line, step_line, step_words}
+use Rattle.frame.specs.declared.acts.Act.{Act}
+use Rattle.frame.specs.declared.acts.Act.TheVariants.{Do, Trim}
+use Rattle.history.specs.Header.{IsInRange}
+use Rattle.steps.specs.declared.header.Format.{Format}
+use Rattle.steps.specs.declared.header.Format.TheVariants.{One, Two}
+use Rattle.steps.specs.declared.header.StepsHeader.{StepsHeader}
+use Rattle.steps.specs.StepLines.{HasAmounts, IsAct, IsStep, act_line, end_line, name_of, step_line, step_words}
 use Rattle.steps.specs.StepsText.{steps_form}
 
 pub mode_short : (m : Mode) → length (mode_word m) ≤ 20
@@ -49,12 +55,20 @@ pub end_short : (count : ℕ) → count < 2 ^ 64 → length (end_line count) < 2
 end_short count lt =
     omega (arith, decimal_short count lt, length-append (codes "end ") (decimal count))
 
+act_short : (h : StepsHeader) (a : Act) → IsInRange h.header → IsAct h a → length (act_line a) < 256
+act_short h (Do i step) header fits = step_short h.header.seats (i, step) header.seats fits
+act_short h Trim header fits = omega arith
+
+name_short : (f : Format) → length (name_of f) ≤ 20
+name_short One = omega arith
+name_short Two = omega arith
+
 pub short : HasShortLines steps_form 256
 short =
     record {
-      header = λ h fits. header_short (codes "aqs-steps 1 ") h (omega arith) fits;
-      item = λ h k s header fits. step_short h.seats s header.seats fits;
-      end = λ steps lt. omega (arith, end_short (length steps) (omega (arith, lt)));
+      header = λ h fits. header_short (name_of h.format) h.header (name_short h.format) fits;
+      item = λ h before a header each fits. act_short h a header fits;
+      end = λ h acts header each lt. omega (arith, end_short (length acts) (omega (arith, lt)));
     }
 
 -- the end line and its break

@@ -1,13 +1,21 @@
 -- The lines of a steps text can be told apart.
-use Rattle.std.proofs.Common.{◌≡◌, ℕ, ◌<◌, ◌^◌, List, [], ◌∷◌, length, Some, refl, sym, ap, ◌∙◌, arith, decimal}
+use Rattle.std.proofs.Common.{◌≡◌, ℕ, ◌<◌, ◌^◌, true, List, [], ◌∷◌, ◌++◌, length, Some, refl, sym, ap, ◌∙◌, arith, decimal}
 use Rattle.std.specs.Prelude.{codes}
+use Rattle.history.specs.declared.header.Header.{Header}
 use Rattle.history.specs.declared.step.Step.{Step}
+use Rattle.history.specs.Header.{IsInRange}
+use Rattle.history.specs.Spelling.{part_of}
 use Rattle.history.specs.Text.{words_of}
 use Rattle.history.proofs.Numbers.{digits_alone}
 use Rattle.history.proofs.Plain.{ArePlain, words_again, decimal_plain}
-use Rattle.line_text.proofs.Lawful.{IsLawful}
-use Rattle.line_text.proofs.WholeLines.{line_lacks, header_whole, header_one}
-use Rattle.steps.specs.StepLines.{step_words, step_line, end_line, IsStep}
+use Rattle.line_text.proofs.Lawful.{IsLawful, Lacks}
+use Rattle.line_text.proofs.WholeLines.{has_no_break, line_lacks, header_whole, header_one, same_behind}
+use Rattle.frame.specs.declared.acts.Act.{Act}
+use Rattle.frame.specs.declared.acts.Act.TheVariants.{Do, Trim}
+use Rattle.steps.specs.declared.header.Format.{Format}
+use Rattle.steps.specs.declared.header.Format.TheVariants.{One, Two}
+use Rattle.steps.specs.declared.header.StepsHeader.{StepsHeader}
+use Rattle.steps.specs.StepLines.{step_words, step_line, act_line, end_line, header_line, name_of, IsAct, IsStep}
 use Rattle.steps.specs.StepReading.{line_at}
 use Rattle.steps.specs.StepsText.{steps_form}
 use Rattle.steps.proofs.StepLemmas.{line_plain, whole_line}
@@ -38,18 +46,85 @@ step_no_end seats s k small fits lt e =
     let seat : codes "end" ≡ decimal s.0 = sym (first_word _ _ _ _ words) in
     omega (arith, digits_alone (codes "end") s.0 0 (omega (arith, fits.0)) (omega arith) seat)
 
+trim_words : ArePlain (codes "trim" ∷ [])
+trim_words = (refl, tt)
+
+step_no_trim : (seats : ℕ) (s : ℕ × Step) → seats < 2 ^ 32 → IsStep seats s → step_line s ≡ codes "trim" → ⊥
+step_no_trim seats s small fits e =
+    let words = sym (words_again (decimal s.0) (step_words s.1) (line_plain seats s small fits))
+    ∙ ap words_of e ∙ words_again (codes "trim") [] trim_words in
+    let seat : codes "trim" ≡ decimal s.0 = sym (first_word _ _ _ _ words) in
+    omega (arith, digits_alone (codes "trim") s.0 0 (omega (arith, fits.0)) (omega arith) seat)
+
+act_whole : (h : StepsHeader) (a : Act) → IsInRange h.header → IsAct h a → Lacks (act_line a)
+act_whole h (Do i step) header fits =
+    line_lacks (decimal i ∷ step_words step) (line_plain h.header.seats (i, step)
+    (omega (arith, header.seats)) fits)
+act_whole h Trim header fits = line_lacks (codes "trim" ∷ []) trim_words
+
+same_act : (h : StepsHeader) (a b : Act) → IsInRange h.header → IsAct h a → IsAct h b →
+    act_line a ≡ act_line b → a ≡ b
+same_act h (Do i step) (Do j other) header p q e =
+    ap (λ (s : ℕ × Step). Do s.0 s.1)
+    (same_step h.header.seats (i, step) (j, other) (omega (arith, header.seats)) p q e)
+same_act h (Do i step) Trim header p q e =
+    absurd (step_no_trim h.header.seats (i, step) (omega (arith, header.seats)) p e)
+same_act h Trim (Do i step) header p q e =
+    absurd (step_no_trim h.header.seats (i, step) (omega (arith, header.seats)) q (sym e))
+same_act h Trim Trim header p q e = refl
+
+first_byte : (x y : ℕ) (xs ys : List ℕ) → x ∷ xs ≡ y ∷ ys → x ≡ y
+first_byte x y xs ys e = cc
+
+trim_no_end : (k : ℕ) → k < 2 ^ 32 → codes "trim" ≡ end_line k → ⊥
+trim_no_end k lt e =
+    let letter : 116 ≡ 101 = first_byte _ _ _ _ e in
+    omega (arith, letter)
+
+act_no_end : (h : StepsHeader) (a : Act) (k : ℕ) → IsInRange h.header → IsAct h a → k < 2 ^ 32 →
+    act_line a ≡ end_line k → ⊥
+act_no_end h (Do i step) k header fits lt e =
+    step_no_end h.header.seats (i, step) k (omega (arith, header.seats)) fits lt e
+act_no_end h Trim k header fits lt e = trim_no_end k lt e
+
+-- ---- the first line
+
+pub name_whole : (f : Format) → has_no_break (name_of f) ≡ true
+name_whole One = refl
+name_whole Two = refl
+
+first_whole : (h : StepsHeader) → IsInRange h.header → Lacks (header_line h)
+first_whole h fits = header_whole (name_of h.format) h.header (name_whole h.format) fits
+
+-- the formats have other names
+other_names : (a b : List ℕ) → codes "aqs-steps 1 " ++ a ≡ codes "aqs-steps 2 " ++ b → ⊥
+other_names a b e =
+    let digit : 49 ≡ 50 =
+    first_byte _ _ _ _ (same_behind (codes "aqs-steps ") (49 ∷ 32 ∷ a) (50 ∷ 32 ∷ b) e) in
+    omega (arith, digit)
+
+first_one_by : (f g : Format) (h k : Header) → IsInRange h → IsInRange k →
+    name_of f ++ part_of h ≡ name_of g ++ part_of k → (f ≡ g) × (h ≡ k)
+first_one_by One One h k p q e = (refl, header_one (codes "aqs-steps 1 ") h k p q e)
+first_one_by Two Two h k p q e = (refl, header_one (codes "aqs-steps 2 ") h k p q e)
+first_one_by One Two h k p q e = absurd (other_names (part_of h) (part_of k) e)
+first_one_by Two One h k p q e = absurd (other_names (part_of k) (part_of h) (sym e))
+
+first_one : (h k : StepsHeader) → IsInRange h.header → IsInRange k.header → header_line h ≡ header_line k →
+    h ≡ k
+first_one h k p q e =
+    let same = first_one_by h.format k.format h.header k.header p q e in
+    ap (λ (f : Format). record { format = f; header = h.header }) same.0
+    ∙ ap (λ (x : Header). record { format = k.format; header = x }) same.1
+
 pub lawful : IsLawful steps_form
 lawful =
     record {
-      header_whole = λ h fits. header_whole (codes "aqs-steps 1 ") h refl fits;
-      header_one = header_one (codes "aqs-steps 1 ");
-      item_whole =
-          λ h k s header fits. line_lacks (decimal s.0 ∷ step_words s.1)
-          (line_plain h.seats s (omega (arith, header.seats)) fits);
-      item_one = λ h k s r header p q e. same_step h.seats s r (omega (arith, header.seats)) p q e;
+      header_whole = first_whole;
+      header_one = first_one;
+      item_whole = λ h before a stand fits. act_whole h a stand.header fits;
+      item_one = λ h before a b stand p q e. same_act h a b stand.header p q e;
       end_whole =
-          λ steps lt. line_lacks (codes "end" ∷ decimal (length steps) ∷ []) (end_words (length steps) lt);
-      item_no_end =
-          λ h k s steps header fits lt e. step_no_end h.seats s (length steps) (omega (arith, header.seats))
-          fits lt e;
+          λ h acts stand lt. line_lacks (codes "end" ∷ decimal (length acts) ∷ []) (end_words (length acts) lt);
+      item_no_end = λ h acts a stand fits lt e. act_no_end h a (length acts) stand.header fits lt e;
     }

@@ -1,11 +1,15 @@
 -- The lines of a steps text.
 use Rattle.std.specs.Prelude.{◌≡◌, ℕ, ◌<◌, ◌^◌, List, [], ◌∷◌, ◌++◌, length, codes, decimal}
-use Rattle.history.specs.declared.header.Header.{Header}
+use Rattle.frame.specs.declared.acts.Act.{Act}
+use Rattle.frame.specs.declared.acts.Act.TheVariants.{Do, Trim}
 use Rattle.history.specs.declared.step.Step.{Step}
 use Rattle.history.specs.declared.step.Step.TheVariants.{Acquire, Try, TryFair, EntryInterrupt, Give, Look, Expire, Interrupt, Await, Signal, SignalAll, Drain}
 use Rattle.history.specs.EntryWords.{mode_word}
 use Rattle.history.specs.Spelling.{part_of}
 use Rattle.history.specs.Text.{ended, line_of}
+use Rattle.steps.specs.declared.header.Format.{Format}
+use Rattle.steps.specs.declared.header.Format.TheVariants.{One, Two}
+use Rattle.steps.specs.declared.header.StepsHeader.{StepsHeader}
 
 abbrev pub step_words : Step → List (List ℕ)
 step_words (Acquire m n) = codes "acquire" ∷ mode_word m ∷ decimal n ∷ []
@@ -50,8 +54,22 @@ BeginsWith text found =
 abbrev pub step_line : ℕ × Step → List ℕ
 step_line s = line_of (decimal s.0 ∷ step_words s.1)
 
-abbrev pub header_line : Header → List ℕ
-header_line h = codes "aqs-steps 1 " ++ part_of h
+-- An act under a header. Only a text of format 2 has trims.
+abbrev pub IsAct : StepsHeader → Act → Type 0
+IsAct h (Do seat step) = IsStep h.header.seats (seat, step)
+IsAct h Trim = h.format ≡ Two
+
+-- a trim is of no seat
+abbrev pub act_line : Act → List ℕ
+act_line (Do seat step) = step_line (seat, step)
+act_line Trim = codes "trim"
+
+abbrev pub name_of : Format → List ℕ
+name_of One = codes "aqs-steps 1 "
+name_of Two = codes "aqs-steps 2 "
+
+abbrev pub header_line : StepsHeader → List ℕ
+header_line h = name_of h.format ++ part_of h.header
 
 abbrev pub end_line : ℕ → List ℕ
 end_line count = codes "end " ++ decimal count

@@ -1,11 +1,13 @@
-//! The steps text: a header and the steps of its object's seats.
+//! The steps text: a header and the steps of its object's seats, in format 2 with trims between them.
 //!
-//! Each text is a steps text, with one header and one list of steps, or it has one first fault:
+//! Each text is a steps text, with one header and one list of acts, or it has one first fault:
 //! [`one_reading`]. What begins a steps text and isn't all of it is cut short: [`cut_short`].
 #![tactic(auto)]
 
+mod act_line;
 mod common_step;
 mod end_line;
+pub mod header;
 mod law;
 pub mod next_line;
 mod step_line;

@@ -16,3 +16,5 @@ mod runs;
 mod scarce;
 mod seen;
 mod texts;
+mod told_seats;
+mod trimmed;

@@ -43,6 +43,9 @@ pub(crate) fn drawn(
     from: u64,
     entries: &[Entry],
 ) -> Result<Drawn, Fail> {
+    if !header.in_range() {
+        return Err(Fail::new("a header out of range"));
+    }
     for entry in entries {
         if entry.seat >= header.seats {
             return Err(Fail::new("an entry of no seat"));
@@ -51,7 +54,7 @@ pub(crate) fn drawn(
     if entries.len() > 64 {
         return Err(Fail::new("too many entries"));
     }
-    Ok(drawn_of(alloc, header, from, entries)?)
+    Ok(drawn_of(alloc, header, None, from, entries)?)
 }
 
 pub(crate) fn on(seat: u16, word: Word, at: u8, n: u32) -> Entry {
@@ -65,7 +68,7 @@ pub(crate) fn on(seat: u16, word: Word, at: u8, n: u32) -> Entry {
     }
 }
 
-fn bar(seat: u16, kind: Kind, first: u64, last: u64, holds: u64) -> Bar {
+fn bar(seat: u16, kind: Kind, first: u64, last: u64, holds: u128) -> Bar {
     Bar {
         seat,
         kind,

@@ -21,10 +21,10 @@ fn fed(alloc: Global, entries: [Entry; 2]) -> Result<(Drawn, usize), Fail> {
         return Err(Fail::new("an entry of no seat"));
     }
     // The stack grows to its depth first: where it finds no memory the system ends the program.
-    drawn_of(alloc, LOCK, 0, &entries)?;
+    drawn_of(alloc, LOCK, None, 0, &entries)?;
     let mut memory = Memory::take_all(alloc, PIECE)?;
     for refused in 0..MOST {
-        match drawn_of(alloc, LOCK, 0, &entries) {
+        match drawn_of(alloc, LOCK, None, 0, &entries) {
             Ok(drawn) => return Ok((drawn, refused)),
             Err(_) => {
                 let _was_left = memory.give_piece();

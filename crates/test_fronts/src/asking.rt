@@ -65,6 +65,8 @@ pub enum Act<C> {
     Call(C),
     /// No call: the seat is interrupted.
     Interrupt,
+    /// No call of a front type: so many entries are folded.
+    Trim(u64),
 }
 
 /// Acts by a pass, and compares the reply.
@@ -88,5 +90,9 @@ pub fn perform<H: Hooks + Drop, C: Ask<H>, P: Parking, R: Abort + Wait + Clock>(
             assert!(rt; reply == told, "{seat} {call:?}: {reply:?}");
         }
         Act::Interrupt => parking.interrupt(seat),
+        Act::Trim(count) => {
+            let folded = monitor.trim(rt, pass);
+            assert!(rt; folded == Ok(*count), "{seat} {act:?}: {folded:?}");
+        }
     }
 }

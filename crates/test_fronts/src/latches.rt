@@ -100,6 +100,24 @@ fn a_latch_is_open_from_zero_on(rt: HostRuntime) -> Result<(), Fail> {
     Ok(())
 }
 
+/// The count stands behind a trim.
+const TRIMMED: [Row<LatchCall>; 7] = [
+    (0, COUNT_DOWN, Reply::Done),
+    (1, Act::Trim(1), Reply::Done),
+    (1, Act::Call(LatchCall::AwaitZeroFor(0)), Reply::No),
+    (0, COUNT_DOWN, Reply::Done),
+    (0, Act::Trim(2), Reply::Done),
+    (1, AWAIT_ZERO, Reply::Done),
+    (0, COUNT_DOWN, Reply::Done),
+];
+
+#[test]
+fn a_latch_goes_on_behind_a_trim(rt: HostRuntime) -> Result<(), Fail> {
+    let findings = play(&rt, Vec::new(rt.alloc()), &TRIMMED)?;
+    assert_eq!(rt; findings.calls, 5);
+    Ok(())
+}
+
 const COUNT_ONE: [Row<LatchCall>; 1] = [(1, COUNT_DOWN, Reply::Done)];
 
 const STAND_AT_IT: [Turn<LatchCall>; 1] = [(AWAIT_ZERO, Reply::Done)];

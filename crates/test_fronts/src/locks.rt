@@ -140,6 +140,29 @@ fn each_way_to_take_a_lock_is_reentrant(rt: HostRuntime) -> Result<(), Fail> {
     Ok(())
 }
 
+/// A lock that another seat folds, with two holds and with none.
+const TRIMMED: [Row<LockCall>; 11] = [
+    (0, LOCK, Reply::Done),
+    (0, LOCK, Reply::Done),
+    (1, Act::Trim(2), Reply::Done),
+    (1, Act::Call(LockCall::TryLock), Reply::No),
+    (0, UNLOCK, Reply::Done),
+    (0, UNLOCK, Reply::Done),
+    (0, UNLOCK, NOT_OWNER),
+    (0, Act::Trim(4), Reply::Done),
+    (0, Act::Trim(0), Reply::Done),
+    (1, LOCK, Reply::Done),
+    (1, UNLOCK, Reply::Done),
+];
+
+// The calls before a base are counted too.
+#[test]
+fn a_lock_goes_on_behind_a_trim(rt: HostRuntime) -> Result<(), Fail> {
+    let findings = play(&rt, Vec::new(rt.alloc()), &TRIMMED)?;
+    assert_eq!(rt; findings.calls, 8);
+    Ok(())
+}
+
 const REFUSED: [Row<LockCall>; 16] = [
     (0, LOCK, Reply::Done),
     (1, Act::Call(LockCall::TryLockFor(0)), Reply::No),

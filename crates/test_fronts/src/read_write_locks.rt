@@ -224,6 +224,27 @@ fn a_writer_goes_on_as_a_reader(rt: HostRuntime) -> Result<(), Fail> {
     Ok(())
 }
 
+/// Who reads and who writes stands behind a trim.
+const TRIMMED: [Row<ReadWriteCall>; 10] = [
+    (0, READ, Reply::Done),
+    (1, READ, Reply::Done),
+    (1, Act::Trim(2), Reply::Done),
+    (0, TRY_TO_WRITE, Reply::No),
+    (0, END_READ, Reply::Done),
+    (1, END_READ, Reply::Done),
+    (0, WRITE, Reply::Done),
+    (0, Act::Trim(4), Reply::Done),
+    (1, TRY_TO_READ, Reply::No),
+    (0, END_WRITE, Reply::Done),
+];
+
+#[test]
+fn a_read_write_lock_goes_on_behind_a_trim(rt: HostRuntime) -> Result<(), Fail> {
+    let findings = play(&rt, Vec::new(rt.alloc()), &TRIMMED)?;
+    assert_eq!(rt; findings.calls, 8);
+    Ok(())
+}
+
 const HELD_BACK: [Row<ReadWriteCall>; 13] = [
     (0, READ, Reply::Done),
     (0, WRITE_IN_TIME, Reply::No),

@@ -107,6 +107,26 @@ fn a_semaphore_holds_back_who_asks_for_more_than_is_free(rt: HostRuntime) -> Res
     Ok(())
 }
 
+/// Permits beyond those that were created stand behind a trim, and so does what each seat holds.
+const TRIMMED: [Row<SemaphoreCall>; 8] = [
+    (0, TAKE_ONE, Reply::Done),
+    (1, Act::Call(SemaphoreCall::Release(2)), Reply::Done),
+    (0, Act::Trim(2), Reply::Done),
+    (1, DRAIN, Reply::Number(4)),
+    (0, Act::Call(SemaphoreCall::Release(1)), Reply::Done),
+    (1, Act::Trim(2), Reply::Done),
+    (0, TRY_ONE, Reply::Yes),
+    (1, TRY_ONE, Reply::No),
+];
+
+#[test]
+fn a_semaphore_goes_on_behind_a_trim(rt: HostRuntime) -> Result<(), Fail> {
+    let opened = open_semaphore(rt.alloc(), Policy::NonFair, 3, THREE.seats, THREE.cap)?;
+    let findings = one_thread::play(&rt, &THREE, opened, Vec::new(rt.alloc()), &TRIMMED)?;
+    assert_eq!(rt; findings.calls, 6);
+    Ok(())
+}
+
 const REFUSED: [Row<SemaphoreCall>; 9] = [
     (0, TRY_ONE, Reply::No),
     (0, DRAIN, Reply::Number(0)),

@@ -1,6 +1,6 @@
 //! Tokens that add entries under the lock.
 ghost use Rattle.std.specs.Prelude.{◌≡◌, ◌+◌, ◌<◌, true, IfOk};
-ghost use Rattle.word_lock.specs.declared.point.Point.{Point};
+ghost use Rattle.history.specs.declared.point.Point.{Point};
 ghost use Rattle.word_lock.specs.Ticket.{opening_tickets};
 ghost use Rattle.word_lock.specs.Ready.{IsReady};
 

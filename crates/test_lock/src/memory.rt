@@ -5,7 +5,9 @@
 //! the other. And since a turn gives back one block, an opening that kept some when refused would never be
 //! granted.
 
-ghost use Rattle.std.specs.Prelude.{◌≡◌, []};
+ghost use Rattle.std.specs.Prelude.{ℕ, [], reverse};
+ghost use Rattle.history.specs.Base.{opening_base};
+ghost use Rattle.word_lock.specs.Point.{Agrees};
 
 use crate::notes::{HEADER, Notes};
 use history::fault::Fault;
@@ -25,7 +27,8 @@ const REQUESTS: usize = 3;
 
 /// How often memory was refused before a lock was opened. Each time the value came back, and its memory.
 fn refusals<R: Abort + AllocGlobal>(rt: &R, notes: Notes) -> Result<usize, Fail>
-    requires { notes.list.items ≡ [] }
+    requires { (seat : ℕ) → Agrees
+        (record { base = opening_base notes.header; entries = reverse notes.list.items }) seat [] }
 {
     let mut memory = Memory::take_all(rt.alloc(), PIECE)?;
     let mut notes = notes;

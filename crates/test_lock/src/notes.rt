@@ -1,6 +1,8 @@
-//! A value to lock: a header beside entries, oldest first.
-ghost use Rattle.std.specs.Prelude.{◌≡◌, [], reverse, IfOk};
-ghost use Rattle.word_lock.specs.Point.{Follows};
+//! A value to lock: a header beside entries, oldest first. Its point is the base of that header as it is
+//! opened, and these entries.
+ghost use Rattle.std.specs.Prelude.{◌≡◌, ℕ, [], reverse, IfOk};
+ghost use Rattle.history.specs.Base.{opening_base};
+ghost use Rattle.word_lock.specs.Point.{Agrees, Follows};
 
 use history::entry::{End, Entry, Mode, Word};
 use history::header::{Header, Object, Policy};
@@ -35,8 +37,9 @@ pub struct Notes {
 
 impl Chronicle for Notes {
     ghost use Rattle.std.specs.Prelude.{reverse};
+    ghost use Rattle.history.specs.Base.{opening_base};
 
-    ghost point = { λ n. record { header = n.header; list = reverse n.list.items } };
+    ghost point = { λ n. record { base = opening_base n.header; entries = reverse n.list.items } };
 
     ghost fact = { λ _. Unit {0} };
 
@@ -47,7 +50,8 @@ impl Chronicle for Notes {
 
 impl Notes {
     pub fn new(alloc: Global) -> Notes
-        ensures { result.list.items ≡ [] }
+        ensures { (seat : ℕ) → Agrees
+            (record { base = opening_base result.header; entries = reverse result.list.items }) seat [] }
     {
         Notes {
             header: HEADER,
@@ -57,7 +61,8 @@ impl Notes {
 
     /// Notes that have room for so many entries.
     pub fn with_room(alloc: Global, entries: usize) -> Result<Notes, AllocError>
-        ensures { IfOk result (λ notes. notes.list.items ≡ []) }
+        ensures { IfOk result (λ notes. (seat : ℕ) → Agrees
+            (record { base = opening_base notes.header; entries = reverse notes.list.items }) seat []) }
     {
         Ok(Notes {
             header: HEADER,
@@ -67,8 +72,8 @@ impl Notes {
 
     pub fn add(&mut self, entry: Entry) -> Result<(), AllocError>
         ensures { Follows entry.seat
-            (record { header = self.old.header; list = reverse self.old.list.items })
-            (record { header = self.new.header; list = reverse self.new.list.items }) }
+            (record { base = opening_base self.old.header; entries = reverse self.old.list.items })
+            (record { base = opening_base self.new.header; entries = reverse self.new.list.items }) }
     {
         self.list.push(entry)?;
         Ok(())

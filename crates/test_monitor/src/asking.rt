@@ -2,10 +2,11 @@
 ghost use Rattle.std.specs.Prelude.{◌≡◌, ◌<◌, ◌≤◌};
 ghost use Rattle.monitor.specs.Stepping.{IsSame};
 
-use crate::opened::{closed, lines, of_two};
+use crate::opened::{calls_ended, closed, folded, lines, of_two};
 use frame::hooks::Hooks;
 use history::entry::{Entry, Mode};
 use history::fault::Fault;
+use history::number::put_number;
 use history::step::{Answer, Step};
 use monitor::{How, Monitor, Pass};
 use permit::{Call, Parking, ScriptedParking, Woke};
@@ -26,12 +27,23 @@ pub enum Ask {
     Signal(u8),
     SignalAll(u8),
     Drain,
+    Trim,
     Step(Step),
     /// No call: the seat is interrupted.
     Interrupt,
 }
 
-/// A seat, its call, and the words of the reply: of an entry, or of a fault. A sleep has none.
+/// What a call is replied.
+#[derive(Clone, Copy)]
+enum Reply {
+    Recorded(Entry),
+    Trimmed(u64),
+    /// A sleep, or no call.
+    Nothing,
+}
+
+/// A seat, its call, and the words of the reply: of an entry, of a fault, or how many entries were folded. A
+/// sleep has none.
 pub type Asked = (u16, Ask, &'static str);
 
 fn reply_to<H: Hooks + Drop, P: Parking, R: Wait + Clock>(
@@ -40,7 +52,7 @@ fn reply_to<H: Hooks + Drop, P: Parking, R: Wait + Clock>(
     parking: &P,
     pass: &mut Pass,
     ask: Ask,
-) -> Result<Option<Entry>, Fault>
+) -> Result<Reply, Fault>
     requires is_of { pass.old.lock ≡ monitor.now }
     requires places { monitor.now.header.seats ≤ P.seats parking.now }
     ensures { IsSame pass.old pass.new }
@@ -55,16 +67,17 @@ fn reply_to<H: Hooks + Drop, P: Parking, R: Wait + Clock>(
         Ask::Signal(condition) => monitor.signal(rt, parking, pass, condition)?,
         Ask::SignalAll(condition) => monitor.signal_all(rt, parking, pass, condition)?,
         Ask::Drain => monitor.drain(rt, parking, pass)?,
+        Ask::Trim => return Ok(Reply::Trimmed(monitor.trim(rt, pass)?)),
         Ask::Step(step) => match monitor.step(rt, pass, step)? {
             Answer::Recorded(entry, _) => entry,
-            Answer::Sleep => return Ok(None),
+            Answer::Sleep => return Ok(Reply::Nothing),
         },
         Ask::Interrupt => {
             parking.interrupt(pass.seat());
-            return Ok(None);
+            return Ok(Reply::Nothing);
         }
     };
-    Ok(Some(entry))
+    Ok(Reply::Recorded(entry))
 }
 
 /// Whether an entry is spelt so.
@@ -77,11 +90,19 @@ fn is_spelt_as(alloc: Global, entry: &Entry, told: &str) -> Result<bool, Fault> 
     Ok(words.as_slice() == told.as_bytes())
 }
 
+/// Whether a number is spelt so.
+fn is_number(alloc: Global, number: u64, told: &str) -> Result<bool, Fault> {
+    let mut digits = Vec::new(alloc);
+    put_number(&mut digits, number)?;
+    Ok(digits.as_slice() == told.as_bytes())
+}
+
 /// Whether a reply is told so.
-fn is_told(alloc: Global, reply: &Result<Option<Entry>, Fault>, told: &str) -> Result<bool, Fault> {
+fn is_told(alloc: Global, reply: &Result<Reply, Fault>, told: &str) -> Result<bool, Fault> {
     match reply {
-        Ok(Some(entry)) => is_spelt_as(alloc, entry, told),
-        Ok(None) => Ok(told.is_empty()),
+        Ok(Reply::Recorded(entry)) => is_spelt_as(alloc, entry, told),
+        Ok(Reply::Trimmed(count)) => is_number(alloc, *count, told),
+        Ok(Reply::Nothing) => Ok(told.is_empty()),
         Err(fault) => Ok(fault.name() == told),
     }
 }
@@ -114,7 +135,7 @@ fn ask_all<H: Hooks + Drop, P: Parking, R: Abort + AllocGlobal + Wait + Clock>(
 /// What the observers tell, the holds as those of seat 0 and the sleepers as those of condition 0.
 #[derive(Clone, Copy, PartialEq, Eq)]
 pub struct Observed {
-    pub holds: [u64; 2],
+    pub holds: [u128; 2],
     pub is_held: bool,
     pub queue_length: u16,
     pub waiters: u16,
@@ -154,12 +175,19 @@ fn observe<H: Hooks + Drop, R: Wait>(rt: &R, monitor: &Monitor<H>, pass: &mut Pa
 #[derive(Drop)]
 pub struct Left {
     pub observed: Observed,
+    /// How many entries are folded.
+    pub folded: u128,
+    /// The entries behind them.
     pub lines: Vec<u8>,
     pub parked: Vec<Call>,
 }
 
+fn is_trim(asked: &Asked) -> bool {
+    matches!(asked.1, Ask::Trim)
+}
+
 /// Opens a monitor of two seats, makes the calls, compares their replies, and closes it. The merged share is
-/// all calls that ended.
+/// all calls that ended. Where no call is a trim no entry is folded.
 pub fn left_behind<H: Hooks + Drop, R: Abort + AllocGlobal + Wait + Clock>(
     rt: &R,
     hooks: H,
@@ -172,9 +200,12 @@ pub fn left_behind<H: Hooks + Drop, R: Abort + AllocGlobal + Wait + Clock>(
     ask_all(rt, &monitor, &parking, &mut zero, &mut one, calls)?;
     let observed = observe(rt, &monitor, &mut one);
     let closed = closed(rt, monitor, vec![in rt.alloc(); zero, one]?)?;
-    assert_eq!(rt; closed.share, closed.history.calls());
+    let folded = folded(&closed);
+    assert!(rt; folded == 0 || calls.iter().any(is_trim));
+    assert_eq!(rt; closed.share, calls_ended(&closed));
     Ok(Left {
         observed,
+        folded,
         lines: lines(rt.alloc(), &closed.history)?,
         parked: parking.calls(),
     })

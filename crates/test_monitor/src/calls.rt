@@ -5,4 +5,5 @@ mod dropped;
 mod locks;
 mod others;
 mod passes;
+mod trims;
 mod waits;

@@ -15,3 +15,5 @@ pub mod opened;
 mod parking;
 #[cfg(test)]
 mod situations;
+#[cfg(test)]
+mod told;

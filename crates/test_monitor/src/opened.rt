@@ -157,3 +157,22 @@ pub fn lines_of_three<H: Hooks + Drop, R: Wait + AllocGlobal>(
         Err(_) => Err(Fault::OutOfPhase),
     }
 }
+
+/// How many entries are folded of what a monitor left.
+pub fn folded(closed: &Closed) -> u128 {
+    match closed.history.base() {
+        Some(base) => base.entries,
+        None => u128::MAX,
+    }
+}
+
+/// How many calls ended, by entries that are folded and by those behind them.
+pub fn calls_ended(closed: &Closed) -> u64 {
+    let mut ended = closed.history.calls();
+    if let Some(base) = closed.history.base() {
+        for seat in &base.seats {
+            ended = ended.saturating_add(seat.calls);
+        }
+    }
+    ended
+}

@@ -2,9 +2,10 @@
 ghost use Rattle.std.specs.Prelude.{◌≡◌, All, IfOk};
 ghost use Rattle.monitor.specs.Stepping.{IsSame};
 
-use crate::opened::{closed, of_many, of_one};
+use crate::opened::{closed, folded, of_many, of_one};
 use counting::latch::LatchHooks;
 use counting::semaphore::SemaphoreHooks;
+use frame::acts::Act;
 use frame::hooks::Hooks;
 use frame::machine::Core;
 use history::entry::{Mode, Word};
@@ -18,7 +19,7 @@ use std::alloc::Global;
 use std::process::Abort;
 use std::sync::Wait;
 use std::test::Fail;
-use steps::{StepsText, read_steps};
+use steps::{ReadFault, read_steps};
 use test_support::examples::{Example, situations, strict_situations};
 
 /// A core over hooks as an open makes them.
@@ -44,7 +45,8 @@ pub fn monitor_of<H: Hooks + Drop>(
     hooks: H,
     header: &Header,
 ) -> Result<(Monitor<H>, Vec<Pass>), Fault>
-    ensures { IfOk result (λ r. All (λ p. p.lock ≡ r.0) r.1.items) }
+    ensures own { IfOk result (λ r. All (λ p. p.lock ≡ r.0) r.1.items) }
+    ensures seats { IfOk result (λ r. r.0.header.seats ≡ header.now.seats) }
 {
     match of_many(alloc, hooks, header.seats, header.conditions, header.cap) {
         Ok((monitor, passes)) => Ok((monitor, passes)),
@@ -102,24 +104,47 @@ fn play_steps<H: Hooks + Drop, R: Abort>(
     Ok(())
 }
 
+/// A header, and steps of its object's seats.
+#[derive(Drop)]
+struct Situation {
+    header: Header,
+    steps: Vec<(u16, Step)>,
+}
+
+/// What the steps of an example say, which has no trims.
+fn situation_of(alloc: Global, example: &Example) -> Result<Situation, ReadFault> {
+    let read = read_steps(alloc, example.steps.as_bytes())?;
+    let mut steps = Vec::with_capacity(alloc, read.acts.len())?;
+    for act in &read.acts {
+        if let Act::Do(seat, step) = act {
+            steps.push((*seat, *step))?;
+        }
+    }
+    Ok(Situation {
+        header: read.header.header,
+        steps,
+    })
+}
+
 /// Plays a situation by a monitor and by a core over equal hooks.
 fn play<H: Hooks + Drop, R: Abort + AllocGlobal + Wait>(
     rt: &R,
     hooks: H,
     hooks_of_core: H,
-    said: &StepsText,
+    said: &Situation,
 ) -> Result<(), Fail> {
     let header = said.header;
     let mut core = core_of(rt.alloc(), hooks_of_core, &header)?;
     let (monitor, mut passes) = monitor_of(rt.alloc(), hooks, &header)?;
     play_steps(rt, &monitor, &mut passes, &mut core, said.steps.as_slice())?;
     let closed = closed(rt, monitor, passes)?;
+    assert_eq!(rt; folded(&closed), 0);
     assert_eq!(rt; closed.history.len(), core.history().len());
     assert_eq!(rt; closed.share, core.history().calls());
     Ok(())
 }
 
-fn play_object<R: Abort + AllocGlobal + Wait>(rt: &R, said: &StepsText) -> Result<(), Fail> {
+fn play_object<R: Abort + AllocGlobal + Wait>(rt: &R, said: &Situation) -> Result<(), Fail> {
     match said.header.object {
         Object::Lock(policy) => play(rt, LockHooks::open(policy), LockHooks::open(policy), said),
         Object::ReadWrite(policy) => {
@@ -137,7 +162,7 @@ fn play_object<R: Abort + AllocGlobal + Wait>(rt: &R, said: &StepsText) -> Resul
 
 fn play_examples<R: Abort + AllocGlobal + Wait>(rt: &R, examples: &[Example]) -> Result<(), Fail> {
     for example in examples {
-        let said = read_steps(rt.alloc(), example.steps.as_bytes())?;
+        let said = situation_of(rt.alloc(), example)?;
         play_object(rt, &said)?;
     }
     Ok(())

@@ -2,7 +2,7 @@
 
 ghost use Rattle.std.specs.Prelude.{◌≡◌, ◌<◌, length};
 
-use crate::examples::{EACH_CALL, TWO_THREADS};
+use crate::examples::{EACH_CALL, TRIMS, TWO_THREADS};
 use script::ScriptFault::{self, NotJson};
 use script::read_script;
 use std::process::Abort;
@@ -11,7 +11,7 @@ use std::test::Fail;
 /// A script cut before its end isn't JSON.
 #[test]
 fn a_cut_script_is_none(rt: HostRuntime) {
-    for text in [EACH_CALL, TWO_THREADS] {
+    for text in [EACH_CALL, TWO_THREADS, TRIMS] {
         let whole = text.trim_end().as_bytes();
         assert!(rt; read_script(rt.alloc(), whole).is_ok());
         for end in 0..whole.len() {
@@ -91,6 +91,7 @@ fn a_changed_script_has_a_fault_or_is_one(rt: HostRuntime) -> Result<(), Fail> {
     let mut counts = [0; 6];
     change_all(&rt, TWO_THREADS, all.as_slice(), &mut counts)?;
     change_all(&rt, EACH_CALL, OTHERS, &mut counts)?;
+    change_all(&rt, TRIMS, all.as_slice(), &mut counts)?;
     assert!(rt; counts.iter().all(|count| 0 < *count), "{counts:?}");
     Ok(())
 }

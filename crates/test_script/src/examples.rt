@@ -6,7 +6,13 @@ pub const EACH_CALL: &str = r#"{"objects": [["a", "lock nonfair seats 2 conditio
  ["0", "semaphore fair seats 2 permits -3 cap 16"], ["-", "latch seats 2 count 7 cap 17"]],
  "threads": [{"repeat": 1000000, "calls": ["a acquire x 1", "b-2 acquire-interruptible s 4294967295",
  "0 acquire-timed s 0 4294967295", "a try x 2", "- give s 1", "a await 255", "b-2 await-interruptible 0",
- "a await-timed 1 0", "a signal 2", "a signalall 3", "0 drain", "interrupt 1"]}, {"calls": [], "repeat": 1}]}
+ "a await-timed 1 0", "a signal 2", "a signalall 3", "0 drain", "- trim",
+ "interrupt 1"]}, {"calls": [], "repeat": 1}]}
+"#;
+
+/// A thread whose entries are folded in each round.
+pub const TRIMS: &str = r#"{"objects":[["a","lock nonfair seats 1 conditions 0 cap 16"]],
+ "threads":[{"repeat":1000,"calls":["a acquire x 1","a give x 1","a trim"]}]}
 "#;
 
 /// Two threads at one lock.

@@ -79,7 +79,7 @@ const LOCK: &str = "lock nonfair seats 1 conditions 0 cap 100";
 
 const IDLE: &str = "{\"repeat\":1,\"calls\":[]}";
 
-const GOOD_NAMES: [&str; 4] = ["a", "0", "-", "abcdefghijklmnopqrstuvwxyz-01234"];
+const GOOD_NAMES: [&str; 5] = ["a", "0", "-", "trim", "abcdefghijklmnopqrstuvwxyz-01234"];
 
 const BAD_NAMES: [&str; 11] = [
     "",
@@ -168,7 +168,7 @@ fn rounds_and_lists_of_calls(rt: HostRuntime) -> Result<(), Fail> {
     Ok(())
 }
 
-const BAD_CALLS: [&str; 37] = [
+const BAD_CALLS: [&str; 47] = [
     "1",
     "null",
     "[\"a drain\"]",
@@ -199,6 +199,16 @@ const BAD_CALLS: [&str; 37] = [
     "\"a await-interruptible 0 0\"",
     "\"a signal 256\"",
     "\"a signalall x\"",
+    "\"a trim \"",
+    "\"a trim 1\"",
+    "\"a trim x 1\"",
+    "\"a trim trim\"",
+    "\"a  trim\"",
+    "\"a tri\"",
+    "\"a trims\"",
+    "\"a Trim\"",
+    "\"b trim\"",
+    "\"trim\"",
     "\"a tryfair x 1\"",
     "\"a entryinterrupt x 1\"",
     "\"a look\"",

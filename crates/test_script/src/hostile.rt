@@ -1,6 +1,6 @@
 //! Texts that only an enemy writes.
 
-use crate::examples::{EACH_CALL, TWO_THREADS};
+use crate::examples::{EACH_CALL, TRIMS, TWO_THREADS};
 use script::ScriptFault::{self, BadCall, BadObject, BadThread, BadTop, NotJson};
 use script::read_script;
 use std::process::Abort;
@@ -26,7 +26,7 @@ fn fault_with<R: AllocGlobal>(
 
 #[test]
 fn a_foreign_byte_at_any_place_is_no_json(rt: HostRuntime) -> Result<(), Fail> {
-    for good in [EACH_CALL, TWO_THREADS] {
+    for good in [EACH_CALL, TWO_THREADS, TRIMS] {
         for place in 0..good.len() {
             for byte in FOREIGN {
                 let fault = fault_with(&rt, good, place, *byte)?;
@@ -70,6 +70,26 @@ fn a_capital_spoils_what_it_stands_in(rt: HostRuntime) -> Result<(), Fail> {
         assert!(rt; fault == wanted, "at {place}");
     }
     assert_eq!(rt; quotes, 2 * SPOILT.len());
+    Ok(())
+}
+
+/// A thread's third call is a trim. Another letter in its word makes it no call.
+#[test]
+fn a_spoilt_trim_is_no_call(rt: HostRuntime) -> Result<(), Fail> {
+    let Some((before, _)) = TRIMS.split_once("trim") else {
+        return Err(Fail::from("a trim"));
+    };
+    for (place, right) in b"trim".iter().enumerate() {
+        for letter in b'a'..=b'z' {
+            let wanted = if letter == *right {
+                None
+            } else {
+                Some(BadCall(0, 2))
+            };
+            let fault = fault_with(&rt, TRIMS, before.len().saturating_add(place), letter)?;
+            assert!(rt; fault == wanted, "letter {letter} at {place}");
+        }
+    }
     Ok(())
 }
 

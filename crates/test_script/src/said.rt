@@ -1,6 +1,6 @@
 //! What a script says.
 
-use crate::examples::{EACH_CALL, TWO_THREADS};
+use crate::examples::{EACH_CALL, TRIMS, TWO_THREADS};
 use history::entry::Mode;
 use history::header::Policy::{Fair, NonFair};
 use history::header::{Header, Object};
@@ -15,7 +15,7 @@ const OBJECTS: [(&str, Object, u8, u32); 4] = [
     ("-", Object::Latch(7), 0, 17),
 ];
 
-const CALLS: [Call; 12] = [
+const CALLS: [Call; 13] = [
     Call::On(0, Action::Acquire(Mode::X, 1, How::Plain)),
     Call::On(
         1,
@@ -30,6 +30,7 @@ const CALLS: [Call; 12] = [
     Call::On(0, Action::Signal(2)),
     Call::On(0, Action::SignalAll(3)),
     Call::On(2, Action::Drain),
+    Call::On(3, Action::Trim),
     Call::Interrupt(1),
 ];
 
@@ -58,6 +59,21 @@ fn each_call_is_read(rt: HostRuntime) -> Result<(), Fail> {
     assert!(rt; first.repeat() == 1_000_000 && second.repeat() == 1);
     assert!(rt; first.calls() == CALLS.as_slice());
     assert!(rt; second.calls().is_empty());
+    Ok(())
+}
+
+#[test]
+fn a_thread_that_trims(rt: HostRuntime) -> Result<(), Fail> {
+    let script = read_script(rt.alloc(), TRIMS.as_bytes())?;
+    let [worker] = script.workers() else {
+        return Err(Fail::from("one worker"));
+    };
+    let calls = [
+        Call::On(0, Action::Acquire(Mode::X, 1, How::Plain)),
+        Call::On(0, Action::Release(Mode::X, 1)),
+        Call::On(0, Action::Trim),
+    ];
+    assert!(rt; worker.repeat() == 1000 && worker.calls() == calls.as_slice());
     Ok(())
 }
 

@@ -1,5 +1,6 @@
 //! Verdicts and totals.
 
+mod bases;
 mod histories;
 mod memory;
 mod sums;

@@ -1,5 +1,6 @@
 //! The list of entries, and its texts.
 
+mod based;
 mod folds;
 mod headers;
 mod list;

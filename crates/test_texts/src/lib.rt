@@ -7,5 +7,3 @@
 mod auditing;
 #[cfg(test)]
 mod histories;
-#[cfg(test)]
-mod streaming;

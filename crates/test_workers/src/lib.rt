@@ -15,4 +15,6 @@ mod running;
 #[cfg(test)]
 mod texts;
 #[cfg(test)]
+mod trims;
+#[cfg(test)]
 mod whole_runs;

@@ -2,6 +2,7 @@
 
 use audit::sums::Totals;
 use audit::verdict::Judgement;
+use history::entries::History;
 use script::read_script;
 use std::process::Abort;
 use std::sync::Wait;
@@ -33,10 +34,29 @@ pub fn run<G: Gate + Sync, R: Threads + Wait + Clock + AllocGlobal + Sync>(
     Ok(run_threads(rt, rt.alloc(), &script, gate)?)
 }
 
+/// How many entries were folded.
+pub fn folded(history: &History) -> u128 {
+    match history.base() {
+        Some(base) => base.entries,
+        None => 0,
+    }
+}
+
+/// How many calls the entries end, the folded ones too.
+fn calls_of(history: &History) -> u64 {
+    let mut calls = history.calls();
+    if let Some(base) = history.base() {
+        for seat in base.seats.iter() {
+            calls = calls.saturating_add(seat.calls);
+        }
+    }
+    calls
+}
+
 /// The object's history is legal and adds up to this. It has so many calls, which the passes saw end.
 pub fn assert_part<R: Abort>(rt: &R, part: &ObjectReport, calls: u64, totals: Totals) {
     assert!(rt; part.is_legal());
     assert!(rt; part.judgement == Judgement::Legal(totals), "{calls}");
-    assert_eq!(rt; part.history.calls(), calls);
+    assert_eq!(rt; calls_of(&part.history), calls);
     assert_eq!(rt; part.share, calls);
 }

@@ -32,6 +32,33 @@ const WRITTEN: &str = "object a\n\
     legal\nentries 4\ncalls 4\nheld 0 free 2 created 2 unheld 0 line 0\nshares 4\n\
     unrecorded 2\n";
 
+/// The calls of one thread at an object of each kind. Each object but the last is trimmed.
+const TRIMS: &str = "{\"objects\":[[\"a\",\"lock fair seats 1 conditions 1 cap 16\"],\
+    [\"b\",\"semaphore nonfair seats 1 permits 2 cap 16\"],[\"c\",\"latch seats 1 count 3 cap 16\"],\
+    [\"d\",\"rw nonfair seats 1 conditions 0 cap 16\"]],\"threads\":[{\"repeat\":1,\
+    \"calls\":[\"a acquire x 1\",\"a acquire x 1\",\"a trim\",\"a give x 1\",\"b acquire s 1\",\
+    \"b give s 5\",\"b trim\",\"b drain\",\"c give s 1\",\"c trim\",\"c trim\",\"d trim\",\
+    \"d acquire s 1\"]}]}";
+
+/// The run text of that script.
+const TRIMMED: &str = "object a\n\
+    aqs-history 2 lock fair seats 1 conditions 1 cap 16\n\
+    base 2\nseat 0 calls 2 x 2 s 0\n2 0 gave x 1\nend 3 3\n\
+    legal\nbase 2\nentries 3\ncalls 3\nholds x 1 s 0 line 0 sleepers 0\nshares 3\n\
+    object b\n\
+    aqs-history 2 semaphore nonfair seats 1 permits 2 cap 16\n\
+    base 2 unheld 4\nseat 0 calls 2 x 0 s 0\n2 0 drained s 6\nend 3 3\n\
+    legal\nbase 2\nentries 3\ncalls 3\nheld 6 free 0 created 2 unheld 4 line 0\nshares 3\n\
+    object c\n\
+    aqs-history 2 latch seats 1 count 3 cap 16\n\
+    base 1 count 2\nseat 0 calls 1 x 0 s 0\nend 1 1\n\
+    legal\nbase 1\nentries 1\ncalls 1\ncount 2 line 0\nshares 1\n\
+    object d\n\
+    aqs-history 1 rw nonfair seats 1 conditions 0 cap 16\n\
+    0 0 got s 1\nend 1 1\n\
+    legal\nentries 1\ncalls 1\nholds x 0 s 1 line 0 sleepers 0\nshares 1\n\
+    unrecorded 0\n";
+
 /// Places for more than is ever written.
 const PLACES: usize = 4096;
 
@@ -64,6 +91,9 @@ fn a_run_is_written(rt: HostRuntime) -> Result<(), Fail> {
     let Ran { ended, sink } = run_over(&rt, SCRIPT, None, None)?;
     assert!(rt; ended == Ok(0));
     assert!(rt; sink.bytes() == WRITTEN.as_bytes());
+    let Ran { ended, sink } = run_over(&rt, TRIMS, None, None)?;
+    assert!(rt; ended == Ok(0));
+    assert!(rt; sink.bytes() == TRIMMED.as_bytes());
     Ok(())
 }
 
@@ -82,19 +112,28 @@ fn a_failed_read_is_told(rt: HostRuntime) -> Result<(), Fail> {
     Err(Fail::from("each read failed"))
 }
 
-/// Each write fails in turn; then a front of the text was written.
-#[test]
-fn a_failed_write_is_told(rt: HostRuntime) -> Result<(), Fail> {
+/// Each write of a run text fails in turn; then a front of the text was written.
+fn fail_each_write<R: Threads + Wait + Clock + AllocGlobal + Sync + Abort>(
+    rt: &R,
+    script: &str,
+    written: &str,
+) -> Result<(), Fail> {
     for number in 0..1000 {
-        let Ran { ended, sink } = run_over(&rt, SCRIPT, None, Some(number))?;
+        let Ran { ended, sink } = run_over(rt, script, None, Some(number))?;
         if ended == Ok(0) {
-            assert!(rt; WRITTEN.len() as u64 <= number && sink.bytes() == WRITTEN.as_bytes());
+            assert!(rt; written.len() as u64 <= number && sink.bytes() == written.as_bytes());
             return Ok(());
         }
         assert!(rt; ended == Err(Fault::Stream(StreamFault::WriteFailed)));
-        assert!(rt; WRITTEN.as_bytes().starts_with(sink.bytes()));
+        assert!(rt; written.as_bytes().starts_with(sink.bytes()));
     }
     Err(Fail::from("each write failed"))
+}
+
+#[test]
+fn a_failed_write_is_told(rt: HostRuntime) -> Result<(), Fail> {
+    fail_each_write(&rt, SCRIPT, WRITTEN)?;
+    fail_each_write(&rt, TRIMS, TRIMMED)
 }
 
 /// Scripts of each fault. Nothing is written, and there is no call that could be.
@@ -128,9 +167,11 @@ fn a_bad_script_is_told(rt: HostRuntime) -> Result<(), Fail> {
 /// left.
 fn is_spelt<R: Threads + Wait + Clock + AllocGlobal + Sync + Abort>(
     rt: &R,
+    script: &str,
+    written: &str,
     pieces: usize,
 ) -> Result<bool, Fail> {
-    let script = read_script(rt.alloc(), SCRIPT.as_bytes())?;
+    let script = read_script(rt.alloc(), script.as_bytes())?;
     let report = run_threads(rt, rt.alloc(), &script, &OpenGate)?;
     let mut sink = MemorySink::with_places(rt.alloc(), PLACES, PIECE, None)?;
     let mut memory = Memory::take_all(rt.alloc(), 256)?;
@@ -138,7 +179,7 @@ fn is_spelt<R: Threads + Wait + Clock + AllocGlobal + Sync + Abort>(
     match RunText::of(rt.alloc(), &script, report) {
         Ok(text) => {
             memory.take_rest()?;
-            assert!(rt; text.write(&mut sink).is_ok() && sink.bytes() == WRITTEN.as_bytes());
+            assert!(rt; text.write(&mut sink).is_ok() && sink.bytes() == written.as_bytes());
             Ok(true)
         }
         Err(fault) => {
@@ -148,18 +189,38 @@ fn is_spelt<R: Threads + Wait + Clock + AllocGlobal + Sync + Abort>(
     }
 }
 
-/// The pieces are adjacent, so each one more makes a larger request possible.
-#[test]
-fn the_text_of_a_run_lacks_memory(rt: HostRuntime) -> Result<(), Fail> {
+/// How many pieces are given back in a turn: each number below 32, and each from 240 on. From one to the other a
+/// run lacks memory for its lines alone, whose buffer takes 256.
+fn pieces_in(turn: usize) -> usize {
+    if turn < 32 {
+        turn
+    } else {
+        turn.saturating_add(208)
+    }
+}
+
+/// The pieces are adjacent, so more of them make a larger request possible.
+fn lack_each_memory<R: Threads + Wait + Clock + AllocGlobal + Sync + Abort>(
+    rt: &R,
+    script: &str,
+    written: &str,
+) -> Result<(), Fail> {
     // The stack grows to its depth first: where it finds no memory the system ends the program.
-    run_over(&rt, SCRIPT, None, None)?;
-    for pieces in 0..1000 {
-        if is_spelt(&rt, pieces)? {
+    run_over(rt, script, None, None)?;
+    for turn in 0..1000 {
+        let pieces = pieces_in(turn);
+        if is_spelt(rt, script, written, pieces)? {
             assert!(rt; 256 <= pieces, "{pieces}");
             return Ok(());
         }
     }
     Err(Fail::from("never spelt"))
+}
+
+#[test]
+fn the_text_of_a_run_lacks_memory(rt: HostRuntime) -> Result<(), Fail> {
+    lack_each_memory(&rt, SCRIPT, WRITTEN)?;
+    lack_each_memory(&rt, TRIMS, TRIMMED)
 }
 
 /// Runs the script over bytes that take no memory of their own. How it ended; what it wrote is left.
@@ -210,12 +271,13 @@ fn is_run<R: Threads + Wait + Clock + AllocGlobal + Sync + Abort>(
     Ok(false)
 }
 
-/// Each run has a piece more than the one before. With all memory again it is whole.
+/// Each run has more pieces than the one before. With all memory again it is whole.
 #[test]
 fn a_whole_run_lacks_memory(rt: HostRuntime) -> Result<(), Fail> {
     let mut written = Vec::with_capacity(rt.alloc(), PLACES)?;
     assert!(rt; run_within(&rt, &mut written) == Ok(0));
-    for pieces in 0..1000 {
+    for turn in 0..1000 {
+        let pieces = pieces_in(turn);
         if is_run(&rt, &mut written, pieces)? {
             assert!(rt; 256 <= pieces, "{pieces}");
             assert!(rt; run_within(&rt, &mut written) == Ok(0));

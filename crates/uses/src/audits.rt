@@ -1,9 +1,9 @@
 //! Callers of `audit`.
 
 ghost use Rattle.std.specs.Prelude.{◌≡◌, ◌↔◌, IfOk, IfSome, IfNone, IsTrue, IsOkUnless};
+ghost use Rattle.history.specs.Entries.{IsBasedWell, start_on};
 ghost use Rattle.history.specs.Header.{IsInRange};
 ghost use Rattle.history.specs.Legal.{AreSeated, IsLegal};
-ghost use Rattle.history.specs.Start.{opening};
 ghost use Rattle.audit.specs.Totals.{totals_of};
 
 use audit::sums::Totals;
@@ -13,19 +13,20 @@ use history::fault::Fault;
 use history::header::Header;
 use std::alloc::Global;
 
-/// The totals of a history if it is legal.
+/// The totals of a history if it is legal, from its base on where it has one.
 pub fn totals_if_legal(
     alloc: Global,
     header: &Header,
     history: &History,
 ) -> Result<Option<Totals>, Fault>
     requires range { IsInRange header.now }
-    requires seated { AreSeated (opening header.now) history.now.entries }
+    requires based { IsBasedWell header.now history.now.base }
+    requires seated { AreSeated (start_on header.now history.now) history.now.entries }
     ensures legal { IfOk result (λ sums. IfSome sums (λ totals.
-        IsLegal (opening header.now) history.now.entries
-        × (totals ≡ totals_of (opening header.now) history.now.entries))) }
+        IsLegal (start_on header.now history.now) history.now.entries
+        × (totals ≡ totals_of (start_on header.now history.now) history.now.entries))) }
     ensures not_legal { IfOk result (λ sums. IfNone sums
-        (IsLegal (opening header.now) history.now.entries → ⊥)) }
+        (IsLegal (start_on header.now history.now) history.now.entries → ⊥)) }
     ensures memory { IsOkUnless result Fault.OutOfMemory }
 {
     match judge(alloc, header, history) {

@@ -32,7 +32,7 @@ pub fn fair_lock(alloc: Global, seats: u16, cap: u32) -> Result<Core<LockHooks>,
 
 /// Acquires an object exclusively for a thread, and answers how many exclusive holds the thread has then: 0
 /// if it doesn't have the object.
-pub fn acquire<H: Hooks + Drop>(core: &mut Core<H>, seat: u16) -> Result<u64, Fault>
+pub fn acquire<H: Hooks + Drop>(core: &mut Core<H>, seat: u16) -> Result<u128, Fault>
     requires { seat < core.old.header.seats }
     ensures holds { IfOk result (λ holds. holds ≡ held (start_of core.new) core.new.entries seat X) }
     ensures header { core.new.header ≡ core.old.header }

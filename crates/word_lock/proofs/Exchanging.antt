@@ -6,7 +6,7 @@ use lib.ListN.{get_elem?}
 use prog.Atomic.{either}
 use Rattle.atomic_table.specs.Table.{State, Me, step, keeps, takes, stepped, Allows}
 use Rattle.atomic_table.proofs.Lists.{set_again}
-use Rattle.word_lock.specs.declared.point.Point.{Point}
+use Rattle.history.specs.declared.point.Point.{Point}
 use Rattle.word_lock.specs.declared.view.View.{View}
 use Rattle.word_lock.specs.Point.{Before}
 use Rattle.word_lock.specs.Rule.{view_after_take, AllAgree, IsKnownBy, IsFree, RuleHolds, TellsTake}

@@ -6,7 +6,7 @@ use lib.ListN.{get_elem?}
 use Rattle.atomic_table.specs.Table.{Joins}
 use Rattle.atomic_table.proofs.Lists.{set_else}
 use Rattle.std.proofs.lemmas.Bool.{cond-true, cond-false}
-use Rattle.word_lock.specs.declared.point.Point.{Point}
+use Rattle.history.specs.declared.point.Point.{Point}
 use Rattle.word_lock.specs.declared.view.View.{View}
 use Rattle.word_lock.specs.Point.{Before}
 use Rattle.word_lock.specs.Rule.{joined_view, spent_view, AllBefore, IsKnownBy, RuleHolds}

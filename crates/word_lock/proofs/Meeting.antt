@@ -2,7 +2,7 @@
 use Rattle.std.proofs.Common.{◌≡◌, List, [], ◌∷◌, ◌+◌, ◌++◌, length, ap, sym, subst}
 use lib.ListN.{get_elem?}
 use Rattle.atomic_table.proofs.Lists.{at_longer}
-use Rattle.word_lock.specs.declared.point.Point.{Point}
+use Rattle.history.specs.declared.point.Point.{Point}
 use Rattle.word_lock.specs.declared.view.View.{View}
 use Rattle.word_lock.specs.Point.{header_of, Before}
 use Rattle.word_lock.specs.Rule.{joined_view, AllAgree, IsLookedAt}

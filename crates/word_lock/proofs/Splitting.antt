@@ -7,7 +7,7 @@ use Rattle.atomic_table.specs.Table.{Splits}
 use Rattle.atomic_table.proofs.Lists.{set_else, at_longer}
 use Rattle.std.proofs.lemmas.Bool.{cond-true, cond-false, lt-ltb, le-ltb}
 use Rattle.std.proofs.Math.ListN.{length-set}
-use Rattle.word_lock.specs.declared.point.Point.{Point}
+use Rattle.history.specs.declared.point.Point.{Point}
 use Rattle.word_lock.specs.declared.view.View.{View}
 use Rattle.word_lock.specs.Rule.{rest_of_view, front_of_view, IsKnownBy, RuleHolds}
 use Rattle.word_lock.proofs.Lists.{stays_set, one_at, stays_end, at_drop, at_take}

@@ -1,44 +1,46 @@
 -- Points: what a value shows, how one point follows another, and what one seat has of a point.
--- The proof of the lock reads none of these definitions. It rests on the laws of proofs/Points.antt,
+-- The proof of the lock reads none of these definitions. It rests on the laws of proofs/PointLaws.antt,
 -- so a point may come to be made of something else.
-use Rattle.std.specs.Prelude.{◌≡◌, ℕ, ◌-◌, ◌==◌, List, [], ◌++◌, length, take, filter, All}
+use Rattle.std.specs.Prelude.{◌≡◌, ◌⊎◌, ℕ, ◌-◌, List, [], ◌++◌, length, take}
+use Rattle.std.specs.List.{AllByRecursion}
 use Rattle.history.specs.declared.entry.Entry.{Entry}
 use Rattle.history.specs.declared.header.Header.{Header}
 use Rattle.history.specs.declared.header.Object.TheVariants.{Latch}
-use Rattle.word_lock.specs.declared.point.Point.{Point}
+use Rattle.history.specs.declared.point.Point.{Point}
+use Rattle.history.specs.Base.{folded, opening_base}
+use Rattle.history.specs.Point as points
+use Rattle.history.specs.Point.{CanFold, ComesBefore}
 
 -- the header, which stays as it was at the opening
 unfoldable pub header_of : Point → Header
-header_of p = p.header
+header_of p = p.base.header
 
--- the old list begins the new one: newest first, it stands behind what was added
-abbrev pub Begins : List Entry → List Entry → Type 0
-Begins old new = (more : List Entry) × (new ≡ more ++ old)
-
--- p comes before q: the header is the same, and the list only grew
+-- p comes before q: the list only grew, or was folded into the base with what was added
 unfoldable pub Before : Point → Point → Type 0
-Before p q = (p.header ≡ q.header) × Begins p.list q.list
-
--- the entries of one seat
-unfoldable pub entries_of : ℕ → List Entry → List Entry
-entries_of seat es = filter (λ e. e.seat == seat) es
+Before p q = ComesBefore p q
 
 -- `es` is what the point has of the seat
 unfoldable pub Agrees : Point → ℕ → List Entry → Type 0
-Agrees p seat es = es ≡ entries_of seat p.list
+Agrees p seat es = points.Agrees p seat es
 
--- what q has in front of p
+-- what q has in front of p; nothing where the list was folded
 unfoldable pub added : Point → Point → List Entry
-added p q = take (length q.list - length p.list) q.list
+added p q = take (length q.entries - length p.entries) q.entries
 
 -- each entry is of the seat
 unfoldable pub AllOfSeat : ℕ → List Entry → Type 0
-AllOfSeat seat es = All (λ e. e.seat ≡ seat) es
+AllOfSeat seat es = AllByRecursion (λ e. e.seat ≡ seat) es
 
--- what the seat took at p it may give back at q
+-- What the seat took at p it may give back at q: entries of the seat were added, or the list was folded.
 unfoldable pub Follows : ℕ → Point → Point → Type 0
-Follows seat p q = Before p q × AllOfSeat seat (added p q)
+Follows seat p q =
+    ((q.base ≡ p.base) × (q.entries ≡ added p q ++ p.entries) × AllOfSeat seat (added p q))
+    ⊎ (CanFold p.base p.entries × (q.base ≡ folded p.base p.entries) × (q.entries ≡ []))
 
 -- a point that stands where nobody looks
 abbrev pub blank_point : Point
-blank_point = record { header = record { object = Latch 0; seats = 0; conditions = 0; cap = 0 }; list = [] }
+blank_point =
+    record {
+      base = opening_base (record { object = Latch 0; seats = 0; conditions = 0; cap = 0 });
+      entries = [];
+    }

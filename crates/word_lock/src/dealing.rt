@@ -1,5 +1,6 @@
 //! The table of a lock, and how its tokens are dealt.
-ghost use Rattle.std.specs.Prelude.{◌≡◌, ◌<◌, ◌≤◌, [], false, IfOk, IfErr, vec_len, vec_capacity};
+ghost use Rattle.std.specs.Prelude.{◌≡◌, ℕ, ◌<◌, ◌≤◌, [], false, IfOk, IfErr, vec_len, vec_capacity};
+ghost use Rattle.word_lock.specs.Point.{Agrees};
 ghost use Rattle.word_lock.specs.Rule.{dealing_view, rest_of_view, front_of_view};
 ghost use Rattle.word_lock.specs.Ticket.{lock_id, opening_tickets};
 
@@ -22,7 +23,7 @@ pub(crate) fn make_table<T: Chronicle>(
     seats: u16,
 ) -> Result<(LockTable<T>, Vec<Token>), T>
     requires fact { T.fact value }
-    requires empty { (T.point value).list ≡ [] }
+    requires empty { (seat : ℕ) → Agrees (T.point value) seat [] }
     requires some_seat { 0 < seats }
     ensures counts { IfOk result (λ r. (r.0.shared.table_id.words ≡ 1) × (r.0.shared.table_id.slots ≡ 1)) }
     ensures opened { IfOk result (λ r. r.0.shared.key.value.value ≡ value) }

@@ -1,6 +1,6 @@
 //! The lock. What its rule says and why each step keeps it stands at the head of the crate.
 ghost use Rattle.std.specs.Prelude.{◌≡◌, ℕ, true, false, List, [], ◌∷◌, ◌++◌, ◌<◌, length, Some, None, IfSome, IfNone, IfOk, IfErr};
-ghost use Rattle.word_lock.specs.Point.{header_of, Before, Follows};
+ghost use Rattle.word_lock.specs.Point.{header_of, Agrees, Before, Follows};
 ghost use Rattle.word_lock.specs.Rule.{view_after_take, view_after_give, AllAgree, AreDistinct, IsFound};
 ghost use Rattle.word_lock.specs.Ticket.{opening_tickets, after_lock, after_unlock, after_meet, first_seat, IsIdle};
 ghost use Rattle.word_lock.specs.Held.{held_ticket};
@@ -42,7 +42,7 @@ impl<T: Chronicle> Model for WordLock<T> {
 }
 
 impl<T: Chronicle> WordLock<T> {
-    /// The lock, and a token for each seat below `seats`, in order. The list of the value is empty.
+    /// The lock, and a token for each seat below `seats`, in order. No seat has an entry in the value.
     /// Where memory is refused the value comes back.
     pub fn open(
         alloc: Global,
@@ -50,7 +50,7 @@ impl<T: Chronicle> WordLock<T> {
         seats: u16,
     ) -> Result<(WordLock<T>, Vec<Token>), (T, Fault)>
         requires fact { T.fact value }
-        requires empty { (T.point value).list ≡ [] }
+        requires empty { (seat : ℕ) → Agrees (T.point value) seat [] }
         requires some_seat { 0 < seats }
         ensures header { IfOk result (λ r. r.0.header ≡ header_of (T.point value)) }
         ensures tokens { IfOk result (λ r. r.1.items ≡ opening_tickets r.0 (T.point value) 0 seats) }

@@ -1,7 +1,7 @@
 //! What a token knows. Nothing here takes a byte.
 
-use crate::point::Point;
 use history::entry::Entry;
+use history::point::Point;
 use std::collections::LinkedList;
 
 /// A seat, and the entries of it that its token has added, newest first. No value of it is made.

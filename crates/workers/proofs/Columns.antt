@@ -1,18 +1,18 @@
 -- Rows of passes, and the columns of their objects.
 use Rattle.std.proofs.Common.{◌≡◌, ℕ, zero, suc, ◌+◌, ◌<◌, ◌≤◌, List, [], ◌∷◌, ◌++◌, length, map, take, Some, get_or, refl, ap, sym, subst, arith, ◌∙◌, eqb, cond, Bool, true, false}
 use Rattle.std.specs.List.{All, slice_get}
-use Rattle.std.proofs.lemmas.List.{append-nil, take_more}
+use Rattle.std.proofs.lemmas.List.{append-nil, append_assoc, take_more}
 use Rattle.std.proofs.lemmas.Option.{slice_get_within, get_or_from_slice_get}
 use Rattle.std.proofs.lemmas.List.Elements.{All-nil, All-cons, All-head, All-tail, All-push, All-same}
 use Rattle.std.proofs.lemmas.Bool.Decides.{nat_tests}
 use Rattle.history.specs.declared.header.Header.{Header}
 use Rattle.history.specs.Legal.{IsLegal}
-use Rattle.history.specs.Start.{opening}
-use Rattle.monitor.specs.Closing.{passes_of}
-use Rattle.monitor.specs.Lawful.{blank}
+use Rattle.history.specs.Entries.{HistoryView, IsBasedWell, start_on}
+use Rattle.monitor.specs.Closing.{IsBased, left_by, passes_of}
+use Rattle.monitor.specs.Lawful.{IsLawful, blank}
 use Rattle.monitor.specs.Shown.{Shown, opening_pass, opening_passes}
 use Rattle.script.specs.Script.{WorkerView}
-use Rattle.word_lock.specs.declared.point.Point.{Point}
+use Rattle.history.specs.declared.point.Point.{Point}
 use Rattle.word_lock.specs.Ticket.{LockId}
 use Rattle.workers.specs.declared.report.ObjectReport.{ObjectReport}
 use Rattle.workers.specs.declared.work.Worked.{Worked}
@@ -274,12 +274,33 @@ pub passes_count : (lock : LockId) (p : Point) (seat n : ℕ) → length (openin
 passes_count lock p seat zero = refl
 passes_count lock p seat (suc n) = ap suc (passes_count lock p (suc seat) n)
 
+-- one part more, that of the first object left
+pub parts_on : (all : List LockId) (cols : List (List Shown)) (left next : List LockId) (lock : LockId)
+    (columns nexts : List (List Shown)) (column : List Shown) (parts more' : List ObjectReport)
+    (part : ObjectReport) → left ≡ lock ∷ next → columns ≡ column ∷ nexts → more' ≡ parts ++ part ∷ [] →
+    IsPart lock column part →
+    ((more : List ObjectReport) → AreParts left columns more → AreParts all cols (parts ++ more)) →
+    (more : List ObjectReport) → AreParts next nexts more → AreParts all cols (more' ++ more)
+parts_on all cols left next lock columns nexts column parts more' part first second pushed is so_far ps are =
+    let whole : AreParts (lock ∷ next) (column ∷ nexts) (part ∷ ps) = (is, are) in
+    subst (AreParts all cols) (sym (ap (λ p. p ++ ps) pushed ∙ append_assoc parts (part ∷ []) ps))
+    (so_far (part ∷ ps) (subst (λ l. AreParts l columns (part ∷ ps)) (sym first)
+    (subst (λ x. AreParts (lock ∷ next) x (part ∷ ps)) (sym second) whole)))
+
+-- what a monitor leaves has a good base of the monitor's header
+pub well_based : (lock : LockId) (v : HistoryView) → IsBased lock v → IsLawful (left_by lock v) →
+    IsBasedWell lock.header v.base
+well_based lock v is lawful =
+    subst (IsBasedWell lock.header) (sym is.0) (is.1, lawful.may_fold.can.good)
+
 -- all parts are sound
 part_sound : (lock : LockId) (column : List Shown) (part : ObjectReport) →
     IsPart lock column part → IsSound part
 part_sound lock column part is = (
   is.range,
-  subst (λ (k : Header). IsLegal (opening k) part.history.entries) (sym is.header)
+  subst (λ (k : Header). IsBasedWell k part.history.base) (sym is.header)
+      (well_based lock part.history is.based is.lawful),
+  subst (λ (k : Header). IsLegal (start_on k part.history) part.history.entries) (sym is.header)
       is.lawful.legal,
 )
 

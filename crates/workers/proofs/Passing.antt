@@ -1,15 +1,14 @@
 -- The passes of a worker behind its calls.
-use Rattle.std.proofs.Common.{◌≡◌, ℕ, zero, suc, ◌+◌, ◌<◌, List, [], ◌∷◌, ◌++◌, length, map, reverse, take, Result, refl, ap, sym, subst, arith, ◌∙◌, get_or, set}
+use Rattle.std.proofs.Common.{◌≡◌, ℕ, zero, suc, ◌+◌, ◌<◌, List, [], ◌∷◌, ◌++◌, length, map, reverse, take, refl, ap, sym, subst, arith, ◌∙◌, get_or, set}
 use Rattle.std.proofs.lemmas.List.{reverse-append, take_more}
 use Rattle.std.proofs.lemmas.Option.{slice_get_read}
-use Rattle.history.specs.declared.entry.Entry.{Entry}
-use Rattle.history.specs.declared.fault.Fault.{Fault}
 use Rattle.monitor.specs.Shown.{Shown}
 use Rattle.monitor.specs.Stepping.{IsSame}
 use Rattle.script.specs.declared.action.Action.{Action}
 use Rattle.script.specs.declared.call.Call.{Call}
 use Rattle.script.specs.declared.call.Call.TheVariants.{On}
 use Rattle.word_lock.specs.Ticket.{LockId}
+use Rattle.workers.specs.declared.reply.Reply.{Reply}
 use Rattle.workers.specs.Calls.{IsActed, IsCalled, Made, homes, home_of, lock_of, rounds, unrecorded_by}
 
 -- one pass that is of the same monitor and seat
@@ -23,7 +22,7 @@ set_homes (p ∷ ps) (suc k) was now below at same =
     ap (λ hs. home_of p ∷ hs) (set_homes ps k was now (omega (arith, below)) at same)
 
 pub acts_on : (call : Call) (place : ℕ) (action : Action) (ps : List Shown) (was now : Shown)
-    (reply : Result Entry Fault) → call ≡ On place action → place < length ps → was ≡ get_or ps place was →
+    (reply : Reply) → call ≡ On place action → place < length ps → was ≡ get_or ps place was →
     IsActed action was reply now → IsCalled call ps (unrecorded_by reply) (set ps place now)
 acts_on call place action ps was now reply is below at acted =
     subst (λ (z : Call). IsCalled z ps (unrecorded_by reply) (set ps place now)) (sym is) record {

@@ -1,39 +1,43 @@
 -- What the calls of a worker leave of its passes.
-use Rattle.std.specs.Prelude.{◌≡◌, ℕ, zero, suc, ◌+◌, List, [], ◌∷◌, ◌++◌, Some, Result, Ok, Err, map, reverse, slice_get, slice_set}
-use Rattle.history.specs.declared.entry.Entry.{Entry}
-use Rattle.history.specs.declared.fault.Fault.{Fault}
+use Rattle.std.specs.Prelude.{◌≡◌, ℕ, zero, suc, ◌+◌, List, [], ◌∷◌, ◌++◌, Some, Ok, Err, map, reverse, slice_get, slice_set}
 use Rattle.history.specs.declared.step.Step.TheVariants as step
 use Rattle.monitor.specs.Acquire.{IsAcquire}
 use Rattle.monitor.specs.AwaitOn.{IsAwait}
 use Rattle.monitor.specs.Shown.{Shown}
-use Rattle.monitor.specs.Stepping.{IsEntered}
+use Rattle.monitor.specs.Stepping.{IsEntered, IsTrim}
 use Rattle.script.specs.declared.action.Action.{Action}
-use Rattle.script.specs.declared.action.Action.TheVariants.{Acquire, TryAcquire, Release, AwaitOn, Signal, SignalAll, Drain}
+use Rattle.script.specs.declared.action.Action.TheVariants.{Acquire, TryAcquire, Release, AwaitOn, Signal, SignalAll, Drain, Trim}
 use Rattle.script.specs.declared.call.Call.{Call}
 use Rattle.script.specs.declared.call.Call.TheVariants.{On, Interrupt}
 use Rattle.word_lock.specs.Ticket.{LockId}
+use Rattle.workers.specs.declared.reply.Reply.{Reply}
+use Rattle.workers.specs.declared.reply.Reply.TheVariants.{Entered, Trimmed}
 
 -- a call of an object, as the call of its monitor
-abbrev pub IsActed : Action → Shown → Result Entry Fault → Shown → Type 0
-IsActed (Acquire m n how) old r new = IsAcquire old m n how r new
-IsActed (TryAcquire m n) old r new = IsEntered old (step.Try m n) r new
-IsActed (Release m n) old r new = IsEntered old (step.Give m n) r new
-IsActed (AwaitOn c how) old r new = IsAwait old c how r new
-IsActed (Signal c) old r new = IsEntered old (step.Signal c) r new
-IsActed (SignalAll c) old r new = IsEntered old (step.SignalAll c) r new
-IsActed Drain old r new = IsEntered old step.Drain r new
+abbrev pub IsActed : Action → Shown → Reply → Shown → Type 0
+IsActed (Acquire m n how) old (Entered r) new = IsAcquire old m n how r new
+IsActed (TryAcquire m n) old (Entered r) new = IsEntered old (step.Try m n) r new
+IsActed (Release m n) old (Entered r) new = IsEntered old (step.Give m n) r new
+IsActed (AwaitOn c how) old (Entered r) new = IsAwait old c how r new
+IsActed (Signal c) old (Entered r) new = IsEntered old (step.Signal c) r new
+IsActed (SignalAll c) old (Entered r) new = IsEntered old (step.SignalAll c) r new
+IsActed Drain old (Entered r) new = IsEntered old step.Drain r new
+IsActed Trim old (Trimmed r) new = IsTrim old r new
+IsActed _ old _ new = ⊥
 
--- how many answers of a call aren't recorded
-abbrev pub unrecorded_by : Result Entry Fault → ℕ
-unrecorded_by (Ok e) = 0
-unrecorded_by (Err f) = 1
+-- how many answers of a call aren't recorded: its fault alone
+abbrev pub unrecorded_by : Reply → ℕ
+unrecorded_by (Entered (Ok e)) = 0
+unrecorded_by (Entered (Err f)) = 1
+unrecorded_by (Trimmed (Ok count)) = 0
+unrecorded_by (Trimmed (Err f)) = 1
 
 -- A call of the object at a place: it left the pass there as the monitor's call does, and the others as they
 -- were.
 pub record ActsOn (place : ℕ) (action : Action) (old : List Shown) (u : ℕ) (new : List Shown) : Type 0 where
   pub before : Shown
   pub there : slice_get old place ≡ Some before
-  pub reply : Result Entry Fault
+  pub reply : Reply
   pub after : Shown
   pub acted : IsActed action before reply after
   pub others : new ≡ slice_set old place after

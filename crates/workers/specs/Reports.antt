@@ -4,11 +4,10 @@ use Rattle.audit.specs.declared.verdict.Judgement.{Judgement}
 use Rattle.audit.specs.declared.verdict.Judgement.TheVariants.{Legal, NotLegal}
 use Rattle.audit.specs.Totals.{totals_of}
 use Rattle.history.specs.declared.header.Header.{Header}
-use Rattle.history.specs.Entries.{ended_calls}
+use Rattle.history.specs.Entries.{IsBasedWell, start_on}
 use Rattle.history.specs.Header.{IsInRange}
-use Rattle.history.specs.Legal.{IsLegal}
-use Rattle.history.specs.Start.{opening}
-use Rattle.monitor.specs.Closing.{IsWithin, left_by, shares}
+use Rattle.history.specs.Legal.{IsLegal, calls}
+use Rattle.monitor.specs.Closing.{IsBased, IsWithin, left_by, shares}
 use Rattle.monitor.specs.Lawful.{IsLawful, blank}
 use Rattle.monitor.specs.Shown.{Shown, opening_pass}
 use Rattle.script.specs.Script.{ScriptView, WorkerView}
@@ -26,17 +25,20 @@ pub record IsPart (lock : LockId) (passes : List Shown) (part : ObjectReport) : 
   pub cap : part.history.cap ≡ lock.header.cap
   pub lawful : IsLawful (left_by lock part.history)
   pub within : All (IsWithin (left_by lock part.history)) passes
-  pub judged : part.judgement ≡ Legal (totals_of (opening lock.header) part.history.entries)
+  pub based : IsBased lock part.history
+  pub judged : part.judgement ≡ Legal (totals_of (start_on lock.header part.history) part.history.entries)
   pub share : part.share ≡ shares passes
-  pub calls : part.share ≡ ended_calls part.history.entries
+  pub calls : part.share ≡ calls (start_on lock.header part.history) part.history.entries
 
 abbrev pub is_legal : Judgement → Bool
 is_legal (Legal totals) = true
 is_legal (NotLegal number) = false
 
--- the header is in range, and the history legal
+-- the header is in range, the base, if any, a good one of it, and the history legal
 abbrev pub IsSound : ObjectReport → Type 0
-IsSound part = IsInRange part.header × IsLegal (opening part.header) part.history.entries
+IsSound part =
+    IsInRange part.header × IsBasedWell part.header part.history.base
+    × IsLegal (start_on part.header part.history) part.history.entries
 
 -- a part for each object
 abbrev pub AreParts : List LockId → List (List Shown) → List ObjectReport → Type 0

@@ -3,9 +3,8 @@ ghost use Rattle.std.specs.Prelude.{◌≡◌, ◌≤◌};
 ghost use Rattle.monitor.specs.Stepping.{IsSame};
 ghost use Rattle.workers.specs.Calls.{IsActed};
 
+use crate::reply::Reply;
 use any_object::AnyHooks;
-use history::entry::Entry;
-use history::fault::Fault;
 use monitor::{Monitor, Pass};
 use permit::ThreadParking;
 use script::Action;
@@ -19,19 +18,28 @@ pub(crate) fn act<R: Wait + Clock>(
     monitor: &Monitor<AnyHooks>,
     pass: &mut Pass,
     action: Action,
-) -> Result<Entry, Fault>
+) -> Reply
     requires is_of { pass.old.lock ≡ monitor.now }
     requires places { monitor.now.header.seats ≤ parking.now }
     ensures same { IsSame pass.old pass.new }
     ensures acted { IsActed action pass.old result pass.new }
 {
     match action {
-        Action::Acquire(mode, n, how) => monitor.acquire(rt, parking, pass, mode, n, how),
-        Action::TryAcquire(mode, n) => monitor.try_acquire(rt, parking, pass, mode, n),
-        Action::Release(mode, n) => monitor.release(rt, parking, pass, mode, n),
-        Action::AwaitOn(condition, how) => { monitor.await_on(rt, parking, pass, condition, how) }
-        Action::Signal(condition) => monitor.signal(rt, parking, pass, condition),
-        Action::SignalAll(condition) => monitor.signal_all(rt, parking, pass, condition),
-        Action::Drain => monitor.drain(rt, parking, pass),
+        Action::Acquire(mode, n, how) => {
+            Reply::Entered(monitor.acquire(rt, parking, pass, mode, n, how))
+        }
+        Action::TryAcquire(mode, n) => Reply::Entered(monitor.try_acquire(
+            rt, parking, pass, mode, n,
+        )),
+        Action::Release(mode, n) => Reply::Entered(monitor.release(rt, parking, pass, mode, n)),
+        Action::AwaitOn(condition, how) => {
+            Reply::Entered(monitor.await_on(rt, parking, pass, condition, how))
+        }
+        Action::Signal(condition) => Reply::Entered(monitor.signal(rt, parking, pass, condition)),
+        Action::SignalAll(condition) => {
+            Reply::Entered(monitor.signal_all(rt, parking, pass, condition))
+        }
+        Action::Drain => Reply::Entered(monitor.drain(rt, parking, pass)),
+        Action::Trim => Reply::Trimmed(monitor.trim(rt, pass)),
     }
 }

@@ -10,8 +10,8 @@
 //!
 //! Proved of a report: there are passes, a row for each worker, of which one was made by the worker's calls
 //! for each object, in the order of the script. Every call left its pass as the monitor's call promises. Each
-//! object's history is legal and has of each seat just the entries of that pass; its merged share is the
-//! number of calls in it; the judgement is Legal with its totals.
+//! object's history is legal from its base and agrees with the entries of each pass; its merged share is the
+//! number of calls in it, folded ones too; the judgement is Legal with its totals.
 //!
 //! Not promised: that a run ends, that threads run at the same time, and in which order their entries fall.
 #![tactic(auto)]
@@ -21,6 +21,7 @@ mod fault;
 mod gate;
 mod opened;
 mod passes;
+mod reply;
 mod report;
 mod run;
 mod start;

@@ -11,7 +11,7 @@ use history::header::Header;
 #[derive(Debug, Drop)]
 pub struct ObjectReport {
     pub header: Header,
-    /// All that was done to the object, in order.
+    /// All that was done to the object, in order: the base that was folded, and the entries behind it.
     pub history: History,
     /// The verdict on the history, and what it adds up to.
     pub judgement: Judgement,

@@ -1,7 +1,7 @@
 //! What a worker does.
 ghost use Rattle.std.specs.Prelude.{◌≡◌, ◌+◌, ◌<◌, ◌≤◌, ◌^◌, All, IfNone, IfOk, IfSome, length, map, reverse};
 ghost use Rattle.script.specs.Script.{IsCall, IsWorker};
-ghost use Rattle.workers.specs.Calls.{IsCalled, Made, homes, lock_of, rounds, unrecorded_by};
+ghost use Rattle.workers.specs.Calls.{IsCalled, Made, homes, lock_of, rounds};
 ghost use Rattle.workers.specs.Works.{HasWorked, LetsBelow, StopsBelow, calls_of};
 
 use crate::act::act;
@@ -10,8 +10,6 @@ use crate::gate::Gate;
 use crate::opened::Opened;
 use crate::passes::Passes;
 use crate::start::Start;
-use history::entry::Entry;
-use history::fault::Fault;
 use permit::{Parking, ThreadParking};
 use script::{Call, Worker};
 use std::sync::Wait;
@@ -32,16 +30,6 @@ pub(crate) struct Worked {
     pub ended: Result<u64, RunFault>,
 }
 
-/// How many answers of a call aren't recorded: 1 or 0.
-fn unrecorded_by(reply: &Result<Entry, Fault>) -> u64
-    ensures { result ≡ unrecorded_by reply.now }
-{
-    match reply {
-        Ok(_) => 0,
-        Err(_) => 1,
-    }
-}
-
 /// Makes a call, and says how many answers weren't recorded: 1 or 0.
 fn make_call<R: Wait + Clock>(rt: &R, shared: &Shared, passes: &mut Passes, call: Call) -> u64
     requires own { map lock_of passes.old ≡ shared.now.objects.items }
@@ -56,7 +44,7 @@ fn make_call<R: Wait + Clock>(rt: &R, shared: &Shared, passes: &mut Passes, call
             let pass = &mut passes.list[place];
             let monitor = shared.objects[place].monitor();
             let reply = act(rt, &shared.parking, monitor, pass, action);
-            unrecorded_by(&reply)
+            reply.unrecorded()
         }
         Call::Interrupt(thread) => {
             shared.parking.interrupt(thread);

@@ -6,6 +6,7 @@ ghost use Rattle.frame.specs.Core.{start_of, first_mode_of, ready_of, IsNext};
 ghost use Rattle.frame.specs.Hooks.{line_mode};
 
 use super::Core;
+use crate::effects::first_ready;
 use crate::hooks::{Hooks, Line};
 use deciding::decide;
 use deciding::situation::Situation;
@@ -32,11 +33,9 @@ impl<H: Hooks + Drop> Core<H> {
 
     /// The seat of the first in line, if it could take what it asks for.
     pub(super) fn ready(&self) -> Option<u16>
-        ensures ready { result ≡ ready_of self.now }
-        ensures below { IfSome result (λ seat. seat < self.now.header.seats) }
+        ensures { result ≡ ready_of self.now }
     {
-        let _header = &self.header;
-        decide::ready(self)
+        first_ready(&self.hooks, &self.queue)
     }
 
     /// The one entry of a step, or sleep, or a fault that isn't recorded.
@@ -94,7 +93,7 @@ impl<H: Hooks + Drop> Situation for Core<H> {
         self.hooks.could(seat, mode, n)
     }
 
-    fn held(&self, seat: u16, mode: Mode) -> u64 {
+    fn held(&self, seat: u16, mode: Mode) -> u128 {
         self.holds(seat, mode)
     }
 

@@ -1,19 +1,19 @@
 //! What a core tells of itself. No observer takes memory.
 
-ghost use Rattle.std.specs.Prelude.{◌≡◌, ◌<◌, ◌≤◌, ◌+◌, ◌^◌, ◌≤ℤ◌, pos, length, is_some};
-ghost use Rattle.history.specs.declared.entry.Mode.TheVariants.{X, S};
+ghost use Rattle.std.specs.Prelude.{◌≡◌, ◌<◌, ◌≤◌, ◌+◌, ◌^◌, ◌≤ℤ◌, pos, length, is_some, Some};
 ghost use Rattle.history.specs.Counts.{count, held, owner};
+ghost use Rattle.history.specs.Fold.{MayFold};
 ghost use Rattle.history.specs.Faults.{max_amount};
-ghost use Rattle.history.specs.Sleepers.{sleepers, last_sleep};
+ghost use Rattle.history.specs.Sleepers.{sleepers};
 ghost use Rattle.frame.specs.Observed.{available};
 ghost use Rattle.history.specs.Legal.{IsLegal, AreSeated};
 ghost use Rattle.history.specs.Line.{line};
+ghost use Rattle.history.specs.Marks.{AreTold, StandInLine};
 ghost use Rattle.history.specs.Order.{IsInOrder, IsFairOrder};
 ghost use Rattle.history.specs.Room.{owed};
-ghost use Rattle.frame.specs.Core.{start_of, counts_of};
+ghost use Rattle.frame.specs.Core.{start_of, counts_of, marks_of};
 ghost use Rattle.frame.specs.Hooks.{level_of};
-ghost use Rattle.deciding.specs.Sleep.{sleep_of};
-ghost use Rattle.frame.specs.Seat.{seat_of};
+ghost use Rattle.frame.specs.Seat.{IsSeat};
 
 use super::Core;
 use crate::hooks::Hooks;
@@ -31,6 +31,7 @@ impl<H: Hooks + Drop> Core<H> {
 
     /// The entries so far.
     pub fn history(&self) -> &History
+        ensures base { result.now.base ≡ Some self.now.base }
         ensures entries { result.now.entries ≡ self.now.entries }
         ensures cap { result.now.cap ≡ self.now.header.cap }
         ensures owed { result.now.owed ≡ owed (start_of self.now) self.now.entries }
@@ -39,8 +40,9 @@ impl<H: Hooks + Drop> Core<H> {
         &self.history
     }
 
-    /// The entries that a core leaves behind.
+    /// The entries that a core leaves behind, and their base.
     pub fn into_history(self) -> History
+        ensures base { result.base ≡ Some self.base }
         ensures entries { result.entries ≡ self.entries }
         ensures cap { result.cap ≡ self.header.cap }
         ensures places { result.places ≡ self.places }
@@ -49,7 +51,7 @@ impl<H: Hooks + Drop> Core<H> {
     }
 
     /// The holds of a seat in a mode.
-    pub fn holds(&self, seat: u16, mode: Mode) -> u64
+    pub fn holds(&self, seat: u16, mode: Mode) -> u128
         requires { seat < self.now.header.seats }
         ensures { result ≡ held (start_of self.now) self.now.entries seat mode }
     {
@@ -63,9 +65,12 @@ impl<H: Hooks + Drop> Core<H> {
         self.seats.iter().any(|seat| seat.exclusive > 0)
     }
 
-    /// The history is legal, nobody in line is passed, what is owed has room and places, and its length fits
-    /// in 32 bits.
+    /// The history is legal from its base and may be folded into it, nobody in line is passed, what is owed
+    /// has room and places, and its length fits in 32 bits. Whoever is first in line and could go is marked,
+    /// nobody out of line is, and each seat has one mark.
     pub fn recall_lawful(&self)
+        ensures header { self.now.base.header ≡ self.now.header }
+        ensures may_fold { MayFold self.now.base self.now.entries }
         ensures legal { IsLegal (start_of self.now) self.now.entries }
         ensures seated { AreSeated (start_of self.now) self.now.entries }
         ensures order { IsInOrder (start_of self.now) self.now.entries }
@@ -75,8 +80,20 @@ impl<H: Hooks + Drop> Core<H> {
         ensures reserved { length self.now.entries + owed (start_of self.now) self.now.entries
             ≤ self.now.places }
         ensures short { length self.now.entries < 2 ^ 32 }
+        ensures told { AreTold (start_of self.now) self.now.entries (marks_of self.now) }
+        ensures stand { StandInLine (start_of self.now) self.now.entries (marks_of self.now) }
+        ensures marks { length self.now.told ≡ self.now.header.seats }
     {
         let _owed = self.history.owed();
+    }
+
+    /// Whether a seat in line was told that it could go: by an entry that names it, or by its own lapse.
+    /// Since then it has neither left the line nor been answered `Sleep`.
+    pub fn is_told(&self, seat: u16) -> bool
+        requires { seat < self.now.header.seats }
+        ensures { result ≡ marks_of self.now seat }
+    {
+        self.seats[seat as usize].told
     }
 
     /// How many stand in line.
@@ -115,23 +132,11 @@ impl<H: Hooks + Drop> Core<H> {
     }
 
     /// What is kept of a seat.
-    fn kept(&self, seat: u16) -> Seat
-        requires { seat < self.now.header.seats }
-        ensures { result ≡ seat_of self.now.header.object self.now.entries seat }
-    {
-        self.seats[seat as usize]
-    }
-
-    /// What is kept of a seat, and what that tells of it.
     pub(super) fn seat(&self, seat: u16) -> Seat
         requires { seat < self.now.header.seats }
-        ensures kept { result ≡ seat_of self.now.header.object self.now.entries seat }
-        ensures exclusive { result.exclusive ≡ held (start_of self.now) self.now.entries seat X }
-        ensures shared { result.shared ≡ held (start_of self.now) self.now.entries seat S }
-        ensures sleep { sleep_of result.sleep ≡ last_sleep (start_of self.now) self.now.entries seat }
+        ensures { IsSeat (start_of self.now) self.now.entries seat result }
     {
-        let _header = &self.header;
-        self.kept(seat)
+        self.seats[seat as usize]
     }
 
     /// What the hooks count: free permits, the count of a latch, else 0.

@@ -1,32 +1,30 @@
 //! Recording the entry of a step.
 
-ghost use Rattle.std.specs.Prelude.{◌≡◌, ◌++◌, true, false, if◌then◌else◌, None, Ok, IsOk, IfOk, OnErr};
-ghost use Rattle.frame.specs.Core.{made_by, places_behind, ready_of, start_of};
-ghost use Rattle.frame.specs.Core.{IsAdded, IsNext, IsOf, IsRecorded, KeepsHolds, NamesBelow};
-ghost use Rattle.frame.specs.Effects.{asks_before, may_name};
-ghost use Rattle.history.specs.Naming.{named};
+ghost use Rattle.std.specs.Prelude.{◌≡◌, ◌++◌, ◌<◌, true, if◌then◌else◌, None, IsOk, IfOk, IfSome, OnErr};
+ghost use Rattle.frame.specs.Core.{made_by, places_behind, ready_of};
+ghost use Rattle.frame.specs.Core.{IsAdded, IsNext, IsOf, IsRecorded, IsTold, KeepsHolds, NamesBelow};
+ghost use Rattle.frame.specs.Effects.{asks_before};
 ghost use Rattle.history.specs.Room.{was_owed};
 
 use super::Core;
-use crate::effects::change;
+use crate::effects::{change, whom_named};
 use crate::hooks::Hooks;
-use crate::seat::update;
+use crate::seat::{tell, update};
 use condition_queue::following::move_waiters;
-use deciding::entries::named;
 use deciding::room::owed_behind;
 use history::entry::{Entry, Word};
 use history::fault::Fault;
 use history::step::Answer;
 
 impl<H: Hooks + Drop> Core<H> {
-    /// Adds an entry where it has room, has all that is kept follow it, and tells whether it might name
-    /// somebody.
+    /// Adds an entry where it has room, has all that is kept follow it, and marks whom it names: who is ready
+    /// behind it and wasn't before.
     #[inline(always)]
-    fn write(&mut self, entry: Entry) -> Result<bool, Fault>
-        requires { IsNext self.old entry }
+    fn write(&mut self, entry: Entry, before: Option<u16>) -> Result<Option<u16>, Fault>
+        requires next { IsNext self.old entry }
+        requires before { before ≡ (if asks_before entry.word then ready_of self.old else None) }
         ensures added { IsAdded self.old entry result self.new }
-        ensures nobody { result ≡ Ok false → named (start_of self.old) self.old.entries entry ≡ None }
-        ensures word { result ≡ Ok true → may_name entry.word ≡ true }
+        ensures names { IfOk result (λ name. IfSome name (λ seat. seat < self.old.header.seats)) }
     {
         let object = self.header.object;
         let was_owed = self.history.owed();
@@ -37,7 +35,9 @@ impl<H: Hooks + Drop> Core<H> {
         move_waiters(&mut self.queue, &mut self.waiters, entry);
         update(&mut self.seats, object, entry);
         self.history.add(entry, owed);
-        Ok(may_name)
+        let name = whom_named(may_name, before, &self.hooks, &self.queue, entry.seat);
+        tell(&mut self.seats, name);
+        Ok(name)
     }
 
     /// Who is ready before an entry of a word, where that is to be known: before a grant it is the one who is
@@ -52,26 +52,24 @@ impl<H: Hooks + Drop> Core<H> {
         }
     }
 
-    /// Records the entry of a step, and says whom it names: who is ready behind it and wasn't before.
+    /// Records the entry of a step, and says whom it names.
     #[inline(always)]
     pub(super) fn record(&mut self, entry: Entry) -> Result<Answer, Fault>
         requires { IsNext self.old entry }
         ensures recorded { IsRecorded self.old entry result self.new }
+        ensures told { IsTold self.old entry.seat result self.new }
         ensures header { self.new.header ≡ self.old.header }
+        ensures base { self.new.base ≡ self.old.base }
         ensures fault { OnErr result (self.new ≡ self.old) }
         ensures places { self.new.places ≡ places_behind self.old result }
-        ensures refused { IfOk result (λ answer. KeepsHolds self.old answer self.new) }
+        ensures refused { IfOk result (λ answer. KeepsHolds self.old entry.seat answer self.new) }
         ensures owed { was_owed self.old.header.object entry ≡ true → IsOk result }
         ensures grown { self.new.entries ≡ made_by result ++ self.old.entries }
         ensures own { IfOk result (λ answer. IsOf entry.seat answer) }
         ensures names { IfOk result (λ answer. NamesBelow self.old.header.seats answer) }
     {
         let before = self.ready_before(entry.word);
-        let name = if self.write(entry)? {
-            named(before, self.ready(), entry.seat)
-        } else {
-            None
-        };
+        let name = self.write(entry, before)?;
         Ok(Answer::Recorded(entry, name))
     }
 }

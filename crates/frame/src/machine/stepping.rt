@@ -1,42 +1,58 @@
 //! One step of a seat.
 
-ghost use Rattle.std.specs.Prelude.{◌≡◌, ◌<◌, ◌++◌, IsOk, IfOk, OnErr};
-ghost use Rattle.frame.specs.Core.{made_by, places_behind, IsAnswered, IsOf, KeepsHolds, MakesOwed, NamesBelow};
+ghost use Rattle.std.specs.Prelude.{◌≡◌, ◌≢◌, ◌<◌, ◌++◌, IsOk, IfOk, OnErr, Some};
+ghost use Rattle.frame.specs.Core.{made_by, places_behind, ready_of, unmarked_at};
+ghost use Rattle.frame.specs.Core.{IsAnswered, IsOf, IsTold, KeepsHolds, MakesOwed, NamesBelow};
 
 use super::Core;
 use crate::hooks::Hooks;
+use crate::seat::untell;
 use history::entry::Word;
 use history::fault::Fault;
 use history::step::{Answer, Step};
 
 impl<H: Hooks + Drop> Core<H> {
-    /// A seat waits on. If it stands in line, the nodes of those who left right before it are freed.
-    fn wait_on(&mut self, seat: u16)
+    /// If the seat stands in line, the nodes of those who left right before it are freed.
+    fn tidy_before(&mut self, seat: u16)
         ensures { self.new ≡ self.old }
     {
         self.queue.tidy_before(seat);
     }
 
+    /// Forgets that a seat was told, where it couldn't go now.
+    fn untell(&mut self, seat: u16)
+        requires seat { seat < self.old.header.seats }
+        requires waits { ready_of self.old ≢ Some seat }
+        ensures { self.new ≡ unmarked_at seat self.old }
+    {
+        untell(&mut self.seats, seat);
+    }
+
     /// One step of a seat.
     ///
     /// - `Recorded`: the one entry that the step makes, and whom it names. The first five faults come so.
-    /// - `Sleep`: nothing is recorded, and the seat waits on.
+    /// - `Sleep`: nothing is recorded, and the seat waits on. It is told no more.
     /// - `WrongMode`, `NoSuchCondition`, `BadAmount`, `OutOfPhase`: the step isn't one of the seat's now.
     /// - `HistoryFull`: the entry and what it would owe don't fit in the history.
     /// - `OutOfMemory`: the history's memory couldn't grow. It comes only where places lack for the entry and
     ///   for what it would owe.
     ///
     /// The history's places become those of the pages that its entries take, with all that is owed, where
-    /// these are more than there were. After a fault, or a sleep, nothing has changed. What ends a wait,
-    /// gives a hold back or moves a sleeper always finds room and memory.
+    /// these are more than there were. After a fault nothing has changed, and after a sleep the mark of the
+    /// seat alone. What ends a wait, gives a hold back or moves a sleeper always finds room and memory.
+    ///
+    /// Whom an entry names is marked, and who lapses. A mark goes with its seat's place in line, and when its
+    /// seat is answered `Sleep`. [`is_told`](Core::is_told) answers it.
     #[inline(always)]
     pub fn step(&mut self, seat: u16, step: Step) -> Result<Answer, Fault>
         requires { seat < self.old.header.seats }
         ensures answered { IsAnswered self.old seat step result self.new }
+        ensures told { IsTold self.old seat result self.new }
         ensures header { self.new.header ≡ self.old.header }
+        ensures base { self.new.base ≡ self.old.base }
         ensures fault { OnErr result (self.new ≡ self.old) }
         ensures places { self.new.places ≡ places_behind self.old result }
-        ensures refused { IfOk result (λ answer. KeepsHolds self.old answer self.new) }
+        ensures refused { IfOk result (λ answer. KeepsHolds self.old seat answer self.new) }
         ensures owed { MakesOwed self.old seat step → IsOk result }
         // What was recorded stands in front of what was there. It is of the seat, and names one of the seats.
         ensures grown { self.new.entries ≡ made_by result ++ self.old.entries }
@@ -47,7 +63,8 @@ impl<H: Hooks + Drop> Core<H> {
         match self.decide(seat, step) {
             Err(fault) => Err(fault),
             Ok(None) => {
-                self.wait_on(seat);
+                self.tidy_before(seat);
+                self.untell(seat);
                 Ok(Answer::Sleep)
             }
             // A copy for each of the commonest words: in each the word is known, and what it leaves as it was

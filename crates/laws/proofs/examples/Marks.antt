@@ -4,9 +4,11 @@ use Rattle.std.specs.Prelude.{◌≡◌, ℕ, zero, suc, ◌++◌, Bool, if◌th
 use Rattle.history.specs.declared.header.Header.{Header}
 use Rattle.history.specs.declared.header.Policy.TheVariants.{Fair, NonFair}
 use Rattle.history.specs.declared.step.Step.{Step}
+use Rattle.history.specs.Answers.{results}
+use Rattle.history.specs.Base.{based, folded, opening_base}
 use Rattle.history.specs.Start.{opening}
 use Rattle.laws.proofs.Told.{lock, read_write, semaphore, acquire, acquire_shared, await, expire, give, interrupt, look, signal}
-use Rattle.laws.specs.Marks.{marks, unmarked}
+use Rattle.history.specs.Marks.{marks, unmarked}
 
 -- the marked seats, of so many
 abbrev those_marked : ℕ → (ℕ → Bool) → List ℕ
@@ -62,3 +64,26 @@ a_request_of_nothing :
     marked (semaphore Fair (pos 0) 2 64) ((0, acquire_shared 1) ∷ (1, acquire_shared 0) ∷ (0, expire) ∷ [])
     ≡ 1 ∷ []
 a_request_of_nothing = refl
+
+-- The same with the history folded before the release: a fold leaves the marks as they are.
+abbrev folded_marks : Header → List (ℕ × Step) → List (ℕ × Step) → List ℕ
+folded_marks k steps more =
+    let h = (results (opening k) [] steps).1 in
+    those_marked k.seats
+    (marks (based (folded (opening_base k) h)) [] (marks (opening k) [] unmarked steps) more)
+
+a_fold_clears_no_mark : folded_marks (lock NonFair 3 0 64) barged_past [] ≡ 1 ∷ []
+a_fold_clears_no_mark = refl
+
+a_sleep_behind_a_fold : folded_marks (lock NonFair 3 0 64) barged_past ((1, look) ∷ []) ≡ []
+a_sleep_behind_a_fold = refl
+
+a_release_behind_a_fold :
+    folded_marks (lock NonFair 3 0 64) barged_past ((1, look) ∷ (2, give) ∷ []) ≡ 1 ∷ []
+a_release_behind_a_fold = refl
+
+a_transfer_behind_a_fold :
+    folded_marks (lock Fair 2 1 64) ((0, acquire) ∷ (0, await 0) ∷ (1, acquire) ∷ [])
+    ((1, signal 0) ∷ (1, give) ∷ [])
+    ≡ 0 ∷ []
+a_transfer_behind_a_fold = refl

@@ -3,6 +3,7 @@
 ghost use Rattle.std.specs.Prelude.{◌<◌, All, IsTrue, ⊤};
 
 use any_object::AnyHooks;
+use frame::acts::{Act, Done, run_acts};
 use frame::machine::Core;
 use frame::run::run;
 use history::entries::History;
@@ -13,6 +14,7 @@ use history::step::{Answer, Step};
 use std::alloc::Global;
 use std::marker::Model;
 use std::process::Abort;
+use test_queues::seated::are_of_seats;
 
 /// Less than each table takes that a core of 256 seats opens.
 pub const PIECE: usize = 256;
@@ -27,8 +29,8 @@ pub struct Told {
     pub line: u16,
     /// On the first two conditions.
     pub asleep: [u16; 2],
-    pub exclusive: [u64; 4],
-    pub shared: [u64; 4],
+    pub exclusive: [u128; 4],
+    pub shared: [u128; 4],
     pub is_held: bool,
     pub available: i64,
     pub count: u32,
@@ -37,8 +39,8 @@ pub struct Told {
 /// What a core tells of all its seats and conditions together.
 #[derive(Clone, Copy)]
 pub struct Sums {
-    pub exclusive: u64,
-    pub shared: u64,
+    pub exclusive: u128,
+    pub shared: u128,
     pub asleep: u64,
 }
 
@@ -60,14 +62,14 @@ fn are_seated(seats: u16, steps: &[(u16, Step)]) -> bool
 }
 
 /// The holds of a seat; none where the core doesn't have it.
-fn holds(core: &Inner, seat: u16, mode: Mode) -> u64 {
+fn holds(core: &Inner, seat: u16, mode: Mode) -> u128 {
     if core.header().seats <= seat {
         return 0;
     }
     core.holds(seat, mode)
 }
 
-fn first_holds(core: &Inner, mode: Mode) -> [u64; 4] {
+fn first_holds(core: &Inner, mode: Mode) -> [u128; 4] {
     [
         holds(core, 0, mode),
         holds(core, 1, mode),
@@ -76,9 +78,17 @@ fn first_holds(core: &Inner, mode: Mode) -> [u64; 4] {
     ]
 }
 
+/// Whether a seat was told that it could go; not where the core doesn't have it.
+fn is_told(core: &Inner, seat: u16) -> bool {
+    if core.header().seats <= seat {
+        return false;
+    }
+    core.is_told(seat)
+}
+
 /// The holds of all seats.
-fn all_holds(core: &Inner, mode: Mode) -> u64 {
-    let mut sum: u64 = 0;
+fn all_holds(core: &Inner, mode: Mode) -> u128 {
+    let mut sum: u128 = 0;
     for seat in 0..core.header().seats {
         sum = sum.saturating_add(holds(core, seat, mode));
     }
@@ -138,6 +148,23 @@ impl AnyCore {
         run(alloc, &mut self.core, steps)
     }
 
+    /// What the acts are answered; `OutOfPhase` where one is of a seat that the core doesn't have.
+    pub fn run_acts(
+        &mut self,
+        alloc: Global,
+        acts: &[Act],
+    ) -> Result<Vec<Result<Done, Fault>>, Fault> {
+        if !are_of_seats(self.core.header().seats, acts) {
+            return Err(Fault::OutOfPhase);
+        }
+        run_acts(alloc, &mut self.core, acts)
+    }
+
+    /// Folds the entries.
+    pub fn trim(&mut self) -> Result<u64, Fault> {
+        self.core.trim()
+    }
+
     pub fn header(&self) -> &Header {
         self.core.header()
     }
@@ -166,6 +193,16 @@ impl AnyCore {
             available: self.core.available(),
             count: self.core.count(),
         }
+    }
+
+    /// Which of the first seats were told that they could go.
+    pub fn told_seats(&self) -> [bool; 4] {
+        [
+            is_told(&self.core, 0),
+            is_told(&self.core, 1),
+            is_told(&self.core, 2),
+            is_told(&self.core, 3),
+        ]
     }
 
     pub fn sums(&self) -> Sums {

@@ -8,7 +8,7 @@ use crate::cores::any_core::{AnyCore, history_left};
 use crate::cores::chance::Chance;
 use crate::cores::lists::{KINDS, header_of};
 use crate::cores::seen::{COUNTED, OWNED, PERMITTED, Seen, TAKEN, assert_seen};
-use crate::cores::texts::steps_of;
+use crate::cores::texts::{Situation, steps_of};
 use history::entry::{Mode, Word};
 use history::fault::Fault;
 use history::header::{Header, Object, Policy};
@@ -16,7 +16,6 @@ use history::step::{Answer, Step};
 use std::alloc::{AllocError, Global};
 use std::process::Abort;
 use std::test::Fail;
-use steps::StepsText;
 use test_support::examples::{Example, situations};
 use test_support::memory::Memory;
 
@@ -191,7 +190,7 @@ const MORE_TIMES: u32 = 2000;
 const CUT: usize = 1;
 
 /// How many entries steps leave behind; they are dropped.
-fn entries_left(alloc: Global, said: &StepsText) -> Result<u64, Fault> {
+fn entries_left(alloc: Global, said: &Situation) -> Result<u64, Fault> {
     let left = history_left(alloc, &said.header, &said.steps)?;
     Ok(left.len())
 }
@@ -199,7 +198,7 @@ fn entries_left(alloc: Global, said: &StepsText) -> Result<u64, Fault> {
 /// Opens a core, runs the steps, and drops what they leave behind, so many times.
 fn play_times<R: Abort + AllocGlobal>(
     rt: &R,
-    said: &StepsText,
+    said: &Situation,
     entries: u64,
     times: u32,
 ) -> Result<(), Fault> {
@@ -214,7 +213,7 @@ fn play_times<R: Abort + AllocGlobal>(
 fn pieces_left<R: Abort + AllocGlobal>(
     rt: &R,
     memory: &mut Memory,
-    said: &StepsText,
+    said: &Situation,
 ) -> Result<(usize, usize), Fault> {
     let entries = entries_left(rt.alloc(), said)?;
     play_times(rt, said, entries, FIRST_TIMES)?;

@@ -48,7 +48,7 @@ fn counts<R: Abort>(rt: &R, core: &AnyCore, entries: u64, calls: u64, owed: u64)
 }
 
 /// The first seats of a core hold so much.
-fn hold<R: Abort>(rt: &R, core: &AnyCore, exclusive: [u64; 4], shared: [u64; 4]) {
+fn hold<R: Abort>(rt: &R, core: &AnyCore, exclusive: [u128; 4], shared: [u128; 4]) {
     let told = core.told();
     assert!(rt; told.exclusive == exclusive && told.shared == shared);
 }

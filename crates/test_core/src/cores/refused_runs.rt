@@ -4,13 +4,12 @@
 
 use crate::cores::answers::{is_recorded, lacks_memory};
 use crate::cores::any_core::{AnyCore, PIECE, assert_tells};
-use crate::cores::texts::{long_situation, steps_of};
+use crate::cores::texts::{Situation, long_situation, steps_of};
 use history::fault::Fault;
 use history::step::{Answer, Step};
 use std::alloc::{AllocError, Global};
 use std::process::Abort;
 use std::test::Fail;
-use steps::StepsText;
 use test_support::examples::{Example, situations};
 use test_support::memory::Memory;
 
@@ -55,7 +54,7 @@ fn refuse_run<R: Abort + AllocGlobal>(
 }
 
 /// Behind what was recorded before, and again behind the steps.
-fn refuse_from_open<R: Abort + AllocGlobal>(rt: &R, said: &StepsText) -> Result<(), Fault> {
+fn refuse_from_open<R: Abort + AllocGlobal>(rt: &R, said: &Situation) -> Result<(), Fault> {
     let mut scarce = AnyCore::open(rt.alloc(), &said.header)?;
     let mut rich = AnyCore::open(rt.alloc(), &said.header)?;
     refuse_run(rt, &mut scarce, &mut rich, &said.steps);
@@ -229,7 +228,7 @@ fn refuse_behind_growth<R: Abort + AllocGlobal>(
     run_past_refusals(rt, scarce, rich, steps)
 }
 
-fn grow_from_open<R: Abort + AllocGlobal>(rt: &R, said: &StepsText) -> Result<u32, Fault> {
+fn grow_from_open<R: Abort + AllocGlobal>(rt: &R, said: &Situation) -> Result<u32, Fault> {
     let mut scarce = AnyCore::open(rt.alloc(), &said.header)?;
     let mut rich = AnyCore::open(rt.alloc(), &said.header)?;
     refuse_behind_growth(rt, &mut scarce, &mut rich, &said.steps)

@@ -4,7 +4,7 @@
 
 use crate::cores::answers::lacks_memory;
 use crate::cores::any_core::{AnyCore, PIECE, Told, assert_tells};
-use crate::cores::texts::{long_situation, steps_of};
+use crate::cores::texts::{Situation, long_situation, steps_of};
 use history::entry::{Entry, Word};
 use history::fault::Fault;
 use history::header::{Header, Object};
@@ -12,7 +12,6 @@ use history::step::{Answer, Step};
 use std::alloc::{AllocError, Global};
 use std::process::Abort;
 use std::test::Fail;
-use steps::StepsText;
 use test_support::examples::{Example, situations};
 use test_support::memory::Memory;
 
@@ -69,7 +68,7 @@ fn play_rounds(
 }
 
 /// The steps of a situation, over and over.
-fn play_situation(alloc: Global, said: &StepsText, rounds: u32) -> Result<Vec<Played>, Fault> {
+fn play_situation(alloc: Global, said: &Situation, rounds: u32) -> Result<Vec<Played>, Fault> {
     let mut played = Vec::new(alloc);
     let mut core = AnyCore::open(alloc, &said.header)?;
     play_rounds(&mut core, &said.steps, rounds, &mut played)?;
@@ -179,7 +178,7 @@ fn play_starved<R: Abort + AllocGlobal>(
 /// Plays the steps over and over where each growth of the history is refused before it is met; how many were.
 fn refuse_growth<R: Abort + AllocGlobal>(
     rt: &R,
-    said: &StepsText,
+    said: &Situation,
     rounds: u32,
 ) -> Result<u32, Fault> {
     let played = play_situation(rt.alloc(), said, rounds)?;

@@ -1,7 +1,7 @@
 //! The known situations through `run`.
 
 use crate::cores::any_core::{AnyCore, Told};
-use crate::cores::texts::{history_text, replay_text, steps_of};
+use crate::cores::texts::{Situation, history_text, replay_text, steps_of};
 use history::entry::Mode;
 use history::fault::Fault;
 use history::header::{Header, Object, Policy};
@@ -9,7 +9,7 @@ use history::step::{Answer, Step};
 use std::alloc::Global;
 use std::process::Abort;
 use std::test::Fail;
-use steps::{ReadFault, StepsText};
+use steps::ReadFault;
 use test_support::examples::{Example, situations};
 
 /// Whether a core answered the steps of a situation as its text says.
@@ -66,13 +66,13 @@ fn runs_stepwise(
     is_replay(alloc, example, core, steps, &answers)
 }
 
-fn play_whole(alloc: Global, example: &Example, said: &StepsText) -> Result<bool, Fault> {
+fn play_whole(alloc: Global, example: &Example, said: &Situation) -> Result<bool, Fault> {
     let mut core = AnyCore::open(alloc, &said.header)?;
     let is_answered = runs_whole(alloc, example, &mut core, &said.steps)?;
     Ok(is_answered && is_history(alloc, example, &core)?)
 }
 
-fn play_stepwise(alloc: Global, example: &Example, said: &StepsText) -> Result<bool, Fault> {
+fn play_stepwise(alloc: Global, example: &Example, said: &Situation) -> Result<bool, Fault> {
     let mut core = AnyCore::open(alloc, &said.header)?;
     runs_stepwise(alloc, example, &mut core, &said.steps)
 }

@@ -2,6 +2,7 @@
 
 use crate::cores::answers::is_recorded;
 use crate::cores::any_core::AnyCore;
+use frame::acts::Act;
 use history::entries::History;
 use history::entry::Entry;
 use history::fault::Fault;
@@ -9,19 +10,36 @@ use history::header::Header;
 use history::number::put_number;
 use history::step::{Answer, Step};
 use std::alloc::{AllocError, Global};
-use steps::{ReadFault, StepsText, read_steps};
+use steps::{ReadFault, read_steps};
 use test_support::examples::Example;
 
-/// What a steps text says.
-pub fn steps_of(alloc: Global, text: &str) -> Result<StepsText, ReadFault> {
-    read_steps(alloc, text.as_bytes())
+/// A header, and steps of its object's seats.
+#[derive(Debug, Drop)]
+pub struct Situation {
+    pub header: Header,
+    pub steps: Vec<(u16, Step)>,
+}
+
+/// What a steps text without trims says.
+pub fn steps_of(alloc: Global, text: &str) -> Result<Situation, ReadFault> {
+    let read = read_steps(alloc, text.as_bytes())?;
+    let mut steps = Vec::with_capacity(alloc, read.acts.len())?;
+    for act in &read.acts {
+        if let Act::Do(seat, step) = act {
+            steps.push((*seat, *step))?;
+        }
+    }
+    Ok(Situation {
+        header: read.header.header,
+        steps,
+    })
 }
 
 /// A cap that no history here comes near.
 const LONG: u32 = 1_000_000;
 
 /// A situation with a cap that its history doesn't come near.
-pub fn long_situation(alloc: Global, example: &Example) -> Result<StepsText, ReadFault> {
+pub fn long_situation(alloc: Global, example: &Example) -> Result<Situation, ReadFault> {
     let mut said = steps_of(alloc, example.steps)?;
     said.header.cap = LONG;
     Ok(said)

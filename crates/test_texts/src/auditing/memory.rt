@@ -5,11 +5,11 @@
 //! the other.
 
 ghost use Rattle.std.specs.Prelude.{◌≡◌, IfOk};
+ghost use Rattle.history.specs.Entries.{IsBasedWell, start_on};
 ghost use Rattle.history.specs.Header.{IsInRange};
 ghost use Rattle.history.specs.Legal.{AreSeated, IsLegal};
-ghost use Rattle.history.specs.Start.{opening};
 
-use crate::auditing::histories::{are_seated, history_of};
+use crate::auditing::histories::{add_all, are_seated, folded, history_of};
 use audit::sums::Totals;
 use audit::totals::totals;
 use audit::verdict::{Verdict, check};
@@ -42,7 +42,8 @@ fn fed_check(
 ) -> Result<(Verdict, usize), Fault>
     requires range { IsInRange header.now }
     requires cap { history.now.cap ≡ header.now.cap }
-    requires seated { AreSeated (opening header.now) history.now.entries }
+    requires based { IsBasedWell header.now history.now.base }
+    requires seated { AreSeated (start_on header.now history.now) history.now.entries }
 {
     for refused in 0..MOST {
         match check(alloc, header, history) {
@@ -63,7 +64,8 @@ fn check_from_none(
 ) -> Result<(Verdict, usize), Fault>
     requires range { IsInRange header.now }
     requires cap { history.now.cap ≡ header.now.cap }
-    requires seated { AreSeated (opening header.now) history.now.entries }
+    requires based { IsBasedWell header.now history.now.base }
+    requires seated { AreSeated (start_on header.now history.now) history.now.entries }
 {
     let mut memory = Memory::take_all(alloc, PIECE)?;
     fed_check(alloc, header, history, &mut memory)
@@ -77,8 +79,9 @@ fn fed_totals(
     memory: &mut Memory,
 ) -> Result<(Totals, usize), Fault>
     requires range { IsInRange header.now }
-    requires seated { AreSeated (opening header.now) history.now.entries }
-    requires legal { IsLegal (opening header.now) history.now.entries }
+    requires based { IsBasedWell header.now history.now.base }
+    requires seated { AreSeated (start_on header.now history.now) history.now.entries }
+    requires legal { IsLegal (start_on header.now history.now) history.now.entries }
 {
     for refused in 0..MOST {
         match totals(alloc, header, history) {
@@ -99,7 +102,8 @@ fn totals_from_none(
 ) -> Result<(Totals, usize), Fault>
     requires range { IsInRange header.now }
     requires cap { history.now.cap ≡ header.now.cap }
-    requires seated { AreSeated (opening header.now) history.now.entries }
+    requires based { IsBasedWell header.now history.now.base }
+    requires seated { AreSeated (start_on header.now history.now) history.now.entries }
 {
     match check(alloc, header, history)? {
         Verdict::NotLegal(_) => return Err(Fault::OutOfPhase),
@@ -129,7 +133,8 @@ fn on_condition(seat: u16, word: Word) -> Entry {
 
 /// Seat 0 sleeps, and seat 1, who owns, signals it.
 fn signalled(alloc: Global) -> Result<History, Fault>
-    ensures { IfOk result (λ history. history.cap ≡ 64) }
+    ensures cap { IfOk result (λ history. history.cap ≡ 64) }
+    ensures based { IfOk result (λ history. IsBasedWell HEADER history.base) }
 {
     let entries = [
         plain(0, Word::Got, Mode::X, 1),
@@ -140,9 +145,34 @@ fn signalled(alloc: Global) -> Result<History, Fault>
     history_of(alloc, &HEADER, &entries)
 }
 
+/// The same, where the signal alone stands behind a base.
+fn signalled_on_base(alloc: Global) -> Result<History, Fault>
+    ensures cap { IfOk result (λ history. history.cap ≡ 64) }
+    ensures based { IfOk result (λ history. IsBasedWell HEADER history.base) }
+{
+    let before = [
+        plain(0, Word::Got, Mode::X, 1),
+        on_condition(0, Word::Await),
+        plain(1, Word::Got, Mode::X, 1),
+    ];
+    let mut history = folded(alloc, &HEADER, &before)?;
+    add_all(&mut history, &[on_condition(1, Word::Signal)])?;
+    Ok(history)
+}
+
 #[test]
 fn each_request_of_a_check_is_refused(rt: HostRuntime) -> Result<(), Fail> {
     let history = signalled(rt.alloc())?;
+    assert!(rt; HEADER.in_range());
+    assert!(rt; are_seated(&HEADER, &history));
+    let checked = check_from_none(rt.alloc(), &HEADER, &history);
+    assert!(rt; matches!(checked, Ok((Verdict::Legal, refused)) if REQUESTS <= refused));
+    Ok(())
+}
+
+#[test]
+fn each_request_of_a_check_on_a_base_is_refused(rt: HostRuntime) -> Result<(), Fail> {
+    let history = signalled_on_base(rt.alloc())?;
     assert!(rt; HEADER.in_range());
     assert!(rt; are_seated(&HEADER, &history));
     let checked = check_from_none(rt.alloc(), &HEADER, &history);

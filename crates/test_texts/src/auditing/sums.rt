@@ -1,9 +1,9 @@
 //! Totals of worked histories.
 
 ghost use Rattle.std.specs.Prelude.{◌≡◌};
+ghost use Rattle.history.specs.Entries.{IsBasedWell, start_on};
 ghost use Rattle.history.specs.Header.{IsInRange};
 ghost use Rattle.history.specs.Legal.{AreSeated};
-ghost use Rattle.history.specs.Start.{opening};
 
 use crate::auditing::histories::{are_seated, history_of};
 use audit::sums::Totals;
@@ -21,7 +21,8 @@ use std::test::Fail;
 fn audited(alloc: Global, header: &Header, history: &History) -> Result<Totals, Fault>
     requires range { IsInRange header.now }
     requires cap { history.now.cap ≡ header.now.cap }
-    requires seated { AreSeated (opening header.now) history.now.entries }
+    requires based { IsBasedWell header.now history.now.base }
+    requires seated { AreSeated (start_on header.now history.now) history.now.entries }
 {
     match check(alloc, header, history) {
         Err(fault) => Err(fault),

@@ -100,7 +100,7 @@ fn is_emptied<R: Abort>(rt: &R, history: &History) {
 #[test]
 fn a_history_is_folded_into_its_base(rt: HostRuntime) -> Result<(), Fail> {
     let mut history = slept(rt.alloc())?;
-    assert!(rt; history.fold() == Some(4));
+    assert!(rt; history.fold() == Ok(4));
     is_emptied(&rt, &history);
     let Some(base) = history.base() else {
         return Err(Fail::new("no base"));
@@ -112,8 +112,8 @@ fn a_history_is_folded_into_its_base(rt: HostRuntime) -> Result<(), Fail> {
 #[test]
 fn an_empty_list_is_folded_again(rt: HostRuntime) -> Result<(), Fail> {
     let mut history = slept(rt.alloc())?;
-    assert!(rt; history.fold() == Some(4));
-    assert!(rt; history.fold() == Some(0));
+    assert!(rt; history.fold() == Ok(4));
+    assert!(rt; history.fold() == Ok(0));
     Ok(())
 }
 

@@ -8,9 +8,10 @@ use history::entry::{End, Entry, Mode, Word};
 use history::fault::Fault;
 use history::header::{Header, Object, Policy};
 use history_text::fitting::fits;
-use history_text::history_text::{read_text, write_text};
+use history_text::{read_text, write_text};
 use line_text::fault::{ReadFault, TextFault};
 use std::alloc::Global;
+use std::process::Abort;
 use std::test::Fail;
 use test_support::memory::Memory;
 
@@ -29,7 +30,11 @@ const HEADER: Header = Header {
 };
 
 /// The text of a history that fits its header.
-fn written(alloc: Global, header: &Header, history: &History) -> Result<Option<Vec<u8>>, Fault>
+pub(super) fn written(
+    alloc: Global,
+    header: &Header,
+    history: &History,
+) -> Result<Option<Vec<u8>>, Fault>
     requires { IsInRange header.now }
 {
     if fits(header, history) {
@@ -91,10 +96,10 @@ fn a_seat_beyond_the_header_does_not_fit(rt: HostRuntime) -> Result<(), Fail> {
 }
 
 /// Whether a text is read and written again, with what memory there is.
-fn is_round_trip(alloc: Global) -> Result<bool, Fault> {
-    match read_text(alloc, TEXT) {
+pub(super) fn is_round_trip(alloc: Global, text: &[u8]) -> Result<bool, Fault> {
+    match read_text(alloc, text) {
         Ok((header, history)) => match written(alloc, &header, &history)? {
-            Some(text) => Ok(text.as_slice() == TEXT),
+            Some(again) => Ok(again.as_slice() == text),
             None => Ok(false),
         },
         Err(ReadFault::OutOfMemory) => Err(Fault::OutOfMemory),
@@ -102,20 +107,29 @@ fn is_round_trip(alloc: Global) -> Result<bool, Fault> {
     }
 }
 
-/// Memory comes back piece by piece: each request of reading, and then each of writing, is refused until it
-/// is met.
-#[test]
-fn each_request_of_a_round_trip_is_refused(rt: HostRuntime) -> Result<(), Fail> {
-    assert!(rt; is_round_trip(rt.alloc()) == Ok(true));
-    let mut memory = Memory::take_all(rt.alloc(), 64)?;
+/// Memory comes back piece by piece: each request of reading a text, and then each of writing it, is refused
+/// until it is met. It is at least so often.
+pub(super) fn each_request_is_refused(
+    rt: &impl Abort,
+    alloc: Global,
+    text: &[u8],
+    least: u32,
+) -> Result<(), Fail> {
+    assert!(rt; is_round_trip(alloc, text) == Ok(true));
+    let mut memory = Memory::take_all(alloc, 64)?;
     for refused in 0..4096 {
-        match is_round_trip(rt.alloc()) {
+        match is_round_trip(alloc, text) {
             Ok(is_same) => {
-                assert!(rt; is_same && 100 <= refused, "refused {refused} times");
+                assert!(rt; is_same && least <= refused, "refused {refused} times");
                 return Ok(());
             }
             Err(fault) => assert!(rt; fault == Fault::OutOfMemory && memory.give_piece()),
         }
     }
     Err(Fail::new("memory was refused to the end"))
+}
+
+#[test]
+fn each_request_of_a_round_trip_is_refused(rt: HostRuntime) -> Result<(), Fail> {
+    each_request_is_refused(&rt, rt.alloc(), TEXT, 100)
 }

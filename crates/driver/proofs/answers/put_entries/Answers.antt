@@ -1,7 +1,7 @@
-use Rattle.std.proofs.Common.{◌≡◌, ℕ, ◌+◌, ◌-◌, List, ◌++◌, drop, length, reverse, take, ap, sym, ◌∙◌, subst, arith}
-use Rattle.history_text.specs.HistoryText.{history_form}
-use Rattle.line_text.specs.Form.{lines_of}
+use Rattle.std.proofs.Common.{◌≡◌, ℕ, ◌+◌, ◌-◌, List, ◌++◌, drop, length, take, ap, sym, ◌∙◌, subst, arith}
+use Rattle.driver.specs.Answers.{all_of}
 use Rattle.driver.specs.LineWriter.{IsGathered}
+use Rattle.driver.specs.Remarks.{entry_lines}
 use Rattle.driver.proofs.Gathering.{gathered_more, gathers_failed}
 use Rattle.driver.proofs.Telling.{entry_more, front_of_all, lines_longer}
 use Rattle.streams.proofs.Written.{not_true}
@@ -9,16 +9,16 @@ use Rattle.driver.proofs.answers.put_entries.Goals as goal
 
 pub returns-in_err-put_answer-clause-adds : goal.returns-in_err-put_answer-clause-adds
 returns-in_err-put_answer-clause-adds g c =
-    let es = reverse c.args.history.now.entries in
+    let es = all_of c.args.answers.now in
     let from = c.args.from in
     let number = c.loop-number.number in
     let next = (number + 1) - from in
     let all =
     lines_longer (drop from es) from next (c.args.to - from)
     (omega (arith, c.loop-number-test.true, c.loop-number.invariant.since))
-    ∙ ap (λ (t : List ℕ). t ++ lines_of history_form (from + length (take next (drop from es)))
+    ∙ ap (λ (t : List ℕ). t ++ entry_lines (from + length (take next (drop from es)))
     (drop next (take (c.args.to - from) (drop from es))))
-    (entry_more es from number c.in-Some.entry c.loop-number.invariant.since (sym c.get.ensures
+    (entry_more es from number c.in-Some.entry c.loop-number.invariant.since (sym c.entry.ensures
     ∙ c.in-Some.is)) in
     gathers_failed _ _ c.args.lines.now.bytes _ _ c.from_residual.result c.from_residual.ensures.0
     (front_of_all _ _ _ c.args.lines.now.bytes c.loop-number.lines.bytes _ _ _ _
@@ -26,11 +26,11 @@ returns-in_err-put_answer-clause-adds g c =
 
 pub loop-number-preserved : goal.loop-number-preserved
 loop-number-preserved g c =
-    let es = reverse c.args.history.now.entries in
+    let es = all_of c.args.answers.now in
     let from = c.args.from in
     let number = c.loop-number.number in
     let more =
-    entry_more es from number c.in-Some.entry c.loop-number.invariant.since (sym c.get.ensures
+    entry_more es from number c.in-Some.entry c.loop-number.invariant.since (sym c.entry.ensures
     ∙ c.in-Some.is) in
     record {
       going =

@@ -1,7 +1,7 @@
-use Rattle.std.proofs.Common.{◌≡◌, ◌≤◌, ◌-◌, false, drop, reverse, take}
-use Rattle.history_text.specs.HistoryText.{history_form}
-use Rattle.line_text.specs.Form.{lines_of}
+use Rattle.std.proofs.Common.{◌≡◌, ◌≤◌, ◌-◌, false, drop, take}
+use Rattle.driver.specs.Answers.{all_of}
 use Rattle.driver.specs.LineWriter.{IsGathered}
+use Rattle.driver.specs.Remarks.{entry_lines}
 use Rattle.driver.proofs.answers.put_entries.Given as goal
 
 abbrev pub invariant-loop-number : goal.invariant-loop-number
@@ -10,8 +10,8 @@ invariant-loop-number g l = record {
   since : l.fn.from ≤ l.number;
   upto : l.number - l.fn.from ≤ l.fn.to - l.fn.from;
   added : IsGathered (g.W.Sink.held l.fn.writer) l.fn.lines.bytes (g.W.Sink.held l.writer) l.lines.bytes
-      (lines_of history_form l.fn.from
-      (take (l.number - l.fn.from) (drop l.fn.from (reverse l.fn.history.entries))));
+      (entry_lines l.fn.from
+      (take (l.number - l.fn.from) (drop l.fn.from (all_of l.fn.answers))));
 }
 
 abbrev pub decreases-loop-number : goal.decreases-loop-number

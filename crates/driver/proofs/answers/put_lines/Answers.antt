@@ -1,7 +1,7 @@
-use Rattle.std.proofs.Common.{reverse, sym, ◌∙◌, subst}
-use Rattle.std.proofs.lemmas.List.{length-reverse}
+use Rattle.std.proofs.Common.{sym, subst}
 use Rattle.driver.specs.declared.remark.Remark.{Remark}
 use Rattle.driver.specs.declared.remark.Said.TheVariants.{IsNamed}
+use Rattle.driver.specs.Answers.{all_of}
 use Rattle.driver.specs.LineWriter.{Gathers}
 use Rattle.driver.proofs.Gathering.{gathered_more, gathers_failed}
 use Rattle.driver.proofs.Telling.{front_of_all, gathers_more, told_further, told_last, told_on}
@@ -13,7 +13,7 @@ no_remark = record { before = 0; seat = 0; said = IsNamed }
 
 pub returns-in_err-put_entries-clause-adds : goal.returns-in_err-put_entries-clause-adds
 returns-in_err-put_entries-clause-adds g c =
-    let es = reverse c.args.history.now.entries in
+    let es = all_of c.args.answers.now in
     let told = c.loop-remark.invariant.added in
     let all =
     told_on es c.args.remarks.now c.loop-remark.remark-index c.loop-remark.number no_remark _ told.0
@@ -24,7 +24,7 @@ returns-in_err-put_entries-clause-adds g c =
 
 pub returns-in_err-put_remark-clause-adds : goal.returns-in_err-put_remark-clause-adds
 returns-in_err-put_remark-clause-adds g c =
-    let es = reverse c.args.history.now.entries in
+    let es = all_of c.args.answers.now in
     let told = c.loop-remark.invariant.added in
     let all =
     told_further es c.args.remarks.now c.loop-remark.remark-index c.loop-remark.number no_remark _
@@ -39,7 +39,7 @@ returns-in_err-put_remark-clause-adds g c =
 
 pub loop-remark-preserved : goal.loop-remark-preserved
 loop-remark-preserved g c =
-    let es = reverse c.args.history.now.entries in
+    let es = all_of c.args.answers.now in
     let told = c.loop-remark.invariant.added in
     let all =
     told_further es c.args.remarks.now c.loop-remark.remark-index c.loop-remark.number no_remark _
@@ -60,12 +60,11 @@ loop-remark-preserved g c =
 
 pub returns-clause-adds : goal.returns-clause-adds
 returns-clause-adds g c =
-    let es = reverse c.args.history.now.entries in
+    let es = all_of c.args.answers.now in
     let told = c.loop-remark.invariant.added in
     let all =
-    told_last es c.args.remarks.now c.loop-remark.remark-index c.loop-remark.number c.len.result _
-    told.0 c.loop-remark-test.false (c.len.ensures.value
-    ∙ sym (length-reverse c.args.history.now.entries)) told.2 in
+    told_last es c.args.remarks.now c.loop-remark.remark-index c.loop-remark.number c.count.result _
+    told.0 c.loop-remark-test.false c.count.ensures told.2 in
     subst (Gathers (g.W.Sink.held c.args.writer.now) c.args.lines.now.bytes c.put_entries-2.result
     (g.W.Sink.held c.put_entries-2.new.writer) c.put_entries-2.new.lines.bytes) (sym all)
     (gathers_more _ _ _ c.args.lines.now.bytes c.loop-remark.lines.bytes c.put_entries-2.new.lines.bytes

@@ -1,4 +1,5 @@
-use Rattle.std.proofs.Common.{◌≡◌, ◌++◌, List, ℕ, false, drop, reverse}
+use Rattle.std.proofs.Common.{◌≡◌, ◌++◌, List, ℕ, false, drop}
+use Rattle.driver.specs.Answers.{all_of}
 use Rattle.driver.specs.LineWriter.{IsGathered}
 use Rattle.driver.specs.Remarks.{told_lines}
 use Rattle.driver.proofs.answers.put_lines.Given as goal
@@ -8,6 +9,6 @@ invariant-loop-remark g l = record {
   going : g.W.Sink.failed l.writer ≡ false;
   added : (told : List ℕ) × IsGathered (g.W.Sink.held l.fn.writer) l.fn.lines.bytes (g.W.Sink.held l.writer)
       l.lines.bytes told
-      × (told_lines (reverse l.fn.history.entries) 0 l.fn.remarks ≡ told
-      ++ told_lines (reverse l.fn.history.entries) l.number (drop l.remark-index l.fn.remarks));
+      × (told_lines (all_of l.fn.answers) 0 l.fn.remarks ≡ told
+      ++ told_lines (all_of l.fn.answers) l.number (drop l.remark-index l.fn.remarks));
 }

@@ -1,17 +1,22 @@
-use Rattle.std.proofs.Common.{refl}
+use Rattle.std.proofs.Common.{◌≡◌, ◌∙◌, ap, arith, refl, sym}
 use Rattle.streams.specs.declared.stream_fault.StreamFault.TheVariants.{Memory}
+use Rattle.history.specs.declared.header.Header.{Header}
+use Rattle.history.specs.Base.{Base}
 use Rattle.history_text.specs.HistoryText.{history_form}
-use Rattle.driver.specs.HistoryReader.{entries_read}
-use Rattle.driver.proofs.Ending.{fault_passed_of, memory_of}
+use Rattle.driver.specs.AuditText.{audit_text}
+use Rattle.driver.specs.HistoryReader.{base_held}
+use Rattle.driver.proofs.Audits.{told_so}
+use Rattle.driver.proofs.Ending.{memory_of}
+use Rattle.driver.proofs.EntriesAhead.{entries_fault_passed}
+use Rattle.driver.proofs.Judging.{base_kept}
 use Rattle.driver.proofs.audit_stream.audit_of.Goals as goal
 
 pub returns-in_err-judged-clause-err : goal.returns-in_err-judged-clause-err
 returns-in_err-judged-clause-err g c =
     let passed = c.from_residual-in_err-judged in
-    fault_passed_of history_form (g.R.Source.left c.args.reader.now)
-    (entries_read c.in_ok-entries.entries (g.R.Source.left c.open.new.reader))
-    (g.R.Source.left c.judged_of.new.reader) passed.result c.in_err-judged.field-0.0
-    passed.ensures c.in_ok-entries.ensures.ok c.in_err-judged.ensures.err
+    entries_fault_passed (g.R.Source.left c.args.reader.now) c.in_ok-entries.entries
+    (g.R.Source.left c.open.new.reader) (g.R.Source.left c.judged_of.new.reader) passed.result
+    c.in_err-judged.field-0.0 passed.ensures c.in_ok-entries.ensures.ok c.in_err-judged.ensures.err
 
 pub returns-in_err-text-clause-err : goal.returns-in_err-text-clause-err
 returns-in_err-text-clause-err g c =
@@ -23,3 +28,21 @@ returns-in_err-text-clause-err g c =
 pub returns-clause-memory : goal.returns-clause-memory
 returns-clause-memory g c =
     c.in_ok-judged.ensures.memory (g.R.Source.left c.args.reader.now) c.in_ok-entries.ensures.ok
+
+pub returns-clause-ok : goal.returns-clause-ok
+returns-clause-ok g c =
+    let left = g.R.Source.left c.args.reader.now in
+    let first = c.in_ok-entries.entries in
+    let now = c.judged_of.new.entries in
+    let k = c.in_ok-judged.ensures.ok in
+    let b = base_held first in
+    let kept : base_held now ≡ b = base_kept first now k.header k.base in
+    let same : (base_held now).header ≡ now.header = rw (← c.entries.view_is) c.entries.invariant.5.0 in
+    let object : b.header.object ≡ c.header.result.object =
+    ap (λ (a : Base). a.header.object) (sym kept)
+    ∙ ap (λ (h : Header). h.object) (same ∙ sym c.header.ensures.value) in
+    let folded = c.folded-folded.ensures.value ∙ k.folded in
+    told_so audit_text left b k.entries c.in_ok-judged.judged.judgement c.verdict.result
+    c.in_ok-text.text.items (k.is left c.in_ok-entries.ensures.ok) k.judged c.verdict.ensures
+    (c.in_ok-text.ensures b k.entries object folded
+    (omega (arith, folded, c.count.ensures.value, k.count)) (c.calls.ensures ∙ k.calls) k.judged)

@@ -1,23 +1,20 @@
-use Rattle.std.proofs.Common.{◌∙◌, ap, refl, sym, subst, length, reverse, take}
+use Rattle.std.proofs.Common.{◌∙◌, ap, refl, length, reverse, take}
 use Rattle.streams.specs.declared.stream_fault.StreamFault.TheVariants.{Memory}
 use Rattle.history_text.specs.HistoryText.{history_form}
-use Rattle.driver.specs.AuditStream.{IsVerdict}
+use Rattle.driver.specs.HistoryReader.{base_held}
 use Rattle.driver.specs.Choice.{end_of}
-use Rattle.driver.specs.DrawStream.{drawn_text}
-use Rattle.driver.specs.HistoryReader.{entries_read}
-use Rattle.driver.proofs.Ending.{fault_passed_of, memory_of}
-use Rattle.driver.proofs.Audits.{told_so}
-use Rattle.driver.proofs.Judging.{verdict_is}
-use Rattle.driver.proofs.Picturing.{same_picture}
+use Rattle.driver.proofs.Ending.{memory_of}
+use Rattle.driver.proofs.EntriesAhead.{entries_fault_passed}
+use Rattle.driver.proofs.Judging.{base_kept}
+use Rattle.driver.proofs.Picturing.{drawn_so, same_picture}
 use Rattle.driver.proofs.draw_stream.sketch_of.Goals as goal
 
 pub returns-in_err-judged-clause-err : goal.returns-in_err-judged-clause-err
 returns-in_err-judged-clause-err g c =
     let passed = c.from_residual-in_err-judged in
-    fault_passed_of history_form (g.R.Source.left c.args.reader.now)
-    (entries_read c.in_ok-entries.entries (g.R.Source.left c.open.new.reader))
-    (g.R.Source.left c.judged_of.new.reader) passed.result c.in_err-judged.field-0.0
-    passed.ensures c.in_ok-entries.ensures.ok c.in_err-judged.ensures.err
+    entries_fault_passed (g.R.Source.left c.args.reader.now) c.in_ok-entries.entries
+    (g.R.Source.left c.open.new.reader) (g.R.Source.left c.judged_of.new.reader) passed.result
+    c.in_err-judged.field-0.0 passed.ensures c.in_ok-entries.ensures.ok c.in_err-judged.ensures.err
 
 pub returns-in_err-text-clause-err : goal.returns-in_err-text-clause-err
 returns-in_err-text-clause-err g c =
@@ -33,16 +30,18 @@ returns-clause-memory g c =
 pub returns-clause-ok : goal.returns-clause-ok
 returns-clause-ok g c =
     let left = g.R.Source.left c.args.reader.now in
+    let first = c.in_ok-entries.entries in
+    let now = c.judged_of.new.entries in
+    let b = base_held first in
     let k = c.in_ok-judged.ensures.ok in
     let judged = c.in_ok-judged.judged in
     let verdict = c.verdict-verdict.result in
-    let header = c.in_ok-entries.entries.header in
-    told_so (drawn_text c.args.choice) left header k.entries verdict c.in_ok-text.text.items
-    (k.is left c.in_ok-entries.ensures.ok)
-    (subst (IsVerdict header k.entries) (sym c.verdict-verdict.ensures)
-    (verdict_is header k.entries judged.judgement k.judged))
-    (same_picture c.args.choice verdict c.header.result header c.count-all.result (length k.entries)
-    c.deref.result.now (take (end_of c.args.choice) (reverse k.entries)) c.in_ok-text.text.items
-    (c.header.ensures.value ∙ k.header) (c.count-all.ensures ∙ k.count)
-    (c.deref.ensures.value ∙ k.front ∙ ap (λ n. take n (reverse k.entries)) c.end.ensures)
+    let folded = c.folded-folded.ensures.value ∙ c.in_ok-entries.ensures.start.folded in
+    drawn_so c.args.choice left b k.entries judged.judgement verdict c.in_ok-text.text.items
+    (k.is left c.in_ok-entries.ensures.ok) k.judged c.verdict-verdict.ensures
+    (same_picture c.args.choice verdict (base_held now) b now.place.count (length k.entries)
+    c.deref.result.now (take (end_of c.args.choice b.entries) (reverse k.entries)) c.in_ok-text.text.items
+    (base_kept first now k.header k.base) k.count
+    (c.deref.ensures.value ∙ k.front
+    ∙ ap (λ n. take n (reverse k.entries)) (c.end.ensures ∙ ap (end_of c.args.choice) folded))
     c.in_ok-text.ensures)

@@ -1,109 +1,108 @@
-use Rattle.std.proofs.Common.{ℕ, ◌∷◌, [], ◌++◌, ◌<◌, refl, sym, ◌∙◌, subst, arith}
-use Rattle.std.proofs.lemmas.Bool.{false≢true}
+use Rattle.std.proofs.Common.{◌∷◌, [], ◌++◌, reverse, refl, ap, sym, ◌∙◌, subst, arith}
+use Rattle.std.proofs.lemmas.List.Elements.{All-append}
+use Rattle.frame.specs.Acts.{IsOfSeats}
 use Rattle.history.specs.declared.header.Header.{Header}
-use Rattle.history.specs.declared.step.Step.{Step}
-use Rattle.driver.specs.StepReader.{progress}
-use Rattle.driver.proofs.Driven.{answering_none, answering_on, answering_all, legal_behind}
+use Rattle.history.specs.EntryWords.{IsSpelt}
+use Rattle.steps.specs.declared.header.StepsHeader.{StepsHeader}
 use Rattle.steps.specs.StepsText.{steps_form, steps_so_far}
+use Rattle.driver.specs.Logged.{logged}
+use Rattle.driver.specs.StepReader.{progress}
+use Rattle.driver.proofs.Doing.{of_seats, spelt_on}
+use Rattle.driver.proofs.Driven.{answering_none, answering_act, answering_all}
 use Rattle.driver.proofs.Ending.{fault_on, memory_on}
 use Rattle.driver.proofs.ReadingAhead.{goes_on, memory_at_end, memory_behind}
-use Rattle.driver.proofs.Told.{answered}
 use Rattle.driver.proofs.replay.replay.Goals as goal
 
-pub step-answer-requires : goal.step-answer-requires
-step-answer-requires g c =
-    subst (λ (k : Header). c.in-Some.seat < k.seats) (sym c.loop-remarks.invariant.header)
-    (rw c.in-Some.is at c.in_ok-seat.ensures.seated)
+pub answer_act-requires : goal.answer_act-requires
+answer_act-requires g c =
+    subst (λ (k : Header). IsOfSeats k.seats c.in-Some.act) (sym c.loop-log.invariant.header)
+    (of_seats c.loop-log.steps.header c.in-Some.act (rw c.in-Some.is at c.in_ok-act.ensures.seated))
 
-pub loop-remarks-preserved : goal.loop-remarks-preserved
-loop-remarks-preserved g c =
-    let old = c.loop-remarks.core in
-    let new = c.step-answer.new.self in
-    let x : ℕ × Step = (c.in-Some.seat, c.in-Some.step) in
-    let next = rw c.in-Some.is at c.in_ok-seat.ensures.next in
-    let below = rw c.in-Some.is at c.in_ok-seat.ensures.seated in
-    let same = c.in_ok-seat.ensures.header in
-    let a = answered old new c.next.new.self.header x.0 x.1 c.step-answer.result
-    c.step-answer.ensures.answered
-    (c.loop-remarks.invariant.header ∙ sym same) (λ e. false≢true (c.if-lacks_memory.ensures.1 e)) in
-    let kept =
-    rw (c.remark_on.ensures, c.len-before.ensures.value, c.history.ensures.entries)
-    at c.in_ok-keep.ensures.ok in
+pub loop-log-preserved : goal.loop-log-preserved
+loop-log-preserved g c =
+    let was = c.loop-log in
+    let next = rw c.in-Some.is at c.in_ok-act.ensures.next in
+    let same = c.in_ok-act.ensures.header in
+    let a =
+    answering_act _ _ _ c.in-Some.act was.core c.answer_act.new.core (logged was.log)
+    (logged c.answer_act.new.log) (g.R.Source.left c.next.new.reader) next same c.in_ok-answer_act.ensures.ok
+    c.in_ok-answer_act.ensures.may_fold was.invariant.answering in
     record {
-      going = goes_on c.in_ok-seat.field-0 (g.R.Source.failed c.next.new.reader)
-          (λ t. c.in_ok-seat.ensures.failing.1 t);
-      same = same ∙ c.loop-remarks.invariant.same;
-      header = a.2;
-      answering =
-          answering_on _ _ _ x c.step-answer.result old.entries new.entries c.loop-remarks.remarks.items
-          c.keep.new.remarks.items (g.R.Source.left c.next.new.reader) next same below a.0 a.1 kept
-          c.loop-remarks.invariant.answering;
+      going = goes_on c.in_ok-act.field-0 (g.R.Source.failed c.next.new.reader)
+          (λ t. c.in_ok-act.ensures.failing.1 t);
+      same = same ∙ was.invariant.same;
+      header = a.1 ∙ was.invariant.header ∙ ap (λ (k : StepsHeader). k.header) (sym same);
+      answering = a.0;
     }
 
-pub loop-remarks-smaller : goal.loop-remarks-smaller
-loop-remarks-smaller g c =
-    omega (arith, rw c.in-Some.is at c.in_ok-seat.ensures.counted, c.in_ok-seat.ensures.few)
+pub loop-log-smaller : goal.loop-log-smaller
+loop-log-smaller g c =
+    omega (arith, rw c.in-Some.is at c.in_ok-act.ensures.counted, c.in_ok-act.ensures.few)
 
 pub returns-clause-ok : goal.returns-clause-ok
 returns-clause-ok g c =
     answering_all _ _ (progress c.next.new.self (g.R.Source.left c.next.new.reader))
-    c.loop-remarks.core.entries c.loop-remarks.remarks.items
+    c.loop-log.core.base c.loop-log.core.entries c.loop-log.log.past.items c.loop-log.log.remarks.items
     (g.R.Source.left c.next.new.reader)
-    c.loop-remarks.invariant.same
-    (rw c.in_default.is at c.in_ok-seat.ensures.next) c.loop-remarks.invariant.answering
+    c.loop-log.invariant.same
+    (rw c.in_default.is at c.in_ok-act.ensures.next)
+    (record {
+      legal = c.recall_lawful.ensures.legal;
+      seated = c.recall_lawful.ensures.seated;
+      in_order = c.recall_lawful.ensures.order;
+      in_fair_order = c.recall_lawful.ensures.fair;
+    }) c.loop-log.invariant.answering
 
-pub returns-clause-legal : goal.returns-clause-legal
-returns-clause-legal g c =
-    legal_behind _ _ c.loop-remarks.core.entries c.loop-remarks.remarks.items
-    c.loop-remarks.invariant.same c.loop-remarks.invariant.answering
+pub returns-clause-spelt : goal.returns-clause-spelt
+returns-clause-spelt g c =
+    All-append IsSpelt c.loop-log.log.past.items (reverse c.loop-log.core.entries)
+    c.loop-log.invariant.answering.spelt
+    (spelt_on c.loop-log.core.base c.loop-log.core.entries c.recall_lawful.ensures.may_fold.can)
 
-pub loop-remarks-init : goal.loop-remarks-init
-loop-remarks-init g c = record {
+pub returns-clause-folded : goal.returns-clause-folded
+returns-clause-folded g c = record {
+  header = c.recall_lawful.ensures.header ∙ c.loop-log.invariant.header
+      ∙ ap (λ (k : StepsHeader). k.header) c.loop-log.invariant.same;
+  entries = c.loop-log.invariant.answering.counted;
+  good = c.recall_lawful.ensures.may_fold.can.good;
+}
+
+pub loop-log-init : goal.loop-log-init
+loop-log-init g c = record {
   going = c.requires.reader;
   same = refl;
   header = c.requires.header;
   answering =
-      rw c.new-remarks.ensures.items (answering_none _ c.args.core.now.entries
-      c.requires.fresh);
+      rw (c.new.ensures.items, c.new-2.ensures.items) (answering_none _ c.args.core.now.base c.args.core.now.entries
+      c.requires.base c.requires.fresh);
 }
 
-pub returns-in_err-seat-clause-err : goal.returns-in_err-seat-clause-err
-returns-in_err-seat-clause-err g c =
+pub returns-in_err-act-clause-err : goal.returns-in_err-act-clause-err
+returns-in_err-act-clause-err g c =
     let passed = c.from_residual in
     fault_on steps_form (progress c.args.steps.now (g.R.Source.left c.args.reader.now)) _
-    (progress c.next.new.self (g.R.Source.left c.next.new.reader)) c.loop-remarks.invariant.answering.steps
-    (g.R.Source.left c.next.new.reader) passed.result c.in_err-seat.field-0.0 passed.ensures
-    c.in_err-seat.ensures.next c.loop-remarks.invariant.answering.read
+    (progress c.next.new.self (g.R.Source.left c.next.new.reader)) c.loop-log.invariant.answering.acts
+    (g.R.Source.left c.next.new.reader) passed.result c.in_err-act.field-0.0 passed.ensures
+    c.in_err-act.ensures.next c.loop-log.invariant.answering.read
 
-pub returns-then-lacks_memory-clause-err : goal.returns-then-lacks_memory-clause-err
-returns-then-lacks_memory-clause-err g c =
-    let a = c.loop-remarks.invariant.answering in
-    let x : ℕ × Step = (c.in-Some.seat, c.in-Some.step) in
-    let next = rw c.in-Some.is at c.in_ok-seat.ensures.next in
-    memory_behind steps_form (progress c.args.steps.now (g.R.Source.left c.args.reader.now))
-    (a.steps ++ x ∷ []) (steps_so_far c.next.new.self.header c.next.new.self.count) c.next.new.self.bytes
-    (g.R.Source.left c.next.new.reader) c.in_ok-seat.ensures.held
-    (λ text were. next text a.steps (a.read text were))
-
-pub returns-in_err-keep-clause-err : goal.returns-in_err-keep-clause-err
-returns-in_err-keep-clause-err g c =
-    let a = c.loop-remarks.invariant.answering in
-    let x : ℕ × Step = (c.in-Some.seat, c.in-Some.step) in
-    let next = rw c.in-Some.is at c.in_ok-seat.ensures.next in
+pub returns-in_err-answer_act-clause-err : goal.returns-in_err-answer_act-clause-err
+returns-in_err-answer_act-clause-err g c =
+    let a = c.loop-log.invariant.answering in
+    let next = rw c.in-Some.is at c.in_ok-act.ensures.next in
     let first = progress c.args.steps.now (g.R.Source.left c.args.reader.now) in
-    let passed = c.from_residual-in_err-keep in
-    memory_on steps_form first (g.R.Source.left c.next.new.reader) passed.result c.in_err-keep.field-0.0
-    passed.ensures c.in_err-keep.ensures.err
+    let passed = c.from_residual-in_err-answer_act in
+    memory_on steps_form first (g.R.Source.left c.next.new.reader) passed.result c.in_err-answer_act.field-0.0
+    passed.ensures c.in_err-answer_act.ensures.err
     (memory_behind steps_form first
-    (a.steps ++ x ∷ []) (steps_so_far c.next.new.self.header c.next.new.self.count) c.next.new.self.bytes
-    (g.R.Source.left c.next.new.reader) c.in_ok-seat.ensures.held
-    (λ text were. next text a.steps (a.read text were)))
+    (a.acts ++ c.in-Some.act ∷ []) (steps_so_far c.next.new.self.header c.next.new.self.count)
+    c.next.new.self.bytes (g.R.Source.left c.next.new.reader) c.in_ok-act.ensures.held
+    (λ text were. next text a.acts (a.read text were)))
 
 pub returns-clause-memory : goal.returns-clause-memory
 returns-clause-memory g c =
-    let was = c.loop-remarks in
+    let was = c.loop-log in
     memory_at_end steps_form (progress c.args.steps.now (g.R.Source.left c.args.reader.now))
-    was.invariant.answering.steps (steps_so_far was.steps.header was.steps.count) was.steps.bytes
+    was.invariant.answering.acts (steps_so_far was.steps.header was.steps.count) was.steps.bytes
     c.next.new.self.bytes (g.R.Source.left was.reader) (g.R.Source.left c.next.new.reader)
-    c.in_ok-seat.ensures.held (rw c.in_default.is at c.in_ok-seat.ensures.stands)
+    c.in_ok-act.ensures.held (rw c.in_default.is at c.in_ok-act.ensures.stands)
     was.invariant.answering.read

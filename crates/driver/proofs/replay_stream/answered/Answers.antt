@@ -7,4 +7,4 @@ pub returns-in_default-clause-err : goal.returns-in_default-clause-err
 returns-in_default-clause-err g c = λ text were.
     let steps = c.args.steps.now in
     no_further steps_form text (steps_so_far steps.header steps.count) steps.bytes
-    (g.R.Source.left c.args.reader.now) [] c.header-header.ensures.held were
+    (g.R.Source.left c.args.reader.now) [] c.header-text.ensures.held were

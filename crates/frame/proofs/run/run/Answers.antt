@@ -19,7 +19,8 @@ loop-seat-preserved g c =
     let more =
     answered_more c.args.core.now c.loop-seat.core c.step-answer.new.self (take i xs)
     c.loop-seat.answers.items
-    (get_or xs i d) c.step-answer.result inv.answered c.step-answer.ensures.answered in
+    (get_or xs i d) c.step-answer.result inv.answered c.step-answer.ensures.answered
+    c.step-answer.ensures.told in
     record {
       answered = rw taken (rw items more);
       header = c.step-answer.ensures.header ∙ inv.header;

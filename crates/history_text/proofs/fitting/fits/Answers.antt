@@ -1,10 +1,13 @@
-use Rattle.std.proofs.Common.{◌≡◌, ℕ, ◌+◌, ◌<◌, List, Some, reverse, get_or, refl, subst, ◌∙◌, arith, below_more, rules}
+use Rattle.std.proofs.Common.{◌≡◌, ℕ, ◌+◌, ◌<◌, List, Option, Some, reverse, get_or, refl, subst, ◌∙◌, arith, below_more, rules}
 use Rattle.std.specs.List.{slice_get}
 use Rattle.std.proofs.lemmas.List.{length-reverse}
 use Rattle.std.proofs.lemmas.Option.{slice_get-get_or}
 use Rattle.history.specs.declared.entry.Entry.{Entry}
 use Rattle.history.specs.declared.header.Header.{Header}
+use Rattle.history.specs.Base.{Base}
+use Rattle.history.specs.Entries.{or_opening}
 use Rattle.history_text.specs.EntryLines.{HasLine}
+use Rattle.history_text.specs.HistoryText.{HasBaseText}
 use Rattle.history_text.proofs.fitting.fits.Goals as goal
 
 some_is : (x y : Entry) → Some x ≡ Some y → x ≡ y
@@ -29,6 +32,8 @@ returns c =
     let xs = reverse c.args.history.now.entries in (
       (λ t. record {
         cap = omega (arith, c.cap.ensures, c.if-cap-header.false);
+        base = subst (λ (o : Option Base). HasBaseText c.args.header.now (or_opening c.args.header.now o))
+            c.base.ensures (c.if-not-has_base_text.ensures.0 refl);
         each = λ k d lt. c.loop-number.invariant k (get_or xs k d)
             (omega (
               arith,

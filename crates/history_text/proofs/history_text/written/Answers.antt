@@ -1,33 +1,62 @@
-use Rattle.std.proofs.Common.{◌≡◌, ◌<◌, List, length, reverse, sym, ap, ◌∙◌, arith, ◌++◌}
+use Rattle.std.proofs.Common.{◌≡◌, ℕ, ◌+◌, ◌<◌, List, length, reverse, sym, ap, subst, ◌∙◌, arith, ◌++◌}
 use Rattle.std.proofs.lemmas.Option.{slice_get_within}
 use Rattle.history.specs.declared.entry.Entry.{Entry}
+use Rattle.history.specs.Base.{Base}
+use Rattle.history.specs.Entries.{base_on, or_opening}
 use Rattle.history.specs.Text.{ended}
 use Rattle.line_text.specs.Form.{lines_of}
-use Rattle.history_text.specs.EntryLines.{header_line}
+use Rattle.history_text.specs.BaseText.{IsHeadPut, lines_text}
+use Rattle.history_text.specs.EntryLines.{entry_line}
+use Rattle.history_text.specs.HistoryLines.{head_line, head_of, lines_told, numbered}
 use Rattle.history_text.specs.HistoryText.{history_form}
-use Rattle.history_text.proofs.HistoryWriting.{more_lines, all_lines, past}
+use Rattle.history_text.proofs.HistoryWriting.{past}
+use Rattle.history_text.proofs.TextWritten.{all_lines, ended_few, more_lines}
 use Rattle.history_text.proofs.history_text.written.Goals as goal
 
 pub loop-entry-preserved : goal.loop-entry-preserved
 loop-entry-preserved c =
+    let b = base_on c.args.header.now c.args.history.now in
     let xs = reverse c.args.history.now.entries in
-    let lt : c.loop-entry.number < length xs =
-    slice_get_within xs c.loop-entry.number c.in-Some.entry (sym c.in-Some.ensures) in
+    let number = c.loop-entry.number in
+    let head =
+    subst (λ (a : Base). IsHeadPut a c.in_ok-out.out.items c.put_head.new.out.items c.in_ok-folded.folded
+    c.in_ok-folded.calls) (ap (or_opening c.args.header.now) c.base.ensures) c.in_ok-folded.ensures in
+    let lt : number < length xs = slice_get_within xs number c.in-Some.entry (sym c.in-Some.ensures) in
     record {
-      lines = more_lines xs (ended (header_line c.args.header.now)) c.loop-entry.out.items
-          c.put_entry.new.out.items c.push-in-Some.new.self.items c.loop-entry.number c.in-Some.entry
-          (sym c.in-Some.ensures) c.loop-entry.invariant.lines c.in_ok-put_entry.ensures.ok
-          c.in_ok-push-2.ensures.items;
+      lines = more_lines b.entries xs (ended (head_line (head_of b)) ++ lines_text (lines_told b))
+          c.loop-entry.out.items c.put_entry.new.out.items c.push.new.self.items number c.in-Some.entry
+          (sym c.in-Some.ensures) c.loop-entry.invariant.lines
+          (c.in_ok-put_entry.ensures.ok
+          ∙ ap (λ (n : ℕ). c.loop-entry.out.items ++ entry_line (n + number) c.in-Some.entry) head.folded)
+          c.in_ok-push.ensures.items;
       inside = omega (arith, lt);
     }
 
+pub overflow_add-calls : goal.overflow_add-calls
+overflow_add-calls c =
+    let b = base_on c.args.header.now c.args.history.now in
+    let head =
+    subst (λ (a : Base). IsHeadPut a c.in_ok-out.out.items c.put_head.new.out.items c.in_ok-folded.folded
+    c.in_ok-folded.calls) (ap (or_opening c.args.header.now) c.base.ensures) c.in_ok-folded.ensures in
+    let few = ended_few c.args.history.now.entries in
+    omega (arith, head.some, head.few, few, c.calls.ensures, c.len-2.ensures.value, c.len-2.ensures.few)
+
 pub returns : goal.returns
 returns c =
+    let k = c.args.header.now in
+    let b = base_on k c.args.history.now in
     let xs = reverse c.args.history.now.entries in
+    let head =
+    subst (λ (a : Base). IsHeadPut a c.in_ok-out.out.items c.put_head.new.out.items c.in_ok-folded.folded
+    c.in_ok-folded.calls) (ap (or_opening c.args.header.now) c.base.ensures) c.in_ok-folded.ensures in
     let all = past xs c.loop-entry.number (sym c.in_default.ensures) in
-    let lines : c.loop-entry.out.items ≡ ended (header_line c.args.header.now) ++ lines_of history_form 0 xs =
-    c.loop-entry.invariant.lines ∙ ap (λ (l : List Entry). ended (header_line c.args.header.now) ++ lines_of
-    history_form 0 l) all in
-    all_lines c.args.header.now c.args.history.now.entries c.loop-entry.out.items c.put_counts.new.out.items
-    c.push-2.new.self.items c.len-2.result c.calls.result lines c.len-2.ensures.value c.calls.ensures
-    c.in_ok-put_counts.ensures.ok c.in_ok-push-3.ensures.items
+    let lines =
+    c.loop-entry.invariant.lines
+    ∙ ap (λ (l : List Entry). (ended (head_line (head_of b)) ++ lines_text (lines_told b))
+    ++ lines_of history_form (numbered b.entries l)) all in
+    let count : c.in_ok-folded.folded + c.len-2.result ≡ b.entries + length c.args.history.now.entries =
+    omega (arith, head.folded, c.len-2.ensures.value) in
+    all_lines k b c.args.history.now.entries c.loop-entry.out.items c.put_counts.new.out.items
+    c.push-2.new.self.items (c.in_ok-folded.folded + c.len-2.result) (c.in_ok-folded.calls + c.calls.result)
+    c.requires.range c.requires.base lines count (omega (arith, head.calls, c.calls.ensures))
+    c.in_ok-put_counts.ensures.ok c.in_ok-push-2.ensures.items

@@ -1,4 +1,5 @@
-use Rattle.laws.proofs.Marking.{opening_told, results_told, told_after, told_behind}
+use Rattle.history.proofs.Marking.{opening_told, results_told, told_after}
+use Rattle.laws.proofs.Marking.{told_behind}
 use Rattle.laws.proofs.waking.whoever_could_go_was_told.Goals as goal
 
 pub returns : goal.returns

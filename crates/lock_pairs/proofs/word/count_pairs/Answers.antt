@@ -1,9 +1,10 @@
-use Rattle.std.proofs.Common.{◌+◌, List, [], ◌∷◌, ◌++◌, sym, ◌∙◌, subst}
+use Rattle.std.proofs.Common.{◌+◌, List, [], ◌∷◌, ◌++◌, refl, sym, ◌∙◌, subst}
 use Rattle.std.specs.List.{All}
 use Rattle.std.proofs.lemmas.List.Elements.{All-nil, All-cons, All-head, All-tail}
 use Rattle.word_lock.specs.Point.{blank_point}
 use Rattle.word_lock.specs.Ready.{IsReady}
 use Rattle.word_lock.specs.Ticket.{LockId, Ticket, first_seat}
+use Rattle.word_lock.proofs.PointLaws.{agrees_empty}
 use Rattle.word_lock.proofs.Tokens.{opening_tickets_ready}
 use Rattle.lock_pairs.proofs.word.count_pairs.Goals as goal
 
@@ -33,3 +34,6 @@ close-requires-clause-free g c = let lock : LockId = c.in-Ok.lock in let ready =
     (front_and_last ready c.pop.new.self.items c.in-Some.last
     (subst (All ready) (sym c.in-Ok.ensures.tokens ∙ c.in-Some.ensures.items)
     (opening_tickets_ready lock blank_point 0 (c.args.threads + 1)))).1.free
+
+pub open-requires-clause-empty : goal.open-requires-clause-empty
+open-requires-clause-empty g c = λ seat. agrees_empty _ seat blank_point refl refl

@@ -3,7 +3,7 @@ use Rattle.std.proofs.Common.{[]}
 use Rattle.word_lock.specs.Ticket.{opening_tickets}
 use Rattle.monitor.specs.Lawful.{blank}
 use Rattle.monitor.specs.Shown.{opening_passes, shown}
-use Rattle.monitor.proofs.Opening.{next_ticket, opening_is_pass, opening_passes_more}
+use Rattle.monitor.proofs.Opening.{next_ticket, none_left, opening_is_pass, opening_passes_more}
 use Rattle.monitor.proofs.monitor.give_passes.Goals as goal
 
 pub invariant_of-push_reserved : goal.invariant_of-push_reserved
@@ -35,3 +35,11 @@ loop-token-preserved g c =
       search rules,
       search rules,
     )
+
+pub returns : goal.returns
+returns g c =
+    let i = c.loop-token.invariant.0 in let lock = c.args.lock.now in
+    let none : c.loop-token.token-iterator.rest.items ≡ [] = search rules in
+    let n : i.0 ≡ 0 = none_left lock (blank lock.header) c.loop-token.seat i.0 (sym i.2 ∙ none) in
+    let all : c.loop-token.seat ≡ c.args.seats = let a = i.1 in omega (arith, a, n) in
+    c.loop-token.invariant.1 ∙ ap (λ (z : ℕ). opening_passes lock (blank lock.header) 0 z) all

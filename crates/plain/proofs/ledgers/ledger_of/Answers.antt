@@ -1,6 +1,6 @@
 use Rattle.std.proofs.Common.{◌<◌, ◌≤◌, arith, length, List, ◌∙◌, sym, subst}
 use Rattle.history.specs.declared.entry.Entry.{Entry}
-use Rattle.history.specs.Start.{opening}
+use Rattle.history.specs.Entries.{start_on}
 use Rattle.audit.specs.Ledger.{LedgerStand}
 use Rattle.audit.specs.Verdict.{front}
 use Rattle.audit.proofs.Fronts.{front_all, front_next, has_seat_next, next_seat}
@@ -12,7 +12,8 @@ pub note-requires-clause-seat : goal.note-requires-clause-seat
 note-requires-clause-seat c =
     let is = c.len-end.ensures.value in
     let few = c.requires.few in
-    has_seat_next c.args.header.now c.args.history.now.entries c.loop-number.number c.len-end.result
+    has_seat_next (start_on c.args.header.now c.args.history.now) c.args.history.now.entries
+    c.loop-number.number c.len-end.result
     c.in-Some.entry
     c.loop-number.ledger c.loop-number.invariant c.requires.seated c.loop-number-test.true
     c.len-end.ensures.value (omega (arith, is, few))
@@ -20,7 +21,7 @@ note-requires-clause-seat c =
 
 pub note-requires-clause-signal : goal.note-requires-clause-signal
 note-requires-clause-signal c =
-    let s = opening c.args.header.now in
+    let s = start_on c.args.header.now c.args.history.now in
     let h = c.args.history.now.entries in
     let n = c.loop-number.number in
     let is = c.len-end.ensures.value in
@@ -30,7 +31,7 @@ note-requires-clause-signal c =
 
 pub loop-number-preserved : goal.loop-number-preserved
 loop-number-preserved c =
-    let s = opening c.args.header.now in
+    let s = start_on c.args.header.now c.args.history.now in
     let h = c.args.history.now.entries in
     let n = c.loop-number.number in
     let e = c.in-Some.entry in
@@ -49,5 +50,6 @@ returns-clause-stand c =
     let n = c.loop-number.number in
     let is = c.len-end.ensures.value in
     let all : length h ≤ n = omega (arith, c.loop-number-test.false, is) in
-    let L : List Entry → Type 0 = λ x. LedgerStand (opening c.args.header.now) x c.loop-number.ledger in
+    let L : List Entry → Type 0 =
+    λ x. LedgerStand (start_on c.args.header.now c.args.history.now) x c.loop-number.ledger in
     subst L (front_all h n all) c.loop-number.invariant

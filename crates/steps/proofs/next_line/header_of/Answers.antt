@@ -1,20 +1,14 @@
-use Rattle.std.proofs.Common.{ℕ, List, Result, Ok, Err, codes, rules}
-use Rattle.std.specs.Borrow.{Bor}
-use Rattle.std.specs.Prelude.{IfOk}
-use Rattle.history.specs.declared.header.Header.{Header}
-use Rattle.line_text.specs.HeaderLine.{BeginsWithHeader}
-use Rattle.line_text.specs.UnderWay.{IsHeaderOf}
-use Rattle.line_text.specs.declared.fault.TextFault.{TextFault}
-use Rattle.steps.specs.StepsText.{steps_form}
+use Rattle.std.proofs.Common.{List, ℕ, ◌++◌, ap, sym, ◌∙◌}
+use Rattle.history.specs.Text.{ended}
+use Rattle.line_text.proofs.Growing.{broken}
 use Rattle.steps.proofs.next_line.header_of.Goals as goal
 
-begun : (r : Result (Header × Bor (List ℕ)) TextFault) (text : List ℕ) →
-    IfOk r (BeginsWithHeader (codes "aqs-steps 1 ") text) → IfOk r (IsHeaderOf steps_form text)
-begun (Ok found) text ok = record { header = ok.0; each = tt; parts = ok.1 }
-begun (Err fault) text e = tt
-
-pub returns-clause-ok : goal.returns-clause-ok
-returns-clause-ok c = begun c.first_header.result c.args.text.now c.first_header.ensures.ok
-
-pub returns-clause-err : goal.returns-clause-err
-returns-clause-err c = search rules
+pub returns-in-Some-header_on-clause-ok : goal.returns-in-Some-header_on-clause-ok
+returns-in-Some-header_on-clause-ok c =
+    let found = c.in-Some-header_on.ensures.found in
+    let whole = c.in-Some.ensures.0 ∙ sym (broken c.in-Some.line.now c.in-Some.after.now) in
+    record {
+      header = found.0;
+      each = tt;
+      parts = whole ∙ ap (λ (line : List ℕ). ended line ++ c.in-Some.after.now) found.1;
+    }

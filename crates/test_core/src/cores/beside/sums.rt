@@ -16,20 +16,25 @@ const NOTHING: Totals = Totals {
     count: 0,
 };
 
+/// No core here tells as much as 127 bits.
+fn whole(number: u128) -> i128 {
+    i128::try_from(number).unwrap_or(i128::MAX)
+}
+
 /// The same as a core tells it; the permits that nobody held are those held and free beyond the created.
 pub fn totals_told(object: Object, told: &Told, sums: &Sums) -> Totals {
     let line = i128::from(told.line);
     match object {
         Object::Lock(_) | Object::ReadWrite(_) => Totals {
-            x: i128::from(sums.exclusive),
-            s: i128::from(sums.shared),
+            x: whole(sums.exclusive),
+            s: whole(sums.shared),
             line,
             sleepers: i128::from(sums.asleep),
             ..NOTHING
         },
         Object::Semaphore(_, permits) => {
             let (held, free, created) = (
-                i128::from(sums.shared),
+                whole(sums.shared),
                 i128::from(told.available),
                 i128::from(permits),
             );

@@ -1,5 +1,5 @@
 use Rattle.std.proofs.Common.{◌≡◌, ℕ, suc, ◌+◌, List, [], ◌∷◌, ◌++◌, sym, ap, ◌∙◌, subst, refl, arith}
-use Rattle.word_lock.specs.declared.point.Point.{Point}
+use Rattle.history.specs.declared.point.Point.{Point}
 use Rattle.word_lock.specs.Ready.{IsReady}
 use Rattle.word_lock.specs.Ticket.{LockId, Ticket, opening_ticket, opening_tickets}
 use Rattle.word_lock.proofs.Tokens.{last_opening_ticket}

@@ -1,9 +1,9 @@
 use Rattle.std.proofs.Common.{rules, ◌≡◌, ap, sym, ◌∙◌, subst, List, [], ◌∷◌, Some}
 use Rattle.std.specs.declared.option.Option.{Option as Maybe}
 use Rattle.atomic_table.specs.Table.{opening}
-use Rattle.word_lock.specs.declared.point.Point.{Point}
+use Rattle.history.specs.declared.point.Point.{Point}
+use Rattle.word_lock.specs.Point.{Agrees}
 use Rattle.word_lock.specs.Rule.{RuleHolds, first_view}
-use Rattle.word_lock.proofs.PointLaws.{agrees_empty}
 use Rattle.word_lock.proofs.Opening.{opens}
 use Rattle.word_lock.proofs.dealing.make_table.Goals as goal
 
@@ -15,4 +15,4 @@ new-requires g c = let t = g.T.Chronicle in
     subst (λ (l : List (Maybe g.row.T.Denot)). RuleHolds t.point t.fact t.sound start
     (opening (0 ∷ []) l (first_view start c.args.seats))) (sym items)
     (opens t.point t.fact t.sound t.is_sound start c.args.value c.args.seats c.requires.fact shows
-    (λ seat. agrees_empty seat start (ap (λ (p : Point). p.list) shows ∙ c.requires.empty)))
+    (λ seat. subst (λ (p : Point). Agrees p seat []) (sym shows) (c.requires.empty seat)))

@@ -1,5 +1,5 @@
 use Rattle.std.proofs.Common.{rules, ◌≡◌, ◌∷◌, arith}
-use Rattle.workers.proofs.Columns.{column_own, column_whole, columns_cut, none_left, parts_end}
+use Rattle.workers.proofs.Columns.{column_own, column_whole, columns_cut, none_left, parts_end, parts_on}
 use Rattle.workers.proofs.run.close_all.Goals as goal
 
 pub close-requires-clause-own : goal.close-requires-clause-own
@@ -25,6 +25,22 @@ close-requires-clause-all g c =
     c.in-Some-next.passes first second
     c.loop-object.invariant.0 in
     column_whole c.in-Some.object c.in-Some.object.header.seats c.in-Some-next.passes cut.0
+
+pub loop-object-preserved : goal.loop-object-preserved
+loop-object-preserved g c =
+    let left = c.loop-object.object-iterator.rest.items in
+    let next = c.next.new.self.rest.items in
+    let columns = c.loop-object.columns.rest.items in
+    let nexts = c.next-in-loop-object.new.self.rest.items in
+    let first : left ≡ c.in-Some.object ∷ next = search rules in
+    let second : columns ≡ c.in-Some-next.passes ∷ nexts = search rules in
+    let cut = columns_cut left next c.in-Some.object columns nexts c.in-Some-next.passes first second
+    c.loop-object.invariant.0 in (
+      cut.1,
+      parts_on c.args.objects.items c.args.columns.items left next c.in-Some.object columns nexts
+          c.in-Some-next.passes c.loop-object.parts.items c.push.new.self.items c.in_ok-close.field-0 first
+          second c.in_ok-push.ensures.items c.in_ok-close.ensures.part c.loop-object.invariant.1,
+    )
 
 pub returns-clause-parts : goal.returns-clause-parts
 returns-clause-parts g c =

@@ -27,8 +27,8 @@ returns-in-On-clause-called g c =
     let below : c.in-On.place < length ps =
     place_below ps c.args.shared.now.objects.items c.in-On.place (search rules) place in
     let here : ps ≡ c.args.passes.now = search rules in
-    let count : unrecorded_by c.act-reply.result ≡ c.unrecorded_by.result = search rules in
-    subst (λ z. IsCalled c.args.call z c.unrecorded_by.result
+    let count : unrecorded_by c.act-reply.result ≡ c.unrecorded.result = search rules in
+    subst (λ z. IsCalled c.args.call z c.unrecorded.result
     (set ps c.in-On.place c.act-reply.new.pass)) here
     (subst (λ z. IsCalled c.args.call ps z (set ps c.in-On.place c.act-reply.new.pass)) count
     (acts_on c.args.call c.in-On.place c.in-On.action ps _ c.act-reply.new.pass c.act-reply.result c.in-On.is

@@ -24,9 +24,9 @@ sum-requires-clause-few c =
     let most = r.stand.past.range.seats in
     omega (arith, long, seats, most)
 
-pub returns : goal.returns
-returns c s h st =
+pub returns-clause-held : goal.returns-clause-held
+returns-clause-held c s h st =
     let items = c.args.self.now.holds.exclusive.items in
-    c.sum.ensures ∙ ap (λ (l : List ℕ). total (length l) (λ i. get_or l i 0)) c.deref.ensures.value
+    c.sum.ensures.sum ∙ ap (λ (l : List ℕ). total (length l) (λ i. get_or l i 0)) c.deref.ensures.value
     ∙ ap (λ n. total n (λ i. get_or items i 0)) st.holding.exclusive_seats
     ∙ total_same s.header.seats (λ i. get_or items i 0) (λ i. held s h i X) st.holding.exclusive

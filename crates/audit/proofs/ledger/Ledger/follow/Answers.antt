@@ -23,7 +23,7 @@ returns c s h st seat =
       holding = c.note-2.ensures s h st.holding object (λ lock.
           let owned : is_lock s.header.object ≡ true = ap is_lock object ∙ lock in
           (only_owner s h st.past owned, only_owner s (e ∷ h) past owned));
-      waits = c.note.ensures s h st.waits;
+      waits = c.note.ensures s h st.waits st.past;
       numbers = c.note-3.ensures s h st.numbers object (sym (c.held-had.ensures s h st));
       past = past;
     }

@@ -5,7 +5,7 @@ use Rattle.deciding.specs.Sleep.{sleep_of}
 use Rattle.audit.proofs.situation.LedgerSituation.last_sleep.Goals as goal
 
 pub returns : goal.returns
-returns c s h st =
+returns c s h st away =
     let seats = c.requires.2.waits.seats in
     let seat = c.requires.3 in
     let within : c.args.seat < length c.args.self.now.waiting.last_sleep.items = omega (arith, seats, seat) in

@@ -1,7 +1,6 @@
 use Rattle.std.proofs.Common.{◌<◌, ◌++◌, ap, ◌∙◌}
 use Rattle.std.specs.List.{flat_map}
 use Rattle.std.proofs.lemmas.List.Elements.{All-same}
-use Rattle.history.specs.Start.{opening}
 use Rattle.drawing.specs.declared.bar.Stretch.{Stretch}
 use Rattle.drawing.specs.Bars.{ended}
 use Rattle.drawing.specs.Stretches.{bar_of, stretches}
@@ -13,12 +12,11 @@ pub end_all-requires : goal.end_all-requires
 end_all-requires c =
     let r = c.requires in
     All-same (λ (x : Stretch). 0 < x.holds → 0 < c.args.self.count) c.deref.result.now
-    (stretches (opening r.header) r.from r.entries) (c.deref.ensures.value ∙ r.drawn.under_way)
-    (stretches_before (opening r.header) r.from r.entries c.args.self.count r.drawn.count)
+    (stretches r.start r.from r.entries) (c.deref.ensures.value ∙ r.drawn.under_way)
+    (stretches_before r.start r.from r.entries c.args.self.count r.drawn.count)
 
 pub returns-clause-bars : goal.returns-clause-bars
-returns-clause-bars c k from h was =
-    let s = opening k in
+returns-clause-bars c s from h was =
     c.in_ok-end_all.ensures
     ∙ ap (λ xs. xs ++ flat_map (bar_of c.args.self.count) c.deref.result.now) was.ended
     ∙ ap (λ xs. ended s from h ++ flat_map (bar_of c.args.self.count) xs)
@@ -27,7 +25,7 @@ returns-clause-bars c k from h was =
     ∙ ap (λ xs. ended s from h ++ xs) (all_bars s from h)
 
 pub returns-clause-marks : goal.returns-clause-marks
-returns-clause-marks c k from h was = was.marked
+returns-clause-marks c s from h was = was.marked
 
 pub returns-clause-curve : goal.returns-clause-curve
-returns-clause-curve c k from h was = was.points
+returns-clause-curve c s from h was = was.points

@@ -2,7 +2,6 @@ use Rattle.std.proofs.Common.{◌<◌, ◌≤◌, ◌++◌, ◌∷◌, length, m
 use Rattle.std.specs.List.{flat_map}
 use Rattle.std.proofs.lemmas.List.Elements.{All-same}
 use Rattle.history.specs.declared.header.Header.{Header}
-use Rattle.history.specs.Start.{opening}
 use Rattle.drawing.specs.declared.bar.Stretch.{Stretch}
 use Rattle.drawing.specs.Bars.{ended}
 use Rattle.drawing.specs.Stretches.{ending, going_on, stretches}
@@ -16,26 +15,25 @@ use Rattle.drawing.proofs.drawing.Drawing.follow.Goals as goal
 pub go_on-requires-clause-standing : goal.go_on-requires-clause-standing
 go_on-requires-clause-standing c =
     let r = c.requires in
-    let s = opening r.header in (
+    let s = r.start in (
       s,
       c.args.entry ∷ r.entries,
       c.in_ok-note.ensures s r.entries r.drawn.standing (ap (λ (x : Header). x.object) (sym r.drawn.header))
           r.seat,
-      All-same (λ (x : Stretch). x.seat < r.header.seats) c.args.self.now.stretches.items
-          (stretches s r.from r.entries) r.drawn.under_way (stretches_seated r.header r.from r.entries),
+      All-same (λ (x : Stretch). x.seat < s.header.seats) c.args.self.now.stretches.items
+          (stretches s r.from r.entries) r.drawn.under_way (stretches_seated s r.from r.entries),
     )
 
 pub go_on-requires-clause-some : goal.go_on-requires-clause-some
 go_on-requires-clause-some c =
     let r = c.requires in
-    let s = opening r.header in
+    let s = r.start in
     All-same (λ (x : Stretch). 0 < x.holds → 0 < c.args.self.now.count) c.args.self.now.stretches.items
     (stretches s r.from r.entries) r.drawn.under_way
     (stretches_before s r.from r.entries c.args.self.now.count r.drawn.count)
 
 pub returns-then-number-self : goal.returns-then-number-self
-returns-then-number-self c = λ k from h was seat.
-    let s = opening k in
+returns-then-number-self c = λ s from h was seat.
     let e = c.args.entry in
     let less : length h < from = omega (arith, c.if-number-self.true, was.count, was.begins) in
     record {
@@ -51,8 +49,7 @@ returns-then-number-self c = λ k from h was seat.
     }
 
 pub returns : goal.returns
-returns c = λ k from h was seat.
-    let s = opening k in
+returns c = λ s from h was seat.
     let e = c.args.entry in
     let old = c.args.self.now in
     let drawn : from ≤ length h = omega (arith, c.if-number-self.false, was.count, was.begins) in
@@ -86,4 +83,4 @@ returns c = λ k from h was seat.
 
 pub note-requires-2 : goal.note-requires-2
 note-requires-2 c =
-    let r = c.requires in (opening r.header, r.entries, r.drawn.numbers, r.room)
+    let r = c.requires in (r.start, r.entries, r.drawn.numbers, r.room)

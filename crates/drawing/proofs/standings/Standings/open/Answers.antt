@@ -1,17 +1,13 @@
-use Rattle.std.proofs.Common.{◌≡◌, ℕ, zero, suc, Bool, false, List, [], length, get_or, replicate, refl, ap, ◌∙◌, sym, arith, rules}
+use Rattle.std.proofs.Common.{◌≡◌, ℕ, zero, suc, false, List, [], length, get_or, replicate, refl, ap, ◌∙◌, sym, arith, rules}
 use Rattle.std.proofs.lemmas.List.{length-replicate, get_or-replicate}
 use Rattle.std.proofs.lemmas.List.Elements.{All-nil}
+use Rattle.drawing.proofs.StandingOnBase.{nobody}
 use Rattle.drawing.proofs.standings.Standings.open.Goals as goal
 
 zeros : (n i : ℕ) → ◌≡◌ {A = ℕ} (get_or (replicate n 0) i 0) 0
 zeros zero i = refl
 zeros (suc n) zero = refl
 zeros (suc n) (suc i) = zeros n i
-
-nobody : (n i : ℕ) → ◌≡◌ {A = Bool} (get_or (replicate n false) i false) false
-nobody zero i = refl
-nobody (suc n) zero = refl
-nobody (suc n) (suc i) = nobody n i
 
 pub returns : goal.returns
 returns c k seats =

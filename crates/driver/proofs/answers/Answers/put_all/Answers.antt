@@ -1,55 +1,49 @@
-use Rattle.std.proofs.Common.{◌++◌, length, reverse, ap, subst, append_assoc}
+use Rattle.std.proofs.Common.{◌++◌, All, length, subst, append_assoc}
 use Rattle.history.specs.Entries.{ended_calls}
+use Rattle.history.specs.EntryWords.{IsSpelt}
 use Rattle.history.specs.Text.{ended}
 use Rattle.history_text.specs.EntryLines.{counts_line}
-use Rattle.driver.specs.Answers.{AllAnswers, remarks_in}
+use Rattle.driver.specs.Answers.{AllAnswers, all_of, remarks_in}
 use Rattle.driver.specs.Remarks.{told_lines}
 use Rattle.streams.specs.Whole.{AppendsFront}
-use Rattle.driver.proofs.Behind.{spelt_behind}
 use Rattle.driver.proofs.Gathering.{front_longer, front_more, gathered_more, if_failed, where_failed, where_written, written_all, written_front}
 use Rattle.driver.proofs.answers.Answers.put_all.Goals as goal
 
 pub put_lines-requires-clause-spelt : goal.put_lines-requires-clause-spelt
 put_lines-requires-clause-spelt g c =
-    spelt_behind c.self.inside.header c.self.inside.history.entries c.self.invariant.1
+    subst (λ (a : AllAnswers). All IsSpelt (all_of a)) c.self.view_is c.self.invariant.1
 
 pub returns-in_err-put_lines-clause-err : goal.returns-in_err-put_lines-clause-err
 returns-in_err-put_lines-clause-err g c =
     let a = c.args.self.now in
-    let told = told_lines (reverse a.entries) 0 (remarks_in c.args.form a.remarks) in
-    let counts = ended (counts_line (length a.entries) (ended_calls a.entries)) in
-    let adds =
-    rw (c.remarks_in.ensures, ap (λ (b : AllAnswers). b.entries) c.self.view_is)
-    at c.in_err-put_lines.ensures.adds in
+    let told = told_lines (all_of a) 0 (remarks_in c.args.form a.remarks) in
+    let counts = ended (counts_line (length (all_of a)) (ended_calls (all_of a))) in
+    let adds = rw c.remarks_in.ensures at c.in_err-put_lines.ensures.adds in
     if_failed c.from_residual.result _
     (subst (AppendsFront _ _) (append_assoc c.args.lines.now.bytes told counts)
     (front_longer _ _ (c.args.lines.now.bytes ++ told) counts adds))
 
 pub returns-in_err-put_counts-clause-err : goal.returns-in_err-put_counts-clause-err
 returns-in_err-put_counts-clause-err g c =
-    let a = c.args.self.now in
-    let entries = ap (λ (b : AllAnswers). b.entries) c.self.view_is in
-    let adds = rw (c.remarks_in.ensures, entries) at c.in_ok-put_lines.ensures.adds in
+    let adds = rw c.remarks_in.ensures at c.in_ok-put_lines.ensures.adds in
     if_failed c.from_residual-in_err-put_counts.result _
     (front_more _ _ _ c.args.lines.now.bytes c.put_lines.new.lines.bytes _ _ adds
-    (rw (c.len.ensures.value, c.calls.ensures, entries) at c.in_err-put_counts.ensures.adds))
+    (rw (c.count.ensures, c.calls.ensures) at c.in_err-put_counts.ensures.adds))
 
 pub returns-clause-ok : goal.returns-clause-ok
 returns-clause-ok g c =
-    let entries = ap (λ (b : AllAnswers). b.entries) c.self.view_is in
     let adds =
     gathered_more _ _ _ c.args.lines.now.bytes c.put_lines.new.lines.bytes c.put_counts.new.self.bytes _
-    _ (rw (c.remarks_in.ensures, entries) at c.in_ok-put_lines.ensures.adds)
-    (rw (c.len.ensures.value, c.calls.ensures, entries) at c.in_ok-put_counts.ensures.adds) in
+    _ (rw c.remarks_in.ensures at c.in_ok-put_lines.ensures.adds)
+    (rw (c.count.ensures, c.calls.ensures) at c.in_ok-put_counts.ensures.adds) in
     where_written c.flush.result _ _ (written_all _ _ _ c.args.lines.now.bytes c.put_counts.new.self.bytes _
     adds) c.flush.ensures.ok
 
 pub returns-clause-err : goal.returns-clause-err
 returns-clause-err g c =
-    let entries = ap (λ (b : AllAnswers). b.entries) c.self.view_is in
     let adds =
     gathered_more _ _ _ c.args.lines.now.bytes c.put_lines.new.lines.bytes c.put_counts.new.self.bytes _
-    _ (rw (c.remarks_in.ensures, entries) at c.in_ok-put_lines.ensures.adds)
-    (rw (c.len.ensures.value, c.calls.ensures, entries) at c.in_ok-put_counts.ensures.adds) in
+    _ (rw c.remarks_in.ensures at c.in_ok-put_lines.ensures.adds)
+    (rw (c.count.ensures, c.calls.ensures) at c.in_ok-put_counts.ensures.adds) in
     where_failed c.flush.result _ _ (written_front _ _ _ c.args.lines.now.bytes c.put_counts.new.self.bytes
     _ adds) c.flush.ensures.err

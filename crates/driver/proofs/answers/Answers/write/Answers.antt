@@ -1,19 +1,20 @@
-use Rattle.std.proofs.Common.{ap, refl}
-use Rattle.history.specs.Text.{ended}
-use Rattle.driver.specs.Answers.{AllAnswers, first_line}
+use Rattle.std.proofs.Common.{◌≡◌, [], length, sym, ap, subst, ◌∙◌}
+use Rattle.std.proofs.lemmas.Bool.{eqb-true}
+use Rattle.driver.specs.Answers.{AllAnswers, AreFolded}
+use Rattle.driver.proofs.EntryLines.{lines_alone, no_length}
 use Rattle.driver.proofs.answers.Answers.write.Goals as goal
 
-pub returns-in-Ok-clause-writes : goal.returns-in-Ok-clause-writes
-returns-in-Ok-clause-writes g c =
-    let header = ap (λ (a : AllAnswers). ended (first_line c.args.form a.header)) c.self.view_is in
-    rw (c.in_ok-lines.ensures.first, c.deref.ensures.value, c.in_ok-first.ensures.ok, header) at
-    c.in-Ok.ensures.ok
+pub returns-in-History-clause-writes : goal.returns-in-History-clause-writes
+returns-in-History-clause-writes g c =
+    let none : c.self.inside.past.items ≡ [] =
+    no_length c.self.inside.past.items (ap length (sym c.as_slice.ensures.value)
+    ∙ eqb-true _ _ (sym c.is_empty.ensures ∙ c.if-is_empty.true)) in
+    let past : c.args.self.now.past ≡ [] = ap (λ (a : AllAnswers). a.past) (sym c.self.view_is) ∙ none in
+    rw (
+      c.in-History.is,
+      ← lines_alone c.args.self.now
+          (subst (λ (a : AllAnswers). AreFolded a.header.header a.past a.base) c.self.view_is c.self.invariant.2) past,
+    ) c.write_lines-in-History.ensures.writes
 
-pub returns-clause-writes : goal.returns-clause-writes
-returns-clause-writes g c =
-    let header = ap (λ (a : AllAnswers). ended (first_line c.args.form a.header)) c.self.view_is in
-    rw (c.in_ok-lines.ensures.first, c.deref.ensures.value, c.in_ok-first.ensures.ok, header) at
-    c.in-Err.ensures.err
-
-pub returns-clause-failing : goal.returns-clause-failing
-returns-clause-failing g c = (λ e. c.in-Err.ensures.failing.1 refl, λ t. refl)
+pub returns-in-History-2-clause-writes : goal.returns-in-History-2-clause-writes
+returns-in-History-2-clause-writes g c = rw c.in-History.is c.write_left.ensures.writes

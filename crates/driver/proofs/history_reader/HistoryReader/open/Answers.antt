@@ -1,11 +1,14 @@
-use Rattle.std.proofs.Common.{refl, Err, ℕ, List, ap, subst}
+use Rattle.std.proofs.Common.{◌∙◌, Err, ℕ, List, ap, arith, refl, subst}
+use Rattle.history.specs.Entries.{or_opening}
 use Rattle.line_text.specs.declared.fault.TextFault.{TextFault}
 use Rattle.line_text.specs.Reading.{IsReading}
-use Rattle.history_text.specs.HistoryText.{entries_so_far, history_form}
-use Rattle.history_text.proofs.ShortEntries.{short}
+use Rattle.history_text.specs.HistoryText.{history_form}
 use Rattle.history_text.proofs.HistoryLawful.{lawful}
+use Rattle.history_text.proofs.ShortEntries.{short}
 use Rattle.streams.specs.declared.stream_fault.StreamFault.{StreamFault}
-use Rattle.driver.proofs.ReadingAhead.{header_ahead, header_kept, open_failed, open_refused, open_unread}
+use Rattle.streams.specs.Window.{Seen}
+use Rattle.driver.proofs.BaseAhead.{beginning_failed, beginning_read, few_behind, head_ahead}
+use Rattle.driver.proofs.ReadingAhead.{open_failed, open_refused, open_unread}
 use Rattle.driver.proofs.history_reader.HistoryReader.open.Goals as goal
 
 pub returns-in_err-window-clause-err : goal.returns-in_err-window-clause-err
@@ -21,27 +24,57 @@ returns-in_err-read_line-clause-err g c =
     passed.result c.in_err-read_line.field-0.0 passed.ensures failed.kinds
     (λ e. failed.memory (ap (λ (f : StreamFault). Err f) e))
 
-pub returns-in_err-header-clause-err : goal.returns-in_err-header-clause-err
-returns-in_err-header-clause-err g c =
-    let fault = c.in_err-header.field-0.0 in
-    let passed = c.from_residual-in_err-header in
+pub returns-in_err-head-clause-err : goal.returns-in_err-head-clause-err
+returns-in_err-head-clause-err g c =
+    let fault = c.in_err-head.field-0.0 in
+    let passed = c.from_residual-in_err-head in
     let is = subst (λ (t : List ℕ). IsReading history_form t (Err fault)) c.bytes.ensures.bytes
-    c.in_err-header.ensures.err in
-    let cut = rw c.bytes.ensures.bytes at c.in_err-header.ensures.cut in
+    c.in_err-head.ensures.err in
+    let cut = rw c.bytes.ensures.bytes at c.in_err-head.ensures.cut in
     open_failed history_form (g.R.Source.left c.args.reader.now) c.read_line.new.self.bytes
     (g.R.Source.left c.read_line.new.reader) passed.result fault passed.ensures lawful short is
     (λ e. c.in_ok-read_line.ensures.whole (cut (ap (λ (f : TextFault). Err f) e)))
     (rw c.in_ok-window.ensures at c.in_ok-read_line.ensures.ahead)
 
+pub returns-in_err-base-clause-err : goal.returns-in_err-base-clause-err
+returns-in_err-base-clause-err g c =
+    let text = g.R.Source.left c.args.reader.now in
+    let left = g.R.Source.left c.read_line.new.reader in
+    let passed = c.from_residual-in_err-base in
+    let h = c.in_ok-head.head in
+    let begun = rw c.bytes.ensures.bytes at c.in_ok-head.ensures.ok in
+    let ahead = rw c.in_ok-window.ensures at c.in_ok-read_line.ensures.ahead in
+    beginning_failed text h c.keep_last.new.self.bytes c.base_of.new.window.bytes left
+    (g.R.Source.left c.base_of.new.reader) passed.result c.in_err-base.field-0.0 passed.ensures
+    (rw c.keep_last.ensures.bytes
+    (head_ahead text left h c.read_line.new.self.bytes c.in_ok-head.after.now begun ahead))
+    c.in_err-base.ensures.read
+
+pub invariant_of-result : goal.invariant_of-result
+invariant_of-result g c =
+    let h = c.in_ok-head.head.header in
+    let of = c.in_ok-base.ensures.base in
+    let at = c.in_ok-base.ensures.place in
+    let few = few_behind h (or_opening h c.in_ok-base.base) c.in_ok-base.place of at in (
+      omega (arith, at.count),
+      omega (arith, few.0),
+      at.lines,
+      few.1,
+      c.in_ok-head.ensures.range,
+      of,
+      c.in_ok-base.ensures.places ∙ c.keep_last.ensures.places ∙ c.in_ok-read_line.ensures.places
+          ∙ ap (λ (w : Seen). w.places) c.in_ok-window.ensures,
+      c.in_ok-base.ensures.held,
+    )
+
 pub returns-clause-ok : goal.returns-clause-ok
 returns-clause-ok g c =
     let text = g.R.Source.left c.args.reader.now in
     let left = g.R.Source.left c.read_line.new.reader in
-    let window = c.read_line.new.self.bytes in
-    let after = c.in_ok-header.after.now in
-    let begun = rw c.bytes.ensures.bytes at c.in_ok-header.ensures.ok in
+    let h = c.in_ok-head.head in
+    let begun = rw c.bytes.ensures.bytes at c.in_ok-head.ensures.ok in
     let ahead = rw c.in_ok-window.ensures at c.in_ok-read_line.ensures.ahead in
-    let keeps = header_kept history_form c.in_ok-header.header window after text left short begun ahead in
-    rw c.keep_last.ensures.bytes
-    (header_ahead history_form text (entries_so_far c.in_ok-header.header 0 0) window after left
-    (record { begins = begun; count = refl; known = refl }) keeps)
+    beginning_read text h h.header c.in_ok-base.base c.in_ok-base.place c.base_of.new.window.bytes
+    (g.R.Source.left c.base_of.new.reader) refl
+    (c.in_ok-base.ensures.read text (rw c.keep_last.ensures.bytes
+    (head_ahead text left h c.read_line.new.self.bytes c.in_ok-head.after.now begun ahead)))

@@ -1,6 +1,6 @@
-use Rattle.std.proofs.Common.{[]}
 use Rattle.steps.specs.StepsText.{steps_form, steps_so_far}
 use Rattle.driver.proofs.ReadingAhead.{item_ahead, keeps_same, line_within, not_counted, stands_here}
+use Rattle.driver.proofs.StepsAhead.{next_act}
 use Rattle.driver.proofs.step_reader.StepReader.next.Goals as goal
 
 pub pass-requires : goal.pass-requires
@@ -8,7 +8,7 @@ pass-requires g c =
     let held = c.self.inside in
     let is = rw (c.in-Ok-Some.field-0-is, c.bytes.ensures.bytes) at c.in-Ok-Some.ensures.line in
     rw (← c.self.view_is) (line_within steps_form (steps_so_far held.header held.count) held.window.bytes
-    c.in-Ok-Some.step c.in-Ok-Some.left is)
+    c.in-Ok-Some.act c.in-Ok-Some.left is)
 
 pub returns-in_ok-pass-in-Ok-Some-clause-next : goal.returns-in_ok-pass-in-Ok-Some-clause-next
 returns-in_ok-pass-in-Ok-Some-clause-next g c = λ text steps were.
@@ -18,11 +18,14 @@ returns-in_ok-pass-in-Ok-Some-clause-next g c = λ text steps were.
     let here = rw (← c.self.view_is) at were in
     rw (c.in_ok-pass-in-Ok-Some.ensures.ok, ← c.self.view_is)
     (item_ahead steps_form text so_far so_far.known held.window.bytes (g.R.Source.left c.args.reader.now)
-    steps c.in-Ok-Some.step c.in-Ok-Some.left is (λ known. tt) here)
+    steps c.in-Ok-Some.act c.in-Ok-Some.left is (λ known. tt) here)
 
 pub returns-in_ok-pass-in-Ok-Some-clause-seated : goal.returns-in_ok-pass-in-Ok-Some-clause-seated
 returns-in_ok-pass-in-Ok-Some-clause-seated g c =
-    rw (← c.self.view_is) ((rw c.in-Ok-Some.field-0-is at c.in-Ok-Some.ensures.line) []).1.fits.0
+    let held = c.self.inside in
+    let is = rw (c.in-Ok-Some.field-0-is, c.bytes.ensures.bytes) at c.in-Ok-Some.ensures.line in
+    rw (← c.self.view_is) (next_act held.header held.count held.window.bytes c.in-Ok-Some.act c.in-Ok-Some.left
+    is)
 
 pub returns-in_err-pass-in-Ok-Some-clause-next : goal.returns-in_err-pass-in-Ok-Some-clause-next
 returns-in_err-pass-in-Ok-Some-clause-next g c =

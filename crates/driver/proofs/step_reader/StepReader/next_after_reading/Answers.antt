@@ -1,4 +1,4 @@
-use Rattle.std.proofs.Common.{[], ◌≤◌, Err, ap, arith, length, refl}
+use Rattle.std.proofs.Common.{◌≤◌, Err, ap, arith, length, refl}
 use Rattle.steps.specs.StepLines.{end_line}
 use Rattle.line_text.specs.declared.fault.TextFault.{TextFault}
 use Rattle.streams.specs.declared.stream_fault.StreamFault.{StreamFault}
@@ -6,6 +6,7 @@ use Rattle.steps.specs.StepsText.{steps_form, steps_so_far}
 use Rattle.steps.proofs.ShortSteps.{ended_short, end_short, short}
 use Rattle.steps.proofs.StepsLawful.{lawful}
 use Rattle.driver.proofs.ReadingAhead.{end_kept, ended_here, item_ahead, item_kept, kept, line_within, next_failed, next_kept, not_counted, read_failed, stands_behind, stands_failed}
+use Rattle.driver.proofs.StepsAhead.{next_act, next_short}
 use Rattle.driver.proofs.step_reader.StepReader.next_after_reading.Goals as goal
 
 pub returns-in_err-read_line-clause-next : goal.returns-in_err-read_line-clause-next
@@ -23,20 +24,20 @@ returns-in_err-read_line-clause-stands g c =
     rw (← c.self.view_is) (stands_failed _ _ _ _ c.from_residual.result c.from_residual.ensures.0
     c.in_err-read_line.ensures.ahead)
 
-pub returns-in_err-step-clause-next : goal.returns-in_err-step-clause-next
-returns-in_err-step-clause-next g c =
+pub returns-in_err-act-clause-next : goal.returns-in_err-act-clause-next
+returns-in_err-act-clause-next g c =
     let held = c.self.inside in
-    let is = rw c.bytes.ensures.bytes at c.in_err-step.ensures.line in
-    let cut = rw c.bytes.ensures.bytes at c.in_err-step.ensures.cut in
-    let passed = c.from_residual-in_err-step in
+    let is = rw c.bytes.ensures.bytes at c.in_err-act.ensures.line in
+    let cut = rw c.bytes.ensures.bytes at c.in_err-act.ensures.cut in
+    let passed = c.from_residual-in_err-act in
     rw (← c.self.view_is) (next_failed steps_form (steps_so_far held.header held.count) held.window.bytes
     c.read_line.new.self.bytes (g.R.Source.left c.args.reader.now) (g.R.Source.left c.read_line.new.reader)
-    passed.result _ c.in_err-step.field-0.0 passed.ensures lawful short c.in_ok-read_line.ensures.ahead is
+    passed.result _ c.in_err-act.field-0.0 passed.ensures lawful short c.in_ok-read_line.ensures.ahead is
     (λ e. c.in_ok-read_line.ensures.whole (cut (ap (λ (f : TextFault). Err f) e))))
 
-pub returns-in_err-step-clause-stands : goal.returns-in_err-step-clause-stands
-returns-in_err-step-clause-stands g c =
-    let passed = c.from_residual-in_err-step in
+pub returns-in_err-act-clause-stands : goal.returns-in_err-act-clause-stands
+returns-in_err-act-clause-stands g c =
+    let passed = c.from_residual-in_err-act in
     rw (← c.self.view_is) (stands_failed _ _ _ _ passed.result passed.ensures.0
     c.in_ok-read_line.ensures.ahead)
 
@@ -44,15 +45,15 @@ pub end_of-requires-clause-end : goal.end_of-requires-clause-end
 end_of-requires-clause-end g c =
     let held = c.self.inside in
     ended_short _ held.count (omega (arith, c.self.invariant.0))
-    ((rw (c.in_default.is, c.bytes.ensures.bytes) at c.in_ok-step.ensures.last) refl)
+    ((rw (c.in_default.is, c.bytes.ensures.bytes) at c.in_ok-act.ensures.last) refl)
 
 pub returns-in_default-clause-next : goal.returns-in_default-clause-next
 returns-in_default-clause-next g c =
     let held = c.self.inside in
     let so_far = steps_so_far held.header held.count in
     let window = c.read_line.new.self.bytes in
-    let is = rw (c.in_default.is, c.bytes.ensures.bytes) at c.in_ok-step.ensures.line in
-    let last = (rw (c.in_default.is, c.bytes.ensures.bytes) at c.in_ok-step.ensures.last) refl in
+    let is = rw (c.in_default.is, c.bytes.ensures.bytes) at c.in_ok-act.ensures.line in
+    let last = (rw (c.in_default.is, c.bytes.ensures.bytes) at c.in_ok-act.ensures.last) refl in
     let keeps =
     end_kept held.window.bytes window (end_line held.count) (g.R.Source.left c.args.reader.now)
     (g.R.Source.left c.read_line.new.reader) c.in_ok-read_line.ensures.ahead last
@@ -67,7 +68,7 @@ pub returns-in_default-clause-stands : goal.returns-in_default-clause-stands
 returns-in_default-clause-stands g c =
     let held = c.self.inside in
     let window = c.read_line.new.self.bytes in
-    let last = (rw (c.in_default.is, c.bytes.ensures.bytes) at c.in_ok-step.ensures.last) refl in
+    let last = (rw (c.in_default.is, c.bytes.ensures.bytes) at c.in_ok-act.ensures.last) refl in
     let keeps =
     end_kept held.window.bytes window (end_line held.count) (g.R.Source.left c.args.reader.now)
     (g.R.Source.left c.read_line.new.reader) c.in_ok-read_line.ensures.ahead last
@@ -78,16 +79,16 @@ returns-in_default-clause-stands g c =
 
 pub pass-requires : goal.pass-requires
 pass-requires g c =
-    let is = rw (c.in-Some.is, c.bytes.ensures.bytes) at c.in_ok-step.ensures.line in
+    let is = rw (c.in-Some.is, c.bytes.ensures.bytes) at c.in_ok-act.ensures.line in
     line_within steps_form (steps_so_far c.self.inside.header c.self.inside.count)
-    c.read_line.new.self.bytes c.in-Some.step c.in-Some.left is
+    c.read_line.new.self.bytes c.in-Some.act c.in-Some.left is
 
 pub returns-in_err-pass-clause-next : goal.returns-in_err-pass-clause-next
 returns-in_err-pass-clause-next g c =
     let held = c.self.inside in
     let so_far = steps_so_far held.header held.count in
     let window = c.read_line.new.self.bytes in
-    let is = rw (c.in-Some.is, c.bytes.ensures.bytes) at c.in_ok-step.ensures.line in
+    let is = rw (c.in-Some.is, c.bytes.ensures.bytes) at c.in_ok-act.ensures.line in
     let passed = c.from_residual-in_err-pass in
     let few : length window ≤ 65792 =
     omega (arith, c.in_ok-read_line.ensures.few, c.in_ok-read_line.ensures.places, c.self.invariant.2) in
@@ -96,7 +97,8 @@ returns-in_err-pass-clause-next g c =
     c.in_err-pass.field-0.0 passed.ensures c.in_err-pass.ensures.err few
     (item_kept steps_form so_far held.window.bytes window (g.R.Source.left c.args.reader.now)
     (g.R.Source.left c.read_line.new.reader)
-    c.in-Some.step c.in-Some.left short c.self.invariant.1 c.in_ok-read_line.ensures.ahead is))
+    c.in-Some.act c.in-Some.left (next_short held.header held.count window c.in-Some.act c.in-Some.left
+    c.self.invariant.1 is) c.in_ok-read_line.ensures.ahead is))
 
 pub returns-in_err-pass-clause-stands : goal.returns-in_err-pass-clause-stands
 returns-in_err-pass-clause-stands g c =
@@ -109,15 +111,20 @@ returns-clause-next g c = rw (← c.self.view_is) (λ text steps were.
     let held = c.self.inside in
     let so_far = steps_so_far held.header held.count in
     let window = c.read_line.new.self.bytes in
-    let is = rw (c.in-Some.is, c.bytes.ensures.bytes) at c.in_ok-step.ensures.line in
+    let is = rw (c.in-Some.is, c.bytes.ensures.bytes) at c.in_ok-act.ensures.line in
     let keeps =
     item_kept steps_form so_far held.window.bytes window (g.R.Source.left c.args.reader.now)
     (g.R.Source.left c.read_line.new.reader)
-    c.in-Some.step c.in-Some.left short c.self.invariant.1 c.in_ok-read_line.ensures.ahead is in
+    c.in-Some.act c.in-Some.left (next_short held.header held.count window c.in-Some.act c.in-Some.left
+    c.self.invariant.1 is) c.in_ok-read_line.ensures.ahead is in
     let here = kept steps_form text so_far _ _ steps keeps were in
     rw c.in_ok-pass.ensures.ok
     (item_ahead steps_form text so_far so_far.known window (g.R.Source.left c.read_line.new.reader)
-    steps c.in-Some.step c.in-Some.left is (λ known. tt) here))
+    steps c.in-Some.act c.in-Some.left is (λ known. tt) here))
 
 pub returns-clause-seated : goal.returns-clause-seated
-returns-clause-seated g c = rw (← c.self.view_is) ((rw c.in-Some.is at c.in_ok-step.ensures.line) []).1.fits.0
+returns-clause-seated g c =
+    let held = c.self.inside in
+    let is = rw (c.in-Some.is, c.bytes.ensures.bytes) at c.in_ok-act.ensures.line in
+    rw (← c.self.view_is) (next_act held.header held.count c.read_line.new.self.bytes c.in-Some.act
+    c.in-Some.left is)

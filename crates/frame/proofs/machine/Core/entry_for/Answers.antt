@@ -1,7 +1,8 @@
-use Rattle.std.proofs.Common.{refl, subst}
+use Rattle.std.proofs.Common.{◌≡◌, refl, subst}
 use Rattle.deciding.specs.Situation.{IsHistory}
 use Rattle.frame.specs.Core.{CoreView, start_of}
 use Rattle.frame.proofs.Deciding.{made_next}
+use Rattle.frame.proofs.Stepping.{history_of}
 use Rattle.frame.proofs.machine.Core.entry_for.Goals as goal
 
 pub returns-clause-next : goal.returns-clause-next
@@ -9,11 +10,12 @@ returns-clause-next g c =
     let v = c.args.self.now in
     let s = c.self.invariant in
     let P : CoreView → Type 0 = λ w. IsHistory (start_of w) w.entries in
-    let past = subst P c.self.view_is (record {
-      opened = refl;
-      range = s.range;
-      legal = s.legal;
-      seated = s.seated;
-    }) in
+    let past = subst P c.self.view_is (history_of s) in
+    let header = subst (λ (w : CoreView). w.base.header ≡ w.header) c.self.view_is s.based in
     made_next v c.args.seat c.args.step c.entry_for.result c.requires
-    (c.entry_for.ensures (start_of v) v.entries (record { start = refl; entries = refl; past = past }))
+    (c.entry_for.ensures (start_of v) v.entries (record {
+      start = refl;
+      header = header;
+      entries = refl;
+      past = past;
+    }))

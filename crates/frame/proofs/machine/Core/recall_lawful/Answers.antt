@@ -1,10 +1,17 @@
-use Rattle.std.proofs.Common.{◌+◌, ◌^◌, ◌<◌, ◌≤◌, length, subst, arith}
+use Rattle.std.proofs.Common.{◌≡◌, ◌+◌, ◌^◌, ◌<◌, ◌≤◌, ◌∙◌, length, sym, subst, arith}
+use Rattle.std.proofs.lemmas.List.{length-map}
+use Rattle.history.specs.Base.{based}
+use Rattle.history.specs.Entries.{base_on}
+use Rattle.history.specs.Fold.{MayFold}
 use Rattle.history.specs.Legal.{IsLegal, AreSeated}
+use Rattle.history.specs.Marks.{AreTold, StandInLine}
 use Rattle.history.specs.Order.{IsInOrder, IsFairOrder}
 use Rattle.history.specs.Room.{owed}
-use Rattle.history.specs.Start.{opening}
-use Rattle.history.proofs.Passing.{in_order, fair_order}
-use Rattle.frame.specs.Core.{CoreView, start_of}
+use Rattle.history.proofs.GoodBases.{good_waits}
+use Rattle.history.proofs.Passing.{fair_order, in_order_from}
+use Rattle.frame.specs.declared.seat.Seat.{Seat}
+use Rattle.frame.specs.Core.{CoreView, marks_of, start_of}
+use Rattle.frame.proofs.Telling.{marks_seen}
 use Rattle.frame.proofs.machine.Core.recall_lawful.Goals as goal
 
 pub returns : goal.returns
@@ -12,7 +19,13 @@ returns g c =
     let a = c.self.inside in
     let h = a.history.entries in
     let s = c.self.invariant in
+    let b = base_on a.header a.history in
+    let can = s.may_fold.can in
+    let t = a.seats.items in
+    let seen = sym (marks_seen a.header a.history t) in
     let P : CoreView → Type 0 = λ v. record {
+      header : v.base.header ≡ v.header;
+      may_fold : MayFold v.base v.entries;
       legal : IsLegal (start_of v) v.entries;
       seated : AreSeated (start_of v) v.entries;
       order : IsInOrder (start_of v) v.entries;
@@ -20,12 +33,17 @@ returns g c =
       room : length v.entries + owed (start_of v) v.entries ≤ v.header.cap;
       reserved : length v.entries + owed (start_of v) v.entries ≤ v.places;
       short : length v.entries < 2 ^ 32;
+      told : AreTold (start_of v) v.entries (marks_of v);
+      stand : StandInLine (start_of v) v.entries (marks_of v);
+      marks : length v.told ≡ v.header.seats;
     } in
     subst P c.self.view_is (record {
-      legal = s.legal;
-      seated = s.seated;
-      order = in_order a.header h s.legal;
-      fair = fair_order (opening a.header) h s.legal;
+      header = s.based;
+      may_fold = s.may_fold;
+      legal = can.legal;
+      seated = can.seated;
+      order = in_order_from (based b) h (good_waits b can.good) can.legal;
+      fair = fair_order (based b) h can.legal;
       room = let o = s.owed in let r = s.room in omega (arith, o, r);
       reserved =
           let o = s.owed in
@@ -33,4 +51,7 @@ returns g c =
           let n = c.owed-owed.ensures.value in
           omega (arith, o, r, n);
       short = let r = s.room in let k = s.range.cap in omega (arith, r, k);
+      told = subst (AreTold (based b) h) seen s.told.told;
+      stand = subst (StandInLine (based b) h) seen s.told.stand;
+      marks = length-map t (λ (x : Seat). x.told) ∙ s.seats;
     })

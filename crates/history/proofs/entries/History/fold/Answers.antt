@@ -43,8 +43,8 @@ returns-clause-full c =
     let a = c.self.inside in
     let n = kept_length a.pages.items a.len a.cap a.owed a.calls c.self.invariant in (
       λ q. absurd (cc),
-      λ t. c.if-not-fold_onto.ensures.full.1
-          (subst (TooMany a.base) n (subst IsTooLong (sym c.self.view_is) t)),
+      λ t. (let z = c.if-not-fold_onto.ensures.full.1
+          (subst (TooMany a.base) n (subst IsTooLong (sym c.self.view_is) t)) in absurd (cc)),
     )
 
 pub returns-clause-count : goal.returns-clause-count

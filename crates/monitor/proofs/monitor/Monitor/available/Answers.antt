@@ -21,7 +21,7 @@ looks g c = record {
   was = c.pass.invariant;
   begins = c.lock-held.ensures.begins;
   entries = c.lock-held.ensures.entries;
-  lawful = c.lock-held.ensures.fact;
+  lawful = c.lock-held.ensures.fact.lawful;
 }
 
 pub invariant_of-pass : goal.invariant_of-pass

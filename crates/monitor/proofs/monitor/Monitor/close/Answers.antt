@@ -1,21 +1,21 @@
-use Rattle.std.proofs.Common.{rules, ◌≡◌, ◌<◌, ◌≤◌, ◌^◌, ℕ, List, [], ◌∷◌, ◌++◌, length, append_assoc, refl, sym, ap, ◌∙◌, subst, arith}
+use Rattle.std.proofs.Common.{rules, ◌≡◌, ◌<◌, ◌≤◌, ◌^◌, ℕ, List, [], ◌∷◌, ◌++◌, length, Some, append_assoc, refl, sym, ap, ◌∙◌, subst, arith}
 use Rattle.std.specs.List.{All}
 use Rattle.std.proofs.lemmas.List.Elements.{All-nil, All-cons}
 use Rattle.frame.specs.Core.{CoreView}
 use Rattle.history.specs.declared.header.Header.{Header}
-use Rattle.history.specs.Entries.{ended_calls}
-use Rattle.history.specs.Start.{opening}
-use Rattle.word_lock.specs.declared.point.Point.{Point}
+use Rattle.history.specs.Entries.{IsBasedWell, base_on, or_opening, start_on}
+use Rattle.history.specs.Legal.{calls}
+use Rattle.history.specs.declared.point.Point.{Point}
 use Rattle.word_lock.specs.declared.view.SeatLog.{SeatLog}
 use Rattle.word_lock.specs.Point.{Before, Agrees}
 use Rattle.word_lock.specs.Rule.{AllAgree, AreDistinct}
 use Rattle.word_lock.specs.Ticket.{LockId}
 use Rattle.word_lock.proofs.PointLaws.{before_refl}
-use Rattle.monitor.specs.Lawful.{point_of, IsLawful}
+use Rattle.monitor.specs.Lawful.{point_of, start_at, IsLawful}
 use Rattle.monitor.specs.Shown.{Shown, IsTrue}
-use Rattle.monitor.specs.Closing.{left_by, shares, passes_of}
+use Rattle.monitor.specs.Closing.{IsBased, left_by, shares, passes_of}
 use Rattle.monitor.proofs.Opening.{shown_as, header_shown}
-use Rattle.monitor.proofs.Sections.{calls_few}
+use Rattle.monitor.proofs.Sections.{all_calls_few}
 use Rattle.monitor.proofs.Merging.{log_of, logs_of, all_last, all_seen, all_agree, all_within, seats_below, none_twice, each_once, some_missing, shares_are_calls}
 use Rattle.monitor.proofs.monitor.Monitor.close.Goals as goal
 
@@ -84,12 +84,12 @@ loop-pass-preserved g c =
 
 -- what the passes and the history are to one another
 record Ends (lock : LockId) (q : Point) (ps : List Shown) : Type 0 where
-  header : q.header ≡ lock.header
+  header : q.base.header ≡ lock.header
   lawful : IsLawful q
   seen : All (λ p. Before p.seen q) ps
   agree : All (λ p. Agrees q p.seat p.mine) ps
   each : (i : ℕ) → i < lock.header.seats → passes_of i ps ≡ 1
-  calls : shares ps ≡ ended_calls q.list
+  calls : shares ps ≡ calls (start_at q) q.entries
 
 ends : (g : _) (c : goal.After-len-few g) →
     Ends c.args.self (left_by c.args.self c.into_history-history.result) c.args.passes.items
@@ -99,12 +99,17 @@ ends g c =
     let core = point_of c.close-kept.result.core.value in
     let q : Point = left_by c.args.self c.into_history-history.result in
     let is : core ≡ q =
-    shown_as core c.args.self.header c.into_history-history.result.entries
-    (c.close-kept.ensures.header ∙ ap (λ (l : LockId). l.header) c.self.view_is)
+    shown_as core (base_on c.args.self.header c.into_history-history.result)
+    c.into_history-history.result.entries
+    (ap (λ (v : CoreView). v.base) (sym c.into_core-core.ensures)
+    ∙ sym (ap (or_opening c.args.self.header) c.into_history-history.ensures.base))
     (ap (λ (v : CoreView). v.entries) (sym c.into_core-core.ensures) ∙ sym
     c.into_history-history.ensures.entries) in
+    let header : q.base.header ≡ c.args.self.header =
+    ap (λ (z : Point). z.base.header) (sym is) ∙ sym (header_shown core)
+    ∙ c.close-kept.ensures.header ∙ ap (λ (l : LockId). l.header) c.self.view_is in
     let logs : c.loop-pass.joined.logs ≡ logs_of ps = i.2.2 ∙ ap logs_of (sym all) in
-    let lawful : IsLawful q = subst IsLawful is c.close-kept.ensures.fact in
+    let lawful : IsLawful q = subst IsLawful is c.close-kept.ensures.fact.lawful in
     let seen : All (λ (p : Shown). Before p.seen c.loop-pass.joined.seen) ps =
     subst (λ (l : List Shown). All (λ p. Before p.seen c.loop-pass.joined.seen) l) (sym all) i.2.3 in
     let agree : All (λ (p : Shown). Agrees q p.seat p.mine) ps =
@@ -120,22 +125,26 @@ ends g c =
     each_once c.args.self.header.seats ps (seats_below c.args.self ps true c.requires.is_of)
     (none_twice ps (subst AreDistinct logs c.close-kept.ensures.distinct))
     (omega (arith, many, seats)) in record {
-      header = refl;
+      header = header;
       lawful = lawful;
       seen = all_seen c.loop-pass.joined.seen q ps
           (subst (λ (z : Point). Before c.loop-pass.joined.seen z) is c.close-kept.ensures.begins) seen;
       agree = agree;
       each = each;
-      calls = shares_are_calls (opening c.args.self.header) q ps lawful.seated each true agree;
+      calls = shares_are_calls q ps lawful.seated
+          (subst (λ (k : Header). All (λ (p : Shown). p.seat < k.seats) ps) (sym header)
+          (seats_below c.args.self ps true c.requires.is_of))
+          (subst (λ (k : Header). (i : ℕ) → i < k.seats → passes_of i ps ≡ 1) (sym header) each) true agree;
     }
 
 sum_is : (g : _) (c : goal.After-len-few g) → c.merge_shares-share.result ≡
-    ended_calls c.into_history-history.result.entries
+    calls (start_on c.args.self.header c.into_history-history.result) c.into_history-history.result.entries
 sum_is g c = c.merge_shares-share.ensures.sum ∙ (ap shares c.deref.ensures.value ∙ (ends g c).calls)
 
 pub overflow_cast-result : goal.overflow_cast-result
 overflow_cast-result g c =
-    let sum = sum_is g c in let most = calls_few c.into_history-history.result.entries in
+    let sum = sum_is g c in
+    let most = all_calls_few (left_by c.args.self c.into_history-history.result) (ends g c).lawful in
     let v = c.len-few.ensures.value in let f = c.len-few.ensures.few in
     let small : c.merge_shares-share.result < 2 ^ 64 = omega (arith, sum, most, v, f) in search rules
 
@@ -152,10 +161,30 @@ returns-clause-cap g c =
     ap (λ (v : CoreView). v.header) c.into_core-core.ensures in
     c.into_history-history.ensures.cap
     ∙ ap (λ (k : Header). k.cap)
-    (is ∙ (sym (header_shown (point_of c.close-kept.result.core.value)) ∙ header))
+    (is ∙ (sym c.close-kept.ensures.fact.header ∙ sym (header_shown (point_of c.close-kept.result.core.value))
+    ∙ header))
 
 pub returns-clause-each : goal.returns-clause-each
 returns-clause-each g c = (ends g c).each
 
 pub returns-clause-calls : goal.returns-clause-calls
 returns-clause-calls g c = sum_is g c
+
+has_base : (g : _) (c : goal.After-len-few g) → IsBased c.args.self c.into_history-history.result
+has_base g c =
+    let some : c.into_history-history.result.base
+    ≡ Some (base_on c.args.self.header c.into_history-history.result) =
+    c.into_history-history.ensures.base
+    ∙ ap Some (sym (ap (or_opening c.args.self.header) c.into_history-history.ensures.base)) in
+    (some, (ends g c).header)
+
+pub returns-clause-base : goal.returns-clause-base
+returns-clause-base g c = has_base g c
+
+pub returns-clause-good : goal.returns-clause-good
+returns-clause-good g c =
+    let is = has_base g c in
+    subst (IsBasedWell c.args.self.header) (sym is.0) (is.1, (ends g c).lawful.may_fold.can.good)
+
+pub returns-clause-seated : goal.returns-clause-seated
+returns-clause-seated g c = (ends g c).lawful.seated

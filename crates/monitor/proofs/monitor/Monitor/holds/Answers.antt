@@ -1,5 +1,6 @@
 use Rattle.std.proofs.Common.{◌<◌, ap, subst, sym}
 use Rattle.frame.specs.Core.{CoreView}
+use Rattle.history.specs.declared.header.Header.{Header}
 use Rattle.word_lock.specs.Held.{held_ticket}
 use Rattle.word_lock.specs.Ticket.{LockId}
 use Rattle.word_lock.proofs.PointLaws.{follows_same}
@@ -12,8 +13,9 @@ use Rattle.monitor.proofs.monitor.Monitor.holds.Goals as goal
 pub holds-holds-requires : goal.holds-holds-requires
 holds-holds-requires g c =
     subst (λ (v : CoreView). c.args.seat < v.header.seats) (sym c.core.ensures)
+    (subst (λ (k : Header). c.args.seat < k.seats) c.lock-held.ensures.fact.header
     (seat_below (point_of c.lock-held.result.value.core.value) _ c.args.self.now.header c.args.seat
-    c.lock-held.ensures.header (ap (λ (l : LockId). l.header) c.self.view_is) c.requires.seat)
+    c.lock-held.ensures.header (ap (λ (l : LockId). l.header) c.self.view_is) c.requires.seat))
 
 pub unlock-requires-clause-follows : goal.unlock-requires-clause-follows
 unlock-requires-clause-follows g c =
@@ -31,7 +33,7 @@ looks g c = record {
   was = c.pass.invariant;
   begins = c.lock-held.ensures.begins;
   entries = c.lock-held.ensures.entries;
-  lawful = c.lock-held.ensures.fact;
+  lawful = c.lock-held.ensures.fact.lawful;
 }
 
 pub invariant_of-pass : goal.invariant_of-pass

@@ -1,33 +1,39 @@
-use Rattle.std.proofs.Common.{◌≡◌, ◌∙◌, sym, ap}
+use Rattle.std.proofs.Common.{◌≡◌, ◌<◌, ◌∙◌, refl, sym, ap, subst}
+use Rattle.history.specs.declared.header.Header.{Header}
 use Rattle.word_lock.specs.Held.{held_ticket}
 use Rattle.monitor.specs.Shown.{Shown}
 use Rattle.word_lock.specs.Ticket.{LockId}
 use Rattle.word_lock.proofs.Sections.{follows_taken}
-use Rattle.monitor.specs.Lawful.{point_of}
-use Rattle.monitor.proofs.Sections.{Section, seat_below, follows_step, share_few, section_pass, section_true, section_step, as_step_now}
+use Rattle.monitor.specs.Lawful.{beside_of, point_of}
+use Rattle.monitor.proofs.Sections.{answered_shown, owed_shown, Section, seat_below, follows_step, share_few, section_pass, section_true, section_step, as_step_now}
 use Rattle.monitor.proofs.monitor.Monitor.step_now.Goals as goal
 
 pub step-answer-requires : goal.step-answer-requires
 step-answer-requires g c =
     let of : c.self.inside.lock ≡ c.pass.inside.token.lock =
     c.self.view_is ∙ (sym c.requires.is_of ∙ ap (λ (s : Shown). s.lock) (sym c.pass.view_is)) in
-    seat_below (point_of c.in-Some.held.value.core.value) _ c.pass.inside.token.lock.header c.pass.inside.seat
-    c.in-Some.ensures.header (ap (λ (l : LockId). l.header) of)
-    c.pass.invariant.below
+    subst (λ (k : Header). c.pass.inside.seat < k.seats) c.in-Some.ensures.fact.header
+    (seat_below (point_of c.in-Some.held.value.core.value) _ c.pass.inside.token.lock.header
+    c.pass.inside.seat
+    c.in-Some.ensures.header (ap (λ (l : LockId). l.header) of) c.pass.invariant.below)
 
 pub unlock-requires-clause-follows : goal.unlock-requires-clause-follows
 unlock-requires-clause-follows g c =
     follows_taken _ c.pass.inside.token _ _ c.pass.inside.seat c.in-Some.ensures.taken.1
     c.pass.invariant.seat_is
     (follows_step c.pass.inside.seat (point_of c.in-Some.held.value.core.value)
-    (point_of c.step-answer.new.self.core.value)
-    c.in-Some.held.value.core.value.places c.step-answer.new.self.core.value.places c.args.step
-    c.step-answer.result c.step-answer.ensures.answered)
+    (point_of c.step-answer.new.self.core.value) _ _ c.args.step c.step-answer.result
+    (answered_shown c.in-Some.held.value.core.value c.step-answer.new.self.core.value c.pass.inside.seat
+    c.args.step
+    c.step-answer.result c.in-Some.ensures.fact c.step-answer.ensures.kept c.step-answer.ensures.answered))
 
 pub share_behind-pass-inside-requires : goal.share_behind-pass-inside-requires
 share_behind-pass-inside-requires g c =
-    share_few c.pass.inside.token.seen c.pass.inside.seat _ c.pass.inside.share c.pass.invariant.agrees
-    c.pass.invariant.lawful.short c.pass.invariant.counted
+    let i = c.pass.invariant in
+    share_few c.pass.inside.token.seen c.pass.inside.seat _ c.pass.inside.share i.agrees i.lawful
+    (seat_below c.pass.inside.token.seen _ c.pass.inside.token.lock.header c.pass.inside.seat i.header refl
+    i.below)
+    i.counted
 
 went : (g : _) (c : goal.After-done g) → Section c.pass.inside.token (held_ticket c.in-Some.held)
     c.unlock.new.token
@@ -40,11 +46,13 @@ went g c = record {
   was = c.pass.invariant;
   begins = c.in-Some.ensures.begins;
   entries = c.in-Some.ensures.entries;
-  places = c.in-Some.held.value.core.value.places;
-  places_left = c.step-answer.new.self.core.value.places;
-  answered = c.step-answer.ensures.answered;
-  found = c.in-Some.ensures.fact;
-  lawful = c.step-answer.ensures.lawful;
+  beside = beside_of c.in-Some.held.value.core.value;
+  beside_left = beside_of c.step-answer.new.self.core.value;
+  answered = answered_shown c.in-Some.held.value.core.value c.step-answer.new.self.core.value
+      c.pass.inside.seat c.args.step
+      c.step-answer.result c.in-Some.ensures.fact c.step-answer.ensures.kept c.step-answer.ensures.answered;
+  found = c.in-Some.ensures.fact.lawful;
+  lawful = c.step-answer.ensures.kept.lawful;
 }
 
 pub invariant_of-pass-2 : goal.invariant_of-pass-2
@@ -53,7 +61,10 @@ invariant_of-pass-2 g c = section_pass _ _ _ _ _ _ _ _ _ (went g c) _ c.share_be
 pub returns-clause-stepped : goal.returns-clause-stepped
 returns-clause-stepped g c =
     as_step_now _ _ c.args.step c.step-answer.result _ c.done.ensures
-    (rw (← c.pass.view_is) (section_step _ _ _ _ _ _ _ _ _ (went g c) _ c.step-answer.ensures.owed))
+    (rw (← c.pass.view_is) (section_step _ _ _ _ _ _ _ _ _ (went g c) _
+    (owed_shown c.in-Some.held.value.core.value c.pass.inside.seat c.args.step c.step-answer.result
+    c.in-Some.ensures.fact
+    c.step-answer.ensures.owed)))
 
 pub returns-clause-shows : goal.returns-clause-shows
 returns-clause-shows g c = section_true _ _ _ _ _ _ _ _ _ (went g c) _ c.share_behind-pass-inside.ensures

@@ -2,8 +2,9 @@ use Rattle.std.proofs.Common.{ap, sym, ◌∙◌, subst, refl, List, [], ◌∷�
 use Rattle.std.specs.Prelude.{reverse}
 use Rattle.std.proofs.lemmas.List.{reverse-append}
 use Rattle.history.specs.declared.entry.Entry.{Entry}
-use Rattle.word_lock.specs.declared.point.Point.{Point}
+use Rattle.history.specs.declared.point.Point.{Point}
 use Rattle.word_lock.specs.Point.{Follows}
+use Rattle.history.specs.Base.{opening_base}
 use Rattle.word_lock.proofs.PointLaws.{follows_same, follows_push}
 use Rattle.test_lock.proofs.notes.Notes.add.Goals as goal
 
@@ -14,6 +15,6 @@ returns c =
 
 pub returns-in_err-push : goal.returns-in_err-push
 returns-in_err-push c = let old = c.args.self.now in
-    let p : Point = record { header = old.header; list = reverse old.list.items } in
-    subst (λ (l : List Entry). Follows c.args.entry.seat p record { header = old.header; list = reverse l })
+    let p : Point = record { base = opening_base old.header; entries = reverse old.list.items } in
+    subst (λ (l : List Entry). Follows c.args.entry.seat p (record { base = p.base; entries = reverse l }))
     (sym c.in_err-push.ensures.items) (follows_same c.args.entry.seat p)

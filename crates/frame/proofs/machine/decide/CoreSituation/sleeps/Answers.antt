@@ -1,10 +1,12 @@
 use Rattle.std.proofs.Common.{◌≡◌, ◌∙◌, List, ap, subst, sym}
 use Rattle.history.specs.declared.entry.Entry.{Entry}
 use Rattle.history.specs.Sleepers.{sleeps_below}
-use Rattle.history.specs.Start.{Start, opening}
-use Rattle.history.proofs.OneWait.{waits}
+use Rattle.history.specs.Entries.{start_on}
+use Rattle.history.specs.Start.{Start}
+use Rattle.deciding.proofs.Bounds.{waits_by}
 use Rattle.frame.specs.Core.{CoreView, start_of}
 use Rattle.condition_queue.proofs.Movable.{sleeps_is}
+use Rattle.frame.proofs.Stepping.{history_of}
 use Rattle.frame.proofs.machine.decide.CoreSituation.sleeps.Goals as goal
 
 pub returns : goal.returns
@@ -13,11 +15,13 @@ returns g c s h st =
     let i = c.self.invariant in
     let seat = c.args.seat in
     let P : CoreView → Type 0 =
-    λ v. c.is_some.result ≡ sleeps_below v.header.conditions (start_of v) v.entries seat in
+    λ v. c.is_some.result ≡ sleeps_below (start_of v).header.conditions (start_of v) v.entries seat in
     let v = c.args.self.now in
     subst P c.self.view_is
     (c.is_some.ensures
-    ∙ sleeps_is (opening a.header) a.history.entries seat a.waiters c.sleeper_of.result
-    (waits a.header a.history.entries i.legal) i.waiting.sleepers c.sleeper_of.ensures.listed)
-    ∙ ap (λ (x : List Entry). sleeps_below v.header.conditions (start_of v) x seat) (sym st.entries)
+    ∙ sleeps_is (start_on a.header a.history) a.history.entries seat a.waiters c.sleeper_of.result
+    (waits_by (start_on a.header a.history) a.history.entries (history_of i)) i.waiting.sleepers
+    c.sleeper_of.ensures.listed)
+    ∙ ap (λ (x : List Entry). sleeps_below (start_of v).header.conditions (start_of v) x seat) (sym
+    st.entries)
     ∙ ap (λ (x : Start). sleeps_below x.header.conditions x h seat) (sym st.start)

@@ -1,0 +1,42 @@
+"""Crates whose wrong bodies were all refused before on this machine, by the checksum of all that a trial reads.
+
+rt ci keeps what it proved in the same way: beside the kit, outside each checkout. A mark is an empty file whose
+name is the sum of the kit, of these programs, of the crate, of its wrong bodies, and of all crates below it. So
+it never goes stale, and a change in any of them has the crate tried again.
+"""
+import glob
+import hashlib
+import os
+
+from kit import rt
+
+FOLDER = f"{rt.STORE}-wrong-bodies"
+
+
+def sum_of(crate):
+    """Returns the checksum of all that the trial of a crate's wrong bodies reads."""
+    made = hashlib.sha256(rt.stamp_of(crate, {}).encode())
+    programs = sorted(glob.glob(f"{os.path.dirname(os.path.realpath(__file__))}/*.py"))
+    for path in [*programs, *sorted(rt.edits_of(crate)[0])]:
+        with open(path, "rb") as it:
+            made.update(repr((os.path.basename(path), it.read())).encode())
+    return made.hexdigest()
+
+
+def mark_of(crate):
+    return f"{FOLDER}/{crate.name}-{sum_of(crate)}"
+
+
+def are_refused(crate):
+    """Whether all of a crate's wrong bodies were refused before, as it stands now."""
+    return os.path.exists(mark_of(crate))
+
+
+def keep(mark):
+    """Notes that all wrong bodies of a mark were refused. A machine that allows no such file keeps nothing."""
+    try:
+        os.makedirs(FOLDER, 0o700, exist_ok=True)
+        with open(mark, "w", encoding="utf-8"):
+            pass
+    except OSError:
+        pass

@@ -1,0 +1,59 @@
+"""Tests of what is kept of earlier trials: a mark stands for one state of a crate alone."""
+import os
+import tempfile
+import unittest
+from unittest import mock
+
+import kept
+from kit import rt
+
+EDIT = "file: src/lib.rt\nold: 1\nnew: 2\n"
+
+
+class Marks(unittest.TestCase):
+    def setUp(self):
+        room = tempfile.TemporaryDirectory()
+        self.addCleanup(room.cleanup)
+        self.root = room.name
+        os.makedirs(f"{self.root}/.git")
+        self.write("crates.txt", "low:\nhigh: low\n")
+        self.write("crates/low/src/lib.rt", "pub fn one() -> u32 { 1 }\n")
+        self.write("crates/high/src/lib.rt", "pub fn other() -> u32 { 1 }\n")
+        self.write("crates/high/must-fail/other.is_two.edit", EDIT)
+        folder = mock.patch.object(kept, "FOLDER", f"{self.root}/kept")
+        folder.start()
+        self.addCleanup(folder.stop)
+
+    def write(self, path, text):
+        os.makedirs(os.path.dirname(f"{self.root}/{path}"), exist_ok=True)
+        with open(f"{self.root}/{path}", "w", encoding="utf-8") as it:
+            it.write(text)
+
+    def high(self):
+        at = os.getcwd()
+        os.chdir(self.root)
+        try:
+            return [it for it in rt.rtlib.crates_below(self.root) if it.name == "high"][0]
+        finally:
+            os.chdir(at)
+
+    def test_what_was_kept_is_found_while_nothing_changes(self):
+        self.assertFalse(kept.are_refused(self.high()))
+        kept.keep(kept.mark_of(self.high()))
+        self.assertTrue(kept.are_refused(self.high()))
+
+    def test_a_change_of_a_wrong_body_of_the_crate_or_below_it_has_it_tried_again(self):
+        changes = {
+            "crates/high/must-fail/other.is_two.edit": EDIT.replace("2", "3"),
+            "crates/high/must-fail/other.is_four.edit": EDIT.replace("2", "4"),
+            "crates/high/src/lib.rt": "pub fn other() -> u32 { 1 + 0 }\n",
+            "crates/low/src/lib.rt": "pub fn one() -> u32 { 1 + 0 }\n",
+        }
+        for path, text in changes.items():
+            kept.keep(kept.mark_of(self.high()))
+            self.write(path, text)
+            self.assertFalse(kept.are_refused(self.high()), path)
+
+
+if __name__ == "__main__":
+    unittest.main()

@@ -1,0 +1,15 @@
+use Rattle.std.proofs.Common.{◌≡◌, ℕ, drop, length, get_or}
+use Rattle.deciding.specs.Sleep.{sleep_of}
+use Rattle.history.specs.Base.{sleep_on}
+use Rattle.audit.specs.Waiting.{never_slept, or_kept}
+use Rattle.audit.proofs.waiting_base.save_on.Given as goal
+
+-- the sleeps of those behind are kept
+abbrev pub invariant-loop-place : goal.invariant-loop-place
+invariant-loop-place l =
+    record {
+      seats : length l.last_sleep.items ≡ length l.initial.last_sleep.items;
+      slept : (i : ℕ) → sleep_of (get_or l.last_sleep.items i never_slept)
+          ≡ or_kept (sleep_on l.condition i (drop l.place l.sleepers))
+          (sleep_of (get_or l.initial.last_sleep.items i never_slept));
+    }

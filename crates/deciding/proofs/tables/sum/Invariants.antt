@@ -1,0 +1,12 @@
+use Rattle.std.proofs.Common.{◌≡◌, ◌≤◌, ◌*◌, get_or}
+use Rattle.history.specs.Counts.{total}
+use Rattle.history.specs.GoodBase.{most_permits}
+use Rattle.deciding.proofs.tables.sum.Given as goal
+
+-- those passed are summed
+abbrev pub invariant-loop-number : goal.invariant-loop-number
+invariant-loop-number l =
+    record {
+      summed : l.sum ≡ total l.number-index (λ i. get_or l.numbers i 0);
+      few : l.sum ≤ most_permits * l.number-index;
+    }

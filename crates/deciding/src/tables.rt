@@ -1,0 +1,45 @@
+//! Tables of what the seats hold, by mode.
+
+ghost use Rattle.std.specs.Prelude.{◌≡◌, ℕ, ◌<◌, ◌≤◌, ◌^◌, IfOk, length, map, slice_index};
+ghost use Rattle.history.specs.Base.{holds_of};
+ghost use Rattle.history.specs.Counts.{total};
+ghost use Rattle.history.specs.GoodBase.{most_permits};
+
+use history::base::SeatBase;
+use history::entry::Mode;
+use std::alloc::{AllocError, Global};
+
+/// What each seat of a base holds in a mode.
+pub fn held_in(alloc: Global, seats: &[SeatBase], mode: Mode) -> Result<Vec<u128>, AllocError>
+    ensures { IfOk result (λ held. held.items ≡ map (λ has. holds_of has mode) seats.now) }
+{
+    let mut held = Vec::with_capacity(alloc, seats.len())?;
+    for has in seats {
+        held.push_reserved(holds_of(*has, mode));
+    }
+    Ok(held)
+}
+
+/// What a seat holds in a mode.
+fn holds_of(has: SeatBase, mode: Mode) -> u128
+    ensures { result ≡ holds_of has mode }
+{
+    match mode {
+        Mode::X => u128::from(has.exclusive),
+        Mode::S => has.shared,
+    }
+}
+
+/// The sum of what the seats hold.
+pub fn sum(numbers: &[u128]) -> u128
+    requires each { (i : ℕ) → slice_index numbers.now i ≤ most_permits }
+    requires few { length numbers.now ≤ 65536 }
+    ensures sum { result ≡ total (length numbers.now) (slice_index numbers.now) }
+    ensures few { result < 2 ^ 127 }
+{
+    let mut sum: u128 = 0;
+    for number in numbers {
+        sum += *number;
+    }
+    sum
+}

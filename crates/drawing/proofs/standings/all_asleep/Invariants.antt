@@ -1,0 +1,8 @@
+use Rattle.std.proofs.Common.{◌≡◌}
+use Rattle.history.specs.Base.{each_below}
+use Rattle.drawing.specs.Standings.{sleeping_seats}
+use Rattle.drawing.proofs.standings.all_asleep.Given as goal
+
+-- those on the conditions passed
+abbrev pub invariant-loop-condition : goal.invariant-loop-condition
+invariant-loop-condition l = l.asleep.items ≡ each_below l.condition (sleeping_seats l.base)

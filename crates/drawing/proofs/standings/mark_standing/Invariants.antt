@@ -1,0 +1,14 @@
+use Rattle.std.proofs.Common.{◌≡◌, ℕ, ◌||◌, false, drop, length, map, get_or}
+use Rattle.history.specs.Line.{place_of}
+use Rattle.drawing.specs.Levels.{is_there}
+use Rattle.drawing.proofs.standings.mark_standing.Given as goal
+
+-- those behind stand in line
+abbrev pub invariant-loop-place : goal.invariant-loop-place
+invariant-loop-place l =
+    record {
+      seats : length l.in_line.items ≡ length l.initial.in_line.items;
+      marked : (i : ℕ) → get_or l.in_line.items i false
+          ≡ (get_or l.initial.in_line.items i false
+          || is_there (place_of i (map (λ p. p.who) (drop l.place l.line))));
+    }

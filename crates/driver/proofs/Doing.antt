@@ -1,0 +1,124 @@
+-- Acts of a core, one after another, and what is kept of them.
+use Rattle.std.proofs.Common.{◌≡◌, inr, ⊎_elim, ℕ, ◌+◌, ◌≤◌, false, ltb, List, [], ◌∷◌, ◌++◌, All, length, reverse, Result, Ok, Err, ap, sym, subst, ◌∙◌, arith, append-nil}
+use Rattle.std.specs.List.{AllByRecursion}
+use Rattle.std.proofs.lemmas.Bool.{lt-ltb, le-ltb, cases_lt}
+use Rattle.std.proofs.lemmas.List.{length-append, length-reverse, reverse-append, reverse-reverse}
+use Rattle.std.proofs.lemmas.List.Elements.{All-append, All-from_recursion, recursion_from_All}
+use Rattle.frame.specs.declared.acts.Act.{Act}
+use Rattle.frame.specs.declared.acts.Act.TheVariants.{Do, Trim}
+use Rattle.frame.specs.Acts.{IsOfSeats}
+use Rattle.frame.specs.Core.{CoreView, IsTrimmed}
+use Rattle.history.specs.declared.entry.Entry.{Entry}
+use Rattle.history.specs.declared.fault.Fault.{Fault}
+use Rattle.history.specs.declared.header.Header.{Header}
+use Rattle.history.specs.Base.{Base, based, folded}
+use Rattle.history.specs.Entries.{ended_calls}
+use Rattle.history.specs.EntryWords.{IsSpelt}
+use Rattle.history.specs.GoodBase.{IsBaseOf, most_folded}
+use Rattle.history.specs.Legal.{calls}
+use Rattle.history.specs.Point.{CanFold}
+use Rattle.history.proofs.Folding.{fold_alike}
+use Rattle.history.proofs.GoodBases.{good_waits}
+use Rattle.history.proofs.Lists.{calls-ended, ended_append}
+use Rattle.history_text.proofs.Lists.{each-reverse}
+use Rattle.history_text.proofs.Spelt.{all_spelt_on}
+use Rattle.steps.specs.declared.header.StepsHeader.{StepsHeader}
+use Rattle.steps.specs.StepLines.{IsAct}
+use Rattle.driver.proofs.EntryLines.{ended_calls-reverse}
+use Rattle.driver.specs.Answers.{AreFolded}
+use Rattle.driver.specs.Logged.{gone}
+use Rattle.driver.proofs.Told.{IsTrimOf, base_behind, list_behind}
+
+-- an act under a header is of one of its seats
+pub of_seats : (h : StepsHeader) (a : Act) → IsAct h a → IsOfSeats h.header.seats a
+of_seats h (Do i step) is = is.0
+of_seats h Trim is = tt
+
+-- ---- what a core's trim leaves
+
+pub record HasTrimmed (old : CoreView) (r : Result ℕ Fault) (new : CoreView) : Type 0 where
+  pub is : IsTrimOf r old.base old.entries
+  pub base : new.base ≡ base_behind r old.base old.entries
+  pub entries : new.entries ≡ list_behind r old.entries
+  pub header : new.header ≡ old.header
+
+pub has_trimmed : (old new : CoreView) (r : Result ℕ Fault) → IsTrimmed old r new → HasTrimmed old r new
+has_trimmed old new (Ok count) t =
+    record {
+      is = (t.1, few);
+      base = ap (λ (v : CoreView). v.base) t.2;
+      entries = ap (λ (v : CoreView). v.entries) t.2;
+      header = ap (λ (v : CoreView). v.header) t.2;
+    }
+  where
+    few : ltb most_folded (old.base.entries + length old.entries) ≡ false
+    few =
+        ⊎_elim (λ over. absurd (t.0 over)) (λ le. le-ltb _ _ le)
+        (cases_lt most_folded (old.base.entries + length old.entries))
+has_trimmed old new (Err fault) t =
+    record {
+      is = (t.1, lt-ltb _ _ t.0);
+      base = ap (λ (v : CoreView). v.base) t.2;
+      entries = ap (λ (v : CoreView). v.entries) t.2;
+      header = ap (λ (v : CoreView). v.header) t.2;
+    }
+
+-- ---- all entries, those that were folded among them
+
+pub all_counted : (past h : List Entry) → length (h ++ reverse past) ≡ length past + length h
+all_counted past h = omega (arith, length-append h (reverse past), length-reverse past)
+
+pub all_in_order : (past h : List Entry) → reverse (h ++ reverse past) ≡ past ++ reverse h
+all_in_order past h = reverse-append h (reverse past)
+    ∙ ap (λ (es : List Entry). es ++ reverse h) (reverse-reverse past)
+
+-- a trim leaves them
+pub all_stay : (r : Result ℕ Fault) (past h : List Entry) →
+    list_behind r h ++ reverse (past ++ gone r h) ≡ h ++ reverse past
+all_stay (Ok count) past h = reverse-append past (reverse h)
+    ∙ ap (λ (es : List Entry). es ++ reverse past) (reverse-reverse h)
+all_stay (Err fault) past h = ap (λ (es : List Entry). h ++ reverse es) (append-nil past)
+
+pub folded_counted : (r : Result ℕ Fault) (b : Base) (past h : List Entry) → b.entries ≡ length past →
+    (base_behind r b h).entries ≡ length (past ++ gone r h)
+folded_counted (Ok count) b past h same =
+    omega (arith, same, length-append past (reverse h), length-reverse h)
+folded_counted (Err fault) b past h same = same ∙ ap length (sym (append-nil past))
+
+pub folded_calls : (r : Result ℕ Fault) (b : Base) (past h : List Entry) → CanFold b h →
+    calls (based b) [] ≡ ended_calls past →
+    calls (based (base_behind r b h)) [] ≡ ended_calls (past ++ gone r h)
+folded_calls (Ok count) b past h can same =
+    let alike : calls (based b) h ≡ calls (based (folded b h)) [] =
+    (fold_alike b h can.good can.legal can.seated).ended in
+    sym alike ∙ calls-ended (based b) h ∙ ap (λ (n : ℕ). n + ended_calls h) same
+    ∙ ap (λ (n : ℕ). ended_calls past + n) (sym (ended_calls-reverse h))
+    ∙ sym (ended_append past (reverse h))
+folded_calls (Err fault) b past h can same = same ∙ ap ended_calls (sym (append-nil past))
+
+-- ---- all entries have lines
+
+pub spelt_on : (b : Base) (h : List Entry) → CanFold b h → All IsSpelt (reverse h)
+spelt_on b h can =
+    All-from_recursion IsSpelt (reverse h)
+    (each-reverse IsSpelt h (all_spelt_on (based b) h (good_waits b can.good) can.legal))
+
+pub spelt_more : (r : Result ℕ Fault) (b : Base) (past h : List Entry) → CanFold b h → All IsSpelt past →
+    All IsSpelt (past ++ gone r h)
+spelt_more (Ok count) b past h can is = All-append IsSpelt past (reverse h) is (spelt_on b h can)
+spelt_more (Err fault) b past h can is = subst (All IsSpelt) (sym (append-nil past)) is
+
+behind_each : (P : Entry → Type 0) (xs ys : List Entry) → AllByRecursion P (xs ++ ys) → AllByRecursion P ys
+behind_each P [] ys p = p
+behind_each P (x ∷ xs) ys p = behind_each P xs ys p.1
+
+-- the base that entries were folded into
+pub base_of_all : (k : Header) (past : List Entry) (b : Base) → AreFolded k past b → 1 ≤ length past →
+    IsBaseOf k b
+base_of_all k past b are some = (are.header, inr (omega (arith, are.entries, some), are.good))
+
+-- those of the list alone
+pub spelt_left : (past h : List Entry) → All IsSpelt (past ++ reverse h) → All IsSpelt (reverse h)
+spelt_left past h is =
+    All-from_recursion IsSpelt (reverse h)
+    (behind_each IsSpelt past (reverse h) (recursion_from_All IsSpelt (past ++ reverse h) is))

@@ -1,0 +1,306 @@
+-- The entries of a history text ahead of a reader's window.
+use Rattle.std.proofs.Common.{◌≡◌, ℕ, ◌+◌, ◌-◌, ◌<◌, ◌≤◌, List, [], ◌∷◌, ◌++◌, length, drop, Option, None, Some, Result, Ok, Err, IfSome, refl, sym, ap, subst, ◌∙◌, arith, append_assoc, append-nil}
+use Rattle.std.proofs.lemmas.Bool.{false≢true}
+use Rattle.std.proofs.lemmas.List.{append_cancel_left, length-append}
+use Rattle.std.specs.Result.{IsErr, IsErrAnd, IfErr}
+use Rattle.std.specs.Io.KnownBytes.{Keeps, IsAtEnd, prepend_known}
+use Rattle.history.specs.declared.entry.Entry.{Entry}
+use Rattle.history.specs.declared.header.Header.{Header}
+use Rattle.history.specs.Base.{Base}
+use Rattle.history.specs.Text.{ended}
+use Rattle.line_text.specs.declared.fault.TextFault.{TextFault}
+use Rattle.line_text.specs.declared.fault.TextFault.TheVariants.{CutShort}
+use Rattle.line_text.specs.UnderWay.{SoFar}
+use Rattle.line_text.proofs.Growing.{broken}
+use Rattle.line_text.proofs.LongLines.{uncut}
+use Rattle.line_text.proofs.UnderWay.{last_bytes}
+use Rattle.history_text.specs.declared.base_line.BaseLine.{BaseLine}
+use Rattle.history_text.specs.declared.place.Head.{Head}
+use Rattle.history_text.specs.declared.place.Place.{Place}
+use Rattle.history_text.specs.BaseLines.{IsBaseLine, base_line}
+use Rattle.history_text.specs.EntryLines.{entry_line}
+use Rattle.history_text.specs.HistoryLines.{Entered, Line, Reached, base_of, head_of, lines_on, reached}
+use Rattle.history_text.specs.HistoryText.{IsHistoryText, history_form, lines_so_far}
+use Rattle.history_text.specs.NextLine.{AreEntriesRead, IsEntryBehind, IsPlacedAt, LacksBaseLine, behind}
+use Rattle.history_text.proofs.BaseLineLemmas.{base_short}
+use Rattle.history_text.proofs.EntriesRead.{all_known, read_all, read_one}
+use Rattle.history_text.proofs.HistoryLawful.{lawful}
+use Rattle.history_text.proofs.ShortEntries.{short, waiting_short}
+use Rattle.streams.specs.declared.stream_fault.StreamFault.{StreamFault}
+use Rattle.streams.specs.declared.stream_fault.StreamFault.TheVariants.{Text, ReadFailed, WriteFailed, Memory}
+use Rattle.streams.specs.Streams.{IsReadNoFurther}
+use Rattle.streams.specs.Whole.{IsOfReading, IsTooLong}
+use Rattle.streams.specs.Window.{IsAhead, StaysAhead}
+use Rattle.driver.specs.BaseReader.{EntriesBehind}
+use Rattle.driver.specs.HistoryReader.{EntriesHeld, EntriesRead, IsEntryNext, IsFaultBehindBase, base_held}
+use Rattle.driver.specs.TextReader.{IsBehindEnd, IsFaultOf, IsPartLeft, reader_at}
+use Rattle.driver.proofs.ReadingAhead.{all_kept, ended_here, fault_ahead, left_of, no_further, reading_fault}
+
+-- ---- the lines of a base
+
+pub base_line_short : (x : BaseLine) → IsBaseLine x → length (base_line x) < 256
+base_line_short x is = base_short x is (λ p fits. waiting_short p p.who.back fits.1)
+
+-- where what is ahead begins with no line of a base, no window on it does
+pub front_lacks : (window more : List ℕ) → LacksBaseLine (window ++ more) → LacksBaseLine window
+front_lacks window more lacks = λ line after x parts whole is.
+    lacks line (after ++ more) x
+    (ap (λ (t : List ℕ). t ++ more) parts ∙ append_assoc line (10 ∷ after) more) whole is
+
+pub window_lacks : (ahead window ys : List ℕ) → IsAhead ahead window ys → LacksBaseLine ahead →
+    LacksBaseLine window
+window_lacks ahead window ys s lacks = λ line after x parts whole is same.
+    let few : length line < 256 = omega (arith, ap length same, base_line_short x is) in
+    let all = uncut 256 s.line s.rest line after s.one_line few (sym s.seen ∙ parts) in
+    let there : s.line ++ s.rest ≡ line ++ 10 ∷ after =
+    ap (λ (t : List ℕ). t ++ s.rest) (sym all) ∙ sym s.seen ∙ parts in
+    lacks line (after ++ ys) x
+    (s.parts ∙ sym (append_assoc s.line s.rest ys) ∙ ap (λ (t : List ℕ). t ++ ys) there
+    ∙ append_assoc line (10 ∷ after) ys) whole is same
+
+-- ---- where a reader stands
+
+placed_on : (h : Head) (s : Reached) (p : Place) (ahead window : List ℕ) →
+    (LacksBaseLine ahead → LacksBaseLine window) → IsPlacedAt h s p ahead → IsPlacedAt h s p window
+placed_on h s p ahead window on placed =
+    record {
+      whole = placed.whole;
+      folded = placed.folded;
+      count = placed.count;
+      calls = placed.calls;
+      behind = λ based none. on (placed.behind based none);
+    }
+
+-- what is known of the lines that were read
+abbrev here : Head → Base → List Entry → Place → SoFar Head Line
+here h b es p =
+    lines_so_far h (base_of h.header (lines_on b es)) (reached (lines_on b es)) (p.lines + p.count)
+
+module _ (h : Head) (b : Base) (es : List Entry) (p : Place) where
+  pub entries_kept : (text : Option (List ℕ)) (old new : List ℕ) (left after : Option (List ℕ)) →
+      Keeps (prepend_known old left) (prepend_known new after) → EntriesBehind text h b es p old left →
+      EntriesBehind text h b es p new after
+  entries_kept None old new left after keeps were = tt
+  entries_kept (Some t) old new None after keeps were = absurd were
+  entries_kept (Some t) old new (Some xs) None keeps were = absurd keeps
+  entries_kept (Some t) old new (Some xs) (Some ys) keeps were = rw keeps were
+
+  -- no line was read but these, and what stands in the window
+  pub entries_no_further : (text : Option (List ℕ)) (window : List ℕ) (left : Option (List ℕ)) →
+      length window ≤ 65792 → EntriesBehind text h b es p window left → IsReadNoFurther history_form text left
+  entries_no_further None window left few were = tt
+  entries_no_further (Some t) window None few were = absurd were
+  entries_no_further (Some t) window (Some xs) few were =
+      no_further history_form (Some t) (here h b es p) window (Some xs) (lines_on b es) few
+      (all_known t h b es p (window ++ xs) were)
+
+  entries_left : (text : Option (List ℕ)) (window : List ℕ) (left : Option (List ℕ)) →
+      EntriesBehind text h b es p window left → IsPartLeft text left
+  entries_left None window left were = tt
+  entries_left (Some t) window None were = absurd were
+  entries_left (Some t) window (Some xs) were =
+      left_of history_form (Some t) (here h b es p) window (Some xs) (lines_on b es)
+      (all_known t h b es p (window ++ xs) were)
+
+  -- the source gave no more
+  pub entries_unread : (text : Option (List ℕ)) (old : List ℕ) (left after : Option (List ℕ))
+      (fault : StreamFault) → IsOfReading fault → (fault ≡ Memory → IfSome left IsTooLong) →
+      EntriesBehind text h b es p old left → IsFaultOf history_form text after fault
+  entries_unread text old left after fault of long were =
+      reading_fault history_form text left after fault of long (entries_left text old left were)
+
+  -- ---- the next entry
+
+  -- the fault of the next line, of which bytes may have been let go of
+  pub entry_fault : (text : Option (List ℕ)) (old window : List ℕ) (left after : Option (List ℕ))
+      (fault : TextFault) → StaysAhead old left window after →
+      IsEntryBehind h.header p window (Err fault) → (fault ≡ CutShort → IsAtEnd after) →
+      EntriesBehind text h b es p old left → IsFaultOf history_form text after (Text fault)
+  entry_fault None old window left after fault s is end were = (tt, tt)
+  entry_fault (Some t) old window None after fault s is end were = absurd were
+  entry_fault (Some t) old window (Some xs) None fault s is end were = absurd s
+  entry_fault (Some t) old window (Some xs) (Some ys) fault s is end were =
+      let line =
+      is h (base_of h.header (lines_on b es)) (reached (lines_on b es)) refl
+      (placed_on h (reached (lines_on b es)) p (old ++ xs) window (window_lacks (old ++ xs) window ys s)
+      were.placed) in
+      fault_ahead history_form (Some t) (here h b es p) old window (Some xs) (Some ys) (lines_on b es) fault
+      lawful short s line end (all_known t h b es p (old ++ xs) were)
+
+  -- more stands behind the window
+  longer : (window more : List ℕ) (e : Entry) (n : ℕ) → IsEntryBehind h.header p window (Ok (Some (e, n))) →
+      IsEntryBehind h.header p (window ++ more) (Ok (Some (e, n + length more)))
+  longer window more e n is = λ g c s same placed text.
+      let found = is g c s same (placed_on g s p (window ++ more) window (front_lacks window more) placed)
+      text in (
+        found.0 ++ more,
+        record {
+          fits = found.1.fits;
+          parts = ap (λ (t : List ℕ). t ++ more) found.1.parts
+              ∙ append_assoc (ended (entry_line (p.folded + p.count) e)) found.0 more;
+        },
+        length-append found.0 more ∙ ap (λ (m : ℕ). m + length more) found.2,
+      )
+
+  -- it stands in the window, and so many bytes behind it
+  pub entry_here : (text : Option (List ℕ)) (window : List ℕ) (left : Option (List ℕ)) (e : Entry) (n : ℕ) →
+      IsEntryBehind h.header p window (Ok (Some (e, n))) → EntriesBehind text h b es p window left →
+      EntriesBehind text h b (es ++ e ∷ []) (behind p e) (drop (length window - n) window) left
+  entry_here None window left e n is were = tt
+  entry_here (Some t) window None e n is were = absurd were
+  entry_here (Some t) window (Some more) e n is were =
+      let line = ended (entry_line (p.folded + p.count) e) in
+      let s = reached (lines_on b es) in
+      let found =
+      is h (base_of h.header (lines_on b es)) s refl
+      (placed_on h s p (window ++ more) window (front_lacks window more) were.placed) t in
+      let one = read_one t h b es p (window ++ more) were e (n + length more) (longer window more e n is) in
+      let rest : one.after ≡ found.0 ++ more =
+      append_cancel_left line one.after (found.0 ++ more)
+      (sym one.parts ∙ ap (λ (w : List ℕ). w ++ more) found.1.parts ∙ append_assoc line found.0 more) in
+      let last = last_bytes window line found.0 n found.1.parts found.2 in
+      subst (AreEntriesRead t h b (es ++ e ∷ []) (behind p e))
+      (rest ∙ ap (λ (w : List ℕ). w ++ more) (sym last)) one.grown
+
+  -- nothing before it was let go of
+  pub entry_next : (text : Option (List ℕ)) (old window : List ℕ) (left after : Option (List ℕ))
+      (e : Entry) (n : ℕ) → StaysAhead old left window after →
+      IsEntryBehind h.header p window (Ok (Some (e, n))) → EntriesBehind text h b es p old left →
+      EntriesBehind text h b (es ++ e ∷ []) (behind p e) (drop (length window - n) window) after
+  entry_next None old window left after e n s is were = tt
+  entry_next (Some t) old window None after e n s is were = absurd were
+  entry_next (Some t) old window (Some xs) None e n s is were = absurd s
+  entry_next (Some t) old window (Some xs) (Some ys) e n s is were =
+      let to = reached (lines_on b es) in
+      let line = entry_line (p.folded + p.count) e in
+      let found =
+      is h (base_of h.header (lines_on b es)) to refl
+      (placed_on h to p (old ++ xs) window (window_lacks (old ++ xs) window ys s) were.placed) t in
+      let known = all_known t h b es p (old ++ xs) were in
+      let few =
+      short.item h (lines_on b es) (Entered (p.folded + p.count) e) known.begins.header known.begins.each
+      (found.1.fits (lines_on b es) known.count known.known) in
+      let keeps =
+      all_kept old window line found.0 (Some xs) (Some ys) s (found.1.parts ∙ broken line found.0) few in
+      entry_here (Some t) window (Some ys) e n is
+      (entries_kept (Some t) old window (Some xs) (Some ys) keeps were)
+
+  -- ---- behind the last
+
+  pub all_here : (text : Option (List ℕ)) (window : List ℕ) (left : Option (List ℕ)) →
+      IsEntryBehind h.header p window (Ok None) → IsAtEnd left → EntriesBehind text h b es p window left →
+      IfSome text (λ t. IsHistoryText t b es)
+  all_here None window left is end were = tt
+  all_here (Some t) window None is end were = absurd were
+  all_here (Some t) window (Some more) is end were =
+      read_all t h b es p window
+      (subst (AreEntriesRead t h b es p) (ap (λ (m : List ℕ). window ++ m) end ∙ append-nil window) were) is
+
+  pub fault_behind : (text : Option (List ℕ)) (window grown : List ℕ) (left after : Option (List ℕ))
+      (fault : TextFault) → IsEntryBehind h.header p window (Ok None) →
+      IsBehindEnd {I = Entry} (p.lines + p.count) left (Err (Text fault)) →
+      Keeps (prepend_known window left) (prepend_known grown after) → EntriesBehind text h b es p window
+      left →
+      IsFaultOf history_form text after (Text fault)
+  fault_behind None window grown left after fault is end keeps were = (tt, tt)
+  fault_behind (Some t) window grown None after fault is end keeps were = absurd were
+  fault_behind (Some t) window grown (Some more) after fault is end keeps were =
+      let s = reached (lines_on b es) in
+      let line =
+      is h (base_of h.header (lines_on b es)) s refl
+      (placed_on h s p (window ++ more) window (front_lacks window more) were.placed) in
+      ended_here history_form (here h b es p) window grown (Some more) after (Err (Text fault))
+      (reader_at (here h b es p) grown after) line end keeps (Some t) (lines_on b es)
+      (all_known t h b es p (window ++ more) were)
+
+-- ---- what a call answers
+
+-- behind the end line
+pub entries_ended : (old new : EntriesHeld) (window grown : List ℕ) (left mid after : Option (List ℕ))
+    (r : Result (Option Entry) StreamFault) → (base_held old).header ≡ old.header →
+    Keeps (prepend_known old.bytes left) (prepend_known window mid) →
+    IsEntryBehind old.header old.place window (Ok None) →
+    IsBehindEnd (old.place.lines + old.place.count) mid r →
+    Keeps (prepend_known window mid) (prepend_known grown after) → IsEntryNext old left r new after
+entries_ended old new window grown left mid after (Ok (Some e)) same was is end keeps = absurd end
+entries_ended old new window grown left mid after (Ok None) same was is end keeps = λ text es were.
+    let b = base_held old in
+    all_here (head_of b) b es old.place text window mid
+    (subst (λ (k : Header). IsEntryBehind k old.place window (Ok None)) (sym same) is) end
+    (entries_kept (head_of b) b es old.place text old.bytes window left mid was were)
+entries_ended old new window grown left mid after (Err (Text fault)) same was is end keeps = λ text es were.
+    let b = base_held old in
+    fault_behind (head_of b) b es old.place text window grown mid after fault
+    (subst (λ (k : Header). IsEntryBehind k old.place window (Ok None)) (sym same) is) end keeps
+    (entries_kept (head_of b) b es old.place text old.bytes window left mid was were)
+entries_ended old new window grown left mid after (Err ReadFailed) same was is end keeps = λ text es were. tt
+entries_ended old new window grown left mid after (Err Memory) same was is end keeps = absurd end
+entries_ended old new window grown left mid after (Err WriteFailed) same was is end keeps = absurd end
+
+-- a fault of reading was passed on
+pub entries_read_failed : (old new : EntriesHeld) (left after : Option (List ℕ))
+    (r : Result (Option Entry) StreamFault) (fault : StreamFault) → IsErr r × IsErrAnd r (λ e. e ≡ fault) →
+    IsOfReading fault → (fault ≡ Memory → IfSome left IsTooLong) → IsEntryNext old left r new after
+entries_read_failed old new left after (Ok next) fault passed of long = absurd (false≢true passed.0)
+entries_read_failed old new left after (Err e) fault passed of long = λ text es were.
+    subst (IsFaultOf history_form text after) (sym passed.1)
+    (entries_unread (head_of (base_held old)) (base_held old) es old.place text old.bytes left after fault of
+    long were)
+
+-- a fault of the next line was passed on
+pub entry_failed : (old new : EntriesHeld) (window : List ℕ) (left after : Option (List ℕ))
+    (r : Result (Option Entry) StreamFault) (fault : TextFault) → IsErr r × IsErrAnd r (λ e. e ≡ Text fault) →
+    (base_held old).header ≡ old.header → StaysAhead old.bytes left window after →
+    IsEntryBehind old.header old.place window (Err fault) → (fault ≡ CutShort → IsAtEnd after) →
+    IsEntryNext old left r new after
+entry_failed old new window left after (Ok next) fault passed same s is end = absurd (false≢true passed.0)
+entry_failed old new window left after (Err e) fault passed same s is end = λ text es were.
+    let b = base_held old in
+    subst (IsFaultOf history_form text after) (sym passed.1)
+    (entry_fault (head_of b) b es old.place text old.bytes window left after fault s
+    (subst (λ (k : Header). IsEntryBehind k old.place window (Err fault)) (sym same) is) end were)
+
+-- ---- from the base on
+
+-- behind the base, these entries were read
+abbrev pub EntriesOn : EntriesHeld → Option (List ℕ) → List Entry → EntriesHeld → Option (List ℕ) → Type 0
+EntriesOn first left es now after =
+    (text : Option (List ℕ)) → EntriesRead text first left [] → EntriesRead text now after es
+
+-- the next entry was not read
+pub entries_fault_on : {T : Type 0} (first now new : EntriesHeld) (left mid after : Option (List ℕ))
+    (es : List Entry) (r : Result T StreamFault) (fault : StreamFault) →
+    IsErr r × IsErrAnd r (λ e. e ≡ fault) → IsEntryNext now mid (Err fault) new after →
+    EntriesOn first left es now mid → IfErr r (IsFaultBehindBase first left after)
+entries_fault_on first now new left mid after es (Ok x) fault passed next read =
+    absurd (false≢true passed.0)
+entries_fault_on first now new left mid after es (Err e) fault passed next read = λ text were.
+    subst (IsFaultOf history_form text after) (sym passed.1) (next text es (read text were))
+
+-- of the text of which the base was read
+pub entries_fault_passed : {T : Type 0} (text : Option (List ℕ)) (first : EntriesHeld)
+    (left after : Option (List ℕ)) (r : Result T StreamFault) (fault : StreamFault) →
+    IsErr r × IsErrAnd r (λ e. e ≡ fault) → EntriesRead text first left [] →
+    IsFaultBehindBase first left after fault → IfErr r (IsFaultOf history_form text after)
+entries_fault_passed text first left after (Ok x) fault passed were err = absurd (false≢true passed.0)
+entries_fault_passed text first left after (Err e) fault passed were err =
+    subst (IsFaultOf history_form text after) (sym passed.1) (err text were)
+
+-- behind so many entries no further line was read but what stands in the window
+pub entries_memory : (first now : EntriesHeld) (es : List Entry) (left after : Option (List ℕ)) →
+    length now.bytes ≤ 65792 → EntriesOn first left es now after → (text : Option (List ℕ)) →
+    EntriesRead text first left [] → IsReadNoFurther history_form text after
+entries_memory first now es left after few read text were =
+    entries_no_further (head_of (base_held now)) (base_held now) es now.place text now.bytes after few
+    (read text were)
+
+-- the reader gave no more, and stands where it stood
+pub entries_memory_at_end : (first old new : EntriesHeld) (es : List Entry)
+    (left mid after : Option (List ℕ)) →
+    length new.bytes ≤ 65792 → Keeps (prepend_known old.bytes mid) (prepend_known new.bytes after) →
+    EntriesOn first left es old mid → (text : Option (List ℕ)) → EntriesRead text first left [] →
+    IsReadNoFurther history_form text after
+entries_memory_at_end first old new es left mid after few keeps read text were =
+    let b = base_held old in
+    entries_no_further (head_of b) b es old.place text new.bytes after few
+    (entries_kept (head_of b) b es old.place text old.bytes new.bytes mid after keeps (read text were))

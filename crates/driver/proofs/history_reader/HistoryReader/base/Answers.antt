@@ -1,0 +1,7 @@
+use Rattle.driver.proofs.BaseAhead.{well_based}
+use Rattle.driver.proofs.history_reader.HistoryReader.base.Goals as goal
+
+pub returns-clause-well : goal.returns-clause-well
+returns-clause-well c =
+    let held = c.self.inside in
+    rw (← c.self.view_is) (well_based held.header held.base c.self.invariant.4 c.self.invariant.5)

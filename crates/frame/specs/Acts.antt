@@ -1,0 +1,85 @@
+-- What a list of steps with trims between is answered, and what it leaves.
+use Rattle.std.specs.Prelude.{◌≡◌, ◌≢◌, ◌<◌, ℕ, Bool, ◌+◌, nat_lt, if◌then◌else◌, List, [], ◌∷◌, length, Result, Ok, Err}
+use Rattle.std.specs.List.{AllByRecursion}
+use Rattle.history.specs.declared.entry.Entry.{Entry}
+use Rattle.history.specs.declared.fault.Fault.{Fault}
+use Rattle.history.specs.declared.fault.Fault.TheVariants.{OutOfMemory, TrimFull}
+use Rattle.history.specs.declared.step.Answer.{Answer}
+use Rattle.history.specs.Answers.{answer}
+use Rattle.history.specs.Base.{Base, based, folded}
+use Rattle.history.specs.GoodBase.{most_folded}
+use Rattle.history.specs.Marks.{marks_after}
+use Rattle.frame.specs.declared.acts.Act.{Act}
+use Rattle.frame.specs.declared.acts.Act.TheVariants.{Do, Trim}
+use Rattle.frame.specs.declared.acts.Done.{Done}
+use Rattle.frame.specs.declared.acts.Done.TheVariants.{Answered, Trimmed}
+use Rattle.frame.specs.Core.{CoreView, marks_of, IsAnswered, IsTold, IsTrimmed}
+
+-- a step is of one of so many seats
+abbrev pub IsOfSeats : ℕ → Act → Type 0
+IsOfSeats seats (Do i step) = i < seats
+IsOfSeats seats Trim = Unit {0}
+
+-- what a step was answered, and how many entries a trim folded
+abbrev pub as_answered : Result Answer Fault → Result Done Fault
+as_answered (Ok answer) = Ok (Answered answer)
+as_answered (Err fault) = Err fault
+
+abbrev pub as_trimmed : Result ℕ Fault → Result Done Fault
+as_trimmed (Ok count) = Ok (Trimmed count)
+as_trimmed (Err fault) = Err fault
+
+abbrev pub IsDone : CoreView → Act → Result Done Fault → CoreView → Type 0
+IsDone old (Do i step) r new =
+    (answer : Result Answer Fault) × (r ≡ as_answered answer) × IsAnswered old i step answer new
+    × IsTold old i answer new
+IsDone old Trim r new = (count : Result ℕ Fault) × (r ≡ as_trimmed count) × IsTrimmed old count new
+
+-- each act is done in turn, from what the one before it left
+abbrev pub AreDone : CoreView → List Act → List (Result Done Fault) → CoreView → Type 0
+AreDone old [] [] new = new ≡ old
+AreDone old (act ∷ acts) (r ∷ rest) new = (mid : CoreView) × IsDone old act r mid × AreDone mid acts rest new
+AreDone old [] (r ∷ rest) new = ⊥
+AreDone old (act ∷ acts) [] new = ⊥
+
+-- memory was never refused
+abbrev pub NoneLacks : List (Result Done Fault) → Type 0
+NoneLacks done = AllByRecursion (λ r. r ≢ Err OutOfMemory) done
+
+-- What acts leave of a base and a list, and what they are answered.
+pub record Outcome : Type 0 where
+  pub done : List (Result Done Fault)
+  pub base : Base
+  pub entries : List Entry
+
+abbrev pub behind_one : Result Done Fault → Outcome → Outcome
+behind_one r rest = record { done = r ∷ rest.done; base = rest.base; entries = rest.entries }
+
+-- by the definitions: each step is answered from the base, and a trim folds the list, where it may
+abbrev pub outcome : Base → List Entry → List Act → Outcome
+outcome b h [] = record { done = []; base = b; entries = h }
+outcome b h (Do i step ∷ acts) =
+    let now = answer (based b) h i step in
+    behind_one (as_answered now.0) (outcome b now.1 acts)
+outcome b h (Trim ∷ acts) =
+    if nat_lt most_folded (b.entries + length h) then behind_one (Err TrimFull) (outcome b h acts)
+    else behind_one (Ok (Trimmed (length h))) (outcome (folded b h) [] acts)
+
+-- and the marks behind them: a trim leaves them as they were
+abbrev pub marks_behind : Base → List Entry → (ℕ → Bool) → List Act → ℕ → Bool
+marks_behind b h told [] = told
+marks_behind b h told (Do i step ∷ acts) =
+    let now = answer (based b) h i step in
+    marks_behind b now.1 (marks_after (based b) h i now.0 told) acts
+marks_behind b h told (Trim ∷ acts) =
+    if nat_lt most_folded (b.entries + length h) then marks_behind b h told acts
+    else marks_behind (folded b h) [] told acts
+
+-- the answers, the base, the history and the marks are those of the definitions
+pub record IsOutcome (old : CoreView) (acts : List Act) (done : List (Result Done Fault))
+    (new : CoreView) : Type 0 where
+  pub done_are : done ≡ (outcome old.base old.entries acts).done
+  pub base_is : new.base ≡ (outcome old.base old.entries acts).base
+  pub entries_are : new.entries ≡ (outcome old.base old.entries acts).entries
+  pub header_is : new.header ≡ old.header
+  pub told_are : marks_of new ≡ marks_behind old.base old.entries (marks_of old) acts

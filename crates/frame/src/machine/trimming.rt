@@ -1,0 +1,27 @@
+//! Folding the entries of a core.
+
+ghost use Rattle.std.specs.Prelude.{◌≡◌, ◌↔◌, length, IfErr, IfOk, IsErrOf, OnOk};
+ghost use Rattle.history.specs.declared.fault.Fault.TheVariants.{TrimFull};
+ghost use Rattle.frame.specs.Core.{IsTrimFull, IsTrimmed, trimmed};
+
+use super::Core;
+use crate::hooks::Hooks;
+use history::fault::Fault;
+
+impl<H: Hooks + Drop> Core<H> {
+    /// Folds all entries into the base, and answers how many. Their room comes back. It takes no memory.
+    ///
+    /// Base and list alone change: who holds, who waits and which room is owed stay.
+    ///
+    /// `TrimFull`: more entries would be folded than there may be. Then nothing has changed.
+    pub fn trim(&mut self) -> Result<u64, Fault>
+        ensures count { IfOk result (λ count. count ≡ length self.old.entries) }
+        ensures trimmed { OnOk result (self.new ≡ trimmed self.old) }
+        ensures full { IsErrOf result TrimFull ↔ IsTrimFull self.old }
+        ensures done { IsTrimmed self.old result self.new }
+        ensures header { self.new.header ≡ self.old.header }
+        ensures err { IfErr result (λ fault. (fault ≡ TrimFull) × (self.new ≡ self.old)) }
+    {
+        self.history.fold()
+    }
+}

@@ -1,0 +1,157 @@
+-- Who is away was away before, or has just gone to sleep: its last sleep is the one of which its entries say.
+use Rattle.std.proofs.Common.{◌≡◌, ◌⊎◌, inl, inr, ⊎_elim, ℕ, ◌<◌, Bool, true, false, cond, eqb, eqb-true, List, [], ◌∷◌, ◌++◌, take, Option, Some, None, refl, ap, ◌∙◌, sym, subst, arith}
+use Rattle.std.specs.List.{AllByRecursion}
+use Rattle.std.proofs.lemmas.Bool.{eq-eqb}
+use Rattle.history.specs.declared.arrival.Arrival.{Arrival}
+use Rattle.history.specs.declared.entry.Entry.{Entry}
+use Rattle.history.specs.declared.entry.Word.{Word}
+use Rattle.history.specs.declared.entry.Word.TheVariants as word
+use Rattle.history.specs.Legal.{IsLegal}
+use Rattle.history.specs.Line.{arrivals_by, line, place_of}
+use Rattle.history.specs.Ownership.{is_away}
+use Rattle.history.specs.Phase.{phase, phase_by}
+use Rattle.history.specs.Point.{entries_of}
+use Rattle.history.specs.Sleepers.{has, last_sleep, sleep_after, sleepers, sleeps_below}
+use Rattle.history.specs.Start.{Start}
+use Rattle.history.specs.Waiting.{StandOnce}
+use Rattle.history.proofs.Entering.{Known, KnownBy, known}
+use Rattle.history.proofs.LineLemmas.{line_after}
+use Rattle.history.proofs.OneWait.{Waits, acts, all_come, line_stays, placed, take_has, waits_from}
+use Rattle.history.proofs.SleepLemmas.{sleeps_at, sleeps_there, slept_before}
+use Rattle.history.proofs.Times.{each-append, place_once}
+use Rattle.history.proofs.WhoWaits.{asleep_out_of_line, stand_once}
+
+abbrev pub IsAwayAt : Start → List Entry → ℕ → Type 0
+IsAwayAt s h i = is_away (phase s h i) ≡ true
+
+-- who sleeps is away, and who comes back in line
+asleep_away : (s : Start) (h : List Entry) → Waits s h → (c i : ℕ) → has i (sleepers s h c) ≡ true →
+    IsAwayAt s h i
+asleep_away s h v c i t =
+    ap (λ b. is_away (phase_by (place_of i (line s h)) b)) sleeps
+    ∙ ap (λ o. is_away (phase_by o true)) (asleep_out_of_line s h i v.once sleeps)
+  where
+    below : c < s.header.conditions
+    below =
+        let u = v.sleepers c i t in
+        let l = u.saved.condition in
+        let d = u.condition in
+        omega (arith, l, d)
+
+    sleeps : sleeps_below s.header.conditions s h i ≡ true
+    sleeps = sleeps_there s.header.conditions s h i c below t
+
+abbrev IsPlacedIn : List Arrival → Arrival → Type 0
+IsPlacedIn q a = place_of a.seat q ≡ Some a
+
+placed_behind : (a : Arrival) (q xs : List Arrival) → place_of a.seat q ≡ None →
+    AllByRecursion (IsPlacedIn q) xs → AllByRecursion (IsPlacedIn (a ∷ q)) xs
+placed_behind a q [] none all = tt
+placed_behind a q (b ∷ xs) none all = (by (eqb a.seat b.seat) refl, placed_behind a q xs none all.1)
+  where
+    by : (t : Bool) → eqb a.seat b.seat ≡ t → cond (eqb a.seat b.seat) (Some a) (place_of b.seat q) ≡ Some b
+    by true same =
+        let n : place_of b.seat q ≡ None = ap (λ j. place_of j q) (sym (eqb-true a.seat b.seat same))
+        ∙ none in
+        let p = all.0 in
+        absurd (cc (n, p))
+    by false other = ap (λ t. cond t (Some a) (place_of b.seat q)) other ∙ all.0
+
+each_placed : (q : List Arrival) → StandOnce q → AllByRecursion (IsPlacedIn q) q
+each_placed [] once = tt
+each_placed (a ∷ q) once = (
+  ap (λ t. cond t (Some a) (place_of a.seat q)) (eq-eqb a.seat a.seat refl),
+  placed_behind a q q once.0 (each_placed q once.1),
+)
+
+module _ (s : Start) (h : List Entry) (e : Entry) (v : Waits s h) (k : Known s h e) where
+  -- it was away, or this is its await
+  abbrev pub Was : ℕ → Type 0
+  Was i = ((e.seat ≡ i) × (e.word ≡ word.Await)) ⊎ IsAwayAt s h i
+
+  abbrev Comes : Arrival → Type 0
+  Comes a = a.back ≡ true → Was a.seat
+
+  in_line_away : (xs : List Arrival) → AllByRecursion (IsPlacedIn (line s h)) xs → AllByRecursion Comes xs
+  in_line_away [] all = tt
+  in_line_away (a ∷ xs) all = (
+    λ t. inr (ap (λ o. is_away (phase_by o (sleeps_below s.header.conditions s h a.seat))) all.0 ∙ t),
+    in_line_away xs all.1,
+  )
+
+  arrive_away : (w : Word) → KnownBy s h e w → AllByRecursion Comes (arrivals_by s w e h)
+  arrive_away word.Queued k = (λ t. absurd (cc (t)), tt)
+  arrive_away word.Signal k =
+      all_come Comes (take e.n (sleepers s h e.at))
+      (λ i t b. inr (asleep_away s h v e.at i (take_has e.n i (sleepers s h e.at) t)))
+  arrive_away word.SignalAll k =
+      all_come Comes (sleepers s h e.at) (λ i t b. inr (asleep_away s h v e.at i t))
+  arrive_away word.Lapse k = (λ t. inr (ap is_away k.0), tt)
+  arrive_away word.Got k = tt
+  arrive_away word.TryGot k = tt
+  arrive_away word.Granted k = tt
+  arrive_away word.Missed k = tt
+  arrive_away word.Left k = tt
+  arrive_away word.Gave k = tt
+  arrive_away (word.Refused f) k = tt
+  arrive_away word.Await k = tt
+  arrive_away word.Back k = tt
+  arrive_away word.Counted k = tt
+  arrive_away word.Drained k = tt
+
+  all_away : AllByRecursion Comes (line s (e ∷ h))
+  all_away =
+      subst (AllByRecursion Comes) (sym (line_after s e h))
+      (each-append Comes _ _
+      (line_stays Comes Comes s h e (acts s h e k) (λ a ne was. was)
+      (in_line_away (line s h) (each_placed (line s h) (stand_once s h v.once))))
+      (arrive_away e.word k))
+
+  pub was_away : (i : ℕ) → IsAwayAt s (e ∷ h) i → Was i
+  was_away i t =
+      by (place_of i (line s (e ∷ h))) (sleeps_below s.header.conditions s (e ∷ h) i) refl refl t
+    where
+      by : (o : Option Arrival) (b : Bool) → place_of i (line s (e ∷ h)) ≡ o →
+          sleeps_below s.header.conditions s (e ∷ h) i ≡ b → is_away (phase_by o b) ≡ true → Was i
+      by (Some a) b p q u =
+          subst Was (place_once i (line s (e ∷ h)) a p).0
+          (placed Comes i (line s (e ∷ h)) a all_away p u)
+      by None true p q u =
+          let at = sleeps_at s.header.conditions s (e ∷ h) i q in
+          ⊎_elim (λ old. inr (asleep_away s h v at.0 i old)) (λ new. inl (new.2, new.0))
+          (slept_before s e h at.0 i at.2)
+      by None false p q u = absurd (cc (u))
+
+  -- a last sleep is the one of which entries from elsewhere say, if these are of the seat
+  pub sleep_next : (o : Start) (all : List Entry) (i : ℕ) →
+      (IsAwayAt s h i → last_sleep s h i ≡ last_sleep o all i) → IsAwayAt s (e ∷ h) i →
+      last_sleep s (e ∷ h) i ≡ last_sleep o (cond (eqb e.seat i) (e ∷ all) all) i
+  sleep_next o all i before t = by (eqb e.seat i) refl (was_away i t)
+    where
+      by : (b : Bool) → eqb e.seat i ≡ b → Was i →
+          cond (eqb e.seat i) (sleep_after e.word e (last_sleep s h i)) (last_sleep s h i)
+          ≡ last_sleep o (cond (eqb e.seat i) (e ∷ all) all) i
+      by true q (inl w) = rw q (rw q (rw w.1 refl))
+      by true q (inr w) = rw q (rw q (ap (sleep_after e.word e) (before w)))
+      by false q (inl w) = let z = eq-eqb e.seat i w.0 in absurd (cc (z, q))
+      by false q (inr w) = rw q (before w)
+
+own_front : (i : ℕ) (e : Entry) (more all : List Entry) →
+    cond (eqb e.seat i) (e ∷ entries_of i more ++ all) (entries_of i more ++ all)
+    ≡ entries_of i (e ∷ more) ++ all
+own_front i e more all = by (eqb e.seat i)
+  where
+    by : (b : Bool) → cond b (e ∷ entries_of i more ++ all) (entries_of i more ++ all)
+        ≡ cond b (e ∷ entries_of i more) (entries_of i more) ++ all
+    by true = refl
+    by false = refl
+
+pub sleep_more : (s o : Start) (more h all : List Entry) (i : ℕ) → Waits s [] → IsLegal s (more ++ h) →
+    (IsAwayAt s h i → last_sleep s h i ≡ last_sleep o all i) → IsAwayAt s (more ++ h) i →
+    last_sleep s (more ++ h) i ≡ last_sleep o (entries_of i more ++ all) i
+sleep_more s o [] h all i first legal before t = before t
+sleep_more s o (e ∷ more) h all i first legal before t =
+    sleep_next s (more ++ h) e (waits_from s (more ++ h) first legal.1)
+    (known s (more ++ h) legal.0.0 e legal.0.1) o (entries_of i more ++ all) i
+    (sleep_more s o more h all i first legal.1 before) t
+    ∙ ap (λ l. last_sleep o l i) (own_front i e more all)

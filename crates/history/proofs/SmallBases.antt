@@ -1,0 +1,64 @@
+-- The numbers of a good base are small.
+use Rattle.std.proofs.Common.{◌≡◌, ℕ, zero, suc, ◌*◌, ◌<◌, ◌≤◌, [], refl, ap, arith}
+use Rattle.history.specs.declared.entry.Mode.{Mode}
+use Rattle.history.specs.declared.entry.Mode.TheVariants.{X, S}
+use Rattle.history.specs.declared.header.Object.{Object}
+use Rattle.history.specs.declared.header.Object.TheVariants.{Lock, ReadWrite, Semaphore, Latch}
+use Rattle.history.specs.Base.{Base, based, holds_of, seat_of}
+use Rattle.history.specs.Counts.{held, total}
+use Rattle.history.specs.GoodBase.{AreCounted, AreHeld, IsGood, most_permits}
+use Rattle.history.specs.Ownership.{most_exclusive, most_shared}
+use Rattle.history.proofs.Times.{total_part}
+
+pub few_exclusive : (b : Base) (o : Object) → b.header.object ≡ o → AreHeld o b → (i : ℕ) →
+    (seat_of b i).exclusive ≤ 2147483647
+few_exclusive b (Lock p) q v i =
+    let l = v.exclusive i in
+    let m = ap most_exclusive q in
+    omega (arith, l, m)
+few_exclusive b (ReadWrite p) q v i =
+    let l = v.exclusive i in
+    let m = ap most_exclusive q in
+    omega (arith, l, m)
+few_exclusive b (Semaphore p c) q v i = let l = v.exclusive i in omega (arith, l)
+few_exclusive b (Latch c) q v i = let l = v i X in omega (arith, l)
+
+pub few_shared : (b : Base) (o : Object) → b.header.object ≡ o → AreHeld o b → (i : ℕ) → i < b.header.seats →
+    (seat_of b i).shared ≤ most_permits
+few_shared b (Lock p) q v i l =
+    let t = total_part b.header.seats (λ j. (seat_of b j).shared) i l in
+    let a = v.shared in
+    let m = ap most_shared q in
+    omega (arith, t, a, m)
+few_shared b (ReadWrite p) q v i l =
+    let t = total_part b.header.seats (λ j. (seat_of b j).shared) i l in
+    let a = v.shared in
+    let m = ap most_shared q in
+    omega (arith, t, a, m)
+few_shared b (Semaphore p c) q v i l = v.shared i
+few_shared b (Latch c) q v i l = let n = v i S in omega (arith, n)
+
+pub few_unheld : (b : Base) (o : Object) → AreCounted o b → b.unheld ≤ most_permits
+few_unheld b (Lock p) v = let n = v.0 in omega (arith, n)
+few_unheld b (ReadWrite p) v = let n = v.0 in omega (arith, n)
+few_unheld b (Semaphore p c) v = v.0
+few_unheld b (Latch c) v = let n = v.0 in omega (arith, n)
+
+-- what a seat holds on a base
+pub held_of : (b : Base) (i : ℕ) (m : Mode) → held (based b) [] i m ≡ holds_of (seat_of b i) m
+held_of b i m = refl
+
+-- a sum of numbers that are small each
+pub few_in_all : (n : ℕ) (f : ℕ → ℕ) (most : ℕ) → ((i : ℕ) → i < n → f i ≤ most) → total n f ≤ most * n
+few_in_all zero f most few = omega arith
+few_in_all (suc n) f most few =
+    let before = few_in_all n f most (λ i l. few i (omega (arith, l))) in
+    let last = few n (omega arith) in
+    omega (arith, before, last)
+
+-- what all seats hold together
+pub few_held : (b : Base) → IsGood b →
+    total b.header.seats (λ i. (seat_of b i).shared) ≤ most_permits * b.header.seats
+few_held b good =
+    few_in_all b.header.seats (λ i. (seat_of b i).shared) most_permits
+    (few_shared b b.header.object refl good.held)

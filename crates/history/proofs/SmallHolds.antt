@@ -1,0 +1,83 @@
+-- What is held behind legal entries on a good base, and asked for in its line, is small.
+use Rattle.std.proofs.Common.{◌≡◌, ⊎_elim, ℕ, ◌+◌, ◌*◌, ◌<◌, ◌≤◌, List, [], ◌∷◌, length, map, refl, ap, arith}
+use Rattle.std.specs.List.{AllByRecursion}
+use Rattle.history.specs.declared.arrival.Arrival.{Arrival}
+use Rattle.history.specs.declared.base.Standing.{Standing}
+use Rattle.history.specs.declared.entry.Entry.{Entry}
+use Rattle.history.specs.declared.entry.Mode.TheVariants.{X, S}
+use Rattle.history.specs.declared.header.Object.{Object}
+use Rattle.history.specs.declared.header.Object.TheVariants.{Lock, ReadWrite, Semaphore, Latch}
+use Rattle.history.specs.Base.{Base, based}
+use Rattle.history.specs.Counts.{held}
+use Rattle.history.specs.GoodBase.{AreHeld, StandsWell, most_permits}
+use Rattle.history.specs.Header.{IsInRange}
+use Rattle.history.specs.Line.{line}
+use Rattle.history.specs.Object.{is_latch, is_lock, is_semaphore}
+use Rattle.history.specs.Ownership.{most_shared}
+use Rattle.history.specs.Point.{CanFold}
+use Rattle.history.proofs.Asking.{AsksFew, asked_few, line_few_on}
+use Rattle.history.proofs.GoodBases.{good_waits}
+use Rattle.history.proofs.GoodFolds.{free_fits_base, latch_holds, owned_behind}
+use Rattle.history.proofs.Owners.{most_fits}
+use Rattle.history.proofs.Permits.{held_grows, no_exclusive}
+use Rattle.history.proofs.Times.{total_part}
+
+module _ (b : Base) (h : List Entry) (can : CanFold b h) where
+  exclusive_of : (o : Object) → b.header.object ≡ o → AreHeld o b → (i : ℕ) →
+      held (based b) h i X ≤ 2147483647
+  exclusive_of (Lock p) q v i =
+      let l = (owned_behind b can.good h (ap is_lock q) can.legal can.seated).exclusive i in
+      let m = most_fits b.header.object in
+      omega (arith, l, m)
+  exclusive_of (ReadWrite p) q v i =
+      let l = (owned_behind b can.good h (ap is_lock q) can.legal can.seated).exclusive i in
+      let m = most_fits b.header.object in
+      omega (arith, l, m)
+  exclusive_of (Semaphore p c) q v i =
+      let same = no_exclusive (based b) h (ap is_semaphore q) (good_waits b can.good) can.legal i in
+      let none = v.exclusive i in
+      omega (arith, same, none)
+  exclusive_of (Latch c) q v i =
+      let none = latch_holds (based b) h (ap is_latch q) (good_waits b can.good) can.legal v i X in
+      omega (arith, none)
+
+  pub exclusive_small : (i : ℕ) → held (based b) h i X ≤ 2147483647
+  exclusive_small i = exclusive_of b.header.object refl can.good.held i
+
+  shared_of : IsInRange b.header → (o : Object) → b.header.object ≡ o → AreHeld o b → (i : ℕ) →
+      i < b.header.seats → held (based b) h i S ≤ most_permits + 2147483647 * length h
+  shared_of range (Lock p) q v i l =
+      let all = (owned_behind b can.good h (ap is_lock q) can.legal can.seated).shared in
+      let part = total_part b.header.seats (λ j. held (based b) h j S) i l in
+      let m = ap most_shared q in
+      omega (arith, all, part, m)
+  shared_of range (ReadWrite p) q v i l =
+      let all = (owned_behind b can.good h (ap is_lock q) can.legal can.seated).shared in
+      let part = total_part b.header.seats (λ j. held (based b) h j S) i l in
+      let m = ap most_shared q in
+      omega (arith, all, part, m)
+  shared_of range (Semaphore p c) q v i l =
+      let t = ap is_semaphore q in
+      let grown = held_grows (based b) h t (good_waits b can.good)
+      (free_fits_base b [] range (record { good = can.good; seated = tt; legal = tt }) t) can.legal i S in
+      let few = v.shared i in
+      omega (arith, grown, few)
+  shared_of range (Latch c) q v i l =
+      let none = latch_holds (based b) h (ap is_latch q) (good_waits b can.good) can.legal v i S in
+      omega (arith, none)
+
+  pub shared_small : IsInRange b.header → (i : ℕ) → i < b.header.seats →
+      held (based b) h i S ≤ most_permits + 2147483647 * length h
+  shared_small range i l = shared_of range b.header.object refl can.good.held i l
+
+stand_few : (b : Base) (q : List Standing) → AllByRecursion (StandsWell b) q →
+    AllByRecursion AsksFew (map (λ p. p.who) q)
+stand_few b [] all = tt
+stand_few b (p ∷ q) all = (
+  ⊎_elim (λ asks. asked_few b.header.object p.who.n asks.1.amount)
+      (λ comes. (let one = ap (λ (a : Arrival). a.n) comes.1.who in omega (arith, one))) all.0,
+  stand_few b q all.1,
+)
+
+pub asks_small : (b : Base) (h : List Entry) → CanFold b h → AllByRecursion AsksFew (line (based b) h)
+asks_small b h can = line_few_on (based b) h (stand_few b b.line can.good.line) can.legal

@@ -1,0 +1,35 @@
+//! The holds of a seat behind an entry of its own. A base may have more of them than fit in 64 bits.
+
+ghost use Rattle.std.specs.Prelude.{◌≡◌, ◌<◌, ◌^◌};
+ghost use Rattle.history.specs.Counts.{holds_after};
+ghost use Rattle.history.specs.Object.{in_holds};
+
+use crate::entry::{Entry, Word};
+use crate::header::Object;
+
+/// The holds behind an entry, of those before it in its mode.
+#[inline(always)]
+pub fn holds_after(object: Object, entry: Entry, had: u128) -> u128
+    requires { holds_after object entry.word entry.n had < 2 ^ 128 }
+    ensures { result ≡ holds_after object entry.word entry.n had }
+{
+    match entry.word {
+        Word::Got | Word::TryGot | Word::Granted => had + in_holds(object, entry.n),
+        Word::Drained | Word::Back => had + u128::from(entry.n),
+        Word::Gave => had.saturating_sub(in_holds(object, entry.n)),
+        Word::Await => 0,
+        _ => had,
+    }
+}
+
+/// What a request for n is in holds.
+#[inline(always)]
+fn in_holds(object: Object, n: u32) -> u128
+    ensures { result ≡ in_holds object n }
+{
+    match object {
+        Object::Lock(_) | Object::ReadWrite(_) => 1,
+        Object::Semaphore(_, _) => u128::from(n),
+        Object::Latch(_) => 0,
+    }
+}

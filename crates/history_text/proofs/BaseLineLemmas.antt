@@ -1,0 +1,434 @@
+-- What the line of a base spells is read again, and is no other line.
+use Rattle.std.proofs.Common.{◌≡◌, ◌≢◌, ⊎_elim, ℕ, ◌+◌, ◌*◌, ◌^◌, ◌<◌, ◌≤◌, Bool, true, false, List, [], ◌∷◌, ◌++◌, length, get_or, Some, None, refl, sym, ap, subst, ◌∙◌, arith, decimal}
+use Rattle.std.specs.Prelude.{codes}
+use Rattle.std.specs.List.{AllByRecursion}
+use Rattle.std.proofs.lemmas.Fmt.{length-decimal-le_wide}
+use Rattle.std.proofs.lemmas.List.{append-nil, length-append}
+use Rattle.std.proofs.lemmas.List.Splits.{join_with_byte-slice_split}
+use Rattle.history.specs.declared.base.Standing.{Standing}
+use Rattle.history.specs.declared.base.SeatBase.{SeatBase}
+use Rattle.history.specs.declared.entry.End.{End}
+use Rattle.history.specs.declared.entry.End.TheVariants as end
+use Rattle.history.specs.declared.entry.Entry.{Entry}
+use Rattle.history.specs.declared.entry.Mode.{Mode}
+use Rattle.history.specs.declared.header.Header.{Header}
+use Rattle.history.specs.declared.header.Object.{Object}
+use Rattle.history.specs.declared.header.Object.TheVariants.{Lock, ReadWrite, Semaphore, Latch}
+use Rattle.history.specs.Base.{Base}
+use Rattle.history.specs.EntryWords.{CameBack, IsWritten, entry_words}
+use Rattle.history.specs.GoodBase.{Asks, GaveUp, Returns, most_folded, most_permits}
+use Rattle.history.specs.Header.{IsInRange, IsOpening}
+use Rattle.history.specs.Line.{coming_back}
+use Rattle.history.specs.Object.{opening_count}
+use Rattle.history.specs.Ownership.{most_exclusive}
+use Rattle.history.specs.Reading.{Words}
+use Rattle.history.specs.Text.{line_of, words_of}
+use Rattle.history.proofs.Asking.{asked_few}
+use Rattle.history.proofs.EntryAgain.{plain_entry, words_again_read}
+use Rattle.history.proofs.Numbers.{digits_alone, number_at_again}
+use Rattle.history.proofs.Plain.{ArePlain, words_again}
+use Rattle.history.proofs.WideNumbers.{wide_at_again, wide_plain}
+use Rattle.line_text.proofs.Lawful.{Lacks}
+use Rattle.line_text.proofs.WholeLines.{line_lacks}
+use Rattle.history_text.specs.declared.base_line.BaseLine.{BaseLine}
+use Rattle.history_text.specs.declared.base_line.BaseLine.TheVariants.{Folded, Released, CountedDown, Seat, Stands, Sleeps}
+use Rattle.history_text.specs.BaseLines.{IsBaseLine, base_line, base_words, stood_by, waiting_by}
+use Rattle.history_text.specs.BaseReading.{base_line_at, beside_at, folded_at, has_at, sleeps_at, stands_at}
+use Rattle.history_text.specs.BaseRules.{MayFollow, MayHold, Told}
+use Rattle.history_text.specs.EntryLines.{HasLine, counts_line, entry_line}
+use Rattle.history_text.proofs.EntryLemmas.{counts_line-words, counts_plain, entry_line-words, line_plain}
+
+abbrev pub ReadLine : Type 0
+ReadLine = BaseLine × Words
+
+-- ---- the words of a line
+
+folded_again : (x : BaseLine) (t : ℕ) (ws : Words) → 1 ≤ t → t ≤ most_folded → beside_at t ws ≡ Some (x, []) →
+    folded_at (decimal t ∷ ws) ≡ Some (x, [])
+unfolding folded_at
+folded_again x t ws some most is = rw (wide_at_again 1 most_folded t ws (omega (arith, most)) some most) is
+
+unheld_again : (t u : ℕ) → u ≤ most_permits →
+    beside_at t (codes "unheld" ∷ decimal u ∷ []) ≡ Some (Released t u, [])
+unfolding beside_at
+unheld_again t u most = rw (wide_at_again 0 most_permits u [] (omega (arith, most)) (omega arith) most) refl
+
+count_again : (t q : ℕ) → q ≤ 2147483647 →
+    beside_at t (codes "count" ∷ decimal q ∷ []) ≡ Some (CountedDown t q, [])
+unfolding beside_at
+count_again t q most = rw (number_at_again 0 2147483647 q [] (omega (arith, most)) (omega arith) most) refl
+
+alone_again : (t : ℕ) → beside_at t [] ≡ Some (Folded t, [])
+unfolding beside_at
+alone_again t = refl
+
+seat_again : (i : ℕ) (has : SeatBase) → i ≤ 255 → has.calls ≤ most_folded → has.exclusive ≤ 2147483647 →
+    has.shared ≤ most_permits
+    → has_at (decimal i ∷ codes "calls" ∷ decimal has.calls ∷ codes "x" ∷ decimal has.exclusive ∷ codes "s"
+    ∷ decimal has.shared ∷ []) ≡ Some (Seat i has, [])
+unfolding has_at
+seat_again i has small calls exclusive shared =
+    rw (
+      number_at_again 0 255 i _ (omega (arith, small)) (omega arith) small,
+      number_at_again 0 most_folded has.calls _ (omega (arith, calls)) (omega arith) calls,
+      number_at_again 0 2147483647 has.exclusive _ (omega (arith, exclusive)) (omega arith) exclusive,
+      wide_at_again 0 most_permits has.shared [] (omega (arith, shared)) (omega arith) shared,
+    ) refl
+
+stands_again : (p : Standing) (b : Bool) → p.who.seat ≤ 255 → IsWritten (waiting_by b p) →
+    p ≡ stood_by b (waiting_by b p) →
+    stands_at (decimal p.who.seat ∷ entry_words (waiting_by b p)) ≡ Some (Stands p, [])
+unfolding stands_at
+stands_again p true small written same =
+    rw (
+      number_at_again 0 255 p.who.seat (entry_words (waiting_by true p)) (omega (arith, small)) (omega arith)
+          small,
+      words_again_read (waiting_by true p) written,
+    ) (ap (λ (q : Standing). Some (Stands q, [])) (sym same))
+stands_again p false small written same =
+    rw (
+      number_at_again 0 255 p.who.seat (entry_words (waiting_by false p)) (omega (arith, small)) (omega arith)
+          small,
+      words_again_read (waiting_by false p) written,
+    ) (ap (λ (q : Standing). Some (Stands q, [])) (sym same))
+
+sleeps_again : (c i h : ℕ) → c ≤ 15 → i ≤ 255 → h ≤ 2147483647 →
+    sleeps_at (decimal c ∷ decimal i ∷ decimal h ∷ []) ≡ Some (Sleeps c (record { seat = i; holds = h }), [])
+unfolding sleeps_at
+sleeps_again c i h few small most =
+    rw (
+      number_at_again 0 15 c _ (omega (arith, few)) (omega arith) few,
+      number_at_again 0 255 i _ (omega (arith, small)) (omega arith) small,
+      number_at_again 0 2147483647 h [] (omega (arith, most)) (omega arith) most,
+    ) refl
+
+base_again : (x : BaseLine) → IsBaseLine x → base_line_at (base_words x) ≡ Some (x, [])
+unfolding base_line_at
+base_again (Folded t) is = folded_again (Folded t) t [] is.0 is.1 (alone_again t)
+base_again (Released t u) is = folded_again (Released t u) t _ is.0 is.1 (unheld_again t u is.2)
+base_again (CountedDown t q) is = folded_again (CountedDown t q) t _ is.0 is.1 (count_again t q is.2)
+base_again (Seat i has) is = seat_again i has is.0 is.1 is.2 is.3
+base_again (Stands p) is = stands_again p p.who.back is.0 is.1 is.2
+base_again (Sleeps c x) is = sleeps_again c x.seat x.holds is.0 is.1 is.2
+
+base_plain : (x : BaseLine) → IsBaseLine x → ArePlain (base_words x)
+base_plain (Folded t) is = (refl, (wide_plain t (omega (arith, is.1)), tt))
+base_plain (Released t u) is =
+    (refl, (wide_plain t (omega (arith, is.1)), (refl, (wide_plain u (omega (arith, is.2)), tt))))
+base_plain (CountedDown t q) is =
+    (refl, (wide_plain t (omega (arith, is.1)), (refl, (wide_plain q (omega (arith, is.2)), tt))))
+base_plain (Seat i has) is = (
+  refl,
+  (
+    wide_plain i (omega (arith, is.0)),
+    (
+      refl,
+      (
+        wide_plain has.calls (omega (arith, is.1)),
+        (
+          refl,
+          (
+            wide_plain has.exclusive (omega (arith, is.2)),
+            (refl, (wide_plain has.shared (omega (arith, is.3)), tt)),
+          ),
+        ),
+      ),
+    ),
+  ),
+)
+base_plain (Stands p) is =
+    (refl, (wide_plain p.who.seat (omega (arith, is.0)), plain_entry (waiting_by p.who.back p) is.1))
+base_plain (Sleeps c x) is = (
+  refl,
+  (
+    wide_plain c (omega (arith, is.0)),
+    (wide_plain x.seat (omega (arith, is.1)), (wide_plain x.holds (omega (arith, is.2)), tt)),
+  ),
+)
+
+-- the first word, and what follows it
+abbrev name_of : BaseLine → List ℕ
+name_of (Folded t) = codes "base"
+name_of (Released t u) = codes "base"
+name_of (CountedDown t q) = codes "base"
+name_of (Seat i has) = codes "seat"
+name_of (Stands p) = codes "line"
+name_of (Sleeps c x) = codes "sleeper"
+
+named : (x : BaseLine) → (rest : Words) × (base_words x ≡ name_of x ∷ rest)
+named (Folded t) = (_, refl)
+named (Released t u) = (_, refl)
+named (CountedDown t q) = (_, refl)
+named (Seat i has) = (_, refl)
+named (Stands p) = (_, refl)
+named (Sleeps c x) = (_, refl)
+
+words_kept : (ws : Words) (w : List ℕ) (rest : Words) → ws ≡ w ∷ rest → ArePlain ws →
+    words_of (line_of ws) ≡ ws
+words_kept [] w rest is plain = absurd cc
+words_kept (v ∷ ws) w rest is plain = words_again v ws plain
+
+pub base_line-words : (x : BaseLine) → IsBaseLine x → words_of (base_line x) ≡ base_words x
+base_line-words x is = words_kept (base_words x) (name_of x) (named x).0 (named x).1 (base_plain x is)
+
+pub whole_base_line : (x : BaseLine) → IsBaseLine x → base_line_at (words_of (base_line x)) ≡ Some (x, [])
+whole_base_line x is = ap base_line_at (base_line-words x is) ∙ base_again x is
+
+inside : (x y : ReadLine) → Some x ≡ Some y → x ≡ y
+inside x y e = cc
+
+none_is : (x : ReadLine) → None ≡ Some x → ⊥
+none_is x e = cc
+
+pub base_unread : (line : List ℕ) → None ≡ base_line_at (words_of line) → (x : BaseLine) → IsBaseLine x →
+    line ≡ base_line x → ⊥
+base_unread line none x fits is =
+    none_is (x, []) (none ∙ ap (λ (t : List ℕ). base_line_at (words_of t)) is ∙ whole_base_line x fits)
+
+pub base_not_all_read : (line : List ℕ) (found : BaseLine) (w : List ℕ) (ws : Words) →
+    Some (found, w ∷ ws) ≡ base_line_at (words_of line) → (x : BaseLine) → IsBaseLine x →
+    line ≡ base_line x → ⊥
+base_not_all_read line found w ws some x fits is =
+    let same : w ∷ ws ≡ [] =
+    ap (λ (x : ReadLine). x.1) (inside (found, w ∷ ws) (x, [])
+    (some ∙ ap (λ (t : List ℕ). base_line_at (words_of t)) is ∙ whole_base_line x fits)) in
+    cc
+
+pub is_base_line : (line : List ℕ) (x : BaseLine) → words_of line ≡ base_words x ++ [] → line ≡ base_line x
+is_base_line line x words = sym (join_with_byte-slice_split 32 line)
+    ∙ ap line_of (words ∙ append-nil (base_words x))
+
+pub same_base_line : (x y : BaseLine) → IsBaseLine x → IsBaseLine y → base_line x ≡ base_line y → x ≡ y
+same_base_line x y p q e =
+    ap (λ (f : ReadLine). f.0) (inside (x, []) (y, [])
+    (sym (whole_base_line x p) ∙ ap (λ (t : List ℕ). base_line_at (words_of t)) e ∙ whole_base_line y q))
+
+pub base_lacks : (x : BaseLine) → IsBaseLine x → Lacks (base_line x)
+base_lacks x is = line_lacks (base_words x) (base_plain x is)
+
+-- ---- it is no other line
+
+letter : (x : BaseLine) → 57 < get_or (name_of x) 0 0
+letter (Folded t) = omega arith
+letter (Released t u) = omega arith
+letter (CountedDown t q) = omega arith
+letter (Seat i has) = omega arith
+letter (Stands p) = omega arith
+letter (Sleeps c x) = omega arith
+
+not_e : (x : BaseLine) → get_or (name_of x) 0 0 ≡ 101 → ⊥
+not_e (Folded t) e = omega (arith, e)
+not_e (Released t u) e = omega (arith, e)
+not_e (CountedDown t q) e = omega (arith, e)
+not_e (Seat i has) e = omega (arith, e)
+not_e (Stands p) e = omega (arith, e)
+not_e (Sleeps c x) e = omega (arith, e)
+
+some_bytes : (x : BaseLine) → 0 < length (name_of x)
+some_bytes (Folded t) = omega arith
+some_bytes (Released t u) = omega arith
+some_bytes (CountedDown t q) = omega arith
+some_bytes (Seat i has) = omega arith
+some_bytes (Stands p) = omega arith
+some_bytes (Sleeps c x) = omega arith
+
+first_word : (x y : List ℕ) (xs ys : Words) → x ∷ xs ≡ y ∷ ys → x ≡ y
+first_word x y xs ys e = cc
+
+-- the words of two lines that are the same
+same_first : (x : BaseLine) (w : List ℕ) (ws : Words) → IsBaseLine x → ArePlain (w ∷ ws) →
+    base_line x ≡ line_of (w ∷ ws) → name_of x ≡ w
+same_first x w ws is plain e =
+    first_word (name_of x) w (named x).0 ws (sym (named x).1 ∙ sym (base_line-words x is) ∙ ap words_of e
+    ∙ words_again w ws plain)
+
+pub base_no_entry : (x : BaseLine) (h : Header) (k : ℕ) (e : Entry) → IsBaseLine x → k < 2 ^ 64 →
+    IsInRange h → HasLine h e → base_line x ≡ entry_line k e → ⊥
+base_no_entry x h k e is lt range fits same =
+    let word = same_first x (decimal k) (decimal e.seat ∷ entry_words e) is (line_plain h k e lt range fits)
+    (same ∙ entry_line-words k e) in
+    let digit = digits_alone (name_of x) k 0 lt (some_bytes x) word in
+    omega (arith, digit, letter x)
+
+pub base_no_end : (x : BaseLine) (a b : ℕ) → IsBaseLine x → a < 2 ^ 64 → b < 2 ^ 64 →
+    base_line x ≡ counts_line a b → ⊥
+base_no_end x a b is l k same =
+    let word = same_first x (codes "end") (decimal a ∷ decimal b ∷ []) is (counts_plain a b l k)
+    (same ∙ counts_line-words a b) in
+    not_e x (ap (λ (w : List ℕ). get_or w 0 0) word)
+
+-- ---- its length
+
+abbrev weight : Words → ℕ
+weight [] = 0
+weight (w ∷ ws) = length w + 1 + weight ws
+
+line_weight : (ws : Words) → length (line_of ws) ≤ weight ws
+line_weight [] = omega arith
+line_weight (w ∷ []) = omega arith
+line_weight (w ∷ v ∷ ws) = omega (arith, line_weight (v ∷ ws), length-append w (32 ∷ line_of (v ∷ ws)))
+
+short_weight : (ws : Words) → AllByRecursion (λ w. length w ≤ 20) ws → weight ws ≤ 21 * length ws
+short_weight [] short = omega arith
+short_weight (w ∷ ws) short = omega (arith, short.0, short_weight ws short.1)
+
+digits : (k n : ℕ) → 0 < k → n < 10 ^ k → n < 10 ^ 64 → length (decimal n) ≤ k
+digits = length-decimal-le_wide
+
+few_bytes : (n : ℕ) → n ≤ 2147483647 → length (decimal n) ≤ 10
+few_bytes n lt = digits 10 n (omega arith) (omega (arith, lt)) (omega (arith, lt))
+
+folded_bytes : (n : ℕ) → n ≤ most_folded → length (decimal n) ≤ 16
+folded_bytes n lt = digits 16 n (omega arith) (omega (arith, lt)) (omega (arith, lt))
+
+permit_bytes : (n : ℕ) → n ≤ most_permits → length (decimal n) ≤ 26
+permit_bytes n lt = digits 26 n (omega arith) (omega (arith, lt)) (omega (arith, lt))
+
+base_weight : (x : BaseLine) → IsBaseLine x → ((p : Standing) → IsBaseLine (Stands p) → weight (entry_words (waiting_by p.who.back p)) ≤ 84) → weight (base_words x) < 256
+base_weight (Folded t) is stands = omega (arith, folded_bytes t is.1)
+base_weight (Released t u) is stands = omega (arith, folded_bytes t is.1, permit_bytes u is.2)
+base_weight (CountedDown t q) is stands = omega (arith, folded_bytes t is.1, few_bytes q is.2)
+base_weight (Seat i has) is stands =
+    omega (
+      arith,
+      few_bytes i (omega (arith, is.0)),
+      folded_bytes has.calls is.1,
+      few_bytes has.exclusive is.2,
+      permit_bytes has.shared is.3,
+    )
+base_weight (Stands p) is stands = omega (arith, few_bytes p.who.seat (omega (arith, is.0)), stands p is)
+base_weight (Sleeps c x) is stands =
+    omega (
+      arith,
+      few_bytes c (omega (arith, is.0)),
+      few_bytes x.seat (omega (arith, is.1)),
+      few_bytes x.holds is.2,
+    )
+
+pub base_short : (x : BaseLine) → IsBaseLine x
+    → ((p : Standing) → IsBaseLine (Stands p)
+    → AllByRecursion (λ w. length w ≤ 20) (entry_words (waiting_by p.who.back p))
+    × (length (entry_words (waiting_by p.who.back p)) ≤ 4)) → length (base_line x) < 256
+base_short x is stands =
+    let all = base_weight x is (λ p fits. omega (
+      arith,
+      short_weight (entry_words (waiting_by p.who.back p)) (stands p fits).0,
+      (stands p fits).1,
+    )) in
+    omega (arith, line_weight (base_words x), all)
+
+pub some_line : (x : BaseLine) → 1 ≤ length (base_line x)
+some_line x = by (base_words x) (name_of x) (named x).0 (named x).1 (some_bytes x)
+  where
+    by : (ws : Words) (w : List ℕ) (rest : Words) → ws ≡ w ∷ rest → 0 < length w → 1 ≤ length (line_of ws)
+    by [] w rest is some = absurd cc
+    by (v ∷ []) w rest is some = rw (first_word v w [] rest is) (omega (arith, some))
+    by (v ∷ u ∷ ws) w rest is some = omega (arith, length-append v (32 ∷ line_of (u ∷ ws)))
+
+-- ---- a line that may follow is spelt
+
+opening_few : (o : Object) (c : ℕ) → IsOpening o c → opening_count o ≤ 2147483647
+opening_few (Lock p) c r = omega arith
+opening_few (ReadWrite p) c r = omega arith
+opening_few (Semaphore p n) c r = omega arith
+opening_few (Latch n) c r = omega (arith, r.1)
+
+few_conditions : (o : Object) (c : ℕ) → IsOpening o c → c ≤ 16
+few_conditions (Lock p) c r = r
+few_conditions (ReadWrite p) c r = r
+few_conditions (Semaphore p n) c r = omega (arith, r.0)
+few_conditions (Latch n) c r = omega (arith, r.0)
+
+few_exclusive : (o : Object) → most_exclusive o ≤ 2147483647
+few_exclusive (Lock p) = omega arith
+few_exclusive (ReadWrite p) = omega arith
+few_exclusive (Semaphore p c) = omega arith
+few_exclusive (Latch c) = omega arith
+
+few_held : (o : Object) (seats : ℕ) (t : Told) (has : SeatBase) → MayHold o seats t has →
+    (has.exclusive ≤ 2147483647) × (has.shared ≤ most_permits)
+few_held (Lock p) seats t has may = (omega (arith, may.0), omega (arith, may.1))
+few_held (ReadWrite p) seats t has may = (omega (arith, may.0), omega (arith, may.1))
+few_held (Semaphore p c) seats t has may = (omega (arith, may.0), may.1)
+few_held (Latch c) seats t has may = (omega (arith, may.0), omega (arith, may.1))
+
+came_back : (how : End) → how ≢ end.None → CameBack how
+came_back end.None some = absurd (some refl)
+came_back end.Timeout some = tt
+came_back end.Interrupt some = tt
+came_back end.Signalled some = tt
+
+abbrev standing : ℕ → Mode → ℕ → Bool → ℕ → ℕ → End → Standing
+standing seat mode n back condition holds how =
+    record {
+      who = record { seat = seat; mode = mode; n = n; back = back };
+      condition = condition;
+      holds = holds;
+      how = how;
+    }
+
+stood : (p : Standing) (b : Bool) → p.who.back ≡ b → IsWritten (waiting_by b p) →
+    p ≡ stood_by b (waiting_by b p)
+    → IsWritten (waiting_by p.who.back p) × (p ≡ stood_by p.who.back (waiting_by p.who.back p))
+stood p b back written is =
+    subst (λ (z : Bool). IsWritten (waiting_by z p) × (p ≡ stood_by z (waiting_by z p))) (sym back)
+    (written, is)
+
+asks_line : (b : Base) (p : Standing) → IsInRange b.header → p.who.back ≡ false → Asks b p →
+    IsBaseLine (Stands p)
+asks_line b p range back asks =
+    let amount = asked_few b.header.object p.who.n asks.amount in
+    let is : p ≡ standing p.who.seat p.who.mode p.who.n false 0 0 end.None =
+    ap (λ (x : Bool). standing p.who.seat p.who.mode p.who.n x p.condition p.holds p.how) back
+    ∙ ap (λ (x : ℕ). standing p.who.seat p.who.mode p.who.n false x p.holds p.how) asks.condition
+    ∙ ap (λ (x : ℕ). standing p.who.seat p.who.mode p.who.n false 0 x p.how) asks.holds
+    ∙ ap (λ (x : End). standing p.who.seat p.who.mode p.who.n false 0 0 x) asks.how in
+    let both =
+    stood p false back
+    (record { words = (refl, refl); amount = omega (arith, amount); condition = omega arith }) is in
+    (omega (arith, range.seats, asks.seat), both.0, both.1)
+
+gave_few : (b : Base) (i c n : ℕ) → IsInRange b.header → GaveUp b i c n →
+    (i ≤ 255) × (c ≤ 15) × (n ≤ 2147483647)
+gave_few b i c n range gave = (
+  omega (arith, range.seats, gave.seat),
+  omega (arith, few_conditions b.header.object b.header.conditions range.opening, gave.condition),
+  omega (arith, few_exclusive b.header.object, gave.most),
+)
+
+returns_line : (b : Base) (p : Standing) → IsInRange b.header → p.who.back ≡ true → Returns b p →
+    IsBaseLine (Stands p)
+returns_line b p range back returns =
+    let few = gave_few b p.who.seat p.condition p.holds range returns.gave in
+    let is : p ≡ record {
+      who = coming_back p.who.seat;
+      condition = p.condition;
+      holds = p.holds;
+      how = p.how;
+    } = ap (λ (w : _). record { who = w; condition = p.condition; holds = p.holds; how = p.how })
+    returns.who in
+    let both =
+    stood p true back
+    (record { words = (refl, came_back p.how returns.how); amount = few.2; condition = few.1 }) is in
+    (few.0, both.0, both.1)
+
+pub may_follow_spelt : (t : Told) (b : Base) (x : BaseLine) → IsInRange b.header → t.entries ≤ most_folded →
+    MayFollow t b x → IsBaseLine x
+may_follow_spelt t b (Folded n) range few may = (may.0.some, may.0.most)
+may_follow_spelt t b (Released n u) range few may = (may.0.some, may.0.most, may.2)
+may_follow_spelt t b (CountedDown n q) range few may = (
+  may.0.some,
+  may.0.most,
+  omega (arith, may.2, opening_few b.header.object b.header.conditions range.opening),
+)
+may_follow_spelt t b (Seat i has) range few may =
+    let held = few_held b.header.object b.header.seats t has may.holds in (
+      omega (arith, range.seats, may.seat),
+      omega (arith, may.calls, few),
+      held.0,
+      held.1,
+    )
+may_follow_spelt t b (Stands p) range few may =
+    ⊎_elim (λ q. asks_line b p range q.0 q.1) (λ q. returns_line b p range q.0 q.1) may.3
+may_follow_spelt t b (Sleeps c x) range few may =
+    let gave = gave_few b x.seat c x.holds range may.3 in (gave.1, gave.0, gave.2)

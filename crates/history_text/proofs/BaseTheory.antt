@@ -1,0 +1,164 @@
+-- The lines of a base and good bases.
+use Rattle.std.proofs.Common.{◌≡◌, ◌≤◌, List, [], ◌∷◌, ◌++◌, ap, ◌∙◌, sym, subst, refl, arith}
+use Rattle.std.proofs.lemmas.List.{append_assoc}
+use Rattle.history.specs.declared.header.Header.{Header}
+use Rattle.history.specs.Base.{Base, based, opening_base, seat_of}
+use Rattle.history.specs.declared.header.Object.{Object}
+use Rattle.history.specs.declared.header.Object.TheVariants.{Lock, ReadWrite, Semaphore, Latch}
+use Rattle.history.specs.GoodBase.{IsGood}
+use Rattle.history.specs.Header.{IsInRange}
+use Rattle.history.specs.Legal.{calls}
+use Rattle.history_text.specs.declared.base_line.BaseLine.{BaseLine}
+use Rattle.history_text.specs.declared.base_line.BaseLine.TheVariants.{Folded, Released, CountedDown, Seat, Stands, Sleeps}
+use Rattle.history_text.specs.BaseFollowing.{AllFollow, AllRead, HasShape, after_told, with_lines}
+use Rattle.history_text.specs.BaseLines.{base_lines, first_line}
+use Rattle.history_text.specs.BaseRules.{AllSeated, MayFollow, Told, told, untold, with_line}
+use Rattle.history_text.specs.BaseTelling.{IsToldBase}
+use Rattle.history_text.proofs.BaseRetold.{good_told}
+use Rattle.history_text.proofs.BaseTold.{gave_moved, header_after, header_kept, stands_moved, whole_told}
+use Rattle.history_text.proofs.BaseWalk.{IsTold, base_told}
+use Rattle.history_text.proofs.BaseWhole.{some_base}
+
+-- a good base of some entries, with a header in range
+pub record IsGoodOf (b : Base) : Type 0 where
+  pub range : IsInRange b.header
+  pub some : 1 ≤ b.entries
+  pub good : IsGood b
+
+-- the base that lines say
+abbrev pub said : Header → List BaseLine → Base
+said k xs = with_lines (opening_base k) xs
+
+of_header : (k : Header) (b : Base) → IsInRange k → IsToldBase k b → IsGoodOf b
+of_header k b range is =
+    record { range = subst IsInRange (sym is.header) range; some = is.some; good = is.good }
+
+-- lines behind the last seat leave the seats
+one_kept : (t : Told) (b : Base) (x : BaseLine) → AllSeated b.header t → MayFollow t b x →
+    ((with_line b x).seats ≡ b.seats) × AllSeated b.header (told t x)
+one_kept t b (Folded n) all may = (refl, record { begun = may.0.some; seats = all.seats })
+one_kept t b (Released n u) all may = (refl, record { begun = may.0.some; seats = all.seats })
+one_kept t b (CountedDown n q) all may = (refl, record { begun = may.0.some; seats = all.seats })
+one_kept t b (Seat i has) all may =
+    let n = may.next in let l = may.seat in let e = all.seats in absurd (omega (arith, n, l, e))
+one_kept t b (Stands p) all may = (refl, record { begun = all.begun; seats = all.seats })
+one_kept t b (Sleeps c x) all may = (refl, record { begun = all.begun; seats = all.seats })
+
+seats_kept : (t : Told) (b : Base) (xs : List BaseLine) → AllSeated b.header t → AllRead b t xs →
+    (with_lines b xs).seats ≡ b.seats
+seats_kept t b [] all read = refl
+seats_kept t b (x ∷ xs) all read =
+    let one = one_kept t b x all read.0 in
+    seats_kept (told t x) (with_line b x) xs
+    (subst (λ h. AllSeated h (told t x)) (sym (header_kept b x)) one.1) read.1
+    ∙ one.0
+
+-- what may follow under the base so far may follow under the whole one
+one_follows : (t : Told) (a b : Base) (x : BaseLine) → b.header ≡ a.header →
+    (AllSeated b.header t → b.seats ≡ a.seats) → MayFollow t b x → MayFollow t a x
+one_follows t a b (Folded n) h s may =
+    subst (λ (k : Header). MayFollow t (record b { header = k }) (Folded n)) h may
+one_follows t a b (Released n u) h s may =
+    subst (λ (k : Header). MayFollow t (record b { header = k }) (Released n u)) h may
+one_follows t a b (CountedDown n q) h s may =
+    subst (λ (k : Header). MayFollow t (record b { header = k }) (CountedDown n q)) h may
+one_follows t a b (Seat i has) h s may =
+    subst (λ (k : Header). MayFollow t (record b { header = k }) (Seat i has)) h may
+one_follows t a b (Stands p) h s may = (
+  subst (λ k. AllSeated k t) h may.0,
+  may.1,
+  may.2,
+  stands_moved b a p h (s may.0) may.3,
+)
+one_follows t a b (Sleeps c x) h s may = (
+  subst (λ k. AllSeated k t) h may.0,
+  may.1,
+  may.2,
+  gave_moved b a x.seat c x.holds h (s may.0) may.3,
+)
+
+read_follows : (t : Told) (a b : Base) (xs : List BaseLine) → with_lines b xs ≡ a → AllRead b t xs →
+    AllFollow a t xs
+read_follows t a b [] e read = tt
+read_follows t a b (x ∷ xs) e read = (
+  one_follows t a b x (sym (header_after b (x ∷ xs)) ∙ ap (λ (c : Base). c.header) e)
+      (λ all. sym (seats_kept t b (x ∷ xs) all read) ∙ ap (λ (c : Base). c.seats) e) read.0,
+  read_follows (told t x) a (with_line b x) xs e read.1,
+)
+
+-- Each line of a good base may follow those before it, also as it is read, and all seats are then told.
+pub good_reads : (b : Base) → IsGoodOf b → AllRead (opening_base b.header) untold (base_lines b)
+good_reads b of = (good_told b of.range of.good of.some).follow
+
+pub good_whole : (b : Base) → IsGoodOf b → AllSeated b.header (after_told untold (base_lines b))
+good_whole b of = (good_told b of.range of.good of.some).all
+
+-- a good base is read as it is told
+pub good_again : (b : Base) → IsGoodOf b → said b.header (base_lines b) ≡ b
+good_again b of = (good_told b of.range of.good of.some).same
+
+-- as many calls are told as ended in it
+pub good_calls : (b : Base) → IsGoodOf b → (after_told untold (base_lines b)).calls ≡ calls (based b) []
+good_calls b of = (good_told b of.range of.good of.some).calls
+
+pub good_follows : (b : Base) → IsGoodOf b → AllFollow b untold (base_lines b)
+good_follows b of =
+    read_follows untold b (opening_base b.header) (base_lines b) (good_again b of) (good_reads b of)
+
+-- lines that may follow each other, and tell all seats, are those of a good base, the one that they say
+pub reads_good : (k : Header) (xs : List BaseLine) → IsInRange k → AllRead (opening_base k) untold xs →
+    AllSeated k (after_told untold xs)
+    → IsGoodOf (said k xs) × (base_lines (said k xs) ≡ xs)
+reads_good k xs range read all =
+    let whole = whole_told k xs range read all in
+    (of_header k (said k xs) range whole.1, sym whole.0)
+
+-- a line may follow these exactly where some good base begins with them and it
+pub some_good : (k : Header) (xs : List BaseLine) (x : BaseLine) → IsInRange k →
+    AllRead (opening_base k) untold (xs ++ x ∷ [])
+    → (b : Base) × (more : List BaseLine) × IsGoodOf b × (b.header ≡ k)
+    × (base_lines b ≡ xs ++ x ∷ more)
+some_good k xs x range read =
+    let some = some_base k (xs ++ x ∷ []) range read in (
+      some.0,
+      some.1,
+      of_header k some.0 range some.2,
+      some.2.header,
+      some.3 ∙ append_assoc xs (x ∷ []) some.1,
+    )
+
+-- a base that has the shape of its object, and each of whose lines may follow those before it, is good
+first_read : (b : Base) (o : Object) → MayFollow untold b (first_line o b) →
+    (1 ≤ b.entries) × MayFollow untold (opening_base b.header) (first_line o b)
+first_read b (Lock p) may = (may.0.some, may)
+first_read b (ReadWrite p) may = (may.0.some, may)
+first_read b (Semaphore p c) may = (may.0.some, may)
+first_read b (Latch c) may = (may.0.some, may)
+
+follows_told : (b : Base) → IsInRange b.header → HasShape b → AllFollow b untold (base_lines b) → IsTold b
+follows_told b range shape follow =
+    base_told b range shape.seats shape.conditions shape.counted (λ t xs. AllFollow b t xs)
+    (λ xs known. (let first = first_read b b.header.object known.0 in (first.0, first.1, known.1)))
+    (λ n done t a so at l xs known. (
+      one_follows t a b (Seat n (seat_of b n)) (sym at.agrees.header)
+          (λ all. (let e = all.seats in let s = at.seats in absurd (omega (arith, e, s, l)))) known.0,
+      known.1,
+    ))
+    (λ p front rest done t a so at e xs known. (
+      one_follows t a b (Stands p) (sym at.agrees.header) (λ all. sym at.seats) known.0,
+      known.1,
+    ))
+    (λ c x front rest done t a so at e xs known. (
+      one_follows t a b (Sleeps c x) (sym at.agrees.header) (λ all. sym at.seats) known.0,
+      known.1,
+    ))
+    follow
+
+pub follows_good : (b : Base) → IsInRange b.header → HasShape b →
+    AllFollow b untold (base_lines b) → (1 ≤ b.entries) × IsGood b
+follows_good b range shape follow =
+    let is = follows_told b range shape follow in
+    let whole = (reads_good b.header (base_lines b) range is.follow is.all).0 in (
+      subst (λ (a : Base). 1 ≤ a.entries) is.same whole.some,
+      subst IsGood is.same whole.good,
+    )

@@ -1,0 +1,955 @@
+-- What lines of a base that follow one another tell so far: what holds of the numbers and of the base.
+use Rattle.std.proofs.Common.{◌≡◌, ◌≢◌, inl, inr, ⊎_elim, ℕ, zero, suc, ◌+◌, ◌<◌, ◌≤◌, Bool, true, false, cond, eqb, ltb, List, [], ◌∷◌, ◌++◌, length, map, get_or, take, refl, ap, ◌∙◌, sym, subst, arith}
+use Rattle.std.specs.List.{AllByRecursion}
+use Rattle.std.specs.Prelude.{ℤ, pos, neg_ℤ, ◌⊎◌, ◌≤ℤ◌, ◌+ℤ◌, ◌-ℤ◌}
+use lib.IntN.{negsuc}
+use Rattle.std.proofs.Math.ListN.{set}
+use Rattle.std.proofs.lemmas.Bool.{cases_eq, cases_lt, ltb-true}
+use Rattle.std.proofs.lemmas.Int.{ints}
+use Rattle.std.proofs.lemmas.List.{get_or_past, append-nil, append_assoc, map-append, get_or-set_same, get_or-set_other, length-take-le, length-set, length-replicate, take_all, take_more_set}
+use Rattle.history.specs.declared.base.SeatBase.{SeatBase}
+use Rattle.history.specs.declared.base.Sleeper.{Sleeper}
+use Rattle.history.specs.declared.base.Standing.{Standing}
+use Rattle.history.specs.declared.entry.Mode.{Mode}
+use Rattle.history.specs.declared.entry.Mode.TheVariants.{X, S}
+use Rattle.history.specs.declared.header.Header.{Header}
+use Rattle.history.specs.declared.header.Object.{Object}
+use Rattle.history.specs.declared.header.Object.TheVariants.{Lock, ReadWrite, Semaphore, Latch}
+use Rattle.history.specs.Base.{Base, based, each_below, nothing, opening_base, seat_of, sleepers_of}
+use Rattle.history.specs.Counts.{free, held, total}
+use Rattle.history.specs.GoodBase.{AreCounted, AreHeld, GaveUp, IsGood, SleepsWell, StandsWell, most_folded, most_permits}
+use Rattle.history.specs.Header.{IsInRange}
+use Rattle.history.specs.Object.{created, is_latch, is_lock, is_semaphore, opening_count}
+use Rattle.history.specs.Ownership.{IsOwned, most_exclusive, most_shared}
+use Rattle.history.specs.Line.{line}
+use Rattle.history.specs.Steps.{at_least_none}
+use Rattle.history.specs.Waiting.{IsOneWait, seats_of, times}
+use Rattle.history.proofs.Folding.{get_or-each, length-each}
+use Rattle.history.proofs.LineLemmas.{line_at_first}
+use Rattle.history.proofs.OpeningBase.{no_seat, opening_good}
+use Rattle.history.proofs.SleepLemmas.{times-waiting}
+use Rattle.history.proofs.Sums.{total_nothing, total_same}
+use Rattle.history.proofs.Times.{each-append, once_other, once_same, one_if, total_part}
+use Rattle.history_text.specs.declared.base_line.BaseLine.{BaseLine}
+use Rattle.history_text.specs.declared.base_line.BaseLine.TheVariants.{Folded, Released, CountedDown, Seat, Stands, Sleeps}
+use Rattle.history_text.specs.BaseFollowing.{AllRead, with_lines, after_told}
+use Rattle.history_text.specs.BaseTelling.{Follow, IsToldBase, base_by, told_by}
+use Rattle.history_text.specs.BaseLines.{base_lines, first_line, seat_lines, sleeper_lines}
+use Rattle.history_text.specs.BaseRules.{AllSeated, IsFirst, IsFree, IsSeated, MayFollow, MayHold, Told, told, untold, with_line}
+use Rattle.history_text.proofs.BasePlaces.{each_then, first_line_same, no_lines, seat_lines_push, sleeper_lines_push, times_stands, total_put, total_sleeps}
+
+-- the lines of a base as far as they are told
+abbrev pub lines_so_far : Told → Base → List BaseLine
+lines_so_far t b =
+    first_line b.header.object b
+    ∷ (seat_lines 0 (take t.seats b.seats) ++ (map Stands b.line ++ sleeper_lines 0 b.sleepers))
+
+-- how often a seat waits
+abbrev pub waits_of : Base → ℕ → ℕ
+waits_of b i =
+    times i (seats_of (map (λ p. p.who) b.line))
+    + total b.header.conditions (λ c. times i (map (λ x. x.seat) (sleepers_of b c)))
+
+-- the numbers and the seats
+pub record Summed (t : Told) (b : Base) : Type 0 where
+  pub entries : b.entries ≡ t.entries
+  pub unheld : b.unheld ≡ t.unheld
+  pub length : length b.seats ≡ b.header.seats
+  pub seats : t.seats ≤ b.header.seats
+  pub rest : (i : ℕ) → t.seats ≤ i → seat_of b i ≡ nothing
+  pub calls : total b.header.seats (λ i. (seat_of b i).calls) ≡ t.calls
+  pub exclusive : total b.header.seats (λ i. (seat_of b i).exclusive) ≡ t.exclusive
+  pub shared : total b.header.seats (λ i. (seat_of b i).shared) ≡ t.shared
+  pub few : t.calls ≤ t.entries
+  pub most : t.entries ≤ most_folded
+
+-- the permits of a semaphore so far
+pub record PermitsSoFar (created : ℤ) (t : Told) (b : Base) : Type 0 where
+  pub exclusive : (i : ℕ) → (seat_of b i).exclusive ≡ 0
+  pub shared : (i : ℕ) → (seat_of b i).shared ≤ most_permits
+  pub lowest : t.shared ≤ t.unheld + at_least_none created
+  pub highest : t.seats ≡ b.header.seats →
+      t.unheld + at_least_none created ≤ 2147483647 + t.shared + at_least_none (neg_ℤ created)
+
+abbrev pub HeldSoFar : Object → Told → Base → Type 0
+HeldSoFar (Lock policy) t b = IsOwned (based b) []
+HeldSoFar (ReadWrite policy) t b = IsOwned (based b) []
+HeldSoFar (Semaphore policy permits) t b = PermitsSoFar permits t b
+HeldSoFar (Latch opening) t b = (i : ℕ) (m : Mode) → held (based b) [] i m ≡ 0
+
+-- who waits
+pub record Waited (t : Told) (b : Base) : Type 0 where
+  pub places : length t.waits ≡ 256
+  pub free : (i : ℕ) → i < 256 → get_or t.waits i false ≡ false → waits_of b i ≡ 0
+  pub once : (i : ℕ) → waits_of b i ≤ 1
+  pub conditions : length b.sleepers ≡ b.header.conditions
+  pub line : AllByRecursion (StandsWell b) b.line
+  pub sleepers : (c : ℕ) → AllByRecursion (SleepsWell b c) (sleepers_of b c)
+  pub awake : t.asleep ≡ false → (c : ℕ) → sleepers_of b c ≡ []
+  pub later : (c : ℕ) → t.condition < c → sleepers_of b c ≡ []
+  pub nobody : t.seats < b.header.seats → (b.line ≡ []) × ((c : ℕ) → sleepers_of b c ≡ [])
+
+-- which lines those were
+pub record Spelt (done : List BaseLine) (t : Told) (b : Base) : Type 0 where
+  pub none : t.entries ≡ 0 → (t.seats ≡ 0) × (t.shared ≡ 0) × (done ≡ [])
+  pub some : 1 ≤ t.entries → done ≡ lines_so_far t b
+
+pub record SoFar (done : List BaseLine) (t : Told) (b : Base) : Type 0 where
+  pub range : IsInRange b.header
+  pub summed : Summed t b
+  pub counted : AreCounted b.header.object b
+  pub held : HeldSoFar b.header.object t b
+  pub waited : Waited t b
+  pub spelt : Spelt done t b
+
+-- what waits well speaks of the header and the seats alone
+abbrev bare : Header → List SeatBase → Base
+bare k seats =
+    record { header = k; entries = 0; seats = seats; unheld = 0; count = 0; line = []; sleepers = [] }
+
+pub gave_bare : (b : Base) (i c n : ℕ) → GaveUp b i c n → GaveUp (bare b.header b.seats) i c n
+gave_bare b i c n g =
+    record {
+      lock = g.lock;
+      seat = g.seat;
+      condition = g.condition;
+      some = g.some;
+      most = g.most;
+      nothing = g.nothing;
+    }
+
+pub gave_same : (b : Base) (i c n : ℕ) → GaveUp (bare b.header b.seats) i c n → GaveUp b i c n
+gave_same b i c n g =
+    record {
+      lock = g.lock;
+      seat = g.seat;
+      condition = g.condition;
+      some = g.some;
+      most = g.most;
+      nothing = g.nothing;
+    }
+
+pub to_bare : (b : Base) (p : Standing) → StandsWell b p → StandsWell (bare b.header b.seats) p
+to_bare b p w =
+    ⊎_elim (λ a. inl (
+      a.0,
+      record {
+        seat = a.1.seat;
+        mode = a.1.mode;
+        amount = a.1.amount;
+        owns = a.1.owns;
+        condition = a.1.condition;
+        holds = a.1.holds;
+        how = a.1.how;
+      },
+    ))
+    (λ r. inr (
+      r.0,
+      record {
+        who = r.1.who;
+        gave = gave_bare b p.who.seat p.condition p.holds r.1.gave;
+        how = r.1.how;
+      },
+    ))
+    w
+
+pub from_bare : (b : Base) (p : Standing) → StandsWell (bare b.header b.seats) p → StandsWell b p
+from_bare b p w =
+    ⊎_elim (λ a. inl (
+      a.0,
+      record {
+        seat = a.1.seat;
+        mode = a.1.mode;
+        amount = a.1.amount;
+        owns = a.1.owns;
+        condition = a.1.condition;
+        holds = a.1.holds;
+        how = a.1.how;
+      },
+    ))
+    (λ r. inr (
+      r.0,
+      record {
+        who = r.1.who;
+        gave = gave_same b p.who.seat p.condition p.holds r.1.gave;
+        how = r.1.how;
+      },
+    ))
+    w
+
+pub no_sleepers : (k : Header) (c : ℕ) → sleepers_of (opening_base k) c ≡ []
+no_sleepers k c =
+    ⊎_elim (λ l. get_or-each k.conditions (λ c. []) c [] l)
+    (λ l. get_or_past (each_below k.conditions (λ c. [])) c []
+    (let e = length-each {A = List Sleeper} k.conditions (λ c. []) in omega (arith, e, l)))
+    (cases_lt c k.conditions)
+
+pub gave_moved : (a b : Base) (i c n : ℕ) → a.header ≡ b.header → a.seats ≡ b.seats → GaveUp a i c n →
+    GaveUp b i c n
+gave_moved a b i c n h s g =
+    gave_same b i c n (subst (λ k. GaveUp (bare k b.seats) i c n) h
+    (subst (λ l. GaveUp (bare a.header l) i c n) s (gave_bare a i c n g)))
+
+pub stands_moved : (a b : Base) (p : Standing) → a.header ≡ b.header → a.seats ≡ b.seats → StandsWell a p →
+    StandsWell b p
+stands_moved a b p h s w =
+    from_bare b p (subst (λ k. StandsWell (bare k b.seats) p) h
+    (subst (λ l. StandsWell (bare a.header l) p) s (to_bare a p w)))
+
+-- nothing was told
+module _ (k : Header) (range : IsInRange k) where
+  no_sum : (f : SeatBase → ℕ) → f nothing ≡ 0 → total k.seats (λ i. f (seat_of (opening_base k) i)) ≡ 0
+  no_sum f z =
+      total_same k.seats (λ i. f (seat_of (opening_base k) i)) (λ i. 0) (λ i. ap f (no_seat k i) ∙ z)
+      ∙ total_nothing k.seats
+
+  held_none : (o : Object) → AreHeld o (opening_base k) → HeldSoFar o untold (opening_base k)
+  held_none (Lock p) v = v
+  held_none (ReadWrite p) v = v
+  held_none (Semaphore p c) v =
+      record {
+        exclusive = v.exclusive;
+        shared = v.shared;
+        lowest = omega arith;
+        highest = λ q. (let some = range.some_seat in absurd (omega (arith, some, q)));
+      }
+  held_none (Latch c) v = v
+
+  pub nobody_waits : (i : ℕ) → waits_of (opening_base k) i ≡ 0
+  nobody_waits i =
+      let z : total k.conditions (λ c. times i (map (λ x. x.seat) (sleepers_of (opening_base k) c))) ≡ 0 =
+      total_same k.conditions (λ c. times i (map (λ x. x.seat) (sleepers_of (opening_base k) c))) (λ c. 0)
+      (λ c. ap (λ l. times i (map (λ (x : Sleeper). x.seat) l)) (no_sleepers k c))
+      ∙ total_nothing k.conditions in
+      omega (arith, z)
+
+  pub begun : SoFar [] untold (opening_base k)
+  begun =
+      record {
+        range = range;
+        summed = record {
+          entries = refl;
+          unheld = refl;
+          length = length-each k.seats (λ i. nothing);
+          seats = omega arith;
+          rest = λ i l. no_seat k i;
+          calls = no_sum (λ x. x.calls) refl;
+          exclusive = no_sum (λ x. x.exclusive) refl;
+          shared = no_sum (λ x. x.shared) refl;
+          few = omega arith;
+          most = omega arith;
+        };
+        counted = (opening_good k range).counted;
+        held = held_none k.object (opening_good k range).held;
+        waited = record {
+          places = length-replicate 256 false;
+          free = λ i l f. nobody_waits i;
+          once = λ i. (let z = nobody_waits i in omega (arith, z));
+          conditions = length-each k.conditions (λ c. []);
+          line = tt;
+          sleepers = (opening_good k range).sleepers;
+          awake = λ f c. no_sleepers k c;
+          later = λ c l. no_sleepers k c;
+          nobody = λ l. (refl, no_sleepers k);
+        };
+        spelt = record { none = λ z. (refl, refl, refl); some = λ l. absurd (omega (arith, l)) };
+      }
+
+-- the first line
+module _ (done : List BaseLine) (t : Told) (b : Base) (so : SoFar done t b) (n u v q : ℕ) where
+  abbrev now : Base
+  now = record b { entries = n; unheld = v; count = q }
+
+  abbrev then : Told
+  then = record t { entries = n; unheld = u }
+
+  held_first : (o : Object) → t.entries ≡ 0 → HeldSoFar o t b → HeldSoFar o then now
+  held_first (Lock p) z v =
+      record { one = v.one; alone = v.alone; exclusive = v.exclusive; shared = v.shared }
+  held_first (ReadWrite p) z v =
+      record { one = v.one; alone = v.alone; exclusive = v.exclusive; shared = v.shared }
+  held_first (Semaphore p c) z v =
+      let none = so.spelt.none z in
+      let nobody : t.seats ≡ 0 = none.0 in
+      let nothing_held : t.shared ≡ 0 = none.1 in
+      let some = so.range.some_seat in
+      record {
+        exclusive = v.exclusive;
+        shared = v.shared;
+        lowest = omega (arith, nothing_held);
+        highest = λ q. absurd (omega (arith, nobody, some, q));
+      }
+  held_first (Latch c) z v = v
+
+  pub first_told : (x : BaseLine) → v ≡ u → IsFirst t n → AreCounted b.header.object now →
+      first_line b.header.object now ≡ x → SoFar (done ++ x ∷ []) then now
+  first_told x same first counted e =
+      record {
+        range = so.range;
+        summed = record {
+          entries = refl;
+          unheld = same;
+          length = so.summed.length;
+          seats = so.summed.seats;
+          rest = so.summed.rest;
+          calls = so.summed.calls;
+          exclusive = so.summed.exclusive;
+          shared = so.summed.shared;
+          few = let few = so.summed.few in let none = first.none in omega (arith, few, none);
+          most = first.most;
+        };
+        counted = counted;
+        held = held_first b.header.object first.none so.held;
+        waited = record {
+          places = so.waited.places;
+          free = so.waited.free;
+          once = so.waited.once;
+          conditions = so.waited.conditions;
+          line = each_then (StandsWell b) (StandsWell now) (λ p w. from_bare now p (to_bare b p w)) b.line
+              so.waited.line;
+          sleepers = λ c. each_then (SleepsWell b c) (SleepsWell now c)
+              (λ y w. gave_same now y.seat c y.holds (gave_bare b y.seat c y.holds w)) (sleepers_of b c)
+              (so.waited.sleepers c);
+          awake = so.waited.awake;
+          later = so.waited.later;
+          nobody = so.waited.nobody;
+        };
+        spelt = record {
+          none = λ z. (let some = first.some in absurd (omega (arith, some, z)));
+          some = λ l. spelt;
+        };
+      }
+    where
+      none : (t.seats ≡ 0) × (t.shared ≡ 0) × (done ≡ [])
+      none = so.spelt.none first.none
+
+      nobody : (b.line ≡ []) × ((c : ℕ) → sleepers_of b c ≡ [])
+      nobody = so.waited.nobody
+          (let z : t.seats ≡ 0 = none.0 in let l = so.range.some_seat in omega (arith, z, l))
+
+      spelt : done ++ x ∷ [] ≡ lines_so_far then now
+      spelt =
+          ap (λ l. l ++ x ∷ []) none.2
+          ∙ ap (λ y. y ∷ []) (sym e)
+          ∙ ap (λ l. first_line b.header.object now ∷ (seat_lines 0 (take 0 b.seats) ++ (map Stands [] ++ l)))
+          (sym (no_lines 0 b.sleepers nobody.1))
+          ∙ ap (λ l. first_line b.header.object now ∷ (seat_lines 0 (take 0 b.seats) ++ (map Stands l ++
+          sleeper_lines 0 b.sleepers))) (sym nobody.0)
+          ∙ ap (λ m. first_line b.header.object now ∷ (seat_lines 0 (take m b.seats) ++ (map Stands b.line ++
+          sleeper_lines 0 b.sleepers))) (sym none.0)
+
+-- one line behind a part that is empty
+swap_nil : {A : Type 0} (xs ys : List A) (x : A) → ys ≡ [] → (xs ++ ys) ++ x ∷ [] ≡ (xs ++ x ∷ []) ++ ys
+swap_nil xs ys x z =
+    ap (λ l. (xs ++ l) ++ x ∷ []) z
+    ∙ ap (λ l. l ++ x ∷ []) (append-nil xs)
+    ∙ sym (append-nil (xs ++ x ∷ []))
+    ∙ ap (λ l. (xs ++ x ∷ []) ++ l) (sym z)
+
+-- a part is no more than the sum
+part : (t : Told) (b : Base) → Summed t b → (f : SeatBase → ℕ) → f nothing ≡ 0 → (j : ℕ) →
+    f (seat_of b j) ≤ total b.header.seats (λ i. f (seat_of b i))
+part t b sums f z j =
+    ⊎_elim (λ l. total_part b.header.seats (λ i. f (seat_of b i)) j l)
+    (λ l. (let m = sums.seats in
+    let e : f (seat_of b j) ≡ 0 = ap f (sums.rest j (omega (arith, m, l))) ∙ z in omega (arith, e)))
+    (cases_lt j b.header.seats)
+
+-- a seat
+module _ (done : List BaseLine) (t : Told) (b : Base) (so : SoFar done t b) (i : ℕ) (has : SeatBase)
+    (seated : IsSeated b.header t i has) where
+  abbrev with_seat : Base
+  with_seat = record b { seats = set b.seats i has }
+
+  abbrev seat_told : Told
+  seat_told =
+      record t {
+        seats = t.seats + 1;
+        calls = t.calls + has.calls;
+        exclusive = t.exclusive + has.exclusive;
+        shared = t.shared + has.shared;
+      }
+
+  sums : Summed t b
+  sums = so.summed
+
+  within : i < length b.seats
+  within = let l = sums.length in let m = seated.seat in omega (arith, l, m)
+
+  here : (j : ℕ) → j ≡ i → seat_of with_seat j ≡ has
+  here j e = ap (λ n. get_or (set b.seats i has) n nothing) e ∙ get_or-set_same b.seats i has nothing within
+
+  other : (j : ℕ) → j ≢ i → seat_of with_seat j ≡ seat_of b j
+  other j ne = get_or-set_other b.seats i j has nothing ne
+
+  was_nothing : seat_of b i ≡ nothing
+  was_nothing = sums.rest i (let e = seated.next in omega (arith, e))
+
+  more : (f : SeatBase → ℕ) → f nothing ≡ 0 →
+      total b.header.seats (λ j. f (seat_of with_seat j))
+      ≡ total b.header.seats (λ j. f (seat_of b j)) + f has
+  more f z = total_put b.header.seats f b.seats i has seated.seat within (ap f was_nothing ∙ z)
+
+  none_exclusive : t.exclusive ≡ 0 → (j : ℕ) → (seat_of b j).exclusive ≡ 0
+  none_exclusive z j =
+      let p = part t b sums (λ x. x.exclusive) refl j in let e = sums.exclusive in omega (arith, p, e, z)
+
+  none_shared : t.shared ≡ 0 → (j : ℕ) → (seat_of b j).shared ≡ 0
+  none_shared z j =
+      let p = part t b sums (λ x. x.shared) refl j in let e = sums.shared in omega (arith, p, e, z)
+
+  summed_seat : Summed seat_told with_seat
+  summed_seat =
+      record {
+        entries = sums.entries;
+        unheld = sums.unheld;
+        length = length-set b.seats i has ∙ sums.length;
+        seats = let e = seated.next in let l = seated.seat in omega (arith, e, l);
+        rest = λ j l. (let e = seated.next in let n = sums.rest j (omega (arith, l)) in
+            let ne : j ≢ i = omega (arith, e, l) in other j ne ∙ n);
+        calls = more (λ x. x.calls) refl ∙ ap (λ n. n + has.calls) sums.calls;
+        exclusive = more (λ x. x.exclusive) refl ∙ ap (λ n. n + has.exclusive) sums.exclusive;
+        shared = more (λ x. x.shared) refl ∙ ap (λ n. n + has.shared) sums.shared;
+        few = seated.calls;
+        most = sums.most;
+      }
+
+  owned_seat : IsOwned (based b) [] → has.exclusive ≤ most_exclusive b.header.object →
+      t.shared + has.shared ≤ most_shared b.header.object →
+      (has.exclusive ≡ 0) ⊎ ((t.exclusive ≡ 0) × (t.shared ≡ 0)) →
+      (has.shared ≡ 0) ⊎ (t.exclusive ≡ 0) → IsOwned (based with_seat) []
+  owned_seat was few together no_owner no_reader =
+      record {
+        one = λ j k p q. one j k p q (cases_eq j i) (cases_eq k i);
+        alone = λ j k p q. alone j k p q (cases_eq j i) (cases_eq k i);
+        exclusive = λ j. ⊎_elim
+            (λ e. (let h : (seat_of with_seat j).exclusive ≡ has.exclusive =
+            ap (λ (x : SeatBase). x.exclusive) (here j e)
+            in omega (arith, h, few)))
+            (λ ne. (let h : (seat_of with_seat j).exclusive ≡ (seat_of b j).exclusive =
+            ap (λ (x : SeatBase). x.exclusive) (other j ne) in
+            let w = was.exclusive j in omega (arith, h, w)))
+            (cases_eq j i);
+        shared = let m = more (λ x. x.shared) refl in let e = sums.shared in omega (arith, m, e, together);
+      }
+    where
+      ex : (j : ℕ) → j ≢ i → 0 < (seat_of with_seat j).exclusive → 0 < (seat_of b j).exclusive
+      ex j ne p = subst (λ (x : SeatBase). 0 < x.exclusive) (other j ne) p
+
+      sh : (j : ℕ) → j ≢ i → 0 < (seat_of with_seat j).shared → 0 < (seat_of b j).shared
+      sh j ne p = subst (λ (x : SeatBase). 0 < x.shared) (other j ne) p
+
+      ex_here : (j : ℕ) → j ≡ i → 0 < (seat_of with_seat j).exclusive → 0 < has.exclusive
+      ex_here j e p = subst (λ (x : SeatBase). 0 < x.exclusive) (here j e) p
+
+      sh_here : (j : ℕ) → j ≡ i → 0 < (seat_of with_seat j).shared → 0 < has.shared
+      sh_here j e p = subst (λ (x : SeatBase). 0 < x.shared) (here j e) p
+
+      no_ex : (j : ℕ) → 0 < has.exclusive → 0 < (seat_of b j).exclusive → ⊥
+      no_ex j p q =
+          ⊎_elim (λ z. omega (arith, z, p))
+          (λ z. (let n = none_exclusive z.0 j in omega (arith, n, q))) no_owner
+
+      no_sh : (j : ℕ) → 0 < has.exclusive → 0 < (seat_of b j).shared → ⊥
+      no_sh j p q =
+          ⊎_elim (λ z. omega (arith, z, p))
+          (λ z. (let n = none_shared z.1 j in omega (arith, n, q))) no_owner
+
+      no_ex_beside : (j : ℕ) → 0 < has.shared → 0 < (seat_of b j).exclusive → ⊥
+      no_ex_beside j p q =
+          ⊎_elim (λ z. omega (arith, z, p))
+          (λ z. (let n = none_exclusive z j in omega (arith, n, q))) no_reader
+
+      one : (j k : ℕ) → 0 < (seat_of with_seat j).exclusive → 0 < (seat_of with_seat k).exclusive →
+          (j ≡ i) ⊎ (j ≢ i) → (k ≡ i) ⊎ (k ≢ i) → j ≡ k
+      one j k p q (inl e) (inl d) = e ∙ sym d
+      one j k p q (inl e) (inr d) = absurd (no_ex k (ex_here j e p) (ex k d q))
+      one j k p q (inr e) (inl d) = absurd (no_ex j (ex_here k d q) (ex j e p))
+      one j k p q (inr e) (inr d) = was.one j k (ex j e p) (ex k d q)
+
+      alone : (j k : ℕ) → 0 < (seat_of with_seat j).exclusive → 0 < (seat_of with_seat k).shared →
+          (j ≡ i) ⊎ (j ≢ i) → (k ≡ i) ⊎ (k ≢ i) → j ≡ k
+      alone j k p q (inl e) (inl d) = e ∙ sym d
+      alone j k p q (inl e) (inr d) = absurd (no_sh k (ex_here j e p) (sh k d q))
+      alone j k p q (inr e) (inl d) = absurd (no_ex_beside j (sh_here k d q) (ex j e p))
+      alone j k p q (inr e) (inr d) = was.alone j k (ex j e p) (sh k d q)
+
+  held_seat : (o : Object) → b.header.object ≡ o → HeldSoFar o t b → MayHold o b.header.seats t has →
+      HeldSoFar o seat_told with_seat
+  held_seat (Lock p) q v may =
+      let none : t.shared ≡ 0 =
+      (let a = v.shared in let m = ap most_shared q in let e = sums.shared in omega (arith, a, m, e)) in
+      owned_seat v (let m = ap most_exclusive q in let l = may.0 in omega (arith, m, l))
+      (let z = may.1 in omega (arith, z, none))
+      (⊎_elim (λ z. inr (z, none)) (λ z. inl z) may.2) (inl may.1)
+  held_seat (ReadWrite p) q v may =
+      owned_seat v (let m = ap most_exclusive q in let l = may.0 in omega (arith, m, l))
+      (let m = ap most_shared q in let l = may.1 in omega (arith, m, l)) may.2 may.3
+  held_seat (Semaphore p c) q v may =
+      record {
+        exclusive = λ j. ⊎_elim (λ e. ap (λ (x : SeatBase). x.exclusive) (here j e) ∙ may.0)
+            (λ ne. ap (λ (x : SeatBase). x.exclusive) (other j ne) ∙ v.exclusive j) (cases_eq j i);
+        shared = λ j. ⊎_elim
+            (λ e. subst (λ (x : SeatBase). x.shared ≤ most_permits) (sym (here j e)) may.1)
+            (λ ne. subst (λ (x : SeatBase). x.shared ≤ most_permits) (sym (other j ne)) (v.shared j))
+            (cases_eq j i);
+        lowest = may.2;
+        highest = may.3;
+      }
+  held_seat (Latch c) q v may = λ j m. by m j
+    where
+      by : (m : Mode) (j : ℕ) → held (based with_seat) [] j m ≡ 0
+      by X j = ⊎_elim (λ e. ap (λ (x : SeatBase). x.exclusive) (here j e) ∙ may.0)
+          (λ ne. ap (λ (x : SeatBase). x.exclusive) (other j ne) ∙ v j X) (cases_eq j i)
+      by S j = ⊎_elim (λ e. ap (λ (x : SeatBase). x.shared) (here j e) ∙ may.1)
+          (λ ne. ap (λ (x : SeatBase). x.shared) (other j ne) ∙ v j S) (cases_eq j i)
+
+  pub seat_follows : AreCounted b.header.object with_seat →
+      SoFar (done ++ Seat i has ∷ []) seat_told with_seat
+  seat_follows counted =
+      record {
+        range = so.range;
+        summed = summed_seat;
+        counted = counted;
+        held = held_seat b.header.object refl so.held seated.holds;
+        waited = record {
+          places = so.waited.places;
+          free = so.waited.free;
+          once = so.waited.once;
+          conditions = so.waited.conditions;
+          line = subst (AllByRecursion (StandsWell with_seat)) (sym nobody.0) tt;
+          sleepers = λ c. subst (AllByRecursion (SleepsWell with_seat c)) (sym (nobody.1 c)) tt;
+          awake = so.waited.awake;
+          later = so.waited.later;
+          nobody = λ l. nobody;
+        };
+        spelt = record {
+          none = λ z. (let some = seated.begun in absurd (omega (arith, some, z)));
+          some = λ l. spelt;
+        };
+      }
+    where
+      nobody : (b.line ≡ []) × ((c : ℕ) → sleepers_of b c ≡ [])
+      nobody = so.waited.nobody (let e = seated.next in let l = seated.seat in omega (arith, e, l))
+
+      none_behind : map Stands b.line ++ sleeper_lines 0 b.sleepers ≡ []
+      none_behind =
+          ap (λ l. map Stands l ++ sleeper_lines 0 b.sleepers) nobody.0 ∙ no_lines 0 b.sleepers nobody.1
+
+      seats_now : seat_lines 0 (take (t.seats + 1) (set b.seats i has))
+          ≡ seat_lines 0 (take t.seats b.seats) ++ Seat i has ∷ []
+      seats_now =
+          ap (λ n. seat_lines 0 (take (n + 1) (set b.seats i has))) (sym seated.next)
+          ∙ ap (seat_lines 0) (take_more_set b.seats i has within)
+          ∙ seat_lines_push 0 (take i b.seats) has i
+          (let l = length-take-le i b.seats (let w = within in omega (arith, w)) in omega (arith, l))
+          ∙ ap (λ n. seat_lines 0 (take n b.seats) ++ Seat i has ∷ []) seated.next
+
+      spelt : done ++ Seat i has ∷ [] ≡ lines_so_far seat_told with_seat
+      spelt =
+          ap (λ l. l ++ Seat i has ∷ []) (so.spelt.some seated.begun)
+          ∙ ap (λ l. first_line b.header.object b ∷ l) (swap_nil (seat_lines 0 (take t.seats b.seats))
+          (map Stands b.line ++ sleeper_lines 0 b.sleepers) (Seat i has) none_behind)
+          ∙ ap (λ l. first_line b.header.object b ∷ (l ++ (map Stands b.line ++ sleeper_lines 0 b.sleepers)))
+          (sym seats_now)
+          ∙ ap (λ f. f ∷ (seat_lines 0 (take (t.seats + 1) (set b.seats i has)) ++ (map Stands b.line ++
+          sleeper_lines 0 b.sleepers))) (first_line_same b.header.object b with_seat refl refl refl)
+
+-- who waits is marked, and waits once
+module _ (t : Told) (b : Base) (w : Waited t b) (s : ℕ) (small : s < 256) (is_free : IsFree t s)
+    (after : ℕ → ℕ) (more : (i : ℕ) → after i ≡ waits_of b i + one_if (eqb s i)) where
+  marked_once : (i : ℕ) → after i ≤ 1
+  marked_once i =
+      let m = more i in
+      ⊎_elim
+      (λ e. (let z = w.free s small is_free in
+      let d : waits_of b i ≡ waits_of b s = ap (waits_of b) (sym e) in
+      let o = once_same s i e in omega (arith, m, z, d, o)))
+      (λ ne. (let o = once_other s i ne in let l = w.once i in omega (arith, m, o, l)))
+      (cases_eq s i)
+
+  marked_free : (i : ℕ) → i < 256 → get_or (set t.waits s true) i false ≡ false → after i ≡ 0
+  marked_free i l f =
+      let m = more i in
+      ⊎_elim
+      (λ e. (let d : get_or (set t.waits s true) s false ≡ true =
+      get_or-set_same t.waits s true false (let n = w.places in omega (arith, n, small)) in
+      let g : get_or (set t.waits s true) i false ≡ true =
+      ap (λ n. get_or (set t.waits s true) n false) (sym e) ∙ d in
+      absurd (cc (f, g))))
+      (λ ne. (let o = once_other s i ne in
+      let d = get_or-set_other t.waits s i true false (λ q. ne (sym q)) in
+      let z = w.free i l (sym d ∙ f) in omega (arith, m, o, z)))
+      (cases_eq s i)
+
+  marked_places : length (set t.waits s true) ≡ 256
+  marked_places = length-set t.waits s true ∙ w.places
+
+-- one in line
+module _ (done : List BaseLine) (t : Told) (b : Base) (so : SoFar done t b) (p : Standing)
+    (all : AllSeated b.header t) (awake : t.asleep ≡ false) (is_free : IsFree t p.who.seat)
+    (well : StandsWell b p) where
+  abbrev with_standing : Base
+  with_standing = record b { line = b.line ++ p ∷ [] }
+
+  abbrev stands_told : Told
+  stands_told = record t { waits = set t.waits p.who.seat true }
+
+  stands_small : p.who.seat < 256
+  stands_small =
+      let l = so.range.seats in
+      ⊎_elim (λ a. (let m = a.1.seat in omega (arith, l, m)))
+      (λ r. (let m = r.1.gave.seat in omega (arith, l, m))) well
+
+  pub stands_more : (i : ℕ) → waits_of with_standing i ≡ waits_of b i + one_if (eqb p.who.seat i)
+  stands_more i = let e = times_stands i b.line p in omega (arith, e)
+
+  held_stands : (o : Object) → HeldSoFar o t b → HeldSoFar o stands_told with_standing
+  held_stands (Lock p) v =
+      record { one = v.one; alone = v.alone; exclusive = v.exclusive; shared = v.shared }
+  held_stands (ReadWrite p) v =
+      record { one = v.one; alone = v.alone; exclusive = v.exclusive; shared = v.shared }
+  held_stands (Semaphore p c) v =
+      record { exclusive = v.exclusive; shared = v.shared; lowest = v.lowest; highest = v.highest }
+  held_stands (Latch c) v = v
+
+  pub stands_follow : AreCounted b.header.object with_standing →
+      SoFar (done ++ Stands p ∷ []) stands_told with_standing
+  stands_follow counted =
+      record {
+        range = so.range;
+        summed = record {
+          entries = so.summed.entries;
+          unheld = so.summed.unheld;
+          length = so.summed.length;
+          seats = so.summed.seats;
+          rest = so.summed.rest;
+          calls = so.summed.calls;
+          exclusive = so.summed.exclusive;
+          shared = so.summed.shared;
+          few = so.summed.few;
+          most = so.summed.most;
+        };
+        counted = counted;
+        held = held_stands b.header.object so.held;
+        waited = record {
+          places = marked_places t b so.waited p.who.seat stands_small is_free
+              (waits_of with_standing) stands_more;
+          free = marked_free t b so.waited p.who.seat stands_small is_free
+              (waits_of with_standing) stands_more;
+          once = marked_once t b so.waited p.who.seat stands_small is_free
+              (waits_of with_standing) stands_more;
+          conditions = so.waited.conditions;
+          line = each-append (StandsWell with_standing) b.line (p ∷ [])
+              (each_then (StandsWell b) (StandsWell with_standing)
+              (λ p w. from_bare with_standing p (to_bare b p w)) b.line so.waited.line)
+              (from_bare with_standing p (to_bare b p well), tt);
+          sleepers = λ c. each_then (SleepsWell b c) (SleepsWell with_standing c)
+              (λ y w. gave_same with_standing y.seat c y.holds (gave_bare b y.seat c y.holds w))
+              (sleepers_of b c)
+              (so.waited.sleepers c);
+          awake = so.waited.awake;
+          later = so.waited.later;
+          nobody = λ l. (let e = all.seats in absurd (omega (arith, e, l)));
+        };
+        spelt = record {
+          none = λ z. (let some = all.begun in absurd (omega (arith, some, z)));
+          some = λ l. spelt;
+        };
+      }
+    where
+      spelt : done ++ Stands p ∷ [] ≡ lines_so_far stands_told with_standing
+      spelt =
+          ap (λ l. l ++ Stands p ∷ []) (so.spelt.some all.begun)
+          ∙ ap (λ l. first_line b.header.object b ∷ l) (append_assoc (seat_lines 0 (take t.seats b.seats))
+          (map Stands b.line ++ sleeper_lines 0 b.sleepers) (Stands p ∷ []))
+          ∙ ap (λ l. first_line b.header.object b ∷ (seat_lines 0 (take t.seats b.seats) ++ l))
+          (swap_nil (map Stands b.line) (sleeper_lines 0 b.sleepers) (Stands p)
+          (no_lines 0 b.sleepers (so.waited.awake awake)))
+          ∙ ap (λ l. first_line b.header.object b ∷ (seat_lines 0 (take t.seats b.seats) ++
+          (l ++ sleeper_lines 0 b.sleepers))) (sym (map-append Stands b.line (p ∷ [])))
+          ∙ ap (λ f. f ∷ (seat_lines 0 (take t.seats b.seats) ++
+          (map Stands (b.line ++ p ∷ []) ++ sleeper_lines 0 b.sleepers)))
+          (first_line_same b.header.object b with_standing refl refl refl)
+
+-- one who sleeps
+module _ (done : List BaseLine) (t : Told) (b : Base) (so : SoFar done t b) (c : ℕ) (x : Sleeper)
+    (all : AllSeated b.header t) (order : t.condition ≤ c) (is_free : IsFree t x.seat)
+    (well : SleepsWell b c x) where
+  abbrev with_sleeper : Base
+  with_sleeper = record b { sleepers = set b.sleepers c (sleepers_of b c ++ x ∷ []) }
+
+  abbrev sleeps_told : Told
+  sleeps_told = record t { waits = set t.waits x.seat true; asleep = true; condition = c }
+
+  sleeps_small : x.seat < 256
+  sleeps_small = let l = so.range.seats in let m = well.seat in omega (arith, l, m)
+
+  pub on_condition : c < length b.sleepers
+  on_condition = let l = so.waited.conditions in let m = well.condition in omega (arith, l, m)
+
+  pub sleeps_more : (i : ℕ) → waits_of with_sleeper i ≡ waits_of b i + one_if (eqb x.seat i)
+  sleeps_more i =
+      let e = total_sleeps b.header.conditions i b.sleepers c x well.condition on_condition in
+      omega (arith, e)
+
+  held_sleeps : (o : Object) → HeldSoFar o t b → HeldSoFar o sleeps_told with_sleeper
+  held_sleeps (Lock p) v =
+      record { one = v.one; alone = v.alone; exclusive = v.exclusive; shared = v.shared }
+  held_sleeps (ReadWrite p) v =
+      record { one = v.one; alone = v.alone; exclusive = v.exclusive; shared = v.shared }
+  held_sleeps (Semaphore p c) v =
+      record { exclusive = v.exclusive; shared = v.shared; lowest = v.lowest; highest = v.highest }
+  held_sleeps (Latch c) v = v
+
+  sleepers_here : (d : ℕ) → d ≡ c → sleepers_of with_sleeper d ≡ sleepers_of b c ++ x ∷ []
+  sleepers_here d e =
+      ap (λ n. get_or (set b.sleepers c (sleepers_of b c ++ x ∷ [])) n []) e
+      ∙ get_or-set_same b.sleepers c (sleepers_of b c ++ x ∷ []) [] on_condition
+
+  sleepers_other : (d : ℕ) → d ≢ c → sleepers_of with_sleeper d ≡ sleepers_of b d
+  sleepers_other d ne = get_or-set_other b.sleepers c d (sleepers_of b c ++ x ∷ []) [] ne
+
+  kept_well : (d : ℕ) (xs : List Sleeper) → AllByRecursion (SleepsWell b d) xs →
+      AllByRecursion (SleepsWell with_sleeper d) xs
+  kept_well d xs =
+      each_then (SleepsWell b d) (SleepsWell with_sleeper d)
+      (λ y w. gave_same with_sleeper y.seat d y.holds (gave_bare b y.seat d y.holds w)) xs
+
+  sleep_well : (d : ℕ) → AllByRecursion (SleepsWell with_sleeper d) (sleepers_of with_sleeper d)
+  sleep_well d =
+      ⊎_elim
+      (λ e. subst (AllByRecursion (SleepsWell with_sleeper d)) (sym (sleepers_here d e))
+      (subst (λ n. AllByRecursion (SleepsWell with_sleeper n) (sleepers_of b c ++ x ∷ [])) (sym e)
+      (each-append (SleepsWell with_sleeper c) (sleepers_of b c) (x ∷ [])
+      (kept_well c (sleepers_of b c) (so.waited.sleepers c))
+      (gave_same with_sleeper x.seat c x.holds (gave_bare b x.seat c x.holds well), tt))))
+      (λ ne. subst (AllByRecursion (SleepsWell with_sleeper d)) (sym (sleepers_other d ne))
+      (kept_well d (sleepers_of b d) (so.waited.sleepers d)))
+      (cases_eq d c)
+
+  pub sleeps_follow : AreCounted b.header.object with_sleeper →
+      SoFar (done ++ Sleeps c x ∷ []) sleeps_told with_sleeper
+  sleeps_follow counted =
+      record {
+        range = so.range;
+        summed = record {
+          entries = so.summed.entries;
+          unheld = so.summed.unheld;
+          length = so.summed.length;
+          seats = so.summed.seats;
+          rest = so.summed.rest;
+          calls = so.summed.calls;
+          exclusive = so.summed.exclusive;
+          shared = so.summed.shared;
+          few = so.summed.few;
+          most = so.summed.most;
+        };
+        counted = counted;
+        held = held_sleeps b.header.object so.held;
+        waited = record {
+          places = marked_places t b so.waited x.seat sleeps_small is_free
+              (waits_of with_sleeper) sleeps_more;
+          free = marked_free t b so.waited x.seat sleeps_small is_free
+              (waits_of with_sleeper) sleeps_more;
+          once = marked_once t b so.waited x.seat sleeps_small is_free
+              (waits_of with_sleeper) sleeps_more;
+          conditions = length-set b.sleepers c (sleepers_of b c ++ x ∷ []) ∙ so.waited.conditions;
+          line = each_then (StandsWell b) (StandsWell with_sleeper)
+              (λ p w. from_bare with_sleeper p (to_bare b p w)) b.line so.waited.line;
+          sleepers = sleep_well;
+          awake = λ f. cc;
+          later = λ d l. (let ne : d ≢ c = omega (arith, l) in sleepers_other d ne
+              ∙ so.waited.later d (omega (arith, order, l)));
+          nobody = λ l. (let e = all.seats in absurd (omega (arith, e, l)));
+        };
+        spelt = record {
+          none = λ z. (let some = all.begun in absurd (omega (arith, some, z)));
+          some = λ l. spelt;
+        };
+      }
+    where
+      spelt : done ++ Sleeps c x ∷ [] ≡ lines_so_far sleeps_told with_sleeper
+      spelt =
+          ap (λ l. l ++ Sleeps c x ∷ []) (so.spelt.some all.begun)
+          ∙ ap (λ l. first_line b.header.object b ∷ l) (append_assoc (seat_lines 0 (take t.seats b.seats))
+          (map Stands b.line ++ sleeper_lines 0 b.sleepers) (Sleeps c x ∷ []))
+          ∙ ap (λ l. first_line b.header.object b ∷ (seat_lines 0 (take t.seats b.seats) ++ l))
+          (append_assoc (map Stands b.line) (sleeper_lines 0 b.sleepers) (Sleeps c x ∷ []))
+          ∙ ap (λ l. first_line b.header.object b ∷ (seat_lines 0 (take t.seats b.seats) ++
+          (map Stands b.line ++ l)))
+          (sym (sleeper_lines_push 0 b.sleepers c c x (omega arith) on_condition
+          (λ d l. so.waited.later d (omega (arith, order, l)))))
+          ∙ ap (λ f. f ∷ (seat_lines 0 (take t.seats b.seats) ++ (map Stands b.line ++
+          sleeper_lines 0 (set b.sleepers c (sleepers_of b c ++ x ∷ [])))))
+          (first_line_same b.header.object b with_sleeper refl refl refl)
+
+-- what a base counts stays with its numbers
+counted_same : (o : Object) (a b : Base) → a.unheld ≡ b.unheld → a.count ≡ b.count → AreCounted o a →
+    AreCounted o b
+counted_same (Lock p) a b u q v = (sym u ∙ v.0, sym q ∙ v.1)
+counted_same (ReadWrite p) a b u q v = (sym u ∙ v.0, sym q ∙ v.1)
+counted_same (Semaphore p c) a b u q v = (let l = v.0 in omega (arith, u, l), sym q ∙ v.1)
+counted_same (Latch c) a b u q v = (sym u ∙ v.0, let l = v.1 in omega (arith, q, l))
+
+folded_only : (o : Object) (b : Base) (n : ℕ) → is_lock o ≡ true →
+    first_line o (record b { entries = n }) ≡ Folded n
+folded_only (Lock p) b n t = refl
+folded_only (ReadWrite p) b n t = refl
+folded_only (Semaphore p c) b n t = absurd (cc)
+folded_only (Latch c) b n t = absurd (cc)
+
+released : (o : Object) (b : Base) (n u : ℕ) → is_semaphore o ≡ true → u ≤ most_permits → AreCounted o b →
+    AreCounted o (record b { entries = n; unheld = u })
+    × (first_line o (record b { entries = n; unheld = u }) ≡ Released n u)
+released (Lock p) b n u t l v = absurd (cc)
+released (ReadWrite p) b n u t l v = absurd (cc)
+released (Semaphore p c) b n u t l v = ((l, v.1), refl)
+released (Latch c) b n u t l v = absurd (cc)
+
+counted_down : (o : Object) (b : Base) (n q : ℕ) → is_latch o ≡ true → q ≤ opening_count o → AreCounted o b →
+    AreCounted o (record b { entries = n; count = q })
+    × (first_line o (record b { entries = n; count = q }) ≡ CountedDown n q)
+counted_down (Lock p) b n q t l v = absurd (cc)
+counted_down (ReadWrite p) b n q t l v = absurd (cc)
+counted_down (Semaphore p c) b n q t l v = absurd (cc)
+counted_down (Latch c) b n q t l v = ((v.0, l), refl)
+
+-- one line more
+pub goes_on : (done : List BaseLine) (t : Told) (b : Base) (x : BaseLine) → SoFar done t b → MayFollow t b x →
+    SoFar (done ++ x ∷ []) (told t x) (with_line b x)
+goes_on done t b (Folded n) so may =
+    first_told done t b so n t.unheld b.unheld b.count (Folded n) so.summed.unheld may.0
+    (counted_same b.header.object b (record b { entries = n }) refl refl so.counted)
+    (folded_only b.header.object b n may.1)
+goes_on done t b (Released n u) so may =
+    let r = released b.header.object b n u may.1 may.2 so.counted in
+    first_told done t b so n u u b.count (Released n u) refl may.0 r.0 r.1
+goes_on done t b (CountedDown n q) so may =
+    let r = counted_down b.header.object b n q may.1 may.2 so.counted in
+    first_told done t b so n t.unheld b.unheld q (CountedDown n q) so.summed.unheld may.0 r.0 r.1
+goes_on done t b (Seat i has) so may =
+    seat_follows done t b so i has may
+    (counted_same b.header.object b (record b { seats = set b.seats i has }) refl refl so.counted)
+goes_on done t b (Stands p) so may =
+    stands_follow done t b so p may.0 may.1 may.2 may.3
+    (counted_same b.header.object b (record b { line = b.line ++ p ∷ [] }) refl refl so.counted)
+goes_on done t b (Sleeps c x) so may =
+    sleeps_follow done t b so c x may.0 may.1 may.2 may.3
+    (counted_same b.header.object b (record b { sleepers = set b.sleepers c (sleepers_of b c ++ x ∷ []) })
+    refl refl so.counted)
+
+-- all lines
+pub all_told : (done xs : List BaseLine) (t : Told) (b : Base) → SoFar done t b → AllRead b t xs →
+    SoFar (done ++ xs) (after_told t xs) (with_lines b xs)
+all_told done [] t b so follow = subst (λ l. SoFar l t b) (sym (append-nil done)) so
+all_told done (x ∷ xs) t b so follow =
+    subst (λ l. SoFar l (after_told (told t x) xs) (with_lines (with_line b x) xs))
+    (append_assoc done (x ∷ []) xs)
+    (all_told (done ++ x ∷ []) xs (told t x) (with_line b x) (goes_on done t b x so follow.0) follow.1)
+
+pub header_kept : (b : Base) (x : BaseLine) → (with_line b x).header ≡ b.header
+header_kept b (Folded n) = refl
+header_kept b (Released n u) = refl
+header_kept b (CountedDown n q) = refl
+header_kept b (Seat i has) = refl
+header_kept b (Stands p) = refl
+header_kept b (Sleeps c x) = refl
+
+pub header_after : (b : Base) (xs : List BaseLine) → (with_lines b xs).header ≡ b.header
+header_after b [] = refl
+header_after b (x ∷ xs) = header_after (with_line b x) xs ∙ header_kept b x
+
+pub told_so_far : (k : Header) (xs : List BaseLine) → IsInRange k → Follow k xs →
+    SoFar xs (told_by xs) (base_by k xs)
+told_so_far k xs range follow = all_told [] xs untold (opening_base k) (begun k range) follow
+
+-- the free permits, from the numbers
+pub pos_kept : (n : ℕ) → at_least_none (pos n) ≡ n
+pos_kept n = by (ltb n 0) refl
+  where
+    by : (q : Bool) → ltb n 0 ≡ q → cond q 0 n ≡ n
+    by true t = let l : n < 0 = ltb-true n 0 t in absurd (omega (arith, l))
+    by false t = refl
+
+few_free : (c f : ℤ) (u s : ℕ) → f ≡ (c +ℤ pos u) -ℤ pos s → s ≤ u + at_least_none c →
+    u + at_least_none c ≤ 2147483647 + s + at_least_none (neg_ℤ c) →
+    ((pos 0 ≤ℤ f) ⊎ (c ≤ℤ f)) × (f ≤ℤ pos 2147483647)
+few_free (pos zero) f u s e l m = (inl (omega (arith, ints)), omega (arith, ints))
+few_free (pos (suc n)) f u s e l m =
+    let a : at_least_none (pos (suc n)) ≡ suc n = pos_kept (suc n) in
+    let b : at_least_none (negsuc n) ≡ 0 = refl in
+    (inl (omega (arith, ints, a, b)), omega (arith, ints, a, b))
+few_free (negsuc n) f u s e l m =
+    let a : at_least_none (pos (suc n)) ≡ suc n = pos_kept (suc n) in
+    let b : at_least_none (negsuc n) ≡ 0 = refl in
+    let d : u ≤ 2147483647 + s + suc n = omega (arith, m, a, b) in
+    (inr (omega (arith, ints)), omega (arith, ints, d))
+
+-- a base that was told whole
+module _ (done : List BaseLine) (t : Told) (b : Base) (so : SoFar done t b) (all : AllSeated b.header t) where
+  held_whole : (o : Object) → b.header.object ≡ o → HeldSoFar o t b → AreHeld o b
+  held_whole (Lock p) q v = v
+  held_whole (ReadWrite p) q v = v
+  held_whole (Semaphore p c) q v =
+      record { exclusive = v.exclusive; shared = v.shared; lowest = few.0; highest = few.1 }
+    where
+      few : ((pos 0 ≤ℤ free (based b) []) ⊎ (c ≤ℤ free (based b) [])) × (free (based b) [] ≤ℤ pos 2147483647)
+      few =
+          few_free c (free (based b) []) t.unheld t.shared
+          (ap (λ o. (created o +ℤ pos b.unheld) -ℤ pos (total b.header.seats (λ i. (seat_of b i).shared))) q
+          ∙ ap (λ n. (c +ℤ pos n) -ℤ pos (total b.header.seats (λ i. (seat_of b i).shared))) so.summed.unheld
+          ∙ ap (λ n. (c +ℤ pos t.unheld) -ℤ pos n) so.summed.shared)
+          v.lowest (v.highest all.seats)
+  held_whole (Latch c) q v = v
+
+  once_whole : IsOneWait (based b) []
+  once_whole i =
+      let w = times-waiting (based b) [] i in
+      let o = so.waited.once i in
+      let l : times i (seats_of (line (based b) [])) ≡ times i (seats_of (map (λ p. p.who) b.line)) =
+      ap (λ q. times i (seats_of q)) (line_at_first (based b)) in
+      omega (arith, w, o, l)
+
+  pub whole_good : IsGood b
+  whole_good =
+      record {
+        entries = let e = so.summed.entries in let m = so.summed.most in omega (arith, e, m);
+        seats = so.summed.length;
+        conditions = so.waited.conditions;
+        calls = let c = so.summed.calls in let e = so.summed.entries in let f = so.summed.few in
+            omega (arith, c, e, f);
+        counted = so.counted;
+        held = held_whole b.header.object refl so.held;
+        once = once_whole;
+        line = so.waited.line;
+        sleepers = so.waited.sleepers;
+      }
+
+  pub whole_lines : done ≡ base_lines b
+  whole_lines =
+      so.spelt.some all.begun
+      ∙ ap (λ l. first_line b.header.object b ∷ (seat_lines 0 l ++ (map Stands b.line ++
+      sleeper_lines 0 b.sleepers)))
+      (take_all t.seats b.seats (let l = so.summed.length in let e = all.seats in omega (arith, l, e)))
+
+-- Lines that follow one another and tell all seats are those of a good base.
+pub whole_told : (k : Header) (xs : List BaseLine) → IsInRange k → Follow k xs → AllSeated k (told_by xs) →
+    (xs ≡ base_lines (base_by k xs)) × IsToldBase k (base_by k xs)
+whole_told k xs range follow all = (
+  whole_lines xs (told_by xs) (base_by k xs) so seated,
+  record {
+    header = same;
+    some = let e = so.summed.entries in let l = all.begun in omega (arith, e, l);
+    good = whole_good xs (told_by xs) (base_by k xs) so seated;
+  },
+)
+  where
+    so : SoFar xs (told_by xs) (base_by k xs)
+    so = told_so_far k xs range follow
+
+    same : (base_by k xs).header ≡ k
+    same = header_after (opening_base k) xs
+
+    seated : AllSeated (base_by k xs).header (told_by xs)
+    seated = subst (λ h. AllSeated h (told_by xs)) (sym same) all

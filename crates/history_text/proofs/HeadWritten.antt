@@ -1,0 +1,112 @@
+-- The first line and the lines of a base are written.
+use Rattle.std.proofs.Common.{◌≡◌, ⊎_elim, ℕ, zero, suc, ◌+◌, ◌≤◌, Bool, List, [], ◌∷◌, ◌++◌, length, get_or, refl, sym, ap, ◌∙◌, arith, append_assoc, append-nil, codes}
+use Rattle.std.specs.List.{AllByRecursion}
+use Rattle.history.specs.declared.base.SeatBase.{SeatBase}
+use Rattle.history.specs.declared.header.Header.{Header}
+use Rattle.history.specs.Base.{Base, based, each_below, nothing, opening_base, seat_of}
+use Rattle.history.specs.Counts.{total}
+use Rattle.history.specs.GoodBase.{IsBaseOf, IsGood, most_folded}
+use Rattle.history.specs.Header.{IsInRange}
+use Rattle.history.specs.Legal.{calls}
+use Rattle.history.specs.Spelling.{part_of}
+use Rattle.history.specs.Text.{ended}
+use Rattle.history_text.specs.declared.base_line.BaseLine.{BaseLine}
+use Rattle.history_text.specs.declared.base_line.BaseLine.TheVariants.{Folded, Released, CountedDown, Seat, Stands, Sleeps}
+use Rattle.history_text.specs.BaseFollowing.{AllFollow}
+use Rattle.history_text.specs.BaseLines.{IsBaseLine, base_lines}
+use Rattle.history_text.specs.BaseRules.{MayFollow, Told, told, untold}
+use Rattle.history_text.specs.BaseText.{IsHeadPut, calls_sum, lines_text}
+use Rattle.history_text.specs.HistoryLines.{head_line, head_of, lines_told, name_of}
+use Rattle.history_text.proofs.BaseLineLemmas.{may_follow_spelt}
+use Rattle.history_text.proofs.BaseTheory.{IsGoodOf, good_follows}
+use Rattle.history_text.proofs.HistoryLaws.{some_entries, told_some}
+
+few_then : (t : Told) (b : Base) (x : BaseLine) → t.entries ≤ most_folded → MayFollow t b x →
+    (told t x).entries ≤ most_folded
+few_then t b (Folded n) few may = may.0.most
+few_then t b (Released n u) few may = may.0.most
+few_then t b (CountedDown n q) few may = may.0.most
+few_then t b (Seat i has) few may = few
+few_then t b (Stands p) few may = few
+few_then t b (Sleeps c x) few may = few
+
+follow_spelt : (t : Told) (b : Base) (xs : List BaseLine) → IsInRange b.header → t.entries ≤ most_folded →
+    AllFollow b t xs → AllByRecursion IsBaseLine xs
+follow_spelt t b [] range few all = tt
+follow_spelt t b (x ∷ xs) range few all = (
+  may_follow_spelt t b x range few all.0,
+  follow_spelt (told t x) b xs range (few_then t b x few all.0) all.1,
+)
+
+-- each line of a good base has numbers that it may have
+pub good_spelt : (b : Base) → IsGoodOf b → AllByRecursion IsBaseLine (base_lines b)
+good_spelt b of = follow_spelt untold b (base_lines b) of.range (omega arith) (good_follows b of)
+
+total_first : (n : ℕ) (f : ℕ → ℕ) → total (suc n) f ≡ f 0 + total n (λ i. f (suc i))
+total_first zero f = omega arith
+total_first (suc n) f =
+    let first = total_first n f in
+    omega (arith, first)
+
+-- the calls of all seats
+pub sum_total : (xs : List SeatBase) → calls_sum xs ≡ total (length xs) (λ i. (get_or xs i nothing).calls)
+sum_total [] = refl
+sum_total (x ∷ xs) =
+    ap (λ (n : ℕ). x.calls + n) (sum_total xs)
+    ∙ sym (total_first (length xs) (λ i. (get_or (x ∷ xs) i nothing).calls))
+
+pub sum_calls : (b : Base) → IsGood b → calls_sum b.seats ≡ calls (based b) []
+sum_calls b good =
+    sum_total b.seats ∙ ap (λ (n : ℕ). total n (λ i. (seat_of b i).calls)) good.seats
+
+pub sum_few : (b : Base) → IsGood b → calls_sum b.seats ≤ b.entries
+sum_few b good = omega (arith, sum_calls b good, good.calls)
+
+sum_push : (xs : List SeatBase) → calls_sum (xs ++ nothing ∷ []) ≡ calls_sum xs
+sum_push [] = refl
+sum_push (x ∷ xs) = ap (λ (n : ℕ). x.calls + n) (sum_push xs)
+
+-- no call ended before the opening
+pub sum_none : (n : ℕ) → calls_sum (each_below n (λ i. nothing)) ≡ 0
+sum_none zero = refl
+sum_none (suc n) = sum_push (each_below n (λ i. nothing)) ∙ sum_none n
+
+-- the first line of format 2 and the lines of a base
+pub head_written : (b : Base) (k : Header) (out x new : List ℕ) → 1 ≤ b.entries → b.header ≡ k →
+    x ≡ out ++ ended (codes "aqs-history 2 " ++ part_of k) → new ≡ x ++ lines_text (base_lines b)
+    → new ≡ out ++ (ended (head_line (head_of b)) ++ lines_text (lines_told b))
+head_written b k out x new some header p s =
+    let first : head_line (head_of b) ≡ codes "aqs-history 2 " ++ part_of k =
+    ap (λ (c : Bool). name_of c ++ part_of b.header) (some_entries b.entries some)
+    ∙ ap (λ (h : Header). codes "aqs-history 2 " ++ part_of h) header in
+    s ∙ ap (λ (t : List ℕ). t ++ lines_text (base_lines b)) p
+    ∙ append_assoc out (ended (codes "aqs-history 2 " ++ part_of k)) (lines_text (base_lines b))
+    ∙ ap (λ (t : List ℕ). out ++ (ended t ++ lines_text (base_lines b))) (sym first)
+    ∙ ap (λ (l : List BaseLine). out ++ (ended (head_line (head_of b)) ++ lines_text l))
+    (sym (told_some b some))
+
+-- of an opening the first line of format 1 is all
+pub opening_written : (k : Header) (out new : List ℕ) →
+    new ≡ out ++ ended (codes "aqs-history 1 " ++ part_of k) →
+    IsHeadPut (opening_base k) out new 0 0
+opening_written k out new is =
+    record {
+      lines = is ∙ ap (λ (t : List ℕ). out ++ t) (sym (append-nil (ended (codes "aqs-history 1 " ++ part_of k))));
+      folded = refl;
+      few = omega arith;
+      calls = sym (sum_none k.seats);
+      some = omega arith;
+    }
+
+-- of a base that is good, or that of the opening
+pub good_of : (k : Header) (b : Base) → IsBaseOf k b → 1 ≤ b.entries → (b.header ≡ k) × IsGood b
+good_of k b of some = (of.0, ⊎_elim opening (λ good. good.1) of.1)
+  where
+    opening : b ≡ opening_base k → IsGood b
+    opening is = let none = ap (λ (a : Base). a.entries) is in absurd (omega (arith, none, some))
+
+pub opening_of : (k : Header) (b : Base) → IsBaseOf k b → b.entries ≡ 0 → b ≡ opening_base k
+opening_of k b of none = ⊎_elim (λ is. is) good of.1
+  where
+    good : (1 ≤ b.entries) × IsGood b → b ≡ opening_base k
+    good q = absurd (omega (arith, q.0, none))

@@ -1,0 +1,13 @@
+use Rattle.std.proofs.Common.{◌≡◌, ◌++◌, ◌≤◌, length, drop}
+use Rattle.std.specs.List.{AllByRecursion}
+use Rattle.history_text.specs.BaseLines.{IsBaseLine, seat_lines}
+use Rattle.history_text.specs.BaseText.{lines_text}
+use Rattle.history_text.proofs.base_writing.put_seats.Given as goal
+
+abbrev pub invariant-loop-seat : goal.invariant-loop-seat
+invariant-loop-seat l = record {
+  lines : l.out.items ++ lines_text (seat_lines l.seat (drop l.seat l.seats))
+      ≡ l.initial.out.items ++ lines_text (seat_lines 0 l.seats);
+  each : AllByRecursion IsBaseLine (seat_lines l.seat (drop l.seat l.seats));
+  inside : l.seat ≤ length l.seats;
+}

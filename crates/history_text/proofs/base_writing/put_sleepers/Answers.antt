@@ -1,0 +1,35 @@
+use Rattle.std.proofs.Common.{◌+◌, ◌++◌, drop, map, subst, ap, sym, ◌∙◌, arith, List}
+use Rattle.std.specs.List.{AllByRecursion}
+use Rattle.history_text.specs.declared.base_line.BaseLine.{BaseLine}
+use Rattle.history_text.specs.declared.base_line.BaseLine.TheVariants.{Sleeps}
+use Rattle.history_text.specs.BaseLines.{IsBaseLine, sleeper_lines}
+use Rattle.history_text.specs.BaseText.{lines_text}
+use Rattle.history_text.proofs.BaseWritten.{each_back, each_front, lines_written, lists_left}
+use Rattle.history_text.proofs.base_writing.put_sleepers.Goals as goal
+
+pub put_asleep-requires : goal.put_asleep-requires
+put_asleep-requires c =
+    let i = c.loop-condition.condition in
+    let is = c.deref.ensures.value ∙ ap (λ v. v.items) c.index-lists-condition.is in
+    let left = lists_left (λ list. list.items) c.args.lists.now i c.index-lists-condition.result
+    c.deref.result.now c.loop-condition-test.true is in
+    each_front IsBaseLine (map (Sleeps i) c.deref.result.now)
+    (sleeper_lines (i + 1) (drop (i + 1) (map (λ list. list.items) c.args.lists.now)))
+    (subst (AllByRecursion IsBaseLine) left c.loop-condition.invariant.each)
+
+pub loop-condition-preserved : goal.loop-condition-preserved
+loop-condition-preserved c =
+    let i = c.loop-condition.condition in
+    let is = c.deref.ensures.value ∙ ap (λ v. v.items) c.index-lists-condition.is in
+    let left = lists_left (λ list. list.items) c.args.lists.now i c.index-lists-condition.result
+    c.deref.result.now c.loop-condition-test.true is in
+    let first = map (Sleeps i) c.deref.result.now in
+    let rest = sleeper_lines (i + 1) (drop (i + 1) (map (λ list. list.items) c.args.lists.now)) in
+    record {
+      lines = lines_written c.loop-condition.out.items c.put_asleep.new.out.items first rest _
+          (ap (λ (l : List BaseLine). c.loop-condition.out.items ++ lines_text l) (sym left)
+          ∙ c.loop-condition.invariant.lines) c.in_ok-put_asleep.ensures;
+      each = each_back IsBaseLine first rest
+          (subst (AllByRecursion IsBaseLine) left c.loop-condition.invariant.each);
+      inside = omega (arith, c.loop-condition-test.true);
+    }

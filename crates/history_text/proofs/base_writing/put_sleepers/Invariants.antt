@@ -1,0 +1,15 @@
+use Rattle.std.proofs.Common.{◌≡◌, ◌++◌, ◌≤◌, length, drop, map}
+use Rattle.std.specs.List.{AllByRecursion}
+use Rattle.history_text.specs.BaseLines.{IsBaseLine, sleeper_lines}
+use Rattle.history_text.specs.BaseText.{lines_text}
+use Rattle.history_text.proofs.base_writing.put_sleepers.Given as goal
+
+abbrev pub invariant-loop-condition : goal.invariant-loop-condition
+invariant-loop-condition l = record {
+  lines : l.out.items
+      ++ lines_text (sleeper_lines l.condition (drop l.condition (map (λ list. list.items) l.lists)))
+      ≡ l.initial.out.items ++ lines_text (sleeper_lines 0 (map (λ list. list.items) l.lists));
+  each : AllByRecursion IsBaseLine
+      (sleeper_lines l.condition (drop l.condition (map (λ list. list.items) l.lists)));
+  inside : l.condition ≤ length l.lists;
+}

@@ -1,0 +1,14 @@
+use Rattle.std.proofs.Common.{◌≡◌, ◌++◌, ◌≤◌, length, drop, map}
+use Rattle.std.specs.List.{AllByRecursion}
+use Rattle.history_text.specs.declared.base_line.BaseLine.TheVariants.{Stands}
+use Rattle.history_text.specs.BaseLines.{IsBaseLine}
+use Rattle.history_text.specs.BaseText.{lines_text}
+use Rattle.history_text.proofs.base_writing.put_standings.Given as goal
+
+abbrev pub invariant-loop-standing : goal.invariant-loop-standing
+invariant-loop-standing l = record {
+  lines : l.out.items ++ lines_text (map Stands (drop l.standing-index l.line))
+      ≡ l.initial.out.items ++ lines_text (map Stands l.line);
+  each : AllByRecursion IsBaseLine (map Stands (drop l.standing-index l.line));
+  inside : l.standing-index ≤ length l.line;
+}

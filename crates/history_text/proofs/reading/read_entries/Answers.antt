@@ -1,0 +1,91 @@
+use Rattle.std.proofs.Common.{◌≡◌, ◌∷◌, ◌+◌, ◌≤◌, [], Bool, true, false, cond, length, reverse, arith, ap, ◌∙◌}
+use Rattle.std.proofs.lemmas.List.{reverse-append}
+use Rattle.history.specs.Entries.{HistoryView, or_opening}
+use Rattle.history.specs.Entry.{ends_call}
+use Rattle.history.specs.Text.{ended}
+use Rattle.line_text.proofs.Faults.{fault_passed}
+use Rattle.line_text.proofs.UnderWay.{left_over}
+use Rattle.history_text.specs.EntryLines.{entry_line}
+use Rattle.history_text.specs.HistoryText.{history_form}
+use Rattle.history_text.proofs.EntriesRead.{read_all, read_fault, read_one}
+use Rattle.history_text.proofs.reading.read_entries.Goals as goal
+
+pub next_entry-requires-clause-few : goal.next_entry-requires-clause-few
+next_entry-requires-clause-few c = c.loop-history.invariant.few
+
+pub next_entry-requires-clause-lines : goal.next_entry-requires-clause-lines
+next_entry-requires-clause-lines c =
+    omega (
+      arith,
+      c.loop-history.invariant.few,
+      c.loop-history.invariant.lines,
+      c.requires.place.lines,
+      c.requires.range.cap,
+    )
+
+pub returns-in_err-entry : goal.returns-in_err-entry
+returns-in_err-entry c = λ text read.
+    fault_passed history_form _ text c.from_residual.result c.in_err-entry.field-0.0 c.from_residual.ensures
+    (read_fault text c.args.head.now _ _ c.loop-history.place c.loop-history.rest.now
+    (c.loop-history.invariant.read text read) c.in_err-entry.field-0.0 c.in_err-entry.ensures.line)
+
+pub returns : goal.returns
+returns c = λ text was.
+    let h = c.args.head.now in
+    let old = c.loop-history.history.entries in
+    let base = or_opening h.header c.args.empty.base in
+    let here = c.loop-history.invariant.read text was in
+    let all = read_all text h base (reverse old) c.loop-history.place c.loop-history.rest.now here
+    (rw c.in_default.is at c.in_ok-entry.ensures.line) in
+    record {
+      reading = rw c.loop-history.invariant.base all;
+      header = rw c.loop-history.invariant.base here.base.0;
+      cap = c.loop-history.invariant.cap;
+      owed = c.loop-history.invariant.owed;
+    }
+
+one_or_none : (b : Bool) → cond b 1 0 ≤ 1
+one_or_none true = omega arith
+one_or_none false = omega arith
+
+pub loop-history-preserved : goal.loop-history-preserved
+loop-history-preserved c =
+    let h = c.args.head.now in
+    let old = c.loop-history.history.entries in
+    let e = c.in-Some.entry in
+    let p = c.loop-history.place in
+    let rest = c.loop-history.rest.now in
+    let base = or_opening h.header c.args.empty.base in
+    let entries : c.add.new.self.entries ≡ e ∷ old = ap (λ (v : HistoryView). v.entries) c.add.ensures
+    ∙ ap (λ (v : HistoryView). e ∷ v.entries) c.make_room.ensures.same in
+    let cap : c.add.new.self.cap ≡ h.header.cap = ap (λ (v : HistoryView). v.cap) c.add.ensures
+    ∙ ap (λ (v : HistoryView). v.cap) c.make_room.ensures.same ∙ c.loop-history.invariant.cap in
+    let line = rw c.in-Some.is at c.in_ok-entry.ensures.line in
+    record {
+      read = λ text was.
+          let one = read_one text h base (reverse old) p rest (c.loop-history.invariant.read text was) e
+          c.in-Some.left line in
+          let same = left_over rest (ended (entry_line (p.folded + p.count) e)) one.after c.in-Some.left
+          one.parts one.long in
+          rw (entries, reverse-append (e ∷ []) old, same, c.behind-place.ensures) one.grown;
+      base = ap (λ (v : HistoryView). v.base) c.add.ensures
+          ∙ ap (λ (v : HistoryView). v.base) c.make_room.ensures.same ∙ c.loop-history.invariant.base;
+      cap = cap;
+      owed = ap (λ (v : HistoryView). v.owed) c.add.ensures;
+      lines = rw c.behind-place.ensures c.loop-history.invariant.lines;
+      folded = rw c.behind-place.ensures c.loop-history.invariant.folded;
+      count = rw (c.behind-place.ensures, entries) (omega (arith, c.loop-history.invariant.count));
+      few = rw c.behind-place.ensures (omega (
+        arith,
+        c.loop-history.invariant.count,
+        ap length entries,
+        c.len.ensures.value,
+        c.len.ensures.within_cap,
+        cap,
+      ));
+      calls = rw (c.behind-place.ensures, entries) (omega (
+        arith,
+        c.loop-history.invariant.calls,
+        one_or_none (ends_call e.word),
+      ));
+    }

@@ -1,0 +1,23 @@
+use Rattle.std.proofs.Common.{◌≡◌, arith}
+use Rattle.std.proofs.lemmas.Bool.{eqb-true, eq-eqb}
+use Rattle.history.specs.declared.base.SeatBase.{SeatBase}
+use Rattle.history.specs.declared.entry.Mode.{Mode}
+use Rattle.history.specs.declared.entry.Mode.TheVariants.{X, S}
+use Rattle.history.specs.Base.{holds_of}
+use Rattle.history_text.proofs.waiting_rules.holds_nothing.Goals as goal
+
+neither : (has : SeatBase) → has.exclusive ≡ 0 → has.shared ≡ 0 → (m : Mode) → holds_of has m ≡ 0
+neither has x s X = x
+neither has x s S = s
+
+pub returns-then-has-eq0 : goal.returns-then-has-eq0
+returns-then-has-eq0 c = (
+  λ t. neither c.args.has (omega (arith, c.if-has-eq0.true)) (eqb-true _ _ t),
+  λ f. eq-eqb _ _ (f S),
+)
+
+pub returns-else-has-eq0 : goal.returns-else-has-eq0
+returns-else-has-eq0 c = (
+  λ t. absurd (omega (arith, eqb-true _ _ t, c.if-has-eq0.false)),
+  λ f. absurd (omega (arith, f X, c.if-has-eq0.false)),
+)

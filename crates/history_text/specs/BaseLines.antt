@@ -1,0 +1,96 @@
+-- The lines that tell a base, in the order in which a history text has them.
+use Rattle.std.specs.Prelude.{◌≡◌, ℕ, ◌+◌, ◌≤◌, Bool, true, false, List, [], ◌∷◌, ◌++◌, map, codes, decimal}
+use Rattle.history.specs.declared.base.SeatBase.{SeatBase}
+use Rattle.history.specs.declared.base.Sleeper.{Sleeper}
+use Rattle.history.specs.declared.base.Standing.{Standing}
+use Rattle.history.specs.declared.entry.End.TheVariants as end
+use Rattle.history.specs.declared.entry.Entry.{Entry}
+use Rattle.history.specs.declared.entry.Mode.TheVariants.{X}
+use Rattle.history.specs.declared.entry.Word.TheVariants.{Queued, Back}
+use Rattle.history.specs.declared.header.Object.{Object}
+use Rattle.history.specs.declared.header.Object.TheVariants.{Lock, ReadWrite, Semaphore, Latch}
+use Rattle.history.specs.Base.{Base}
+use Rattle.history.specs.EntryWords.{IsWritten, entry_words}
+use Rattle.history.specs.GoodBase.{most_folded, most_permits}
+use Rattle.history.specs.Text.{line_of}
+use Rattle.history_text.specs.declared.base_line.BaseLine.{BaseLine}
+use Rattle.history_text.specs.declared.base_line.BaseLine.TheVariants.{Folded, Released, CountedDown, Seat, Stands, Sleeps}
+
+-- the entry whose words say for what one in line waits
+abbrev pub waiting_by : Bool → Standing → Entry
+waiting_by true p =
+    record { seat = p.who.seat; word = Back; mode = X; n = p.holds; at = p.condition; end = p.how }
+waiting_by false p =
+    record { seat = p.who.seat; word = Queued; mode = p.who.mode; n = p.who.n; at = 0; end = end.None }
+
+abbrev pub waiting_entry : Standing → Entry
+waiting_entry p = waiting_by p.who.back p
+
+-- the words of a line
+abbrev pub base_words : BaseLine → List (List ℕ)
+base_words (Folded t) = codes "base" ∷ decimal t ∷ []
+base_words (Released t u) = codes "base" ∷ decimal t ∷ codes "unheld" ∷ decimal u ∷ []
+base_words (CountedDown t q) = codes "base" ∷ decimal t ∷ codes "count" ∷ decimal q ∷ []
+base_words (Seat i has) =
+    codes "seat" ∷ decimal i ∷ codes "calls" ∷ decimal has.calls ∷ codes "x" ∷ decimal has.exclusive
+    ∷ codes "s" ∷ decimal has.shared ∷ []
+base_words (Stands p) = codes "line" ∷ decimal p.who.seat ∷ entry_words (waiting_entry p)
+base_words (Sleeps c x) = codes "sleeper" ∷ decimal c ∷ decimal x.seat ∷ decimal x.holds ∷ []
+
+abbrev pub base_line : BaseLine → List ℕ
+base_line x = line_of (base_words x)
+
+-- one that waits for what its acquire asks for, and one that comes back from a condition
+abbrev pub queued : Entry → Standing
+queued e =
+    record {
+      who = record { seat = e.seat; mode = e.mode; n = e.n; back = false };
+      condition = 0;
+      holds = 0;
+      how = end.None;
+    }
+
+abbrev pub comes_back : Entry → Standing
+comes_back e =
+    record {
+      who = record { seat = e.seat; mode = X; n = 1; back = true };
+      condition = e.at;
+      holds = e.n;
+      how = e.end;
+    }
+
+abbrev pub stood_by : Bool → Entry → Standing
+stood_by true e = comes_back e
+stood_by false e = queued e
+
+-- the numbers that a line may have, and what no word spells is as it always is
+abbrev pub IsBaseLine : BaseLine → Type 0
+IsBaseLine (Folded t) = (1 ≤ t) × (t ≤ most_folded)
+IsBaseLine (Released t u) = (1 ≤ t) × (t ≤ most_folded) × (u ≤ most_permits)
+IsBaseLine (CountedDown t q) = (1 ≤ t) × (t ≤ most_folded) × (q ≤ 2147483647)
+IsBaseLine (Seat i has) =
+    (i ≤ 255) × (has.calls ≤ most_folded) × (has.exclusive ≤ 2147483647) × (has.shared ≤ most_permits)
+IsBaseLine (Stands p) =
+    (p.who.seat ≤ 255) × IsWritten (waiting_entry p)
+    × (p ≡ stood_by p.who.back (waiting_entry p))
+IsBaseLine (Sleeps c x) = (c ≤ 15) × (x.seat ≤ 255) × (x.holds ≤ 2147483647)
+
+-- the first line: how many entries were folded, and what else the object counts
+abbrev pub first_line : Object → Base → BaseLine
+first_line (Lock policy) b = Folded b.entries
+first_line (ReadWrite policy) b = Folded b.entries
+first_line (Semaphore policy permits) b = Released b.entries b.unheld
+first_line (Latch opening) b = CountedDown b.entries b.count
+
+abbrev pub seat_lines : ℕ → List SeatBase → List BaseLine
+seat_lines i [] = []
+seat_lines i (has ∷ rest) = Seat i has ∷ seat_lines (i + 1) rest
+
+abbrev pub sleeper_lines : ℕ → List (List Sleeper) → List BaseLine
+sleeper_lines c [] = []
+sleeper_lines c (xs ∷ rest) = map (Sleeps c) xs ++ sleeper_lines (c + 1) rest
+
+-- all lines of a base
+abbrev pub base_lines : Base → List BaseLine
+base_lines b =
+    first_line b.header.object b ∷ (seat_lines 0 b.seats ++ (map Stands b.line ++ sleeper_lines 0 b.sleepers))

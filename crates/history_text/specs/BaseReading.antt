@@ -1,0 +1,65 @@
+-- What the readers of the lines of a base answer, from the words that are left to the words after.
+use Rattle.std.specs.Prelude.{ℕ, [], ◌∷◌, Option, None, Some, codes, bytes_eq, if◌then◌else◌}
+use Rattle.history.specs.declared.base.Standing.{Standing}
+use Rattle.history.specs.declared.entry.Entry.{Entry}
+use Rattle.history.specs.declared.entry.Word.{Word}
+use Rattle.history.specs.declared.entry.Word.TheVariants.{Queued, Back}
+use Rattle.history.specs.EntryReading.{entry_at}
+use Rattle.history.specs.GoodBase.{most_folded, most_permits}
+use Rattle.history.specs.Reading.{Words, ◌>>=◌, keyword_at, named_at, number_at, wide_at}
+use Rattle.history_text.specs.declared.base_line.BaseLine.{BaseLine}
+use Rattle.history_text.specs.declared.base_line.BaseLine.TheVariants.{Folded, Released, CountedDown, Seat, Stands, Sleeps}
+use Rattle.history_text.specs.BaseLines.{comes_back, queued}
+
+-- what follows how many entries were folded
+unfoldable pub beside_at : ℕ → Words → Option (BaseLine × Words)
+beside_at entries [] = Some (Folded entries, [])
+beside_at entries (w ∷ ws) =
+    if bytes_eq w (codes "unheld") then
+    (wide_at 0 most_permits ws >>= λ u. Some (Released entries u.0, u.1))
+    else if bytes_eq w (codes "count") then
+    (number_at 0 2147483647 ws >>= λ q. Some (CountedDown entries q.0, q.1))
+    else None
+
+unfoldable pub folded_at : Words → Option (BaseLine × Words)
+folded_at words = do
+  t ← wide_at 1 most_folded words
+  beside_at t.0 t.1
+
+unfoldable pub has_at : Words → Option (BaseLine × Words)
+has_at words = do
+  i ← number_at 0 255 words
+  calls ← named_at (codes "calls") 0 most_folded i.1
+  exclusive ← named_at (codes "x") 0 2147483647 calls.1
+  name ← keyword_at (codes "s") exclusive.1
+  shared ← wide_at 0 most_permits name.1
+  Some (Seat i.0 (record { calls = calls.0; exclusive = exclusive.0; shared = shared.0 }), shared.1)
+
+-- one in line, from the entry whose words say for what it waits
+abbrev pub standing_of : Word → Entry → Option Standing
+standing_of Queued e = Some (queued e)
+standing_of Back e = Some (comes_back e)
+standing_of w e = None
+
+unfoldable pub stands_at : Words → Option (BaseLine × Words)
+stands_at words = do
+  i ← number_at 0 255 words
+  e ← entry_at i.0 i.1
+  p ← standing_of e.0.word e.0
+  Some (Stands p, e.1)
+
+unfoldable pub sleeps_at : Words → Option (BaseLine × Words)
+sleeps_at words = do
+  c ← number_at 0 15 words
+  i ← number_at 0 255 c.1
+  h ← number_at 0 2147483647 i.1
+  Some (Sleeps c.0 (record { seat = i.0; holds = h.0 }), h.1)
+
+-- a line of a base
+unfoldable pub base_line_at : Words → Option (BaseLine × Words)
+base_line_at [] = None
+base_line_at (w ∷ ws) = if bytes_eq w (codes "base") then folded_at ws
+    else if bytes_eq w (codes "seat") then has_at ws
+    else if bytes_eq w (codes "line") then stands_at ws
+    else if bytes_eq w (codes "sleeper") then sleeps_at ws
+    else None

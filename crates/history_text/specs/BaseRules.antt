@@ -1,0 +1,118 @@
+-- Which line of a base may follow those before it.
+use Rattle.std.specs.Prelude.{◌≡◌, ◌⊎◌, ℕ, ◌+◌, ◌<◌, ◌≤◌, Bool, true, false, List, [], ◌∷◌, ◌++◌, get_or, set, neg_ℤ}
+use Rattle.std.proofs.Math.ListN.{replicate}
+use Rattle.history.specs.declared.base.SeatBase.{SeatBase}
+use Rattle.history.specs.declared.header.Header.{Header}
+use Rattle.history.specs.declared.header.Object.{Object}
+use Rattle.history.specs.declared.header.Object.TheVariants.{Lock, ReadWrite, Semaphore, Latch}
+use Rattle.history.specs.Base.{Base, sleepers_of}
+use Rattle.history.specs.Could.{max_holds, max_shared}
+use Rattle.history.specs.GoodBase.{SleepsWell, StandsWell, most_folded, most_permits}
+use Rattle.history.specs.Object.{is_latch, is_lock, is_semaphore, opening_count}
+use Rattle.history.specs.Steps.{at_least_none}
+use Rattle.history_text.specs.declared.base_line.BaseLine.{BaseLine}
+use Rattle.history_text.specs.declared.base_line.BaseLine.TheVariants.{Folded, Released, CountedDown, Seat, Stands, Sleeps}
+
+-- What the lines of a base say so far, in numbers.
+pub record Told : Type 0 where
+  pub entries : ℕ  -- how many entries were folded; 0 before the first line
+  pub unheld : ℕ
+  pub seats : ℕ  -- how many seats were told
+  pub calls : ℕ  -- the calls that these ended, and their holds
+  pub exclusive : ℕ
+  pub shared : ℕ
+  pub waits : List Bool  -- whether a seat stands in line or sleeps
+  pub asleep : Bool  -- whether a sleeper was told, and on which condition the last one sleeps
+  pub condition : ℕ
+
+-- nothing was told
+abbrev pub untold : Told
+untold =
+    record {
+      entries = 0;
+      unheld = 0;
+      seats = 0;
+      calls = 0;
+      exclusive = 0;
+      shared = 0;
+      waits = replicate 256 false;
+      asleep = false;
+      condition = 0;
+    }
+
+-- one line more
+abbrev pub told : Told → BaseLine → Told
+told t (Folded entries) = record t { entries = entries }
+told t (Released entries unheld) = record t { entries = entries; unheld = unheld }
+told t (CountedDown entries count) = record t { entries = entries }
+told t (Seat i has) =
+    record t {
+      seats = t.seats + 1;
+      calls = t.calls + has.calls;
+      exclusive = t.exclusive + has.exclusive;
+      shared = t.shared + has.shared;
+    }
+told t (Stands p) = record t { waits = set t.waits p.who.seat true }
+told t (Sleeps c x) = record t { waits = set t.waits x.seat true; asleep = true; condition = c }
+
+-- What the next seat may hold, beside those before it. One seat alone has exclusive holds of a lock, and no
+-- other has shared ones. The free permits of a semaphore are no fewer than none or than it was made with, and
+-- behind the last seat no more than there may be.
+abbrev pub MayHold : Object → ℕ → Told → SeatBase → Type 0
+MayHold (Lock policy) seats t has =
+    (has.exclusive ≤ max_holds) × (has.shared ≡ 0) × ((t.exclusive ≡ 0) ⊎ (has.exclusive ≡ 0))
+MayHold (ReadWrite policy) seats t has =
+    (has.exclusive ≤ max_shared) × (t.shared + has.shared ≤ max_shared)
+    × ((has.exclusive ≡ 0) ⊎ ((t.exclusive ≡ 0) × (t.shared ≡ 0)))
+    × ((has.shared ≡ 0) ⊎ (t.exclusive ≡ 0))
+MayHold (Semaphore policy permits) seats t has =
+    (has.exclusive ≡ 0) × (has.shared ≤ most_permits)
+    × (t.shared + has.shared ≤ t.unheld + at_least_none permits)
+    × (t.seats + 1 ≡ seats →
+    t.unheld + at_least_none permits ≤ 2147483647 + (t.shared + has.shared) + at_least_none (neg_ℤ permits))
+MayHold (Latch opening) seats t has = (has.exclusive ≡ 0) × (has.shared ≡ 0)
+
+-- the first line
+pub record IsFirst (t : Told) (entries : ℕ) : Type 0 where
+  pub none : t.entries ≡ 0
+  pub some : 1 ≤ entries
+  pub most : entries ≤ most_folded
+
+-- a seat, in order
+pub record IsSeated (k : Header) (t : Told) (i : ℕ) (has : SeatBase) : Type 0 where
+  pub begun : 1 ≤ t.entries
+  pub next : i ≡ t.seats
+  pub seat : i < k.seats
+  pub calls : t.calls + has.calls ≤ t.entries
+  pub holds : MayHold k.object k.seats t has
+
+-- all seats were told
+pub record AllSeated (k : Header) (t : Told) : Type 0 where
+  pub begun : 1 ≤ t.entries
+  pub seats : t.seats ≡ k.seats
+
+-- a seat waits nowhere
+abbrev pub IsFree : Told → ℕ → Type 0
+IsFree t i = get_or t.waits i false ≡ false
+
+-- The line may follow those that told this, of a base with these seats.
+abbrev pub MayFollow : Told → Base → BaseLine → Type 0
+MayFollow t b (Folded entries) = IsFirst t entries × (is_lock b.header.object ≡ true)
+MayFollow t b (Released entries unheld) =
+    IsFirst t entries × (is_semaphore b.header.object ≡ true) × (unheld ≤ most_permits)
+MayFollow t b (CountedDown entries count) =
+    IsFirst t entries × (is_latch b.header.object ≡ true) × (count ≤ opening_count b.header.object)
+MayFollow t b (Seat i has) = IsSeated b.header t i has
+MayFollow t b (Stands p) =
+    AllSeated b.header t × (t.asleep ≡ false) × IsFree t p.who.seat × StandsWell b p
+MayFollow t b (Sleeps c x) =
+    AllSeated b.header t × (t.condition ≤ c) × IsFree t x.seat × SleepsWell b c x
+
+-- one line more of a base that is read; its seats stand as places from the beginning
+abbrev pub with_line : Base → BaseLine → Base
+with_line b (Folded entries) = record b { entries = entries }
+with_line b (Released entries unheld) = record b { entries = entries; unheld = unheld }
+with_line b (CountedDown entries count) = record b { entries = entries; count = count }
+with_line b (Seat i has) = record b { seats = set b.seats i has }
+with_line b (Stands p) = record b { line = b.line ++ p ∷ [] }
+with_line b (Sleeps c x) = record b { sleepers = set b.sleepers c (sleepers_of b c ++ x ∷ []) }

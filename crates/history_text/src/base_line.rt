@@ -1,0 +1,129 @@
+//! A line that tells a part of a base.
+
+ghost use Rattle.std.specs.Prelude.{◌≡◌, ◌++◌, OnOk, codes, decimal};
+ghost use Rattle.history.specs.EntryWords.{IsWritten};
+ghost use Rattle.history_text.specs.BaseLines.{IsBaseLine, base_line, waiting_entry};
+ghost use Rattle.history_text.specs.declared.base_line.BaseLine.TheVariants.{Seat, Sleeps, Stands};
+
+use history::base::{SeatBase, Sleeper, Standing};
+use history::entry::{End, Entry, Mode, Word};
+use history::number::{put_number, put_wide};
+use std::alloc::AllocError;
+
+/// What one line says of a base.
+#[derive(Clone, Copy, Debug, PartialEq, Eq)]
+pub enum BaseLine {
+    /// How many entries of a lock or a read-write lock were folded.
+    Folded(u128),
+    /// How many of a semaphore, and the permits released by seats that did not hold them.
+    Released(u128, u128),
+    /// How many of a latch, and its count.
+    CountedDown(u128, u32),
+    /// What a seat has.
+    Seat(u16, SeatBase),
+    /// One in line.
+    Stands(Standing),
+    /// One who sleeps on a condition.
+    Sleeps(u8, Sleeper),
+}
+
+/// The entry whose words say for what one in line waits.
+pub(crate) fn waiting_entry(standing: &Standing) -> Entry
+    ensures { result ≡ waiting_entry standing.now }
+{
+    let Standing {
+        who,
+        condition,
+        holds,
+        how,
+    } = *standing;
+    if who.back {
+        return Entry {
+            seat: who.seat,
+            word: Word::Back,
+            mode: Mode::X,
+            n: holds,
+            at: condition,
+            end: how,
+        };
+    }
+    Entry {
+        seat: who.seat,
+        word: Word::Queued,
+        mode: who.mode,
+        n: who.n,
+        at: 0,
+        end: End::None,
+    }
+}
+
+/// Appends the words of a line, or a front of them.
+pub fn put_base_line(out: &mut Vec<u8>, line: &BaseLine) -> Result<(), AllocError>
+    requires { IsBaseLine line.now }
+    ensures { OnOk result (out.new.items ≡ out.old.items ++ base_line line.now) }
+{
+    match line {
+        BaseLine::Folded(entries) => {
+            out.extend_from_slice(b"base ")?;
+            put_wide(out, *entries)
+        }
+        BaseLine::Released(entries, unheld) => {
+            out.extend_from_slice(b"base ")?;
+            put_wide(out, *entries)?;
+            out.extend_from_slice(b" unheld ")?;
+            put_wide(out, *unheld)
+        }
+        BaseLine::CountedDown(entries, count) => {
+            out.extend_from_slice(b"base ")?;
+            put_wide(out, *entries)?;
+            out.extend_from_slice(b" count ")?;
+            put_number(out, u64::from(*count))
+        }
+        BaseLine::Seat(seat, has) => put_seat(out, *seat, has),
+        BaseLine::Stands(standing) => put_standing(out, standing),
+        BaseLine::Sleeps(condition, sleeper) => put_sleeper(out, *condition, sleeper),
+    }
+}
+
+fn put_seat(out: &mut Vec<u8>, seat: u16, has: &SeatBase) -> Result<(), AllocError>
+    ensures { OnOk result (out.new.items ≡ out.old.items ++ base_line (Seat seat has.now)) }
+{
+    put_calls(out, seat, has.calls)?;
+    out.extend_from_slice(b" x ")?;
+    put_number(out, u64::from(has.exclusive))?;
+    out.extend_from_slice(b" s ")?;
+    put_wide(out, has.shared)
+}
+
+/// A seat and the calls that it ended.
+fn put_calls(out: &mut Vec<u8>, seat: u16, calls: u64) -> Result<(), AllocError>
+    ensures { OnOk result (out.new.items
+        ≡ out.old.items ++ codes "seat " ++ decimal seat ++ codes " calls " ++ decimal calls) }
+{
+    out.extend_from_slice(b"seat ")?;
+    put_number(out, u64::from(seat))?;
+    out.extend_from_slice(b" calls ")?;
+    put_number(out, calls)
+}
+
+fn put_standing(out: &mut Vec<u8>, standing: &Standing) -> Result<(), AllocError>
+    requires { IsWritten (waiting_entry standing.now) }
+    ensures { OnOk result (out.new.items ≡ out.old.items ++ base_line (Stands standing.now)) }
+{
+    let entry = waiting_entry(standing);
+    out.extend_from_slice(b"line ")?;
+    put_number(out, u64::from(standing.who.seat))?;
+    out.push(b' ')?;
+    entry.write_words(out).map_err(|_| AllocError)
+}
+
+fn put_sleeper(out: &mut Vec<u8>, condition: u8, sleeper: &Sleeper) -> Result<(), AllocError>
+    ensures { OnOk result (out.new.items ≡ out.old.items ++ base_line (Sleeps condition sleeper.now)) }
+{
+    out.extend_from_slice(b"sleeper ")?;
+    put_number(out, u64::from(condition))?;
+    out.push(b' ')?;
+    put_number(out, u64::from(sleeper.seat))?;
+    out.push(b' ')?;
+    put_number(out, u64::from(sleeper.holds))
+}

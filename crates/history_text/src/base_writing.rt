@@ -1,0 +1,99 @@
+//! The lines of a base, written.
+
+ghost use Rattle.std.specs.Prelude.{◌≡◌, ◌∷◌, ◌++◌, ◌<◌, ◌≤◌, ◌^◌, [], OnOk, length, map};
+ghost use Rattle.std.specs.List.{AllByRecursion};
+ghost use Rattle.history_text.specs.BaseLines.{IsBaseLine, base_lines, first_line, seat_lines, sleeper_lines};
+ghost use Rattle.history_text.specs.BaseText.{calls_sum, lines_text};
+ghost use Rattle.history_text.specs.declared.base_line.BaseLine.TheVariants.{Stands, Sleeps};
+
+use crate::base_line::{BaseLine, put_base_line};
+use history::base::{Base, SeatBase, Sleeper, Standing};
+use history::header::Object;
+use std::alloc::AllocError;
+
+/// Appends the lines of a base, or a front of them.
+pub(crate) fn put_base(out: &mut Vec<u8>, base: &Base) -> Result<(), AllocError>
+    requires conditions { length base.now.sleepers ≤ 16 }
+    requires each { AllByRecursion IsBaseLine (base_lines base.now) }
+    ensures { OnOk result (out.new.items ≡ out.old.items ++ lines_text (base_lines base.now)) }
+{
+    put_line(out, &first_line(base))?;
+    put_seats(out, &base.seats)?;
+    put_standings(out, &base.line)?;
+    put_sleepers(out, &base.sleepers)
+}
+
+/// How many entries were folded, and what else the object counts.
+pub(crate) fn first_line(base: &Base) -> BaseLine
+    ensures { result ≡ first_line base.now.header.object base.now }
+{
+    match base.header.object {
+        Object::Lock(_) | Object::ReadWrite(_) => BaseLine::Folded(base.entries),
+        Object::Semaphore(_, _) => BaseLine::Released(base.entries, base.unheld),
+        Object::Latch(_) => BaseLine::CountedDown(base.entries, base.count),
+    }
+}
+
+/// A line and its break.
+fn put_line(out: &mut Vec<u8>, line: &BaseLine) -> Result<(), AllocError>
+    requires { IsBaseLine line.now }
+    ensures { OnOk result (out.new.items ≡ out.old.items ++ lines_text (line.now ∷ [])) }
+{
+    put_base_line(out, line)?;
+    out.push(b'\n')?;
+    Ok(())
+}
+
+fn put_seats(out: &mut Vec<u8>, seats: &[SeatBase]) -> Result<(), AllocError>
+    requires { AllByRecursion IsBaseLine (seat_lines 0 seats.now) }
+    ensures { OnOk result (out.new.items ≡ out.old.items ++ lines_text (seat_lines 0 seats.now)) }
+{
+    for (seat, has) in seats.iter().enumerate() {
+        put_line(out, &BaseLine::Seat(seat as u16, *has))?;
+    }
+    Ok(())
+}
+
+fn put_standings(out: &mut Vec<u8>, line: &[Standing]) -> Result<(), AllocError>
+    requires { AllByRecursion IsBaseLine (map Stands line.now) }
+    ensures { OnOk result (out.new.items ≡ out.old.items ++ lines_text (map Stands line.now)) }
+{
+    for standing in line {
+        put_line(out, &BaseLine::Stands(*standing))?;
+    }
+    Ok(())
+}
+
+fn put_sleepers(out: &mut Vec<u8>, lists: &[Vec<Sleeper>]) -> Result<(), AllocError>
+    requires few { length lists.now ≤ 16 }
+    requires each { AllByRecursion IsBaseLine (sleeper_lines 0 (map (λ list. list.items) lists.now)) }
+    ensures { OnOk result (out.new.items
+        ≡ out.old.items ++ lines_text (sleeper_lines 0 (map (λ list. list.items) lists.now))) }
+{
+    for (condition, list) in lists.iter().enumerate() {
+        put_asleep(out, condition as u8, list)?;
+    }
+    Ok(())
+}
+
+fn put_asleep(out: &mut Vec<u8>, condition: u8, list: &[Sleeper]) -> Result<(), AllocError>
+    requires { AllByRecursion IsBaseLine (map (Sleeps condition) list.now) }
+    ensures { OnOk result (out.new.items ≡ out.old.items ++ lines_text (map (Sleeps condition) list.now)) }
+{
+    for sleeper in list {
+        put_line(out, &BaseLine::Sleeps(condition, *sleeper))?;
+    }
+    Ok(())
+}
+
+/// The calls that all seats ended.
+pub(crate) fn calls_of(seats: &[SeatBase]) -> u64
+    requires { calls_sum seats.now < 2 ^ 64 }
+    ensures { result ≡ calls_sum seats.now }
+{
+    let mut calls = 0;
+    for has in seats {
+        calls += has.calls;
+    }
+    calls
+}

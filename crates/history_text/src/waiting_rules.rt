@@ -1,0 +1,150 @@
+//! Who may wait on a base.
+
+ghost use Rattle.std.specs.Prelude.{◌≡◌, ◌↔◌, true, IsTrue, neg_ℤ};
+ghost use Rattle.history.specs.declared.entry.Mode.{Mode};
+ghost use Rattle.history.specs.Base.{holds_of, seat_of};
+ghost use Rattle.history.specs.Faults.{is_bad_number, lacks_mode};
+ghost use Rattle.history.specs.GoodBase.{Asks, GaveUp, Returns, StandsWell};
+ghost use Rattle.history.specs.Object.{is_lock};
+ghost use Rattle.history.specs.Ownership.{most_exclusive};
+ghost use Rattle.history.specs.Steps.{at_least_none};
+
+use history::base::{Base, SeatBase, Standing};
+use history::entry::{End, Mode};
+use history::header::Object;
+
+/// Whether it is a lock or a read-write lock.
+pub(crate) fn is_lock(object: Object) -> bool
+    ensures { result ≡ is_lock object }
+{
+    match object {
+        Object::Lock(_) | Object::ReadWrite(_) => true,
+        Object::Semaphore(_, _) | Object::Latch(_) => false,
+    }
+}
+
+/// The number, or 0 where it is below.
+pub(crate) fn above_none(permits: i32) -> u128
+    ensures { result ≡ at_least_none permits }
+{
+    if permits < 0 { 0 } else { permits as u128 }
+}
+
+/// How far the number is below 0.
+pub(crate) fn below_none(permits: i32) -> u128
+    ensures { result ≡ at_least_none (neg_ℤ permits) }
+{
+    if permits < 0 {
+        (-i64::from(permits)) as u128
+    } else {
+        0
+    }
+}
+
+/// What a seat has.
+fn seat_of(base: &Base, seat: u16) -> SeatBase
+    ensures { result ≡ seat_of base.now seat }
+{
+    match base.seats.get(seat as usize) {
+        Some(has) => *has,
+        None => SeatBase {
+            calls: 0,
+            exclusive: 0,
+            shared: 0,
+        },
+    }
+}
+
+fn lacks_mode(object: Object, mode: Mode) -> bool
+    ensures { result ≡ lacks_mode object mode }
+{
+    match (object, mode) {
+        (Object::Lock(_), Mode::X) | (Object::ReadWrite(_), _) => false,
+        (Object::Lock(_), Mode::S) => true,
+        (_, Mode::X) => true,
+        (_, Mode::S) => false,
+    }
+}
+
+fn is_bad_number(object: Object, n: u32) -> bool
+    ensures { result ≡ is_bad_number object n }
+{
+    match object {
+        Object::Semaphore(_, _permits) => 2_147_483_647 < n,
+        _ => n != 1,
+    }
+}
+
+fn most_exclusive(object: Object) -> u32
+    ensures { result ≡ most_exclusive object }
+{
+    match object {
+        Object::Lock(_) => 2_147_483_647,
+        Object::ReadWrite(_) => 65_535,
+        Object::Semaphore(_, _) | Object::Latch(_) => 0,
+    }
+}
+
+/// Whether the seat may have given up so many holds to sleep on the condition.
+pub(crate) fn gave_up(base: &Base, seat: u16, condition: u8, holds: u32) -> bool
+    ensures { IsTrue result ↔ GaveUp base.now seat condition holds }
+{
+    let object = base.header.object;
+    let has = seat_of(base, seat);
+    is_lock(object)
+        && seat < base.header.seats
+        && condition < base.header.conditions
+        && 1 <= holds
+        && holds <= most_exclusive(object)
+        && holds_nothing(has)
+}
+
+fn holds_nothing(has: SeatBase) -> bool
+    ensures { IsTrue result ↔ ((m : Mode) → holds_of has m ≡ 0) }
+{
+    has.exclusive == 0 && has.shared == 0
+}
+
+/// Whether an acquire in line asks for what the object has, and is from no sleep.
+fn asks(base: &Base, standing: &Standing) -> bool
+    ensures { IsTrue result ↔ Asks base.now standing.now }
+{
+    let object = base.header.object;
+    let who = standing.who;
+    who.seat < base.header.seats
+        && !lacks_mode(object, who.mode)
+        && !is_bad_number(object, who.n)
+        && seat_of(base, who.seat).exclusive == 0
+        && standing.condition == 0
+        && standing.holds == 0
+        && is_none(standing.how)
+}
+
+fn is_none(how: End) -> bool
+    ensures { IsTrue result ↔ (how ≡ End.None) }
+{
+    matches!(how, End::None)
+}
+
+/// Whether one that comes back from a condition gave up its holds, and its await has an end.
+fn returns(base: &Base, standing: &Standing) -> bool
+    requires { standing.now.who.back ≡ true }
+    ensures { IsTrue result ↔ Returns base.now standing.now }
+{
+    let who = standing.who;
+    matches!(who.mode, Mode::X)
+        && who.n == 1
+        && gave_up(base, who.seat, standing.condition, standing.holds)
+        && !is_none(standing.how)
+}
+
+/// Whether one may stand in line so.
+pub(crate) fn stands_well(base: &Base, standing: &Standing) -> bool
+    ensures { IsTrue result ↔ StandsWell base.now standing.now }
+{
+    if standing.who.back {
+        returns(base, standing)
+    } else {
+        asks(base, standing)
+    }
+}

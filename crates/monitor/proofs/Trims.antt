@@ -1,0 +1,87 @@
+-- What a section of the lock with one trim of the core leaves.
+use Rattle.std.proofs.Common.{◌≡◌, ◌<◌, List, [], ◌++◌, ℕ, Result, Ok, Err, refl, sym, ap, ◌∙◌, subst}
+use Rattle.history.specs.declared.entry.Entry.{Entry}
+use Rattle.history.specs.declared.fault.Fault.{Fault}
+use Rattle.history.specs.declared.point.Point.{Point}
+use Rattle.history.specs.Entries.{ended_calls}
+use Rattle.frame.specs.Core.{CoreView, IsTrimmed}
+use Rattle.word_lock.specs.Point.{Before, Follows, added}
+use Rattle.word_lock.specs.Rule.{AllAgree}
+use Rattle.word_lock.specs.Ticket.{LockId, Ticket, first_entries, after_lock, after_unlock}
+use Rattle.word_lock.proofs.PointLaws.{added_more, before_header, follows_fold, follows_more}
+use Rattle.word_lock.proofs.Sections.{IsSection, section}
+use Rattle.monitor.specs.Lawful.{point_of, view_of, beside_of, Beside, IsKept, IsLawful}
+use Rattle.monitor.specs.Shown.{shown, IsPass, IsTrue}
+use Rattle.monitor.specs.Stepping.{IsTrim}
+use Rattle.monitor.proofs.Sections.{core_shown, own_entries, true_pass}
+
+pub trimmed_shown : (v w : CoreView) (r : Result ℕ Fault) → IsKept v → IsKept w → IsTrimmed v r w →
+    IsTrimmed (view_of (point_of v) (beside_of v)) r (view_of (point_of w) (beside_of w))
+trimmed_shown v w r kept left t =
+    subst (λ x. IsTrimmed x r (view_of (point_of w) (beside_of w))) (sym (core_shown v kept))
+    (subst (λ y. IsTrimmed v r y) (sym (core_shown w left)) t)
+
+-- the list was folded, or nothing has changed
+pub follows_trim : (seat : ℕ) (p q : Point) (m n : Beside) (r : Result ℕ Fault) → IsLawful p →
+    IsTrimmed (view_of p m) r (view_of q n) → (Follows seat p q) × (added p q ≡ [])
+follows_trim seat p q m n (Ok count) lawful t =
+    follows_fold seat p q lawful.may_fold.can (ap (λ (v : CoreView). v.base) t.2)
+    (ap (λ (v : CoreView). v.entries) t.2)
+follows_trim seat p q m n (Err f) lawful t =
+    let base = ap (λ (v : CoreView). v.base) (sym t.2) in
+    let list = ap (λ (v : CoreView). v.entries) t.2 in
+    (follows_more seat p q [] base list tt, added_more p q [] list)
+
+module _ (t o n : Ticket) (p q : Point) (seat share : ℕ) (r : Result ℕ Fault) where
+  pub record Trim : Type 0 where
+    pub taken : o ≡ after_lock t p
+    pub given : n ≡ after_unlock o q
+    pub was : IsPass t seat share
+    pub begins : Before t.seen p
+    pub entries : AllAgree p t.logs
+    pub beside : Beside
+    pub beside_left : Beside
+    pub trimmed : IsTrimmed (view_of p beside) r (view_of q beside_left)
+    pub found : IsLawful p
+    pub lawful : IsLawful q
+
+  went : Trim → IsSection t n p q seat
+  went s =
+      section t o n p q seat s.taken s.given s.was.one s.was.seat_is s.begins s.entries
+      (follows_trim seat p q s.beside s.beside_left r s.found s.trimmed).0
+
+  mine_stays : Trim → first_entries n.logs ≡ first_entries t.logs
+  mine_stays s =
+      (went s).grown ∙ ap (λ (l : List Entry). l ++ first_entries t.logs)
+      (follows_trim seat p q s.beside s.beside_left r s.found s.trimmed).1
+
+  pub trim_pass : Trim → IsPass n seat share
+  trim_pass s = let x = went s in record {
+    free = x.free;
+    one = x.one;
+    seat_is = x.seat_is;
+    below = subst (λ (l : LockId). seat < l.header.seats) (sym x.lock) s.was.below;
+    header = sym (before_header t.seen n.seen x.begins) ∙
+        (s.was.header ∙ ap (λ (l : LockId). l.header) (sym x.lock));
+    lawful = subst IsLawful (sym x.seen) s.lawful;
+    agrees = x.agrees;
+    counted = s.was.counted ∙ ap ended_calls (sym (mine_stays s));
+  }
+
+  pub trim_true : Trim → IsTrue (shown n seat share)
+  trim_true s = true_pass n seat share (trim_pass s)
+
+  pub trim_is : Trim → IsTrim (shown t seat share) r (shown n seat share)
+  trim_is s = let x = went s in record {
+    found = p;
+    begins = s.begins;
+    lawful = s.found;
+    agrees = own_entries t p seat s.was.one s.was.seat_is s.entries;
+    beside = s.beside;
+    beside_left = s.beside_left;
+    trimmed = subst (λ (z : Point). IsTrimmed (view_of p s.beside) r (view_of z s.beside_left)) (sym x.seen)
+        s.trimmed;
+    after = x.begins;
+    mine = mine_stays s;
+    share = refl;
+  }

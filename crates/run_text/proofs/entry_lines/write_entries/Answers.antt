@@ -1,0 +1,16 @@
+use Rattle.driver.proofs.Gathering.{if_failed, where_failed, where_written, written_all, written_front}
+use Rattle.run_text.proofs.entry_lines.write_entries.Goals as goal
+
+pub returns-in_err-put_entries-clause-err : goal.returns-in_err-put_entries-clause-err
+returns-in_err-put_entries-clause-err g c =
+    if_failed c.from_residual.result _ (rw c.requires.none at c.in_err-put_entries.ensures.adds)
+
+pub returns-clause-ok : goal.returns-clause-ok
+returns-clause-ok g c =
+    where_written c.flush.result _ _ (written_all _ _ _ _ c.put_entries.new.lines.bytes _
+    (rw c.requires.none at c.in_ok-put_entries.ensures.adds)) c.flush.ensures.ok
+
+pub returns-clause-err : goal.returns-clause-err
+returns-clause-err g c =
+    where_failed c.flush.result _ _ (written_front _ _ _ _ c.put_entries.new.lines.bytes _
+    (rw c.requires.none at c.in_ok-put_entries.ensures.adds)) c.flush.ensures.err

@@ -1,0 +1,61 @@
+//! The lines of entries behind a base.
+
+ghost use Rattle.std.specs.Prelude.{◌≡◌, ◌≤◌, ◌↔◌, [], false, All, IsErr, IsTrue, OnErr, OnOk, reverse};
+ghost use Rattle.std.specs.Io.KnownBytes.{Appends};
+ghost use Rattle.driver.specs.LineWriter.{Gathers};
+ghost use Rattle.history.specs.EntryWords.{IsSpelt};
+ghost use Rattle.history.specs.GoodBase.{most_folded};
+ghost use Rattle.history_text.specs.Pieces.{entry_lines};
+ghost use Rattle.streams.specs.Whole.{AppendsFront};
+
+use driver::line_writer::LineWriter;
+use history::entries::History;
+use history::step::Answer;
+use streams::sink::Sink;
+use streams::source::DeviceFailed;
+
+/// Writes the lines of all entries, numbered from `first` on. No memory is taken.
+pub(crate) fn write_entries<W: Sink>(
+    lines: &mut LineWriter,
+    writer: &mut W,
+    history: &History,
+    first: u64,
+) -> Result<(), DeviceFailed>
+    requires writer { W.failed writer.old ≡ false }
+    requires none { lines.old.bytes ≡ [] }
+    requires spelt { All IsSpelt (reverse history.now.entries) }
+    requires few { first ≤ most_folded }
+    ensures ok { OnOk result (Appends (W.held writer.old) (W.held writer.new)
+        (entry_lines first (reverse history.now.entries))) }
+    ensures none { OnOk result (lines.new.bytes ≡ []) }
+    ensures err { OnErr result (AppendsFront (W.held writer.old) (W.held writer.new)
+        (entry_lines first (reverse history.now.entries))) }
+    ensures failing { IsTrue (W.failed writer.new) ↔ IsErr result }
+{
+    put_entries(lines, writer, history, first)?;
+    lines.flush(writer)
+}
+
+/// Adds the lines of all entries, numbered from `first` on.
+fn put_entries<W: Sink>(
+    lines: &mut LineWriter,
+    writer: &mut W,
+    history: &History,
+    first: u64,
+) -> Result<(), DeviceFailed>
+    requires writer { W.failed writer.old ≡ false }
+    requires spelt { All IsSpelt (reverse history.now.entries) }
+    requires few { first ≤ most_folded }
+    ensures adds { Gathers (W.held writer.old) lines.old.bytes result (W.held writer.new) lines.new.bytes
+        (entry_lines first (reverse history.now.entries)) }
+    ensures failing { IsTrue (W.failed writer.new) ↔ IsErr result }
+{
+    for place in 0..history.len() {
+        let Some(entry) = history.get(place) else {
+            unreachable!()
+        };
+        let answer = Ok(Answer::Recorded(entry, None));
+        lines.put_answer(writer, first + place, entry.seat, &answer)?;
+    }
+    Ok(())
+}

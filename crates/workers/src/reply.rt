@@ -1,0 +1,29 @@
+//! What an object answers to a call of a worker.
+ghost use Rattle.std.specs.Prelude.{◌≡◌};
+ghost use Rattle.workers.specs.Calls.{unrecorded_by};
+
+use history::entry::Entry;
+use history::fault::Fault;
+
+/// The answer to a call of an object.
+#[derive(Clone, Copy, Debug, Drop)]
+pub(crate) enum Reply {
+    /// A call of the seat: its last entry.
+    Entered(Result<Entry, Fault>),
+    /// A trim: how many entries it folded. No entry tells of it.
+    Trimmed(Result<u64, Fault>),
+}
+
+impl Reply {
+    /// How many answers aren't recorded: 1 for a fault, else 0.
+    pub(crate) fn unrecorded(&self) -> u64
+        ensures { result ≡ unrecorded_by self.now }
+    {
+        match self {
+            Reply::Entered(Ok(_)) => 0,
+            Reply::Entered(Err(_)) => 1,
+            Reply::Trimmed(Ok(_)) => 0,
+            Reply::Trimmed(Err(_)) => 1,
+        }
+    }
+}
