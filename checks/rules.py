@@ -581,7 +581,7 @@ class History:
     """The lines of a history text behind its header: those of its base in format 2, and entries."""
 
     def __init__(self, header, based):
-        self.header, self.entries = header, []
+        self.header, self.entries, self.ended = header, [], 0
         self.base = BaseReader(header) if based else None
         self.is_whole = not based
 
@@ -595,8 +595,7 @@ class History:
     def is_end(self, line):
         if not self.is_whole and not self.base.has_all_seats():
             return False
-        ended = sum(entry.word not in NO_CALL for entry in self.entries)
-        calls = ended + (sum(self.base.state.calls) if self.base else 0)
+        calls = self.ended + (sum(self.base.state.calls) if self.base else 0)
         return line == b"end %d %d" % (self.folded() + len(self.entries), calls)
 
     def takes(self, words):
@@ -614,6 +613,7 @@ class History:
         if entry is None:
             return False
         self.entries.append(entry)
+        self.ended += entry.word not in NO_CALL
         return True
 
 

@@ -20,7 +20,7 @@ import rules
 
 def objects(chance, threads, count):
     """Objects by name, with as many latches' counts as there are releases, or 1."""
-    policy = lambda: chance.choice(("fair", "nonfair"))
+    policy = lambda: chance.choice(("fair", "nonfair", "strict"))
     kinds = [
         lambda: f"lock {policy()} seats {threads} conditions 2 cap 4000000",
         lambda: f"rw {policy()} seats {threads} conditions 1 cap 4000000",

@@ -1,5 +1,7 @@
 """Tests of what is kept of earlier trials: a mark stands for one state of a crate alone."""
 import os
+import subprocess
+import sys
 import tempfile
 import unittest
 from unittest import mock
@@ -53,6 +55,14 @@ class Marks(unittest.TestCase):
             kept.keep(kept.mark_of(self.high()))
             self.write(path, text)
             self.assertFalse(kept.are_refused(self.high()), path)
+
+    def test_a_mark_counts_the_programs_of_a_trial_and_no_others(self):
+        ask = "import wrong_bodies, kept, os; print(*map(os.path.basename, kept.programs()))"
+        told = subprocess.run(
+            [sys.executable, "-B", "-c", ask], cwd=kept.HERE, capture_output=True, text=True, check=True
+        )
+        trial = "bodies.py kept.py kit.py said.py selftest.py trial.py wrong_bodies.py"
+        self.assertEqual(trial, told.stdout.strip())
 
 
 if __name__ == "__main__":

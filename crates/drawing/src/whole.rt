@@ -1,6 +1,6 @@
 //! What is drawn of a whole history.
 
-ghost use Rattle.std.specs.Prelude.{◌≡◌, ◌<◌, ◌^◌, [], IfOk, length, reverse};
+ghost use Rattle.std.specs.Prelude.{◌≡◌, ◌<◌, ◌^◌, [], IfOk, IfSome, length, reverse};
 ghost use Rattle.std.specs.List.{All};
 ghost use Rattle.std.specs.Option.{option_copied};
 ghost use Rattle.history.specs.Base.{based};
@@ -26,7 +26,7 @@ pub fn drawn_of(
     from: u64,
     entries: &[Entry],
 ) -> Result<Drawn, AllocError>
-    requires range { IsInRange header }
+    requires range { IfSome base (λ _. IsInRange header) }
     requires based { IsBasedWell header (option_copied base) }
     requires seated { All (λ e. e.seat < header.seats) entries.now }
     requires few { length entries.now < 2 ^ 32 }
@@ -50,7 +50,7 @@ fn begun(
     base: Option<&Base>,
     from: u64,
 ) -> Result<Drawing, AllocError>
-    requires range { IsInRange header }
+    requires range { IfSome base (λ _. IsInRange header) }
     requires based { IsBasedWell header (option_copied base) }
     ensures drawn { IfOk result (HasDrawn (based (or_opening header (option_copied base.entry))) from []) }
     ensures header { (based (or_opening header (option_copied base.entry))).header ≡ header }

@@ -69,11 +69,13 @@ answering_none p b h base none =
     })
 
 -- one more step was answered
-pub answering_step : (first old new : Progress StepsHeader Act) (i : ℕ) (step : Step) (r : Result Answer Fault)
+pub answering_step : (first old new : Progress StepsHeader Act) (i : ℕ) (step : Step)
+    (r : Result Answer Fault)
     (b : Base) (h h' past : List Entry) (remarks remarks' : List Remark) (left : Option (List ℕ))
     → IsNext steps_form old (Ok (Some (Do i step))) new left → new.so_far.header ≡ old.so_far.header →
     r ≡ (answer (based b) h i step).0 → h' ≡ (answer (based b) h i step).1
-    → IsKept remarks (remark_of (length past + length h) i r) remarks' → Answering first old b h past remarks →
+    → IsKept remarks (remark_of (length past + length h) i r) remarks'
+    → Answering first old b h past remarks →
     Answering first new b h' past remarks'
 answering_step first old new i step r b h h' past remarks remarks' left next same p q more a =
     let told = subst (λ (k : StepsHeader). Told k.header a.acts a.lines b h) (sym same) a.told in
@@ -87,7 +89,8 @@ answering_step first old new i step r b h h' past remarks remarks' left next sam
       read = λ text were. next text a.acts (a.read text were);
       told = subst (λ (n : ℕ). Told new.so_far.header.header (a.acts ++ Do i step ∷ []) (line n) b h') number
           (told_more new.so_far.header.header a.acts a.lines b h i step r h' told p q);
-      remarked = remarked_on (based b) h (reverse past) i step r h' remarks remarks' a.lines p q kept a.remarked;
+      remarked =
+          remarked_on (based b) h (reverse past) i step r h' remarks remarks' a.lines p q kept a.remarked;
       counted = a.counted;
       ended = a.ended;
       spelt = a.spelt;
@@ -133,7 +136,8 @@ answering_act first old new (Do i step) core core' log log' left next same is ma
     log'.remarks left next same now.0 now.1 is.4 a in
     let based : Answering first new core'.base core'.entries log.past log'.remarks =
     subst (λ (b : Base). Answering first new b core'.entries log.past log'.remarks) (sym now.3) more in (
-      subst (λ (es : List Entry). Answering first new core'.base core'.entries es log'.remarks) (sym is.3) based,
+      subst (λ (es : List Entry). Answering first new core'.base core'.entries es log'.remarks) (sym is.3)
+          based,
       now.2,
     )
 answering_act first old new Trim core core' log log' left next same is may a =

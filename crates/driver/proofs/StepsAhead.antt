@@ -24,6 +24,7 @@ next_act h count window act left is = (is []).1.fits (repeated count act) (as_ma
 
 -- its line is short
 pub next_short : (h : StepsHeader) (count : ℕ) (window : List ℕ) (act : Act) (left : ℕ) → IsInRange h.header →
-    IsLineBehind steps_form (steps_so_far h count) window (Ok (Some (act, left))) → length (act_line act) < 256
+    IsLineBehind steps_form (steps_so_far h count) window (Ok (Some (act, left)))
+    → length (act_line act) < 256
 next_short h count window act left range is =
     short.item h [] act range tt (next_act h count window act left is)

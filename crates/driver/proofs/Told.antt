@@ -47,7 +47,8 @@ pub lines_left-is : (b : Base) (h : List Entry) (number : ℕ) (acts : List Act)
 unfolding lines_left
 lines_left-is b h number acts = refl
 
-pub base_left-is : (b : Base) (h : List Entry) (acts : List Act) → base_left b h acts ≡ (outcome b h acts).base
+pub base_left-is : (b : Base) (h : List Entry) (acts : List Act) →
+    base_left b h acts ≡ (outcome b h acts).base
 unfolding base_left
 base_left-is b h acts = refl
 
@@ -78,7 +79,8 @@ lines_left-do b h number i step acts r new p q =
     + entries_done (as_answered (answer (based b) h i step).0)) acts
     (outcome b (answer (based b) h i step).1 acts).done)
     (answered_line number i step (answer (based b) h i step).0)
-    ∙ ap (λ (n : ℕ). ended (answer_line number i (answer (based b) h i step).0) ++ done_lines (number + n) acts
+    ∙ ap (λ (n : ℕ).
+    ended (answer_line number i (answer (based b) h i step).0) ++ done_lines (number + n) acts
     (outcome b (answer (based b) h i step).1 acts).done) (answered_entries (answer (based b) h i step).0))
 
 base_left-do : (b : Base) (h : List Entry) (i : ℕ) (step : Step) (acts : List Act) (new : List Entry) →
@@ -121,7 +123,8 @@ lines_left-trim b h number acts (Ok count) is =
     ap (λ t. done_lines number (Trim ∷ acts) (choice t b h acts).done) is.1
     ∙ ap (λ (n : ℕ). ended (trim_line (Ok n)) ++ done_lines (number + 0) acts
     (outcome (folded b h) [] acts).done) (sym is.0)
-    ∙ ap (λ (n : ℕ). ended (trim_line (Ok count)) ++ done_lines n acts (outcome (folded b h) [] acts).done) same
+    ∙ ap (λ (n : ℕ).
+    ended (trim_line (Ok count)) ++ done_lines n acts (outcome (folded b h) [] acts).done) same
 lines_left-trim b h number acts (Err fault) is =
     let same : number + 0 ≡ number = omega arith in
     ap (λ t. done_lines number (Trim ∷ acts) (choice t b h acts).done) is.1

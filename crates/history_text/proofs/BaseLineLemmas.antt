@@ -284,7 +284,9 @@ folded_bytes n lt = digits 16 n (omega arith) (omega (arith, lt)) (omega (arith,
 permit_bytes : (n : ℕ) → n ≤ most_permits → length (decimal n) ≤ 26
 permit_bytes n lt = digits 26 n (omega arith) (omega (arith, lt)) (omega (arith, lt))
 
-base_weight : (x : BaseLine) → IsBaseLine x → ((p : Standing) → IsBaseLine (Stands p) → weight (entry_words (waiting_by p.who.back p)) ≤ 84) → weight (base_words x) < 256
+base_weight : (x : BaseLine) → IsBaseLine x →
+    ((p : Standing) → IsBaseLine (Stands p) → weight (entry_words (waiting_by p.who.back p)) ≤ 84) →
+    weight (base_words x) < 256
 base_weight (Folded t) is stands = omega (arith, folded_bytes t is.1)
 base_weight (Released t u) is stands = omega (arith, folded_bytes t is.1, permit_bytes u is.2)
 base_weight (CountedDown t q) is stands = omega (arith, folded_bytes t is.1, few_bytes q is.2)

@@ -51,11 +51,12 @@ seats_left xs i d lt =
 -- the lines of the list at this place come first
 pub lists_left : {V : Type 0} (f : V → List Sleeper) (xs : List V) (c : ℕ) (d : V) (list : List Sleeper) →
     c < length xs → list ≡ f (get_or xs c d) →
-    sleeper_lines c (drop c (map f xs)) ≡ map (Sleeps c) list ++ sleeper_lines (c + 1) (drop (c + 1) (map f xs))
+    sleeper_lines c (drop c (map f xs))
+    ≡ map (Sleeps c) list ++ sleeper_lines (c + 1) (drop (c + 1) (map f xs))
 lists_left f xs c d list lt is =
     let next : suc c ≡ c + 1 = omega arith in
-    ap (sleeper_lines c) (drop-map f c xs ∙ ap (map f) (drop-cons xs c d lt) ∙ ap (λ (l : List (List Sleeper)).
-    f (get_or xs c d) ∷ l) (sym (drop-map f (suc c) xs)))
+    ap (sleeper_lines c) (drop-map f c xs ∙ ap (map f) (drop-cons xs c d lt)
+    ∙ ap (λ (l : List (List Sleeper)). f (get_or xs c d) ∷ l) (sym (drop-map f (suc c) xs)))
     ∙ ap (λ (k : ℕ). map (Sleeps c) (f (get_or xs c d)) ++ sleeper_lines (c + 1) (drop k (map f xs))) next
     ∙ ap (λ (l : List Sleeper). map (Sleeps c) l ++ sleeper_lines (c + 1) (drop (c + 1) (map f xs))) (sym is)
 
@@ -85,7 +86,8 @@ each_back P (x ∷ xs) ys all = each_back P xs ys all.1
 
 -- all lines are written, the first one and those of three lists
 pub four_written : (out a b c d : List ℕ) (x : BaseLine) (xs ys zs : List BaseLine) →
-    a ≡ out ++ lines_text (x ∷ []) → b ≡ a ++ lines_text xs → c ≡ b ++ lines_text ys → d ≡ c ++ lines_text zs →
+    a ≡ out ++ lines_text (x ∷ []) → b ≡ a ++ lines_text xs → c ≡ b ++ lines_text ys →
+    d ≡ c ++ lines_text zs →
     d ≡ out ++ lines_text (x ∷ (xs ++ (ys ++ zs)))
 four_written out a b c d x xs ys zs p q r s =
     s ∙ lines_written b c ys zs _ refl r

@@ -79,7 +79,8 @@ module _ (text : List ℕ) (h : Head) (b : Base) (es : List Entry) (p : Place) (
     pub long : length after ≡ left
     pub grown : AreEntriesRead text h b (es ++ e ∷ []) (behind p e) after
 
-  pub read_one : (e : Entry) (left : ℕ) → IsEntryBehind h.header p rest (Ok (Some (e, left))) → IsOneMore e left
+  pub read_one : (e : Entry) (left : ℕ) → IsEntryBehind h.header p rest (Ok (Some (e, left))) →
+      IsOneMore e left
   read_one e left is =
       let found = is h (base_of h.header (lines_on b es)) so_far refl read.placed text in
       let n = p.folded + p.count in

@@ -91,7 +91,8 @@ pub opening_written : (k : Header) (out new : List ℕ) →
     IsHeadPut (opening_base k) out new 0 0
 opening_written k out new is =
     record {
-      lines = is ∙ ap (λ (t : List ℕ). out ++ t) (sym (append-nil (ended (codes "aqs-history 1 " ++ part_of k))));
+      lines = is
+          ∙ ap (λ (t : List ℕ). out ++ t) (sym (append-nil (ended (codes "aqs-history 1 " ++ part_of k))));
       folded = refl;
       few = omega arith;
       calls = sym (sum_none k.seats);

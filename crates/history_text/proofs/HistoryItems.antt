@@ -31,7 +31,8 @@ pub record IsSmall (h : Head) (s : Reached) : Type 0 where
   pub calls : s.calls ≤ s.count
 
 pub small_none : (h : Head) → IsSmall h nothing_yet
-small_none h = record { entries = omega arith; told_calls = omega arith; count = omega arith; calls = omega arith }
+small_none h =
+    record { entries = omega arith; told_calls = omega arith; count = omega arith; calls = omega arith }
 
 small_told : (t : Told) (b : Base) (x : BaseLine) → t.entries ≤ most_folded → t.calls ≤ t.entries →
     MayFollow t b x → ((told t x).entries ≤ most_folded) × ((told t x).calls ≤ (told t x).entries)

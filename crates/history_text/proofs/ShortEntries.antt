@@ -141,7 +141,8 @@ head_short h range =
 pub waiting_short : (p : Standing) (b : Bool) → IsWritten (waiting_by b p) →
     AreShort (entry_words (waiting_by b p)) × (length (entry_words (waiting_by b p)) ≤ 4)
 waiting_short p true written = words_short Back X p.holds p.condition p.how written.amount written.condition
-waiting_short p false written = words_short Queued p.who.mode p.who.n 0 end.None written.amount written.condition
+waiting_short p false written =
+    words_short Queued p.who.mode p.who.n 0 end.None written.amount written.condition
 
 line_short : (h : Head) (before : List Line) (x : Line) → Stand history_form h before →
     MayStand h (reached before) (base_of h.header before) x → length (line_text x) < 256

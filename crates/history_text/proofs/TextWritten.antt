@@ -39,7 +39,8 @@ more_lines n xs front out mid new i e at was p q =
     let taken : take (i + 1) xs ≡ take i xs ++ e ∷ [] =
     take_more xs i e lt ∙ ap (λ (x : Entry). take i xs ++ x ∷ []) (get_or_from_slice_get xs i e e at) in
     let number : n + length (take i xs) ≡ n + i = omega (arith, length-take i xs, lt) in
-    let lines : lines_of history_form (numbered n (take (i + 1) xs)) ≡ before ++ ended (entry_line (n + i) e) =
+    let lines : lines_of history_form (numbered n (take (i + 1) xs))
+    ≡ before ++ ended (entry_line (n + i) e) =
     ap (λ (l : List Entry). lines_of history_form (numbered n l)) taken
     ∙ ap (lines_of history_form) (numbered-push n (take i xs) e)
     ∙ lines_of-push history_form (numbered n (take i xs)) (Entered (n + length (take i xs)) e)
@@ -107,10 +108,10 @@ told_all b es =
     after_lines-append nothing_yet (map Based (lines_told b)) (numbered b.entries es)
     ∙ ap (λ (s : Reached). after_lines s (numbered b.entries es)) (reached_lines (lines_told b))
     ∙ behind_entries (record { told = after_told untold (lines_told b); count = 0; calls = 0 }) b.entries es
-    ∙ ap (λ (n : ℕ). record { told = after_told untold (lines_told b); count = n; calls = 0 + ended_calls es })
-    (omega arith)
-    ∙ ap (λ (n : ℕ). record { told = after_told untold (lines_told b); count = length es; calls = n })
-    (omega arith)
+    ∙ ap (λ (n : ℕ).
+    record { told = after_told untold (lines_told b); count = n; calls = 0 + ended_calls es }) (omega arith)
+    ∙ ap (λ (n : ℕ).
+    record { told = after_told untold (lines_told b); count = length es; calls = n }) (omega arith)
 
 -- the end line of a history whose entries stand newest first
 end_line : (k : Header) (b : Base) (entries : List Entry) → IsInRange k → IsBaseOf k b →

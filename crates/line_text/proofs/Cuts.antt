@@ -64,12 +64,14 @@ one_before form h before x front after fits e more =
 
 cut_further : {H I : Type 0} (form : Form H I) (h : H) (before : List I) (x : I) (rest front more : List ℕ) →
     form.IsItem h before x → Cut (form.item_line x) rest front more
-    → ((after : List ℕ) → after ++ more ≡ rest → Items form h (before ++ x ∷ []) after) → Items form h before front
+    → ((after : List ℕ) → after ++ more ≡ rest → Items form h (before ++ x ∷ []) after)
+    → Items form h before front
 cut_further form h before x rest front more fits (inl p) further = none_whole form h before front p
 cut_further form h before x rest front more fits (inr p) further =
     one_before form h before x front p.0 fits p.1 (further p.0 p.2)
 
-cut_items : {H I : Type 0} (form : Form H I) (h : H) (before : List I) (items : List I) (end front more : List ℕ) →
+cut_items : {H I : Type 0} (form : Form H I) (h : H) (before : List I) (items : List I)
+    (end front more : List ℕ) →
     IsLawful form → Stand form h before → AreItems form h before items → Lacks end → more ≢ []
     → front ++ more ≡ lines_of form items ++ ended end → Items form h before front
 cut_items form h before [] end front more lawful stand all whole some e =
@@ -79,7 +81,8 @@ cut_items form h before (x ∷ xs) end front more lawful stand all whole some e 
     cut_further form h before x rest front more all.0
     (cut_at (form.item_line x) rest front more (lawful.item_whole h before x stand all.0) (e
     ∙ first_line form x xs (ended end)))
-    (λ after f. cut_items form h (before ++ x ∷ []) xs end after more lawful (one_further form h before x stand all.0) all.1 whole some f)
+    (λ after f. cut_items form h (before ++ x ∷ []) xs end after more lawful
+    (one_further form h before x stand all.0) all.1 whole some f)
 
 cut_header : {H I : Type 0} (form : Form H I) (h : H) (rest front more : List ℕ) → form.IsHeader h →
     Cut (form.header_line h) rest front more

@@ -22,7 +22,8 @@ AreItems-push form h before [] x all here =
 AreItems-push form h before (y ∷ ys) x all here =
     let next : before ++ y ∷ ys ≡ (before ++ y ∷ []) ++ ys = sym (append_assoc before (y ∷ []) ys) in (
       all.0,
-      AreItems-push form h (before ++ y ∷ []) ys x all.1 (subst (λ (l : List _). form.IsItem h l x) next here),
+      AreItems-push form h (before ++ y ∷ []) ys x all.1
+          (subst (λ (l : List _). form.IsItem h l x) next here),
     )
 
 pub one_more : {H I : Type 0} (form : Form H I) (text : List ℕ) (h : H)

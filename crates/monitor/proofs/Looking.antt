@@ -1,54 +1,40 @@
 -- What a section of the lock leaves that changes nothing.
-use Rattle.std.proofs.Common.{◌≡◌, ◌<◌, List, [], ◌++◌, ℕ, refl, sym, ap, ◌∙◌, subst}
+use Rattle.std.proofs.Common.{◌≡◌, [], ℕ, refl, sym, ap, ◌∙◌}
 use Rattle.history.specs.Entries.{ended_calls}
-use Rattle.history.specs.declared.entry.Entry.{Entry}
 use Rattle.history.specs.declared.point.Point.{Point}
-use Rattle.word_lock.specs.Point.{Before}
+use Rattle.word_lock.specs.Point.{Before, Follows}
 use Rattle.word_lock.specs.Rule.{AllAgree}
-use Rattle.word_lock.specs.Ticket.{LockId, Ticket, first_entries, after_lock, after_unlock}
-use Rattle.word_lock.proofs.PointLaws.{before_header, follows_same, added_more}
-use Rattle.word_lock.proofs.Sections.{IsSection, section}
+use Rattle.word_lock.specs.Ticket.{Ticket, after_lock, after_unlock, first_seat}
+use Rattle.word_lock.proofs.PointLaws.{follows_same, added_more}
+use Rattle.word_lock.proofs.Sections.{follows_taken, section}
 use Rattle.monitor.specs.Lawful.{IsLawful}
 use Rattle.monitor.specs.Shown.{shown, IsPass, IsTrue}
 use Rattle.monitor.specs.Observing.{IsLook}
-use Rattle.monitor.proofs.Sections.{true_pass}
+use Rattle.monitor.proofs.Sections.{mine_stays, passed, true_pass}
 
-module _ (t o n : Ticket) (p : Point) (seat share : ℕ) where
-  pub record Look : Type 0 where
-    pub taken : o ≡ after_lock t p
-    pub given : n ≡ after_unlock o p
-    pub was : IsPass t seat share
-    pub begins : Before t.seen p
-    pub entries : AllAgree p t.logs
-    pub lawful : IsLawful p
+-- what was taken at a point may be given back there
+pub may_give_back : (o t : Ticket) (p : Point) (seat share : ℕ) → o ≡ after_lock t p → IsPass t seat share →
+    Follows (first_seat o.logs) o.seen p
+may_give_back o t p seat share taken was =
+    follows_taken o t p p seat taken was.seat_is (follows_same seat p)
 
-  looked : Look → IsSection t n p p seat
-  looked s =
-      section t o n p p seat s.taken s.given s.was.one s.was.seat_is s.begins s.entries (follows_same seat p)
+-- a pass behind such a section
+pub record Looked (t n : Ticket) (p : Point) (seat share : ℕ) : Type 0 where
+  pub pass : IsPass n seat share
+  pub shows : IsTrue (shown n seat share)
+  pub is : IsLook (shown t seat share) (shown n seat share)
+  pub seen : n.seen ≡ p
 
-  mine_stays : Look → first_entries n.logs ≡ first_entries t.logs
-  mine_stays s =
-      (looked s).grown ∙ ap (λ (l : List Entry). l ++ first_entries t.logs) (added_more p p [] refl)
-
-  pub look_pass : Look → IsPass n seat share
-  look_pass s = let x = looked s in record {
-    free = x.free;
-    one = x.one;
-    seat_is = x.seat_is;
-    below = subst (λ (l : LockId). seat < l.header.seats) (sym x.lock) s.was.below;
-    header = sym (before_header t.seen n.seen x.begins) ∙
-        (s.was.header ∙ ap (λ (l : LockId). l.header) (sym x.lock));
-    lawful = subst IsLawful (sym x.seen) s.lawful;
-    agrees = x.agrees;
-    counted = s.was.counted ∙ ap ended_calls (sym (mine_stays s));
-  }
-
-  pub look_true : Look → IsTrue (shown n seat share)
-  look_true s = true_pass n seat share (look_pass s)
-
-  pub look_is : Look → IsLook (shown t seat share) (shown n seat share)
-  look_is s = let x = looked s in
-      record { lock = x.lock; seat = refl; begins = x.begins; mine = mine_stays s; share = refl }
-
-  pub look_seen : Look → n.seen ≡ p
-  look_seen s = (looked s).seen
+pub look : (t o n : Ticket) (p : Point) (seat share : ℕ) → o ≡ after_lock t p → n ≡ after_unlock o p →
+    IsPass t seat share → Before t.seen p → AllAgree p t.logs → IsLawful p → Looked t n p seat share
+look t o n p seat share taken given was begins entries lawful =
+    let x =
+    section t o n p p seat taken given was.one was.seat_is begins entries (follows_same seat p) in
+    let mine = mine_stays t n p p seat x (added_more p p [] refl) in
+    let pass = passed t n p p seat share share x was lawful (was.counted ∙ ap ended_calls (sym mine)) in
+    record {
+      pass = pass;
+      shows = true_pass n seat share pass;
+      is = record { lock = x.lock; seat = refl; begins = x.begins; mine = mine; share = refl };
+      seen = x.seen;
+    }

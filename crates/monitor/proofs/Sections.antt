@@ -22,7 +22,7 @@ use Rattle.history.specs.declared.step.Step.{Step}
 use Rattle.history.proofs.Answering.{entry_seat}
 use lib.ListN.{get_elem?}
 use Rattle.history.specs.declared.header.Header.{Header}
-use Rattle.frame.specs.Core.{CoreView, start_of, IsAnswered, MakesOwed}
+use Rattle.frame.specs.Core.{CoreView, start_of, IsAnswered, IsTold, MakesOwed}
 use Rattle.history.specs.declared.point.Point.{Point}
 use Rattle.word_lock.specs.declared.view.SeatLog.{SeatLog}
 use Rattle.word_lock.specs.Point.{header_of, Before, Follows, added, Agrees}
@@ -173,6 +173,31 @@ own_entries t p seat one own agree =
     subst (λ (k : ℕ). Agrees p k (first_entries t.logs)) own
     (agree 0 _ (ap (λ (l : List SeatLog). get_elem? l 0) (one_log t.logs one)))
 
+pub true_pass : (t : Ticket) (seat share : ℕ) → IsPass t seat share → IsTrue (shown t seat share)
+true_pass t seat share z =
+    record { lawful = z.lawful; header = z.header; below = z.below; agrees = z.agrees; counted = z.counted }
+
+-- the pass behind a section whose calls were counted, where what was left is lawful
+pub passed : (t n : Ticket) (p q : Point) (seat share next : ℕ) → IsSection t n p q seat →
+    IsPass t seat share → IsLawful q → next ≡ ended_calls (first_entries n.logs) → IsPass n seat next
+passed t n p q seat share next x was lawful counted =
+    record {
+      free = x.free;
+      one = x.one;
+      seat_is = x.seat_is;
+      below = subst (λ (l : LockId). seat < l.header.seats) (sym x.lock) was.below;
+      header = sym (before_header t.seen n.seen x.begins)
+          ∙ (was.header ∙ ap (λ (l : LockId). l.header) (sym x.lock));
+      lawful = subst IsLawful (sym x.seen) lawful;
+      agrees = x.agrees;
+      counted = counted;
+    }
+
+-- a section that adds nothing leaves the entries of the pass
+pub mine_stays : (t n : Ticket) (p q : Point) (seat : ℕ) → IsSection t n p q seat → added p q ≡ [] →
+    first_entries n.logs ≡ first_entries t.logs
+mine_stays t n p q seat x none = x.grown ∙ ap (λ (l : List Entry). l ++ first_entries t.logs) none
+
 -- a pass behind a section with one step
 module _ (t o n : Ticket) (p q : Point) (seat share : ℕ) (step : Step) (r : Result Answer Fault) where
   pub record Section : Type 0 where
@@ -184,6 +209,7 @@ module _ (t o n : Ticket) (p q : Point) (seat share : ℕ) (step : Step) (r : Re
     pub beside : Beside
     pub beside_left : Beside
     pub answered : IsAnswered (view_of p beside) seat step r (view_of q beside_left)
+    pub told : IsTold (view_of p beside) seat r (view_of q beside_left)
     pub found : IsLawful p
     pub lawful : IsLawful q
 
@@ -199,23 +225,13 @@ module _ (t o n : Ticket) (p q : Point) (seat share : ℕ) (step : Step) (r : Re
 
   pub section_pass : Section → (next : ℕ) → next ≡ ended_calls (made_by r) + share → IsPass n seat next
   section_pass s next is =
-      let x = sectioned s in record {
-        free = x.free;
-        one = x.one;
-        seat_is = x.seat_is;
-        below = subst (λ (l : LockId). seat < l.header.seats) (sym x.lock) s.was.below;
-        header = sym (before_header t.seen n.seen x.begins) ∙
-            (s.was.header ∙ ap (λ (l : LockId). l.header) (sym x.lock));
-        lawful = subst IsLawful (sym x.seen) s.lawful;
-        agrees = x.agrees;
-        counted = is ∙ (ap (λ k. ended_calls (made_by r) + k) s.was.counted
-            ∙ (sym (calls_more (made_by r) (first_entries t.logs)) ∙ ap ended_calls (sym (mine_grown s))));
-      }
+      passed t n p q seat share next (sectioned s) s.was s.lawful
+      (is ∙ (ap (λ k. ended_calls (made_by r) + k) s.was.counted
+      ∙ (sym (calls_more (made_by r) (first_entries t.logs)) ∙ ap ended_calls (sym (mine_grown s)))))
 
   pub section_true : Section → (next : ℕ) → next ≡ ended_calls (made_by r) + share →
       IsTrue (shown n seat next)
-  section_true s next is = let z = section_pass s next is in
-      record { lawful = z.lawful; header = z.header; below = z.below; agrees = z.agrees; counted = z.counted }
+  section_true s next is = true_pass n seat next (section_pass s next is)
 
   pub section_step : (s : Section) → (next : ℕ) → (MakesOwed (view_of p s.beside) seat step → IsOk r) →
       IsStep (shown t seat share) step r (shown n seat next)
@@ -229,6 +245,8 @@ module _ (t o n : Ticket) (p q : Point) (seat share : ℕ) (step : Step) (r : Re
     answered = subst (λ (z : Point). IsAnswered (view_of p s.beside) seat step r
         (view_of z s.beside_left)) (sym x.seen)
         s.answered;
+    told = subst (λ (z : Point). IsTold (view_of p s.beside) seat r (view_of z s.beside_left)) (sym x.seen)
+        s.told;
     owed = owed;
     after = x.begins;
     mine = mine_grown s;
@@ -249,10 +267,6 @@ met t n p seat share is s lawful begins agree =
       agrees = own_entries t p seat s.one s.seat_is agree;
       counted = s.counted;
     }
-
-pub true_pass : (t : Ticket) (seat share : ℕ) → IsPass t seat share → IsTrue (shown t seat share)
-true_pass t seat share z =
-    record { lawful = z.lawful; header = z.header; below = z.below; agrees = z.agrees; counted = z.counted }
 
 pub as_step_now : (old new : Shown) (step : Step) (r : Result Answer Fault)
     (z : Result Now Fault) → z ≡ now_of r →

@@ -1,19 +1,18 @@
 -- What a section of the lock with one trim of the core leaves.
-use Rattle.std.proofs.Common.{◌≡◌, ◌<◌, List, [], ◌++◌, ℕ, Result, Ok, Err, refl, sym, ap, ◌∙◌, subst}
-use Rattle.history.specs.declared.entry.Entry.{Entry}
+use Rattle.std.proofs.Common.{◌≡◌, [], ℕ, Result, Ok, Err, refl, sym, ap, ◌∙◌, subst}
 use Rattle.history.specs.declared.fault.Fault.{Fault}
 use Rattle.history.specs.declared.point.Point.{Point}
 use Rattle.history.specs.Entries.{ended_calls}
 use Rattle.frame.specs.Core.{CoreView, IsTrimmed}
 use Rattle.word_lock.specs.Point.{Before, Follows, added}
 use Rattle.word_lock.specs.Rule.{AllAgree}
-use Rattle.word_lock.specs.Ticket.{LockId, Ticket, first_entries, after_lock, after_unlock}
-use Rattle.word_lock.proofs.PointLaws.{added_more, before_header, follows_fold, follows_more}
+use Rattle.word_lock.specs.Ticket.{Ticket, first_entries, after_lock, after_unlock}
+use Rattle.word_lock.proofs.PointLaws.{added_more, follows_fold, follows_more}
 use Rattle.word_lock.proofs.Sections.{IsSection, section}
 use Rattle.monitor.specs.Lawful.{point_of, view_of, beside_of, Beside, IsKept, IsLawful}
 use Rattle.monitor.specs.Shown.{shown, IsPass, IsTrue}
 use Rattle.monitor.specs.Stepping.{IsTrim}
-use Rattle.monitor.proofs.Sections.{core_shown, own_entries, true_pass}
+use Rattle.monitor.proofs.Sections.{core_shown, mine_stays, own_entries, passed, true_pass}
 
 pub trimmed_shown : (v w : CoreView) (r : Result ℕ Fault) → IsKept v → IsKept w → IsTrimmed v r w →
     IsTrimmed (view_of (point_of v) (beside_of v)) r (view_of (point_of w) (beside_of w))
@@ -50,23 +49,13 @@ module _ (t o n : Ticket) (p q : Point) (seat share : ℕ) (r : Result ℕ Fault
       section t o n p q seat s.taken s.given s.was.one s.was.seat_is s.begins s.entries
       (follows_trim seat p q s.beside s.beside_left r s.found s.trimmed).0
 
-  mine_stays : Trim → first_entries n.logs ≡ first_entries t.logs
-  mine_stays s =
-      (went s).grown ∙ ap (λ (l : List Entry). l ++ first_entries t.logs)
+  mine : Trim → first_entries n.logs ≡ first_entries t.logs
+  mine s = mine_stays t n p q seat (went s)
       (follows_trim seat p q s.beside s.beside_left r s.found s.trimmed).1
 
   pub trim_pass : Trim → IsPass n seat share
-  trim_pass s = let x = went s in record {
-    free = x.free;
-    one = x.one;
-    seat_is = x.seat_is;
-    below = subst (λ (l : LockId). seat < l.header.seats) (sym x.lock) s.was.below;
-    header = sym (before_header t.seen n.seen x.begins) ∙
-        (s.was.header ∙ ap (λ (l : LockId). l.header) (sym x.lock));
-    lawful = subst IsLawful (sym x.seen) s.lawful;
-    agrees = x.agrees;
-    counted = s.was.counted ∙ ap ended_calls (sym (mine_stays s));
-  }
+  trim_pass s = passed t n p q seat share share (went s) s.was s.lawful
+      (s.was.counted ∙ ap ended_calls (sym (mine s)))
 
   pub trim_true : Trim → IsTrue (shown n seat share)
   trim_true s = true_pass n seat share (trim_pass s)
@@ -82,6 +71,6 @@ module _ (t o n : Ticket) (p q : Point) (seat share : ℕ) (r : Result ℕ Fault
     trimmed = subst (λ (z : Point). IsTrimmed (view_of p s.beside) r (view_of z s.beside_left)) (sym x.seen)
         s.trimmed;
     after = x.begins;
-    mine = mine_stays s;
+    mine = mine s;
     share = refl;
   }

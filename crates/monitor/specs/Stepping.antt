@@ -5,7 +5,7 @@ use Rattle.history.specs.declared.fault.Fault.{Fault}
 use Rattle.history.specs.declared.step.Answer.{Answer}
 use Rattle.history.specs.declared.step.Answer.TheVariants.{Recorded, Sleep}
 use Rattle.history.specs.declared.step.Step.{Step}
-use Rattle.frame.specs.Core.{IsAnswered, IsTrimmed, MakesOwed}
+use Rattle.frame.specs.Core.{IsAnswered, IsTold, IsTrimmed, MakesOwed}
 use Rattle.history.specs.declared.point.Point.{Point}
 use Rattle.word_lock.specs.Point.{Before, Agrees}
 use Rattle.monitor.specs.Lawful.{view_of, Beside, IsLawful}
@@ -25,7 +25,7 @@ pub record IsSame (old new : Shown) : Type 0 where
   pub seat : new.seat ≡ old.seat
 
 -- The step found a history that comes behind what was seen, and which has no entries of the seat but those
--- that the pass knows. What it left, and the answer, are those of the core's step.
+-- that the pass knows. What it left, the marks of who was told, and the answer are those of the core's step.
 pub record IsStep (old : Shown) (step : Step) (r : Result Answer Fault) (new : Shown) : Type 0 where
   pub found : Point
   pub begins : Before old.seen found
@@ -34,6 +34,7 @@ pub record IsStep (old : Shown) (step : Step) (r : Result Answer Fault) (new : S
   pub beside : Beside  -- what the core had beside its point
   pub beside_left : Beside  -- and has then
   pub answered : IsAnswered (view_of found beside) old.seat step r (view_of new.seen beside_left)
+  pub told : IsTold (view_of found beside) old.seat r (view_of new.seen beside_left)
   pub owed : MakesOwed (view_of found beside) old.seat step → IsOk r
   pub after : Before old.seen new.seen
   pub mine : new.mine ≡ made_by r ++ old.mine

@@ -125,6 +125,7 @@ lawful =
       item_whole = λ h before a stand fits. act_whole h a stand.header fits;
       item_one = λ h before a b stand p q e. same_act h a b stand.header p q e;
       end_whole =
-          λ h acts stand lt. line_lacks (codes "end" ∷ decimal (length acts) ∷ []) (end_words (length acts) lt);
+          λ h acts stand lt.
+          line_lacks (codes "end" ∷ decimal (length acts) ∷ []) (end_words (length acts) lt);
       item_no_end = λ h acts a stand fits lt e. act_no_end h a (length acts) stand.header fits lt e;
     }

@@ -43,9 +43,6 @@ pub(crate) fn drawn(
     from: u64,
     entries: &[Entry],
 ) -> Result<Drawn, Fail> {
-    if !header.in_range() {
-        return Err(Fail::new("a header out of range"));
-    }
     for entry in entries {
         if entry.seat >= header.seats {
             return Err(Fail::new("an entry of no seat"));

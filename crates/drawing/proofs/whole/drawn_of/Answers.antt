@@ -41,7 +41,8 @@ loop-entry-preserved c =
     let i = c.loop-entry.entry-index in
     subst (λ h. HasDrawn (begins c.args.header c.args.base) c.args.from h c.follow.new.self)
     (sym (one_more xs i _ c.loop-entry-test.true))
-    (c.in_ok-follow.ensures (begins c.args.header c.args.base) c.args.from (reverse (take i xs)) c.loop-entry.invariant
+    (c.in_ok-follow.ensures (begins c.args.header c.args.base) c.args.from (reverse (take i xs))
+    c.loop-entry.invariant
     (seats_all c.args.header _ xs (sym c.begun.ensures.header) c.requires.seated i _ c.loop-entry-test.true))
 
 pub finish-requires : goal.finish-requires

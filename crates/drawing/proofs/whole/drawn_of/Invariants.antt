@@ -5,5 +5,5 @@ use Rattle.drawing.proofs.whole.drawn_of.Given as goal
 
 -- the entries so far were followed
 abbrev pub invariant-loop-entry : goal.invariant-loop-entry
-invariant-loop-entry l = HasDrawn (begins l.fn.header l.fn.base) l.from (reverse (take l.entry-index l.entries))
-    l.drawing
+invariant-loop-entry l =
+    HasDrawn (begins l.fn.header l.fn.base) l.from (reverse (take l.entry-index l.entries)) l.drawing

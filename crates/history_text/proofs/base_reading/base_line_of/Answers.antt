@@ -3,7 +3,8 @@ use Rattle.history_text.proofs.base_reading.base_line_of.Goals as goal
 
 pub returns-in_err-told-clause-none : goal.returns-in_err-told-clause-none
 returns-in_err-told-clause-none c =
-    rw c.from_residual.ensures (base_unread c.args.line.now (rw c.of-words.ensures at c.in_err-told.ensures.is))
+    rw c.from_residual.ensures
+    (base_unread c.args.line.now (rw c.of-words.ensures at c.in_err-told.ensures.is))
 
 pub returns-in-Some-clause-none : goal.returns-in-Some-clause-none
 returns-in-Some-clause-none c =

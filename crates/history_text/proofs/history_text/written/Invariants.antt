@@ -10,7 +10,8 @@ use Rattle.history_text.proofs.history_text.written.Given as goal
 abbrev pub invariant-loop-entry : goal.invariant-loop-entry
 invariant-loop-entry l = record {
   lines : l.out.items
-      ≡ (ended (head_line (head_of (base_on l.header l.history))) ++ lines_text (lines_told (base_on l.header l.history)))
+      ≡ (ended (head_line (head_of (base_on l.header l.history)))
+      ++ lines_text (lines_told (base_on l.header l.history)))
       ++ lines_of history_form (numbered (base_on l.header l.history).entries
       (take l.number (reverse l.history.entries)));
   inside : l.number ≤ length (reverse l.history.entries);

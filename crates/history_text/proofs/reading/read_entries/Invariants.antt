@@ -8,8 +8,8 @@ abbrev pub invariant-loop-history : goal.invariant-loop-history
 invariant-loop-history l = record {
   read : (text : List ℕ) → AreEntriesRead text l.head (or_opening l.head.header l.fn.empty.base) [] l.fn.place
       l.fn.ahead
-      → AreEntriesRead text l.head (or_opening l.head.header l.fn.empty.base) (reverse l.history.entries) l.place
-      l.rest;
+      → AreEntriesRead text l.head (or_opening l.head.header l.fn.empty.base) (reverse l.history.entries)
+      l.place l.rest;
   base : l.history.base ≡ l.fn.empty.base;
   cap : l.history.cap ≡ l.head.header.cap;
   owed : l.history.owed ≡ 0;

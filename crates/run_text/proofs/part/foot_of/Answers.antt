@@ -31,7 +31,8 @@ returns-clause-ok c =
     let b = base_of part in
     let h = part.history.entries in
     let folded = c.requires.folded in
-    let object = ap (λ (k : Header). k.object) (header_from part.header part.history.base c.requires.judged.1) in
+    let object =
+    ap (λ (k : Header). k.object) (header_from part.header part.history.base c.requires.judged.1) in
     let entries : c.args.head.now.entries + c.len.result ≡ b.entries + length h =
     omega (arith, folded, c.len.ensures.value) in
     let calls : c.args.head.now.calls + c.calls.result ≡ calls (based b) h =

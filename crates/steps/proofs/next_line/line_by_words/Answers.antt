@@ -6,7 +6,8 @@ use Rattle.steps.specs.StepLines.{end_line}
 use Rattle.steps.specs.StepsText.{steps_form, steps_so_far}
 use Rattle.steps.proofs.next_line.line_by_words.Goals as goal
 
-counted_end : (h : StepsHeader) (count : ℕ) (rest line : List ℕ) → (count < 2 ^ 32) × (line ≡ end_line count) →
+counted_end : (h : StepsHeader) (count : ℕ) (rest line : List ℕ) →
+    (count < 2 ^ 32) × (line ≡ end_line count) →
     IsEnd steps_form (steps_so_far h count) rest line
 counted_end h count rest line end text steps read = (rw read.count at end.0, end.1 ∙ ap end_line read.count)
 

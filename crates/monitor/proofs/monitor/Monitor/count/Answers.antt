@@ -1,34 +1,24 @@
 use Rattle.word_lock.specs.Held.{held_ticket}
-use Rattle.word_lock.proofs.PointLaws.{follows_same}
-use Rattle.word_lock.proofs.Sections.{follows_taken}
 use Rattle.monitor.specs.Lawful.{point_of}
-use Rattle.monitor.proofs.Looking.{Look, look_pass, look_true, look_is}
+use Rattle.monitor.proofs.Looking.{Looked, look, may_give_back}
 use Rattle.monitor.proofs.monitor.Monitor.count.Goals as goal
 
 pub unlock-requires-clause-follows : goal.unlock-requires-clause-follows
 unlock-requires-clause-follows g c =
-    let p = point_of c.lock-held.result.value.core.value in
-    follows_taken _ c.pass.inside.token p p c.pass.inside.seat c.lock-held.ensures.taken.1
-    c.pass.invariant.seat_is
-    (follows_same c.pass.inside.seat p)
+    may_give_back _ c.pass.inside.token (point_of c.lock-held.result.value.core.value) c.pass.inside.seat
+    c.pass.inside.share c.lock-held.ensures.taken.1 c.pass.invariant
 
-looks : (g : _) (c : goal.After-unlock g) → Look c.pass.inside.token (held_ticket c.lock-held.result)
-    c.unlock.new.token
+looked : (g : _) (c : goal.After-unlock g) → Looked c.pass.inside.token c.unlock.new.token
     (point_of c.lock-held.result.value.core.value) c.pass.inside.seat c.pass.inside.share
-looks g c = record {
-  taken = c.lock-held.ensures.taken.1;
-  given = c.unlock.ensures;
-  was = c.pass.invariant;
-  begins = c.lock-held.ensures.begins;
-  entries = c.lock-held.ensures.entries;
-  lawful = c.lock-held.ensures.fact.lawful;
-}
+looked g c =
+    look _ (held_ticket c.lock-held.result) _ _ _ _ c.lock-held.ensures.taken.1 c.unlock.ensures
+    c.pass.invariant c.lock-held.ensures.begins c.lock-held.ensures.entries c.lock-held.ensures.fact.lawful
 
 pub invariant_of-pass : goal.invariant_of-pass
-invariant_of-pass g c = look_pass _ _ _ _ _ _ (looks g c)
+invariant_of-pass g c = (looked g c).pass
 
 pub returns-clause-looked : goal.returns-clause-looked
-returns-clause-looked g c = rw (← c.pass.view_is) (look_is _ _ _ _ _ _ (looks g c))
+returns-clause-looked g c = rw (← c.pass.view_is) ((looked g c).is)
 
 pub returns-clause-shows : goal.returns-clause-shows
-returns-clause-shows g c = look_true _ _ _ _ _ _ (looks g c)
+returns-clause-shows g c = (looked g c).shows

@@ -51,6 +51,7 @@ went g c = record {
   answered = answered_shown c.lock-held.result.value.core.value c.step-answer.new.self.core.value
       c.pass.inside.seat c.args.step
       c.step-answer.result c.lock-held.ensures.fact c.step-answer.ensures.kept c.step-answer.ensures.answered;
+  told = c.step-answer.ensures.told;
   found = c.lock-held.ensures.fact.lawful;
   lawful = c.step-answer.ensures.kept.lawful;
 }

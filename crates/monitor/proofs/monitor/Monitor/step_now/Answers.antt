@@ -51,6 +51,7 @@ went g c = record {
   answered = answered_shown c.in-Some.held.value.core.value c.step-answer.new.self.core.value
       c.pass.inside.seat c.args.step
       c.step-answer.result c.in-Some.ensures.fact c.step-answer.ensures.kept c.step-answer.ensures.answered;
+  told = c.step-answer.ensures.told;
   found = c.in-Some.ensures.fact.lawful;
   lawful = c.step-answer.ensures.kept.lawful;
 }
