@@ -1,4 +1,4 @@
-"""Tests of what is kept of earlier trials: a mark stands for one state of a crate alone."""
+"""Tests of what is kept of earlier trials: a mark stands for one wrong body and one state of its crate alone."""
 import os
 import subprocess
 import sys
@@ -39,22 +39,33 @@ class Marks(unittest.TestCase):
         finally:
             os.chdir(at)
 
+    def keep_all(self):
+        for mark in kept.marks_of(self.high()).values():
+            kept.keep(mark)
+
+    def kept_names(self):
+        return [os.path.basename(it) for it in kept.are_refused(self.high())]
+
     def test_what_was_kept_is_found_while_nothing_changes(self):
-        self.assertFalse(kept.are_refused(self.high()))
-        kept.keep(kept.mark_of(self.high()))
-        self.assertTrue(kept.are_refused(self.high()))
+        self.assertEqual([], self.kept_names())
+        self.keep_all()
+        self.assertEqual(["other.is_two.edit"], self.kept_names())
 
     def test_a_change_of_a_wrong_body_of_the_crate_or_below_it_has_it_tried_again(self):
         changes = {
             "crates/high/must-fail/other.is_two.edit": EDIT.replace("2", "3"),
-            "crates/high/must-fail/other.is_four.edit": EDIT.replace("2", "4"),
             "crates/high/src/lib.rt": "pub fn other() -> u32 { 1 + 0 }\n",
             "crates/low/src/lib.rt": "pub fn one() -> u32 { 1 + 0 }\n",
         }
         for path, text in changes.items():
-            kept.keep(kept.mark_of(self.high()))
+            self.keep_all()
             self.write(path, text)
-            self.assertFalse(kept.are_refused(self.high()), path)
+            self.assertEqual([], self.kept_names(), path)
+
+    def test_a_new_wrong_body_is_tried_alone(self):
+        self.keep_all()
+        self.write("crates/high/must-fail/other.is_four.edit", EDIT.replace("2", "4"))
+        self.assertEqual(["other.is_two.edit"], self.kept_names())
 
     def test_a_mark_counts_the_programs_of_a_trial_and_no_others(self):
         ask = "import wrong_bodies, kept, os; print(*map(os.path.basename, kept.programs()))"

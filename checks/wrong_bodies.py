@@ -14,7 +14,7 @@ Each crate is a process of its own, the largest first, as many at once as there 
 as RT_JOBS says.
 
 --built   the libraries stand as rt ci has just left them, and nothing else that earlier checks kept is taken.
-          A crate whose wrong bodies are all refused so is not tried again while nothing of it changes (kept.py)
+          A wrong body that is refused so is not tried again while nothing of it and its crate changes (kept.py)
 --anew    tries those too
 --alone   tries each edit alone
 The last line is 'N refused, M not refused', and the status is 1 where any is not.
@@ -46,22 +46,35 @@ def try_one(name, flags):
     lacking = [it.name for it in crate.below() if not os.path.exists(it.rlib)]
     is_built = "--built" in flags
     begin_with = None if is_built else f"{crate.folder}/out/incremental"
-    mark = kept.mark_of(crate)
-    results = []
+    marks, before = kept.marks_of(crate), refused_before(crate, flags)
+    left, results = [it for it in edits if it not in before], []
     if lacking:
         tell(f"{name}: NOT TRIED: its library {lacking[0]} is not built")
-    else:
-        results = tried(crate, edits, lambda text: tell(f"{name}: {text}"), "--alone" in flags, begin_with)
-    for edit, it in zip(edits, results):
+    elif left:
+        results = tried(crate, left, lambda text: tell(f"{name}: {text}"), "--alone" in flags, begin_with)
+    for edit, it in zip(left, results):
         tell(f"{name}/{os.path.basename(edit)}: {'refused' if it.is_refused else 'NOT REFUSED'}: {it.text}")
     for it in bad:
         tell(f"{name}/{os.path.basename(it)}: BAD EDIT: not a file NAME.edit right in must-fail/")
-    refused = sum(it.is_refused for it in results)
-    if is_built and not bad and refused == len(edits) and mark == kept.mark_of(crate):
-        kept.keep(mark)
+    refused = [edit for edit, it in zip(left, results) if it.is_refused]
+    if is_built and marks == kept.marks_of(crate):
+        for edit in refused:
+            kept.keep(marks[edit])
+    tell_before(name, before)
     tell(f"{name}: {seconds():.0f} processor seconds")
-    print(f"{refused} refused, {len(edits) + len(bad) - refused} not refused")
+    refused += before
+    print(f"{len(refused)} refused, {len(edits) + len(bad) - len(refused)} not refused")
     return 0
+
+
+def refused_before(crate, flags):
+    """Returns the wrong bodies of a crate that need not be tried again."""
+    return kept.are_refused(crate) if "--built" in flags and "--anew" not in flags else []
+
+
+def tell_before(name, edits):
+    if edits:
+        tell(f"{name}: {len(edits)} refused in an earlier run, and nothing has changed since")
 
 
 def size(crate):
@@ -117,9 +130,9 @@ def main(words):
         upwards = sorted(libraries.values(), key=lambda it: len(it.below()))
         if any(it.build_rlib(ONE_JOB, anew=False) for it in upwards):
             return 1
-    before = [it for it in crates if "--built" in flags and "--anew" not in flags and kept.are_refused(it)]
+    before = [it for it in crates if [*map(len, rt.edits_of(it))] == [len(refused_before(it, flags)), 0]]
     for crate in before:
-        tell(f"{crate.name}: {len(rt.edits_of(crate)[0])} refused in an earlier run, and nothing has changed since")
+        tell_before(crate.name, rt.edits_of(crate)[0])
     left = [it for it in crates if it not in before]
     refused, others = in_processes(left, [it for it in flags if it != "--crate"])
     refused += sum(len(rt.edits_of(it)[0]) for it in before)

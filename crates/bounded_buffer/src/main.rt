@@ -4,6 +4,7 @@
 #![tactic(auto)]
 
 ghost use Rattle.std.specs.Prelude.{◌≡◌, ◌≤◌, IfOk, IfSome};
+ghost use Rattle.bounded_buffer.specs.declared.Failure.TheVariants.{Call};
 ghost use Rattle.monitor.specs.Stepping.{IsSame};
 
 mod buffer;
@@ -44,6 +45,8 @@ enum Failure {
 }
 
 impl From<Fault> for Failure {
+    ghost from_gives = { λ fault e. e ≡ Call fault };
+
     fn from(fault: Fault) -> Failure {
         Failure::Call(fault)
     }

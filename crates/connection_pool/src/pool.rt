@@ -1,6 +1,11 @@
 //! The pool, and the clients that use it.
 ghost use Rattle.std.specs.Prelude.{◌≡◌, ◌≤◌, IfOk};
-ghost use Rattle.monitor.specs.Stepping.{IsSame};
+ghost use Rattle.history.specs.declared.entry.Mode.TheVariants.{S};
+ghost use Rattle.history.specs.declared.step.Step.TheVariants.{Give};
+ghost use Rattle.monitor.specs.Acquire.{IsAcquire};
+ghost use Rattle.monitor.specs.Stepping.{IsEntered, IsSame};
+ghost use Rattle.monitor.specs.declared.how.How.TheVariants.{Plain};
+ghost use Rattle.monitor_fronts.specs.Told.{Tells, done_of};
 
 use history::fault::Fault;
 use monitor::Pass;
@@ -63,7 +68,8 @@ impl<'p> Pool<'p> {
         all: u32,
     ) -> Result<(), Fault>
         requires { pass.old.lock ≡ self.now.permits.monitor.now }
-        ensures { IsSame pass.old pass.new }
+        ensures same { IsSame pass.old pass.new }
+        ensures taken { Tells done_of (λ reply. IsAcquire pass.old S all Plain reply pass.new) result }
     {
         self.permits
             .acquire_uninterruptibly(rt, self.parking, pass, all)
@@ -77,7 +83,8 @@ impl<'p> Pool<'p> {
         all: u32,
     ) -> Result<(), Fault>
         requires { pass.old.lock ≡ self.now.permits.monitor.now }
-        ensures { IsSame pass.old pass.new }
+        ensures same { IsSame pass.old pass.new }
+        ensures given { Tells done_of (λ reply. IsEntered pass.old (Give S all) reply pass.new) result }
     {
         self.permits.release(rt, self.parking, pass, all)
     }

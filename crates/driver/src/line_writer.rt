@@ -78,7 +78,7 @@ impl LineWriter {
         Ok(())
     }
 
-    /// Makes room for a line.
+    /// Makes room for a line. Where writing fails, all stays gathered.
     #[inline(always)]
     fn make_room<W: Sink>(&mut self, writer: &mut W) -> Result<(), DeviceFailed>
         requires { W.failed writer.old ≡ false }
@@ -87,6 +87,7 @@ impl LineWriter {
         ensures adds { Gathers (W.held writer.old) self.old.bytes result
             (W.held writer.new) self.new.bytes [] }
         ensures places { length self.new.bytes + self.new.room ≡ length self.old.bytes + self.old.room }
+        ensures kept { OnErr result (self.new ≡ self.old) }
         ensures failing { IsTrue (W.failed writer.new) ↔ IsErr result }
     {
         if MOST_BYTES <= self.bytes.len() - self.at {
@@ -95,7 +96,8 @@ impl LineWriter {
         self.flush(writer)
     }
 
-    /// Adds the line of the answer to a seat's step. The places for bytes stay as many as they were.
+    /// Adds the line of the answer to a seat's step. The places for bytes stay as many as they were. Where
+    /// writing fails, all stays gathered, and nothing is added.
     #[inline(always)]
     pub fn put_answer<W: Sink>(
         &mut self,
@@ -110,6 +112,7 @@ impl LineWriter {
             (ended (answer_line number seat answer.now)) }
         ensures gathers { 136 ≤ self.old.room → writer.new ≡ writer.old }
         ensures places { length self.new.bytes + self.new.room ≡ length self.old.bytes + self.old.room }
+        ensures kept { OnErr result (self.new ≡ self.old) }
         ensures failing { IsTrue (W.failed writer.new) ↔ IsErr result }
     {
         self.make_room(writer)?;
@@ -128,6 +131,7 @@ impl LineWriter {
             (ended (trim_line answer.now)) }
         ensures gathers { 136 ≤ self.old.room → writer.new ≡ writer.old }
         ensures places { length self.new.bytes + self.new.room ≡ length self.old.bytes + self.old.room }
+        ensures kept { OnErr result (self.new ≡ self.old) }
         ensures failing { IsTrue (W.failed writer.new) ↔ IsErr result }
     {
         self.make_room(writer)?;
@@ -147,6 +151,7 @@ impl LineWriter {
             (ended (counts_line entries calls)) }
         ensures gathers { 136 ≤ self.old.room → writer.new ≡ writer.old }
         ensures places { length self.new.bytes + self.new.room ≡ length self.old.bytes + self.old.room }
+        ensures kept { OnErr result (self.new ≡ self.old) }
         ensures failing { IsTrue (W.failed writer.new) ↔ IsErr result }
     {
         self.make_room(writer)?;

@@ -1,6 +1,6 @@
 //! The answers to the steps and trims of a text.
 
-ghost use Rattle.std.specs.Prelude.{◌≡◌, ◌+◌, ◌++◌, ◌<◌, ◌^◌, ◌↔◌, [], All, false, IfErr, IfOk, IsErrOf, IsTrue, OnErr, OnOk, Err, length, reverse};
+ghost use Rattle.std.specs.Prelude.{◌≡◌, ◌+◌, ◌++◌, ◌<◌, ◌≤◌, ◌^◌, ◌↔◌, [], All, false, IfErr, IfOk, IsErr, IsErrOf, IsTrue, OnErr, OnOk, Err, length, reverse};
 ghost use Rattle.std.specs.Io.KnownBytes.{IsAtEnd};
 ghost use Rattle.frame.specs.Acts.{IsOfSeats};
 ghost use Rattle.frame.specs.Core.{IsTrimmed, start_of};
@@ -64,6 +64,7 @@ fn keep(remarks: &mut Vec<Remark>, remark: Option<Remark>) -> Result<(), StreamF
 fn count_of(past: &[Entry], history: &History) -> Result<u32, StreamFault>
     ensures ok { IfOk result (λ count. count ≡ length past.now + length history.now.entries) }
     ensures err { IfErr result (λ fault. fault ≡ Memory) }
+    ensures many { IsErr result → 2 ^ 32 ≤ length past.now + length history.now.entries }
 {
     let count = past.len() as u64 + history.len();
     if count > u64::from(u32::MAX) {

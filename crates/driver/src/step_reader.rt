@@ -1,6 +1,6 @@
 //! The steps of a text, and the trims between them, read from their source as they are asked for.
 
-ghost use Rattle.std.specs.Prelude.{◌≡◌, ◌+◌, ◌^◌, ◌<◌, ◌≤◌, ◌∷◌, ◌++◌, ◌↔◌, ◌-◌, [], false, length, None, Ok, IsTrue, IsErrOf, IfOk, IfErr, IfSome, OnErr, OnOk};
+ghost use Rattle.std.specs.Prelude.{◌≡◌, ◌+◌, ◌^◌, ◌<◌, ◌≤◌, ◌∷◌, ◌++◌, ◌↔◌, ◌-◌, [], false, length, None, Ok, IsErr, IsTrue, IsErrOf, IfOk, IfErr, IfSome, OnErr, OnOk};
 ghost use Rattle.std.specs.Io.KnownBytes.{IsAtEnd};
 ghost use Rattle.history.specs.Header.{IsInRange};
 ghost use Rattle.history.specs.Text.{HasNoBreak};
@@ -89,6 +89,7 @@ impl StepReader {
         requires { left ≤ length self.old.bytes }
         ensures ok { OnOk result (self.new ≡ passed left self.old) }
         ensures err { IfErr result (λ fault. fault ≡ Memory) }
+        ensures many { IsErr result → 2 ^ 64 ≤ self.old.count + 4 }
         ensures kept { OnErr result (self.new ≡ self.old) }
         ensures header { self.new.header ≡ self.old.header }
         ensures few { self.new.count < 2 ^ 64 }

@@ -1,5 +1,8 @@
 //! Why the program ends early.
 
+ghost use Rattle.std.specs.Prelude.{◌≡◌};
+ghost use Rattle.endless_lock.specs.declared.failure.Failure.TheVariants.{Refused, WriteFailed};
+
 use history::fault::Fault;
 use std::io;
 use thiserror::Error;
@@ -21,12 +24,16 @@ pub enum Failure {
 }
 
 impl From<Fault> for Failure {
+    ghost from_gives = { λ fault e. e ≡ Refused fault };
+
     fn from(fault: Fault) -> Failure {
         Failure::Refused(fault)
     }
 }
 
 impl From<io::Error> for Failure {
+    ghost from_gives = { λ _ e. e ≡ WriteFailed };
+
     fn from(_error: io::Error) -> Failure {
         Failure::WriteFailed
     }

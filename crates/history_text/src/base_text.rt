@@ -1,6 +1,6 @@
 //! The lines of a base, read one after another.
 
-ghost use Rattle.std.specs.Prelude.{◌≡◌, ◌+◌, ◌<◌, ◌≤◌, ◌^◌, ◌∷◌, ◌++◌, [], ℕ, true, set, get_or, length, map, All, IfOk, IsErrOf, OnOk, vec_capacity};
+ghost use Rattle.std.specs.Prelude.{◌≡◌, ◌+◌, ◌<◌, ◌≤◌, ◌^◌, ◌∷◌, ◌++◌, [], ℕ, false, true, set, get_or, length, map, All, IfOk, IsErrOf, None, Ok, OnOk, vec_capacity};
 ghost use Rattle.history.specs.declared.base.SeatBase.{SeatBase};
 ghost use Rattle.history.specs.declared.base.Sleeper.{Sleeper};
 ghost use Rattle.history.specs.Header.{IsInRange};
@@ -31,6 +31,7 @@ pub fn next_base_line(
     requires lines { lines + 2 < 2 ^ 64 }
     ensures line { IsBaseLineBehind base.now so_far.now lines rest.now result }
     ensures cut { IsErrOf result CutShort → HasNoBreak rest.now }
+    ensures whole { result ≡ Ok None → HasNoBreak rest.now → ⊥ }
 {
     let Some((line, after)) = first_line(rest) else {
         return Err(TextFault::CutShort);
@@ -107,6 +108,7 @@ pub fn base_behind(
     requires range { IsInRange head.now.header }
     ensures ahead { IsBaseAhead head.now ahead.now result }
     ensures early { IfOk result (λ r. IsEarly r.1 × (r.2 ≤ length ahead.now)) }
+    ensures none { IfOk result (λ r. head.now.is_based ≡ false → r.0 ≡ None) }
 {
     if head.is_based {
         return read_base(alloc, head, ahead);

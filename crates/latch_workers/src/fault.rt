@@ -1,5 +1,9 @@
 //! Why a shift was not worked.
 
+ghost use Rattle.std.specs.Prelude.{◌≡◌};
+ghost use Rattle.history.specs.declared.fault.Fault.TheVariants.{OutOfMemory};
+ghost use Rattle.latch_workers.specs.declared.fault.ShiftFault.TheVariants.{Call};
+
 use history::fault::Fault;
 use std::alloc::{AllocError, AllocFailed};
 use thiserror::Error;
@@ -16,18 +20,24 @@ pub enum ShiftFault {
 }
 
 impl From<Fault> for ShiftFault {
+    ghost from_gives = { λ fault e. e ≡ Call fault };
+
     fn from(fault: Fault) -> ShiftFault {
         ShiftFault::Call(fault)
     }
 }
 
 impl From<AllocError> for ShiftFault {
+    ghost from_gives = { λ _ e. e ≡ Call OutOfMemory };
+
     fn from(_e: AllocError) -> ShiftFault {
         ShiftFault::Call(Fault::OutOfMemory)
     }
 }
 
 impl<T: Drop> From<AllocFailed<T>> for ShiftFault {
+    ghost from_gives = { λ _ e. e ≡ Call OutOfMemory };
+
     fn from(_e: AllocFailed<T>) -> ShiftFault {
         ShiftFault::Call(Fault::OutOfMemory)
     }
