@@ -554,6 +554,24 @@ left_between s number (x ∷ rest) apart head e first is other =
           ∙ length-map (x ∷ rest) (λ z. cond (is_at number.place z) (cancelled z) z)
     ]
 
+-- the node of the first in line leaves with the cancelled ones behind it
+pub left_head_seat : (s : ℕ) (number : NodeNo) (nodes : List Standing) → LiveHead nodes →
+    number_of s nodes ≡ Some number → (first : Arrival) → first_of (live nodes) ≡ Some first → first.seat ≡ s →
+    left_by number nodes ≡ trimmed (drop 1 nodes)
+left_head_seat s number [] head e first is own = absurd (none-some number e)
+left_head_seat s number (x ∷ rest) head e first is own =
+    let same : first ≡ x.node.arrival = same_Some _ _ (sym is ∙ ap first_of (live_by x rest head)) in
+    let seat : x.node.arrival.seat ≡ s = ap (λ (a : Arrival). a.seat) (sym same) ∙ own in
+    let its : x.number ≡ number =
+    same_Some _ _ (sym (number_by s x rest head ∙ cond-true _ _ _ (eq-eqb _ _ seat)) ∙ e) in
+    cond-true _ _ _ (eq-eqb _ _ (ap (λ (m : NodeNo). m.place) its))
+
+-- fewer nodes stand then than would be swept
+pub few_behind_head : (seats waiting : ℕ) (nodes : List Standing) → 1 ≤ waiting →
+    length nodes ≤ waiting + seats → length (trimmed (drop 1 nodes)) ≤ (waiting - 1) + seats
+few_behind_head seats waiting [] some few = omega arith
+few_behind_head seats waiting (x ∷ rest) some few = omega (arith, few, some, trimmed_length rest)
+
 pub left_swept : (s : ℕ) (old new : List Standing) → LeftNodes s old new → LeftNodes s old (swept new)
 left_swept s old new left =
     record {

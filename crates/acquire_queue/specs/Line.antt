@@ -87,5 +87,5 @@ pub record IsKept (seats waiting : ℕ) (n : Nodes) (table : List (Option NodeNo
   pub headed : LiveHead n.nodes
   pub counted : length (live n.nodes) ≡ waiting
   pub bounded : length n.nodes ≤ waiting + seats
-  pub reserved : seats + seats ≤ n.places
+  pub reserved : seats + seats ≡ n.places
   pub few : seats < 2 ^ 16

@@ -70,6 +70,7 @@ impl Queue {
         requires absent { place_of arrival.seat self.old.arrivals ≡ None }
         requires countable { self.old.joined + 1 < 2 ^ 64 }
         ensures line { self.new.arrivals ≡ self.old.arrivals ++ arrival ∷ [] }
+        ensures standing { length self.new.nodes ≡ length self.old.nodes + 1 }
         ensures joined { self.new.joined ≡ self.old.joined + 1 }
         ensures seats { self.new.seats ≡ self.old.seats }
     {
@@ -100,6 +101,9 @@ impl Queue {
         ensures first { result ≡ first_of self.old.arrivals }
         ensures line { self.new.arrivals ≡ drop 1 self.old.arrivals }
 
+        // Its node goes with those of seats that left right behind it.
+        ensures nodes { self.new.nodes ≡ trimmed (drop 1 self.old.nodes) }
+
         // The same, by its seat.
         ensures left { IfSome result (λ first.
             self.new.arrivals ≡ filter (λ a. not (first.seat == a.seat)) self.old.arrivals) }
@@ -120,6 +124,8 @@ impl Queue {
         ensures stood { result ≡ is_some (place_of seat self.old.arrivals) }
         ensures line { self.new.arrivals ≡ filter (λ a. not (seat == a.seat)) self.old.arrivals }
         ensures absent { OnFalse result (self.new ≡ self.old) }
+        ensures head { (first : Arrival) → first_of self.old.arrivals ≡ Some first → first.seat ≡ seat →
+            self.new.nodes ≡ trimmed (drop 1 self.old.nodes) }
         ensures standing { (first : Arrival) → first_of self.old.arrivals ≡ Some first → first.seat ≢ seat →
             length self.new.nodes
             ≡ standing_behind self.old.seats (length self.new.arrivals) (length self.old.nodes) }
@@ -180,6 +186,7 @@ impl Queue {
 
     /// Gives back what those who left still take up. The line is as it was.
     pub fn sweep(&mut self)
+        ensures nodes { self.new.nodes ≡ swept self.old.nodes }
         ensures line { self.new.arrivals ≡ self.old.arrivals }
         ensures joined { self.new.joined ≡ self.old.joined }
         ensures seats { self.new.seats ≡ self.old.seats }

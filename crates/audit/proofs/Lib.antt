@@ -9,3 +9,4 @@ pub mod Limits
 pub mod Making
 pub mod Fronts
 pub mod SameEntries
+pub mod Adding

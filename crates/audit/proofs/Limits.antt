@@ -1,13 +1,10 @@
 -- Who owns behind a legal front, and what one more entry of it is.
-use Rattle.std.proofs.Common.{◌≡◌, ℕ, zero, suc, ◌≤◌, ◌<◌, arith, Bool, true, false, cond, eqb, List, ◌∷◌, refl, subst}
+use Rattle.std.proofs.Common.{◌≡◌, ℕ, zero, suc, ◌<◌, arith, true, List, ◌∷◌, refl}
 use Rattle.history.specs.declared.entry.Entry.{Entry}
 use Rattle.history.specs.declared.entry.Mode.TheVariants.{X}
-use Rattle.history.specs.declared.entry.Word.TheVariants.{Signal}
 use Rattle.history.specs.Counts.{held}
 use Rattle.history.specs.Object.{is_lock}
 use Rattle.history.specs.Start.{Start}
-use Rattle.history.specs.Steps.{at_most_one}
-use Rattle.history.proofs.Entering.{KnownBy, known}
 use Rattle.deciding.specs.Situation.{IsHistory}
 use Rattle.deciding.proofs.Bounds.{owned_by}
 use Rattle.audit.specs.Holds.{IsOnlyOwner}
@@ -33,17 +30,3 @@ one_more s h e past next seat =
       legal = (next, past.legal);
       seated = (seat, past.seated);
     }
-
-most_one : (n : ℕ) → at_most_one n ≤ 1
-most_one n = by (eqb n 0)
-  where
-    by : (b : Bool) → cond b 0 1 ≤ 1
-    by true = omega arith
-    by false = omega arith
-
--- a signal moves one sleeper at most
-pub one_signalled : (s : Start) (h : List Entry) (e : Entry) → IsNext s h e → e.word ≡ Signal → e.n ≤ 1
-one_signalled s h e next is =
-    let v : KnownBy s h e Signal = subst (KnownBy s h e) is (known s h next.0 e next.1) in
-    let moved = v.1 in
-    rw moved (most_one _)

@@ -4,17 +4,17 @@ use Rattle.history.specs.declared.entry.Entry.{Entry}
 use Rattle.history.specs.declared.step.Step.{Step}
 use Rattle.history.specs.Start.{Start}
 use Rattle.history.specs.Steps.{entry_for}
+use Rattle.deciding.specs.Amounts.{AreAmounts}
 use Rattle.deciding.specs.Situation.{IsHistory}
 use Rattle.audit.specs.declared.ledger.Ledger.{Ledger}
 use Rattle.audit.specs.Holds.{HoldsStand}
 use Rattle.audit.specs.Waiting.{WaitingStand}
-use Rattle.audit.specs.Permits.{PermitsStand}
 
 pub record LedgerStand (s : Start) (h : List Entry) (l : Ledger) : Type 0 where
   pub header : l.header ≡ s.header
   pub holding : HoldsStand s h l.holds
   pub waits : WaitingStand s h l.waiting
-  pub numbers : PermitsStand s h l.permits
+  pub numbers : AreAmounts s h l.amounts
   pub past : IsHistory s h
 
 -- a ledger that stands for some front with room for one more entry, and one of its seats

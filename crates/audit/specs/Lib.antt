@@ -1,6 +1,5 @@
 pub mod Holds
 pub mod Waiting
-pub mod Permits
 pub mod Ledger
 pub mod Candidates
 pub mod Verdict

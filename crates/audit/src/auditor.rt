@@ -1,6 +1,6 @@
 //! The entries of a history, judged one after another.
 
-ghost use Rattle.std.specs.Prelude.{◌≡◌, ◌<◌, ◌∷◌, [], List, None, IfOk, OnOk, OnErr, IsErr, IsOk, IsOkUnless};
+ghost use Rattle.std.specs.Prelude.{◌≡◌, ◌<◌, ◌∷◌, [], List, IfOk, IsOkUnless};
 ghost use Rattle.history.specs.Base.{based};
 ghost use Rattle.history.specs.GoodBase.{IsGood};
 ghost use Rattle.history.specs.Header.{IsInRange};
@@ -67,19 +67,12 @@ impl Auditor {
         }
     }
 
-    /// Follows one more entry of one of the seats. It takes no memory, so the answer is always Ok.
+    /// Follows one more entry of one of the seats. It takes no memory.
     #[inline(always)]
-    pub fn follow(&mut self, entry: Entry) -> Result<(), Fault>
+    pub fn follow(&mut self, entry: Entry)
         requires { CanFollow self.old entry }
-        ensures judged { OnOk result ((s : Start) (h : List Entry) → HasJudged s h self.old →
-            entry.seat < s.header.seats → HasJudged s (entry ∷ h) self.new) }
-        ensures memory { IsOkUnless result Fault.OutOfMemory }
-        ensures uncounted { OnErr result ((self.new.count ≡ self.old.count)
-            × (self.new.wrong ≡ self.old.wrong)) }
-        ensures err { OnErr result ((s : Start) (h : List Entry) → HasJudged s h self.old →
-            HasJudged s h self.new) }
-        ensures wanted { IsErr result → self.old.wrong ≡ None }
-        ensures sure { IsOk result }
+        ensures { (s : Start) (h : List Entry) → HasJudged s h self.old →
+            entry.seat < s.header.seats → HasJudged s (entry ∷ h) self.new }
     {
         match self.wrong {
             Some(_) => {}
@@ -90,7 +83,6 @@ impl Auditor {
             }
         }
         self.count += 1;
-        Ok(())
     }
 
     /// The judgement on the entries so far.

@@ -1,18 +1,16 @@
 //! All that a front of a history says, kept so that each question about the next entry is one step.
 
-ghost use Rattle.std.specs.Prelude.{◌≡◌, ◌<◌, ◌≤◌, ◌∷◌, [], List, IfOk, OnOk, OnErr, IsOk, IsOkUnless};
+ghost use Rattle.std.specs.Prelude.{◌≡◌, ◌<◌, ◌∷◌, [], List, IfOk, IsOkUnless};
 ghost use Rattle.history.specs.Base.{based};
 ghost use Rattle.history.specs.GoodBase.{IsGood};
 ghost use Rattle.history.specs.Header.{IsInRange};
 ghost use Rattle.history.specs.Start.{Start, opening};
 ghost use Rattle.history.specs.declared.entry.Entry.{Entry};
-ghost use Rattle.history.specs.declared.entry.Word.TheVariants.{Signal};
 ghost use Rattle.audit.specs.Ledger.{HasSeat, IsNext, LedgerStand};
 
 use crate::holds::Holds;
-use crate::permits::Permits;
 use crate::waiting::Waiting;
-use deciding::situation::Situation;
+use deciding::amounts::Amounts;
 use history::base::Base;
 use history::entry::Entry;
 use history::fault::Fault;
@@ -30,7 +28,7 @@ pub struct Ledger {
     pub(crate) header: Header,
     pub(crate) holds: Holds,
     pub(crate) waiting: Waiting,
-    pub(crate) permits: Permits,
+    pub(crate) amounts: Amounts,
 }
 
 impl Ledger {
@@ -47,7 +45,7 @@ impl Ledger {
             header,
             holds,
             waiting,
-            permits: Permits::open(header.object),
+            amounts: Amounts::open(header.object),
         })
     }
 
@@ -61,31 +59,27 @@ impl Ledger {
     {
         let holds = Holds::open_on(alloc, base)?;
         let waiting = Waiting::open_on(alloc, base)?;
-        let permits = Permits::open_on(base, holds.readers);
+        let amounts = Amounts::open_on(base, holds.readers);
         Ok(Ledger {
             header: base.header,
             holds,
             waiting,
-            permits,
+            amounts,
         })
     }
 
-    /// Follows one more entry, one that a step of its seat makes; any other is passed over. It takes no
-    /// memory, so the answer is always Ok.
-    pub fn note(&mut self, entry: Entry) -> Result<(), Fault>
-        requires seat { HasSeat self.old entry.seat }
-        requires signal { entry.word ≡ Signal → entry.n ≤ 1 }
-        ensures stand { OnOk result ((s : Start) (h : List Entry) → LedgerStand s h self.old →
-            entry.seat < s.header.seats → IsNext s h entry → LedgerStand s (entry ∷ h) self.new) }
-        ensures err { OnErr result ((s : Start) (h : List Entry) → LedgerStand s h self.old →
-            LedgerStand s h self.new) }
-        ensures memory { IsOkUnless result Fault.OutOfMemory }
-        ensures sure { IsOk result }
+    /// Follows one more entry where a step of its seat makes it, and passes over any other. It takes no
+    /// memory.
+    pub fn note(&mut self, entry: Entry)
+        requires { HasSeat self.old entry.seat }
+        ensures follows { (s : Start) (h : List Entry) → LedgerStand s h self.old →
+            entry.seat < s.header.seats → IsNext s h entry → LedgerStand s (entry ∷ h) self.new }
+        ensures passes { (s : Start) (h : List Entry) → LedgerStand s h self.old → (IsNext s h entry → ⊥) →
+            LedgerStand s h self.new }
     {
         if self.admits(entry) {
             self.follow(entry);
         }
-        Ok(())
     }
 
     /// Follows one more entry, which a step of its seat makes. It takes no memory.
@@ -97,9 +91,8 @@ impl Ledger {
             LedgerStand s (entry ∷ h) self.new }
     {
         let object = self.header.object;
-        let had = self.held(entry.seat, entry.mode);
         self.waiting.note(entry);
         self.holds.note(object, entry);
-        self.permits.note(object, entry, had);
+        self.amounts.note(entry);
     }
 }

@@ -112,8 +112,8 @@ impl Situation for Ledger {
             }
             (Object::ReadWrite(_), Mode::S) => self.is_free_for(seat)
                 && self.holds.readers < MAX_READ_WRITE_HOLDS,
-            (Object::Semaphore(_, _permits), Mode::S) => self.permits.amounts.free >= i128::from(n),
-            (Object::Latch(count), Mode::S) => u64::from(count) <= self.permits.amounts.counted,
+            (Object::Semaphore(_, _permits), Mode::S) => self.amounts.free >= i128::from(n),
+            (Object::Latch(count), Mode::S) => u64::from(count) <= self.amounts.counted,
             _ => false,
         }
     }
@@ -126,7 +126,20 @@ impl Situation for Ledger {
     }
 
     fn free(&self) -> i64 {
-        self.permits.amounts.free as i64
+        self.amounts.free as i64
+    }
+
+    fn latch_count(&self) -> u32 {
+        match self.header.object {
+            Object::Latch(opening) => u64::from(opening).saturating_sub(
+                self.amounts.counted,
+            ) as u32,
+            Object::Lock(_) | Object::ReadWrite(_) | Object::Semaphore(_, _) => 0,
+        }
+    }
+
+    fn line_length(&self) -> u16 {
+        self.waiting.line.live_len()
     }
 
     fn first(&self) -> Option<Arrival> {

@@ -1,20 +1,15 @@
-//! What a ledger adds up to.
+//! What a history adds up to.
 
-ghost use Rattle.std.specs.Prelude.{◌≡◌, ◌<◌, ◌≤◌, ◌^◌, ℕ, List, length, slice_index, pos, true};
-ghost use Rattle.history.specs.Counts.{held, total};
-ghost use Rattle.history.specs.Line.{line};
-ghost use Rattle.history.specs.Object.{is_lock};
-ghost use Rattle.history.specs.Sleepers.{sleepers};
+ghost use Rattle.std.specs.Prelude.{◌≡◌, ◌<◌, ◌^◌, List, pos, ◌+ℤ◌, ◌-ℤ◌};
 ghost use Rattle.history.specs.Start.{Start};
 ghost use Rattle.history.specs.declared.entry.Entry.{Entry};
-ghost use Rattle.history.specs.declared.entry.Mode.TheVariants.{X};
+ghost use Rattle.deciding.specs.Balance.{balance};
+ghost use Rattle.deciding.specs.Situation.{IsHistory};
 ghost use Rattle.audit.specs.Ledger.{IsLedger, LedgerStand};
 ghost use Rattle.audit.specs.Totals.{no_totals, totals_of};
-ghost use Rattle.condition_queue.specs.Sleepers.{asleep_on};
 
 use crate::ledger::Ledger;
-use condition_queue::waiters::Waiters;
-use deciding::tables::sum;
+use deciding::balance::{Balance, balance_of};
 use history::header::Object;
 
 /// The numbers behind a history's last entry. Those that an object of the header's kind doesn't have are 0.
@@ -40,61 +35,57 @@ pub struct Totals {
     pub count: i128,
 }
 
-impl Ledger {
-    pub(crate) fn add_up(&self) -> Totals
-        requires { IsLedger self.now }
-        ensures { (s : Start) (h : List Entry) → LedgerStand s h self.now → result ≡ totals_of s h }
+impl Totals {
+    /// What an object comes to, as the numbers of its kind. The permits of a semaphore that were released
+    /// unheld are those held and free beyond those that it was made with.
+    pub fn of(object: Object, numbers: &Balance) -> Totals
+        requires exclusive { numbers.now.exclusive < 2 ^ 126 }
+        requires shared { numbers.now.shared < 2 ^ 126 }
+        ensures { (s : Start) (h : List Entry) → IsHistory s h → s.header.object ≡ object →
+            numbers.now ≡ balance s h → result ≡ totals_of s h }
     {
-        let line = self.line_length();
-        match self.header.object {
+        let line = i128::from(numbers.line);
+        match object {
             Object::Lock(_) | Object::ReadWrite(_) => Totals {
-                x: whole(self.exclusive_total()),
-                s: whole(self.holds.readers),
-                line: i128::from(line),
-                sleepers: i128::from(self.sleepers_total()),
+                x: whole(numbers.exclusive),
+                s: whole(numbers.shared),
+                line,
+                sleepers: i128::from(numbers.sleepers),
                 ..nothing()
             },
             Object::Semaphore(_, permits) => Totals {
-                line: i128::from(line),
-                held: whole(self.holds.readers),
-                free: self.permits.amounts.free,
+                line,
+                held: whole(numbers.shared),
+                free: i128::from(numbers.available),
                 created: i128::from(permits),
-                unheld: whole(self.permits.unheld),
+                unheld: unheld(numbers.shared, numbers.available, permits),
                 ..nothing()
             },
-            Object::Latch(opening) => Totals {
-                line: i128::from(line),
-                count: i128::from(u64::from(opening).saturating_sub(self.permits.amounts.counted)),
+            Object::Latch(_) => Totals {
+                line,
+                count: i128::from(numbers.count),
                 ..nothing()
             },
         }
     }
+}
 
-    fn line_length(&self) -> u64
-        ensures { (s : Start) (h : List Entry) → LedgerStand s h self.now → result ≡ length (line s h) }
-    {
-        u64::from(self.waiting.line.live_len())
-    }
-
-    /// The exclusive holds of all seats of a lock.
-    fn exclusive_total(&self) -> u128
-        requires ledger { IsLedger self.now }
-        requires lock { is_lock self.now.header.object ≡ true }
-        ensures held { (s : Start) (h : List Entry) → LedgerStand s h self.now →
-            result ≡ total s.header.seats (λ i. held s h i X) }
-        ensures few { result < 2 ^ 127 }
-    {
-        sum(&self.holds.exclusive)
-    }
-
-    /// The sleepers of all conditions.
-    fn sleepers_total(&self) -> u64
+impl Ledger {
+    /// What the entries so far come to.
+    pub(crate) fn add_up(&self) -> Totals
         requires { IsLedger self.now }
-        ensures { (s : Start) (h : List Entry) → LedgerStand s h self.now →
-            result ≡ total s.header.conditions (λ c. length (sleepers s h c)) }
+        ensures { (s : Start) (h : List Entry) → LedgerStand s h self.now → result ≡ totals_of s h }
     {
-        count_below(&self.waiting.asleep, self.header.conditions)
+        Totals::of(self.header.object, &balance_of(self))
     }
+}
+
+/// The permits held and free beyond those created.
+fn unheld(held: u128, free: i64, created: i32) -> i128
+    requires { held < 2 ^ 126 }
+    ensures { result ≡ (pos held +ℤ free) -ℤ created }
+{
+    held as i128 + i128::from(free) - i128::from(created)
 }
 
 fn nothing() -> Totals
@@ -118,15 +109,4 @@ fn whole(number: u128) -> i128
     ensures { result ≡ pos number }
 {
     number as i128
-}
-
-/// How many sleep on the conditions below a number.
-fn count_below(asleep: &Waiters, conditions: u8) -> u64
-    ensures { result ≡ total conditions (λ c. length (asleep_on asleep.now c)) }
-{
-    let mut count: u64 = 0;
-    for condition in 0..conditions {
-        count += u64::from(asleep.len(condition));
-    }
-    count
 }

@@ -22,9 +22,9 @@ const HEADER: Header = Header {
 fn an_auditor_follows_one_entry_after_another(rt: HostRuntime) -> Result<(), Fault> {
     let mut auditor = Auditor::open(rt.alloc(), HEADER)?;
     assert_eq!(rt; auditor.judgement().verdict(), Verdict::Legal);
-    auditor.follow(plain(0, Word::Got, Mode::X, 1))?;
+    auditor.follow(plain(0, Word::Got, Mode::X, 1));
     assert_eq!(rt; auditor.judgement().verdict(), Verdict::Legal);
-    auditor.follow(plain(1, Word::Got, Mode::X, 1))?;
+    auditor.follow(plain(1, Word::Got, Mode::X, 1));
     assert_eq!(rt; auditor.judgement(), Judgement::NotLegal(1));
     Ok(())
 }
@@ -36,7 +36,7 @@ fn a_ledger_says_what_a_step_makes(rt: HostRuntime) -> Result<(), Fault> {
     let acquire = Step::Acquire(Mode::X, 1);
     let got = plain(0, Word::Got, Mode::X, 1);
     assert_eq!(rt; entry_for(&ledger, 0, acquire), Ok(Some(got)));
-    ledger.note(got)?;
+    ledger.note(got);
     let queued = plain(1, Word::Queued, Mode::X, 1);
     assert_eq!(rt; entry_for(&ledger, 1, acquire), Ok(Some(queued)));
     assert_eq!(rt; ready(&ledger), None);

@@ -64,7 +64,7 @@ pub fn judge(alloc: Global, header: &Header, history: &History) -> Result<Judgem
         let Some(entry) = history.get(number) else {
             unreachable!()
         };
-        auditor.follow(entry)?;
+        auditor.follow(entry);
     }
     Ok(auditor.judgement())
 }

@@ -210,7 +210,7 @@ module _ (seats : ℕ) (l : LinkedLists) (counts : List ℕ) (table : List (Opti
 pub kept_opened : (seats : ℕ) (l : LinkedLists) (counts : List ℕ) (table : List (Option Sleeper)) →
     ((c : ℕ) → items l c ≡ []) → ((i : ℕ) → list_of l i ≡ None) → ((i : ℕ) → get_or table i None ≡ None) →
     ((c : ℕ) → get_or counts c 0 ≡ 0) → length counts ≡ list_count l → length table ≡ seats →
-    seats ≤ key_limit l →
+    seats ≡ key_limit l →
     seats < 2 ^ 16 → IsKept seats l counts table
 kept_opened seats l counts table empty free none zeros each long room few =
     record {

@@ -43,5 +43,5 @@ pub record IsKept (seats : ℕ) (l : LinkedLists) (counts : List ℕ)
   pub counted : (c : ℕ) → slice_index_or counts c 0 ≡ length (items l c)
   pub each_counted : length counts ≡ list_count l
   pub one_a_seat : length table ≡ seats
-  pub linked : seats ≤ key_limit l
+  pub linked : seats ≡ key_limit l
   pub few : seats < 2 ^ 16

@@ -1,5 +1,5 @@
 -- Who owns behind a legal history, and that what is held and free fits.
-use Rattle.std.proofs.Common.{◌≡◌, ◌≢◌, ⊎_elim, ℕ, zero, suc, ◌<◌, ◌≤◌, ltb, true, List, [], ◌∷◌, Option, Some, None, ap, ◌∙◌, sym, subst, refl, arith, ℤ, pos, ◌≤ℤ◌}
+use Rattle.std.proofs.Common.{◌≡◌, ◌≢◌, ⊎_elim, ℕ, zero, suc, ◌+◌, ◌*◌, ◌<◌, ◌≤◌, ◌^◌, ltb, true, length, List, [], ◌∷◌, Option, Some, None, ap, ◌∙◌, sym, subst, refl, arith, ℤ, pos, ◌≤ℤ◌}
 use Rattle.std.specs.Int.{w32, w64}
 use Rattle.std.specs.Prelude.{FitsSigned}
 use mir.Val.{to_z, of_z}
@@ -7,11 +7,14 @@ use Rattle.std.proofs.lemmas.Bool.{cases_eq, eq-eqb, ne_eqb, lt-ltb, le-ltb}
 use Rattle.std.proofs.lemmas.Int.{ints, to_z-of_z}
 use Rattle.history.specs.declared.arrival.Arrival.{Arrival}
 use Rattle.history.specs.declared.entry.Entry.{Entry}
-use Rattle.history.specs.declared.entry.Mode.TheVariants.{X}
+use Rattle.history.specs.declared.entry.Mode.{Mode}
+use Rattle.history.specs.declared.entry.Mode.TheVariants.{X, S}
 use Rattle.history.specs.Base.{based}
+use Rattle.history.specs.Conservation.{IsConserved}
 use Rattle.history.specs.Could.{is_seat}
 use Rattle.history.specs.Counts.{Counts, counts, free, held, owner}
 use Rattle.history.specs.Faults.{max_amount}
+use Rattle.history.specs.GoodBase.{most_permits}
 use Rattle.history.specs.Header.{IsInRange}
 use Rattle.history.specs.Legal.{IsLegal, AreSeated}
 use Rattle.history.specs.Line.{line, first_of}
@@ -19,10 +22,13 @@ use Rattle.history.specs.Object.{is_lock, is_semaphore}
 use Rattle.history.specs.Ownership.{IsOwned}
 use Rattle.history.specs.Point.{CanFold}
 use Rattle.history.specs.Start.{Start}
+use Rattle.history.proofs.Folding.{based_conserved}
 use Rattle.history.proofs.GoodBases.{good_waits}
 use Rattle.history.proofs.GoodFolds.{free_fits_base, line_seated_on, owned_behind}
 use Rattle.history.proofs.OneWait.{Waits, waits_from}
 use Rattle.history.proofs.Owners.{most_fits, owner_holds, nobody_holds}
+use Rattle.history.proofs.Permits.{conserved_from}
+use Rattle.history.proofs.SmallHolds.{exclusive_small, shared_small}
 use Rattle.history.proofs.WhoWaits.{LineSeated}
 use Rattle.deciding.specs.Situation.{IsHistory}
 
@@ -124,3 +130,26 @@ first_below s h a past q = by (line s h) (all_below s h past) q
     by [] each p = cc
     by (b ∷ rest) each p =
         let same : b ≡ a = cc in subst (λ (x : Arrival). x.seat < s.header.seats) same each.0
+
+-- the permits that are held and free are those created and those that were released unheld
+pub conserved_by : (s : Start) (h : List Entry) → IsHistory s h → is_semaphore s.header.object ≡ true →
+    IsConserved s h
+conserved_by s h past semaphore =
+    at_base (λ x. IsConserved x h) s h past
+    (λ range can. conserved_from (based past.base) h
+    (ap (λ (x : Start). is_semaphore x.header.object) (sym past.start) ∙ semaphore)
+    (good_waits past.base can.good) (based_conserved past.base) can.legal can.seated)
+
+-- no seat holds more at once
+abbrev pub most_at_once : ℕ
+most_at_once = most_permits + 2147483647 * 4294967296
+
+pub holds_few : (s : Start) (h : List Entry) (i : ℕ) (m : Mode) → IsHistory s h → length h < 2 ^ 32 →
+    i < s.header.seats → held s h i m ≤ most_at_once
+holds_few s h i X past short seat =
+    at_base (λ x. held x h i X ≤ most_at_once) s h past
+    (λ range can. let few = exclusive_small past.base h can i in omega (arith, few))
+holds_few s h i S past short seat =
+    at_base (λ x. i < x.header.seats → held x h i S ≤ most_at_once) s h past
+    (λ range can below. let few = shared_small past.base h can range i below in omega (arith, few, short))
+    seat

@@ -1,4 +1,5 @@
 pub mod Amounts
+pub mod Balance
 pub mod Checks
 pub mod Holds
 pub mod Situation

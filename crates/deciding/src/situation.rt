@@ -2,7 +2,7 @@
 
 ghost use Rattle.std.specs.Prelude.{◌≡◌, List, length, true};
 ghost use Rattle.history.specs.Could.{could, held_back, limit};
-ghost use Rattle.history.specs.Counts.{counts, free, held};
+ghost use Rattle.history.specs.Counts.{count, counts, free, held};
 ghost use Rattle.history.specs.Line.{first_mode, first_of, line, place_of};
 ghost use Rattle.history.specs.Object.{is_semaphore, is_strict};
 ghost use Rattle.history.specs.Ownership.{is_away};
@@ -60,6 +60,14 @@ pub trait Situation {
         requires { (s : Start) × (h : List Entry) × stands s h self.now
             × (is_semaphore s.header.object ≡ true) }
         ensures { (s : Start) (h : List Entry) → stands s h self.now → result ≡ free s h };
+
+    /// The count of a latch, down from its opening number; else 0.
+    fn latch_count(&self) -> u32
+        ensures { (s : Start) (h : List Entry) → stands s h self.now → result ≡ count s h };
+
+    /// How many stand in line.
+    fn line_length(&self) -> u16
+        ensures { (s : Start) (h : List Entry) → stands s h self.now → result ≡ length (line s h) };
 
     /// The longest waiter in line.
     fn first(&self) -> Option<Arrival>

@@ -37,12 +37,11 @@ use Rattle.history_text.proofs.HistoryLawful.{lawful}
 use Rattle.history_text.proofs.ShortEntries.{short}
 use Rattle.streams.specs.declared.stream_fault.StreamFault.{StreamFault}
 use Rattle.streams.specs.declared.stream_fault.StreamFault.TheVariants.{Text, Memory}
-use Rattle.streams.specs.Streams.{IsReadNoFurther}
 use Rattle.streams.specs.Whole.{IsOfReading, IsTooLong}
 use Rattle.streams.specs.Window.{StaysAhead}
 use Rattle.driver.specs.BaseReader.{EntriesBehind, HasShortLine, HeadRead, IsBaseRead, IsBeginningRead, IsFaultBehindLines, IsFaultOfLine, IsPlacedBehind}
 use Rattle.driver.specs.TextReader.{IsFaultOf, WereRead, reader_at}
-use Rattle.driver.proofs.ReadingAhead.{all_kept, fault_ahead, left_of, no_further, reading_fault}
+use Rattle.driver.proofs.ReadingAhead.{all_kept, fault_ahead, left_of, reading_fault}
 
 -- ---- a line that is none of a text
 
@@ -286,25 +285,6 @@ module _ (h : Head) (old : List ℕ) (left : Option (List ℕ)) (window : List �
         by (Some text) (Some xs) (Some ys) ahead begun is =
             let w = u.read (window ++ ys) in
             is (map Based w.xs) based (sym same_header)
-            (were_read text xs ys w (begun_ahead h text u.front old window xs ys ahead begun))
-
-    -- no further line was read
-    pub lines_no_further : (text : Option (List ℕ)) → length window ≤ 65792 → HeadRead text h old left →
-        IsReadNoFurther history_form text now
-    lines_no_further text few begun = by text left now u.ahead begun
-      where
-        by : (text left now : Option (List ℕ)) →
-            Keeps (prepend_known old left) (prepend_known (u.front ++ window) now) → HeadRead text h old
-            left →
-            IsReadNoFurther history_form text now
-        by None left now ahead begun = tt
-        by (Some text) None now ahead begun = absurd begun
-        by (Some text) (Some xs) None ahead begun = absurd ahead
-        by (Some text) (Some xs) (Some ys) ahead begun =
-            let w = u.read (window ++ ys) in
-            no_further history_form (Some text)
-            (lines_so_far h b (record { told = t; count = 0; calls = 0 }) lines) window (Some ys)
-            (map Based w.xs) few
             (were_read text xs ys w (begun_ahead h text u.front old window xs ys ahead begun))
 
     -- one line more

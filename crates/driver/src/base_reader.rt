@@ -50,7 +50,7 @@ pub(crate) fn read_base<R: Source>(
     let mut lines = 0;
     while let Some((line, left)) = next_line(window, reader, &so_far, &base, lines)? {
         so_far.pass(&base, &line);
-        take_line(&mut base, &line)?;
+        take_line(&mut base, &line);
         window.keep_last(left);
         lines += 1;
     }

@@ -22,6 +22,7 @@ pub(crate) fn end_of<T, R: Source>(
     requires few { count + 3 < 2 ^ 64 }
     ensures behind { IsBehindEnd count (R.left reader.old) result }
     ensures ended { result ≡ Ok None → IsAtEnd (R.left reader.new) }
+    ensures memory { IsErrOf result StreamFault.Memory → ⊥ }
     ensures failing { IsErrOf result StreamFault.ReadFailed ↔ IsTrue (R.failed reader.new) }
     ensures stays { Keeps (prepend_known window.old.bytes (R.left reader.old))
         (prepend_known window.new.bytes (R.left reader.new)) }

@@ -11,6 +11,7 @@ ghost use Rattle.driver.specs.BaseReader.{IsBeginningRead, IsPlacedBehind};
 ghost use Rattle.driver.specs.HistoryReader.{AreCounted, EntriesRead, IsEntryNext, IsStart, entry_passed};
 ghost use Rattle.driver.specs.TextReader.{IsFaultOf, Stands};
 ghost use Rattle.history_text.specs.HistoryText.{history_form};
+ghost use Rattle.streams.specs.Whole.{IsTooLong};
 ghost use Rattle.streams.specs.Window.{room};
 
 use crate::base_reader::read_base;
@@ -71,6 +72,7 @@ impl HistoryReader {
         ensures room { IfOk result (λ entries. entries.places ≡ room) }
         ensures failing { IsErrOf result StreamFault.ReadFailed ↔ IsTrue (R.failed reader.new) }
         ensures start { IfOk result IsStart }
+        ensures none { IfOk result (λ entries. entries.place.folded ≡ 0 → entries.base ≡ None) }
     {
         let mut window = Window::open(alloc)?;
         window.read_line(reader)?;
@@ -155,6 +157,7 @@ impl HistoryReader {
         ensures ready { (HasNoBreak self.old.bytes → ⊥) →
             IfOk result (λ next. IfSome next (λ _. reader.new ≡ reader.old)) }
         ensures ended { result ≡ Ok None → IsAtEnd (R.left reader.new) }
+        ensures memory { IsErrOf result StreamFault.Memory → IfSome (R.left reader.old) IsTooLong }
         ensures failing { IsErrOf result StreamFault.ReadFailed ↔ IsTrue (R.failed reader.new) }
     {
         self.window.read_line(reader)?;
@@ -190,6 +193,7 @@ impl HistoryReader {
         ensures ready { (HasNoBreak self.old.bytes → ⊥) →
             IfOk result (λ next. IfSome next (λ _. reader.new ≡ reader.old)) }
         ensures ended { result ≡ Ok None → IsAtEnd (R.left reader.new) }
+        ensures memory { IsErrOf result StreamFault.Memory → IfSome (R.left reader.old) IsTooLong }
         ensures failing { IsErrOf result StreamFault.ReadFailed ↔ IsTrue (R.failed reader.new) }
     {
         match next_entry(
@@ -223,6 +227,7 @@ fn base_of<R: Source>(
         (R.left reader.new) }
     ensures base { IfOk result (λ r. IsBaseOf head.now.header (or_opening head.now.header r.0)) }
     ensures place { IfOk result (λ r. IsPlacedBehind (or_opening head.now.header r.0) r.1) }
+    ensures none { IfOk result (λ r. r.1.folded ≡ 0 → r.0 ≡ None) }
     ensures places { window.new.places ≡ window.old.places }
     ensures held { length window.new.bytes ≤ room }
     ensures failing { IsErrOf result StreamFault.ReadFailed ↔ IsTrue (R.failed reader.new) }

@@ -1,6 +1,6 @@
 //! The steps of a text, and the trims between them, read from their source as they are asked for.
 
-ghost use Rattle.std.specs.Prelude.{◌≡◌, ◌+◌, ◌^◌, ◌<◌, ◌≤◌, ◌∷◌, ◌++◌, ◌↔◌, ◌-◌, [], false, length, None, Ok, IsErr, IsTrue, IsErrOf, IfOk, IfErr, IfSome, OnErr, OnOk};
+ghost use Rattle.std.specs.Prelude.{◌≡◌, ◌⊎◌, ◌+◌, ◌^◌, ◌<◌, ◌≤◌, ◌∷◌, ◌++◌, ◌↔◌, ◌-◌, [], false, length, None, Ok, IsErr, IsTrue, IsErrOf, IfOk, IfErr, IfSome, OnErr, OnOk};
 ghost use Rattle.std.specs.Io.KnownBytes.{IsAtEnd};
 ghost use Rattle.history.specs.Header.{IsInRange};
 ghost use Rattle.history.specs.Text.{HasNoBreak};
@@ -8,6 +8,7 @@ ghost use Rattle.driver.specs.StepReader.{passed, progress};
 ghost use Rattle.driver.specs.TextReader.{IsFaultOf, IsNext, Stands, WereRead};
 ghost use Rattle.steps.specs.StepLines.{IsAct};
 ghost use Rattle.steps.specs.StepsText.{steps_form};
+ghost use Rattle.streams.specs.Whole.{IsTooLong};
 ghost use Rattle.streams.specs.Window.{room};
 ghost use Rattle.streams.specs.declared.stream_fault.StreamFault.TheVariants.{Memory};
 
@@ -120,6 +121,8 @@ impl StepReader {
         ensures ready { (HasNoBreak self.old.bytes → ⊥) →
             IfOk result (λ next. IfSome next (λ _. reader.new ≡ reader.old)) }
         ensures ended { result ≡ Ok None → IsAtEnd (R.left reader.new) }
+        ensures memory { IsErrOf result Memory →
+            IfSome (R.left reader.old) IsTooLong ⊎ (2 ^ 64 ≤ self.old.count + 4) }
         ensures failing { IsErrOf result StreamFault.ReadFailed ↔ IsTrue (R.failed reader.new) }
     {
         self.window.read_line(reader)?;
@@ -151,6 +154,8 @@ impl StepReader {
         ensures ready { (HasNoBreak self.old.bytes → ⊥) →
             IfOk result (λ next. IfSome next (λ _. reader.new ≡ reader.old)) }
         ensures ended { result ≡ Ok None → IsAtEnd (R.left reader.new) }
+        ensures memory { IsErrOf result Memory →
+            IfSome (R.left reader.old) IsTooLong ⊎ (2 ^ 64 ≤ self.old.count + 4) }
         ensures failing { IsErrOf result StreamFault.ReadFailed ↔ IsTrue (R.failed reader.new) }
     {
         match next_line(self.window.bytes(), &self.header, self.count) {

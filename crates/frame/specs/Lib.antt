@@ -1,7 +1,6 @@
 pub mod Hooks
 pub mod Seat
 pub mod Effects
-pub mod Observed
 pub mod Core
 pub mod Owners
 pub mod Runs

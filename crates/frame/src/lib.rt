@@ -63,4 +63,5 @@ pub mod machine;
 pub mod run;
 pub mod seat;
 
+pub use deciding::balance::Balance;
 pub use history::step::{Answer, Step};

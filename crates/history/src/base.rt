@@ -66,7 +66,7 @@ pub struct Base {
 }
 
 impl Model for Base {
-    ghost use Rattle.std.specs.Prelude.{◌≤◌, map, All, vec_capacity};
+    ghost use Rattle.std.specs.Prelude.{◌≡◌, map, All, vec_capacity};
     ghost use Rattle.history.specs.Base.{Base};
 
     ghost Value = { Base };
@@ -81,9 +81,9 @@ impl Model for Base {
       sleepers = map (λ list. list.items) a.sleepers.items;
     } };
 
-    // Each seat has a place in line, and one on each condition.
-    ghost invariant = { λ a. (a.header.seats ≤ vec_capacity a.line)
-        × All (λ list. a.header.seats ≤ vec_capacity list) a.sleepers.items };
+    // Each seat has a place in line, and one on each condition. No more memory is kept.
+    ghost invariant = { λ a. (vec_capacity a.line ≡ a.header.seats)
+        × All (λ list. vec_capacity list ≡ a.header.seats) a.sleepers.items };
 }
 
 /// The greatest number of entries that may be folded.
@@ -164,7 +164,7 @@ pub fn opening_count(object: Object) -> u32
 fn no_sleepers(alloc: Global, conditions: u8, seats: u16) -> Result<Vec<Vec<Sleeper>>, Fault>
     ensures empty { IfOk result (λ lists. map (λ list. list.items) lists.items
         ≡ each_below conditions (λ c. [])) }
-    ensures places { IfOk result (λ lists. All (λ list. seats ≤ vec_capacity list) lists.items) }
+    ensures places { IfOk result (λ lists. All (λ list. vec_capacity list ≡ seats) lists.items) }
     ensures refused { IfErr result (λ fault. fault ≡ OutOfMemory) }
 {
     let mut lists = Vec::with_capacity(alloc, conditions as usize)?;

@@ -183,12 +183,12 @@ pub(crate) fn follow_sleepers(sleepers: &mut Vec<Vec<Sleeper>>, entry: Entry)
     // Where it goes to sleep, each list has a number of places above that of those who sleep there.
     requires { entry.word ≡ Await → (n : ℕ)
         × (length (get_or (map (λ list. list.items) sleepers.old.items) entry.at []) < n)
-        × All (λ list. n ≤ vec_capacity list) sleepers.old.items }
+        × All (λ list. vec_capacity list ≡ n) sleepers.old.items }
     ensures items { map (λ list. list.items) sleepers.new.items
         ≡ set (map (λ list. list.items) sleepers.old.items) entry.at
         (sleepers_then entry.word entry (get_or (map (λ list. list.items) sleepers.old.items) entry.at [])) }
-    ensures places { (n : ℕ) → All (λ list. n ≤ vec_capacity list) sleepers.old.items →
-        All (λ list. n ≤ vec_capacity list) sleepers.new.items }
+    ensures places { (n : ℕ) → All (λ list. vec_capacity list ≡ n) sleepers.old.items →
+        All (λ list. vec_capacity list ≡ n) sleepers.new.items }
 {
     let at = entry.at as usize;
     if at < sleepers.len() {

@@ -3,15 +3,16 @@ use Rattle.std.proofs.Common.{◌≡◌, ℕ, suc, ◌+◌, ◌≤◌, ◌<◌, 
 use Rattle.std.proofs.lemmas.List.{length-append}
 use Rattle.history.specs.declared.base.SeatBase.{SeatBase}
 use Rattle.history.specs.declared.base.Sleeper.{Sleeper}
+use Rattle.history.specs.declared.base.Standing.{Standing}
 use Rattle.history.specs.declared.header.Header.{Header}
-use Rattle.history.specs.Base.{Base, opening_base}
+use Rattle.history.specs.Base.{Base, opening_base, sleepers_of}
 use Rattle.history.specs.Header.{IsInRange}
 use Rattle.history.specs.Text.{ended}
 use Rattle.line_text.specs.declared.fault.TextFault.{TextFault}
 use Rattle.line_text.specs.Reading.{Begins, IsReading}
 use Rattle.line_text.proofs.Growing.{broken, one_more}
 use Rattle.history_text.specs.declared.base_line.BaseLine.{BaseLine}
-use Rattle.history_text.specs.declared.base_line.BaseLine.TheVariants.{Seat, Sleeps}
+use Rattle.history_text.specs.declared.base_line.BaseLine.TheVariants.{Seat, Sleeps, Stands}
 use Rattle.history_text.specs.declared.place.Head.{Head}
 use Rattle.history_text.specs.BaseFollowing.{AllRead, after_told, with_lines}
 use Rattle.history_text.specs.BaseLines.{base_line, base_lines}
@@ -22,7 +23,7 @@ use Rattle.history_text.specs.NextLine.{AreEntriesRead, IsBaseLineBehind, LacksB
 use Rattle.history_text.proofs.BaseLineLemmas.{some_line}
 use Rattle.history_text.proofs.BaseTheory.{IsGoodOf, reads_good, said}
 use Rattle.history_text.proofs.BaseTold as so_far
-use Rattle.history_text.proofs.BaseTold.{told_so_far}
+use Rattle.history_text.proofs.BaseTold.{asleep_place, line_place, told_so_far}
 use Rattle.history_text.proofs.HistoryLaws.{reached_lines, some_entries, text_lines, told_some}
 use Rattle.history_text.proofs.SameBase.{base_header}
 
@@ -145,6 +146,19 @@ module _ (h : Head) (ahead rest : List ℕ) (b : Base) (t : Told) (lines : ℕ)
   condition_here c s x may is =
       let gave = (subst (MayFollow t b) is may).3 in
       omega (arith, gave.condition, known.waited.conditions)
+
+  -- one more finds a place in line, or among the sleepers of its condition
+  pub place_in_line : (p : Standing) (x : BaseLine) → MayFollow t b x → x ≡ Stands p →
+      length b.line < b.header.seats
+  place_in_line p x may is =
+      let stands = subst (MayFollow t b) is may in
+      line_place read.xs t b known p stands.3 stands.2
+
+  pub place_asleep : (c : ℕ) (s : Sleeper) (x : BaseLine) → MayFollow t b x → x ≡ Sleeps c s →
+      length (sleepers_of b c) < b.header.seats
+  place_asleep c s x may is =
+      let sleeps = subst (MayFollow t b) is may in
+      asleep_place read.xs t b known c s sleeps.3 sleeps.2
 
   module _ (based : h.is_based ≡ true) (all : AllSeated b.header t) where
     good_here : IsGoodOf b × (base_lines b ≡ read.xs)

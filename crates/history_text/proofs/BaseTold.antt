@@ -6,7 +6,8 @@ use lib.IntN.{negsuc}
 use Rattle.std.proofs.Math.ListN.{set}
 use Rattle.std.proofs.lemmas.Bool.{cases_eq, cases_lt, ltb-true}
 use Rattle.std.proofs.lemmas.Int.{ints}
-use Rattle.std.proofs.lemmas.List.{get_or_past, append-nil, append_assoc, map-append, get_or-set_same, get_or-set_other, length-take-le, length-set, length-replicate, take_all, take_more_set}
+use Rattle.std.proofs.lemmas.List.{get_or_past, append-nil, append_assoc, map-append, get_or-set_same, get_or-set_other, length-map, length-take-le, length-set, length-replicate, take_all, take_more_set}
+use Rattle.history.specs.declared.arrival.Arrival.{Arrival}
 use Rattle.history.specs.declared.base.SeatBase.{SeatBase}
 use Rattle.history.specs.declared.base.Sleeper.{Sleeper}
 use Rattle.history.specs.declared.base.Standing.{Standing}
@@ -29,7 +30,7 @@ use Rattle.history.proofs.LineLemmas.{line_at_first}
 use Rattle.history.proofs.OpeningBase.{no_seat, opening_good}
 use Rattle.history.proofs.SleepLemmas.{times-waiting}
 use Rattle.history.proofs.Sums.{total_nothing, total_same}
-use Rattle.history.proofs.Times.{each-append, once_other, once_same, one_if, total_part}
+use Rattle.history.proofs.Times.{each-append, once_other, once_same, one_if, pigeonhole_less, total_part}
 use Rattle.history_text.specs.declared.base_line.BaseLine.{BaseLine}
 use Rattle.history_text.specs.declared.base_line.BaseLine.TheVariants.{Folded, Released, CountedDown, Seat, Stands, Sleeps}
 use Rattle.history_text.specs.BaseFollowing.{AllRead, with_lines, after_told}
@@ -101,6 +102,53 @@ pub record SoFar (done : List BaseLine) (t : Told) (b : Base) : Type 0 where
   pub held : HeldSoFar b.header.object t b
   pub waited : Waited t b
   pub spelt : Spelt done t b
+
+-- those told in line and those told on a condition are seats, and each of them once
+stands_seated : (b : Base) (p : Standing) → StandsWell b p → p.who.seat < b.header.seats
+stands_seated b p well = ⊎_elim (λ asks. asks.1.seat) (λ comes. comes.1.gave.seat) well
+
+line_seated : (b : Base) (q : List Standing) → AllByRecursion (StandsWell b) q →
+    AllByRecursion (λ i. i < b.header.seats) (seats_of (map (λ p. p.who) q))
+line_seated b [] all = tt
+line_seated b (p ∷ q) all = (stands_seated b p all.0, line_seated b q all.1)
+
+sleepers_seated : (b : Base) (c : ℕ) (q : List Sleeper) → AllByRecursion (SleepsWell b c) q →
+    AllByRecursion (λ i. i < b.header.seats) (map (λ x. x.seat) q)
+sleepers_seated b c [] all = tt
+sleepers_seated b c (x ∷ q) all = (all.0.seat, sleepers_seated b c q all.1)
+
+-- so one that waits nowhere finds a place
+pub line_place : (done : List BaseLine) (t : Told) (b : Base) → SoFar done t b → (p : Standing) →
+    StandsWell b p → IsFree t p.who.seat → length b.line < b.header.seats
+line_place done t b so p well is_free =
+    let seat = stands_seated b p well in
+    let none = so.waited.free p.who.seat (let most = so.range.seats in omega (arith, seat, most)) is_free in
+    let few = pigeonhole_less b.header.seats (seats_of (map (λ q. q.who) b.line)) p.who.seat
+    (line_seated b b.line so.waited.line) (λ i. let one = so.waited.once i in omega (arith, one)) seat
+    (omega (arith, none)) in
+    let arrivals = length-map (map (λ q. q.who) b.line) (λ (a : Arrival). a.seat) in
+    let standings = length-map b.line (λ (q : Standing). q.who) in
+    omega (arith, few, arrivals, standings)
+
+pub asleep_place : (done : List BaseLine) (t : Told) (b : Base) → SoFar done t b → (c : ℕ) (x : Sleeper) →
+    SleepsWell b c x → IsFree t x.seat → length (sleepers_of b c) < b.header.seats
+asleep_place done t b so c x well is_free =
+    let most = so.range.seats in
+    let seat = well.seat in
+    let none = so.waited.free x.seat (omega (arith, seat, most)) is_free in
+    let few = pigeonhole_less b.header.seats (map (λ y. y.seat) (sleepers_of b c)) x.seat
+    (sleepers_seated b c (sleepers_of b c) (so.waited.sleepers c)) (λ i.
+    let one = so.waited.once i in
+    let part = on_one i in
+    omega (arith, one, part)) seat
+    (let part = on_one x.seat in omega (arith, none, part)) in
+    let sleepers = length-map (sleepers_of b c) (λ (y : Sleeper). y.seat) in
+    omega (arith, few, sleepers)
+  where
+    on_one : (i : ℕ) → times i (map (λ y. y.seat) (sleepers_of b c))
+        ≤ total b.header.conditions (λ d. times i (map (λ y. y.seat) (sleepers_of b d)))
+    on_one i =
+        total_part b.header.conditions (λ d. times i (map (λ y. y.seat) (sleepers_of b d))) c well.condition
 
 -- what waits well speaks of the header and the seats alone
 abbrev bare : Header → List SeatBase → Base

@@ -1,11 +1,12 @@
 -- History texts: their form, what is written, and what reading one answers.
-use Rattle.std.specs.Prelude.{◌≡◌, ℕ, ◌+◌, ◌≤◌, List, reverse, All, Result, Ok, Err}
+use Rattle.std.specs.Prelude.{◌≡◌, ℕ, ◌+◌, ◌≤◌, List, length, reverse, All, Result, Ok, Err}
 use Rattle.history.specs.declared.entry.Entry.{Entry}
 use Rattle.history.specs.declared.header.Header.{Header}
 use Rattle.history.specs.Base.{Base}
 use Rattle.history.specs.Entries.{HistoryView, base_on}
 use Rattle.history.specs.GoodBase.{IsBaseOf}
 use Rattle.history.specs.Header.{IsInRange}
+use Rattle.history.specs.Pages.{whole_pages}
 use Rattle.line_text.specs.declared.fault.ReadFault.{ReadFault}
 use Rattle.line_text.specs.Form.{Form, text_of}
 use Rattle.line_text.specs.Reading.{IsReading, IsText, Reading}
@@ -57,12 +58,14 @@ pub record Fits (h : Header) (kept : HistoryView) : Type 0 where
   pub base : HasBaseText h (base_on h kept)
   pub each : All (HasLine h) (reverse kept.entries)
 
--- what was read: a list of the header's cap, on the base that the text tells, with no room owed
+-- what was read: a list of the header's cap, on the base that the text tells, with no room owed and no more
+-- pages than its entries take
 pub record IsRead (text : List ℕ) (h : Header) (kept : HistoryView) : Type 0 where
   pub reading : IsHistoryText text (base_on h kept) (reverse kept.entries)
   pub header : (base_on h kept).header ≡ h
   pub cap : kept.cap ≡ h.cap
   pub owed : kept.owed ≡ 0
+  pub places : kept.places ≡ whole_pages (length kept.entries)
 
 -- A reader of entries knows of the lines that it read how many there are, what the base is, how many entries
 -- follow it, and how many of these end a call.

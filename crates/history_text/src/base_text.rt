@@ -3,10 +3,12 @@
 ghost use Rattle.std.specs.Prelude.{◌≡◌, ◌+◌, ◌<◌, ◌≤◌, ◌^◌, ◌∷◌, ◌++◌, [], ℕ, false, true, set, get_or, length, map, All, IfOk, IsErrOf, None, Ok, OnOk, vec_capacity};
 ghost use Rattle.history.specs.declared.base.SeatBase.{SeatBase};
 ghost use Rattle.history.specs.declared.base.Sleeper.{Sleeper};
+ghost use Rattle.history.specs.declared.base.Standing.{Standing};
+ghost use Rattle.history.specs.Base.{sleepers_of};
 ghost use Rattle.history.specs.Header.{IsInRange};
 ghost use Rattle.history.specs.Text.{HasNoBreak};
 ghost use Rattle.line_text.specs.declared.fault.TextFault.TheVariants.{CutShort};
-ghost use Rattle.history_text.specs.declared.base_line.BaseLine.TheVariants.{Seat, Sleeps};
+ghost use Rattle.history_text.specs.declared.base_line.BaseLine.TheVariants.{Seat, Sleeps, Stands};
 ghost use Rattle.history_text.specs.BaseRules.{with_line};
 ghost use Rattle.history_text.specs.NextLine.{IsBaseAhead, IsBaseLineBehind, IsEarly};
 
@@ -17,7 +19,7 @@ use crate::place::{Head, Place};
 use history::base::{Base, Sleeper};
 use history::text::first_line;
 use line_text::fault::{ReadFault, TextFault};
-use std::alloc::{AllocError, Global};
+use std::alloc::Global;
 
 /// What the next line says of a base, behind so many lines, and how many bytes follow it; or None where the
 /// base was told whole, and the line is none of a base.
@@ -54,11 +56,13 @@ pub fn next_base_line(
     }
 }
 
-/// Takes up a line that may follow, in a base that is read.
-pub fn take_line(base: &mut Base, line: &BaseLine) -> Result<(), AllocError>
+/// Takes up a line that may follow, in a base that is read. It takes no memory.
+pub fn take_line(base: &mut Base, line: &BaseLine)
     requires seats { (i : ℕ) (has : SeatBase) → line.now ≡ Seat i has → i < length base.old.seats }
-    requires sleepers { (c : ℕ) (x : Sleeper) → line.now ≡ Sleeps c x → c < length base.old.sleepers }
-    ensures { OnOk result (base.new ≡ with_line base.old line.now) }
+    requires line { (p : Standing) → line.now ≡ Stands p → length base.old.line < base.old.header.seats }
+    requires sleepers { (c : ℕ) (x : Sleeper) → line.now ≡ Sleeps c x → (c < length base.old.sleepers)
+        × (length (sleepers_of base.old c) < base.old.header.seats) }
+    ensures { base.new ≡ with_line base.old line.now }
 {
     match line {
         BaseLine::Folded(entries) => base.entries = *entries,
@@ -71,31 +75,28 @@ pub fn take_line(base: &mut Base, line: &BaseLine) -> Result<(), AllocError>
             base.count = *count;
         }
         BaseLine::Seat(seat, has) => base.seats[*seat as usize] = *has,
-        BaseLine::Stands(standing) => base.line.push(*standing)?,
+        BaseLine::Stands(standing) => base.line.push_reserved(*standing),
         BaseLine::Sleeps(condition, sleeper) => put_asleep(
             &mut base.sleepers,
             *condition,
             *sleeper,
-        )?,
+        ),
     }
-    Ok(())
 }
 
 /// Has one more sleep on a condition, behind the others.
-fn put_asleep(
-    sleepers: &mut Vec<Vec<Sleeper>>,
-    condition: u8,
-    sleeper: Sleeper,
-) -> Result<(), AllocError>
-    requires { condition < length sleepers.old.items }
-    ensures lists { OnOk result (map (λ list. list.items) sleepers.new.items
+fn put_asleep(sleepers: &mut Vec<Vec<Sleeper>>, condition: u8, sleeper: Sleeper)
+    requires condition { condition < length sleepers.old.items }
+    requires places { (n : ℕ)
+        × (length (get_or (map (λ list. list.items) sleepers.old.items) condition []) < n)
+        × All (λ list. vec_capacity list ≡ n) sleepers.old.items }
+    ensures lists { map (λ list. list.items) sleepers.new.items
         ≡ set (map (λ list. list.items) sleepers.old.items) condition
-        (get_or (map (λ list. list.items) sleepers.old.items) condition [] ++ sleeper ∷ [])) }
-    ensures places { (n : ℕ) → All (λ list. n ≤ vec_capacity list) sleepers.old.items →
-        All (λ list. n ≤ vec_capacity list) sleepers.new.items }
+        (get_or (map (λ list. list.items) sleepers.old.items) condition [] ++ sleeper ∷ []) }
+    ensures places { (n : ℕ) → All (λ list. vec_capacity list ≡ n) sleepers.old.items →
+        All (λ list. vec_capacity list ≡ n) sleepers.new.items }
 {
-    sleepers[condition as usize].push(sleeper)?;
-    Ok(())
+    sleepers[condition as usize].push_reserved(sleeper);
 }
 
 /// The base that the lines behind the first one say, where the reader then stands, and how many bytes are
@@ -141,10 +142,7 @@ fn read_base(
     let mut lines = 0;
     while let Some((line, left)) = next_base_line(rest, &so_far, &base, lines)? {
         so_far.pass(&base, &line);
-        match take_line(&mut base, &line) {
-            Ok(()) => {}
-            Err(_) => return Err(ReadFault::OutOfMemory),
-        }
+        take_line(&mut base, &line);
         rest = &rest[rest.len() - left..];
         lines += 1;
     }

@@ -49,6 +49,7 @@ fn read_entries(
 ) -> Result<History, ReadFault>
     requires range { IsInRange head.now.header }
     requires empty { (empty.entries ≡ []) × (empty.owed ≡ 0) × (empty.cap ≡ head.now.header.cap) }
+    requires places { empty.places ≡ 0 }
     requires place { IsEarly place }
     ensures { AreAllRead head.now empty.base ahead.now place result }
 {
@@ -57,8 +58,9 @@ fn read_entries(
     let mut rest = ahead;
     let mut numbering = Numbering::new();
     while let Some((entry, left)) = next_entry(rest, &head.header, &mut numbering, place)? {
-        if history.make_room(1).is_err() {
-            return Err(ReadFault::OutOfMemory);
+        match history.make_room(1) {
+            Ok(()) => {}
+            Err(_) => return Err(ReadFault::OutOfMemory),
         }
         history.add(entry, 0);
         place = place.behind(&entry);

@@ -2,6 +2,7 @@
 ghost use Rattle.std.specs.Prelude.{◌≡◌, ◌<◌, ◌≤◌, ◌*◌, ◌^◌, length, All, IfOk, IfErr};
 ghost use Rattle.history.specs.Entries.{IsBasedWell, start_on};
 ghost use Rattle.history.specs.Legal.{AreSeated, calls};
+ghost use Rattle.deciding.specs.Balance.{balance};
 ghost use Rattle.monitor.specs.Closing.{IsBased, IsWithin, left_by, shares, passes_of, IsMissing};
 ghost use Rattle.monitor.specs.Lawful.{IsLawful};
 ghost use Rattle.word_lock.specs.Point.{Before};
@@ -11,6 +12,7 @@ ghost use Rattle.monitor.specs.declared.closing.CloseFault.TheVariants.{MissingP
 
 use crate::monitor::Monitor;
 use crate::pass::Pass;
+use frame::Balance;
 use frame::hooks::Hooks;
 use history::entries::History;
 use std::sync::Wait;
@@ -22,6 +24,8 @@ pub struct Closed {
     pub history: History,
     /// The merged share: how many calls the passes saw end, all together.
     pub share: u64,
+    /// What the seats still hold, how many still wait, and what is free: the numbers behind the last entry.
+    pub balance: Balance,
 }
 
 /// Why a monitor can't be closed.
@@ -88,6 +92,10 @@ impl<H: Hooks + Drop> Monitor<H> {
         ensures share { IfOk result (λ c. c.share ≡ shares passes.items) }
         ensures calls { IfOk result (λ c.
             c.share ≡ calls (start_on self.header c.history) c.history.entries) }
+        ensures balance { IfOk result (λ c.
+            c.balance ≡ balance (start_on self.header c.history) c.history.entries) }
+        ensures exclusive { IfOk result (λ c. c.balance.exclusive < 2 ^ 126) }
+        ensures shared { IfOk result (λ c. c.balance.shared < 2 ^ 126) }
         ensures missing { IfErr result (λ r. (r.2 ≡ MissingPass) × IsMissing self.header.seats passes.items) }
         ensures back { IfErr result (λ r. (r.0 ≡ self) × (r.1 ≡ passes)) }
     {
@@ -107,11 +115,13 @@ impl<H: Hooks + Drop> Monitor<H> {
         drop(passes);
         let kept = lock.close(rt, joined);
         let core = kept.into_core();
+        let balance = core.balance();
         let history = core.into_history();
         let _few = history.len();
         Ok(Closed {
             history,
             share: share as u64,
+            balance,
         })
     }
 }

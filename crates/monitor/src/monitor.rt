@@ -44,7 +44,8 @@ fn give_passes<H: Hooks + Drop>(
     requires seats { lock.now.header.seats ≡ seats }
     requires lawful { IsLawful (blank lock.now.header) }
     requires room { (passes.old.items ≡ []) × (vec_len passes.old ≡ 0) × (seats ≤ vec_capacity passes.old) }
-    ensures { passes.new.items ≡ opening_passes lock.now (blank lock.now.header) 0 seats }
+    ensures passes { passes.new.items ≡ opening_passes lock.now (blank lock.now.header) 0 seats }
+    ensures capacity { vec_capacity passes.new ≡ vec_capacity passes.old }
 {
     let mut seat = 0;
     for token in tokens {
@@ -69,6 +70,7 @@ impl<H: Hooks + Drop> Monitor<H> {
             r.0.header ≡ header_of (H.object_of hooks) seats conditions cap) }
         ensures passes { IfOk result (λ r. r.1.items ≡ opening_passes r.0 (blank r.0.header) 0 seats) }
         ensures own { IfOk result (λ r. All (λ p. p.lock ≡ r.0) r.1.items) }
+        ensures room { IfOk result (λ r. vec_capacity r.1 ≡ seats) }
         ensures err { IfErr result (λ fault. fault ≡ OutOfMemory) }
     {
         let mut passes = Vec::with_capacity(alloc, seats as usize)?;

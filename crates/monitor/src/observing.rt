@@ -1,6 +1,6 @@
 //! What a monitor tells of its object.
 ghost use Rattle.std.specs.Prelude.{◌≡◌, ◌<◌, true, length, is_some, Some};
-ghost use Rattle.frame.specs.Observed.{available};
+ghost use Rattle.deciding.specs.Balance.{available};
 ghost use Rattle.history.specs.Counts.{count, counts, held, owner};
 ghost use Rattle.history.specs.Line.{line, place_of};
 ghost use Rattle.history.specs.Marks.{is_placed};

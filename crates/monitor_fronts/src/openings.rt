@@ -3,7 +3,7 @@
 //! Each answers the monitor with an empty history, and a pass for each seat, in order. `cap` is the greatest
 //! number of entries of the history. The only error is `OutOfMemory`.
 
-ghost use Rattle.std.specs.Prelude.{◌≡◌, [], All, IfOk, IfErr};
+ghost use Rattle.std.specs.Prelude.{◌≡◌, [], All, IfOk, IfErr, vec_capacity};
 ghost use Rattle.frame.specs.Core.{header_of};
 ghost use Rattle.history.specs.Header.{IsInRange};
 ghost use Rattle.history.specs.declared.fault.Fault.TheVariants.{OutOfMemory};
@@ -32,6 +32,7 @@ pub fn open_lock(
     ensures header { IfOk result (λ r. r.0.header ≡ header_of (Lock policy) seats conditions cap) }
     ensures passes { IfOk result (λ r. r.1.items ≡ opening_passes r.0 (blank r.0.header) 0 seats) }
     ensures own { IfOk result (λ r. All (λ p. p.lock ≡ r.0) r.1.items) }
+    ensures room { IfOk result (λ r. vec_capacity r.1 ≡ seats) }
     ensures err { IfErr result (λ fault. fault ≡ OutOfMemory) }
 {
     let hooks = LockHooks::open(policy);
@@ -51,6 +52,7 @@ pub fn open_read_write_lock(
     ensures header { IfOk result (λ r. r.0.header ≡ header_of (ReadWrite policy) seats conditions cap) }
     ensures passes { IfOk result (λ r. r.1.items ≡ opening_passes r.0 (blank r.0.header) 0 seats) }
     ensures own { IfOk result (λ r. All (λ p. p.lock ≡ r.0) r.1.items) }
+    ensures room { IfOk result (λ r. vec_capacity r.1 ≡ seats) }
     ensures err { IfErr result (λ fault. fault ≡ OutOfMemory) }
 {
     let hooks = RwHooks::open(alloc, policy, seats)?;
@@ -69,6 +71,7 @@ pub fn open_semaphore(
     ensures header { IfOk result (λ r. r.0.header ≡ header_of (Semaphore policy permits) seats 0 cap) }
     ensures passes { IfOk result (λ r. r.1.items ≡ opening_passes r.0 (blank r.0.header) 0 seats) }
     ensures own { IfOk result (λ r. All (λ p. p.lock ≡ r.0) r.1.items) }
+    ensures room { IfOk result (λ r. vec_capacity r.1 ≡ seats) }
     ensures err { IfErr result (λ fault. fault ≡ OutOfMemory) }
 {
     let hooks = SemaphoreHooks::open(policy, permits);
@@ -86,6 +89,7 @@ pub fn open_latch(
     ensures header { IfOk result (λ r. r.0.header ≡ header_of (Latch count) seats 0 cap) }
     ensures passes { IfOk result (λ r. r.1.items ≡ opening_passes r.0 (blank r.0.header) 0 seats) }
     ensures own { IfOk result (λ r. All (λ p. p.lock ≡ r.0) r.1.items) }
+    ensures room { IfOk result (λ r. vec_capacity r.1 ≡ seats) }
     ensures err { IfErr result (λ fault. fault ≡ OutOfMemory) }
 {
     let hooks = LatchHooks::open(count);

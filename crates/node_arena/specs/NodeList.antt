@@ -7,11 +7,12 @@ use Rattle.node_arena.specs.declared.node.Standing.{Standing}
 use Rattle.node_arena.specs.Arena.{Places, slot_at, taken, standing_by, standing_in}
 use Rattle.node_arena.specs.LinkedLists.{LinkedLists, items, list_of, list_count, key_limit, IsIn, IsApart}
 
--- The nodes from head to tail, each with its number, how many may stand at once, and how many were placed
--- since the opening.
+-- The nodes from head to tail, each with its number, how many may stand at once, below what each place is,
+-- and how many were placed since the opening.
 pub record Nodes : Type 0 where
   pub nodes : List Standing
   pub places : ℕ
+  pub limit : ℕ
   pub placed : ℕ
 
 -- the node at a place, with its number
@@ -73,4 +74,4 @@ pub record IsLinked (a : Places) (l : LinkedLists) : Type 0 where
   pub apart : IsApart (items l 0)
   pub counted : taken a ≡ length (items l 0)
   pub one : list_count l ≡ 1
-  pub room : a.limit ≤ key_limit l
+  pub room : a.limit ≡ key_limit l

@@ -70,12 +70,12 @@ fn splice(links: &mut Vec<Link>, at: usize, next: usize)
 }
 
 impl LinkedLists {
-    /// So many empty lists, numbered from 0, and a link for each key below `keys`.
+    /// So many empty lists, numbered from 0, and a link for each key below `keys`, for no key above.
     pub fn with_keys(alloc: Global, lists: usize, keys: usize) -> Result<Self, AllocError>
         ensures count { IfOk result (λ s. list_count s ≡ lists) }
         ensures no_items { IfOk result (λ s. (list : ℕ) → items s list ≡ []) }
         ensures no_keys { IfOk result (λ s. (key : ℕ) → list_of s key ≡ None) }
-        ensures room { IfOk result (λ s. keys ≤ key_limit s) }
+        ensures room { IfOk result (λ s. key_limit s ≡ keys) }
     {
         let mut lists = LinkedLists::new(alloc, lists)?;
         if keys > 0 {
@@ -89,6 +89,7 @@ impl LinkedLists {
         ensures count { IfOk result (λ s. list_count s ≡ lists) }
         ensures no_items { IfOk result (λ s. (list : ℕ) → items s list ≡ []) }
         ensures no_keys { IfOk result (λ s. (key : ℕ) → list_of s key ≡ None) }
+        ensures no_room { IfOk result (λ s. key_limit s ≡ 0) }
     {
         let mut links = Vec::with_capacity(alloc, lists)?;
         for head in 0..lists {
@@ -107,6 +108,7 @@ impl LinkedLists {
     /// Makes room for a key and each key below it.
     fn reserve_key(&mut self, key: usize) -> Result<(), AllocError>
         ensures room { OnOk result (key < key_limit self.new) }
+        ensures exact { key_limit self.old ≤ key → OnOk result (key_limit self.new ≡ key + 1) }
         ensures fits { OnOk result (key + 1 < 2 ^ 64) }
         ensures succeeds { key < key_limit self.old → IsOk result }
         ensures grows { key_limit self.old ≤ key_limit self.new }

@@ -29,6 +29,7 @@ impl Model for NodeList {
     ghost view = { λ l. record {
       nodes = nodes_of l.arena l.links;
       places = l.arena.places;
+      limit = l.arena.limit;
       placed = l.arena.placed;
     } };
 
@@ -89,6 +90,7 @@ impl NodeList {
 
     /// Below what each place is.
     pub fn limit(&self) -> usize
+        ensures limit { result ≡ self.now.limit }
         ensures below { (place : ℕ) → IsSome (at_place place self.now.nodes) → place < result }
         ensures apart { StandApart self.now.nodes }
     {

@@ -33,7 +33,7 @@ fn recorded(
     requires based { IsBasedWell header.now history.now.base }
     requires stand { LedgerStand (start_on header.now history.now) history.now.entries ledger }
     requires next { IsNextEntry (start_on header.now history.now) history.now.entries entry }
-    ensures { IsAnswer (recorded (start_on header.now history.now) history.now.entries entry) result }
+    ensures { result ≡ (recorded (start_on header.now history.now) history.now.entries entry).0 }
 {
     let owed = owed_of(header, history);
     let behind = owed_behind(header, owed, entry);
@@ -41,9 +41,33 @@ fn recorded(
         return Err(Fault::HistoryFull);
     }
     let before = ready(&ledger);
-    ledger.note(entry)?;
+    ledger.note(entry);
     let after = ready(&ledger);
     Ok(Answer::Recorded(entry, named(before, after, entry.seat)))
+}
+
+/// What a seat's step is answered, by the ledger behind the history.
+fn answered(
+    ledger: Ledger,
+    header: &Header,
+    history: &History,
+    seat: u16,
+    step: Step,
+) -> Result<Answer, Fault>
+    requires range { IsInRange header.now }
+    requires few { length history.now.entries + 1 < 2 ^ 32 }
+    requires based { IsBasedWell header.now history.now.base }
+    requires stand { LedgerStand (start_on header.now history.now) history.now.entries ledger }
+    requires seat { seat < header.now.seats }
+    requires seated { AreSeated (start_on header.now history.now) history.now.entries }
+    requires legal { IsLegal (start_on header.now history.now) history.now.entries }
+    ensures { result ≡ (answer (start_on header.now history.now) history.now.entries seat step).0 }
+{
+    match entry_for(&ledger, seat, step) {
+        Err(fault) => Err(fault),
+        Ok(None) => Ok(Answer::Sleep),
+        Ok(Some(entry)) => recorded(ledger, header, history, entry),
+    }
 }
 
 /// What a seat's step is answered behind a legal history of the header's object.
@@ -66,9 +90,5 @@ pub fn answer(
     ensures { IsAnswer (answer (start_on header.now history.now) history.now.entries seat step) result }
 {
     let ledger = ledger_of(alloc, header, history)?;
-    match entry_for(&ledger, seat, step) {
-        Err(fault) => Err(fault),
-        Ok(None) => Ok(Answer::Sleep),
-        Ok(Some(entry)) => recorded(ledger, header, history, entry),
-    }
+    answered(ledger, header, history, seat, step)
 }

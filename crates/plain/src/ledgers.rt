@@ -28,7 +28,7 @@ pub fn ledger_of(alloc: Global, header: &Header, history: &History) -> Result<Le
         let Some(entry) = history.get(number) else {
             unreachable!()
         };
-        ledger.note(entry)?;
+        ledger.note(entry);
     }
     Ok(ledger)
 }

@@ -1,3 +1,4 @@
+mod Closed
 mod Columns
 mod Dealing
 mod Objects

@@ -107,7 +107,7 @@ told_first : (answers : ℕ → ℕ → Bool → Type 0) (seat : ℕ) (w : Worke
     (old : List Shown) (fault : RunFault) (new : List Shown) → Ends answers seat w old (Err fault) new →
     Told answers seat (w ∷ ws) fault
 told_first answers seat w ws old (GateShut k) new ends = inl ends
-told_first answers seat w ws old (NotStarted k) new ends = omega (arith, ends)
+told_first answers seat w ws old (NotStarted k) new ends = let is = ends.0 in omega (arith, is)
 told_first answers seat w ws old Memory new ends = tt
 
 told_later : (answers : ℕ → ℕ → Bool → Type 0) (seat : ℕ) (w : WorkerView) (ws : List WorkerView)

@@ -23,13 +23,14 @@ abbrev pub StopsBelow : (ℕ → ℕ → Bool → Type 0) → ℕ → ℕ → Ty
 StopsBelow answers seat n =
     (call : ℕ) × (call < n) × LetsBelow answers seat call × answers seat call false
 
--- all its calls were made; or it stopped, at a gate or before its first call
+-- all its calls were made; or it stopped, at a gate or before its first call, and then its passes are as
+-- they were
 abbrev pub Ends : (ℕ → ℕ → Bool → Type 0) → ℕ → WorkerView → List Shown → Result ℕ RunFault → List Shown →
     Type 0
 Ends answers seat w old (Ok u) new =
     Made (rounds w.repeat w.calls) old u new × LetsBelow answers seat (calls_of w)
 Ends answers seat w old (Err (GateShut k)) new = (k ≡ seat) × StopsBelow answers seat (calls_of w)
-Ends answers seat w old (Err (NotStarted k)) new = k ≡ seat
+Ends answers seat w old (Err (NotStarted k)) new = (k ≡ seat) × (new ≡ old)
 Ends answers seat w old (Err Memory) new = ⊥
 
 -- no worker makes more calls

@@ -10,7 +10,8 @@ use crate::fault::RunFault;
 use crate::passes::Passes;
 use crate::report::ObjectReport;
 use any_object::AnyHooks;
-use audit::verdict::judge;
+use audit::sums::Totals;
+use audit::verdict::Judgement;
 use history::header::Header;
 use monitor::Monitor;
 use std::alloc::Global;
@@ -59,29 +60,24 @@ impl Opened {
         &self.monitor
     }
 
-    /// Closes the object with the passes of all its seats, and has its history judged.
-    pub(crate) fn close<R: Wait>(
-        self,
-        rt: &R,
-        alloc: Global,
-        passes: Passes,
-    ) -> Result<ObjectReport, RunFault>
+    /// Closes the object with the passes of all its seats. That the history is legal is proved, so it is not
+    /// gone over again: the object itself says what it comes to.
+    pub(crate) fn close<R: Wait>(self, rt: &R, passes: Passes) -> ObjectReport
         requires own { All (λ p. p.lock ≡ self) passes }
         requires all { (seat : _) → seat < self.header.seats → 1 ≤ passes_of seat passes }
-        ensures part { IfOk result (IsPart self passes) }
-        ensures err { IfErr result (λ fault. fault ≡ RunFault.Memory) }
+        ensures { IsPart self passes result }
     {
         let Opened { header, monitor } = self;
         match monitor.close(rt, passes.into_list()) {
-            Ok(closed) => match judge(alloc, &header, &closed.history) {
-                Ok(judgement) => Ok(ObjectReport {
+            Ok(closed) => {
+                let totals = Totals::of(header.object, &closed.balance);
+                ObjectReport {
                     header,
                     history: closed.history,
-                    judgement,
+                    judgement: Judgement::Legal(totals),
                     share: closed.share,
-                }),
-                Err(_) => Err(RunFault::Memory),
-            },
+                }
+            }
             Err(_) => unreachable!(),
         }
     }

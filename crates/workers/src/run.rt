@@ -103,7 +103,7 @@ fn close_all<R: Wait>(
         let Some(passes) = columns.next() else {
             unreachable!()
         };
-        parts.push(object.close(rt, alloc, passes)?)?;
+        parts.push(object.close(rt, passes))?;
     }
     Ok(parts)
 }

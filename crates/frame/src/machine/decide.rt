@@ -101,6 +101,14 @@ impl<H: Hooks + Drop> Situation for Core<H> {
         self.available()
     }
 
+    fn latch_count(&self) -> u32 {
+        self.count()
+    }
+
+    fn line_length(&self) -> u16 {
+        self.queue_length()
+    }
+
     fn first(&self) -> Option<Arrival> {
         self.queue.first()
     }

@@ -5,7 +5,7 @@ ghost use Rattle.history.specs.Counts.{count, held, owner};
 ghost use Rattle.history.specs.Fold.{MayFold};
 ghost use Rattle.history.specs.Faults.{max_amount};
 ghost use Rattle.history.specs.Sleepers.{sleepers};
-ghost use Rattle.frame.specs.Observed.{available};
+ghost use Rattle.deciding.specs.Balance.{available, balance};
 ghost use Rattle.history.specs.Legal.{IsLegal, AreSeated};
 ghost use Rattle.history.specs.Line.{line};
 ghost use Rattle.history.specs.Marks.{AreTold, StandInLine};
@@ -18,6 +18,7 @@ ghost use Rattle.frame.specs.Seat.{IsSeat};
 use super::Core;
 use crate::hooks::Hooks;
 use crate::seat::Seat;
+use deciding::balance::{Balance, balance_of};
 use history::entries::History;
 use history::entry::Mode;
 use history::header::{Header, Object};
@@ -45,6 +46,7 @@ impl<H: Hooks + Drop> Core<H> {
         ensures base { result.base ≡ Some self.base }
         ensures entries { result.entries ≡ self.entries }
         ensures cap { result.cap ≡ self.header.cap }
+        ensures owed { result.owed ≡ owed (start_of self) self.entries }
         ensures places { result.places ≡ self.places }
     {
         self.history
@@ -129,6 +131,16 @@ impl<H: Hooks + Drop> Core<H> {
             Object::Latch(_) => self.level() as u32,
             _ => 0,
         }
+    }
+
+    /// What all seats hold together, how many wait, and what is free. It asks each seat and each condition.
+    pub fn balance(&self) -> Balance
+        ensures balance { result ≡ balance (start_of self.now) self.now.entries }
+        ensures exclusive { result.exclusive < 2 ^ 126 }
+        ensures shared { result.shared < 2 ^ 126 }
+    {
+        let _header = &self.header;
+        balance_of(self)
     }
 
     /// What is kept of a seat.

@@ -3,6 +3,7 @@
 ghost use Rattle.std.specs.Prelude.{◌<◌, All, IsTrue, ⊤};
 
 use any_object::AnyHooks;
+use frame::Balance;
 use frame::acts::{Act, Done, run_acts};
 use frame::machine::Core;
 use frame::run::run;
@@ -34,14 +35,6 @@ pub struct Told {
     pub is_held: bool,
     pub available: i64,
     pub count: u32,
-}
-
-/// What a core tells of all its seats and conditions together.
-#[derive(Clone, Copy)]
-pub struct Sums {
-    pub exclusive: u128,
-    pub shared: u128,
-    pub asleep: u64,
 }
 
 /// The core of any object.
@@ -84,24 +77,6 @@ fn is_told(core: &Inner, seat: u16) -> bool {
         return false;
     }
     core.is_told(seat)
-}
-
-/// The holds of all seats.
-fn all_holds(core: &Inner, mode: Mode) -> u128 {
-    let mut sum: u128 = 0;
-    for seat in 0..core.header().seats {
-        sum = sum.saturating_add(holds(core, seat, mode));
-    }
-    sum
-}
-
-/// Those asleep on any condition.
-fn all_asleep(core: &Inner) -> u64 {
-    let mut sum: u64 = 0;
-    for condition in 0..core.header().conditions {
-        sum = sum.saturating_add(u64::from(core.waiters(condition)));
-    }
-    sum
 }
 
 /// A core of the object that a header names. Clauses see nothing of it, which keeps the proofs of callers
@@ -205,12 +180,8 @@ impl AnyCore {
         ]
     }
 
-    pub fn sums(&self) -> Sums {
-        Sums {
-            exclusive: all_holds(&self.core, Mode::X),
-            shared: all_holds(&self.core, Mode::S),
-            asleep: all_asleep(&self.core),
-        }
+    pub fn balance(&self) -> Balance {
+        self.core.balance()
     }
 
     pub fn into_history(self) -> History {

@@ -40,8 +40,12 @@ fn step_beside<R: Abort + AllocGlobal>(
 fn tells_totals(alloc: Global, core: &AnyCore) -> Result<bool, Fault> {
     let told = core.told();
     let totals = totals_found(alloc, core)?;
-    let same = totals_told(core.header().object, &told, &core.sums()) == totals;
-    Ok(same && told.is_held == (0 < totals.x))
+    let balance = core.balance();
+    let same = totals_told(core.header().object, &balance) == totals;
+    let alike = balance.line == told.line
+        && balance.available == told.available
+        && balance.count == told.count;
+    Ok(same && alike && told.is_held == (0 < totals.x))
 }
 
 fn compare_totals<R: Abort + AllocGlobal>(rt: &R, core: &AnyCore) {

@@ -17,7 +17,7 @@ entry_for-requires-2 g c =
     let P : Entry → Type 0 = λ e. IsNext (opening lock) [] e in
     let next = subst P (sym c.plain-got.ensures) (Acquire X 1, refl) in
     let opened = c.in_ok-ledger.ensures.stand in
-    let stand = c.in_ok-note.ensures.stand (opening lock) [] opened (search rules) next in
+    let stand = c.note.ensures.follows (opening lock) [] opened (search rules) next in
     (opening lock, _, stand, search rules)
 
 pub ready-requires : goal.ready-requires
@@ -25,5 +25,5 @@ ready-requires g c =
     let P : Entry → Type 0 = λ e. IsNext (opening lock) [] e in
     let next = subst P (sym c.plain-got.ensures) (Acquire X 1, refl) in
     let opened = c.in_ok-ledger.ensures.stand in
-    let stand = c.in_ok-note.ensures.stand (opening lock) [] opened (search rules) next in
+    let stand = c.note.ensures.follows (opening lock) [] opened (search rules) next in
     (opening lock, _, stand)

@@ -32,7 +32,7 @@ loop-number-preserved c =
     let q = sym c.get.ensures ∙ c.in-Some.is in
     let J : List Entry → Type 0 = λ x. HasJudged s x c.follow.new.self in
     subst J (sym (front_next h n c.in-Some.entry less q))
-    (c.in_ok-follow.ensures.judged s (front n h) c.loop-number.invariant
+    (c.follow.ensures s (front n h) c.loop-number.invariant
     (next_seat s h n c.in-Some.entry c.requires.seated less q))
 
 pub judgement-requires : goal.judgement-requires

@@ -1,8 +1,7 @@
 use Rattle.std.proofs.Common.{◌∙◌, [], arith, subst, sym}
 use Rattle.history.specs.Header.{IsInRange}
-use Rattle.streams.specs.declared.stream_fault.StreamFault.TheVariants.{Memory}
-use Rattle.history_text.proofs.BaseTextRead.{condition_here, known, seat_here}
-use Rattle.driver.proofs.BaseAhead.{base_failed, base_good, base_placed, base_read, lines_failed, lines_no_further, moved, none_yet, one_fewer, one_line_read, same_header}
+use Rattle.history_text.proofs.BaseTextRead.{condition_here, known, place_asleep, place_in_line, seat_here}
+use Rattle.driver.proofs.BaseAhead.{base_failed, base_good, base_placed, base_read, lines_failed, moved, none_yet, one_fewer, one_line_read, same_header}
 use Rattle.driver.proofs.ReadingAhead.{goes_on}
 use Rattle.driver.proofs.base_reader.read_base.Goals as goal
 
@@ -44,18 +43,16 @@ take_line-requires-clause-seats g c = λ i has is.
 pub take_line-requires-clause-sleepers : goal.take_line-requires-clause-sleepers
 take_line-requires-clause-sleepers g c = λ i x is.
     let u = c.loop-base.invariant.under in
-    condition_here _ _ _ _ _ _ (u.read []) c.requires.range i x c.in-Some.line
-    (rw c.in-Some.is at c.in_ok-line.ensures.line).0 is
+    let may = (rw c.in-Some.is at c.in_ok-line.ensures.line).0 in (
+      condition_here _ _ _ _ _ _ (u.read []) c.requires.range i x c.in-Some.line may is,
+      place_asleep _ _ _ _ _ _ (u.read []) c.requires.range i x c.in-Some.line may is,
+    )
 
-pub returns-in_err-take_line-clause-read : goal.returns-in_err-take_line-clause-read
-returns-in_err-take_line-clause-read g c =
-    let passed = c.from_residual-in_err-take_line in
-    let after = g.R.Source.left c.next_line.new.reader in
-    let window = c.next_line.new.window.bytes in
-    let u = moved _ _ _ _ _ _ _ _ c.loop-base.invariant.under window after c.in_ok-line.ensures.keeps in
-    base_failed c.args.head.now c.args.window.now.bytes window (g.R.Source.left c.args.reader.now) after
-    passed.result Memory passed.ensures
-    (λ text begun. lines_no_further _ _ _ _ _ _ _ _ u c.requires.based text c.in_ok-line.ensures.held begun)
+pub take_line-requires-clause-line : goal.take_line-requires-clause-line
+take_line-requires-clause-line g c = λ p is.
+    let u = c.loop-base.invariant.under in
+    place_in_line _ _ _ _ _ _ (u.read []) c.requires.range p c.in-Some.line
+    (rw c.in-Some.is at c.in_ok-line.ensures.line).0 is
 
 pub loop-base-smaller : goal.loop-base-smaller
 loop-base-smaller g c =
@@ -75,7 +72,7 @@ loop-base-preserved g c =
       going = goes_on c.in_ok-line.field-0 (g.R.Source.failed c.next_line.new.reader) (λ t. line.failing.1 t);
       places = c.keep_last.ensures.places ∙ line.places ∙ was.places;
       held = omega (arith, c.keep_last.ensures.few, c.keep_last.ensures.places, line.places, was.places);
-      under = rw (c.keep_last.ensures.bytes, c.in_ok-take_line.ensures, c.pass.ensures)
+      under = rw (c.keep_last.ensures.bytes, c.take_line.ensures, c.pass.ensures)
           (one_line_read _ _ _ _ _ _ _ _ u c.requires.based c.requires.range c.in-Some.line c.in-Some.left
           (rw c.in-Some.is at line.line));
     }

@@ -54,7 +54,7 @@ loop-kept-preserved g c =
           c.in-Some.entry c.args.most was.kept.items c.keep.new.kept.items
           (rw c.in-Some.is at c.in_ok-entry.ensures.next) c.in_ok-entry.ensures.header
           c.in_ok-entry.ensures.base (rw c.in-Some.is at c.in_ok-entry.ensures.counted)
-          c.in-Ok-follow.ensures.judged
+          c.follow.ensures
           (c.in-Ok-keep.ensures
           ∙ ap (λ n. kept_with was.kept.items c.in-Some.entry (n - 1) c.args.most) c.count.ensures.value)
           was.invariant.judging;
@@ -86,14 +86,6 @@ returns-in_err-entry-clause-err g c =
 
 pub returns-in-Err-clause-err : goal.returns-in-Err-clause-err
 returns-in-Err-clause-err g c =
-    let j = c.loop-kept.invariant.judging in
-    let next = rw c.in-Some.is at c.in_ok-entry.ensures.next in
-    entries_memory c.args.entries.now c.next.new.self (reverse j.entries ++ c.in-Some.entry ∷ [])
-    (g.R.Source.left c.args.reader.now) (g.R.Source.left c.next.new.reader) c.in_ok-entry.ensures.held
-    (λ text were. next text (reverse j.entries) (j.read text were))
-
-pub returns-in-Err-keep-clause-err : goal.returns-in-Err-keep-clause-err
-returns-in-Err-keep-clause-err g c =
     let j = c.loop-kept.invariant.judging in
     let next = rw c.in-Some.is at c.in_ok-entry.ensures.next in
     entries_memory c.args.entries.now c.next.new.self (reverse j.entries ++ c.in-Some.entry ∷ [])

@@ -13,5 +13,5 @@ changed f g xs i x y d l is new =
 pub returns-clause-lists : goal.returns-clause-lists
 returns-clause-lists c =
     changed (λ (list : Vec Sleeper Global). list.items) (λ (l : List Sleeper). l ++ c.args.sleeper ∷ [])
-    c.args.sleepers.now.items c.args.condition c.index_mut.result.now c.push.new.self [] c.requires
-    c.index_mut.ensures.value c.in_ok-push.ensures.items
+    c.args.sleepers.now.items c.args.condition c.index_mut.result.now c.push_reserved.new.self []
+    c.requires.condition c.index_mut.ensures.value c.push_reserved.ensures.items

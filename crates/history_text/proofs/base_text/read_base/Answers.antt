@@ -5,7 +5,7 @@ use Rattle.line_text.proofs.Faults.{fault_passed}
 use Rattle.line_text.proofs.UnderWay.{left_over}
 use Rattle.history_text.specs.BaseLines.{base_line}
 use Rattle.history_text.specs.HistoryText.{history_form}
-use Rattle.history_text.proofs.BaseTextRead.{base_fault, condition_here, header_here, line_read, seat_here, whole_read}
+use Rattle.history_text.proofs.BaseTextRead.{base_fault, condition_here, header_here, line_read, place_asleep, place_in_line, seat_here, whole_read}
 use Rattle.history_text.proofs.base_text.read_base.Goals as goal
 
 pub next_base_line-requires-clause-range : goal.next_base_line-requires-clause-range
@@ -29,7 +29,14 @@ take_line-requires-clause-seats c = λ i has is.
 
 pub take_line-requires-clause-sleepers : goal.take_line-requires-clause-sleepers
 take_line-requires-clause-sleepers c = λ i x is.
-    condition_here _ _ _ _ _ _ c.loop-base.invariant c.requires.range i x c.in-Some.line
+    let may = (rw c.in-Some.is at c.in_ok-line.ensures.line).0 in (
+      condition_here _ _ _ _ _ _ c.loop-base.invariant c.requires.range i x c.in-Some.line may is,
+      place_asleep _ _ _ _ _ _ c.loop-base.invariant c.requires.range i x c.in-Some.line may is,
+    )
+
+pub take_line-requires-clause-line : goal.take_line-requires-clause-line
+take_line-requires-clause-line c = λ p is.
+    place_in_line _ _ _ _ _ _ c.loop-base.invariant c.requires.range p c.in-Some.line
     (rw c.in-Some.is at c.in_ok-line.ensures.line).0 is
 
 pub returns-clause-ahead : goal.returns-clause-ahead
@@ -48,5 +55,5 @@ loop-base-preserved c =
     let found = rw c.in-Some.is at c.in_ok-line.ensures.line in
     let same = left_over c.loop-base.rest.now (ended (base_line line)) found.1.0 c.in-Some.left found.1.1
     found.1.2 in
-    rw (same, c.in-Ok-take_line.ensures, c.pass.ensures)
+    rw (same, c.take_line.ensures, c.pass.ensures)
     (line_read _ _ _ _ _ _ c.loop-base.invariant c.requires.based line found.1.0 found.0 found.1.1)

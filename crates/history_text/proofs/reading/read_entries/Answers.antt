@@ -1,7 +1,8 @@
-use Rattle.std.proofs.Common.{◌≡◌, ◌∷◌, ◌+◌, ◌≤◌, [], Bool, true, false, cond, length, reverse, arith, ap, ◌∙◌}
+use Rattle.std.proofs.Common.{◌≡◌, ℕ, ◌∷◌, ◌+◌, ◌≤◌, max, [], Bool, true, false, cond, length, reverse, arith, ap, sym, ◌∙◌}
 use Rattle.std.proofs.lemmas.List.{reverse-append}
 use Rattle.history.specs.Entries.{HistoryView, or_opening}
 use Rattle.history.specs.Entry.{ends_call}
+use Rattle.history.specs.Pages.{whole_pages}
 use Rattle.history.specs.Text.{ended}
 use Rattle.line_text.proofs.Faults.{fault_passed}
 use Rattle.line_text.proofs.UnderWay.{left_over}
@@ -42,7 +43,19 @@ returns c = λ text was.
       header = rw c.loop-history.invariant.base here.base.0;
       cap = c.loop-history.invariant.cap;
       owed = c.loop-history.invariant.owed;
+      places = c.loop-history.invariant.places;
     }
+
+-- the pages of one entry more
+pages_more : (places owed len : ℕ) → owed ≡ 0 → places ≡ whole_pages len →
+    max places (whole_pages (len + owed + 1)) ≡ whole_pages (len + 1)
+pages_more places owed len none was =
+    let same : len + owed + 1 ≡ len + 1 = omega (arith, none) in
+    let more : whole_pages len ≤ whole_pages (len + 1) = omega arith in
+    ap (λ n. max places (whole_pages n)) same ∙ largest (whole_pages (len + 1)) (omega (arith, was, more))
+  where
+    largest : (n : ℕ) → places ≤ n → max places n ≡ n
+    largest n few = omega (arith, few)
 
 one_or_none : (b : Bool) → cond b 1 0 ≤ 1
 one_or_none true = omega arith
@@ -72,6 +85,10 @@ loop-history-preserved c =
           ∙ ap (λ (v : HistoryView). v.base) c.make_room.ensures.same ∙ c.loop-history.invariant.base;
       cap = cap;
       owed = ap (λ (v : HistoryView). v.owed) c.add.ensures;
+      places = ap (λ (v : HistoryView). v.places) c.add.ensures ∙ c.in-Ok.ensures.places
+          ∙ pages_more c.loop-history.history.places c.loop-history.history.owed (length old)
+          c.loop-history.invariant.owed c.loop-history.invariant.places
+          ∙ ap whole_pages (omega (arith, ap length entries));
       lines = rw c.behind-place.ensures c.loop-history.invariant.lines;
       folded = rw c.behind-place.ensures c.loop-history.invariant.folded;
       count = rw (c.behind-place.ensures, entries) (omega (arith, c.loop-history.invariant.count));

@@ -1,6 +1,7 @@
 use Rattle.std.proofs.Common.{◌≡◌, ◌+◌, ◌≤◌, List, [], length, reverse, ℕ}
 use Rattle.history.specs.Entries.{or_opening}
 use Rattle.history.specs.GoodBase.{most_folded}
+use Rattle.history.specs.Pages.{whole_pages}
 use Rattle.history_text.specs.NextLine.{AreEntriesRead}
 use Rattle.history_text.proofs.reading.read_entries.Given as goal
 
@@ -13,6 +14,7 @@ invariant-loop-history l = record {
   base : l.history.base ≡ l.fn.empty.base;
   cap : l.history.cap ≡ l.head.header.cap;
   owed : l.history.owed ≡ 0;
+  places : l.history.places ≡ whole_pages (length l.history.entries);
   lines : l.place.lines ≡ l.fn.place.lines;
   folded : l.place.folded ≡ l.fn.place.folded;
   count : l.place.count ≡ length l.history.entries;

@@ -34,10 +34,11 @@ loop-token-preserved g c =
           ∙ ap (λ (z : ℕ). opening_passes lock (blank lock.header) 0 z) up)),
       search rules,
       search rules,
+      search rules,
     )
 
-pub returns : goal.returns
-returns g c =
+pub returns-clause-passes : goal.returns-clause-passes
+returns-clause-passes g c =
     let i = c.loop-token.invariant.0 in let lock = c.args.lock.now in
     let none : c.loop-token.token-iterator.rest.items ≡ [] = search rules in
     let n : i.0 ≡ 0 = none_left lock (blank lock.header) c.loop-token.seat i.0 (sym i.2 ∙ none) in

@@ -10,3 +10,4 @@ invariant-loop-token g l =
     opening_tickets l.lock (blank l.lock.header) l.seat n))
     × (l.passes.items ≡ opening_passes l.lock (blank l.lock.header) 0 l.seat)
     × (vec_len l.passes ≡ l.seat) × (l.seats ≤ vec_capacity l.passes)
+    × (vec_capacity l.passes ≡ vec_capacity l.fn.passes)

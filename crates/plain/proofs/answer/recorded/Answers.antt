@@ -1,15 +1,9 @@
-use Rattle.std.proofs.Common.{◌∷◌, inl, ap, arith}
+use Rattle.std.proofs.Common.{◌∷◌, ap, arith}
 use Rattle.history.specs.declared.header.Header.{Header}
 use Rattle.history.specs.Entries.{start_on}
 use Rattle.audit.proofs.Beginnings.{header_from, history_from}
-use Rattle.audit.proofs.Limits.{one_signalled}
 use Rattle.plain.proofs.Recording.{full_so, named_so}
 use Rattle.plain.proofs.answer.recorded.Goals as goal
-
-pub note-requires-clause-signal : goal.note-requires-clause-signal
-note-requires-clause-signal c =
-    one_signalled (start_on c.args.header.now c.args.history.now) c.args.history.now.entries c.args.entry
-    c.requires.next.legal.0
 
 pub owed_behind-behind-requires-clause-next : goal.owed_behind-behind-requires-clause-next
 owed_behind-behind-requires-clause-next c =
@@ -38,15 +32,15 @@ returns-then-from-len c =
     let long = c.len.ensures.value in
     let full = c.if-from-len.true in
     let cap = ap (λ (x : Header). x.cap) header in
-    inl (full_so (start_on k v) v.entries c.args.entry c.owed_behind-behind.result owed
-    (omega (arith, long, full, cap)))
+    full_so (start_on k v) v.entries c.args.entry c.owed_behind-behind.result owed
+    (omega (arith, long, full, cap))
 
 pub ready-after-requires : goal.ready-after-requires
 ready-after-requires c =
     let s = start_on c.args.header.now c.args.history.now in
     let h = c.args.history.now.entries in
     let next = c.requires.next in
-    (s, c.args.entry ∷ h, c.in_ok-note.ensures.stand s h c.requires.stand next.seat next.legal.0)
+    (s, c.args.entry ∷ h, c.note.ensures.follows s h c.requires.stand next.seat next.legal.0)
 
 pub returns : goal.returns
 returns c =
@@ -56,7 +50,7 @@ returns c =
     let h = v.entries in
     let e = c.args.entry in
     let next = c.requires.next in
-    let stand = c.in_ok-note.ensures.stand s h c.requires.stand next.seat next.legal.0 in
+    let stand = c.note.ensures.follows s h c.requires.stand next.seat next.legal.0 in
     let header = header_from k v.base c.requires.based in
     let past = history_from k v.base (e ∷ h) c.requires.range c.requires.based next.legal
     (next.seat, next.seated) in
@@ -64,7 +58,7 @@ returns c =
     let long = c.len.ensures.value in
     let room = c.if-from-len.false in
     let cap = ap (λ (x : Header). x.cap) header in
-    inl (named_so s h e c.owed_behind-behind.result c.ready-before.result c.ready-after.result
+    named_so s h e c.owed_behind-behind.result c.ready-before.result c.ready-after.result
     c.named.result owed
     (omega (arith, long, room, cap)) (c.ready-before.ensures.ready s h c.requires.stand)
-    (c.ready-after.ensures.ready s (e ∷ h) stand) c.named.ensures)
+    (c.ready-after.ensures.ready s (e ∷ h) stand) c.named.ensures

@@ -4,12 +4,11 @@ use Rattle.history.specs.Entries.{start_on}
 use Rattle.audit.specs.Ledger.{LedgerStand}
 use Rattle.audit.specs.Verdict.{front}
 use Rattle.audit.proofs.Fronts.{front_all, front_next, has_seat_next, next_seat}
-use Rattle.audit.proofs.Limits.{one_signalled}
 use Rattle.plain.proofs.NextEntries.{next_legal}
 use Rattle.plain.proofs.ledgers.ledger_of.Goals as goal
 
-pub note-requires-clause-seat : goal.note-requires-clause-seat
-note-requires-clause-seat c =
+pub note-requires : goal.note-requires
+note-requires c =
     let is = c.len-end.ensures.value in
     let few = c.requires.few in
     has_seat_next (start_on c.args.header.now c.args.history.now) c.args.history.now.entries
@@ -18,16 +17,6 @@ note-requires-clause-seat c =
     c.loop-number.ledger c.loop-number.invariant c.requires.seated c.loop-number-test.true
     c.len-end.ensures.value (omega (arith, is, few))
     (sym c.get.ensures ∙ c.in-Some.is)
-
-pub note-requires-clause-signal : goal.note-requires-clause-signal
-note-requires-clause-signal c =
-    let s = start_on c.args.header.now c.args.history.now in
-    let h = c.args.history.now.entries in
-    let n = c.loop-number.number in
-    let is = c.len-end.ensures.value in
-    let less : n < length h = omega (arith, c.loop-number-test.true, is) in
-    one_signalled s (front n h) c.in-Some.entry
-    (next_legal s h n c.in-Some.entry c.requires.legal less (sym c.get.ensures ∙ c.in-Some.is)).0
 
 pub loop-number-preserved : goal.loop-number-preserved
 loop-number-preserved c =
@@ -40,7 +29,7 @@ loop-number-preserved c =
     let q = sym c.get.ensures ∙ c.in-Some.is in
     let L : List Entry → Type 0 = λ x. LedgerStand s x c.note.new.self in
     subst L (sym (front_next h n e less q))
-    (c.in_ok-note.ensures.stand s (front n h) c.loop-number.invariant
+    (c.note.ensures.follows s (front n h) c.loop-number.invariant
     (next_seat s h n e c.requires.seated less q)
     (next_legal s h n e c.requires.legal less q).0)
 

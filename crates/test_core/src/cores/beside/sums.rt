@@ -1,7 +1,7 @@
 //! What a core tells, as the totals of its history.
 
-use crate::cores::any_core::{Sums, Told};
 use audit::sums::Totals;
+use frame::Balance;
 use history::header::Object;
 
 const NOTHING: Totals = Totals {
@@ -22,19 +22,19 @@ fn whole(number: u128) -> i128 {
 }
 
 /// The same as a core tells it; the permits that nobody held are those held and free beyond the created.
-pub fn totals_told(object: Object, told: &Told, sums: &Sums) -> Totals {
+pub fn totals_told(object: Object, told: &Balance) -> Totals {
     let line = i128::from(told.line);
     match object {
         Object::Lock(_) | Object::ReadWrite(_) => Totals {
-            x: whole(sums.exclusive),
-            s: whole(sums.shared),
+            x: whole(told.exclusive),
+            s: whole(told.shared),
             line,
-            sleepers: i128::from(sums.asleep),
+            sleepers: i128::from(told.sleepers),
             ..NOTHING
         },
         Object::Semaphore(_, permits) => {
             let (held, free, created) = (
-                whole(sums.shared),
+                whole(told.shared),
                 i128::from(told.available),
                 i128::from(permits),
             );

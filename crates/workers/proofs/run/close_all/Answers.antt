@@ -38,8 +38,8 @@ loop-object-preserved g c =
     c.loop-object.invariant.0 in (
       cut.1,
       parts_on c.args.objects.items c.args.columns.items left next c.in-Some.object columns nexts
-          c.in-Some-next.passes c.loop-object.parts.items c.push.new.self.items c.in_ok-close.field-0 first
-          second c.in_ok-push.ensures.items c.in_ok-close.ensures.part c.loop-object.invariant.1,
+          c.in-Some-next.passes c.loop-object.parts.items c.push.new.self.items c.close.result first
+          second c.in_ok-push.ensures.items c.close.ensures c.loop-object.invariant.1,
     )
 
 pub returns-clause-parts : goal.returns-clause-parts

@@ -2,7 +2,7 @@ use Rattle.std.proofs.Common.{◌≡◌, length, Some, sym, ap, ◌∙◌, refl,
 use Rattle.std.specs.Prelude.{is_some}
 use Rattle.acquire_queue.specs.Line.{number_of}
 use Rattle.acquire_queue.proofs.Lines.{left_absent}
-use Rattle.acquire_queue.proofs.Nodes.{no_place, stands_by, under_by, left_node, left_between, kept_gone, kept_gone_swept, line_gone_swept, standing_left, standing_swept}
+use Rattle.acquire_queue.proofs.Nodes.{no_place, stands_by, under_by, left_node, left_between, left_head_seat, few_behind_head, some_wait, kept_gone, kept_gone_swept, line_gone_swept, standing_left, standing_swept}
 use Rattle.acquire_queue.proofs.queue.Queue.leave.Goals as goal
 use Rattle.acquire_queue.proofs.queue.Queue.leave.Goals.{In-Some, In_default}
 
@@ -98,3 +98,28 @@ returns-else-len-self-clause-standing c =
     ∙ left_between c.args.seat c.in-Some.number nodes i.apart i.headed stood first is other in
     standing_left c.self.inside.seats nodes _ same
     (omega (arith, kept.counted, c.len.ensures, c.if-len-self.false)))
+
+-- the first leaves: no more nodes stand than before, so none is looked for
+pub returns-then-len-self-clause-head : goal.returns-then-len-self-clause-head
+returns-then-len-self-clause-head c =
+    let i = c.self.invariant in
+    let stood = found (goal.at.returns-then-len-self-clause-head c).In-Some in
+    let stands = stands_by _ _ _ _ i c.args.seat c.in-Some.number stood in
+    rw (← c.self.view_is) (λ first is own.
+    let some = some_wait _ _ _ _ i c.args.seat _ stands refl in
+    let same = ap length (c.leave_node.ensures.nodes
+    ∙ left_head_seat c.args.seat c.in-Some.number c.self.inside.nodes.nodes i.headed stood first is own) in
+    absurd (omega (
+      arith,
+      same,
+      few_behind_head c.self.inside.seats c.self.inside.waiting c.self.inside.nodes.nodes some i.bounded,
+      c.len.ensures,
+      c.if-len-self.true,
+    )))
+
+pub returns-else-len-self-clause-head : goal.returns-else-len-self-clause-head
+returns-else-len-self-clause-head c =
+    rw (← c.self.view_is) (λ first is own.
+    c.leave_node.ensures.nodes
+    ∙ left_head_seat c.args.seat c.in-Some.number c.self.inside.nodes.nodes c.self.invariant.headed
+    (found (goal.at.returns-else-len-self-clause-head c).In-Some) first is own)

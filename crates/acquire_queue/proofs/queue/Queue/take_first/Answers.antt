@@ -1,6 +1,6 @@
 use Rattle.std.proofs.Common.{◌≡◌, drop, sym, ap, ◌∙◌, refl, arith, subst, IsSome}
 use Rattle.acquire_queue.specs.Line.{trimmed}
-use Rattle.acquire_queue.proofs.Nodes.{first_under, first_without, some_removed, first_seat, left_at_head, kept_taken, line_taken}
+use Rattle.acquire_queue.proofs.Nodes.{first_under, first_without, some_removed, first_seat, left_at_head, kept_taken, line_taken, nobody}
 use Rattle.acquire_queue.proofs.queue.Queue.take_first.Goals as goal
 use Rattle.acquire_queue.proofs.queue.Queue.take_first.Goals.{After-free_head}
 
@@ -26,6 +26,13 @@ invariant_of-self c =
     _ refl
     (taken (goal.at.invariant_of-self c).After-free_head) (c.free_head.ensures.places
     ∙ c.remove.ensures.places)
+
+pub returns-in_err-first-clause-nodes : goal.returns-in_err-first-clause-nodes
+returns-in_err-first-clause-nodes c =
+    rw (← c.self.view_is, nobody c.self.inside.nodes.nodes c.in_err-first.ensures.first) refl
+
+pub returns-clause-nodes : goal.returns-clause-nodes
+returns-clause-nodes c = rw (← c.self.view_is) (taken (goal.at.returns-clause-nodes c).After-free_head)
 
 pub returns-clause-line : goal.returns-clause-line
 returns-clause-line c =

@@ -13,8 +13,8 @@ admits-requires c =
 pub follow-requires-clause-next : goal.follow-requires-clause-next
 follow-requires-clause-next c = λ s h st. (c.admits.ensures s h st).0 c.if-admits.true
 
-pub returns-clause-judged : goal.returns-clause-judged
-returns-clause-judged c = λ s h was seat.
+pub returns : goal.returns
+returns c = λ s h was seat.
     let e = c.args.entry in
     elim c.match-self.branch [
       | in-Some w ↦

@@ -1,8 +1,11 @@
-use Rattle.std.proofs.Common.{rules}
+use Rattle.std.proofs.Common.{ap, sym}
+use Rattle.history.specs.declared.header.Header.{Header}
 use Rattle.audit.proofs.ledger.Ledger.add_up.Goals as goal
 
-pub returns-in-Lock : goal.returns-in-Lock
-returns-in-Lock c = search rules
+pub balance_of-requires : goal.balance_of-requires
+balance_of-requires c = let r = c.requires in (r.start, r.front, r.stand, r.room)
 
-pub returns-in-Semaphore : goal.returns-in-Semaphore
-returns-in-Semaphore c = search rules
+pub returns : goal.returns
+returns c s h st =
+    c.of.ensures s h st.past (ap (λ (k : Header). k.object) (sym st.header))
+    (c.balance_of.ensures.balance s h st)

@@ -24,6 +24,6 @@ returns c s h st seat =
           let owned : is_lock s.header.object ≡ true = ap is_lock object ∙ lock in
           (only_owner s h st.past owned, only_owner s (e ∷ h) past owned));
       waits = c.note.ensures s h st.waits st.past;
-      numbers = c.note-3.ensures s h st.numbers object (sym (c.held-had.ensures s h st));
+      numbers = c.note-3.ensures s h st.numbers;
       past = past;
     }

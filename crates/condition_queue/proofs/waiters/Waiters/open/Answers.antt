@@ -12,5 +12,5 @@ invariant_of-result c =
     kept_opened c.args.seats c.in_ok-lists.lists c.in_ok-counts.counts.items c.in_ok-table.table.items
     c.in_ok-lists.ensures.no_items c.in_ok-lists.ensures.no_keys none zeros
     (omega (arith, c.in_ok-counts.ensures.len, counts, c.in_ok-lists.ensures.count))
-    (omega (arith, c.in_ok-table.ensures.len, table)) c.in_ok-lists.ensures.room
+    (omega (arith, c.in_ok-table.ensures.len, table)) (omega (arith, c.in_ok-lists.ensures.room))
     (omega (arith, c.ranges.seats.fits))

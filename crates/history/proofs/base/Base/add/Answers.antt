@@ -1,4 +1,4 @@
-use Rattle.std.proofs.Common.{◌<◌, length, subst, sym}
+use Rattle.std.proofs.Common.{◌<◌, length, subst, sym, ◌∙◌}
 use Rattle.history.specs.Base.{Base, sleepers_of}
 use Rattle.history.proofs.base.Base.add.Goals as goal
 
@@ -11,3 +11,9 @@ follow_sleepers-requires c =
           (c.requires.sleepers awaits),
       c.self.invariant.1,
     )
+
+pub invariant_of-self : goal.invariant_of-self
+invariant_of-self c = (
+  c.join_line.ensures.capacity ∙ c.leave_line.ensures.capacity ∙ c.self.invariant.0,
+  c.follow_sleepers.ensures.places c.self.inside.header.seats c.self.invariant.1,
+)

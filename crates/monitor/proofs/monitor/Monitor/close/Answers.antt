@@ -1,7 +1,9 @@
 use Rattle.std.proofs.Common.{rules, ◌≡◌, ◌<◌, ◌≤◌, ◌^◌, ℕ, List, [], ◌∷◌, ◌++◌, length, Some, append_assoc, refl, sym, ap, ◌∙◌, subst, arith}
 use Rattle.std.specs.List.{All}
 use Rattle.std.proofs.lemmas.List.Elements.{All-nil, All-cons}
+use Rattle.deciding.specs.Balance.{balance}
 use Rattle.frame.specs.Core.{CoreView}
+use Rattle.history.specs.Base.{Base, based}
 use Rattle.history.specs.declared.header.Header.{Header}
 use Rattle.history.specs.Entries.{IsBasedWell, base_on, or_opening, start_on}
 use Rattle.history.specs.Legal.{calls}
@@ -188,3 +190,14 @@ returns-clause-good g c =
 
 pub returns-clause-seated : goal.returns-clause-seated
 returns-clause-seated g c = (ends g c).lawful.seated
+
+-- the numbers of the core are those of the history that it leaves
+pub returns-clause-balance : goal.returns-clause-balance
+returns-clause-balance g c =
+    let k = c.args.self.header in
+    let kept = c.into_history-history.result in
+    let core = c.into_core-core.result in
+    c.balance-balance.ensures.balance
+    ∙ (ap (λ (b : Base). balance (based b) core.entries)
+    (sym (ap (or_opening k) c.into_history-history.ensures.base))
+    ∙ ap (balance (start_on k kept)) (sym c.into_history-history.ensures.entries))

@@ -1,0 +1,29 @@
+use Rattle.std.proofs.Common.{rules, ◌≡◌, ◌∙◌, ap, refl, sym}
+use Rattle.history.specs.declared.header.Header.{Header}
+use Rattle.history.specs.Entries.{start_on}
+use Rattle.deciding.specs.Situation.{IsHistory}
+use Rattle.audit.specs.declared.verdict.Judgement.TheVariants.{Legal}
+use Rattle.word_lock.specs.Ticket.{LockId}
+use Rattle.workers.proofs.Closed.{closed_history}
+use Rattle.workers.proofs.opened.Opened.close.Goals as goal
+
+pub returns : goal.returns
+returns g c =
+    let lock = c.self.inside.monitor in
+    let e = c.in-Ok.ensures in
+    let kept = c.in-Ok.closed.history in
+    let header : c.self.inside.header ≡ lock.header = sym c.self.invariant.0 in
+    let past : IsHistory (start_on lock.header kept) kept.entries =
+    closed_history lock kept c.self.inside.header header c.self.invariant.1 e.base e.lawful in
+    rw (← c.self.view_is) (record {
+      header = header;
+      range = c.self.invariant.1;
+      cap = e.cap;
+      lawful = e.lawful;
+      within = rw c.into_list.ensures at e.within;
+      based = e.base;
+      judged = ap (λ t. Legal t) (c.of-totals.ensures (start_on lock.header kept) kept.entries past
+          (ap (λ (k : Header). k.object) (e.base.1 ∙ sym header)) e.balance);
+      share = rw c.into_list.ensures at e.share;
+      calls = e.calls;
+    })
