@@ -32,7 +32,7 @@ fn script_of<R: Source>(alloc: Global, reader: &mut R) -> Result<Script, Fault>
     Ok(read_script(alloc, &text)?)
 }
 
-/// The exit status: 0, or 1 if the audit of some history found it not legal.
+/// The exit status: 0, or 1 if some history isn't legal.
 fn status_of(parts: &[ObjectReport]) -> u8
     ensures legal { (result ≡ 0) ↔ All EndsWell parts.now }
     ensures others { result ≤ 1 }
@@ -44,8 +44,8 @@ fn status_of(parts: &[ObjectReport]) -> u8
     }
 }
 
-/// Reads a script, runs its threads, and writes the run text. It tells the exit status, which is 0, as the
-/// audit finds each history legal.
+/// Reads a script, runs its threads, and writes the run text. It tells the exit status, which is 0, as each
+/// history is legal.
 ///
 /// The script is read to its end before a thread is started, and nothing is written before all threads have
 /// ended and all memory was found. It may never return, where the threads wait for each other.

@@ -5,8 +5,8 @@
 //! All threads share one `ThreadParking`, so a worker interrupts another by its number. Nobody makes its
 //! first call before all threads were started.
 //!
-//! When all have ended, each object is closed and its history is audited. The [`Report`] has what closing
-//! says.
+//! When all have ended, each object is closed. The [`Report`] has what closing says. That a history is legal
+//! is proved, so none is audited.
 //!
 //! Proved of a report: there are passes, a row for each worker, of which one was made by the worker's calls
 //! for each object, in the order of the script. Every call left its pass as the monitor's call promises. Each

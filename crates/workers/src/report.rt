@@ -29,7 +29,7 @@ pub struct Report {
 }
 
 impl ObjectReport {
-    /// Whether the audit found the history legal.
+    /// Whether the history is legal.
     pub fn is_legal(&self) -> bool
         ensures { result ≡ is_legal self.now.judgement }
     {
