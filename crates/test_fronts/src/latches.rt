@@ -18,7 +18,7 @@ use std::time::Clock;
 
 /// A call of a latch. Times are milliseconds.
 #[derive(Clone, Copy, Debug)]
-enum LatchCall {
+pub enum LatchCall {
     AwaitZero,
     AwaitZeroFor(u32),
     CountDown,
@@ -51,7 +51,7 @@ const HEADER: Header = Header {
 };
 
 /// What is left of a latch whose calls one thread makes.
-fn play<R: Abort + AllocGlobal + Wait + Clock>(
+pub fn play<R: Abort + AllocGlobal + Wait + Clock>(
     rt: &R,
     answers: Vec<Woke>,
     rows: &[Row<LatchCall>],
@@ -101,7 +101,7 @@ fn a_latch_is_open_from_zero_on(rt: HostRuntime) -> Result<(), Fail> {
 }
 
 /// The count stands behind a trim.
-const TRIMMED: [Row<LatchCall>; 7] = [
+pub const TRIMMED: [Row<LatchCall>; 7] = [
     (0, COUNT_DOWN, Reply::Done),
     (1, Act::Trim(1), Reply::Done),
     (1, Act::Call(LatchCall::AwaitZeroFor(0)), Reply::No),

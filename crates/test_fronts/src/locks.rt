@@ -75,7 +75,7 @@ const HEADER: Header = Header {
 };
 
 /// What is left of a lock whose calls one thread makes.
-fn play<R: Abort + AllocGlobal + Wait + Clock>(
+pub fn play<R: Abort + AllocGlobal + Wait + Clock>(
     rt: &R,
     answers: Vec<Woke>,
     rows: &[Row<LockCall>],
@@ -141,7 +141,7 @@ fn each_way_to_take_a_lock_is_reentrant(rt: HostRuntime) -> Result<(), Fail> {
 }
 
 /// A lock that another seat folds, with two holds and with none.
-const TRIMMED: [Row<LockCall>; 11] = [
+pub const TRIMMED: [Row<LockCall>; 11] = [
     (0, LOCK, Reply::Done),
     (0, LOCK, Reply::Done),
     (1, Act::Trim(2), Reply::Done),

@@ -121,7 +121,7 @@ const HEADER: Header = Header {
 };
 
 /// What is left of a lock whose calls one thread makes.
-fn play<R: Abort + AllocGlobal + Wait + Clock>(
+pub fn play<R: Abort + AllocGlobal + Wait + Clock>(
     rt: &R,
     answers: Vec<Woke>,
     rows: &[Row<ReadWriteCall>],
@@ -225,7 +225,7 @@ fn a_writer_goes_on_as_a_reader(rt: HostRuntime) -> Result<(), Fail> {
 }
 
 /// Who reads and who writes stands behind a trim.
-const TRIMMED: [Row<ReadWriteCall>; 10] = [
+pub const TRIMMED: [Row<ReadWriteCall>; 10] = [
     (0, READ, Reply::Done),
     (1, READ, Reply::Done),
     (1, Act::Trim(2), Reply::Done),

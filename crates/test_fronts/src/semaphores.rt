@@ -78,6 +78,16 @@ const DRAIN: Act<SemaphoreCall> = Act::Call(SemaphoreCall::DrainPermits);
 
 const INTERRUPTED: Reply = Reply::Not(Fault::Interrupted);
 
+/// What is left of a semaphore of three permits whose calls one thread makes.
+pub fn play<R: Abort + AllocGlobal + Wait + Clock>(
+    rt: &R,
+    answers: Vec<Woke>,
+    rows: &[Row<SemaphoreCall>],
+) -> Result<Findings, Fail> {
+    let opened = open_semaphore(rt.alloc(), Policy::NonFair, 3, THREE.seats, THREE.cap)?;
+    one_thread::play(rt, &THREE, opened, answers, rows)
+}
+
 const TAKEN: [Row<SemaphoreCall>; 13] = [
     (0, TAKE_ONE, Reply::Done),
     (
@@ -101,14 +111,13 @@ const TAKEN: [Row<SemaphoreCall>; 13] = [
 #[test]
 fn a_semaphore_holds_back_who_asks_for_more_than_is_free(rt: HostRuntime) -> Result<(), Fail> {
     let answers = vec![in rt.alloc(); Woke::Permit, Woke::Deadline, Woke::Interrupted]?;
-    let opened = open_semaphore(rt.alloc(), Policy::NonFair, 3, THREE.seats, THREE.cap)?;
-    let findings = one_thread::play(&rt, &THREE, opened, answers, &TAKEN)?;
+    let findings = play(&rt, answers, &TAKEN)?;
     assert_eq!(rt; findings.calls, 13);
     Ok(())
 }
 
 /// Permits beyond those that were created stand behind a trim, and so does what each seat holds.
-const TRIMMED: [Row<SemaphoreCall>; 8] = [
+pub const TRIMMED: [Row<SemaphoreCall>; 8] = [
     (0, TAKE_ONE, Reply::Done),
     (1, Act::Call(SemaphoreCall::Release(2)), Reply::Done),
     (0, Act::Trim(2), Reply::Done),
@@ -121,8 +130,7 @@ const TRIMMED: [Row<SemaphoreCall>; 8] = [
 
 #[test]
 fn a_semaphore_goes_on_behind_a_trim(rt: HostRuntime) -> Result<(), Fail> {
-    let opened = open_semaphore(rt.alloc(), Policy::NonFair, 3, THREE.seats, THREE.cap)?;
-    let findings = one_thread::play(&rt, &THREE, opened, Vec::new(rt.alloc()), &TRIMMED)?;
+    let findings = play(&rt, Vec::new(rt.alloc()), &TRIMMED)?;
     assert_eq!(rt; findings.calls, 6);
     Ok(())
 }

@@ -4,11 +4,13 @@ use crate::pages::{history_of_pairs, steps_of_pairs};
 use audit::verdict::Verdict;
 use driver::audit_stream::audit_stream;
 use driver::form::Form;
+use driver::line_writer::LineWriter;
 use driver::replay_stream::replay_stream;
 use std::alloc::{AllocError, Global};
 use std::process::Abort;
 use std::test::Fail;
 use streams::device::Device;
+use streams::memory_sink::MemorySink;
 use test_support::memory::Memory;
 
 /// A text of steps.
@@ -139,5 +141,19 @@ fn an_audit_holds_no_entries(rt: HostRuntime) -> Result<(), Fail> {
     let _memory = all_but(rt.alloc(), 8)?;
     let is_legal = is_judged(rt.alloc(), text.as_bytes(), Verdict::Legal, &mut written);
     assert!(rt; is_legal);
+    Ok(())
+}
+
+/// A writer of lines gathers 65,536 bytes, and a sink takes as many as it is told: more than four pieces, and
+/// less than five and a half.
+#[test]
+fn a_writer_and_a_sink_hold_what_they_gather_and_little_else(rt: HostRuntime) -> Result<(), Fail> {
+    let _memory = all_but(rt.alloc(), 6)?;
+    let lines = LineWriter::open(rt.alloc(), b"first\n");
+    assert!(rt; lines.is_ok());
+    drop(lines);
+    let sink = MemorySink::with_places(rt.alloc(), 65_536, 1, None);
+    assert!(rt; sink.is_ok());
+    drop(sink);
     Ok(())
 }

@@ -9,7 +9,6 @@ use read_write::hooks::RwHooks;
 use std::process::Abort;
 use std::test::Fail;
 use test_queues::refusals::refusals;
-use test_support::memory::Memory;
 
 fn header_of(object: Object, seats: u16, conditions: u8) -> Header {
     Header {
@@ -37,28 +36,30 @@ fn open_widest<R: Abort + AllocGlobal>(rt: &R, object: Object) -> Result<(), Fau
 }
 
 /// A core opens four tables for its seats, a list of its conditions and a table for each; a read-write lock
-/// one more, for its readers. Each is greater than a piece, so memory ends at one after another.
+/// one more, for its readers. Each is greater than a piece, so memory ends at one after another. All take
+/// hardly more pieces than they fill: ten times the places for nodes in line would take more.
 #[test]
 fn a_core_is_opened_whole_or_not_at_all(rt: HostRuntime) -> Result<(), Fail> {
-    for (object, tables) in [
-        (Object::Lock(Policy::Fair), 21),
-        (Object::ReadWrite(Policy::NonFair), 22),
-        (Object::Semaphore(Policy::Fair, 3), 4),
-        (Object::Latch(2), 4),
+    for (object, tables, pieces) in [
+        (Object::Lock(Policy::Fair), 21, 424),
+        (Object::ReadWrite(Policy::NonFair), 22, 441),
+        (Object::Semaphore(Policy::Fair, 3), 4, 300),
+        (Object::Latch(2), 4, 300),
     ] {
         let refused = refusals(&rt, PIECE, || open_widest(&rt, object))?;
-        assert!(rt; tables <= refused, "{object:?} {refused}");
+        assert!(rt;
+            tables <= refused && refused <= pieces,
+            "{object:?} {refused}"
+        );
     }
     Ok(())
 }
 
+/// The table of 256 readers fills two pieces. A heap may keep back the first few that are given to it.
 #[test]
 fn a_table_of_readers_is_refused(rt: HostRuntime) -> Result<(), Fail> {
-    let taken = Memory::take_all(rt.alloc(), PIECE)?;
-    let refused = RwHooks::open(rt.alloc(), Policy::Fair, 256);
-    assert!(rt; matches!(refused, Err(Fault::OutOfMemory)));
-    drop(taken);
-    let _hooks = RwHooks::open(rt.alloc(), Policy::Fair, 256)?;
+    let refused = refusals(&rt, PIECE, || RwHooks::open(rt.alloc(), Policy::Fair, 256))?;
+    assert!(rt; 2 <= refused && refused <= 12, "{refused}");
     Ok(())
 }
 

@@ -177,8 +177,35 @@ fn of_one(alloc: Global) -> Result<History, Fault> {
 fn each_page_of_many_is_refused(rt: HostRuntime) -> Result<(), Fail> {
     let mut history = of_one(rt.alloc())?;
     let refused = refusals_from_none(&rt, &mut history, 5000)?;
-    assert!(rt; 12 <= refused && refused < 4096, "refused {refused} times");
+    assert!(rt; 12 <= refused && refused <= 16, "refused {refused} times");
     tells(&rt, &history, (1, 0, 5120, 1));
     has(&rt, &history, 0, ENTRY);
+    Ok(())
+}
+
+/// How often room for one entry is refused to a history of this cap.
+fn refusals_under_cap(rt: &HostRuntime, cap: u32) -> Result<u32, Fail> {
+    let mut memory = Memory::take_all(rt.alloc(), PIECE)?;
+    let mut history = History::open(rt.alloc(), cap);
+    for refused in 0..4096 {
+        if history.make_room(1) == Ok(()) {
+            return Ok(refused);
+        }
+        let _was_left = memory.give_piece();
+    }
+    Err(Fail::from("never found room"))
+}
+
+/// Room for one entry takes a page, and a list of one page, whatever the cap. A list for all pages of the cap
+/// would take two hundred times as much at 100,000,000, and more than there is at the greatest.
+#[test]
+fn a_list_of_pages_is_not_made_for_the_cap(rt: HostRuntime) -> Result<(), Fail> {
+    for cap in [16, 100_000_000, u32::MAX] {
+        let refused = refusals_under_cap(&rt, cap)?;
+        assert!(rt;
+            3 <= refused && refused <= 6,
+            "refused {refused} times at {cap}"
+        );
+    }
     Ok(())
 }
