@@ -1,5 +1,5 @@
 -- What joining and leaving make of a line.
-use Rattle.std.proofs.Common.{◌≡◌, ◌⊎◌, ⊎_elim, inl, inr, ℕ, ◌+◌, ◌<◌, ◌≤◌, Bool, true, false, not, ◌||◌, cond, eqb, List, [], ◌∷◌, ◌++◌, length, map, Option, Some, None, refl, ap, ◌∙◌, sym, subst, arith}
+use Rattle.std.proofs.Common.{◌≡◌, ◌⊎◌, ⊎_elim, inl, inr, ℕ, ◌+◌, ◌<◌, ◌≤◌, Bool, true, false, not, ◌||◌, cond, eqb, List, [], ◌∷◌, ◌++◌, length, map, Option, Some, None, refl, ap, ◌∙◌, sym, arith}
 use Rattle.std.specs.Prelude.{is_some}
 use Rattle.std.specs.List.{filter, AllByRecursion, IsDistinct, list_any, position, position_from}
 use Rattle.std.proofs.lemmas.Bool.{cases_eq, eq-eqb, ne_eqb, cond-false}
@@ -87,14 +87,6 @@ left_absent s [] p = refl
 left_absent s (a ∷ line) p =
     let q = absent_behind s a line p in
     rw (eqb_swap s a.seat ∙ q.0) (ap (λ l. a ∷ l) (left_absent s line q.1))
-
--- the first leaves the rest
-pub left_first : (line rest : List Arrival) (a : Arrival) → StandOnce line → line ≡ a ∷ rest →
-    filter (λ b. not (eqb a.seat b.seat)) line ≡ rest
-left_first line rest a once e =
-    let first : StandOnce (a ∷ rest) = subst StandOnce e once in
-    ap (filter (λ b. not (eqb a.seat b.seat))) e
-    ∙ rw (eq-eqb a.seat a.seat refl) (left_absent a.seat rest first.0)
 
 -- no more stand in line than there are seats
 pub distinct_seats : (line : List Arrival) → StandOnce line → IsDistinct eqb (map (λ a. a.seat) line)

@@ -556,8 +556,8 @@ left_between s number (x ∷ rest) apart head e first is other =
 
 -- the node of the first in line leaves with the cancelled ones behind it
 pub left_head_seat : (s : ℕ) (number : NodeNo) (nodes : List Standing) → LiveHead nodes →
-    number_of s nodes ≡ Some number → (first : Arrival) → first_of (live nodes) ≡ Some first → first.seat ≡ s →
-    left_by number nodes ≡ trimmed (drop 1 nodes)
+    number_of s nodes ≡ Some number → (first : Arrival) → first_of (live nodes) ≡ Some first →
+    first.seat ≡ s → left_by number nodes ≡ trimmed (drop 1 nodes)
 left_head_seat s number [] head e first is own = absurd (none-some number e)
 left_head_seat s number (x ∷ rest) head e first is own =
     let same : first ≡ x.node.arrival = same_Some _ _ (sym is ∙ ap first_of (live_by x rest head)) in

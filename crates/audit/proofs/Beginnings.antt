@@ -11,10 +11,6 @@ use Rattle.history.specs.Start.{opening}
 use Rattle.history.proofs.OpeningBase.{based_opening, opening_good}
 use Rattle.deciding.specs.Situation.{IsHistory}
 
-pub begins_on : (b : Base) → IsInRange b.header → IsGood b → IsHistory (based b) []
-begins_on b range good =
-    record { base = b; good = good; start = refl; range = range; legal = tt; seated = tt }
-
 pub begins_at_opening : (k : Header) → IsInRange k → IsHistory (opening k) []
 begins_at_opening k range =
     record {

@@ -1,17 +1,10 @@
 -- What the tables of holds stand for on a good base.
-use Rattle.std.proofs.Common.{◌≡◌, ⊎_elim, ℕ, ◌≤◌, List, [], length, map, get_or, refl, ap, ◌∙◌, sym, arith}
-use Rattle.std.proofs.lemmas.Bool.{cases_lt}
-use Rattle.std.proofs.lemmas.List.{get_or_past, length-map}
-use Rattle.std.proofs.Math.ListN.{get_or-map}
-use Rattle.history.specs.declared.base.SeatBase.{SeatBase}
-use Rattle.history.specs.declared.entry.Mode.{Mode}
-use Rattle.history.specs.declared.entry.Mode.TheVariants.{X, S}
-use Rattle.history.specs.Base.{Base, based, holds_of, nothing, seat_of}
+use Rattle.std.proofs.Common.{◌≡◌, ℕ, [], length, get_or, refl, arith}
+use Rattle.history.specs.Base.{Base, based, seat_of}
 use Rattle.history.specs.Counts.{owner, readers, seat_with, total}
-use Rattle.history.specs.GoodBase.{IsGood, most_permits}
+use Rattle.history.specs.GoodBase.{IsGood}
 use Rattle.history.specs.Header.{IsInRange}
-use Rattle.history.proofs.SmallBases.{few_exclusive, few_held, few_shared}
-use Rattle.history.proofs.Sums.{total_same}
+use Rattle.history.proofs.SmallBases.{few_exclusive, few_held}
 use Rattle.audit.specs.declared.holds.Holds.{Holds}
 use Rattle.audit.specs.Holds.{HoldsStand}
 

@@ -1,5 +1,5 @@
 -- What a history adds up to.
-use Rattle.std.specs.Prelude.{List, length, pos}
+use Rattle.std.specs.Prelude.{List, length, ℤ, pos, ◌+ℤ◌, ◌-ℤ◌}
 use Rattle.history.specs.declared.entry.Entry.{Entry}
 use Rattle.history.specs.declared.entry.Mode.TheVariants.{X, S}
 use Rattle.history.specs.declared.header.Object.{Object}
@@ -8,6 +8,7 @@ use Rattle.history.specs.Counts.{count, free, held, total, unheld}
 use Rattle.history.specs.Line.{line}
 use Rattle.history.specs.Sleepers.{sleepers}
 use Rattle.history.specs.Start.{Start}
+use Rattle.deciding.specs.declared.balance.Balance.{Balance}
 use Rattle.audit.specs.declared.sums.Totals.{Totals}
 
 abbrev pub no_totals : Totals
@@ -49,3 +50,32 @@ totals_by (Latch opening) s h = record no_totals { line = pos (length (line s h)
 
 abbrev pub totals_of : Start → List Entry → Totals
 totals_of s h = totals_by s.header.object s h
+
+-- the numbers of a balance, as totals of an object's kind
+abbrev pub lock_numbers : Balance → Totals
+lock_numbers b =
+    record no_totals {
+      x = pos b.exclusive;
+      s = pos b.shared;
+      line = pos b.line;
+      sleepers = pos b.sleepers;
+    }
+
+abbrev pub semaphore_numbers : ℤ → Balance → Totals
+semaphore_numbers permits b =
+    record no_totals {
+      line = pos b.line;
+      held = pos b.shared;
+      free = b.available;
+      created = permits;
+      unheld = (pos b.shared +ℤ b.available) -ℤ permits;
+    }
+
+abbrev pub latch_numbers : Balance → Totals
+latch_numbers b = record no_totals { line = pos b.line; count = pos b.count }
+
+abbrev pub numbers_of : Object → Balance → Totals
+numbers_of (Lock policy) b = lock_numbers b
+numbers_of (ReadWrite policy) b = lock_numbers b
+numbers_of (Semaphore policy permits) b = semaphore_numbers permits b
+numbers_of (Latch opening) b = latch_numbers b

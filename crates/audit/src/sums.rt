@@ -6,7 +6,7 @@ ghost use Rattle.history.specs.declared.entry.Entry.{Entry};
 ghost use Rattle.deciding.specs.Balance.{balance};
 ghost use Rattle.deciding.specs.Situation.{IsHistory};
 ghost use Rattle.audit.specs.Ledger.{IsLedger, LedgerStand};
-ghost use Rattle.audit.specs.Totals.{no_totals, totals_of};
+ghost use Rattle.audit.specs.Totals.{no_totals, numbers_of, totals_of};
 
 use crate::ledger::Ledger;
 use deciding::balance::{Balance, balance_of};
@@ -41,7 +41,8 @@ impl Totals {
     pub fn of(object: Object, numbers: &Balance) -> Totals
         requires exclusive { numbers.now.exclusive < 2 ^ 126 }
         requires shared { numbers.now.shared < 2 ^ 126 }
-        ensures { (s : Start) (h : List Entry) → IsHistory s h → s.header.object ≡ object →
+        ensures is { result ≡ numbers_of object numbers.now }
+        ensures adds { (s : Start) (h : List Entry) → IsHistory s h → s.header.object ≡ object →
             numbers.now ≡ balance s h → result ≡ totals_of s h }
     {
         let line = i128::from(numbers.line);

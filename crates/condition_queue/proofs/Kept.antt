@@ -1,13 +1,13 @@
 -- What falling asleep and leaving make of the lists, the counts and the table beside them.
 use Rattle.std.proofs.Common.{◌≡◌, ◌≢◌, ◌⊎◌, inl, inr, ℕ, ◌+◌, ◌^◌, ◌<◌, ◌≤◌, Bool, true, false, not, ◌||◌, ◌&&◌, cond, eqb, List, [], ◌∷◌, ◌++◌, length, get_or, set, Option, Some, None, refl, ap, ◌∙◌, sym, subst, arith}
-use Rattle.std.specs.Prelude.{slice_get, IfSome}
+use Rattle.std.specs.Prelude.{IfSome}
 use Rattle.std.proofs.lemmas.Bool.{cases_eq, cases_lt, eqb-true, eq-eqb, ne_eqb, cond-true, cond-false}
 use Rattle.std.proofs.lemmas.List.{get_or_past, length-set, length_push}
 use Rattle.history.specs.Sleepers.{has, without}
 use Rattle.node_arena.specs.LinkedLists.{LinkedLists, items, list_of, list_count, key_limit, Moves}
 use Rattle.condition_queue.specs.declared.sleeper.Sleeper.{Sleeper}
 use Rattle.condition_queue.specs.Sleepers.{IsKept, SleepOnce, sleeps_on, condition_of}
-use Rattle.condition_queue.proofs.Lists.{has-append, has-without, once-push, once-without, length-once, has_first, without_absent, at_set}
+use Rattle.condition_queue.proofs.Lists.{has-append, has-without, once-push, once-without, length-once, without_absent, at_set}
 
 -- a seat sleeps on one condition at most
 pub sleeps_elsewhere : (c d : ℕ) (o : Option Sleeper) → sleeps_on c o ≡ true → d ≢ c → sleeps_on d o ≡ false
@@ -44,9 +44,6 @@ module _ (seats : ℕ) (l : LinkedLists) (counts : List ℕ) (table : List (Opti
   pub list_below : (c s : ℕ) → sleeps_on c (get_or table s None) ≡ true → c < list_count l
   list_below c s asleep = condition_below l.lists c s (kept.listed c s ∙ asleep)
 
-  pub first_asleep : (c s : ℕ) → Some s ≡ slice_get (items l c) 0 → sleeps_on c (get_or table s None) ≡ true
-  first_asleep c s first = sym (kept.listed c s) ∙ has_first s (items l c) (sym first)
-
   pub asleep_below : (c s : ℕ) → sleeps_on c (get_or table s None) ≡ true → s < seats
   asleep_below c s asleep = omega (arith, seat_below table c s asleep, kept.one_a_seat)
 
@@ -55,15 +52,8 @@ module _ (seats : ℕ) (l : LinkedLists) (counts : List ℕ) (table : List (Opti
   condition_known s None told = tt
   condition_known s (Some x) told = list_below x.condition s (known_asleep (get_or table s None) x told)
 
-  pub length-kept : (c : ℕ) → length (items l c) ≤ seats
-  length-kept c =
-      length-once seats (items l c) (kept.once c) (λ i p. asleep_below c i (sym (kept.listed c i) ∙ p))
-
   pub awake : (c s : ℕ) → get_or table s None ≡ None → has s (items l c) ≡ false
   awake c s none = kept.listed c s ∙ ap (sleeps_on c) none
-
-  pub not_listed : (s : ℕ) → get_or table s None ≡ None → list_of l s ≡ None
-  not_listed s none = kept.owned s ∙ ap condition_of none
 
   pub listed_on : (s : ℕ) (x : Sleeper) → get_or table s None ≡ Some x → list_of l s ≡ Some x.condition
   listed_on s x told = kept.owned s ∙ ap condition_of told

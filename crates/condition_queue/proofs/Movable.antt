@@ -10,9 +10,6 @@ use Rattle.condition_queue.specs.Sleepers.{Sleepers, asleep_on, sleeper_of, slee
 use Rattle.history.specs.declared.entry.Entry.{Entry}
 use Rattle.history.specs.declared.entry.Word.{Word}
 use Rattle.history.specs.declared.entry.Word.TheVariants as word
-use Rattle.history.specs.declared.header.Header.{Header}
-use Rattle.history.specs.Header.{IsInRange}
-use Rattle.history.specs.Legal.{IsLegal, AreSeated}
 use Rattle.history.specs.Line.{line, arrivals_by, place_of}
 use Rattle.history.specs.Sleepers.{sleepers, sleepers_after, has, last_sleep, sleeps_below}
 use Rattle.history.specs.Start.{Start}

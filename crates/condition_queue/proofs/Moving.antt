@@ -2,7 +2,7 @@
 use Rattle.std.proofs.Common.{◌≡◌, ◌⊎◌, inl, inr, ℕ, zero, suc, ◌+◌, ◌<◌, Bool, true, false, ◌||◌, cond, eqb, List, [], ◌∷◌, ◌++◌, length, map, take, drop, Option, Some, None, refl, ap, ◌∙◌, sym, arith}
 use Rattle.std.specs.Prelude.{slice_get}
 use Rattle.std.proofs.lemmas.Bool.{cases_eq, eq-eqb, ne_eqb, cond-true, cond-false}
-use Rattle.std.proofs.lemmas.List.{append_assoc, append-nil, drop-drop, length-drop, map-append}
+use Rattle.std.proofs.lemmas.List.{append_assoc, drop-drop, length-drop, map-append}
 use Rattle.std.proofs.Math.Seq.{take-add}
 use Rattle.history.specs.declared.arrival.Arrival.{Arrival}
 use Rattle.history.specs.Line.{coming_back, place_of}
@@ -14,23 +14,6 @@ use Rattle.condition_queue.specs.declared.sleeper.Sleeper.{Sleeper}
 use Rattle.condition_queue.specs.Moves.{Moves}
 use Rattle.condition_queue.proofs.Lists.{has-append, without_first}
 use Rattle.condition_queue.proofs.Kept.{left_elsewhere}
-
-either : {X : Type 0} (b : Bool) (x : X) → x ≡ cond b x x
-either true x = refl
-either false x = refl
-
--- where nobody is moved, all stays
-pub moves_none : (c : ℕ) (w : Sleepers) (line : Line) → Moves c 0 w w line line
-moves_none c w line =
-    record {
-      arrivals = sym (append-nil line.arrivals);
-      lists = λ d. either (eqb c d) (asleep_on w d);
-      sleepers = λ i. refl;
-      joined = omega arith;
-      line_seats = refl;
-      seats = refl;
-      conditions = refl;
-    }
 
 pub at_most_one_is : (n : ℕ) → 0 < n → at_most_one n ≡ 1
 at_most_one_is n p = rw (ne_eqb n 0 (λ e. absurd (omega (arith, e)))) refl

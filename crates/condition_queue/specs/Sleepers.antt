@@ -1,5 +1,5 @@
 -- The sleepers as contracts see them, and how the fields of the waiters hold them.
-use Rattle.std.specs.Prelude.{◌≡◌, ℕ, ◌<◌, ◌≤◌, ◌^◌, ◌==◌, Bool, false, List, [], ◌∷◌, length, slice_index_or, Option, Some, None}
+use Rattle.std.specs.Prelude.{◌≡◌, ℕ, ◌<◌, ◌^◌, ◌==◌, Bool, false, List, [], ◌∷◌, length, slice_index_or, Option, Some, None}
 use Rattle.history.specs.Sleepers.{has}
 use Rattle.node_arena.specs.LinkedLists.{LinkedLists, items, list_of, list_count, key_limit}
 use Rattle.condition_queue.specs.declared.sleeper.Sleeper.{Sleeper}

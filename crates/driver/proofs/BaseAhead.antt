@@ -45,9 +45,6 @@ use Rattle.driver.proofs.ReadingAhead.{all_kept, fault_ahead, left_of, reading_f
 
 -- ---- a line that is none of a text
 
-pub cut_here : (lines : ℕ) (rest : List ℕ) → HasNoBreak rest → IsFaultOfLine lines rest CutShort
-cut_here lines rest whole = λ h b s text items read. inr (h, items, rest, read.begins, whole)
-
 pub long_here : (lines : ℕ) (rest line after : List ℕ) → rest ≡ line ++ 10 ∷ after → HasNoBreak line →
     256 ≤ length line → IsFaultOfLine lines rest (BadLine (lines + 2))
 long_here lines rest line after parts whole long = λ h b s text items read.

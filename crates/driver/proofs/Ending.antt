@@ -46,14 +46,6 @@ pub fault_of : {H I T : Type 0} (form : Form H I) (text : Option (List ℕ)) (fi
 fault_of form text first left (Ok x) were err = tt
 fault_of form text first left (Err e) were err = err text were
 
-pub fault_passed_of : {H I T : Type 0} (form : Form H I) (text : Option (List ℕ)) (first : Progress H I)
-    (left : Option (List ℕ)) (r : Result T StreamFault) (fault : StreamFault) →
-    IsErr r × IsErrAnd r (λ e. e ≡ fault) → WereRead form text first [] →
-    IsFaultBehind form first left fault → IfErr r (IsFaultOf form text left)
-fault_passed_of form text first left (Ok x) fault passed were err = absurd (false≢true passed.0)
-fault_passed_of form text first left (Err e) fault passed were err =
-    subst (IsFaultOf form text left) (sym passed.1) (err text were)
-
 pub memory_left : {H I T : Type 0} (form : Form H I) (text : Option (List ℕ)) (first : Progress H I)
     (left : Option (List ℕ)) (r : Result T StreamFault) → WereRead form text first [] →
     OnOk r (IsFaultBehind form first left Memory) → OnOk r (IsReadNoFurther form text left)

@@ -1,5 +1,5 @@
 -- Entries are kept one by one, and counted.
-use Rattle.std.proofs.Common.{◌≡◌, ℕ, zero, suc, ◌+◌, ◌<◌, List, [], ◌∷◌, ◌++◌, length, take, get_or, None, Some, refl, sym, ap, ◌∙◌, arith, append_assoc}
+use Rattle.std.proofs.Common.{◌≡◌, ℕ, ◌+◌, ◌<◌, List, [], ◌∷◌, ◌++◌, length, take, get_or, None, Some, sym, ap, ◌∙◌, append_assoc}
 use Rattle.std.specs.List.{slice_get}
 use Rattle.std.proofs.lemmas.List.{take_more}
 use Rattle.std.proofs.lemmas.Option.{get_or_from_slice_get, slice_get_within}
@@ -20,18 +20,6 @@ one_kept old mid new xs i e at was is =
 pub all_kept : (old new xs : List Entry) (i : ℕ) → slice_get xs i ≡ None → new ≡ old ++ take i xs →
     new ≡ old ++ xs
 all_kept old new xs i none is = is ∙ ap (λ (es : List Entry). old ++ es) (past xs i none)
-
--- the entry of a number, in front or behind
-pub get_front : (xs ys : List Entry) (n : ℕ) → n < length xs → slice_get (xs ++ ys) n ≡ slice_get xs n
-get_front [] ys n lt = absurd (omega (arith, lt))
-get_front (x ∷ xs) ys zero lt = refl
-get_front (x ∷ xs) ys (suc n) lt = get_front xs ys n (omega (arith, lt))
-
-pub get_behind : (xs ys : List Entry) (n : ℕ) → slice_get (xs ++ ys) (length xs + n) ≡ slice_get ys n
-get_behind [] ys n = ap (slice_get ys) (omega arith)
-get_behind (x ∷ xs) ys n =
-    let next : length (x ∷ xs) + n ≡ suc (length xs + n) = omega arith in
-    ap (slice_get (x ∷ (xs ++ ys))) next ∙ get_behind xs ys n
 
 -- one more is counted
 pub one_counted : (xs : List Entry) (i : ℕ) (d : Entry) → i < length xs →

@@ -1,8 +1,8 @@
 -- Lines of entries and of remarks, one after another.
-use Rattle.std.proofs.Common.{◌≡◌, ◌⊎◌, inl, inr, ℕ, ◌+◌, ◌-◌, ◌≤◌, ◌<◌, List, [], ◌∷◌, ◌++◌, length, take, drop, get_or, Option, None, Some, Result, Ok, Err, sym, ap, ◌∙◌, subst, arith, append_assoc}
+use Rattle.std.proofs.Common.{◌≡◌, ℕ, ◌+◌, ◌-◌, ◌≤◌, ◌<◌, List, [], ◌∷◌, ◌++◌, length, take, drop, get_or, Option, Some, Result, Ok, Err, sym, ap, ◌∙◌, subst, arith, append_assoc}
 use Rattle.std.specs.List.{slice_get}
 use Rattle.std.proofs.lemmas.List.{take_more, take_all, drop_more, drop_all, take-take, take-append-drop, get_or-drop, length-take-le, length-drop}
-use Rattle.std.proofs.lemmas.Option.{get_or_from_slice_get, slice_get_within, slice_get_cases}
+use Rattle.std.proofs.lemmas.Option.{get_or_from_slice_get, slice_get_within}
 use Rattle.history.specs.declared.entry.Entry.{Entry}
 use Rattle.history.specs.Text.{ended}
 use Rattle.history_text.specs.EntryLines.{entry_line}
@@ -45,21 +45,6 @@ entry_more xs from number e since at =
     ∙ ap (λ (x : Entry). take k ys ++ x ∷ []) last)
     ∙ entry_lines-push from (take k ys) e
     ∙ ap (λ (n : ℕ). entry_lines from (take k ys) ++ ended (entry_line n e)) counted
-
-some_is_none : {X : Type 0} (x : X) → Some x ≡ None → ⊥
-some_is_none x e = cc
-
--- behind the last entry there is none
-pub no_more : (xs : List Entry) (from number to : ℕ) → from ≤ number → number ≤ to →
-    slice_get xs number ≡ None → take (number - from) (drop from xs) ≡ take (to - from) (drop from xs)
-no_more xs from number to since upto none = by (slice_get_cases xs number).1
-  where
-    by : ((x : Entry) × (number < length xs) × (slice_get xs number ≡ Some x) × (get_or xs number x ≡ x))
-        ⊎ ((length xs ≤ number) × (slice_get xs number ≡ None)) →
-        take (number - from) (drop from xs) ≡ take (to - from) (drop from xs)
-    by (inl p) = absurd (some_is_none p.0 (sym p.2 ∙ none))
-    by (inr p) = take_all (number - from) (drop from xs) (omega (arith, p.0, length-drop from xs))
-        ∙ sym (take_all (to - from) (drop from xs) (omega (arith, p.0, upto, length-drop from xs)))
 
 -- one more remark
 pub told_on : (es : List Entry) (remarks : List Remark) (index number : ℕ) (d : Remark)

@@ -30,9 +30,6 @@ record Opened (agrees : Counts → Type 0) (s : Start) (queue : Line) (waiters :
   right : AreRight s [] unmarked
   owed : owed s [] ≡ 0
 
-abbrev opened_view : Header → Base → HistoryView
-opened_view k b = record { cap = k.cap; base = Some b; entries = []; owed = 0; places = 0 }
-
 pub opening_stands : (agrees : Counts → Type 0) (k : Header) (b : Base) (kept : HistoryView) (queue : Line)
     (waiters : Sleepers) (table : List Seat) → IsInRange k → b ≡ opening_base k → MayFold b [] →
     agrees (counts (opening k) []) →

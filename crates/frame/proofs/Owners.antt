@@ -3,7 +3,7 @@ use Rattle.std.proofs.Common.{◌≡◌, ◌≢◌, ⊎_elim, ℕ, ◌+◌, ◌-
 use Rattle.std.proofs.lemmas.Bool.{cases_eq, ltb-true, leb-true, eqb-true, ne_eqb, eq-eqb, and_parts, and_from, lt-ltb, le-leb}
 use Rattle.history.specs.declared.entry.Mode.{Mode}
 use Rattle.history.specs.declared.entry.Mode.TheVariants.{X, S}
-use Rattle.history.specs.Changes.{holds_with, took, gave_back, let_go, restored}
+use Rattle.history.specs.Changes.{holds_with, took, gave_back, restored}
 use Rattle.history.specs.Could.{is_none_or}
 use Rattle.history.specs.Counts.{Counts, owner, seat_with}
 use Rattle.history.specs.Object.{in_holds}
@@ -129,24 +129,6 @@ owns_gave holds k i n h one =
       held = changed (Some i) (Some i) holds (holds - 1) i (λ had. had - in_holds k.object n) k.held
           h.held (eq-eqb i i refl) (eq-eqb i i refl) e;
       seat = h.seat;
-    }
-
-pub owns_freed : (rest : ℕ) (k : Counts) (i n : ℕ) → Owns (Some i) 1 k → in_holds k.object n ≡ 1 →
-    Owns None rest (gave_back k i X n)
-owns_freed rest k i n h one =
-    let own : holds_of (Some i) 1 i ≡ 1 = at_own 1 i in
-    let e : 0 ≡ holds_of (Some i) 1 i - in_holds k.object n = sym (rw own (rw one refl)) in
-    record {
-      held = changed (Some i) None 1 rest i (λ had. had - in_holds k.object n) k.held h.held
-          (eq-eqb i i refl) refl e;
-      seat = tt;
-    }
-
-pub owns_let_go : (holds : ℕ) (k : Counts) (i : ℕ) → Owns (Some i) holds k → Owns None 0 (let_go k i)
-owns_let_go holds k i h =
-    record {
-      held = changed (Some i) None holds 0 i (λ had. 0) k.held h.held (eq-eqb i i refl) refl refl;
-      seat = tt;
     }
 
 pub owns_restored : (k : Counts) (i n : ℕ) → Owns None 0 k → i < k.seats → Owns (Some i) n (restored k i n)

@@ -1,20 +1,19 @@
 -- What is answered where an entry was added, or not.
-use Rattle.std.proofs.Common.{◌≡◌, inl, ℕ, ◌<◌, Bool, eqb, true, not, ◌&&◌, ◌∷◌, Option, Some, None, Result, Ok, Err, refl, ap, ◌∙◌, sym, subst}
+use Rattle.std.proofs.Common.{◌≡◌, inl, ℕ, ◌<◌, eqb, true, not, ◌&&◌, ◌∷◌, Option, Some, None, Result, Ok, refl, ap, ◌∙◌, sym, subst}
 use Rattle.std.specs.Prelude.{IfOk, IfSome}
 use Rattle.std.proofs.lemmas.Bool.{cond_both}
 use Rattle.history.specs.Could.{is_seat}
 use Rattle.history.proofs.Answering.{entry_seat}
 use Rattle.history.specs.declared.entry.Entry.{Entry}
 use Rattle.history.specs.declared.fault.Fault.{Fault}
-use Rattle.history.specs.declared.fault.Fault.TheVariants.{HistoryFull, OutOfMemory}
 use Rattle.history.specs.declared.step.Answer.{Answer}
 use Rattle.history.specs.declared.step.Answer.TheVariants.{Recorded}
 use Rattle.history.specs.declared.step.Step.{Step}
 use Rattle.history.specs.Answers.{recorded}
 use Rattle.history.specs.Naming.{named, named_by}
-use Rattle.history.specs.Room.{has_room, was_owed}
+use Rattle.history.specs.Room.{has_room}
 use Rattle.history.specs.Steps.{entry_for}
-use Rattle.frame.specs.Core.{CoreView, start_of, IsAdded, IsRecorded, IsTold, MakesOwed, IsOf, NamesBelow}
+use Rattle.frame.specs.Core.{CoreView, start_of, IsAdded, IsRecorded, IsTold, IsOf, NamesBelow}
 
 -- an entry that has room, and one that hasn't
 room_for : (v : CoreView) (e : Entry) → has_room (start_of v) v.entries e ≡ true →
@@ -33,26 +32,6 @@ recorded_now v new e name is =
       base = ap (λ (w : CoreView). w.base) is.2;
       places = ap (λ (w : CoreView). w.places) is.2;
     })
-
--- nothing has changed after a fault, and a fault isn't answered to an entry that was owed
-pub unchanged : (v new : CoreView) (e : Entry) (f : Fault) → IsAdded v e (Err f) new → new ≡ v
-unchanged v new e HistoryFull is = is.2
-unchanged v new e OutOfMemory is = is.2
-unchanged v new e _ is = absurd is
-
--- the one entry of a step
-pub owed_entry : (v : CoreView) (i : ℕ) (step : Step) (e : Entry) →
-    entry_for (start_of v) v.entries i step ≡ Ok (Some e) →
-    MakesOwed v i step → was_owed v.header.object e ≡ true
-owed_entry v i step e q m =
-    let same : m.0 ≡ e = some_same (ok_same (sym m.1 ∙ q)) in
-    subst (λ x. was_owed v.header.object x ≡ true) same m.2
-  where
-    ok_same : {x y : Option Entry} → ◌≡◌ {A = Result (Option Entry) Fault} (Ok x) (Ok y) → x ≡ y
-    ok_same p = cc
-
-    some_same : {x y : Entry} → Some x ≡ Some y → x ≡ y
-    some_same p = cc
 
 -- marks that an entry's own seat left are those that the step's seat left
 pub own_told : (v new : CoreView) (i : ℕ) (step : Step) (made : Option Entry) (e : Entry)

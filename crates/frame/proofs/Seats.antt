@@ -22,12 +22,7 @@ use Rattle.history.proofs.SleepLemmas.{held_other, last_sleep_other}
 use Rattle.deciding.specs.declared.sleep.LastSleep.{LastSleep}
 use Rattle.deciding.specs.Sleep.{sleep_of}
 use Rattle.frame.specs.declared.seat.Seat.{Seat}
-use Rattle.frame.specs.Seat.{IsSeat, holds_in, no_holds, seat_after, sleep_behind}
-
-pub seat_holds : (s : Start) (h : List Entry) (i : ℕ) (m : Mode) (x : Seat) → IsSeat s h i x →
-    holds_in m x ≡ held s h i m
-seat_holds s h i X x is = is.exclusive
-seat_holds s h i S x is = is.shared
+use Rattle.frame.specs.Seat.{IsSeat, no_holds, seat_after, sleep_behind}
 
 -- a seat that did nothing yet
 pub seat_free : (s : Start) (i : ℕ) → ((m : Mode) → held s [] i m ≡ 0) →

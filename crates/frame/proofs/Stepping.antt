@@ -7,7 +7,6 @@ use Rattle.condition_queue.specs.Sleepers.{Sleepers}
 use Rattle.history.specs.declared.entry.Entry.{Entry}
 use Rattle.history.specs.declared.fault.Fault.{Fault}
 use Rattle.history.specs.declared.fault.Fault.TheVariants as fault
-use Rattle.history.specs.declared.step.Answer.TheVariants.{Recorded}
 use Rattle.history.specs.declared.step.Step.{Step}
 use Rattle.history.specs.Steps.{entry_for}
 use Rattle.std.specs.Prelude.{IfSome}
@@ -32,7 +31,7 @@ use Rattle.history.proofs.SmallHolds.{exclusive_small, shared_small}
 use Rattle.deciding.specs.Situation.{IsHistory}
 use Rattle.frame.specs.declared.seat.Seat.{Seat}
 use Rattle.condition_queue.specs.Following.{JoinedBy, Keeps}
-use Rattle.frame.specs.Core.{CoreView, IsTold, Stands, IsNext, IsAdded, with_history}
+use Rattle.frame.specs.Core.{CoreView, Stands, IsNext, IsAdded, with_history}
 use Rattle.frame.specs.Effects.{IsAllowed, counts_after}
 use Rattle.frame.specs.Seat.{IsSeat, marks_in, no_holds, seat_after, told_in, with_mark}
 use Rattle.frame.proofs.Counting.{allowed, counts_next}

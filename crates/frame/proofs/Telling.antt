@@ -1,5 +1,5 @@
 -- The marks of a table of seats.
-use Rattle.std.proofs.Common.{◌≡◌, ⊎_elim, ℕ, ◌<◌, ◌≤◌, Bool, true, false, not, ◌&&◌, ◌||◌, cond, eqb, List, [], length, map, get_or, set, replicate, Option, Some, None, Ok, refl, ap, ◌∙◌, sym, subst, arith}
+use Rattle.std.proofs.Common.{◌≡◌, ⊎_elim, ℕ, ◌<◌, ◌≤◌, Bool, true, false, not, ◌&&◌, ◌||◌, cond, eqb, List, length, get_or, set, replicate, Option, Some, None, Ok, refl, ap, ◌∙◌, sym, subst, arith}
 use Rattle.std.specs.Prelude.{IfSome}
 use Rattle.std.proofs.lemmas.Bool.{cases_eq, cases_lt, eq-eqb, ne_eqb}
 use Rattle.std.proofs.lemmas.List.{get_or-map, get_or-replicate, get_or-set_other, get_or-set_same, get_or_past, length-map, length-replicate, length-set, map-set}
@@ -14,7 +14,7 @@ use Rattle.history.specs.Naming.{named}
 use Rattle.history.specs.Start.{Start}
 use Rattle.history.proofs.Marking.{remarked_is}
 use Rattle.frame.specs.declared.seat.Seat.{Seat}
-use Rattle.frame.specs.Core.{CoreView, IsTold, marks_of, start_of, unmarked_at, with_history}
+use Rattle.frame.specs.Core.{IsTold, marks_of, unmarked_at, with_history}
 use Rattle.frame.specs.Seat.{IsSeat, marks_in, no_holds, seat_after, telling, told_in, with_mark}
 
 -- the list of the marks of a table has the mark of each seat

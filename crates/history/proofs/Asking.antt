@@ -6,14 +6,13 @@ use Rattle.history.specs.declared.arrival.Arrival.{Arrival}
 use Rattle.history.specs.declared.entry.Entry.{Entry}
 use Rattle.history.specs.declared.entry.Word.{Word}
 use Rattle.history.specs.declared.entry.Word.TheVariants as word
-use Rattle.history.specs.declared.header.Header.{Header}
 use Rattle.history.specs.declared.header.Object.{Object}
 use Rattle.history.specs.Faults.{is_bad_number, max_amount}
 use Rattle.history.specs.Legal.{IsLegal}
 use Rattle.history.specs.Line.{line, arrivals_by, coming_back}
 use Rattle.history.specs.Object.{is_semaphore}
 use Rattle.history.specs.Sleepers.{sleepers}
-use Rattle.history.specs.Start.{Start, opening}
+use Rattle.history.specs.Start.{Start}
 use Rattle.history.proofs.Entering.{KnownBy, known}
 use Rattle.history.proofs.LineLemmas.{line_after, line_at_first, stays}
 use Rattle.history.proofs.Times.{each-append, each-filter}
@@ -47,7 +46,3 @@ line_few_on s (e ∷ h) few legal =
     (each-append AsksFew _ _ (each-filter AsksFew (stays e.word e.seat) (line s h) (line_few_on s h few
     legal.1))
     (arriving_few s h e e.word (known s h legal.0.0 e legal.0.1)))
-
-pub line_few : (k : Header) (h : List Entry) → IsLegal (opening k) h →
-    AllByRecursion AsksFew (line (opening k) h)
-line_few k h legal = line_few_on (opening k) h tt legal

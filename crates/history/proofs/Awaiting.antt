@@ -1,6 +1,5 @@
 -- One who awaits sleeps on or is on its way back while others' entries come, and what its steps make.
-use Rattle.std.proofs.Common.{◌≡◌, ◌≢◌, ◌⊎◌, inl, inr, ⊎_elim, ℕ, Bool, true, false, ◌||◌, cond, eqb, ◌==◌, List, [], ◌∷◌, ◌++◌, map, take, drop, Option, Some, None, Result, Ok, refl, ap, ◌∙◌, sym, subst, arith}
-use Rattle.std.specs.List.{filter}
+use Rattle.std.proofs.Common.{◌≡◌, ◌≢◌, ◌⊎◌, inl, inr, ⊎_elim, ℕ, Bool, true, false, ◌||◌, cond, eqb, List, [], ◌∷◌, ◌++◌, map, take, drop, Option, Some, None, Result, Ok, refl, ap, ◌∙◌, sym, subst, arith}
 use Rattle.std.proofs.lemmas.Bool.{cases_eq, eqb-true, eq-eqb, ne_eqb}
 use Rattle.history.specs.declared.arrival.Arrival.{Arrival}
 use Rattle.history.specs.declared.entry.End.{End}
@@ -23,7 +22,7 @@ use Rattle.history.specs.Start.{Start, Sleep}
 use Rattle.history.specs.Steps.{entry_for, sleeping_entry, lapse}
 use Rattle.history.proofs.Entering.{KnownBy, known}
 use Rattle.history.proofs.SleepLemmas.{last_sleep_other, sleepers_here, sleepers_other, sleeps_there, idle_parts}
-use Rattle.history.proofs.Staying.{stays_in_line, arrives_by, arrives_itself, while_others}
+use Rattle.history.proofs.Staying.{stays_in_line, arrives_by, arrives_itself}
 use Rattle.history.proofs.Times.{times-append, times-take_drop, times-without_other, has_once, has_not, once_has}
 
 -- one of a list of those who come back is on its way back, and another is not among them
@@ -139,19 +138,6 @@ pub awaits_other : (s : Start) (e : Entry) (h : List Entry) (i : ℕ) (w : Sleep
     AwaitsAs s (e ∷ h) i w
 awaits_other s e h i w ne (inl r) = sleeps_other s e h i w ne r
 awaits_other s e h i w ne (inr r) = inr (returns_other s e h i w ne r)
-
--- one who awaits does so while no entry of its seat comes, and one on its way back stays so
-pub still_awaits : (s : Start) (i : ℕ) (w : Sleep) (more h : List Entry) →
-    filter (λ e. e.seat == i) (more ++ h) ≡ filter (λ e. e.seat == i) h → AwaitsAs s h i w →
-    AwaitsAs s (more ++ h) i w
-still_awaits s i w more h same r =
-    while_others (λ l. AwaitsAs s l i w) i (λ e l ne q. awaits_other s e l i w ne q) more h same r
-
-pub still_returns : (s : Start) (i : ℕ) (w : Sleep) (more h : List Entry) →
-    filter (λ e. e.seat == i) (more ++ h) ≡ filter (λ e. e.seat == i) h → ReturnsAs s h i w →
-    ReturnsAs s (more ++ h) i w
-still_returns s i w more h same r =
-    while_others (λ l. ReturnsAs s l i w) i (λ e l ne q. returns_other s e l i w ne q) more h same r
 
 -- behind its await a seat sleeps
 own_sleep : (s : Start) (e : Entry) (h : List Entry) →

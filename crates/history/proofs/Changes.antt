@@ -1,43 +1,27 @@
 -- What each word of a lock's history changes, and what it leaves.
-use Rattle.std.proofs.Common.{◌≡◌, ℕ, ◌-◌, Bool, true, false, not, ◌&&◌, cond, eqb, List, [], ◌∷◌, ◌++◌, refl, ap, ◌∙◌, ℤ}
+use Rattle.std.proofs.Common.{◌≡◌, ℕ, ◌-◌, Bool, true, false, ◌&&◌, cond, eqb, List, [], ◌∷◌, ◌++◌, refl, ap, ◌∙◌, ℤ}
 use mathlib.Core.Path.{fun_ext}
 use Rattle.std.specs.List.{filter}
-use Rattle.std.proofs.lemmas.List.{append-nil}
 use Rattle.history.specs.declared.entry.Entry.{Entry}
 use Rattle.history.specs.declared.arrival.Arrival.{Arrival}
 use Rattle.history.specs.declared.entry.Mode.{Mode}
 use Rattle.history.specs.declared.entry.Word.{Word}
-use Rattle.history.specs.declared.entry.Word.TheVariants.{Got, TryGot, Queued, Granted, Missed, Left, Gave, Refused}
+use Rattle.history.specs.declared.entry.Word.TheVariants.{Queued, Missed, Left, Refused}
 use Rattle.history.specs.Start.{Start}
 use Rattle.history.specs.declared.header.Object.{Object}
 use Rattle.history.specs.Entry.{ends_arrival, same_mode}
-use Rattle.history.specs.Changes.{took}
 use Rattle.history.specs.Counts.{counts, held, holds_after, free, free_after, count, counted, counted_after}
 use Rattle.history.specs.Object.{opening_count}
 use Rattle.history.specs.Line.{line, arrivals_by}
 use Rattle.history.proofs.LineLemmas.{line_after, stays}
 
--- the words that take, that change no number, and that neither add to the line nor take from it
-abbrev pub takes : Word → Bool
-takes Got = true
-takes TryGot = true
-takes Granted = true
-takes _ = false
-
+-- the words that change no number
 abbrev pub counts_nothing : Word → Bool
 counts_nothing Queued = true
 counts_nothing Missed = true
 counts_nothing Left = true
 counts_nothing (Refused f) = true
 counts_nothing _ = false
-
-abbrev pub moves_nobody : Word → Bool
-moves_nobody Got = true
-moves_nobody TryGot = true
-moves_nobody Missed = true
-moves_nobody Gave = true
-moves_nobody (Refused f) = true
-moves_nobody _ = false
 
 -- the numbers after an entry
 held_kept : (o : Object) (w : Word) (n x : ℕ) → counts_nothing w ≡ true → holds_after o w n x ≡ x
@@ -80,40 +64,12 @@ counts_same s e h t =
     ap (λ x. opening_count s.header.object - x) (counted_kept e.word (counted s h) t) in
     λ i. record { object = s.header.object; seats = s.header.seats; held = f i; free = g i; count = c i }
 
-pub counts_took : (s : Start) (e : Entry) (h : List Entry) → takes e.word ≡ true →
-    counts s (e ∷ h) ≡ took (counts s h) e.seat e.mode e.n
-counts_took s e h t = by e.word t
-  where
-    by : (w : Word) → takes w ≡ true →
-        counts s (record { seat = e.seat; word = w; mode = e.mode; n = e.n; at = e.at; end = e.end } ∷ h)
-        ≡ took (counts s h) e.seat e.mode e.n
-    by Got t = refl
-    by TryGot t = refl
-    by Granted t = refl
-    by _ t = cc
-
 -- the line after an entry
 pub all_stay : (w : Word) (i : ℕ) (q : List Arrival) → ends_arrival w ≡ false → filter (stays w i) q ≡ q
 all_stay w i [] t = refl
 all_stay w i (a ∷ q) t =
     let s : stays w i a ≡ true = rw t refl in
     rw s (ap (λ l. a ∷ l) (all_stay w i q t))
-
-moves_none : (s : Start) (w : Word) (e : Entry) (h : List Entry) → moves_nobody w ≡ true →
-    (ends_arrival w ≡ false) × (arrivals_by s w e h ≡ [])
-moves_none s Got e h t = (refl, refl)
-moves_none s TryGot e h t = (refl, refl)
-moves_none s Missed e h t = (refl, refl)
-moves_none s Gave e h t = (refl, refl)
-moves_none s (Refused f) e h t = (refl, refl)
-moves_none s _ e h t = cc
-
-pub line_same : (s : Start) (e : Entry) (h : List Entry) → moves_nobody e.word ≡ true →
-    line s (e ∷ h) ≡ line s h
-line_same s e h t =
-    let n = moves_none s e.word e h t in
-    line_after s e h ∙ ap (λ l. filter (stays e.word e.seat) (line s h) ++ l) n.1 ∙ append-nil _
-    ∙ all_stay e.word e.seat (line s h) n.0
 
 pub line_queued : (s : Start) (e : Entry) (h : List Entry) → e.word ≡ Queued →
     line s (e ∷ h) ≡ line s h ++ record { seat = e.seat; mode = e.mode; n = e.n; back = false } ∷ []
@@ -122,19 +78,3 @@ line_queued s e h t =
     ∙ ap (λ w. filter (stays w e.seat) (line s h) ++ arrivals_by s w e h) t
     ∙ ap (λ l. l ++ record { seat = e.seat; mode = e.mode; n = e.n; back = false } ∷ [])
     (all_stay Queued e.seat (line s h) refl)
-
-abbrev pub leaves : Word → Bool
-leaves Granted = true
-leaves Left = true
-leaves _ = false
-
-pub line_less : (s : Start) (e : Entry) (h : List Entry) → leaves e.word ≡ true →
-    line s (e ∷ h) ≡ filter (λ a. not (eqb e.seat a.seat)) (line s h)
-line_less s e h t = line_after s e h ∙ by e.word t
-  where
-    by : (w : Word) → leaves w ≡ true →
-        filter (stays w e.seat) (line s h) ++ arrivals_by s w e h
-        ≡ filter (λ a. not (eqb e.seat a.seat)) (line s h)
-    by Granted t = append-nil _
-    by Left t = append-nil _
-    by _ t = cc

@@ -17,10 +17,6 @@ filled_length n (p ∷ ps) f =
     let ih = filled_length (n - 1024) ps f.1 in
     omega (arith, length-append p (in_pages ps), f.0, ih)
 
-pub filled_places : (n : ℕ) (pages : List (List Entry)) → AreFilled n pages → n ≤ 1024 * length pages
-filled_places n [] f = omega (arith, f)
-filled_places n (p ∷ ps) f = let ih = filled_places (n - 1024) ps f.1 in omega (arith, ih)
-
 nothing : {X : Type 0} (xs : List X) → length xs ≡ 0 → xs ≡ []
 nothing [] q = refl
 nothing (x ∷ xs) q = absurd (omega (arith, q))

@@ -40,11 +40,6 @@ some_none q = cc
 abbrev ends_it : Entry → ℕ → ℕ → ℕ → Bool
 ends_it e i from n = (ends_arrival e.word && eqb e.seat i) && leb from n
 
-ending_more : (e : Entry) (h : List Entry) (i from : ℕ) →
-    ending (e ∷ h) i from ≡ first_ending (ending h i from) (ends_it e i from (length h))
-    (record { place = length h; word = e.word })
-ending_more e h i from = refl
-
 later_is : (o : Option Ending) (b : Bool) (y x : Ending) → first_ending o b y ≡ Some x → (o ≡ Some x)
     ⊎ ((o ≡ None) × (b ≡ true) × (y ≡ x))
 later_is (Some z) b y x q = inl q
@@ -204,9 +199,6 @@ tails q = cc
 
 cons_nil : {A : Type 0} {x : A} {xs : List A} → x ∷ xs ≡ [] → ⊥
 cons_nil q = cc
-
-nil_cons : {A : Type 0} {x : A} {xs : List A} → [] ≡ x ∷ xs → ⊥
-nil_cons q = cc
 
 -- where a member of two lists joined stands
 abbrev Parted : List Arrived → List Arrived → List Arrived → Arrived → List Arrived → Type 0

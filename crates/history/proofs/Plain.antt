@@ -18,7 +18,7 @@ is_plain = list_all (λ b. ltb 32 b)
 abbrev pub ArePlain : List (List ℕ) → Type 0
 ArePlain = AllByRecursion (λ w. is_plain w ≡ true)
 
-both : (a b : Bool) → (a && b) ≡ true → (a ≡ true) × (b ≡ true)
+pub both : (a b : Bool) → (a && b) ≡ true → (a ≡ true) × (b ≡ true)
 both true b e = (refl, e)
 both false b e = absurd cc
 

@@ -1,10 +1,9 @@
 -- The numbers of a good base are small.
-use Rattle.std.proofs.Common.{◌≡◌, ℕ, zero, suc, ◌*◌, ◌<◌, ◌≤◌, [], refl, ap, arith}
-use Rattle.history.specs.declared.entry.Mode.{Mode}
+use Rattle.std.proofs.Common.{◌≡◌, ℕ, zero, suc, ◌*◌, ◌<◌, ◌≤◌, refl, ap, arith}
 use Rattle.history.specs.declared.entry.Mode.TheVariants.{X, S}
 use Rattle.history.specs.declared.header.Object.{Object}
 use Rattle.history.specs.declared.header.Object.TheVariants.{Lock, ReadWrite, Semaphore, Latch}
-use Rattle.history.specs.Base.{Base, based, holds_of, seat_of}
+use Rattle.history.specs.Base.{Base, seat_of}
 use Rattle.history.specs.Counts.{held, total}
 use Rattle.history.specs.GoodBase.{AreCounted, AreHeld, IsGood, most_permits}
 use Rattle.history.specs.Ownership.{most_exclusive, most_shared}
@@ -43,10 +42,6 @@ few_unheld b (Lock p) v = let n = v.0 in omega (arith, n)
 few_unheld b (ReadWrite p) v = let n = v.0 in omega (arith, n)
 few_unheld b (Semaphore p c) v = v.0
 few_unheld b (Latch c) v = let n = v.0 in omega (arith, n)
-
--- what a seat holds on a base
-pub held_of : (b : Base) (i : ℕ) (m : Mode) → held (based b) [] i m ≡ holds_of (seat_of b i) m
-held_of b i m = refl
 
 -- a sum of numbers that are small each
 pub few_in_all : (n : ℕ) (f : ℕ → ℕ) (most : ℕ) → ((i : ℕ) → i < n → f i ≤ most) → total n f ≤ most * n

@@ -1,24 +1,8 @@
 -- What an entry makes of the numbers.
-use Rattle.std.proofs.Common.{◌≡◌, ◌≢◌, ⊎_elim, ℕ, zero, suc, ◌+◌, ◌<◌, ◌≤◌, true, ltb, List, ◌∷◌, Some, None, refl, ap, arith}
+use Rattle.std.proofs.Common.{◌≡◌, ◌≢◌, ⊎_elim, ℕ, zero, suc, ◌+◌, ◌<◌, ◌≤◌, true, ltb, Some, None, refl, ap, arith}
 use Rattle.std.proofs.lemmas.Bool.{cases_eq, lt-ltb}
-use Rattle.history.specs.declared.entry.Entry.{Entry}
-use Rattle.history.specs.declared.entry.End.{End}
-use Rattle.history.specs.declared.entry.Mode.{Mode}
-use Rattle.history.specs.declared.entry.Word.TheVariants.{Got, Gave}
-use Rattle.history.specs.Start.{Start}
-use Rattle.history.specs.Changes.{took, gave_back}
-use Rattle.history.specs.Counts.{counts, total}
+use Rattle.history.specs.Counts.{total}
 use Rattle.history.specs.Counts.{seat_with}
-
-pub counts_got : (s : Start) (h : List Entry) (i : ℕ) (m : Mode) (n at : ℕ) (how : End) →
-    counts s (record { seat = i; word = Got; mode = m; n = n; at = at; end = how } ∷ h)
-    ≡ took (counts s h) i m n
-counts_got s h i m n at how = refl
-
-pub counts_gave : (s : Start) (h : List Entry) (i : ℕ) (m : Mode) (n at : ℕ) (how : End) →
-    counts s (record { seat = i; word = Gave; mode = m; n = n; at = at; end = how } ∷ h)
-    ≡ gave_back (counts s h) i m n
-counts_gave s h i m n at how = refl
 
 -- the seat that has something, where one has or none
 pub seat_with_none : (n : ℕ) (f : ℕ → ℕ) → ((i : ℕ) → f i ≡ 0) → seat_with n f ≡ None

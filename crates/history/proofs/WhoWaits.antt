@@ -13,20 +13,12 @@ use Rattle.history.specs.Line.{line, arrivals_by, place_of, coming_back}
 use Rattle.history.specs.Phase.{Idle, phase}
 use Rattle.history.specs.Sleepers.{sleepers, sleeps_below, last_sleep, has}
 use Rattle.history.specs.Start.{Start, opening}
-use Rattle.history.specs.Waiting.{times, seats_of, asleep, waiting, IsOneWait, AreOnce, StandOnce}
+use Rattle.history.specs.Waiting.{times, seats_of, asleep, waiting, IsOneWait, StandOnce}
 use Rattle.history.proofs.Entering.{Known, KnownBy, known}
 use Rattle.history.proofs.LineLemmas.{line_after, stays}
 use Rattle.history.proofs.OneWait.{ComesBack, SavedIfBack, Waits, waits, placed, idle_waits_nowhere}
 use Rattle.history.proofs.SleepLemmas.{sleeps_at, times-waiting}
-use Rattle.history.proofs.Times.{each-append, each-filter, once_same, times-take_drop, has_once, once_has, never_has, place_once, never_placed, total_part, pigeonhole, pigeonhole_less}
-
--- each seat stands in line once, and sleeps once on a condition
-once_list : (xs : List ℕ) → ((i : ℕ) → times i xs ≤ 1) → AreOnce xs
-once_list [] one = tt
-once_list (x ∷ xs) one = (never_has x xs rest, once_list xs (λ i. let o = one i in omega (arith, o)))
-  where
-    rest : times x xs ≡ 0
-    rest = let o = one x in let s = once_same x x refl in omega (arith, o, s)
+use Rattle.history.proofs.Times.{each-append, each-filter, once_same, times-take_drop, has_once, once_has, place_once, never_placed, total_part, pigeonhole, pigeonhole_less}
 
 once_line : (q : List Arrival) → ((i : ℕ) → times i (seats_of q) ≤ 1) → StandOnce q
 once_line [] one = tt
@@ -38,15 +30,6 @@ once_line (a ∷ q) one = (never_placed a.seat q rest, once_line q (λ i. let o 
 pub stand_once : (s : Start) (h : List Entry) → IsOneWait s h → StandOnce (line s h)
 stand_once s h one =
     once_line (line s h) (λ i. let o = one i in let w = times-waiting s h i in omega (arith, o, w))
-
-pub sleep_once : (s : Start) (h : List Entry) → IsOneWait s h → (c : ℕ) → c < s.header.conditions →
-    AreOnce (sleepers s h c)
-sleep_once s h one c below =
-    once_list (sleepers s h c) (λ i.
-    let o = one i in
-    let w = times-waiting s h i in
-    let p = total_part s.header.conditions (λ d. times i (sleepers s h d)) c below in
-    omega (arith, o, w, p))
 
 -- a seat in line sleeps nowhere, and a sleeper stands in no line
 pub in_line_awake : (s : Start) (h : List Entry) (i : ℕ) (a : Arrival) → IsOneWait s h →
@@ -206,7 +189,3 @@ idle_leaves_a_place s h i v l seat idle =
 pub all_fit : (k : Header) (h : List Entry) → IsLegal (opening k) h → AreSeated (opening k) h →
     length (line (opening k) h) + length (asleep k.conditions (opening k) h) ≤ k.seats
 all_fit k h l a = few_wait (opening k) h (waits k h l) (line_seated k h l a)
-
-pub line_fits : (k : Header) (h : List Entry) → IsLegal (opening k) h → AreSeated (opening k) h →
-    length (line (opening k) h) ≤ k.seats
-line_fits k h l a = let f = all_fit k h l a in omega (arith, f)

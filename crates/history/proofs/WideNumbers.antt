@@ -1,5 +1,5 @@
 -- Numbers of 128 bits: what is read has the one spelling, and no number is spelt by what isn't read.
-use Rattle.std.proofs.Common.{Bool, true, false, cond, ltb, ◌&&◌, Option, Some, None, bytes_eq, ◌≡◌, ℕ, ◌+◌, ◌^◌, ◌<◌, ◌≤◌, ◌%◌, List, [], ◌∷◌, decimal, refl, sym, ap, ◌∙◌, arith}
+use Rattle.std.proofs.Common.{Bool, true, false, cond, ltb, ◌&&◌, Option, Some, None, bytes_eq, ◌≡◌, ℕ, ◌+◌, ◌^◌, ◌<◌, ◌≤◌, ◌%◌, List, [], ◌∷◌, decimal, refl, sym, ◌∙◌, arith}
 use Rattle.std.specs.Prelude.{IfSome, IfNone}
 use Rattle.std.specs.Str.Parse.{digits_value}
 use Rattle.std.proofs.lemmas.Bool.{lt-ltb, le-leb, ltb-true}
@@ -8,7 +8,7 @@ use Rattle.std.proofs.lemmas.List.Folds.{list_all-append}
 use Rattle.std.proofs.lemmas.Slice.Eq.{bytes_eq-Decides}
 use Rattle.history.specs.Reading.{Words, wide_from, wide_at}
 use Rattle.history.proofs.Numbers.{equal_bytes}
-use Rattle.history.proofs.Plain.{is_plain}
+use Rattle.history.proofs.Plain.{both, is_plain}
 
 -- what is spelt is read again
 pub wide_again : (n : ℕ) → n < 2 ^ 128 → wide_from (decimal n) ≡ Some n
@@ -29,10 +29,6 @@ wide_plain n lt = decimal_by_steps_wide (λ n ds. is_plain ds ≡ true)
     (λ n ds large front. list_all-append _ ds ((48 + n % 10) ∷ [])
     ∙ rw (front, lt-ltb 32 (48 + n % 10) (omega arith)) refl)
     n (omega arith)
-
-both : (a b : Bool) → (a && b) ≡ true → (a ≡ true) × (b ≡ true)
-both true b e = (refl, e)
-both false b e = absurd cc
 
 pub is_wide_from : (bs : List ℕ) (r : Option ℕ) → IfSome r (λ n. (bs ≡ decimal n) × (n < 2 ^ 128)) →
     IfNone r ((n : ℕ) → n < 2 ^ 128 → bs ≡ decimal n → ⊥) → r ≡ wide_from bs

@@ -1,5 +1,5 @@
 -- The lines of a history text are those of a base and entries behind them.
-use Rattle.std.proofs.Common.{◌≡◌, inl, inr, ⊎_elim, ℕ, ◌+◌, ◌≤◌, Bool, true, false, ltb, cond, List, [], ◌∷◌, ◌++◌, length, map, refl, ap, ◌∙◌, sym, subst, arith}
+use Rattle.std.proofs.Common.{◌≡◌, ⊎_elim, ℕ, ◌+◌, ◌≤◌, Bool, true, ltb, cond, List, [], ◌∷◌, ◌++◌, length, map, refl, ap, ◌∙◌, sym, subst, arith}
 use Rattle.std.specs.List.{AllByRecursion}
 use Rattle.std.proofs.lemmas.Bool.{lt-ltb}
 use Rattle.line_text.specs.Form.{AreItems}
@@ -9,14 +9,14 @@ use Rattle.history.specs.GoodBase.{IsBaseOf, IsGood}
 use Rattle.history.specs.Header.{IsInRange}
 use Rattle.history_text.specs.declared.base_line.BaseLine.{BaseLine}
 use Rattle.history_text.specs.declared.place.Head.{Head}
-use Rattle.history_text.specs.BaseFollowing.{AllRead, after_told, with_lines}
+use Rattle.history_text.specs.BaseFollowing.{AllRead, after_told}
 use Rattle.history_text.specs.BaseLines.{base_lines}
 use Rattle.history_text.specs.BaseRules.{AllSeated, untold, with_line}
 use Rattle.history_text.specs.EntryLines.{HasLine}
 use Rattle.history_text.specs.HistoryLines.{Based, Entered, IsWhole, Line, MayStand, Reached, after_lines, after_text, base_of, head_of, lines_on, lines_told, nothing_yet, numbered, one_line, reached, with_text}
 use Rattle.history_text.specs.HistoryText.{history_form}
-use Rattle.history_text.proofs.BaseTheory.{IsGoodOf, good_again, good_reads, good_whole, reads_good, said}
-use Rattle.history_text.proofs.BaseTold.{header_after, told_so_far}
+use Rattle.history_text.proofs.BaseTheory.{IsGoodOf, good_again, good_reads, good_whole, said}
+use Rattle.history_text.proofs.BaseTold.{told_so_far}
 
 -- lines behind lines
 pub reached-append : (s : Reached) (xs ys : List Line) →
@@ -39,18 +39,6 @@ stand-append h s b [] ys p q = q
 stand-append h s b (x ∷ xs) ys p q = (p.0, stand-append h (one_line s x) (with_text b x) xs ys p.1 q)
 
 -- such lines are the items of a history text
-pub items_stand : (h : Head) (before xs : List Line) → AreItems history_form h before xs →
-    AllStand h (reached before) (base_of h.header before) xs
-items_stand h before [] items = tt
-items_stand h before (x ∷ xs) items = (
-  items.0,
-  subst (λ s. AllStand h s (with_text (base_of h.header before) x) xs)
-      (reached-append nothing_yet before (x ∷ []))
-      (subst (λ b. AllStand h (reached (before ++ x ∷ [])) b xs)
-      (text-append (opening_base h.header) before (x ∷ []))
-      (items_stand h (before ++ x ∷ []) xs items.1)),
-)
-
 pub stand_items : (h : Head) (before xs : List Line) →
     AllStand h (reached before) (base_of h.header before) xs → AreItems history_form h before xs
 stand_items h before [] stand = tt
@@ -64,11 +52,6 @@ stand_items h before (x ∷ xs) stand = (
 )
 
 -- the lines of a base
-pub based_read : (h : Head) (s : Reached) (b : Base) (xs : List BaseLine) → AllStand h s b (map Based xs) →
-    AllRead b s.told xs
-based_read h s b [] stand = tt
-based_read h s b (x ∷ xs) stand = (stand.0.2, based_read h (one_line s (Based x)) (with_line b x) xs stand.1)
-
 pub read_based : (h : Head) (s : Reached) (b : Base) (xs : List BaseLine) → h.is_based ≡ true →
     s.count ≡ 0 → AllRead b s.told xs → AllStand h s b (map Based xs)
 read_based h s b [] based none read = tt
@@ -81,10 +64,6 @@ pub reached_based : (s : Reached) (xs : List BaseLine) →
     after_lines s (map Based xs) ≡ record s { told = after_told s.told xs }
 reached_based s [] = refl
 reached_based s (x ∷ xs) = reached_based (one_line s (Based x)) xs
-
-pub text_based : (b : Base) (xs : List BaseLine) → after_text b (map Based xs) ≡ with_lines b xs
-text_based b [] = refl
-text_based b (x ∷ xs) = text_based (with_line b x) xs
 
 -- entries behind entries
 pub entries_stand : (h : Head) (s : Reached) (b : Base) (n : ℕ) (es : List Entry) → IsWhole h s →
@@ -100,112 +79,12 @@ entries_told : (s : Reached) (n : ℕ) (es : List Entry) → (after_lines s (num
 entries_told s n [] = refl
 entries_told s n (e ∷ es) = entries_told (one_line s (Entered n e)) (n + 1) es
 
--- behind an entry come entries alone
-entries_only : (h : Head) (s : Reached) (b : Base) (lines : List Line) → AllStand h s b lines →
-    1 ≤ s.count → (es : List Entry) × (numbered (s.told.entries + s.count) es ≡ lines)
-entries_only h s b [] stand some = ([], refl)
-entries_only h s b (Based x ∷ lines) stand some = let none = stand.0.1 in absurd (omega (arith, none, some))
-entries_only h s b (Entered n e ∷ lines) stand some =
-    let rest = entries_only h (one_line s (Entered n e)) b lines stand.1 (omega (arith, some)) in
-    let next : s.told.entries + s.count + 1 ≡ s.told.entries + (s.count + 1) = omega arith in
-    let at : s.told.entries + s.count ≡ n = sym stand.0.1 in (
-      e ∷ rest.0,
-      ap (λ (m : ℕ). Entered m e ∷ numbered (s.told.entries + s.count + 1) rest.0) at
-          ∙ ap (λ (m : ℕ). Entered n e ∷ numbered m rest.0) next ∙ ap (λ l. Entered n e ∷ l) rest.1,
-    )
-
--- what lines are made of: those of a base, and entries
-pub record Parts (h : Head) (s : Reached) (b : Base) (lines : List Line) : Type 0 where
-  pub based : List BaseLine
-  pub entries : List Entry
-  pub same : map Based based ++ numbered (after_told s.told based).entries entries ≡ lines
-  pub read : AllRead b s.told based
-  pub none : h.is_based ≡ false → based ≡ []
-
-pub parts_of : (h : Head) (s : Reached) (b : Base) (lines : List Line) → AllStand h s b lines →
-    s.count ≡ 0 → Parts h s b lines
-parts_of h s b [] stand none =
-    record { based = []; entries = []; same = refl; read = tt; none = λ f. refl }
-parts_of h s b (Based x ∷ lines) stand none =
-    let rest = parts_of h (one_line s (Based x)) (with_line b x) lines stand.1 none in
-    let is = stand.0.0 in
-    record {
-      based = x ∷ rest.based;
-      entries = rest.entries;
-      same = ap (λ l. Based x ∷ l) rest.same;
-      read = (stand.0.2, rest.read);
-      none = λ f. cc (is, f);
-    }
-parts_of h s b (Entered n e ∷ lines) stand none =
-    let rest = entries_only h (one_line s (Entered n e)) b lines stand.1 (omega arith) in
-    let at : s.told.entries ≡ n = let q = stand.0.1 in omega (arith, q, none) in
-    let next : s.told.entries + 1 ≡ s.told.entries + (s.count + 1) = omega (arith, none) in
-    record {
-      based = [];
-      entries = e ∷ rest.0;
-      same = ap (λ (m : ℕ). Entered m e ∷ numbered (s.told.entries + 1) rest.0) at
-          ∙ ap (λ (m : ℕ). Entered n e ∷ numbered m rest.0) next ∙ ap (λ l. Entered n e ∷ l) rest.1;
-      read = tt;
-      none = λ f. refl;
-    }
-
--- a text is of a base
-pub record IsOnBase (h : Head) (lines : List Line) : Type 0 where
-  pub base : Base
-  pub entries : List Entry
-  pub good : IsBaseOf h.header base
-  pub head : head_of base ≡ h
-  pub same : lines_on base entries ≡ lines
-
 told_whole : (h : Head) (s : Reached) (xs : List BaseLine) (n : ℕ) (es : List Entry) →
     (after_lines s (map Based xs ++ numbered n es)).told ≡ after_told s.told xs
 told_whole h s xs n es =
     ap (λ (r : Reached). r.told) (reached-append s (map Based xs) (numbered n es))
     ∙ entries_told (after_lines s (map Based xs)) n es
     ∙ ap (λ (r : Reached). r.told) (reached_based s xs)
-
-pub on_base : (h : Head) (lines : List Line) → IsInRange h.header → AreItems history_form h [] lines →
-    IsWhole h (reached lines) → IsOnBase h lines
-on_base h lines range items whole = by h.is_based refl
-  where
-    parts : Parts h nothing_yet (opening_base h.header) lines
-    parts = parts_of h nothing_yet (opening_base h.header) lines (items_stand h [] lines items) refl
-
-    by : (q : Bool) → h.is_based ≡ q → IsOnBase h lines
-    by false q =
-        let none : parts.based ≡ [] = parts.none q in
-        record {
-          base = opening_base h.header;
-          entries = parts.entries;
-          good = (refl, inl refl);
-          head = λ j. record { is_based = sym q j; header = h.header };
-          same = ap (λ xs. map Based xs ++ numbered (after_told untold xs).entries parts.entries) (sym none)
-              ∙ parts.same;
-        }
-    by true q =
-        let xs = parts.based in
-        let reached_told : (reached lines).told ≡ after_told untold parts.based =
-        ap (λ l. (reached l).told) (sym parts.same)
-        ∙ told_whole h nothing_yet xs (after_told untold xs).entries parts.entries in
-        let all : AllSeated h.header (after_told untold parts.based) =
-        subst (AllSeated h.header) reached_told (whole q) in
-        let is = reads_good h.header xs range parts.read all in
-        let kept : (said h.header parts.based).header ≡ h.header = header_after (opening_base h.header) xs in
-        let some : ltb 0 (said h.header parts.based).entries ≡ true =
-        lt-ltb 0 (said h.header parts.based).entries is.0.some in
-        let count : (said h.header parts.based).entries ≡ (after_told untold parts.based).entries =
-        (told_so_far h.header xs range parts.read).summed.entries in
-        record {
-          base = said h.header xs;
-          entries = parts.entries;
-          good = (kept, inr (is.0.some, is.0.good));
-          head = λ j. record { is_based = (some ∙ sym q) j; header = kept j };
-          same = ap (λ (c : Bool). map Based (cond c (base_lines (said h.header xs)) [])
-              ++ numbered (said h.header xs).entries parts.entries) some
-              ∙ ap (λ l. map Based l ++ numbered (said h.header xs).entries parts.entries) is.1
-              ∙ ap (λ (n : ℕ). map Based xs ++ numbered n parts.entries) count
-              ∙ parts.same;
-        }
 
 -- the lines on a base tell what those of the base do
 pub told_on : (b : Base) (es : List Entry) →

@@ -1,6 +1,5 @@
 -- The lines of a base and good bases.
-use Rattle.std.proofs.Common.{◌≡◌, ◌≤◌, List, [], ◌∷◌, ◌++◌, ap, ◌∙◌, sym, subst, refl, arith}
-use Rattle.std.proofs.lemmas.List.{append_assoc}
+use Rattle.std.proofs.Common.{◌≡◌, ◌≤◌, List, [], ◌∷◌, ap, ◌∙◌, sym, subst, refl, arith}
 use Rattle.history.specs.declared.header.Header.{Header}
 use Rattle.history.specs.Base.{Base, based, opening_base, seat_of}
 use Rattle.history.specs.declared.header.Object.{Object}
@@ -17,7 +16,6 @@ use Rattle.history_text.specs.BaseTelling.{IsToldBase}
 use Rattle.history_text.proofs.BaseRetold.{good_told}
 use Rattle.history_text.proofs.BaseTold.{gave_moved, header_after, header_kept, stands_moved, whole_told}
 use Rattle.history_text.proofs.BaseWalk.{IsTold, base_told}
-use Rattle.history_text.proofs.BaseWhole.{some_base}
 
 -- a good base of some entries, with a header in range
 pub record IsGoodOf (b : Base) : Type 0 where
@@ -112,20 +110,6 @@ pub reads_good : (k : Header) (xs : List BaseLine) → IsInRange k → AllRead (
 reads_good k xs range read all =
     let whole = whole_told k xs range read all in
     (of_header k (said k xs) range whole.1, sym whole.0)
-
--- a line may follow these exactly where some good base begins with them and it
-pub some_good : (k : Header) (xs : List BaseLine) (x : BaseLine) → IsInRange k →
-    AllRead (opening_base k) untold (xs ++ x ∷ [])
-    → (b : Base) × (more : List BaseLine) × IsGoodOf b × (b.header ≡ k)
-    × (base_lines b ≡ xs ++ x ∷ more)
-some_good k xs x range read =
-    let some = some_base k (xs ++ x ∷ []) range read in (
-      some.0,
-      some.1,
-      of_header k some.0 range some.2,
-      some.2.header,
-      some.3 ∙ append_assoc xs (x ∷ []) some.1,
-    )
 
 -- a base that has the shape of its object, and each of whose lines may follow those before it, is good
 first_read : (b : Base) (o : Object) → MayFollow untold b (first_line o b) →

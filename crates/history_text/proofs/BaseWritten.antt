@@ -1,5 +1,5 @@
 -- Lines of a base, written or followed one after another.
-use Rattle.std.proofs.Common.{◌≡◌, ℕ, zero, suc, ◌+◌, ◌<◌, List, [], ◌∷◌, ◌++◌, length, map, get_or, drop, refl, sym, ap, ◌∙◌, arith, append_assoc, append-nil}
+use Rattle.std.proofs.Common.{◌≡◌, ℕ, suc, ◌+◌, ◌<◌, List, [], ◌∷◌, ◌++◌, length, map, get_or, drop, refl, sym, ap, ◌∙◌, arith, append_assoc, append-nil}
 use Rattle.std.specs.List.{AllByRecursion}
 use Rattle.std.proofs.lemmas.List.{drop-map}
 use Rattle.std.proofs.Math.Seq.{drop-cons}
@@ -9,7 +9,7 @@ use Rattle.history.specs.Text.{ended}
 use Rattle.history_text.specs.declared.base_line.BaseLine.{BaseLine}
 use Rattle.history_text.specs.declared.base_line.BaseLine.TheVariants.{Seat, Sleeps}
 use Rattle.history_text.specs.BaseLines.{base_line, seat_lines, sleeper_lines}
-use Rattle.history_text.specs.BaseText.{calls_sum, lines_text}
+use Rattle.history_text.specs.BaseText.{lines_text}
 
 -- one line more is written
 pub line_written : (out new : List ℕ) (x : BaseLine) (rest : List BaseLine) (all : List ℕ) →
@@ -24,22 +24,6 @@ pub left_at : {X : Type 0} (f : X → BaseLine) (xs : List X) (i : ℕ) (d : X) 
 left_at f xs i d lt =
     let next : suc i ≡ i + 1 = omega arith in
     ap (map f) (drop-cons xs i d lt) ∙ ap (λ (k : ℕ). f (get_or xs i d) ∷ map f (drop k xs)) next
-
-pub sum_at : (xs : List SeatBase) (i : ℕ) (d : SeatBase) → i < length xs →
-    calls_sum (drop i xs) ≡ (get_or xs i d).calls + calls_sum (drop (i + 1) xs)
-sum_at xs i d lt =
-    let next : suc i ≡ i + 1 = omega arith in
-    ap calls_sum (drop-cons xs i d lt)
-    ∙ ap (λ (k : ℕ). (get_or xs i d).calls + calls_sum (drop k xs)) next
-
-pub nothing_left : (xs : List SeatBase) (i : ℕ) → length xs ≡ i → calls_sum (drop i xs) ≡ 0
-nothing_left [] i is = by i
-  where
-    by : (n : ℕ) → calls_sum (drop n []) ≡ 0
-    by zero = refl
-    by (suc n) = refl
-nothing_left (x ∷ xs) zero is = absurd (omega (arith, is))
-nothing_left (x ∷ xs) (suc i) is = nothing_left xs i (omega (arith, is))
 
 pub seats_left : (xs : List SeatBase) (i : ℕ) (d : SeatBase) → i < length xs →
     seat_lines i (drop i xs) ≡ Seat i (get_or xs i d) ∷ seat_lines (i + 1) (drop (i + 1) xs)

@@ -1,11 +1,11 @@
 -- The first line and the lines of a base are written.
-use Rattle.std.proofs.Common.{◌≡◌, ⊎_elim, ℕ, zero, suc, ◌+◌, ◌≤◌, Bool, List, [], ◌∷◌, ◌++◌, length, get_or, refl, sym, ap, ◌∙◌, arith, append_assoc, append-nil, codes}
+use Rattle.std.proofs.Common.{◌≡◌, ℕ, zero, suc, ◌+◌, ◌≤◌, Bool, List, [], ◌∷◌, ◌++◌, length, get_or, refl, sym, ap, ◌∙◌, arith, append_assoc, append-nil, codes}
 use Rattle.std.specs.List.{AllByRecursion}
 use Rattle.history.specs.declared.base.SeatBase.{SeatBase}
 use Rattle.history.specs.declared.header.Header.{Header}
 use Rattle.history.specs.Base.{Base, based, each_below, nothing, opening_base, seat_of}
 use Rattle.history.specs.Counts.{total}
-use Rattle.history.specs.GoodBase.{IsBaseOf, IsGood, most_folded}
+use Rattle.history.specs.GoodBase.{IsGood, most_folded}
 use Rattle.history.specs.Header.{IsInRange}
 use Rattle.history.specs.Legal.{calls}
 use Rattle.history.specs.Spelling.{part_of}
@@ -98,16 +98,3 @@ opening_written k out new is =
       calls = sym (sum_none k.seats);
       some = omega arith;
     }
-
--- of a base that is good, or that of the opening
-pub good_of : (k : Header) (b : Base) → IsBaseOf k b → 1 ≤ b.entries → (b.header ≡ k) × IsGood b
-good_of k b of some = (of.0, ⊎_elim opening (λ good. good.1) of.1)
-  where
-    opening : b ≡ opening_base k → IsGood b
-    opening is = let none = ap (λ (a : Base). a.entries) is in absurd (omega (arith, none, some))
-
-pub opening_of : (k : Header) (b : Base) → IsBaseOf k b → b.entries ≡ 0 → b ≡ opening_base k
-opening_of k b of none = ⊎_elim (λ is. is) good of.1
-  where
-    good : (1 ≤ b.entries) × IsGood b → b ≡ opening_base k
-    good q = absurd (omega (arith, q.0, none))

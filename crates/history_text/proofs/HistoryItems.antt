@@ -18,11 +18,6 @@ pub after_lines-push : (s : Reached) (xs : List Line) (x : Line) →
 after_lines-push s [] x = refl
 after_lines-push s (y ∷ xs) x = after_lines-push (one_line s y) xs x
 
-pub after_text-push : (b : Base) (xs : List Line) (x : Line) →
-    after_text b (xs ++ x ∷ []) ≡ with_text (after_text b xs) x
-after_text-push b [] x = refl
-after_text-push b (y ∷ xs) x = after_text-push (with_text b y) xs x
-
 -- The numbers of what was read so far are small.
 pub record IsSmall (h : Head) (s : Reached) : Type 0 where
   pub entries : s.told.entries ≤ most_folded

@@ -1,5 +1,5 @@
 -- A history text has one reading, and what is written of a history that fits is read.
-use Rattle.std.proofs.Common.{◌≡◌, ⊎_elim, ℕ, ◌+◌, ◌≤◌, true, ltb, List, [], ◌∷◌, ◌++◌, map, Result, Ok, Err, refl, sym, ap, subst, ◌∙◌, arith}
+use Rattle.std.proofs.Common.{◌≡◌, ⊎_elim, ℕ, ◌+◌, ◌≤◌, true, ltb, List, [], ◌∷◌, ◌++◌, map, Result, Ok, Err, refl, sym, ap, ◌∙◌, arith}
 use Rattle.std.proofs.lemmas.Bool.{lt-ltb}
 use Rattle.history.specs.declared.entry.Entry.{Entry}
 use Rattle.history.specs.declared.header.Header.{Header}
@@ -7,18 +7,17 @@ use Rattle.history.specs.Base.{Base, opening_base}
 use Rattle.history.specs.GoodBase.{IsBaseOf, IsGood}
 use Rattle.history.specs.Header.{IsInRange}
 use Rattle.line_text.specs.declared.fault.TextFault.{TextFault}
-use Rattle.line_text.specs.Form.{AreItems}
 use Rattle.line_text.specs.Reading.{Reading}
 use Rattle.line_text.proofs.OneReading.{one}
 use Rattle.history_text.specs.declared.base_line.BaseLine.{BaseLine}
 use Rattle.history_text.specs.declared.place.Head.{Head}
-use Rattle.history_text.specs.BaseFollowing.{AllRead, after_told, with_lines}
+use Rattle.history_text.specs.BaseFollowing.{after_told, with_lines}
 use Rattle.history_text.specs.BaseLines.{base_lines}
-use Rattle.history_text.specs.BaseRules.{Told, told, untold, with_line}
+use Rattle.history_text.specs.BaseRules.{told, untold, with_line}
 use Rattle.history_text.specs.HistoryLines.{Based, Entered, Line, Reached, after_lines, after_text, base_of, head_of, lines_on, lines_told, nothing_yet, numbered, reached}
 use Rattle.history_text.specs.HistoryText.{IsHistoryReading, IsHistoryText, history_form}
 use Rattle.history_text.proofs.BaseTheory.{good_again}
-use Rattle.history_text.proofs.HistoryItems.{after_lines-push, after_text-append, after_text-push, text_entries}
+use Rattle.history_text.proofs.HistoryItems.{after_text-append, text_entries}
 use Rattle.history_text.proofs.HistoryLawful.{lawful}
 
 -- ---- the lines of a base, as lines of a text
@@ -35,36 +34,6 @@ told_lines s (x ∷ xs) = told_lines (record { told = told s.told x; count = s.c
 pub reached_lines : (xs : List BaseLine) →
     reached (map Based xs) ≡ record { told = after_told untold xs; count = 0; calls = 0 }
 reached_lines xs = told_lines nothing_yet xs
-
--- lines that may follow each other are items of a text
-pub items_from : (h : Head) (before : List Line) (xs : List BaseLine) → h.is_based ≡ true →
-    (reached before).count ≡ 0 → AllRead (base_of h.header before) (reached before).told xs →
-    AreItems history_form h before (map Based xs)
-items_from h before [] based none all = tt
-items_from h before (x ∷ xs) based none all =
-    let s = after_lines-push nothing_yet before (Based x) in
-    let b = after_text-push (opening_base h.header) before (Based x) in (
-      (based, none, all.0),
-      items_from h (before ++ Based x ∷ []) xs based (ap (λ (z : Reached). z.count) s ∙ none)
-          (subst (λ (z : Base). AllRead z (reached (before ++ Based x ∷ [])).told xs) (sym b)
-          (subst (λ (z : Told). AllRead (with_line (base_of h.header before) x) z xs)
-          (sym (ap (λ (z : Reached). z.told) s)) all.1)),
-    )
-
--- and the converse
-pub all_read_from : (h : Head) (before : List Line) (xs : List BaseLine) →
-    AreItems history_form h before (map Based xs) →
-    AllRead (base_of h.header before) (reached before).told xs
-all_read_from h before [] items = tt
-all_read_from h before (x ∷ xs) items =
-    let s = after_lines-push nothing_yet before (Based x) in
-    let b = after_text-push (opening_base h.header) before (Based x) in
-    let rest = all_read_from h (before ++ Based x ∷ []) xs items.1 in (
-      items.0.2,
-      subst (λ (z : Told). AllRead (with_line (base_of h.header before) x) z xs)
-          (ap (λ (z : Reached). z.told) s)
-          (subst (λ (z : Base). AllRead z (reached (before ++ Based x ∷ [])).told xs) b rest),
-    )
 
 -- ---- a base and its lines
 

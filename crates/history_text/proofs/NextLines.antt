@@ -1,12 +1,12 @@
 -- What the next line of a history text says, behind its base.
-use Rattle.std.proofs.Common.{◌≡◌, ◌≢◌, ℕ, ◌+◌, ◌<◌, Bool, true, false, eqb, List, ◌∷◌, ◌++◌, length, Ok, Err, None, Some, sym, ap, subst, ◌∙◌, arith, inl, inr}
+use Rattle.std.proofs.Common.{◌≡◌, ◌≢◌, ℕ, ◌+◌, ◌<◌, Bool, true, false, eqb, List, ◌∷◌, ◌++◌, length, Ok, Err, None, sym, ap, subst, ◌∙◌, arith, inl}
 use Rattle.std.specs.Prelude.{codes}
 use Rattle.history.specs.declared.entry.Entry.{Entry}
 use Rattle.history.specs.declared.header.Header.{Header}
 use Rattle.history.specs.Base.{Base}
 use Rattle.history.specs.Header.{IsInRange}
 use Rattle.history.specs.Spelling.{part_of}
-use Rattle.history.specs.Text.{HasNoBreak, ended}
+use Rattle.history.specs.Text.{HasNoBreak}
 use Rattle.line_text.specs.declared.fault.TextFault.{TextFault}
 use Rattle.line_text.specs.declared.fault.TextFault.TheVariants.{BadHeader, BadLine, CutShort}
 use Rattle.line_text.specs.HeaderLine.{LacksHeader}
@@ -78,28 +78,6 @@ module _ (k : Header) (p : Place) (rest : List ℕ) where
   behind_last line after parts is some = λ h b s header placed text.
       more_behind history_form text (lines_so_far h b s lines) rest line after parts
       (is_end h b s line placed is) some
-
-  pub next_line : (e : Entry) (after : List ℕ) (left : ℕ) → p.count < k.cap → HasLine k e →
-      rest ≡ ended (entry_line number e) ++ after → length after ≡ left →
-      IsEntryBehind k p rest (Ok (Some (e, left)))
-  next_line e after left few fits parts long = λ h b s header placed text. (
-    after,
-    record {
-      fits = λ items count known.
-          subst (λ (z : Reached). MayStand h z (base_of h.header items) (Entered number e))
-          (sym known.reached) (
-            placed.whole,
-            sym (numbers h s placed),
-            omega (arith, placed.count, few, ap (λ (z : Header). z.cap) header),
-            subst (λ (z : Header). HasLine z e) (sym header) fits,
-          );
-      parts = parts;
-    },
-    long,
-  )
-
-  pub cut_line : HasNoBreak rest → IsEntryBehind k p rest (Err CutShort)
-  cut_line whole = λ h b s header placed text items read. inr (h, items, rest, read.begins, whole)
 
   -- no entry has this line
   abbrev pub IsNoEntry : List ℕ → Type 0

@@ -1,5 +1,5 @@
 -- A history text in its pieces.
-use Rattle.std.proofs.Common.{◌≡◌, ⊎_elim, ℕ, ◌+◌, ◌<◌, ◌≤◌, List, [], ◌∷◌, ◌++◌, length, map, reverse, refl, ap, sym, subst, ◌∙◌, arith, append_assoc}
+use Rattle.std.proofs.Common.{◌≡◌, ⊎_elim, ℕ, ◌+◌, ◌<◌, ◌≤◌, List, [], ◌∷◌, ◌++◌, length, map, reverse, refl, ap, sym, ◌∙◌, arith, append_assoc}
 use Rattle.std.proofs.lemmas.Bool.{cases_lt}
 use Rattle.std.proofs.lemmas.List.{length-reverse, reverse-append}
 use Rattle.history.specs.declared.entry.Entry.{Entry}
@@ -14,7 +14,7 @@ use Rattle.line_text.specs.Form.{lines_of}
 use Rattle.history_text.specs.declared.base_line.BaseLine.{BaseLine}
 use Rattle.history_text.specs.BaseFollowing.{after_told}
 use Rattle.history_text.specs.BaseLines.{base_line, base_lines}
-use Rattle.history_text.specs.BaseRules.{Told, untold}
+use Rattle.history_text.specs.BaseRules.{untold}
 use Rattle.history_text.specs.BaseText.{lines_text}
 use Rattle.history_text.specs.EntryLines.{counts_line, entry_line}
 use Rattle.history_text.specs.HistoryLines.{Based, Line, after_lines, head_line, head_of, lines_on, lines_told, nothing_yet, numbered, reached}

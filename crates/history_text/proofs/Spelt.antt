@@ -1,5 +1,5 @@
 -- Each entry of a legal history of an object as opened has a spelling.
-use Rattle.std.proofs.Common.{◌≡◌, ◌≢◌, ◌⊎◌, inl, inr, ℕ, ◌<◌, true, false, not, eqb, ltb, List, [], ◌∷◌, Some, Ok, refl, ap, sym, subst, arith}
+use Rattle.std.proofs.Common.{◌≡◌, ◌≢◌, ◌⊎◌, inl, inr, ℕ, true, false, not, eqb, ltb, List, [], ◌∷◌, Some, Ok, refl, ap, sym, subst}
 use Rattle.std.specs.List.{AllByRecursion}
 use Rattle.std.proofs.lemmas.Bool.{or_parts, not-false, eqb-true}
 use Rattle.history.specs.declared.arrival.Arrival.{Arrival}
@@ -10,22 +10,21 @@ use Rattle.history.specs.declared.entry.Mode.{Mode}
 use Rattle.history.specs.declared.entry.Mode.TheVariants.{X, S}
 use Rattle.history.specs.declared.entry.Word.{Word}
 use Rattle.history.specs.declared.entry.Word.TheVariants as word
-use Rattle.history.specs.declared.header.Header.{Header}
 use Rattle.history.specs.declared.header.Object.{Object}
 use Rattle.history.specs.declared.header.Object.TheVariants.{Lock, ReadWrite, Semaphore, Latch}
 use Rattle.history.specs.declared.step.Step.{Step}
 use Rattle.history.specs.EntryWords.{IsSpelt, HasWords, GaveUp, CameBack}
 use Rattle.history.specs.Faults.{lacks_mode, is_bad_number}
 use Rattle.history.specs.Line.{line, place_of}
-use Rattle.history.specs.Legal.{IsLegal, AreSeated}
+use Rattle.history.specs.Legal.{IsLegal}
 use Rattle.history.specs.Object.{is_latch}
 use Rattle.history.specs.Phase.{phase}
 use Rattle.history.specs.Sleepers.{last_sleep}
-use Rattle.history.specs.Start.{Start, opening}
+use Rattle.history.specs.Start.{Start}
 use Rattle.history.specs.Steps.{entry_for}
 use Rattle.history.proofs.Entering.{KnownBy, known, by_phase}
 use Rattle.history_text.proofs.Made.{IsMadeBy, RefusesByRecorded, made}
-use Rattle.history.proofs.OneWait.{Waits, waits, waits_from}
+use Rattle.history.proofs.OneWait.{Waits, waits_from}
 use Rattle.history.proofs.WhoWaits.{comes_back}
 
 shared : (m : Mode) → lacks_mode (Latch 0) m ≡ false → m ≡ S
@@ -94,32 +93,6 @@ spelt_by s h e word.Drained r k f =
 pub seat_made : (s : Start) (h : List Entry) (i : ℕ) (step : Step) (e : Entry) →
     entry_for s h i step ≡ Ok (Some e) → IsMadeBy i e
 seat_made s h i step e q = made s h i step e (phase s h i) (by_phase s h i step e q)
-
-of_seat : (s : Start) (h : List Entry) (i : ℕ) (step : Step) (e : Entry) →
-    entry_for s h i step ≡ Ok (Some e) → entry_for s h e.seat step ≡ Ok (Some e)
-of_seat s h i step e q = subst (λ (j : ℕ). entry_for s h j step ≡ Ok (Some e))
-    (sym (seat_made s h i step e q).seat) q
-
--- one more entry of a seat that a step of it makes
-pub legal_more : (s : Start) (h : List Entry) (i : ℕ) (step : Step) (e : Entry) → IsLegal s h →
-    entry_for s h i step ≡ Ok (Some e) → IsLegal s (e ∷ h)
-legal_more s h i step e legal q = ((step, of_seat s h i step e q), legal)
-
-pub seated_more : (s : Start) (h : List Entry) (i : ℕ) (step : Step) (e : Entry) → AreSeated s h →
-    i < s.header.seats → entry_for s h i step ≡ Ok (Some e) → AreSeated s (e ∷ h)
-seated_more s h i step e seated below q = (omega (arith, (seat_made s h i step e q).seat, below), seated)
-
-pub spelt : (header : Header) (h : List Entry) (i : ℕ) (step : Step) (e : Entry) →
-    IsLegal (opening header) h → entry_for (opening header) h i step ≡ Ok (Some e) → IsSpelt e
-spelt header h i step e legal q =
-    let s = opening header in
-    spelt_by s h e e.word (waits header h legal) (known s h step e (of_seat s h i step e q))
-    (seat_made s h i step e q).fault
-
-pub all_spelt : (header : Header) (h : List Entry) → IsLegal (opening header) h → AllByRecursion IsSpelt h
-all_spelt header [] legal = tt
-all_spelt header (e ∷ h) legal =
-    (spelt header h e.seat legal.0.0 e legal.1 legal.0.1, all_spelt header h legal.1)
 
 -- ---- a legal history from any start at which everybody who waits does so rightly
 

@@ -1,5 +1,5 @@
 -- The first step of an acquire, and how its parts fit together.
-use Rattle.std.proofs.Common.{◌≡◌, ◌≢◌, ◌⊎◌, inl, inr, ⊎_elim, ℕ, eqb, Bool, true, false, cond, List, [], ◌∷◌, ◌++◌, Option, Some, None, Result, Ok, Err, refl, sym, ap, ◌∙◌, subst, append_assoc}
+use Rattle.std.proofs.Common.{◌≡◌, ◌≢◌, ◌⊎◌, inl, inr, ⊎_elim, ℕ, eqb, Bool, true, false, cond, List, [], ◌∷◌, Option, Some, None, Result, Ok, Err, refl, sym, ap, ◌∙◌, subst}
 use Rattle.std.specs.List.{filter}
 use Rattle.std.proofs.lemmas.Bool.{eq-eqb, eqb-true}
 use Rattle.history.specs.Could.{could, limit, held_back}
@@ -33,7 +33,8 @@ use Rattle.monitor.specs.declared.waiting.Limits.{Limits}
 use Rattle.monitor.specs.Acquire.{AtOnce, IsEndFor, LimitsFor, EndsAtOnce, IsAcquire, first_step, is_interruptible, is_timed, has_time}
 use Rattle.monitor.specs.Waits.{StandsFor, IsMade, IsLast, IsEnd, in_line, IsWait, IsWaited, WaitsAs, asking}
 use Rattle.monitor.proofs.Turns.{there_later}
-use Rattle.monitor.proofs.InLine.{place_filter, place_behind, records, made_in, same_self}
+use Rattle.history.proofs.Staying.{place_filter, place_behind}
+use Rattle.monitor.proofs.InLine.{records, made_in, same_self}
 
 -- an entry of a step that is none of one who waits is an idle seat's
 pub record IsIdleEntry (s : Start) (h : List Entry) (i : ℕ) (step : Step) (e : Entry) : Type 0 where

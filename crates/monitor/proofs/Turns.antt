@@ -1,5 +1,5 @@
 -- What a step of one who waits makes, and what it leaves of the wait.
-use Rattle.std.proofs.Common.{◌≡◌, ◌⊎◌, inl, inr, ℕ, ◌==◌, Bool, true, false, List, ◌∷◌, ◌++◌, Option, Some, None, Result, Ok, Err, IsOk, refl, sym, ap, ◌∙◌, subst, append_assoc}
+use Rattle.std.proofs.Common.{◌≡◌, ◌⊎◌, inl, inr, ℕ, Bool, true, false, List, ◌∷◌, Option, Some, None, Result, Ok, Err, IsOk, refl, sym, ap, ◌∙◌, subst}
 use Rattle.history.specs.declared.arrival.Arrival.{Arrival}
 use Rattle.history.specs.declared.entry.End.{End}
 use Rattle.history.specs.declared.entry.Entry.{Entry}
@@ -20,7 +20,7 @@ use Rattle.frame.specs.Core.{CoreView}
 use Rattle.history.specs.declared.point.Point.{Point}
 use Rattle.word_lock.specs.Point.{Before, Agrees}
 use Rattle.word_lock.proofs.PointLaws.{before_refl, before_trans}
-use Rattle.history.specs.Awaiting.{AwaitsAs, ReturnsAs, AwaitMakes, sleeps_on, comes_back, lapses, LapsesBy, lapsed, back_from, lapse_from}
+use Rattle.history.specs.Awaiting.{ReturnsAs, AwaitMakes, sleeps_on, comes_back, lapses, LapsesBy, lapsed, back_from, lapse_from}
 use Rattle.history.proofs.Awaiting.{await_turn}
 use Rattle.history.proofs.Lasting.{still_awaits_there, still_returns_there, still_stands}
 use Rattle.monitor.specs.Lawful.{view_of, IsLawful}

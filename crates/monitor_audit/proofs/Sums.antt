@@ -1,12 +1,12 @@
 -- The calls before a base.
-use Rattle.std.proofs.Common.{◌≡◌, ⊎_elim, ℕ, zero, suc, ◌+◌, ◌<◌, ◌≤◌, List, length, get_or, None, ap, ◌∙◌, arith}
+use Rattle.std.proofs.Common.{◌≡◌, ⊎_elim, ℕ, zero, suc, ◌+◌, ◌<◌, ◌≤◌, List, length, get_or, None, ap, arith}
 use Rattle.std.proofs.lemmas.Bool.{cases_eq}
 use Rattle.history.specs.declared.base.SeatBase.{SeatBase}
 use Rattle.history.specs.declared.header.Header.{Header}
-use Rattle.history.specs.Base.{Base, based, nothing, seat_of}
+use Rattle.history.specs.Base.{based, nothing}
 use Rattle.history.specs.Counts.{total}
 use Rattle.history.specs.Entries.{or_opening}
-use Rattle.history.specs.GoodBase.{IsGood, most_folded}
+use Rattle.history.specs.GoodBase.{most_folded}
 use Rattle.history.specs.Start.{Start}
 use Rattle.history.proofs.OpeningBase.{based_opening}
 
@@ -21,16 +21,6 @@ total_front k (suc n) f l =
     ⊎_elim (λ (same : k ≡ suc n). let e = ap (λ m. total m f) same in omega (arith, e))
     (λ ne. let before = total_front k n f (omega (arith, l, ne)) in omega (arith, before))
     (cases_eq k (suc n))
-
--- the calls of a base's seats
-pub calls_are : (b : Base) → IsGood b → (seats : List SeatBase) → seats ≡ b.seats →
-    total (length seats) (λ i. (get_or seats i nothing).calls) ≡ (based b).calls
-calls_are b good seats same =
-    ap (λ (l : List SeatBase). total (length l) (λ i. (get_or l i nothing).calls)) same
-    ∙ ap (λ n. total n (λ i. (seat_of b i).calls)) good.seats
-
-pub few_calls : (b : Base) → IsGood b → (based b).calls ≤ most_folded
-few_calls b good = let c = good.calls in let e = good.entries in omega (arith, c, e)
 
 pub no_calls : (k : Header) → (based (or_opening k None)).calls ≡ 0
 no_calls k = ap (λ (s : Start). s.calls) (based_opening k)

@@ -1,5 +1,5 @@
 -- What placing, freeing and cancelling make of the nodes that one list links.
-use Rattle.std.proofs.Common.{rules, ◌≡◌, ◌≢◌, ◌⊎◌, ℕ, ◌+◌, ◌<◌, ◌≤◌, List, [], ◌∷◌, ◌++◌, length, map, filter, not, get_or, Bool, true, false, Option, Some, None, IsSome, is_some, cond, eqb, slice_get, zero, suc, refl, sym, ap, ◌∙◌, subst, inl, inr, arith, eq-eqb, ne_eqb}
+use Rattle.std.proofs.Common.{rules, ◌≡◌, ◌≢◌, ℕ, ◌+◌, List, [], ◌∷◌, ◌++◌, length, map, not, get_or, true, Option, Some, None, IsSome, cond, slice_get, zero, suc, refl, sym, ap, ◌∙◌, subst, inl, inr, arith, eq-eqb, ne_eqb}
 use Rattle.std.proofs.lemmas.Bool.{cases_eq, cond-true, cond-false}
 use Rattle.std.proofs.lemmas.List.{length_push, map-append}
 use Rattle.std.proofs.lemmas.Option.{none-some, same_Some}
@@ -207,37 +207,6 @@ module _ (a : Places) (l : LinkedLists) (is : IsLinked a l) where
         room = omega (arith, is.room, changes.limit, moves.limit);
       }
 
-  pub linked-same : (b : Places) (p : ℕ) (s : Slot) → IsSome (slot_at a p) → Changes a b p (Some s) →
-      taken b ≡ taken a → IsLinked b l
-  linked-same b p s some changes same_taken =
-      record {
-        linked = λ q.
-            elim (cases_eq q p) [
-              | inl same ↦
-                  is.linked q ∙ ap (λ k. list_by (slot_at a k)) same ∙ list_some (slot_at a p) some
-                  ∙ ap list_by (sym changes.changed ∙ ap (slot_at b) (sym same))
-              | inr differs ↦ is.linked q ∙ ap list_by (sym (changes.others q differs))
-            ];
-        stands = λ q found.
-            elim (cases_eq q p) [
-              | inl same ↦ is_some_by _ s (ap (slot_at b) same ∙ changes.changed)
-              | inr differs ↦ subst IsSome (sym (changes.others q differs)) (is.stands q found)
-            ];
-        listed = λ q there.
-            elim (cases_eq q p) [
-              | inl same ↦ subst (λ k. IsIn k (items l 0)) (sym same) (is.listed p some)
-              | inr differs ↦ is.listed q (subst IsSome (changes.others q differs) there)
-            ];
-        apart = is.apart;
-        counted = same_taken ∙ is.counted;
-        one = is.one;
-        room = omega (arith, is.room, changes.limit);
-      }
-    where
-      list_some : (o : Option Slot) → IsSome o → list_by o ≡ Some 0
-      list_some None some = cc
-      list_some (Some x) some = refl
-
 -- what a number that finds a node tells of its place
 pub found_slot : (a : Places) (number : NodeNo) (node : Node) → find a number ≡ Some node →
     slot_at a number.place ≡ Some (record { generation = number.generation; node = node })
@@ -282,7 +251,6 @@ some_in_list a l number is some = by (find a number) refl (rw (under_is a l is n
     by (Some node) e some = subst IsSome (sym (in_list a l is number node e)) refl
 
 -- the nodes by their index
-
 index_in : (keys : List ℕ) (k q : ℕ) → slice_get keys k ≡ Some q → IsIn q keys
 index_in [] k q found = absurd (none-some q found)
 index_in (first ∷ rest) zero q found = inl (same_Some first q found)

@@ -1,5 +1,5 @@
 -- How a ring of links changes when a key joins or leaves it.
-use Rattle.std.proofs.Common.{◌≡◌, ◌≢◌, ◌⊎◌, ℕ, zero, suc, ◌+◌, ◌-◌, ◌<◌, List, [], ◌∷◌, ◌++◌, length, slice_get, Option, Some, None, refl, sym, ap, ◌∙◌, subst, inl, inr, arith, eq-eqb, ne_eqb}
+use Rattle.std.proofs.Common.{◌≡◌, ◌≢◌, ◌⊎◌, ℕ, zero, suc, ◌+◌, ◌-◌, ◌<◌, List, [], ◌∷◌, ◌++◌, length, Option, Some, None, refl, sym, ap, ◌∙◌, subst, inl, inr, arith, eq-eqb, ne_eqb}
 use Rattle.std.proofs.lemmas.Bool.{cases_eq, cond-true, cond-false, not_from_true, not_from_false}
 use Rattle.std.proofs.lemmas.Option.{none-some, same_Some}
 use Rattle.node_arena.specs.LinkedLists.{without, IsIn, IsApart}
@@ -20,16 +20,6 @@ without_absent key [] absent = refl
 without_absent key (first ∷ rest) absent =
     without_past key first rest (λ same. absent (inl same))
     ∙ ap (λ xs. first ∷ xs) (without_absent key rest (λ found. absent (inr found)))
-
--- the first of keys that are apart leaves the rest behind
-pub without_first : (key : ℕ) (keys : List ℕ) → IsApart keys → Some key ≡ slice_get keys 0 →
-    (keys ≡ key ∷ without key keys) × (¬ IsIn key (without key keys))
-without_first key [] apart first = absurd (none-some key (sym first))
-without_first key (head ∷ rest) apart first =
-    let same = sym (same_Some key head first) in
-    let absent : ¬ IsIn key rest = λ there. apart.0 (subst (λ k. IsIn k rest) (sym same) there) in
-    let gone = without_head key head rest same ∙ without_absent key rest absent in
-    (rw (gone, same), rw gone absent)
 
 pub IsIn-without : (key other : ℕ) (keys : List ℕ) → IsIn other (without key keys) →
     IsIn other keys × (other ≢ key)

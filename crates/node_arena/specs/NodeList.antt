@@ -1,10 +1,10 @@
 -- Nodes in a list, as contracts see them.
-use Rattle.std.specs.Prelude.{◌≡◌, ℕ, ◌<◌, ◌≤◌, ◌==◌, not, Bool, true, false, ◌&&◌, if◌then◌else◌, List, [], ◌∷◌, map, filter, length, Option, Some, None, IsSome, slice_index_or, slice_get, zero, suc}
+use Rattle.std.specs.Prelude.{◌≡◌, ℕ, ◌==◌, not, Bool, true, if◌then◌else◌, List, [], ◌∷◌, map, filter, length, Option, Some, None, IsSome, slice_index_or, slice_get, zero, suc}
 use Rattle.node_arena.specs.declared.node.Node.{Node}
 use Rattle.node_arena.specs.declared.node.NodeNo.{NodeNo}
 use Rattle.node_arena.specs.declared.arena.Slot.{Slot}
 use Rattle.node_arena.specs.declared.node.Standing.{Standing}
-use Rattle.node_arena.specs.Arena.{Places, slot_at, taken, standing_by, standing_in}
+use Rattle.node_arena.specs.Arena.{Places, slot_at, taken, standing_by}
 use Rattle.node_arena.specs.LinkedLists.{LinkedLists, items, list_of, list_count, key_limit, IsIn, IsApart}
 
 -- The nodes from head to tail, each with its number, how many may stand at once, below what each place is,

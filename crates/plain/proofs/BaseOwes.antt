@@ -1,5 +1,5 @@
 -- What a good base owes, part by part.
-use Rattle.std.proofs.Common.{◌≡◌, ⊎_elim, ℕ, zero, suc, ◌+◌, ◌<◌, ◌≤◌, Bool, true, false, cond, List, [], ◌∷◌, length, map, get_or, take, refl, ap, ◌∙◌, sym, subst, arith}
+use Rattle.std.proofs.Common.{◌≡◌, ⊎_elim, ℕ, zero, suc, ◌+◌, ◌<◌, ◌≤◌, Bool, true, false, cond, List, [], ◌∷◌, length, map, get_or, take, refl, ap, ◌∙◌, sym, arith}
 use Rattle.std.specs.List.{AllByRecursion}
 use Rattle.std.proofs.lemmas.Bool.{cases_lt}
 use Rattle.std.proofs.lemmas.List.{get_or_past, length-map, take_more}
@@ -9,7 +9,7 @@ use Rattle.history.specs.declared.base.Standing.{Standing}
 use Rattle.history.specs.declared.header.Object.{Object}
 use Rattle.history.specs.declared.header.Object.TheVariants.{Lock, ReadWrite, Semaphore, Latch}
 use Rattle.history.specs.Base.{Base, based, nothing, seat_of, sleepers_of, standing_after}
-use Rattle.history.specs.GoodBase.{IsGood, SleepsWell, StandsWell}
+use Rattle.history.specs.GoodBase.{IsGood}
 use Rattle.history.specs.Header.{IsInRange}
 use Rattle.history.specs.Line.{line}
 use Rattle.history.specs.Object.{is_lock}
@@ -22,8 +22,6 @@ use Rattle.history.proofs.Folding.{SleptAs, all_again, all_slept}
 use Rattle.history.proofs.GoodBases.{good_owned}
 use Rattle.history.proofs.LineLemmas.{line_at_first}
 use Rattle.history.proofs.ListSums.{sum_of_append, sum_of_map}
-use Rattle.history.proofs.Owners.{most_fits}
-use Rattle.history.proofs.SmallBases.{few_exclusive}
 use Rattle.history.proofs.Times.{pigeonhole, total_part}
 use Rattle.audit.proofs.WaitingOnBase.{are_sleepers}
 use Rattle.plain.specs.Owing.{sleeper_owes, standing_owes}
@@ -83,39 +81,12 @@ all_sleeping : (b : Base) (c : ℕ) (xs : List Sleeper) → AllByRecursion (Slep
 all_sleeping b c [] all = tt
 all_sleeping b c (x ∷ xs) all = (ap (λ (w : Sleep). w.holds + 2) all.0.1, all_sleeping b c xs all.1)
 
-standing_few : (b : Base) (q : List Standing) → AllByRecursion (StandsWell b) q →
-    AllByRecursion (λ p. p.holds ≤ 2147483647) q
-standing_few b [] all = tt
-standing_few b (p ∷ q) all = (
-  ⊎_elim (λ asks. let z = asks.1.holds in omega (arith, z))
-      (λ comes.
-      let most = comes.1.gave.most in
-      let small = most_fits b.header.object in
-      omega (arith, most, small))
-      all.0,
-  standing_few b q all.1,
-)
-
-sleepers_few : (b : Base) (c : ℕ) (xs : List Sleeper) → AllByRecursion (SleepsWell b c) xs →
-    AllByRecursion (λ x. x.holds ≤ 2147483647) xs
-sleepers_few b c [] all = tt
-sleepers_few b c (x ∷ xs) all = (
-  (let most = all.0.most in let small = most_fits b.header.object in omega (arith, most, small)),
-  sleepers_few b c xs all.1,
-)
-
 seats_below : (n : ℕ) (xs : List Sleeper) → AllByRecursion (λ x. x.seat < n) xs →
     AllByRecursion (λ i. i < n) (map (λ (x : Sleeper). x.seat) xs)
 seats_below n [] all = tt
 seats_below n (x ∷ xs) all = (all.0, seats_below n xs all.1)
 
 module _ (b : Base) (good : IsGood b) where
-  pub exclusive_few : (seats : List SeatBase) → seats ≡ b.seats → (i : ℕ) →
-      (get_or seats i nothing).exclusive ≤ 2147483647
-  exclusive_few seats same i =
-      let few = few_exclusive b b.header.object refl good.held i in
-      let e = ap (λ (l : List SeatBase). (get_or l i nothing).exclusive) same in
-      omega (arith, few, e)
 
   pub shared_few : is_lock b.header.object ≡ true → (seats : List SeatBase) → seats ≡ b.seats → (i : ℕ) →
       (get_or seats i nothing).shared ≤ 2147483647
@@ -153,10 +124,6 @@ module _ (b : Base) (good : IsGood b) where
       ∙ sym (sum_of_map (arrival_owes (based b) []) (λ (p : Standing). p.who) b.line)
       ∙ ap (sum_of (arrival_owes (based b) [])) (sym (line_at_first (based b)))
 
-  pub line_few : (q : List Standing) → q ≡ b.line → AllByRecursion (λ p. p.holds ≤ 2147483647) q
-  line_few q same =
-      standing_few b q (subst (AllByRecursion (StandsWell b)) (sym same) good.line)
-
   pub asleep_is : (c : ℕ) → c < b.header.conditions →
       sum_of sleeper_owes (sleepers_of b c)
       ≡ sum_of (room.sleeper_owes (based b) []) (map (λ (x : Sleeper). x.seat) (sleepers_of b c))
@@ -170,9 +137,6 @@ module _ (b : Base) (good : IsGood b) where
   asleep_more c l =
       let e : c + 1 ≡ suc c = omega arith in
       rw e (ap (λ n. sleepers_owe c (based b) [] + n) (sym (asleep_is c l)))
-
-  pub asleep_few : (c : ℕ) → AllByRecursion (λ x. x.holds ≤ 2147483647) (sleepers_of b c)
-  asleep_few c = sleepers_few b c (sleepers_of b c) (good.sleepers c)
 
   pub asleep_short : IsInRange b.header → (c : ℕ) → length (sleepers_of b c) ≤ 256
   asleep_short range c =

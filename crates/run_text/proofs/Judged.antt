@@ -1,5 +1,5 @@
 -- What a report says of each object.
-use Rattle.std.proofs.Common.{◌≡◌, List, [], ◌∷◌, length, map, suc, true, refl, ap, sym, subst, arith, ◌∙◌}
+use Rattle.std.proofs.Common.{◌≡◌, List, [], ◌∷◌, length, suc, true, refl, ap, sym, subst, ◌∙◌}
 use Rattle.std.specs.List.{All}
 use Rattle.std.proofs.lemmas.List.{length-map}
 use Rattle.std.proofs.lemmas.List.Elements.{All-nil, All-cons, All-head, All-tail}

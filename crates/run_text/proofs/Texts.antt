@@ -1,5 +1,5 @@
 -- The texts of objects.
-use Rattle.std.proofs.Common.{◌≡◌, ℕ, ◌+◌, List, [], ◌∷◌, ◌++◌, Option, codes, length, reverse, refl, ap, sym, subst, ◌∙◌, append_assoc}
+use Rattle.std.proofs.Common.{◌≡◌, ℕ, ◌+◌, List, [], ◌∷◌, ◌++◌, Option, length, reverse, ap, sym, subst, ◌∙◌, append_assoc}
 use Rattle.std.specs.List.{All, concat}
 use Rattle.std.proofs.lemmas.List.Elements.{All-from_recursion}
 use Rattle.audit.specs.Verdict.{verdict_of}
@@ -59,15 +59,6 @@ lines_spelt part is =
     let s = based (base_of part) in
     All-from_recursion IsSpelt (reverse h)
     (each-reverse IsSpelt h (all_spelt_on s h (good_waits (base_of part) (good_base part is)) is.2))
-
--- the lines before the entries, one after another
-pub head_lines : (name named broken new : List ℕ) (b : Base) (n c : ℕ) → named ≡ codes "object " ++ name →
-    broken ≡ named ++ 10 ∷ [] → IsHeadPut b broken new n c → new ≡ head_text name b
-head_lines name named broken new b n c p q put =
-    let rest = lines_text (lines_told b) in
-    let first = ended (head_line (head_of b)) in
-    put.lines ∙ ap (λ (t : List ℕ). t ++ (first ++ rest)) (q ∙ ap (λ (t : List ℕ). t ++ 10 ∷ []) p)
-    ∙ sym (append_assoc (ended (name_line name)) first rest)
 
 -- the calls that were ended by the entries that were folded
 pub head_calls : (k : Header) (o : Option Base) (out new : List ℕ) (n c : ℕ) → IsInRange k → IsBasedWell k o →

@@ -1,9 +1,9 @@
 -- What reading a script answers: what its JSON value says, or the first fault.
-use Rattle.std.specs.Prelude.{◌≡◌, ℕ, List, [], Option, Some, length, IsUtf8, Result, Ok, Err}
+use Rattle.std.specs.Prelude.{◌≡◌, ℕ, List, [], Some, length, IsUtf8, Result, Ok, Err}
 use Rattle.serde_json.specs.Data.{Data}
 use Rattle.serde_json.specs.Read.{read}
 use Rattle.script.specs.Saying.{Say, StopsAt, IsTop, SaysObject, SaysCall, IsRounds, SaysWorker}
-use Rattle.script.specs.Script.{Named, WorkerView, ScriptView}
+use Rattle.script.specs.Script.{Named, ScriptView}
 use Rattle.script.specs.declared.call.Call.{Call}
 use Rattle.script.specs.declared.fault.ScriptFault.{ScriptFault}
 use Rattle.script.specs.declared.fault.ScriptFault.TheVariants.{NotJson, BadTop, BadObject, BadThread, BadCall, OutOfMemory}

@@ -1,5 +1,5 @@
 -- What a JSON value says of a script, part by part.
-use Rattle.std.specs.Prelude.{◌≡◌, ◌≢◌, ℕ, ◌≤◌, List, [], ◌∷◌, ◌++◌, Option, Some, option_map, length, take, slice_get, All, codes}
+use Rattle.std.specs.Prelude.{◌≡◌, ◌≢◌, ℕ, ◌≤◌, List, [], ◌∷◌, ◌++◌, Some, option_map, length, take, slice_get, All, codes}
 use Rattle.history.specs.Spelling.{part_of}
 use Rattle.serde_json.specs.Data.{Data, array, number, string, unsigned}
 use Rattle.serde_json.specs.Events.{members_len}

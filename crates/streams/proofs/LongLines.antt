@@ -7,7 +7,7 @@ use Rattle.std.proofs.lemmas.List.{length-append, length-take-le, take-append-le
 use Rattle.std.proofs.lemmas.List.Elements.{All-append}
 use Rattle.std.proofs.Math.Seq.{drop-append_seam}
 use Rattle.history.specs.Text.{HasNoBreak}
-use Rattle.streams.specs.Window.{Grows, IsFrontAhead, IsShorter, StaysAhead}
+use Rattle.streams.specs.Window.{Grows, IsFrontAhead, StaysAhead}
 
 -- the first bytes of a line and of more of it
 first_of : (n : ℕ) (line more : List ℕ) → take n (take n line ++ more) ≡ take n (line ++ more)
@@ -21,18 +21,6 @@ first_of n line more = by (cases_order (length line) n)
         let long = length-take-le n line (omega (arith, lt)) in
         take-append-le n (take n line) more (omega (arith, long))
         ∙ take-take n n line (omega arith) ∙ sym (take-append-le n line more (omega (arith, lt)))
-
--- nothing was read
-pub unread : (old : List ℕ) (left : Option (List ℕ)) → StaysAhead old left old left
-unread old None = tt
-unread old (Some left) = record {
-  line = [];
-  rest = old;
-  parts = refl;
-  one_line =
-      λ i d lt. absurd (omega (arith, lt));
-  seen = refl;
-}
 
 -- nothing was read behind the front
 pub stays : (old window new : List ℕ) (first left after : Option (List ℕ)) →
@@ -55,21 +43,6 @@ still old window None left front = tt
 still old window (Some xs) None front = absurd front
 still old window (Some xs) (Some ys) front =
     stays old window window (Some xs) (Some ys) (Some ys) front refl refl
-
--- a piece was read
-pub ends : (old window new : List ℕ) (first left after : Option (List ℕ)) (n : ℕ) →
-    Grows window new left after n → IsFrontAhead old first window left → StaysAhead old first new after
-ends old window new None left after n grown front = tt
-ends old window new (Some xs) None after n grown front = absurd front
-ends old window new (Some xs) (Some ys) None n grown front = absurd grown.consumed
-ends old window new (Some xs) (Some ys) (Some zs) n grown front =
-    record {
-      line = front.line;
-      rest = grown.more;
-      parts = front.parts ∙ ap (λ (t : List ℕ). front.line ++ t) grown.consumed;
-      one_line = front.one_line;
-      seen = grown.behind ∙ ap (λ (t : List ℕ). t ++ grown.more) front.seen;
-    }
 
 -- the last bytes are those that were read
 pub last_read : (old new : List ℕ) (left after : Option (List ℕ)) (n : ℕ) (g : Grows old new left after n) →
@@ -102,10 +75,3 @@ pub none_of : {X : Type 0} (r : Option X) (P : Type 0) (Q : X → Type 0) → Ma
     is_some r ≡ false → P
 none_of None P Q found none = found
 none_of (Some x) P Q found none = absurd (false≢true (sym none))
-
-pub less : (old new : List ℕ) (left after : Option (List ℕ)) (n : ℕ) → Grows old new left after n → 0 < n →
-    IsShorter left after
-less old new None after n g some = tt
-less old new (Some xs) None n g some = absurd g.consumed
-less old new (Some xs) (Some ys) n g some =
-    omega (arith, some, g.count, ap length g.consumed, length-append g.more ys)

@@ -1,5 +1,5 @@
 -- A gate that lets each call through stops nobody.
-use Rattle.std.proofs.Common.{◌≡◌, ℕ, suc, Bool, true, false, List, [], ◌∷◌, inl, inr}
+use Rattle.std.proofs.Common.{◌≡◌, ℕ, suc, Bool, true, List, [], ◌∷◌, inl, inr}
 use Rattle.std.proofs.lemmas.Bool.{false≢true}
 use Rattle.script.specs.Script.{WorkerView}
 use Rattle.workers.specs.Works.{StopsFirst}

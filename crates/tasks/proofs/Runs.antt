@@ -1,35 +1,19 @@
 -- What the run of a script answers.
-use Rattle.std.proofs.Common.{ℕ, List, Option, Result, Ok, Err}
+use Rattle.std.proofs.Common.{ℕ, List, Option, Ok, Err}
 use Rattle.std.specs.Prelude.{IfSome}
 use Rattle.std.proofs.lemmas.Option.{IfSome_then}
 use Rattle.std.proofs.KnownBytes.{Keeps-refl}
 use Rattle.run_text.specs.RunText.{run_text}
 use Rattle.script.specs.Reading.{Reads}
 use Rattle.script.specs.Script.{ScriptView}
-use Rattle.streams.specs.declared.stream_fault.StreamFault.TheVariants.{Text, ReadFailed, WriteFailed, Memory as StreamMemory}
 use Rattle.workers.specs.declared.fault.RunFault.{RunFault}
 use Rattle.workers.specs.declared.fault.RunFault.TheVariants.{GateShut, NotStarted, Memory as RunMemory}
 use Rattle.workers.specs.declared.report.Report.{Report}
 use Rattle.workers.specs.Reports.{IsReport}
 use Rattle.workers.specs.Works.{IsTold}
-use Rattle.tasks.specs.declared.fault.Fault.{Fault}
-use Rattle.tasks.specs.declared.fault.Fault.TheVariants.{Usage, BadFrom, BadTo, Memory, Stream, Script, Run}
-use Rattle.tasks.specs.RunScript.{IsFaultOfScript, IsRun, Runs}
+use Rattle.tasks.specs.declared.fault.Fault.TheVariants.{Run}
+use Rattle.tasks.specs.RunScript.{IsRun, Runs}
 use Rattle.tasks.proofs.OpenGates.{lets, stops_nobody}
-
--- a script that isn't read leaves the sink as it was
-pub not_read : (left old : Option (List ℕ)) (fault : Fault) → IsFaultOfScript left fault →
-    Runs left old old (Err fault)
-not_read left old Usage is = is
-not_read left old BadFrom is = is
-not_read left old BadTo is = is
-not_read left old Memory is = absurd is
-not_read left old (Stream ReadFailed) is = Keeps-refl old
-not_read left old (Stream StreamMemory) is = Keeps-refl old
-not_read left old (Stream WriteFailed) is = absurd is
-not_read left old (Stream (Text fault)) is = is
-not_read left old (Script fault) is = (is, Keeps-refl old)
-not_read left old (Run fault) is = absurd is
 
 -- so does a script whose threads aren't run
 pub not_run : (left old : Option (List ℕ)) (script : ScriptView) (fault : RunFault) →

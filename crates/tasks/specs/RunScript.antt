@@ -4,7 +4,6 @@ use Rattle.std.specs.Io.KnownBytes.{Appends, IsAtEnd, Keeps}
 use Rattle.run_text.specs.RunText.{run_text}
 use Rattle.script.specs.Reading.{IsFault, Reads}
 use Rattle.script.specs.Script.{ScriptView}
-use Rattle.script.specs.declared.fault.ScriptFault.TheVariants.{OutOfMemory}
 use Rattle.streams.specs.declared.stream_fault.StreamFault.TheVariants.{Text, ReadFailed, WriteFailed, Memory as StreamMemory}
 use Rattle.streams.specs.Whole.{AppendsFront}
 use Rattle.tasks.specs.declared.fault.Fault.{Fault}

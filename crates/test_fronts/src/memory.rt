@@ -1,5 +1,5 @@
-//! Memory that is refused to the openings of the front types, one request after another, and memory that comes
-//! back as a monitor is closed.
+//! Memory that is refused to the openings of the front types, one request after another, and memory that
+//! comes back as a monitor is closed.
 
 use crate::{latches, locks, read_write_locks, semaphores};
 use history::header::Policy;

@@ -78,8 +78,8 @@ fn refusals<R: Abort + AllocGlobal>(rt: &R, text: &str, memory: &mut Memory) -> 
     u32::MAX
 }
 
-/// The lists of calls and of workers are made for as many as there are. Lists for ten times as many would take
-/// more pages.
+/// The lists of calls and of workers are made for as many as there are. Lists for ten times as many would
+/// take more pages.
 #[test]
 fn a_script_takes_hardly_more_than_its_text_and_its_calls(rt: HostRuntime) -> Result<(), Fail> {
     let text = wide_script(rt.alloc())?;

@@ -10,7 +10,8 @@ use Rattle.history.specs.Fold.{MayFold}
 use Rattle.history.specs.GoodBase.{IsGood}
 use Rattle.history.specs.Legal.{AreSeated, IsLegal}
 
-pub based_well : (k : Header) (o : Option Base) (b : Base) → o ≡ Some b → b.header ≡ k → IsGood b → IsBasedWell k o
+pub based_well : (k : Header) (o : Option Base) (b : Base) → o ≡ Some b → b.header ≡ k → IsGood b →
+    IsBasedWell k o
 based_well k o b is header good = subst (IsBasedWell k) (sym is) (header, good)
 
 pub may_fold_all : (k : Header) (v : HistoryView) (b : Base) → v.base ≡ Some b → MayFold b [] →

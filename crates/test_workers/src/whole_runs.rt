@@ -189,8 +189,8 @@ fn is_spelt<R: Threads + Wait + Clock + AllocGlobal + Sync + Abort>(
     }
 }
 
-/// How many pieces are given back in a turn: each number below 32, and each from 240 on. From one to the other a
-/// run lacks memory for its lines alone, whose buffer takes 256.
+/// How many pieces are given back in a turn: each number below 32, and each from 240 on. From one to the other
+/// a run lacks memory for its lines alone, whose buffer takes 256.
 fn pieces_in(turn: usize) -> usize {
     if turn < 32 {
         turn

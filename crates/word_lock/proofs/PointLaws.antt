@@ -8,7 +8,7 @@ use Rattle.history.specs.declared.header.Header.{Header}
 use Rattle.history.specs.declared.point.Point.{Point}
 use Rattle.history.specs.Base.{Base, folded, opening_base}
 use Rattle.history.specs.Point as points
-use Rattle.history.specs.Point.{CanFold, ComesBefore}
+use Rattle.history.specs.Point.{CanFold}
 use Rattle.history.proofs.Points.{agrees_folded, agrees_grown, agrees_opened, all_of, further_point, none_of_other, same_point}
 use Rattle.word_lock.specs.Point.{header_of, Before, Agrees, added, AllOfSeat, Follows}
 

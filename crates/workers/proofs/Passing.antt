@@ -93,11 +93,3 @@ pub made_next : (calls : List Call) (k : ℕ) (d : Call) (old : List Shown) (u :
 made_next calls k d old u between v new below made called =
     subst (λ (z : List Call). Made (reverse z) old (u + v) new) (sym (take_more calls k d below))
     (made_more (take k calls) (get_or calls k d) old u between v new made called)
-
-pub made_after : (calls : List Call) (k : ℕ) (call : Call) (old : List Shown) (u : ℕ) (between : List Shown)
-    (v : ℕ) (new : List Shown) → k < length calls → call ≡ get_or calls k call →
-    Made (reverse (take k calls)) old u between → IsCalled call between v new →
-    Made (reverse (take (k + 1) calls)) old (u + v) new
-made_after calls k call old u between v new below at made called =
-    made_next calls k call old u between v new below made
-    (subst (λ (z : Call). IsCalled z between v new) at called)

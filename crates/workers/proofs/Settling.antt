@@ -60,13 +60,6 @@ settles_end all first rest columns u none s =
     (s.1 0 (subst (λ (z : List Worked). AddUp z 0) (sym none) refl))
 
 -- the columns behind the last
-pub settles_columns : (all : List Worked) (first : List (List Shown)) (rest : List Worked)
-    (columns : List (List Shown)) (u : ℕ) → rest ≡ [] → Settles all first rest columns u →
-    columns ≡ dealt_all (passes_left all) first
-settles_columns all first rest columns u none s =
-    subst (λ (z : List Worked). dealt_all (passes_left z) columns ≡
-    dealt_all (passes_left all) first) none s.2
-
 pub first_fits : (all : List Worked) (first : List (List Shown)) (rest : List Worked)
     (columns : List (List Shown)) (u : ℕ) (done : Worked) (others : List Worked) → rest ≡ done ∷ others →
     Settles all first rest columns u → length done.passes ≤ length columns

@@ -1,10 +1,10 @@
 -- A run as a whole.
-use Rattle.std.proofs.Common.{◌≡◌, ℕ, ◌<◌, ◌≤◌, ◌⊎◌, Bool, List, [], ◌∷◌, length, map, suc, refl, ap, sym, subst, arith, ◌∙◌, get_or, inl, inr}
+use Rattle.std.proofs.Common.{◌≡◌, ℕ, ◌<◌, ◌≤◌, ◌⊎◌, Bool, List, [], ◌∷◌, length, map, ap, sym, subst, arith, ◌∙◌, get_or, inl, inr}
 use Rattle.std.specs.List.{All}
 use Rattle.std.proofs.lemmas.List.Elements.{All-nil, All-cons, All-head, All-tail, All-same, All-weaker}
 use Rattle.history.specs.declared.header.Header.{Header}
 use Rattle.monitor.specs.Shown.{Shown}
-use Rattle.script.specs.Script.{IsObject, IsScript, IsWorker, Named, ScriptView, WorkerView}
+use Rattle.script.specs.Script.{IsObject, IsScript, Named, ScriptView, WorkerView}
 use Rattle.word_lock.specs.Ticket.{LockId}
 use Rattle.workers.specs.declared.fault.RunFault.{RunFault}
 use Rattle.workers.specs.declared.fault.RunFault.TheVariants.{Memory}
@@ -14,7 +14,6 @@ use Rattle.workers.specs.Reports.{header_of, headers_of, opening_rows}
 use Rattle.workers.specs.Works.{AllWorked, HasStopped, IsTold, WorksAt}
 use Rattle.workers.proofs.Columns.{rows_count, rows_own}
 use Rattle.workers.proofs.Working.{all_worked, stopped_told}
-use Rattle.workers.proofs.Settling.{IsFew}
 
 heads : {A : Type 0} (x y : A) (xs ys : List A) → x ∷ xs ≡ y ∷ ys → x ≡ y
 heads x y xs ys same = cc
@@ -48,39 +47,12 @@ all_places s locks places as_many same is =
     All-weaker (HasSeats (length s.workers)) (λ (l : LockId). l.header.seats ≤ places)
     (λ l seats. omega (arith, seats, as_many)) locks (all_seats s locks same is)
 
-headers_count : (locks : List LockId) (os : List Named) → map header_of locks ≡ map (λ (o : Named). o.1) os →
-    length locks ≡ length os
-headers_count [] [] same = refl
-headers_count [] (o ∷ os) same = absurd (omega (arith, ap length same))
-headers_count (l ∷ locks) [] same = absurd (omega (arith, ap length same))
-headers_count (l ∷ locks) (o ∷ os) same =
-    ap suc
-    (headers_count locks os (tails l.header o.1 (map header_of locks) (map (λ (o : Named). o.1) os) same))
-
 -- each worker's calls are of these objects
-pub all_workers : (s : ScriptView) (locks : List LockId) (places : ℕ) → places ≡ length s.workers →
-    map header_of locks ≡ headers_of s → IsScript s → All (IsWorker (length locks) places) s.workers
-all_workers s locks places as_many same is =
-    subst (λ (k : ℕ). All (IsWorker (length locks) k) s.workers) (sym as_many)
-    (subst (λ (k : ℕ). All (IsWorker k (length s.workers)) s.workers)
-    (sym (headers_count locks s.objects same))
-    is.workers)
-
 pub all_own : (locks : List LockId) (rows : List (List Shown)) (n : ℕ) → rows ≡ opening_rows locks 0 n →
     All (λ (row : List Shown). map lock_of row ≡ locks) rows
 all_own locks rows n is =
     All-same (λ (row : List Shown). map lock_of row ≡ locks) rows (opening_rows locks 0 n) is
     (rows_own locks 0 n)
-
-pub all_few : (answers : ℕ → ℕ → Bool → Type 0) (seat : ℕ) (ws : List WorkerView) (olds : List (List Shown))
-    (dones : List Worked) → AllWorked answers seat ws olds dones → All IsFew dones
-all_few answers seat [] [] [] worked = All-nil IsFew
-all_few answers seat [] [] (done ∷ dones) worked = absurd worked
-all_few answers seat [] (old ∷ olds) dones worked = absurd worked
-all_few answers seat (w ∷ ws) [] dones worked = absurd worked
-all_few answers seat (w ∷ ws) (old ∷ olds) [] worked = absurd worked
-all_few answers seat (w ∷ ws) (old ∷ olds) (done ∷ dones) (first, rest) =
-    All-cons IsFew done dones first.few (all_few answers (suc seat) ws olds dones rest)
 
 -- all workers, as they were opened
 pub ran : (answers : ℕ → ℕ → Bool → Type 0) (s : ScriptView) (ws : List WorkerView) (locks : List LockId)

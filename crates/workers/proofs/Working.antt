@@ -1,5 +1,5 @@
 -- What all workers leave.
-use Rattle.std.proofs.Common.{◌≡◌, ℕ, suc, ◌+◌, ◌*◌, ◌<◌, ◌≤◌, Bool, true, false, List, [], ◌∷◌, length, Some, Ok, Err, Result, ap, sym, subst, arith, ◌∙◌, inl, inr, ⊎_elim, get_or}
+use Rattle.std.proofs.Common.{◌≡◌, ℕ, suc, ◌+◌, ◌*◌, ◌<◌, ◌≤◌, Bool, true, List, [], ◌∷◌, length, Some, Ok, Err, Result, ap, sym, subst, arith, ◌∙◌, inl, inr, ⊎_elim, get_or}
 use Rattle.std.proofs.Math.Nat.{eq-or-lt_of_le, mul-le-mul_right, suc-mul}
 use Rattle.monitor.specs.Shown.{Shown}
 use Rattle.script.specs.Script.{WorkerView}
@@ -8,7 +8,7 @@ use Rattle.workers.specs.declared.fault.RunFault.TheVariants.{Memory, GateShut, 
 use Rattle.workers.specs.declared.work.Worked.{Worked}
 use Rattle.workers.specs.Calls.{Made, rounds}
 use Rattle.workers.specs.Reports.{AllMade}
-use Rattle.workers.specs.Works.{AddUp, AllWorked, Ends, HasStopped, HasWorked, IsRefused, IsTold, LetsAll, LetsBelow, StopsBelow, StopsFirst, WorksAt, calls_of, passes_left}
+use Rattle.workers.specs.Works.{AddUp, AllWorked, Ends, HasStopped, HasWorked, IsTold, LetsAll, LetsBelow, StopsBelow, StopsFirst, WorksAt, calls_of, passes_left}
 
 same_some : {A : Type 0} (x y : A) → Some x ≡ Some y → x ≡ y
 same_some x y same = cc
@@ -146,17 +146,6 @@ pub stopped_told : (answers : ℕ → ℕ → Bool → Type 0) (ws : List Worker
 stopped_told answers ws olds dones fault worked stopped =
     told_from answers ws fault (stopped_from answers 0 ws olds dones fault worked stopped)
 
--- why no worker made a call
-pub refused_told : (answers : ℕ → ℕ → Bool → Type 0) (ws : List WorkerView) (n : ℕ) (fault : RunFault) →
-    n ≡ length ws → IsRefused n fault → IsTold answers ws fault
-refused_told answers ws n (GateShut k) same refused = absurd refused
-refused_told answers ws n (NotStarted k) same refused = omega (arith, same, refused)
-refused_told answers ws n Memory same refused = tt
-
--- no call yet
-pub lets_none : (answers : ℕ → ℕ → Bool → Type 0) (seat : ℕ) → LetsBelow answers seat 0
-lets_none answers seat call below = absurd (omega (arith, below))
-
 -- one call more
 pub lets_more : (answers : ℕ → ℕ → Bool → Type 0) (seat n : ℕ) (answer : Bool) → answer ≡ true →
     answers seat n answer → LetsBelow answers seat n → LetsBelow answers seat (n + 1)
@@ -166,17 +155,6 @@ lets_more answers seat n answer allowed here lets call below =
     (λ (same : call ≡ n). subst (λ (z : ℕ). answers seat z true) (sym same)
     (subst (answers seat n) allowed here))
     (λ less. lets call less) (eq-or-lt_of_le up)
-
--- the same calls, by another number
-pub lets_same : (answers : ℕ → ℕ → Bool → Type 0) (seat n m : ℕ) → n ≡ m → LetsBelow answers seat n →
-    LetsBelow answers seat m
-lets_same answers seat n m same lets = subst (LetsBelow answers seat) same lets
-
--- it is stopped at the next call
-pub stops_here : (answers : ℕ → ℕ → Bool → Type 0) (seat n all : ℕ) (answer : Bool) → answer ≡ false →
-    answers seat n answer → LetsBelow answers seat n → n < all → StopsBelow answers seat all
-stops_here answers seat n all answer barred here lets below =
-    (n, below, lets, subst (answers seat n) barred here)
 
 -- among more calls
 pub stops_among : (answers : ℕ → ℕ → Bool → Type 0) (seat n all : ℕ) → n ≤ all → StopsBelow answers seat n →

@@ -73,8 +73,8 @@ loop-log-init g c = record {
   same = refl;
   header = c.requires.header;
   answering =
-      rw (c.new.ensures.items, c.new-2.ensures.items) (answering_none _ c.args.core.now.base c.args.core.now.entries
-      c.requires.base c.requires.fresh);
+      rw (c.new.ensures.items, c.new-2.ensures.items) (answering_none _ c.args.core.now.base
+      c.args.core.now.entries c.requires.base c.requires.fresh);
 }
 
 pub returns-in_err-act-clause-err : goal.returns-in_err-act-clause-err

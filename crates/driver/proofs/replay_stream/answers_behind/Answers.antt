@@ -12,11 +12,13 @@ answered-requires-in-Semaphore-clause-hooks g c =
     c.open-in-Semaphore.ensures.opened c.args.steps.now.header.header.seats
 
 pub answered-requires-in-Latch-clause-hooks : goal.answered-requires-in-Latch-clause-hooks
-answered-requires-in-Latch-clause-hooks g c = c.open-in-Latch.ensures.opened c.args.steps.now.header.header.seats
+answered-requires-in-Latch-clause-hooks g c =
+    c.open-in-Latch.ensures.opened c.args.steps.now.header.header.seats
 
 pub answered-requires-clause-object : goal.answered-requires-clause-object
 answered-requires-clause-object g c =
-    c.open.ensures.object ∙ sym c.in-Lock.is ∙ ap (λ (k : StepsHeader). k.header.object) c.header.ensures.value
+    c.open.ensures.object ∙ sym c.in-Lock.is
+    ∙ ap (λ (k : StepsHeader). k.header.object) c.header.ensures.value
 
 pub returns-in-Err-clause-err : goal.returns-in-Err-clause-err
 returns-in-Err-clause-err g c = λ text were.

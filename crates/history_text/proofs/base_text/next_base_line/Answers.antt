@@ -26,4 +26,5 @@ returns-else-is_whole-clause-line c =
 
 pub returns-then-is_whole-clause-whole : goal.returns-then-is_whole-clause-whole
 returns-then-is_whole-clause-whole c = λ is none.
-    no_line c.in-Some.line.now c.in-Some.after.now c.args.rest.now (lacks c.args.rest.now none) c.in-Some.ensures.0
+    no_line c.in-Some.line.now c.in-Some.after.now c.args.rest.now (lacks c.args.rest.now none)
+    c.in-Some.ensures.0

@@ -40,8 +40,8 @@ returns c =
     let lists : map (λ list. list.items) c.deref-3.result.now ≡ b.sleepers =
     ap (map (λ list. list.items)) c.deref-3.ensures.value ∙ ap (λ (x : Base). x.sleepers) c.base.view_is in
     on_ok_weaker c.put_sleepers.result (λ written. four_written c.args.out.now.items c.put_line.new.out.items
-    c.put_seats.new.out.items c.put_standings.new.out.items c.put_sleepers.new.out.items (first_line b.header.object b)
-    (seat_lines 0 b.seats) (map Stands b.line) (sleeper_lines 0 b.sleepers)
+    c.put_seats.new.out.items c.put_standings.new.out.items c.put_sleepers.new.out.items
+    (first_line b.header.object b) (seat_lines 0 b.seats) (map Stands b.line) (sleeper_lines 0 b.sleepers)
     (c.in_ok-put_line.ensures ∙ ap (λ (x : BaseLine). c.args.out.now.items ++ lines_text (x ∷ []))
     c.first_line.ensures)
     (c.in_ok-put_seats.ensures ∙ ap (λ (l : List SeatBase). c.put_line.new.out.items

@@ -13,7 +13,8 @@ returns-in-History-clause-writes g c =
     rw (
       c.in-History.is,
       ← lines_alone c.args.self.now
-          (subst (λ (a : AllAnswers). AreFolded a.header.header a.past a.base) c.self.view_is c.self.invariant.2) past,
+          (subst (λ (a : AllAnswers). AreFolded a.header.header a.past a.base) c.self.view_is c.self.invariant.2)
+          past,
     ) c.write_lines-in-History.ensures.writes
 
 pub returns-in-History-2-clause-writes : goal.returns-in-History-2-clause-writes

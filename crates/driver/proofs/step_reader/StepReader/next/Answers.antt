@@ -24,8 +24,8 @@ pub returns-in_ok-pass-in-Ok-Some-clause-seated : goal.returns-in_ok-pass-in-Ok-
 returns-in_ok-pass-in-Ok-Some-clause-seated g c =
     let held = c.self.inside in
     let is = rw (c.in-Ok-Some.field-0-is, c.bytes.ensures.bytes) at c.in-Ok-Some.ensures.line in
-    rw (← c.self.view_is) (next_act held.header held.count held.window.bytes c.in-Ok-Some.act c.in-Ok-Some.left
-    is)
+    rw (← c.self.view_is) (next_act held.header held.count held.window.bytes c.in-Ok-Some.act
+    c.in-Ok-Some.left is)
 
 pub returns-in_err-pass-in-Ok-Some-clause-next : goal.returns-in_err-pass-in-Ok-Some-clause-next
 returns-in_err-pass-in-Ok-Some-clause-next g c =

@@ -23,7 +23,9 @@ balance_of-requires g c =
     let s = c.self.invariant in
     let P : CoreView → Type 0 = λ w. length w.entries < 2 ^ 32 in
     let short = subst P c.self.view_is (let r = s.room in let k = s.range.cap in omega (arith, r, k)) in
-    (start_of c.args.self.now, c.args.self.now.entries, stands g (goal.at.balance_of-requires g c).After-self, short)
+    let known = stands g (goal.at.balance_of-requires g c).After-self in
+    (start_of c.args.self.now, c.args.self.now.entries, known, short)
 
 pub returns-clause-balance : goal.returns-clause-balance
-returns-clause-balance g c = c.balance_of.ensures.balance _ _ (stands g (goal.at.returns-clause-balance g c).After-self)
+returns-clause-balance g c =
+    c.balance_of.ensures.balance _ _ (stands g (goal.at.returns-clause-balance g c).After-self)

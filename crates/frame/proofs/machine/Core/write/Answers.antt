@@ -54,8 +54,8 @@ grows g c m =
     let was = c.owed-was_owed.ensures in
     let roomy = c.in_ok-make_room.ensures in
     grown a.header c.args.entry a.history c.make_room.new.self c.add.new.self _ _ _ m.owed was.value
-    c.saturating_sub-needed.ensures roomy.within_cap roomy.same c.self.invariant.cap c.add.ensures was.reserved
-    roomy.reserved roomy.places
+    c.saturating_sub-needed.ensures roomy.within_cap roomy.same c.self.invariant.cap c.add.ensures
+    was.reserved roomy.reserved roomy.places
 
 -- whom it names
 names : (g : _) (c : After-whom_named-name g) → Next c.self.inside.header
@@ -124,8 +124,8 @@ move_waiters-requires g c =
     let r = s.room in let k = s.range.cap in let t = s.may_fold.can.good.entries in omega (arith, r, k, t) in
     record {
       movable =
-          movable (start_on a.header a.history) h c.args.entry a.queue a.waiters (b.entries + length h) s.waiting
-          s.joins few (history_of s) n.can.seated.0 n.known;
+          movable (start_on a.header a.history) h c.args.entry a.queue a.waiters (b.entries + length h)
+          s.waiting s.joins few (history_of s) n.can.seated.0 n.known;
     }
 
 pub update-requires-clause-exclusive : goal.update-requires-clause-exclusive

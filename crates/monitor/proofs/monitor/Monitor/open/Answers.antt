@@ -46,7 +46,8 @@ returns-in-Ok-clause-header g c =
 
 pub returns-in-Ok-clause-own : goal.returns-in-Ok-clause-own
 returns-in-Ok-clause-own g c =
-    subst (λ (l : List Shown). All (λ (s : Shown). s.lock ≡ c.in-Ok.lock) l) (sym c.give_passes.ensures.passes)
+    subst (λ (l : List Shown). All (λ (s : Shown). s.lock ≡ c.in-Ok.lock) l)
+    (sym c.give_passes.ensures.passes)
     (opening_own c.in-Ok.lock (blank c.in-Ok.lock.header) 0 c.args.seats)
 
 pub invariant_of-result : goal.invariant_of-result

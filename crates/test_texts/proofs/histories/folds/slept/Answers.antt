@@ -35,7 +35,8 @@ in_range =
     }
 
 legal : IsLegal (based (opening_base lock)) (got 1 ∷ await ∷ got 0 ∷ got 0 ∷ [])
-legal = ((step.Acquire X 1, refl), ((step.Await 0, refl), ((step.Acquire X 1, refl), ((step.Acquire X 1, refl), tt))))
+legal =
+    ((step.Acquire X 1, refl), ((step.Await 0, refl), ((step.Acquire X 1, refl), ((step.Acquire X 1, refl), tt))))
 
 all : MayFold (opening_base lock) [] → MayFold (opening_base lock) (got 1 ∷ await ∷ got 0 ∷ got 0 ∷ [])
 all may =

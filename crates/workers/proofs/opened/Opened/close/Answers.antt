@@ -22,7 +22,7 @@ returns g c =
       lawful = e.lawful;
       within = rw c.into_list.ensures at e.within;
       based = e.base;
-      judged = ap (λ t. Legal t) (c.of-totals.ensures (start_on lock.header kept) kept.entries past
+      judged = ap (λ t. Legal t) (c.of-totals.ensures.adds (start_on lock.header kept) kept.entries past
           (ap (λ (k : Header). k.object) (e.base.1 ∙ sym header)) e.balance);
       share = rw c.into_list.ensures at e.share;
       calls = e.calls;
