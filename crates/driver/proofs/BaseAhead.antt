@@ -1,6 +1,7 @@
 -- The lines of a base ahead of a reader's window.
 use Rattle.std.proofs.Common.{◌≡◌, ⊎_elim, inl, inr, ◌⊎◌, ℕ, zero, suc, ◌+◌, ◌-◌, ◌<◌, ◌≤◌, Bool, true, false, List, [], ◌∷◌, ◌++◌, length, map, drop, get_or, set, Option, None, Some, Result, Ok, Err, IfSome, refl, sym, ap, subst, ◌∙◌, arith, append_assoc, append-nil}
 use Rattle.std.proofs.lemmas.Bool.{false≢true}
+use Rattle.std.proofs.lemmas.List.{length-map}
 use Rattle.std.specs.Result.{IsErr, IsErrAnd, IfErr}
 use Rattle.std.specs.Io.KnownBytes.{Keeps, IsAtEnd, prepend_known}
 use Rattle.history.specs.declared.base.Standing.{Standing}
@@ -185,10 +186,6 @@ all_free = refl
 
 -- ---- the lines so far
 
-length-based : (xs : List BaseLine) → length (map Based xs) ≡ length xs
-length-based [] = refl
-length-based (x ∷ xs) = ap suc (length-based xs)
-
 -- Lines of a base were read behind the first one of a text, and say this base. The reader held these bytes
 -- before them, and holds those now.
 pub record BaseUnderWay (h : Head) (old : List ℕ) (left : Option (List ℕ)) (window : List ℕ)
@@ -254,7 +251,7 @@ module _ (h : Head) (old : List ℕ) (left : Option (List ℕ)) (window : List �
     were_read text xs ys w begun =
         record {
           begins = w.begun text begun;
-          count = sym (length-based w.xs ∙ w.count);
+          count = sym (length-map w.xs Based ∙ w.count);
           known = record {
             base = base_here h (u.front ++ (window ++ ys)) (window ++ ys) b t lines w based;
             reached = reached_here h (u.front ++ (window ++ ys)) (window ++ ys) b t lines w based;

@@ -76,6 +76,14 @@ pub gathers_failed : (held after : Option (List ℕ)) (old new added : List ℕ)
 gathers_failed held after old new added (Ok done) is front = absurd (false≢true is)
 gathers_failed held after old new added (Err e) is front = front
 
+-- nothing is added where no room is made
+pub no_room : (held after : Option (List ℕ)) (old new added : List ℕ)
+    (r : Result (Unit {0}) DeviceFailed) → IsErr r → AppendsFront held after (old ++ []) →
+    Gathers held old r after new added
+no_room held after old new added r is front =
+    gathers_failed held after old new added r is
+    (front_longer held after old added (subst (AppendsFront held after) (append-nil old) front))
+
 -- what holds where writing fails or doesn't
 pub if_failed : (r : Result (Unit {0}) DeviceFailed) (P : Type 0) → P → OnErr r P
 if_failed (Ok done) P p = tt

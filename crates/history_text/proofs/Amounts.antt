@@ -75,7 +75,7 @@ one_few n = by (eqb n 0)
     by false = omega arith
 
 -- an object has few conditions
-few_conditions : (o : Object) (c : ℕ) → IsOpening o c → c ≤ 16
+pub few_conditions : (o : Object) (c : ℕ) → IsOpening o c → c ≤ 16
 few_conditions (Lock p) c r = r
 few_conditions (ReadWrite p) c r = r
 few_conditions (Semaphore p n) c r = omega (arith, r.0)

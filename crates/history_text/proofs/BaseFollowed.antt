@@ -8,6 +8,7 @@ use Rattle.history_text.specs.declared.base_line.BaseLine.TheVariants.{Sleeps, S
 use Rattle.history_text.specs.BaseFollowing.{AllFollow, HaveFollowed, after_told}
 use Rattle.history_text.specs.BaseLines.{base_lines, first_line, seat_lines, sleeper_lines}
 use Rattle.history_text.specs.BaseRules.{Told, told, untold}
+use Rattle.history_text.proofs.BaseWhole.{told-append}
 
 -- lines behind lines
 follow-append : (b : Base) (t : Told) (xs ys : List BaseLine) → AllFollow b t xs →
@@ -23,10 +24,6 @@ follow_behind : (b : Base) (t : Told) (xs ys : List BaseLine) → AllFollow b t 
     AllFollow b (after_told t xs) ys
 follow_behind b t [] ys p = p
 follow_behind b t (x ∷ xs) ys p = follow_behind b (told t x) xs ys p.1
-
-told-append : (t : Told) (xs ys : List BaseLine) → after_told t (xs ++ ys) ≡ after_told (after_told t xs) ys
-told-append t [] ys = refl
-told-append t (x ∷ xs) ys = told-append (told t x) xs ys
 
 -- What is left of lines, where the others were taken up: all of them may follow exactly if these may.
 pub record Left (b : Base) (first now : Told) (all left : List BaseLine) : Type 0 where

@@ -36,6 +36,7 @@ use Rattle.history_text.specs.BaseLines.{IsBaseLine, base_line, base_words, stoo
 use Rattle.history_text.specs.BaseReading.{base_line_at, beside_at, folded_at, has_at, sleeps_at, stands_at}
 use Rattle.history_text.specs.BaseRules.{MayFollow, MayHold, Told}
 use Rattle.history_text.specs.EntryLines.{HasLine, counts_line, entry_line}
+use Rattle.history_text.proofs.Amounts.{few_conditions}
 use Rattle.history_text.proofs.EntryLemmas.{counts_line-words, counts_plain, entry_line-words, line_plain}
 
 abbrev pub ReadLine : Type 0
@@ -334,12 +335,6 @@ opening_few (Lock p) c r = omega arith
 opening_few (ReadWrite p) c r = omega arith
 opening_few (Semaphore p n) c r = omega arith
 opening_few (Latch n) c r = omega (arith, r.1)
-
-few_conditions : (o : Object) (c : ℕ) → IsOpening o c → c ≤ 16
-few_conditions (Lock p) c r = r
-few_conditions (ReadWrite p) c r = r
-few_conditions (Semaphore p n) c r = omega (arith, r.0)
-few_conditions (Latch n) c r = omega (arith, r.0)
 
 few_exclusive : (o : Object) → most_exclusive o ≤ 2147483647
 few_exclusive (Lock p) = omega arith

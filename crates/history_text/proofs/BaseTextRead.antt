@@ -1,6 +1,6 @@
 -- The lines of a base are read, one after another.
-use Rattle.std.proofs.Common.{◌≡◌, ℕ, suc, ◌+◌, ◌≤◌, ◌<◌, Bool, true, ltb, List, [], ◌∷◌, ◌++◌, length, map, Err, refl, sym, ap, subst, ◌∙◌, arith, inr, append-nil}
-use Rattle.std.proofs.lemmas.List.{length-append}
+use Rattle.std.proofs.Common.{◌≡◌, ℕ, ◌+◌, ◌≤◌, ◌<◌, Bool, true, ltb, List, [], ◌∷◌, ◌++◌, length, map, Err, refl, sym, ap, subst, ◌∙◌, arith, inr, append-nil}
+use Rattle.std.proofs.lemmas.List.{length-append, length-map, map-append}
 use Rattle.history.specs.declared.base.SeatBase.{SeatBase}
 use Rattle.history.specs.declared.base.Sleeper.{Sleeper}
 use Rattle.history.specs.declared.base.Standing.{Standing}
@@ -42,14 +42,6 @@ AllRead-push : (b : Base) (t : Told) (xs : List BaseLine) (x : BaseLine) → All
 AllRead-push b t [] x all may = (may, tt)
 AllRead-push b t (y ∷ xs) x all may = (all.0, AllRead-push (with_line b y) (told t y) xs x all.1 may)
 
-map-push : (xs : List BaseLine) (x : BaseLine) → map Based (xs ++ x ∷ []) ≡ map Based xs ++ Based x ∷ []
-map-push [] x = refl
-map-push (y ∷ xs) x = ap (λ (l : List Line). Based y ∷ l) (map-push xs x)
-
-length-based : (xs : List BaseLine) → length (map Based xs) ≡ length xs
-length-based [] = refl
-length-based (x ∷ xs) = ap suc (length-based xs)
-
 -- These lines were read, and say this base.
 pub record AreBaseLinesRead (h : Head) (ahead rest : List ℕ) (b : Base) (t : Told) (lines : ℕ) : Type 0 where
   pub xs : List BaseLine
@@ -87,7 +79,7 @@ module _ (h : Head) (ahead rest : List ℕ) (b : Base) (t : Told) (lines : ℕ)
       Begins history_form text h [] ahead → b.header ≡ h.header → IsReading history_form text (Err fault)
   base_fault fault is text begun header =
       is text h (map Based read.xs) based (sym header) (read.begun text begun) reached_here base_here
-      (length-based read.xs ∙ read.count)
+      (length-map read.xs Based ∙ read.count)
 
   pub line_read : (x : BaseLine) (after : List ℕ) → MayFollow t b x → rest ≡ ended (base_line x) ++ after →
       AreBaseLinesRead h ahead after (with_line b x) (told t x) (lines + 1)
@@ -106,7 +98,7 @@ module _ (h : Head) (ahead rest : List ℕ) (b : Base) (t : Told) (lines : ℕ)
         told = after_told-push untold read.xs x ∙ ap (λ (z : Told). told z x) read.told;
         all = AllRead-push (opening_base h.header) untold read.xs x read.all there;
         begun = λ text begun.
-            subst (λ (l : List Line). Begins history_form text h l after) (sym (map-push read.xs x))
+            subst (λ (l : List Line). Begins history_form text h l after) (sym (map-append Based read.xs (x ∷ [])))
             (one_more history_form text h (map Based read.xs) rest (base_line x) after (Based x)
             (read.begun text begun) whole fits refl);
         count = omega (arith, read.count, length-append read.xs (x ∷ []));

@@ -151,12 +151,9 @@ asleep_place done t b so c x well is_free =
         total_part b.header.conditions (λ d. times i (map (λ y. y.seat) (sleepers_of b d))) c well.condition
 
 -- what waits well speaks of the header and the seats alone
-abbrev bare : Header → List SeatBase → Base
-bare k seats =
-    record { header = k; entries = 0; seats = seats; unheld = 0; count = 0; line = []; sleepers = [] }
-
-pub gave_bare : (b : Base) (i c n : ℕ) → GaveUp b i c n → GaveUp (bare b.header b.seats) i c n
-gave_bare b i c n g =
+gave_as : (a b : Base) (i c n : ℕ) → GaveUp a i c n →
+    GaveUp (record b { header = a.header; seats = a.seats }) i c n
+gave_as a b i c n g =
     record {
       lock = g.lock;
       seat = g.seat;
@@ -166,64 +163,42 @@ gave_bare b i c n g =
       nothing = g.nothing;
     }
 
-pub gave_same : (b : Base) (i c n : ℕ) → GaveUp (bare b.header b.seats) i c n → GaveUp b i c n
-gave_same b i c n g =
-    record {
-      lock = g.lock;
-      seat = g.seat;
-      condition = g.condition;
-      some = g.some;
-      most = g.most;
-      nothing = g.nothing;
-    }
-
-pub to_bare : (b : Base) (p : Standing) → StandsWell b p → StandsWell (bare b.header b.seats) p
-to_bare b p w =
-    ⊎_elim (λ a. inl (
-      a.0,
+stands_as : (a b : Base) (p : Standing) → StandsWell a p →
+    StandsWell (record b { header = a.header; seats = a.seats }) p
+stands_as a b p w =
+    ⊎_elim (λ x. inl (
+      x.0,
       record {
-        seat = a.1.seat;
-        mode = a.1.mode;
-        amount = a.1.amount;
-        owns = a.1.owns;
-        condition = a.1.condition;
-        holds = a.1.holds;
-        how = a.1.how;
+        seat = x.1.seat;
+        mode = x.1.mode;
+        amount = x.1.amount;
+        owns = x.1.owns;
+        condition = x.1.condition;
+        holds = x.1.holds;
+        how = x.1.how;
       },
     ))
     (λ r. inr (
       r.0,
       record {
         who = r.1.who;
-        gave = gave_bare b p.who.seat p.condition p.holds r.1.gave;
+        gave = gave_as a b p.who.seat p.condition p.holds r.1.gave;
         how = r.1.how;
       },
     ))
     w
 
-pub from_bare : (b : Base) (p : Standing) → StandsWell (bare b.header b.seats) p → StandsWell b p
-from_bare b p w =
-    ⊎_elim (λ a. inl (
-      a.0,
-      record {
-        seat = a.1.seat;
-        mode = a.1.mode;
-        amount = a.1.amount;
-        owns = a.1.owns;
-        condition = a.1.condition;
-        holds = a.1.holds;
-        how = a.1.how;
-      },
-    ))
-    (λ r. inr (
-      r.0,
-      record {
-        who = r.1.who;
-        gave = gave_same b p.who.seat p.condition p.holds r.1.gave;
-        how = r.1.how;
-      },
-    ))
-    w
+pub gave_moved : (a b : Base) (i c n : ℕ) → a.header ≡ b.header → a.seats ≡ b.seats → GaveUp a i c n →
+    GaveUp b i c n
+gave_moved a b i c n h s g =
+    subst (λ k. GaveUp (record b { header = k }) i c n) h
+    (subst (λ l. GaveUp (record b { header = a.header; seats = l }) i c n) s (gave_as a b i c n g))
+
+pub stands_moved : (a b : Base) (p : Standing) → a.header ≡ b.header → a.seats ≡ b.seats → StandsWell a p →
+    StandsWell b p
+stands_moved a b p h s w =
+    subst (λ k. StandsWell (record b { header = k }) p) h
+    (subst (λ l. StandsWell (record b { header = a.header; seats = l }) p) s (stands_as a b p w))
 
 pub no_sleepers : (k : Header) (c : ℕ) → sleepers_of (opening_base k) c ≡ []
 no_sleepers k c =
@@ -231,18 +206,6 @@ no_sleepers k c =
     (λ l. get_or_past (each_below k.conditions (λ c. [])) c []
     (let e = length-each {A = List Sleeper} k.conditions (λ c. []) in omega (arith, e, l)))
     (cases_lt c k.conditions)
-
-pub gave_moved : (a b : Base) (i c n : ℕ) → a.header ≡ b.header → a.seats ≡ b.seats → GaveUp a i c n →
-    GaveUp b i c n
-gave_moved a b i c n h s g =
-    gave_same b i c n (subst (λ k. GaveUp (bare k b.seats) i c n) h
-    (subst (λ l. GaveUp (bare a.header l) i c n) s (gave_bare a i c n g)))
-
-pub stands_moved : (a b : Base) (p : Standing) → a.header ≡ b.header → a.seats ≡ b.seats → StandsWell a p →
-    StandsWell b p
-stands_moved a b p h s w =
-    from_bare b p (subst (λ k. StandsWell (bare k b.seats) p) h
-    (subst (λ l. StandsWell (bare a.header l) p) s (to_bare a p w)))
 
 -- nothing was told
 module _ (k : Header) (range : IsInRange k) where
@@ -353,10 +316,10 @@ module _ (done : List BaseLine) (t : Told) (b : Base) (so : SoFar done t b) (n u
           free = so.waited.free;
           once = so.waited.once;
           conditions = so.waited.conditions;
-          line = each_then (StandsWell b) (StandsWell now) (λ p w. from_bare now p (to_bare b p w)) b.line
+          line = each_then (StandsWell b) (StandsWell now) (λ p w. stands_moved b now p refl refl w) b.line
               so.waited.line;
           sleepers = λ c. each_then (SleepsWell b c) (SleepsWell now c)
-              (λ y w. gave_same now y.seat c y.holds (gave_bare b y.seat c y.holds w)) (sleepers_of b c)
+              (λ y w. gave_moved b now y.seat c y.holds refl refl w) (sleepers_of b c)
               (so.waited.sleepers c);
           awake = so.waited.awake;
           later = so.waited.later;
@@ -690,10 +653,10 @@ module _ (done : List BaseLine) (t : Told) (b : Base) (so : SoFar done t b) (p :
           conditions = so.waited.conditions;
           line = each-append (StandsWell with_standing) b.line (p ∷ [])
               (each_then (StandsWell b) (StandsWell with_standing)
-              (λ p w. from_bare with_standing p (to_bare b p w)) b.line so.waited.line)
-              (from_bare with_standing p (to_bare b p well), tt);
+              (λ p w. stands_moved b with_standing p refl refl w) b.line so.waited.line)
+              (stands_moved b with_standing p refl refl well, tt);
           sleepers = λ c. each_then (SleepsWell b c) (SleepsWell with_standing c)
-              (λ y w. gave_same with_standing y.seat c y.holds (gave_bare b y.seat c y.holds w))
+              (λ y w. gave_moved b with_standing y.seat c y.holds refl refl w)
               (sleepers_of b c)
               (so.waited.sleepers c);
           awake = so.waited.awake;
@@ -762,7 +725,7 @@ module _ (done : List BaseLine) (t : Told) (b : Base) (so : SoFar done t b) (c :
       AllByRecursion (SleepsWell with_sleeper d) xs
   kept_well d xs =
       each_then (SleepsWell b d) (SleepsWell with_sleeper d)
-      (λ y w. gave_same with_sleeper y.seat d y.holds (gave_bare b y.seat d y.holds w)) xs
+      (λ y w. gave_moved b with_sleeper y.seat d y.holds refl refl w) xs
 
   sleep_well : (d : ℕ) → AllByRecursion (SleepsWell with_sleeper d) (sleepers_of with_sleeper d)
   sleep_well d =
@@ -771,7 +734,7 @@ module _ (done : List BaseLine) (t : Told) (b : Base) (so : SoFar done t b) (c :
       (subst (λ n. AllByRecursion (SleepsWell with_sleeper n) (sleepers_of b c ++ x ∷ [])) (sym e)
       (each-append (SleepsWell with_sleeper c) (sleepers_of b c) (x ∷ [])
       (kept_well c (sleepers_of b c) (so.waited.sleepers c))
-      (gave_same with_sleeper x.seat c x.holds (gave_bare b x.seat c x.holds well), tt))))
+      (gave_moved b with_sleeper x.seat c x.holds refl refl well, tt))))
       (λ ne. subst (AllByRecursion (SleepsWell with_sleeper d)) (sym (sleepers_other d ne))
       (kept_well d (sleepers_of b d) (so.waited.sleepers d)))
       (cases_eq d c)
@@ -804,7 +767,7 @@ module _ (done : List BaseLine) (t : Told) (b : Base) (so : SoFar done t b) (c :
               (waits_of with_sleeper) sleeps_more;
           conditions = length-set b.sleepers c (sleepers_of b c ++ x ∷ []) ∙ so.waited.conditions;
           line = each_then (StandsWell b) (StandsWell with_sleeper)
-              (λ p w. from_bare with_sleeper p (to_bare b p w)) b.line so.waited.line;
+              (λ p w. stands_moved b with_sleeper p refl refl w) b.line so.waited.line;
           sleepers = sleep_well;
           awake = λ f. cc;
           later = λ d l. (let ne : d ≢ c = omega (arith, l) in sleepers_other d ne

@@ -1,6 +1,6 @@
 -- Entries are read behind a base, one after another.
-use Rattle.std.proofs.Common.{◌≡◌, ℕ, suc, ◌+◌, ◌≤◌, Bool, true, false, cond, List, [], ◌∷◌, ◌++◌, length, map, Ok, Err, None, Some, refl, sym, ap, subst, ◌∙◌, arith, append_assoc}
-use Rattle.std.proofs.lemmas.List.{length-append}
+use Rattle.std.proofs.Common.{◌≡◌, ℕ, suc, ◌+◌, List, [], ◌∷◌, ◌++◌, length, map, Ok, Err, None, Some, refl, sym, ap, subst, ◌∙◌, arith, append_assoc}
+use Rattle.std.proofs.lemmas.List.{length-append, length-map}
 use Rattle.history.specs.declared.entry.Entry.{Entry}
 use Rattle.history.specs.Base.{Base}
 use Rattle.history.specs.declared.header.Header.{Header}
@@ -17,19 +17,11 @@ use Rattle.history_text.specs.EntryLines.{entry_line}
 use Rattle.history_text.specs.HistoryLines.{Based, Entered, Line, Reached, base_of, lines_on, lines_told, nothing_yet, numbered, one_line, reached}
 use Rattle.history_text.specs.HistoryText.{IsHistoryText, history_form, lines_so_far}
 use Rattle.history_text.specs.NextLine.{AreEntriesRead, IsEntryBehind, IsPlacedAt, behind}
-use Rattle.history_text.proofs.HistoryItems.{after_lines-push, numbered-push}
-
-length-map : {A B : Type 0} (f : A → B) (xs : List A) → length (map f xs) ≡ length xs
-length-map f [] = refl
-length-map f (x ∷ xs) = ap suc (length-map f xs)
+use Rattle.history_text.proofs.HistoryItems.{after_lines-push, numbered-push, one_or_none}
 
 length-numbered : (n : ℕ) (es : List Entry) → length (numbered n es) ≡ length es
 length-numbered n [] = refl
 length-numbered n (e ∷ es) = ap suc (length-numbered (n + 1) es)
-
-one_or_none : (b : Bool) → cond b 1 0 ≤ 1
-one_or_none true = omega arith
-one_or_none false = omega arith
 
 pub on_push : (b : Base) (es : List Entry) (e : Entry) →
     lines_on b (es ++ e ∷ []) ≡ lines_on b es ++ Entered (b.entries + length es) e ∷ []
@@ -52,7 +44,7 @@ module _ (text : List ℕ) (h : Head) (b : Base) (es : List Entry) (p : Place) (
       read.lines,
       read.count,
       length-append (map Based (lines_told b)) (numbered b.entries es),
-      length-map Based (lines_told b),
+      length-map (lines_told b) Based,
       length-numbered b.entries es,
     );
     known = record { base = refl; reached = refl };

@@ -38,7 +38,7 @@ small_told t b (Seat i has) few le may = (few, may.calls)
 small_told t b (Stands p) few le may = (few, le)
 small_told t b (Sleeps c x) few le may = (few, le)
 
-one_or_none : (b : Bool) → cond b 1 0 ≤ 1
+pub one_or_none : (b : Bool) → cond b 1 0 ≤ 1
 one_or_none true = omega arith
 one_or_none false = omega arith
 

@@ -9,6 +9,7 @@ use Rattle.line_text.proofs.UnderWay.{left_over}
 use Rattle.history_text.specs.EntryLines.{entry_line}
 use Rattle.history_text.specs.HistoryText.{history_form}
 use Rattle.history_text.proofs.EntriesRead.{read_all, read_fault, read_one}
+use Rattle.history_text.proofs.HistoryItems.{one_or_none}
 use Rattle.history_text.proofs.reading.read_entries.Goals as goal
 
 pub next_entry-requires-clause-few : goal.next_entry-requires-clause-few
@@ -56,10 +57,6 @@ pages_more places owed len none was =
   where
     largest : (n : ℕ) → places ≤ n → max places n ≡ n
     largest n few = omega (arith, few)
-
-one_or_none : (b : Bool) → cond b 1 0 ≤ 1
-one_or_none true = omega arith
-one_or_none false = omega arith
 
 pub loop-history-preserved : goal.loop-history-preserved
 loop-history-preserved c =

@@ -5,8 +5,7 @@ use Rattle.monitor.proofs.monitor.Monitor.is_held.Goals as goal
 
 pub unlock-requires-clause-follows : goal.unlock-requires-clause-follows
 unlock-requires-clause-follows g c =
-    may_give_back _ c.pass.inside.token (point_of c.lock-held.result.value.core.value) c.pass.inside.seat
-    c.pass.inside.share c.lock-held.ensures.taken.1 c.pass.invariant
+    may_give_back _ c.pass.inside.token _ _ c.pass.inside.share c.lock-held.ensures.taken.1 c.pass.invariant
 
 looked : (g : _) (c : goal.After-unlock g) → Looked c.pass.inside.token c.unlock.new.token
     (point_of c.lock-held.result.value.core.value) c.pass.inside.seat c.pass.inside.share
