@@ -5,4 +5,3 @@ pub mod Candidates
 pub mod Verdict
 pub mod Auditor
 pub mod Totals
-pub mod Same

@@ -8,10 +8,16 @@ ghost use Rattle.audit.specs.Ledger.{HasSeat, IsNext, LedgerStand};
 
 use crate::candidates::possible_steps;
 use crate::ledger::Ledger;
-use crate::same::is_same;
 use deciding::decide::entry_for;
 use history::entry::Entry;
 use history::step::Step;
+
+/// Whether two entries are the same.
+fn is_same(one: Entry, other: Entry) -> bool
+    ensures { IsTrue result ↔ (one ≡ other) }
+{
+    one == other
+}
 
 impl Ledger {
     /// Whether a step of its seat makes the entry.

@@ -21,7 +21,6 @@ pub mod auditor;
 mod candidates;
 mod holds;
 pub mod ledger;
-mod same;
 mod situation;
 pub mod sums;
 #[cfg(test)]
