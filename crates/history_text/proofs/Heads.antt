@@ -1,11 +1,13 @@
 -- The first line of a text is written where no entry was folded.
-use Rattle.std.proofs.Common.{◌≡◌, ℕ, ◌+◌, Bool, false, ltb, List, ◌++◌, Option, Some, None, refl, sym, ap, ◌∙◌, arith, append-nil, codes}
+use Rattle.std.proofs.Common.{◌≡◌, ℕ, ◌+◌, Bool, false, ltb, List, ◌++◌, Option, Some, None, refl, sym, subst, ⊎_elim, ap, ◌∙◌, arith, append-nil, codes}
 use Rattle.history.specs.declared.header.Header.{Header}
 use Rattle.history.specs.Base.{Base}
 use Rattle.history.specs.Entries.{IsBasedWell, or_opening}
-use Rattle.history.specs.GoodBase.{IsGood}
+use Rattle.history.specs.GoodBase.{IsBaseOf, IsGood}
+use Rattle.history.specs.Header.{IsInRange}
 use Rattle.history.specs.Spelling.{part_of}
 use Rattle.history.specs.Text.{ended}
+use Rattle.history.proofs.OpeningBase.{opening_good}
 use Rattle.history_text.specs.declared.base_line.BaseLine.{BaseLine}
 use Rattle.history_text.specs.BaseText.{IsHeadPut, lines_text}
 use Rattle.history_text.specs.HistoryLines.{head_line, head_of, name_of}
@@ -36,3 +38,10 @@ pub first_written : (base : Option Base) (k : Header) (out new : List ℕ) → (
     IsHeadPut (or_opening k base) out new 0 0
 first_written None k out new none well is = opening_written k out new is
 first_written (Some b) k out new none well is = good_written b k out new none well.0 well.1 is
+
+-- the base of an object's history is none, or a good one of its header
+pub based_well : (k : Header) (base : Option Base) → IsInRange k → IsBaseOf k (or_opening k base) →
+    IsBasedWell k base
+based_well k None range of = tt
+based_well k (Some b) range of =
+    (of.0, ⊎_elim (λ e. subst IsGood (sym e) (opening_good k range)) (λ good. good.1) of.1)

@@ -45,6 +45,14 @@ pub rows_none : (seat n : ℕ) → empties n ≡ opening_rows [] seat n
 rows_none seat zero = refl
 rows_none seat (suc n) = ap (λ z. [] ∷ z) (rows_none (suc seat) n)
 
+empties_next : (n : ℕ) → empties n ++ [] ∷ [] ≡ empties (suc n)
+empties_next zero = refl
+empties_next (suc n) = ap (λ z. [] ∷ z) (empties_next n)
+
+-- one empty row more
+pub empties_more : (n : ℕ) → empties n ++ [] ∷ [] ≡ empties (n + 1)
+empties_more n = let up : suc n ≡ n + 1 = omega arith in empties_next n ∙ ap empties up
+
 pub rows_count : (locks : List LockId) (seat n : ℕ) → length (opening_rows locks seat n) ≡ n
 rows_count locks seat zero = refl
 rows_count locks seat (suc n) = ap suc (rows_count locks (suc seat) n)
