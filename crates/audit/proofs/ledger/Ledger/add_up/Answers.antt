@@ -7,5 +7,5 @@ balance_of-requires c = let r = c.requires in (r.start, r.front, r.stand, r.room
 
 pub returns : goal.returns
 returns c s h st =
-    c.of.ensures s h st.past (ap (λ (k : Header). k.object) (sym st.header))
+    c.of.ensures.adds s h st.past (ap (λ (k : Header). k.object) (sym st.header))
     (c.balance_of.ensures.balance s h st)
