@@ -87,7 +87,6 @@ seats_below n [] all = tt
 seats_below n (x ∷ xs) all = (all.0, seats_below n xs all.1)
 
 module _ (b : Base) (good : IsGood b) where
-
   pub shared_few : is_lock b.header.object ≡ true → (seats : List SeatBase) → seats ≡ b.seats → (i : ℕ) →
       (get_or seats i nothing).shared ≤ 2147483647
   shared_few lock seats same i =
