@@ -1,6 +1,7 @@
 //! The pool, and the clients that use it.
-ghost use Rattle.std.specs.Prelude.{◌≡◌, ◌≤◌, IfOk};
+ghost use Rattle.std.specs.Prelude.{◌≡◌, ◌≤◌, IfErr, IfOk};
 ghost use Rattle.history.specs.declared.entry.Mode.TheVariants.{S};
+ghost use Rattle.history.specs.declared.fault.Fault.TheVariants.{OutOfMemory};
 ghost use Rattle.history.specs.declared.step.Step.TheVariants.{Give};
 ghost use Rattle.monitor.specs.Acquire.{IsAcquire};
 ghost use Rattle.monitor.specs.Stepping.{IsEntered, IsSame};
@@ -49,7 +50,8 @@ impl<'p> Pool<'p> {
         connections: u32,
     ) -> Result<Pool<'p>, Fault>
         requires places { permits.monitor.now.header.seats ≤ parking.now }
-        ensures { IfOk result (λ pool. pool.permits.monitor.now ≡ permits.entry.monitor.now) }
+        ensures ok { IfOk result (λ pool. pool.permits.monitor.now ≡ permits.entry.monitor.now) }
+        ensures err { IfErr result (λ fault. fault ≡ OutOfMemory) }
     {
         let mut free = Vec::new(alloc);
         free.resize_with(connections as usize, || Connection { requests: 0 })?;

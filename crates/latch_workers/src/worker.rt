@@ -1,5 +1,5 @@
 //! Workers and their foreman.
-ghost use Rattle.std.specs.Prelude.{◌≡◌, All, IfOk};
+ghost use Rattle.std.specs.Prelude.{◌≡◌, All, IfOk, length};
 ghost use Rattle.latch_workers.specs.Worker.{IsAt};
 
 use crate::shift::Shift;
@@ -44,6 +44,8 @@ pub fn part(
     requires { All (IsAt shift.now.start shift.now.end) workers.items }
     ensures starts { IfOk result (λ r. All (λ p. p.lock ≡ shift.now.start) r.0.items) }
     ensures ends { IfOk result (λ r. All (λ p. p.lock ≡ shift.now.end) r.1.items) }
+    ensures all { IfOk result (λ r. (length r.0.items ≡ length workers.items)
+        × (length r.1.items ≡ length workers.items)) }
 {
     let mut starts = Vec::new(alloc);
     let mut ends = Vec::new(alloc);

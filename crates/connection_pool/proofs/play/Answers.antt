@@ -11,7 +11,7 @@ open-requires-2-clause-opened g c = c.open-hooks.ensures.opened 7
 pub play_rounds-requires-clause-all : goal.play_rounds-requires-clause-all
 play_rounds-requires-clause-all g c κs within =
     let is : c.in_ok-pool.pool.permits.monitor.now ≡ c.in_ok-monitor.monitor =
-    c.in_ok-pool.ensures ∙ c.of.ensures in
+    c.in_ok-pool.ensures.ok ∙ c.of.ensures in
     subst (λ (k : LockId). All (λ (p : Shown). p.lock ≡ k) c.pop.new.self.items) (sym is)
     (all_last (λ (q : Shown). q.lock ≡ c.in_ok-monitor.monitor) c.in_ok-monitor.clients.items
     c.pop.new.self.items

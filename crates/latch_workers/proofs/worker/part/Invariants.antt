@@ -1,4 +1,4 @@
-use Rattle.std.proofs.Common.{◌≡◌}
+use Rattle.std.proofs.Common.{◌≡◌, ◌+◌, length}
 use Rattle.std.specs.List.{All}
 use Rattle.monitor.specs.Shown.{Shown}
 use Rattle.latch_workers.specs.Worker.{IsAt}
@@ -9,3 +9,5 @@ invariant-loop-worker l =
     All (IsAt l.shift.start l.shift.end) l.worker-iterator.rest.items
     × All (λ (p : Shown). p.lock ≡ l.shift.start) l.starts.items
     × All (λ (p : Shown). p.lock ≡ l.shift.end) l.ends.items
+    × (length l.starts.items + length l.worker-iterator.rest.items ≡ length l.fn.workers.items)
+    × (length l.ends.items + length l.worker-iterator.rest.items ≡ length l.fn.workers.items)
