@@ -1,13 +1,13 @@
 #!/usr/bin/env python3
-"""Runs every example through the program: checks/examples.py PROGRAM [FOLDER].
+"""Runs every example and every case through the program: checks/examples.py PROGRAM [FOLDER].
 
 Each pair NAME.steps and NAME.answers is replayed, and each pair NAME.history and NAME.answers audited, from
 the file, and one of each kind from standard input too. Each NAME.svg is the picture of NAME.history, or of
 the history that a replay of NAME.steps gives. Each NAME.script is run: the lines outside its histories are as
 NAME.answers has them, where * stands for a number that depends on the schedule, and `aqs audit` says the same
 of each history. Then faults of each kind are tried. Compared are the exit status, standard output and
-standard error. The last line is 'N passed, M failed', and the status is 0 only if nothing failed and
-something passed.
+standard error. Then the cases of cases/ are run (`cases.py`). The last line is 'N passed, M failed', and the
+status is 0 only if nothing failed and something passed.
 """
 
 import pathlib
@@ -15,6 +15,8 @@ import re
 import subprocess
 import sys
 import tempfile
+
+import cases
 
 SECONDS = 60
 
@@ -210,6 +212,8 @@ def results(program, folder, scratch):
     yield from pictures(program, folder)
     for file in unpaired(folder):
         yield f"{file.name} has its pair", False
+    for wrong in cases.results(program, cases.all_files()):
+        yield wrong, wrong is None
 
 
 def main(words):

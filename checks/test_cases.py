@@ -1,0 +1,90 @@
+"""Tests the reader of cases, and that a wrong answer fails."""
+import os
+import pathlib
+import stat
+import tempfile
+import unittest
+
+import cases
+
+# A program that writes its input and its last word's file, says its first word, and has its second as status.
+PROGRAM = '#!/bin/sh\ncat\n[ -z "$3" ] || cat "$3"\n[ -z "$1" ] || echo "aqs: $1" >&2\nexit "${2:-0}"\n'
+
+
+class Reading(unittest.TestCase):
+    def test_a_block_is_a_case_and_comments_are_none(self):
+        read = cases.read("# Of two\n\n# One\n# more\n$ a 'b c'\n< x\n> y\n! usage\n= 2\n\n# Two\n$\n", "f")
+        self.assertEqual([case.name for case in read], ["One", "Two"])
+        first, second = read
+        self.assertEqual((first.words, first.input, first.output()), (["a", "b c"], b"x\n", b"y\n"))
+        self.assertEqual((first.error, first.status, first.line), (b"aqs: usage\n", 2, 3))
+        self.assertEqual((second.words, second.input, second.output()), ([], b"", b""))
+        self.assertEqual((second.error, second.status), (b"", 0))
+
+    def test_each_way_to_spell_bytes(self):
+        text = "# All\n$\n< é \n<\n<| a\n<\\ b\\x00\\r\\n\n<* 2 c\n<# 9 10 # d #+1 #-1\n<@ no_steps.steps\n"
+        [case] = cases.read(text)
+        steps = (cases.EXAMPLES / "no_steps.steps").read_bytes()
+        wanted = "é \n\nab\0\r\nc\nc\n9 d 10 8\n10 d 11 9\n".encode() + steps
+        self.assertEqual(case.input, wanted)
+        [case] = cases.read(text.replace("\n<", "\n>"))
+        self.assertEqual(case.output(), wanted)
+
+    def test_other_lines_are_refused(self):
+        for block in ("# a\n$\nx", "# a\n$\n<~ x", "# a\n$\n$", "# a\n> x", "$ replay", "# a\n$\n= x", "# a\n$\n<x",
+                      "# a\n$\n<* x", "# a\n$\n<@ missing"):
+            with self.assertRaises(cases.Unreadable, msg=block):
+                cases.read(block)
+
+
+class Answers(unittest.TestCase):
+    def test_a_star_is_a_number_on_its_lines_alone(self):
+        [case] = cases.read("# a\n$\n> *\n>~ *.* x\n")
+        for text, good in ((b"*\n1.-20 x\n", True), (b"1\n1.2 x\n", False), (b"*\n1.a x\n", False),
+                           (b"*\n1.2 x\n\n", False), (b"*\n1.2 x", False), (b"*\n1,2 x\n", False)):
+            self.assertEqual(case.is_answer(0, text, b""), good, text)
+
+    def test_each_part_of_an_answer_counts(self):
+        [case] = cases.read("# a\n$\n> x\n! usage\n= 2\n")
+        wanted = (2, b"x\n", b"aqs: usage\n")
+        self.assertTrue(case.is_answer(*wanted))
+        for place, other in ((0, 0), (0, None), (1, b""), (1, b"x"), (1, b"x\nx\n"), (2, b""), (2, b"aqs: usage")):
+            answer = (*wanted[:place], other, *wanted[place + 1:])
+            self.assertFalse(case.is_answer(*answer), answer)
+
+
+class Running(unittest.TestCase):
+    def setUp(self):
+        self.folder = tempfile.TemporaryDirectory()
+        self.program = os.path.join(self.folder.name, "program")
+        pathlib.Path(self.program).write_text(PROGRAM)
+        os.chmod(self.program, stat.S_IRWXU)
+
+    def tearDown(self):
+        self.folder.cleanup()
+
+    def failures(self, text):
+        file = pathlib.Path(self.folder.name) / "some.cases"
+        file.write_text(text)
+        return list(cases.results(self.program, [file]))
+
+    def test_a_right_answer_passes_and_a_wrong_one_is_told(self):
+        right = "# Right\n$ usage 2\n< x\n> x\n! usage\n= 2\n"
+        named = "# From a file\n$ '' 0 FILE\n< x\n> x\n"
+        self.assertEqual(self.failures(f"{right}\n{named}"), [None, None])
+        for old, new in (("> x", "> y"), ("! usage\n", ""), ("= 2", "= 1"), ("> x\n", "")):
+            [failed] = self.failures(right.replace(old, new))
+            self.assertIn("some.cases, line 1: Right\n$ usage 2\n-- expected status", failed)
+            self.assertIn("-- came status 2, standard error b'aqs: usage\\n', standard output\nx\n", failed)
+
+
+class Files(unittest.TestCase):
+    def test_each_file_reads_and_no_name_stands_twice_in_it(self):
+        for file in cases.all_files():
+            names = [case.name for case in cases.read(file.read_text(encoding="utf-8"), file.name)]
+            self.assertEqual(len(names), len(set(names)), file.name)
+            self.assertLess(0, len(names), file.name)
+
+
+if __name__ == "__main__":
+    unittest.main()
