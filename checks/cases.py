@@ -76,9 +76,11 @@ class Case:
 def counted(text):
     """The line of a text 'A B line' for each number."""
     first, last, line = text.split(" ", 2)
+    parts = re.split(r"#(?:\*(\d+))?([+-]\d+)?", line)
+    shape = "%d".join(part.replace("%", "%%") for part in parts[::3])
+    places = [(int(times or 1), int(more or 0)) for times, more in zip(parts[1::3], parts[2::3])]
     for number in range(int(first), int(last) + 1):
-        value = lambda found: str(number * int(found[1] or 1) + int(found[2] or 0))
-        yield re.sub(r"#(?:\*(\d+))?([+-]\d+)?", value, line)
+        yield shape % tuple([number * times + more for times, more in places])
 
 
 def broken(line):
