@@ -67,7 +67,8 @@ class Case:
     def is_output(self, text):
         if all(mark not in PATTERNS for mark, _ in self.expected):
             return text == self.output()
-        return re.fullmatch(b"".join(pattern_of(mark, text) for mark, text in self.expected), text) is not None
+        pattern = b"".join(pattern_of(mark, line) for mark, line in self.expected)
+        return re.fullmatch(pattern, text) is not None
 
     def is_answer(self, status, output, error):
         return (status, error) == (self.status, self.error) and self.is_output(output)

@@ -6,8 +6,8 @@ the file, and one of each kind from standard input too. Each NAME.svg is the pic
 the history that a replay of NAME.steps gives. Each NAME.script is run: the lines outside its histories are as
 NAME.answers has them, where * stands for a number that depends on the schedule, and `aqs audit` says the same
 of each history. Then faults of each kind are tried. Compared are the exit status, standard output and
-standard error. Then the cases of cases/ are run (`cases.py`). The last line is 'N passed, M failed', and the
-status is 0 only if nothing failed and something passed.
+standard error. Then the cases of cases/ are run (`cases.py`), and long random lists of steps (`crowds.py`).
+The last line is 'N passed, M failed', and the status is 0 only if nothing failed and something passed.
 """
 
 import pathlib
@@ -17,6 +17,7 @@ import sys
 import tempfile
 
 import cases
+import crowds
 
 SECONDS = 60
 
@@ -152,6 +153,9 @@ def long_lines(scratch):
     yield ["audit", scratch / "long_line"], (3, b"", b"aqs: bad header\n")
 
 
+# A word of the command line that isn't UTF-8: the byte FF.
+NO_TEXT = "\udcff"
+
 LATCH = b'["a","latch seats 1 count 1 cap 16"]'
 
 
@@ -201,6 +205,7 @@ def faults(scratch):
     yield ["draw", "--from", "3", "--to", "2", scratch / "not_legal"], (2, b"", b"aqs: bad --from\n")
     yield ["audit", "--history"], (2, b"", b"aqs: usage\n")
     yield ["--help"], (2, b"", b"aqs: usage\n")
+    yield ["replay", NO_TEXT], (2, b"", b"aqs: usage\n")
 
 
 def results(program, folder, scratch):
@@ -214,6 +219,8 @@ def results(program, folder, scratch):
         yield f"{file.name} has its pair", False
     for wrong in cases.results(program, cases.all_files()):
         yield wrong, wrong is None
+    for wrong in crowds.results(program):
+        yield wrong, wrong is None
 
 
 def main(words):
@@ -225,7 +232,7 @@ def main(words):
         for name, good in results(program, folder, pathlib.Path(scratch)):
             passed, failed = passed + good, failed + (not good)
             if not good:
-                print(f"failed: {name}")
+                print(f"failed: {name}".encode(errors="backslashreplace").decode())
     print(f"{passed} passed, {failed} failed")
     return 0 if passed and not failed else 1
 
