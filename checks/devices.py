@@ -20,7 +20,7 @@ import tempfile
 import threading
 
 import rules
-import storms
+import runs
 
 STEPS = b"""aqs-steps 1 lock fair seats 2 conditions 0 cap 64
 0 acquire x 1
@@ -116,8 +116,7 @@ def lacks_memory(words, answer):
     if answer[0] == 0:
         if words != ["run"] or answer[2]:
             return False
-        wrong, _, _ = storms.judged(json.loads(SCRIPT), answer[1].decode())
-        return wrong is None
+        return runs.judged(json.loads(SCRIPT), answer[1]) is None
     return answer in ((5, b"", b"aqs: out of memory\n"), (4, b"", b"aqs: thread 0 not started\n"))
 
 
