@@ -9,11 +9,12 @@ and all that it answers. A block of comments alone is a comment on what follows.
     < line        a line of input
     <| text       input without a line break at its end
     <\\ text       the same, with the escapes of a Python bytes literal
-    <* N line     the line N times
-    <# A B line   the line for each number from A to B; # is the number, #+1 and #-1 are its neighbours
+    <* N line     the line N times; \\n in it is a line break
+    <# A B line   the line for each number from A to B, which # is in it; #*2+1 is twice that and one
     <@ NAME       the bytes of the file NAME of examples/
     > line        a line of standard output; >|, >\\, >*, ># and >@ as above
     >~ line       a line of standard output in which each * stands for some number
+    >...          any lines of standard output
     ! words       standard error is the line 'aqs: words'; without it, it is empty
     = N           the exit status; without it, it is 0
 
@@ -36,7 +37,7 @@ SECONDS = 60
 SHOWN = 600
 TOP = pathlib.Path(__file__).resolve().parent.parent
 EXAMPLES = TOP / "examples"
-MARK = re.compile(r"(\$|!|=|[<>](?:[|\\*#@]|~)?)(?: (.*))?")
+MARK = re.compile(r"(\$|!|=|[<>][|\\*#@]?|>~|>\.\.\.)(?: (.*))?")
 
 
 class Unreadable(Exception):
@@ -49,32 +50,40 @@ class Case:
     def __init__(self, file, line):
         self.file, self.line, self.name = file, line, None
         self.words, self.status, self.error = None, 0, b""
-        self.input, self.parts = b"", []
+        self.input, self.output, self.pattern, self.is_exact = b"", b"", b"", True
 
-    def expect(self, text, is_pattern=False):
-        self.parts.append((text, is_pattern))
-
-    def output(self):
-        return b"".join(text for text, _ in self.parts)
+    def expect(self, mark, text):
+        """Adds a line that is expected on standard output, or several."""
+        shown = b"...\n" if mark == ">..." else bytes_of(mark[1:], text)
+        pattern = re.escape(shown)
+        if mark == ">~":
+            pattern = pattern.replace(rb"\*", rb"-?\d+")
+        elif mark == ">...":
+            pattern = rb"(?:.*\n)*"
+        self.output += shown
+        self.pattern += pattern
+        self.is_exact = self.is_exact and mark not in (">~", ">...")
 
     def is_output(self, text):
-        if not any(is_pattern for _, is_pattern in self.parts):
-            return text == self.output()
-        pattern = b"".join(
-            re.escape(part).replace(rb"\*", rb"-?\d+") if is_pattern else re.escape(part)
-            for part, is_pattern in self.parts
-        )
-        return re.fullmatch(pattern, text) is not None
+        if self.is_exact:
+            return text == self.output
+        return re.fullmatch(self.pattern, text) is not None
 
     def is_answer(self, status, output, error):
         return (status, error) == (self.status, self.error) and self.is_output(output)
 
 
 def counted(text):
-    """The lines of a text 'A B line'."""
+    """The line of a text 'A B line' for each number."""
     first, last, line = text.split(" ", 2)
     for number in range(int(first), int(last) + 1):
-        yield re.sub(r"#([+-]\d+)?", lambda found: str(number + int(found[1] or 0)), line)
+        value = lambda found: str(number * int(found[1] or 1) + int(found[2] or 0))
+        yield re.sub(r"#(?:\*(\d+))?([+-]\d+)?", value, line)
+
+
+def broken(line):
+    """A line with its end, where \\n is a line break too."""
+    return (line.replace("\\n", "\n") + "\n").encode()
 
 
 def bytes_of(kind, text):
@@ -85,9 +94,9 @@ def bytes_of(kind, text):
         return codecs.escape_decode(text.encode())[0]
     if kind == "*":
         count, line = text.split(" ", 1)
-        return f"{line}\n".encode() * int(count)
+        return broken(line) * int(count)
     if kind == "#":
-        return "".join(f"{line}\n" for line in counted(text)).encode()
+        return b"".join(map(broken, counted(text)))
     if kind == "@":
         return (EXAMPLES / text).read_bytes()
     return f"{text}\n".encode()
@@ -99,7 +108,7 @@ def take(case, line):
         case.name = case.name or line[1:].strip()
         return
     found = MARK.fullmatch(line)
-    if found is None or found[1] == "<~":
+    if found is None:
         raise ValueError("no such line")
     mark, text = found[1], found[2] or ""
     if mark == "$":
@@ -113,7 +122,7 @@ def take(case, line):
     elif mark[0] == "<":
         case.input += bytes_of(mark[1:], text)
     else:
-        case.expect(bytes_of(mark[1:], text), mark == ">~")
+        case.expect(mark, text)
 
 
 def read(text, file="cases"):
@@ -121,7 +130,7 @@ def read(text, file="cases"):
     case, cases = None, []
     for number, line in enumerate([*text.split("\n"), ""], 1):
         if line == "":
-            if case is not None and (case.words is not None or case.input or case.parts):
+            if case is not None and (case.words is not None or case.input or case.output):
                 cases.append(case)
             case = None
             continue
@@ -138,14 +147,12 @@ def read(text, file="cases"):
 
 def run(program, words, given):
     """The exit status, what went to standard output, and what went to standard error."""
-    if "FILE" not in words:
-        done = subprocess.run([program, *words], input=given, capture_output=True, timeout=SECONDS)
-        return done.returncode, done.stdout, done.stderr
     with tempfile.NamedTemporaryFile() as kept:
-        kept.write(given)
-        kept.flush()
-        words = [kept.name if word == "FILE" else word for word in words]
-        done = subprocess.run([program, *words], stdin=subprocess.DEVNULL, capture_output=True, timeout=SECONDS)
+        if "FILE" in words:
+            kept.write(given)
+            kept.flush()
+            words, given = [kept.name if word == "FILE" else word for word in words], b""
+        done = subprocess.run([program, *words], input=given, capture_output=True, timeout=SECONDS)
     return done.returncode, done.stdout, done.stderr
 
 
@@ -164,7 +171,7 @@ def failure(program, case):
         answer = (None, b"", b"no answer within a minute")
     if case.is_answer(*answer):
         return None
-    expected = shown(case.status, case.output(), case.error)
+    expected = shown(case.status, case.output, case.error)
     place = f"{case.file}, line {case.line}: {case.name}"
     return f"{place}\n$ {shlex.join(case.words)}\n-- expected {expected}-- came {shown(*answer)}"
 

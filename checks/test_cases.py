@@ -16,23 +16,25 @@ class Reading(unittest.TestCase):
         read = cases.read("# Of two\n\n# One\n# more\n$ a 'b c'\n< x\n> y\n! usage\n= 2\n\n# Two\n$\n", "f")
         self.assertEqual([case.name for case in read], ["One", "Two"])
         first, second = read
-        self.assertEqual((first.words, first.input, first.output()), (["a", "b c"], b"x\n", b"y\n"))
+        self.assertEqual((first.words, first.input, first.output), (["a", "b c"], b"x\n", b"y\n"))
         self.assertEqual((first.error, first.status, first.line), (b"aqs: usage\n", 2, 3))
-        self.assertEqual((second.words, second.input, second.output()), ([], b"", b""))
+        self.assertEqual((second.words, second.input, second.output), ([], b"", b""))
         self.assertEqual((second.error, second.status), (b"", 0))
 
     def test_each_way_to_spell_bytes(self):
-        text = "# All\n$\n< é \n<\n<| a\n<\\ b\\x00\\r\\n\n<* 2 c\n<# 9 10 # d #+1 #-1\n<@ no_steps.steps\n"
+        text = "# All\n$\n< é \n<\n<| a\n<\\ b\\x00\\r\\n\n<* 2 c\\nd\n"
+        text += "<# 9 10 # #*2 #*2+1 #-1\n<@ no_steps.steps\n"
         [case] = cases.read(text)
         steps = (cases.EXAMPLES / "no_steps.steps").read_bytes()
-        wanted = "é \n\nab\0\r\nc\nc\n9 d 10 8\n10 d 11 9\n".encode() + steps
+        wanted = "é \n\nab\0\r\nc\nd\nc\nd\n9 18 19 8\n10 20 21 9\n".encode() + steps
         self.assertEqual(case.input, wanted)
         [case] = cases.read(text.replace("\n<", "\n>"))
-        self.assertEqual(case.output(), wanted)
+        self.assertEqual(case.output, wanted)
 
     def test_other_lines_are_refused(self):
-        for block in ("# a\n$\nx", "# a\n$\n<~ x", "# a\n$\n$", "# a\n> x", "$ replay", "# a\n$\n= x", "# a\n$\n<x",
-                      "# a\n$\n<* x", "# a\n$\n<@ missing"):
+        blocks = ["# a\n> x", "$ replay"]
+        blocks += [f"# a\n$\n{line}" for line in ("x", "<~ x", "$", "= x", "<x", "<* x", "<@ missing")]
+        for block in blocks:
             with self.assertRaises(cases.Unreadable, msg=block):
                 cases.read(block)
 
@@ -44,11 +46,18 @@ class Answers(unittest.TestCase):
                            (b"*\n1.2 x\n\n", False), (b"*\n1.2 x", False), (b"*\n1,2 x\n", False)):
             self.assertEqual(case.is_answer(0, text, b""), good, text)
 
+    def test_dots_are_any_whole_lines(self):
+        [case] = cases.read("# a\n$\n> x\n>...\n> y\n")
+        for text, good in ((b"x\ny\n", True), (b"x\n1\n\n2\ny\n", True), (b"x\n1y\n", False),
+                           (b"x\n", False)):
+            self.assertEqual(case.is_answer(0, text, b""), good, text)
+
     def test_each_part_of_an_answer_counts(self):
         [case] = cases.read("# a\n$\n> x\n! usage\n= 2\n")
         wanted = (2, b"x\n", b"aqs: usage\n")
         self.assertTrue(case.is_answer(*wanted))
-        for place, other in ((0, 0), (0, None), (1, b""), (1, b"x"), (1, b"x\nx\n"), (2, b""), (2, b"aqs: usage")):
+        for place, other in ((0, 0), (0, None), (1, b""), (1, b"x"), (1, b"x\nx\n"), (2, b""),
+                             (2, b"aqs: usage")):
             answer = (*wanted[:place], other, *wanted[place + 1:])
             self.assertFalse(case.is_answer(*answer), answer)
 
