@@ -2,13 +2,13 @@
 """Examples cut after each byte, and with each byte replaced by other values, through the program:
 checks/spoilt.py PROGRAM [SEED [TEXTS]].
 
-With a SEED, as the hash of a commit, one file of examples/ is taken, and for each byte as many values as make some TEXTS,
-20,000 if no number is given: first those that mean something, then others by chance. Without one all files
-are taken, with all values, which takes an hour.
+A SEED, as the hash of a commit, chooses one script and one other file of examples/. Of each some TEXTS are
+made, 12,000 if no number is given: each byte has as many values, first those that mean something, then others
+by chance. Without a SEED all files are taken, with all values, which takes an hour.
 
 The program must answer each text as checks/rules.py does: with its first fault and nothing written, or whole.
 A script that is still good must be run as checks/runs.py says; one of several threads may wait for ever, so it
-has a second. Each text comes with CR LF, NUL and long numbers too, and with a line of a megabyte. What
+has half a second. Each text comes with CR LF, NUL and long numbers too, and with a line of a megabyte. What
 disagrees is printed. The last line is 'N passed, M failed'.
 """
 
@@ -54,9 +54,9 @@ def wanted(words, text):
 
 
 def runs_or_waits(program, text):
-    """Whether a good script is run, or still waits after a second."""
+    """Whether a good script is run, or still waits after half a second."""
     try:
-        done = subprocess.run([program.path, "run"], input=text, capture_output=True, timeout=1)
+        done = subprocess.run([program.path, "run"], input=text, capture_output=True, timeout=0.5)
     except subprocess.TimeoutExpired:
         return "waits"
     wrong = runs.judged(json.loads(text), done.stdout)
@@ -116,15 +116,19 @@ def tried(path, file, places, count, seed):
 
 
 def files_by(seed):
-    """The file that a seed chooses, or all files, of each content one."""
+    """The script and the other file that a seed chooses, or all files, of each content one."""
     found = {file.read_bytes(): file for file in sorted(EXAMPLES.iterdir()) if file.suffix in KINDS}
     files = sorted(found.values())
-    return files if seed is None else [random.Random(seed).choice(files)]
+    if seed is None:
+        return files
+    chance = random.Random(seed)
+    of_a_kind = lambda is_script: [file for file in files if (file.suffix == ".script") == is_script]
+    return [chance.choice(of_a_kind(True)), chance.choice(of_a_kind(False))]
 
 
 def main(words):
     seed = words[1] if len(words) > 1 else None
-    texts = int(words[2]) if len(words) > 2 else 20_000
+    texts = int(words[2]) if len(words) > 2 else 12_000
     parts = []
     for file in files_by(seed):
         length = file.stat().st_size
