@@ -46,8 +46,8 @@ def counts(words):
         return error.output or b"", 0, 1
     found = re.search(rb"^(\d+) passed, (\d+) failed\n\Z", done.stdout, re.M)
     passed, failed = (int(found[1]), int(found[2])) if found else (0, 0)
-    is_good = found and passed and not failed
-    return done.stdout, passed, failed if is_good == (done.returncode == 0) else failed + 1
+    is_good = done.returncode == 0 and passed > 0
+    return done.stdout, passed, failed if is_good or failed else 1
 
 
 def main(program, seed):

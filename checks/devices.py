@@ -120,7 +120,7 @@ def lacks_memory(words, answer):
     if answer[0] == 0:
         if words != ["run"] or answer[2]:
             return False
-        return runs.judged(json.loads(SCRIPT), answer[1]) is None
+        return runs.judged(json.loads(SCRIPT), answer[1], lacks_memory=True) is None
     return answer in ((5, b"", b"aqs: out of memory\n"), (4, b"", b"aqs: thread 0 not started\n"))
 
 

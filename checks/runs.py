@@ -2,8 +2,8 @@
 
 `alone(script)` is the whole run text of a script of one thread. `judged(script, text)` says what is wrong with
 the run text of any script: each history must be legal by `rules.py` and have the audit text that follows it,
-and the entries of each seat must be those of its thread's calls, in their order. A script is the value of its
-JSON text.
+and the entries of each seat must be those of its thread's calls, in their order. Only a call with a fault, or
+one for which there may be no room, has none. A script is the value of its JSON text.
 """
 
 import collections
@@ -54,9 +54,14 @@ def first_step(words):
 
 
 @functools.lru_cache(None)
-def ways(words):
-    """The entries that a call may have, each a list of words and ends."""
-    return WAYS["acquire-now" if first_step(words).name == "tryfair" else words[0]]
+def ways(header, words):
+    """The entries that a call may have, each a list of words and ends, and whether it has a fault instead."""
+    step = first_step(words)
+    fault = rules.State(header).fault_of(0, step)
+    if fault is None:
+        return WAYS["acquire-now" if step.name == "tryfair" else words[0]], False
+    hears_first = fault == "NoSuchCondition" and words[0] in ("await-interruptible", "await-timed")
+    return INTERRUPTED if hears_first else [], True
 
 
 class Alone:
@@ -137,20 +142,61 @@ def begins(entry, words):
     return step.at is None or entry.at == step.at
 
 
-def recorded(calls, entries):
-    """How many of a thread's calls of an object the entries of its seat are of; None if they are of others."""
+def recorded(header, calls, entries, may_lack):
+    """How many of a thread's calls the entries of its seat are of; None if they are of other calls. Any call
+    may have no entry if its entry may lack something."""
     tokens = list(map(token, entries))
     at = count = 0
     for words in calls:
-        for way in ways(words) if at < len(tokens) and begins(entries[at], words) else ():
+        its_ways, has_fault = ways(header, words)
+        for way in its_ways if at < len(tokens) and begins(entries[at], words) else ():
             if way == tuple(tokens[at:at + len(way)]):
                 at, count = at + len(way), count + 1
                 break
+        else:
+            if not (has_fault or may_lack):
+                return None
     return count if at == len(tokens) else None
 
 
-def calls_by_object(thread):
-    """The words of the calls of each object in one round, and how often each thread is interrupted in it."""
+class Object:
+    """An object of a script: its header, each thread's calls of it, and whether it is trimmed."""
+
+    def __init__(self, part, works):
+        self.header, self.calls, self.is_trimmed = rules.header_part(part.encode()), [], False
+        for calls, repeat in works:
+            self.calls.append([words for words in calls if words != ("trim",)] * repeat)
+            self.is_trimmed = self.is_trimmed or ("trim",) in calls
+        self.made = sum(map(len, self.calls))
+
+    def is_roomy(self):
+        """Whether all entries of all calls, and all that is owed, have room."""
+        return 4 * self.made + 3 * self.header.seats < self.header.cap
+
+    def judged(self, part, lacks_memory):
+        """What is wrong with a part of a run text, if anything, and the entries that it shows."""
+        header, lines = rules.read_history(part.history)
+        status, audit = rules.verdict(lines)
+        if header != self.header or status or audit != part.audit:
+            return f"{audit}, not {part.audit}", lines.entries
+        state_calls = int(re.search(rb"\ncalls (\d+)\n", audit)[1])
+        if part.shares != state_calls:
+            return f"{state_calls} calls, shares {part.shares}", lines.entries
+        by_seat = collections.defaultdict(list)
+        for entry in lines.entries:
+            by_seat[entry.seat].append(entry)
+        may_lack = lacks_memory or not self.is_roomy()
+        for seat, calls in enumerate(self.calls):
+            if not self.is_trimmed and recorded(header, calls, by_seat[seat], may_lack) is None:
+                return f"entries of seat {seat} that are not of its calls", lines.entries
+        faulty = sum(ways(header, words)[1] for calls in self.calls for words in calls)
+        if not may_lack and part.shares < self.made - faulty:
+            return f"{part.shares} of {self.made} calls, {faulty} with a fault", lines.entries
+        return None, lines.entries
+
+
+def by_object(thread):
+    """The words of the calls of each object in one round, and how often each thread is interrupted in all."""
     calls, interrupts = collections.defaultdict(list), collections.Counter()
     for call in thread["calls"]:
         name, *words = call.split(" ")
@@ -161,45 +207,24 @@ def calls_by_object(thread):
     return calls, interrupts
 
 
-def judged_part(header, part, calls, is_trimmed):
-    """What is wrong with an object's part, if anything, how many calls it has, and who was interrupted."""
-    found, lines = rules.read_history(part.history)
-    interrupts = collections.Counter(e.seat for e in lines.entries if token(e) in BY_INTERRUPT)
-    if found.part.decode() != header:
-        return "another object", 0, interrupts
-    status, audit = rules.verdict(lines)
-    if status or audit != part.audit:
-        return f"{audit}, not {part.audit}", 0, interrupts
-    ended = int(re.search(rb"\ncalls (\d+)\n", audit)[1])
-    if part.shares != ended:
-        return f"{ended} calls, shares {part.shares}", ended, interrupts
-    by_seat = collections.defaultdict(list)
-    for entry in lines.entries:
-        by_seat[entry.seat].append(entry)
-    for seat, made in enumerate(calls):
-        if not is_trimmed and recorded(made, by_seat[seat]) is None:
-            return f"entries of seat {seat} that are none of its calls", ended, interrupts
-    return None, ended, interrupts
-
-
-def judged(script, text):
+def judged(script, text, lacks_memory=False):
     """What is wrong with the run text of a script, if anything."""
-    run = read(text)
+    run, threads = read(text), script["threads"]
     if run is None or [part.name for part in run[0]] != [name for name, _ in script["objects"]]:
         return "no run text of these objects"
-    made, allowed, interrupts = 0, collections.Counter(), collections.Counter()
-    rounds = [calls_by_object(thread) for thread in script["threads"]]
-    for _, interrupted in rounds:
-        allowed += interrupted
+    if len(threads) == 1 and not lacks_memory:
+        return None if text == alone(script) else "not the run text of this thread"
+    rounds = [by_object(thread) for thread in threads]
+    interrupts = sum((interrupted for _, interrupted in rounds), collections.Counter())
+    unrecorded = 0
     for part, (name, header) in zip(run[0], script["objects"]):
-        repeats = [thread["repeat"] for thread in script["threads"]]
-        trims = any(("trim",) in calls[name] for calls, _ in rounds)
-        calls = [[words for words in calls[name] if words != ("trim",)] * n for (calls, _), n in zip(rounds, repeats)]
-        wrong, ended, interrupted = judged_part(header, part, calls, trims)
+        works = [(calls[name], thread["repeat"]) for (calls, _), thread in zip(rounds, threads)]
+        called = Object(header, works)
+        wrong, entries = called.judged(part, lacks_memory)
         if wrong:
             return f"{name}: {wrong}"
-        made += sum(map(len, calls)) - ended
-        interrupts += interrupted
-    if interrupts - allowed:
-        return f"more interrupts than were made: {interrupts - allowed}"
-    return None if made == run[1] else f"{run[1]} unrecorded in place of {made}"
+        unrecorded += called.made - part.shares
+        interrupts.subtract(entry.seat for entry in entries if token(entry) in BY_INTERRUPT)
+    if any(count < 0 for count in interrupts.values()):
+        return "more interrupts than were made"
+    return None if unrecorded == run[1] else f"{run[1]} unrecorded in place of {unrecorded}"
