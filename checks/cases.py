@@ -19,12 +19,13 @@ and all that it answers. A block of comments alone is a comment on what follows.
     = N           the exit status; without it, it is 0
 
 The input is given on standard input unless a word is FILE. Where nothing is expected the program writes
-nothing. The last line is 'N passed, M failed', and the status is 0 only if nothing failed and something
-passed.
+nothing. A run text is judged by checks/runs.py too. The last line is 'N passed, M failed', and the status is 0
+only if nothing failed and something passed.
 """
 
 import codecs
 import concurrent.futures
+import json
 import os
 import pathlib
 import re
@@ -32,6 +33,8 @@ import shlex
 import subprocess
 import sys
 import tempfile
+
+import runs
 
 SECONDS = 60
 SHOWN = 600
@@ -70,8 +73,13 @@ class Case:
         pattern = b"".join(pattern_of(mark, line) for mark, line in self.expected)
         return re.fullmatch(pattern, text) is not None
 
+    def is_run(self, text):
+        """Whether a text may be that of a run, if this is a run."""
+        return self.words[:1] != ["run"] or self.status != 0 or not runs.judged(json.loads(self.input), text)
+
     def is_answer(self, status, output, error):
-        return (status, error) == (self.status, self.error) and self.is_output(output)
+        is_told = (status, error) == (self.status, self.error) and self.is_output(output)
+        return is_told and self.is_run(output)
 
 
 def counted(text):

@@ -9,6 +9,7 @@ for data until the system does not load the program. With GIGABYTES, that much o
 """
 
 import collections
+import functools
 import json
 import os
 import pathlib
@@ -20,7 +21,7 @@ import tempfile
 import threading
 
 import rules
-import storms
+import runs
 
 STEPS = b"""aqs-steps 1 lock fair seats 2 conditions 0 cap 64
 0 acquire x 1
@@ -47,6 +48,9 @@ HISTORY = rules.replay(STEPS, True)[1]
 EXAMPLES = pathlib.Path(__file__).resolve().parent.parent / "examples"
 DRAWN = rules.replay((EXAMPLES / "bounded_buffer.steps").read_bytes(), True)[1]
 PICTURE = (EXAMPLES / "bounded_buffer.svg").read_bytes()
+
+# So many pages fewer, and then each of them if the answer is another.
+STEP = 64
 
 # The words of each command, its input, and what it writes.
 COMMANDS = [
@@ -116,18 +120,30 @@ def lacks_memory(words, answer):
     if answer[0] == 0:
         if words != ["run"] or answer[2]:
             return False
-        wrong, _, _ = storms.judged(json.loads(SCRIPT), answer[1].decode())
-        return wrong is None
+        return runs.judged(json.loads(SCRIPT), answer[1], lacks_memory=True) is None
     return answer in ((5, b"", b"aqs: out of memory\n"), (4, b"", b"aqs: thread 0 not started\n"))
+
+
+def less_and_less(answer_at, most):
+    """The sizes from the most down, in steps of many pages; between two that are answered otherwise, each."""
+    above, kept = most, answer_at(most)
+    while above > 1:
+        below = max(above - STEP, 1)
+        answer = answer_at(below)
+        if answer != kept or below == 1:
+            yield from range(above - 1, below, -1)
+        yield below
+        above, kept = below, answer
 
 
 def little_memory(program, words, text, wanted):
     """Whether a command with ever less memory answers as ever, or lacks memory and writes nothing, down to
     the size at which the system does not load the program."""
-    most = next(pages for pages in range(2000, 200_000, 2000) if within(program, words, text, pages)[0] == 0)
+    answer_at = functools.lru_cache(None)(lambda pages: within(program, words, text, pages))
+    most = next(pages for pages in range(2000, 200_000, 2000) if answer_at(pages)[0] == 0)
     lacked = collections.Counter()
-    for pages in range(most, 0, -1):
-        answer = within(program, words, text, pages)
+    for pages in less_and_less(answer_at, most):
+        answer = answer_at(pages)
         if answer == (0, wanted, b""):
             continue
         if not lacks_memory(words, answer):

@@ -1,20 +1,24 @@
 #!/usr/bin/env python3
 """Random texts through the program: checks/fuzz.py PROGRAM [TEXTS [SEED [PROCESSES]]].
 
-Half of the texts are good steps: `aqs replay`, `aqs replay --history` and `aqs audit` of that history must
-answer as checks/rules.py does, and the history must be legal. A quarter are steps that were spoilt, a quarter
+Two of five texts are good steps: `aqs replay`, `aqs replay --history` and `aqs audit` of that history must
+answer as checks/rules.py does, and the history must be legal. A fifth are steps that were spoilt, a fifth
 histories that were, in their entries or in their bytes. Each history is drawn too: `aqs draw` must have the
-status or the fault of `aqs audit`, and show what checks/drawn.py does. Whatever disagrees is printed, and the
-status is 1.
+status or the fault of `aqs audit`, and show what checks/drawn.py does. A fifth are scripts of one thread, of
+which one in four was spoilt: `aqs run` must answer as checks/runs.py does. The seed is the day if none is
+given, as 20261127. Whatever disagrees is printed, and the status is 1.
 """
 
 import collections
+import datetime
+import json
 import multiprocessing
 import random
 import sys
 
 import drawn
 import rules
+import runs
 from program import Program
 
 WORDS = ("acquire", "try", "tryfair", "entryinterrupt", "give", "look", "expire", "interrupt", "await",
@@ -22,9 +26,9 @@ WORDS = ("acquire", "try", "tryfair", "entryinterrupt", "give", "look", "expire"
 AMOUNTS = (0, 1, 1, 1, 1, 2, 2, 2, 3, 4, 5, 2147483646, 2147483647, 2147483648)
 
 
-def header(chance):
+def header(chance, seats=None):
     """An object part. Most are small, so that threads meet and histories fill up."""
-    seats = chance.choice((1, 2, 2, 3, 3, 4, 5, 8, chance.randint(1, 256)))
+    seats = seats or chance.choice((1, 2, 2, 3, 3, 4, 5, 8, chance.randint(1, 256)))
     cap = chance.choice((16, 17, 20, 32, 64, 100, 1000, 4294967295, chance.randint(16, 4294967295)))
     policy = chance.choice(("fair", "nonfair", "strict"))
     kind = chance.choice(("lock", "lock", "rw", "rw", "semaphore", "semaphore", "latch"))
@@ -163,10 +167,63 @@ def history_text(before, lines, entries):
     return b"\n".join([*before, f"end {state.entries} {calls}".encode(), b""])
 
 
+def call(chance, name, state):
+    """A call of an object that is at this state, by the one thread of a script. It doesn't wait for ever."""
+    if chance.random() < 0.05:
+        return "interrupt 0"
+    if chance.random() < 0.03:
+        return f"{name} trim"
+    _, asked = step(chance, state)
+    kind = {"tryfair": "acquire", "entryinterrupt": "try"}.get(asked.name, asked.name)
+    words = [] if asked.mode is None else [asked.mode, str(asked.n)]
+    words += [] if asked.at is None else [str(asked.at)]
+    if kind in ("acquire", "await"):
+        kind += chance.choice(("", "", "-interruptible", "-timed"))
+        entry = None if state.fault_of(0, asked) else state.entry_of(0, asked)
+        if kind.endswith("-timed") or entry is not None and entry.word in ("queued", "await"):
+            kind = kind.partition("-")[0] + "-timed"
+            words.append(str(chance.choice((0, 0, 1))))
+    return " ".join([name, kind, *words])
+
+
+def script_of(chance):
+    """A script of one thread that ends, beside the objects as they are then."""
+    count = chance.choice((1, 1, 2, 3, 4, 20))
+    objects = [[f"o{number}", header(chance, 1)] for number in range(count)]
+    script = {"objects": objects, "threads": [{"repeat": 1, "calls": []}]}
+    run, calls = runs.Alone(script), script["threads"][0]["calls"]
+    for _ in range(chance.choice((0, 1, 5, 20, 40))):
+        name = chance.choice(objects)[0]
+        made = call(chance, name, run.objects[name].state)
+        calls.append(made)
+        run.make(made)
+    script["threads"][0]["repeat"] = chance.choice((1, 2, 3, 10))
+    if runs.alone(script) is None:
+        script["threads"][0]["repeat"] = 1
+    return script
+
+
+def script_tries(chance):
+    """A run of a random script of one thread. One that was spoilt and might wait for ever is left out."""
+    text = json.dumps(script_of(chance), indent=chance.choice((None, 1))).encode()
+    if chance.randrange(4) == 0:
+        text = spoilt_bytes(chance, text)
+    fault = rules.script_fault(text)
+    if fault is not None:
+        yield ["run"], text, (3, b"", f"aqs: {fault}\n".encode())
+        return
+    wanted = runs.alone(json.loads(text))
+    if wanted is not None:
+        yield ["run"], text, (0, wanted, b"")
+
+
 def tries(chance):
     """The words, the text and the wanted answer of each run for one random text."""
+    way = chance.randrange(5)
+    if way == 4:
+        yield from script_tries(chance)
+        return
     steps = steps_text(chance)
-    way = chance.randrange(4)
     if way == 0:
         for _ in range(chance.choice((1, 1, 2, 3))):
             steps = spoilt_bytes(chance, steps) or b"\n"
@@ -213,7 +270,8 @@ def fuzz(path, texts, seed):
 
 def main(words):
     path = words[0]
-    texts, seed, processes = [int(word) for word in words[1:]] + [2000, 1, 2][len(words) - 1:]
+    day = int(datetime.date.today().strftime("%Y%m%d"))
+    texts, seed, processes = [int(word) for word in words[1:]] + [2000, day, 2][len(words) - 1:]
     parts = [(path, texts // processes, seed * 1000 + number) for number in range(processes)]
     kinds, wrong = collections.Counter(), []
     with multiprocessing.Pool(processes) as pool:

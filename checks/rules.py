@@ -25,6 +25,15 @@ HELD = 10 ** 25
 REFUSALS = ("NotOwner", "TooManyHolds", "TooManyPermits", "Interrupted", "HoldsRead")
 NO_CALL = ("queued", "await", "lapse")
 
+# The steps of which one may make an entry of this word.
+MAKERS = {
+    "got": ("acquire", "tryfair"), "trygot": ("try",), "queued": ("acquire",), "missed": ("try", "tryfair"),
+    "granted": ("look", "expire"), "left": ("expire", "interrupt"), "lapse": ("expire", "interrupt"),
+    "back": ("look", "expire", "interrupt"), "gave": ("give",), "counted": ("give",), "drained": ("drain",),
+    "await": ("await",), "signal": ("signal",), "signalall": ("signalall",),
+    "refused": ("acquire", "try", "tryfair", "entryinterrupt", "give", "await", "signal", "signalall"),
+}
+
 
 class TextFault(Exception):
     """The first fault of a text, in the words of its line on standard error."""
@@ -32,7 +41,7 @@ class TextFault(Exception):
 
 def number(word, most):
     """The number that a word spells, if it is at most so much."""
-    if not re.fullmatch(rb"0|[1-9][0-9]*", word) or len(word) > 20:
+    if not word.isdigit() or word.startswith(b"0") and word != b"0" or len(word) > 20:
         return None
     value = int(word)
     return value if value <= most else None
@@ -85,25 +94,34 @@ class State:
     def __init__(self, header):
         self.header = header
         self.holds = [{"x": 0, "s": 0} for _ in range(header.seats)]
+        self.owning, self.reads = None, 0
         self.free = header.permits
         self.unheld = 0
         self.count = header.count
         self.line = []
+        self.in_line = {}
         self.sleepers = [[] for _ in range(header.conditions)]
+        self.asleep = set()
         self.saved = {}
         self.ends = {}
         self.folded = 0
         self.entries = 0
         self.calls = [0] * header.seats
 
+    def hold(self, seat, mode, change):
+        """Adds to the holds of a seat. One seat at most has X holds."""
+        holds = self.holds[seat]
+        holds[mode] += change
+        if mode == "s":
+            self.reads += change
+        elif holds["x"] or self.owning == seat:
+            self.owning = seat if holds["x"] else None
+
     def owner(self):
-        for seat, holds in enumerate(self.holds):
-            if holds["x"]:
-                return seat
-        return None
+        return self.owning
 
     def readers(self):
-        return sum(holds["s"] for holds in self.holds)
+        return self.reads
 
     def could(self, seat, mode, n):
         """Whether a seat could acquire, and whether it is at the limit."""
@@ -137,10 +155,10 @@ class State:
         return kind == "rw" and mode == "s" and self.line[0].mode == "x"
 
     def arrival_of(self, seat):
-        return next((arrival for arrival in self.line if arrival.seat == seat), None)
+        return self.in_line.get(seat)
 
     def is_asleep(self, seat):
-        return any(seat in asleep for asleep in self.sleepers)
+        return seat in self.asleep
 
     def fault_of(self, seat, step):
         """The fault that is not recorded, apart from room."""
@@ -247,41 +265,51 @@ class State:
         permits = self.header.kind == "semaphore"
         if word in ("got", "trygot", "granted"):
             if self.header.kind != "latch":
-                self.holds[seat][mode] += n if permits else 1
+                self.hold(seat, mode, n if permits else 1)
             self.free -= n
         if word in ("granted", "left", "back"):
-            self.line.remove(self.arrival_of(seat))
+            self.line.remove(self.in_line.pop(seat))
         if word == "queued":
-            self.line.append(Arrival(seat, mode, n, False))
+            self.join(Arrival(seat, mode, n, False))
         elif word == "gave" and permits:
             of_own = min(n, self.holds[seat]["s"])
-            self.holds[seat]["s"] -= of_own
+            self.hold(seat, "s", -of_own)
             self.unheld += n - of_own
             self.free += n
         elif word == "gave":
-            self.holds[seat][mode] -= 1
+            self.hold(seat, mode, -1)
         elif word == "drained":
-            self.holds[seat]["s"] += n
+            self.hold(seat, "s", n)
             self.free -= n
         elif word == "counted":
             self.count = max(self.count - 1, 0)
         elif word == "await":
             self.saved[seat] = (at, n)
-            self.holds[seat]["x"] = 0
-            self.sleepers[at].append(seat)
+            self.hold(seat, "x", -self.holds[seat]["x"])
+            self.sleep(seat, at)
         elif word == "back":
-            self.holds[seat]["x"] += n
+            self.hold(seat, "x", n)
         elif word == "lapse":
             self.sleepers[at].remove(seat)
+            self.asleep.remove(seat)
             self.arrive(seat, end)
         elif word in ("signal", "signalall"):
+            self.asleep.difference_update(self.sleepers[at][:n])
             for moved in self.sleepers[at][:n]:
                 self.arrive(moved, "signalled")
             del self.sleepers[at][:n]
 
+    def join(self, arrival):
+        self.line.append(arrival)
+        self.in_line[arrival.seat] = arrival
+
+    def sleep(self, seat, at):
+        self.sleepers[at].append(seat)
+        self.asleep.add(seat)
+
     def arrive(self, seat, end):
         self.ends[seat] = end
-        self.line.append(Arrival(seat, "x", 1, True))
+        self.join(Arrival(seat, "x", 1, True))
 
     def owed(self):
         permits = self.header.kind in ("semaphore", "latch")
@@ -326,13 +354,15 @@ class State:
 
     def is_entry(self, entry):
         """Whether an entry is that of some step of its seat."""
-        steps = [Step(name, None, None, None) for name in ("look", "expire", "interrupt", "drain")]
-        for name in ("acquire", "try", "tryfair", "entryinterrupt", "give"):
-            steps.append(Step(name, entry.mode, entry.n, None))
-        for name in ("await", "signal", "signalall"):
-            steps.extend(Step(name, None, None, at) for at in range(self.header.conditions))
         seat = entry.seat
-        return any(self.fault_of(seat, step) is None and self.entry_of(seat, step) == entry for step in steps)
+        for name in MAKERS[entry.word.split(" ")[0]]:
+            if name in ("acquire", "try", "tryfair", "entryinterrupt", "give"):
+                step = Step(name, entry.mode, entry.n, None)
+            else:
+                step = Step(name, None, None, entry.at)
+            if self.fault_of(seat, step) is None and self.entry_of(seat, step) == entry:
+                return True
+        return False
 
     def totals(self):
         header, line = self.header, len(self.line)
@@ -430,7 +460,8 @@ class BaseReader:
             return False
         owner, readers = state.owner(), state.readers()
         state.calls[seat] = calls
-        state.holds[seat] = {"x": exclusive, "s": shared}
+        state.hold(seat, "x", exclusive)
+        state.hold(seat, "s", shared)
         self.seats += 1
         if sum(state.calls) > state.folded:
             return False
@@ -451,7 +482,7 @@ class BaseReader:
             modes = {"lock": ("x",), "rw": ("x", "s")}.get(kind, ("s",))
             if mode not in modes or n is None or (n != 1 and kind != "semaphore") or state.holds[seat]["x"]:
                 return False
-            state.line.append(Arrival(seat, mode, n, False))
+            state.join(Arrival(seat, mode, n, False))
         elif len(words) == 5 and words[1] == b"back" and words[4] in (b"signalled", b"timeout", b"interrupt"):
             if not self.saves(seat, words[2], words[3]):
                 return False
@@ -483,7 +514,7 @@ class BaseReader:
         if at < self.condition:
             return False
         self.condition = at
-        state.sleepers[at].append(seat)
+        state.sleep(seat, at)
         self.waiting.add(seat)
         return True
 
@@ -675,6 +706,7 @@ class Answers:
             self.lines.append(entry_line(self.state.entries - 1, entry, None if self.history else named))
         elif not self.history:
             self.lines.append(f"- {seat} {answer}\n")
+        return answer
 
     def text(self):
         state = self.state
@@ -702,17 +734,23 @@ def replay(text, history=False):
 def audit(text):
     """What `aqs audit` answers to a text."""
     try:
-        header, read_ = read_history(text)
+        _, read_ = read_history(text)
     except TextFault as fault:
         return 3, b"", f"aqs: {fault}\n".encode()
+    status, verdict_text = verdict(read_)
+    return status, verdict_text, b""
+
+
+def verdict(read_):
+    """The status and the audit text of a history that was read."""
     state = read_.start()
     for at, entry in enumerate(read_.entries):
         if not state.is_entry(entry):
-            return 1, f"not legal at {state.folded + at}\n".encode(), b""
+            return 1, f"not legal at {state.folded + at}\n".encode()
         state.add(entry)
     base = f"base {state.folded}\n" if read_.base else ""
     counts = f"entries {state.entries}\ncalls {sum(state.calls)}\n"
-    return 0, f"legal\n{base}{counts}{state.totals()}".encode(), b""
+    return 0, f"legal\n{base}{counts}{state.totals()}".encode()
 
 
 def is_call(text, names, threads):

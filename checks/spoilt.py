@@ -1,25 +1,37 @@
 #!/usr/bin/env python3
-"""Every example cut after each byte, and with each byte replaced by each other value, through the program:
-checks/spoilt.py PROGRAM [FOLDER [PROCESSES [STEP]]].
+"""Examples cut after each byte, and with each byte replaced by other values, through the program:
+checks/spoilt.py PROGRAM [SEED [TEXTS]].
+
+A SEED, as the hash of a commit, chooses one script and one other file of examples/. Of each some TEXTS are
+made, 12,000 if no number is given: each byte has as many values, first those that mean something, then others
+by chance. Without a SEED all files are taken, with all values, which takes an hour.
 
 The program must answer each text as checks/rules.py does: with its first fault and nothing written, or whole.
-A script that is still good after the change may wait for ever, so it has a second. Each text comes with CR
-LF, NUL and long numbers too, and with a line of a megabyte. STEP 7 tries every seventh byte. What disagrees
-is printed.
+A script that is still good must be run as checks/runs.py says; one of several threads may wait for ever, so it
+has half a second. Each text comes with CR LF, NUL and long numbers too, and with a line of a megabyte. What
+disagrees is printed. The last line is 'N passed, M failed'.
 """
 
 import collections
+import json
 import multiprocessing
 import pathlib
+import random
 import re
 import subprocess
 import sys
 
 import rules
+import runs
 from program import Program
+
+EXAMPLES = pathlib.Path(__file__).resolve().parent.parent / "examples"
 
 KINDS = {".steps": ["replay"], ".history": ["audit"], ".script": ["run"]}
 MEGABYTE = 1_000_000
+
+# Bytes that mean something in a text or in JSON, and neighbours of these.
+TELLING = b"\0\n\r\t !\"'+,-./0123456789:;[\\]{}\x7f\x80\xc3\xff@AXZ_`aefnstxz"
 
 # What is put at the end of a line.
 ADDED = (b"\r", b"\x00", b" ", b"\t", b"\n", b"\xff", b"\xc3\xa9", b" " * MEGABYTE, b"0" * MEGABYTE)
@@ -30,29 +42,40 @@ NUMBERS = (b"0%b", b"0" * 40 + b"%b", b"+%b", b"-%b", b"%b.0", b"7" * 40, b"1" +
 
 
 def wanted(words, text):
-    """The answer of the rules; None for a script that is good."""
-    if words == ["run"]:
-        fault = rules.script_fault(text)
-        return None if fault is None else (3, b"", f"aqs: {fault}\n".encode())
-    return rules.audit(text) if words == ["audit"] else rules.replay(text)
+    """The answer of the rules; None for a script of several threads, or one that waits for ever."""
+    if words != ["run"]:
+        return rules.audit(text) if words == ["audit"] else rules.replay(text)
+    fault = rules.script_fault(text)
+    if fault is not None:
+        return 3, b"", f"aqs: {fault}\n".encode()
+    script = json.loads(text)
+    run_text = runs.alone(script) if len(script["threads"]) == 1 else None
+    return None if run_text is None else (0, run_text, b"")
 
 
 def runs_or_waits(program, text):
-    """Whether a good script is run, or still waits after a second."""
+    """Whether a good script is run, or still waits after half a second."""
     try:
-        done = subprocess.run([program.path, "run"], input=text, capture_output=True, timeout=1)
+        done = subprocess.run([program.path, "run"], input=text, capture_output=True, timeout=0.5)
     except subprocess.TimeoutExpired:
         return "waits"
-    is_legal = b"\nlegal\n" in done.stdout and b"not legal" not in done.stdout
-    if (done.returncode, done.stderr, is_legal) == (0, b"", True):
+    wrong = runs.judged(json.loads(text), done.stdout)
+    if (done.returncode, done.stderr, wrong) == (0, b"", None):
         return "is run"
     return done.returncode, done.stdout, done.stderr
 
 
-def changes(text, places):
+def values_for(at, count, seed):
+    """So many values for the byte at a place, those that tell most first."""
+    order = list(range(256))
+    random.Random(f"{seed} {at}").shuffle(order)
+    return sorted(order, key=lambda value: value not in TELLING)[:count]
+
+
+def changes(text, places, count, seed):
     for at in places:
         yield "cut", text[:at]
-        for value in range(256):
+        for value in values_for(at, count, seed):
             if value != text[at]:
                 yield "byte", text[:at] + bytes([value]) + text[at + 1:]
 
@@ -71,12 +94,12 @@ def others(text):
             yield "number", before + number.replace(b"%b", found) + behind
 
 
-def tried(path, file, places):
+def tried(path, file, places, count, seed):
     """How often each kind of answer came, and what disagrees; places are None for the other texts."""
     text, words = file.read_bytes(), KINDS[file.suffix]
     program = Program(path)
     told, wrong = collections.Counter(), []
-    for way, spoilt in others(text) if places is None else changes(text, places):
+    for way, spoilt in others(text) if places is None else changes(text, places, count, seed):
         want = wanted(words, spoilt)
         if want is None:
             answer = runs_or_waits(program, spoilt)
@@ -92,19 +115,30 @@ def tried(path, file, places):
     return told, wrong
 
 
+def files_by(seed):
+    """The script and the other file that a seed chooses, or all files, of each content one."""
+    found = {file.read_bytes(): file for file in sorted(EXAMPLES.iterdir()) if file.suffix in KINDS}
+    files = sorted(found.values())
+    if seed is None:
+        return files
+    chance = random.Random(seed)
+    of_a_kind = lambda is_script: [file for file in files if (file.suffix == ".script") == is_script]
+    return [chance.choice(of_a_kind(True)), chance.choice(of_a_kind(False))]
+
+
 def main(words):
-    top = pathlib.Path(__file__).resolve().parent.parent
-    folder = pathlib.Path(words[1]) if len(words) > 1 else top / "examples"
-    processes, step = [int(word) for word in words[2:]] + [2, 1][len(words[2:]):]
-    seen, parts = set(), []
-    for file in sorted(folder.iterdir()):
-        if file.suffix in KINDS and file.read_bytes() not in seen:
-            seen.add(file.read_bytes())
-            length = file.stat().st_size
-            parts.append((words[0], file, None))
-            parts += [(words[0], file, range(at, min(at + 50, length), step)) for at in range(0, length, 50)]
+    seed = words[1] if len(words) > 1 else None
+    texts = int(words[2]) if len(words) > 2 else 12_000
+    parts = []
+    for file in files_by(seed):
+        length = file.stat().st_size
+        count = 256 if seed is None else max(len(TELLING), texts // length)
+        parts.append((words[0], file, None, count, seed))
+        places = [range(at, min(at + 20, length)) for at in range(0, length, 20)]
+        parts += [(words[0], file, some, count, seed) for some in places]
+        print(f"{file.name}, {min(count, 255)} values a byte")
     told, wrong = collections.Counter(), []
-    with multiprocessing.Pool(processes) as pool:
+    with multiprocessing.Pool() as pool:
         for some, bad in pool.starmap(tried, parts, 1):
             told += some
             wrong += bad
@@ -112,11 +146,11 @@ def main(words):
         print(f"{count} of {name}, {way}: {kind}")
     for file, asked, text, want, answer in wrong[:10]:
         print(f"disagrees: {file} {asked} {text!r}\n  wanted {want!r}\n  answer {answer!r}")
-    print(f"{len(seen)} texts: {sum(told.values()) - len(wrong)} passed, {len(wrong)} failed")
+    print(f"{sum(told.values()) - len(wrong)} passed, {len(wrong)} failed")
     return 1 if wrong or not told else 0
 
 
 if __name__ == "__main__":
-    if not 2 <= len(sys.argv) <= 5:
+    if not 2 <= len(sys.argv) <= 4:
         sys.exit(__doc__)
     sys.exit(main(sys.argv[1:]))

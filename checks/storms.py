@@ -1,21 +1,19 @@
 #!/usr/bin/env python3
-"""Many threads at few objects: checks/storms.py PROGRAM SECONDS [THREADS [OBJECTS [EVERY]]].
+"""Many threads at few objects: checks/storms.py PROGRAM SECONDS [THREADS [OBJECTS [SEED]]].
 
 Scripts by chance, of 64 threads at 4 objects if no number is given, until so many seconds were run. Each
-thread holds one object at a time, so that no script waits for ever. Of each run the status, the verdicts, the
-shares and the numbers of calls are compared. Of the first run, and of each EVERY-th behind it (1 if no number
-is given; none if it is 0), the audit of checks/rules.py too, which takes many times as long as the run. The
-last line is 'N passed, M failed'.
+thread holds one object at a time, so that no script waits for ever. Each run is judged by checks/runs.py:
+every history is legal, and its entries are the calls of the script's threads. The last line is 'N passed, M
+failed'.
 """
 
 import json
 import random
-import re
 import subprocess
 import sys
 import time
 
-import rules
+import runs
 
 
 def objects(chance, threads, count):
@@ -62,37 +60,11 @@ def script(chance, threads, count):
     return {"objects": parts, "threads": works}
 
 
-PART = re.compile(r"object (\S+)\n(aqs-history .*?\nend (\d+) (\d+)\n)(legal\n.*?)shares (\d+)\n", re.S)
-
-
-def judged(said, text, by_rules=True):
-    """What is wrong with a run text, if anything, and how many entries and calls it has."""
-    made = {pair[0]: 0 for pair in said["objects"]}
-    for work in said["threads"]:
-        for call in work["calls"]:
-            if call.split()[0] in made:
-                made[call.split()[0]] += work["repeat"]
-    found = PART.findall(text)
-    unrecorded = re.search(r"\nunrecorded (\d+)\n$", text)
-    entries = sum(int(part[2]) for part in found)
-    if [part[0] for part in found] != list(made) or unrecorded is None:
-        return "other objects", entries, 0
-    for name, history, _, ended, audit, shares in found:
-        if int(ended) != int(shares):
-            return f"{name}: {ended} calls, shares {shares}", entries, 0
-        if by_rules and rules.audit(history.encode()) != (0, audit.encode(), b""):
-            return f"{name}: {rules.audit(history.encode())}, {audit}", entries, 0
-    calls = sum(int(part[3]) for part in found)
-    if calls + int(unrecorded.group(1)) != sum(made.values()):
-        return f"{calls} calls and {unrecorded.group(1)} unrecorded of {sum(made.values())}", entries, 0
-    return None, entries, calls
-
-
 def main(words):
-    program, seconds = words[0], int(words[1])
-    threads, count, every = [int(word) for word in words[2:]] + [64, 4, 1][len(words[2:]):]
-    chance = random.Random(seconds)
-    passed = failed = entries = ended_calls = 0
+    program, seconds = words[0], float(words[1])
+    threads, count, seed = [int(word) for word in words[2:]] + [64, 4, 1][len(words[2:]):]
+    chance = random.Random(seed)
+    passed = failed = entries = 0
     spent = 0.0
     while spent < seconds:
         said = script(chance, threads, count)
@@ -100,14 +72,12 @@ def main(words):
         text = json.dumps(said).encode()
         done = subprocess.run([program, "run"], input=text, capture_output=True, timeout=300)
         spent += time.monotonic() - begun
-        wrong, more, ended = judged(said, done.stdout.decode(), every > 0 and (passed + failed) % every == 0)
-        wrong = wrong or (done.returncode, done.stderr) != (0, b"") and (done.returncode, done.stderr)
+        wrong = (done.returncode, done.stderr) if done.returncode or done.stderr else runs.judged(said, done.stdout)
         passed, failed = passed + (not wrong), failed + bool(wrong)
-        entries, ended_calls = entries + more, ended_calls + ended
+        entries += done.stdout.count(b"\n")
         if wrong:
             print(f"failed: {wrong}\n{json.dumps(said)[:2000]}")
-    told = f"{entries} entries, {ended_calls} calls in {spent:.0f} s"
-    print(f"{threads} threads at {count} objects: {told} of runs")
+    print(f"{threads} threads at {count} objects: {entries} lines in {spent:.0f} s of runs")
     print(f"{passed} passed, {failed} failed")
     return 0 if passed and not failed else 1
 

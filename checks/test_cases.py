@@ -1,4 +1,5 @@
 """Tests the reader of cases, and that a wrong answer fails."""
+import json
 import os
 import pathlib
 import stat
@@ -6,6 +7,7 @@ import tempfile
 import unittest
 
 import cases
+import runs
 
 # A program that writes its input and its last word's file, says its first word, and has its second as status.
 PROGRAM = '#!/bin/sh\ncat\n[ -z "$3" ] || cat "$3"\n[ -z "$1" ] || echo "aqs: $1" >&2\nexit "${2:-0}"\n'
@@ -51,6 +53,16 @@ class Answers(unittest.TestCase):
         for text, good in ((b"x\ny\n", True), (b"x\n1\n\n2\ny\n", True), (b"x\n1y\n", False),
                            (b"x\n", False)):
             self.assertEqual(case.is_answer(0, text, b""), good, text)
+
+    def test_a_run_is_judged(self):
+        thread = '{"repeat":1,"calls":["a acquire s 1"]}'
+        script = '{"objects":[["a","latch seats 1 count 0 cap 16"]],"threads":[%s]}' % thread
+        [case] = cases.read(f"# a\n$ run\n< {script}\n>...\n")
+        text = runs.alone(json.loads(script))
+        self.assertTrue(case.is_answer(0, text, b""))
+        for old, new in ((b"0 0 got", b"0 0 counted"), (b"shares 1", b"shares 0"), (b"recorded 0", b"recorded 1"),
+                         (b"legal", b"not legal at 0"), (b"object a", b"object b"), (text, b"")):
+            self.assertFalse(case.is_answer(0, text.replace(old, new), b""), new)
 
     def test_each_part_of_an_answer_counts(self):
         [case] = cases.read("# a\n$\n> x\n! usage\n= 2\n")

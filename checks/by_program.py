@@ -1,0 +1,70 @@
+#!/usr/bin/env python3
+"""Five checks by the built program, one after the other: checks/by_program.py PROGRAM SEED.
+
+- `limits.py`: each limit at its value and one past it, and long texts.
+- `devices.py`: devices that fail, and ever less memory.
+- `storms.py`: a short storm of threads.
+- `fuzz.py`: random texts, others each day.
+- `spoilt.py`: two examples with each byte changed. The seed, as the hash of a commit, chooses them and the storm.
+
+For each check there is a line with its numbers and its seconds: those of the clock and those of processors. What a
+check that failed has printed is shown above its line. The last line is 'N passed, M failed'.
+"""
+
+import pathlib
+import re
+import resource
+import subprocess
+import sys
+import time
+import zlib
+
+HERE = pathlib.Path(__file__).resolve().parent
+MINUTES = 10
+
+
+def checks(seed):
+    """The words of each check behind the program."""
+    number = str(zlib.crc32(seed.encode()))
+    yield ["limits.py"]
+    yield ["devices.py"]
+    yield ["storms.py", "3", "16", "4", number]
+    yield ["fuzz.py", "4000"]
+    yield ["spoilt.py", seed]
+
+
+def processor_seconds():
+    used = resource.getrusage(resource.RUSAGE_CHILDREN)
+    return used.ru_utime + used.ru_stime
+
+
+def counts(words):
+    """What a check printed, and how much passed and failed by its last line. One that broke off failed."""
+    try:
+        done = subprocess.run(words, stdout=subprocess.PIPE, stderr=subprocess.STDOUT, timeout=60 * MINUTES)
+    except subprocess.TimeoutExpired as error:
+        return error.output or b"", 0, 1
+    found = re.search(rb"^(\d+) passed, (\d+) failed\n\Z", done.stdout, re.M)
+    passed, failed = (int(found[1]), int(found[2])) if found else (0, 0)
+    is_good = done.returncode == 0 and passed > 0
+    return done.stdout, passed, failed if is_good or failed else 1
+
+
+def main(program, seed):
+    passed = failed = 0
+    for name, *words in checks(seed):
+        begun, used = time.monotonic(), processor_seconds()
+        told, good, bad = counts([sys.executable, "-B", HERE / name, program, *words])
+        passed, failed = passed + good, failed + bad
+        if bad:
+            print(told.decode(errors="backslashreplace"), end="")
+        spent, used = time.monotonic() - begun, processor_seconds() - used
+        print(f"{name} {' '.join(words)}: {good} passed, {bad} failed, {spent:.0f} s, {used:.0f} s of processors", flush=True)
+    print(f"{passed} passed, {failed} failed")
+    return 0 if passed and not failed else 1
+
+
+if __name__ == "__main__":
+    if len(sys.argv) != 3:
+        sys.exit(__doc__)
+    sys.exit(main(*sys.argv[1:]))
