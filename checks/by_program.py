@@ -5,10 +5,11 @@
 - `devices.py`: devices that fail, and ever less memory.
 - `storms.py`: a short storm of threads.
 - `fuzz.py`: random texts, others each day.
-- `spoilt.py`: two examples with each byte changed. The seed, as the hash of a commit, chooses them and the storm.
+- `spoilt.py`: two examples with each byte changed.
 
-For each check there is a line with its numbers and its seconds: those of the clock and those of processors. What a
-check that failed has printed is shown above its line. The last line is 'N passed, M failed'.
+The seed, as the hash of a commit, chooses the examples and the storm. Each check has a line with its numbers,
+its seconds and those of processors. What a check that failed has printed stands above its line. The last line
+is 'N passed, M failed'.
 """
 
 import pathlib
@@ -59,7 +60,8 @@ def main(program, seed):
         if bad:
             print(told.decode(errors="backslashreplace"), end="")
         spent, used = time.monotonic() - begun, processor_seconds() - used
-        print(f"{name} {' '.join(words)}: {good} passed, {bad} failed, {spent:.0f} s, {used:.0f} s of processors", flush=True)
+        numbers = f"{good} passed, {bad} failed, {spent:.0f} s, {used:.0f} s of processors"
+        print(f"{' '.join([name, *words])}: {numbers}", flush=True)
     print(f"{passed} passed, {failed} failed")
     return 0 if passed and not failed else 1
 

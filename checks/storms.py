@@ -15,6 +15,8 @@ import time
 
 import runs
 
+SECONDS = 120
+
 
 def objects(chance, threads, count):
     """Objects by name, with as many latches' counts as there are releases, or 1."""
@@ -60,24 +62,33 @@ def script(chance, threads, count):
     return {"objects": parts, "threads": works}
 
 
+def run(program, said):
+    """The run text of a script, or what is wrong with the run: a storm lasts some seconds."""
+    try:
+        given = json.dumps(said).encode()
+        done = subprocess.run([program, "run"], input=given, capture_output=True, timeout=SECONDS)
+    except subprocess.TimeoutExpired:
+        return b"", f"still waits after {SECONDS} s"
+    return done.stdout, (done.returncode or done.stderr) and f"status {done.returncode}, {done.stderr}"
+
+
 def main(words):
     program, seconds = words[0], float(words[1])
     threads, count, seed = [int(word) for word in words[2:]] + [64, 4, 1][len(words[2:]):]
     chance = random.Random(seed)
-    passed = failed = entries = 0
+    passed = failed = lines = 0
     spent = 0.0
     while spent < seconds:
         said = script(chance, threads, count)
         begun = time.monotonic()
-        text = json.dumps(said).encode()
-        done = subprocess.run([program, "run"], input=text, capture_output=True, timeout=300)
+        text, wrong = run(program, said)
         spent += time.monotonic() - begun
-        wrong = (done.returncode, done.stderr) if done.returncode or done.stderr else runs.judged(said, done.stdout)
+        wrong = wrong or runs.judged(said, text)
         passed, failed = passed + (not wrong), failed + bool(wrong)
-        entries += done.stdout.count(b"\n")
+        lines += text.count(b"\n")
         if wrong:
             print(f"failed: {wrong}\n{json.dumps(said)[:2000]}")
-    print(f"{threads} threads at {count} objects: {entries} lines in {spent:.0f} s of runs")
+    print(f"{threads} threads at {count} objects: {lines} lines in {spent:.0f} s of runs")
     print(f"{passed} passed, {failed} failed")
     return 0 if passed and not failed else 1
 
