@@ -43,38 +43,39 @@ EXAMPLES = TOP / "examples"
 MARK = re.compile(r"(\$|!|=|[<>][|\\*#@]?|>~|>\.\.\.)(?: (.*))?")
 
 
+# Lines that stand for too much to spell it out before it is needed, and how they begin.
+MANY = {"*": r"\d+ ", "#": r"\d+ \d+ "}
+PATTERNS = (">~", ">...")
+
+
 class Unreadable(Exception):
     """A file of cases that doesn't have their form."""
 
 
 class Case:
-    """One case: where it stands, its name, its words, its input, and what is expected."""
+    """One case: where it stands, its name, its words, its input, and what is expected. Input and output are
+    kept as their lines spell them, as marks and texts."""
 
     def __init__(self, file, line):
         self.file, self.line, self.name = file, line, None
         self.words, self.status, self.error = None, 0, b""
-        self.input, self.output, self.pattern, self.is_exact = b"", b"", b"", True
+        self.given, self.expected = [], []
 
-    def expect(self, mark, text):
-        """Adds a line that is expected on standard output, or several."""
-        shown = b"...\n" if mark == ">..." else bytes_of(mark[1:], text)
-        pattern = re.escape(shown)
-        if mark == ">~":
-            pattern = pattern.replace(rb"\*", rb"-?\d+")
-        elif mark == ">...":
-            pattern = rb"(?:.*\n)*"
-        self.output += shown
-        self.pattern += pattern
-        self.is_exact = self.is_exact and mark not in (">~", ">...")
+    def input(self):
+        return b"".join(bytes_of(mark, text) for mark, text in self.given)
+
+    def output(self):
+        return b"".join(bytes_of(mark, text) for mark, text in self.expected)
 
     def is_output(self, text):
-        if self.is_exact:
-            return text == self.output
-        return re.fullmatch(self.pattern, text) is not None
+        if all(mark not in PATTERNS for mark, _ in self.expected):
+            return text == self.output()
+        pattern = b"".join(pattern_of(mark, line) for mark, line in self.expected)
+        return re.fullmatch(pattern, text) is not None
 
     def is_run(self, text):
         """Whether a text may be that of a run, if this is a run."""
-        return self.words[:1] != ["run"] or self.status != 0 or not runs.judged(json.loads(self.input), text)
+        return self.words[:1] != ["run"] or self.status != 0 or not runs.judged(json.loads(self.input()), text)
 
     def is_answer(self, status, output, error):
         is_told = (status, error) == (self.status, self.error) and self.is_output(output)
@@ -84,9 +85,11 @@ class Case:
 def counted(text):
     """The line of a text 'A B line' for each number."""
     first, last, line = text.split(" ", 2)
+    parts = re.split(r"#(?:\*(\d+))?([+-]\d+)?", line)
+    shape = "%d".join(part.replace("%", "%%") for part in parts[::3])
+    places = [(int(times or 1), int(more or 0)) for times, more in zip(parts[1::3], parts[2::3])]
     for number in range(int(first), int(last) + 1):
-        value = lambda found: str(number * int(found[1] or 1) + int(found[2] or 0))
-        yield re.sub(r"#(?:\*(\d+))?([+-]\d+)?", value, line)
+        yield shape % tuple([number * times + more for times, more in places])
 
 
 def broken(line):
@@ -94,8 +97,9 @@ def broken(line):
     return (line.replace("\\n", "\n") + "\n").encode()
 
 
-def bytes_of(kind, text):
-    """The bytes that a line of input or of output stands for; the kind is the character behind < or >."""
+def bytes_of(mark, text):
+    """The bytes that a line of input or of output stands for."""
+    kind = mark[1:]
     if kind == "|":
         return text.encode()
     if kind == "\\":
@@ -107,7 +111,15 @@ def bytes_of(kind, text):
         return b"".join(map(broken, counted(text)))
     if kind == "@":
         return (EXAMPLES / text).read_bytes()
-    return f"{text}\n".encode()
+    return f"{kind if kind == '...' else text}\n".encode()
+
+
+def pattern_of(mark, text):
+    """A pattern of the bytes that a line of output stands for."""
+    if mark == ">...":
+        return rb"(?:.*\n)*"
+    pattern = re.escape(bytes_of(mark, text))
+    return pattern.replace(rb"\*", rb"-?\d+") if mark == ">~" else pattern
 
 
 def take(case, line):
@@ -127,10 +139,10 @@ def take(case, line):
         case.error = f"aqs: {text}\n".encode()
     elif mark == "=":
         case.status = int(text)
-    elif mark[0] == "<":
-        case.input += bytes_of(mark[1:], text)
     else:
-        case.expect(mark, text)
+        if mark[1:] not in MANY or not re.match(MANY[mark[1:]], text):
+            bytes_of(mark, text)
+        (case.given if mark[0] == "<" else case.expected).append((mark, text))
 
 
 def read(text, file="cases"):
@@ -138,7 +150,7 @@ def read(text, file="cases"):
     case, cases = None, []
     for number, line in enumerate([*text.split("\n"), ""], 1):
         if line == "":
-            if case is not None and (case.words is not None or case.input or case.output):
+            if case is not None and (case.words is not None or case.given or case.expected):
                 cases.append(case)
             case = None
             continue
@@ -164,24 +176,34 @@ def run(program, words, given):
     return done.returncode, done.stdout, done.stderr
 
 
-def shown(status, output, error):
-    """An answer for a reader; of a long output the beginning."""
-    text = output.decode(errors="backslashreplace")
-    more = f".. ({len(output)} bytes)\n" if len(text) > SHOWN else ""
-    return f"status {status}, standard error {error!r}, standard output\n{text[:SHOWN]}{more}"
+def shown(status, output, error, start):
+    """An answer for a reader, from a place in its output on; of a long output a part."""
+    text = output[start:start + SHOWN].decode(errors="backslashreplace")
+    more = f".. ({len(output)} bytes)\n" if len(output) > start + SHOWN else ""
+    before = f".. ({start} bytes)\n" if start else ""
+    return f"status {status}, standard error {error!r}, standard output\n{before}{text}{more}"
+
+
+def first_difference(expected, came):
+    """Where the first line begins in which two outputs differ; 0 if they don't."""
+    if expected == came:
+        return 0
+    common = len(os.path.commonprefix([expected, came]))
+    return expected.rfind(b"\n", 0, common) + 1
 
 
 def failure(program, case):
     """None, or what differs: the case, what was expected and what came."""
     try:
-        answer = run(program, case.words, case.input)
+        answer = run(program, case.words, case.input())
     except subprocess.TimeoutExpired:
         answer = (None, b"", b"no answer within a minute")
     if case.is_answer(*answer):
         return None
-    expected = shown(case.status, case.output, case.error)
+    start = first_difference(case.output(), answer[1])
+    expected = shown(case.status, case.output(), case.error, start)
     place = f"{case.file}, line {case.line}: {case.name}"
-    return f"{place}\n$ {shlex.join(case.words)}\n-- expected {expected}-- came {shown(*answer)}"
+    return f"{place}\n$ {shlex.join(case.words)}\n-- expected {expected}-- came {shown(*answer, start)}"
 
 
 def results(program, files):

@@ -2,12 +2,13 @@
 """Runs every example and every case through the program: checks/examples.py PROGRAM [FOLDER].
 
 Each pair NAME.steps and NAME.answers is replayed, and each pair NAME.history and NAME.answers audited, from
-the file, and one of each kind from standard input too. Each NAME.svg is the picture of NAME.history, or of
-the history that a replay of NAME.steps gives. Each NAME.script is run: the lines outside its histories are as
-NAME.answers has them, where * stands for a number that depends on the schedule, and `aqs audit` says the same
-of each history. Then faults of each kind are tried. Compared are the exit status, standard output and
-standard error. Then the cases of cases/ are run (`cases.py`). The last line is 'N passed, M failed', and the
-status is 0 only if nothing failed and something passed.
+the file. The history text of each steps text is legal, and a trim after each step changes no answer. Each
+NAME.svg is the picture of NAME.history, or of the history that a replay of NAME.steps gives. Each NAME.script
+is run: the lines outside its histories are as NAME.answers has them, where * stands for a number that depends
+on the schedule, and `aqs audit` says the same of each history. Texts of an enemy follow, the cases of cases/
+(`cases.py`), and long random lists of steps (`crowds.py`). Compared are the exit status, standard output
+and standard error. The last line is 'N passed, M failed', and the status is 0 only if nothing failed and
+something passed.
 """
 
 import pathlib
@@ -17,6 +18,7 @@ import sys
 import tempfile
 
 import cases
+import crowds
 
 SECONDS = 60
 
@@ -115,104 +117,58 @@ def pictures(program, folder):
         yield f"draw {file.name}", history != b"" and drawn == (status, file.read_bytes(), b"")
 
 
-def from_input(program, folder):
-    """A steps text and two history texts, from standard input; a file that is named is read in its place."""
-    steps = (folder / "acquire_and_give.steps").read_bytes()
-    answers = (folder / "acquire_and_give.answers").read_bytes()
-    legal = (folder / "handed_over.history").read_bytes()
-    wrong = (folder / "taken_past_the_line.history").read_bytes()
-    told_legal = (folder / "handed_over.answers").read_bytes()
-    told_wrong = (folder / "taken_past_the_line.answers").read_bytes()
-    runs = [
-        ([], steps, (0, answers, b"")),
-        (["replay"], steps, (0, answers, b"")),
-        (["audit"], legal, (0, told_legal, b"")),
-        (["audit"], wrong, (1, told_wrong, b"")),
-        (["audit"], steps, (3, b"", b"aqs: bad header\n")),
-        (["replay"], legal, (3, b"", b"aqs: bad header\n")),
-        (["replay", folder / "acquire_and_give.steps"], wrong, (0, answers, b"")),
-        (["audit", folder / "handed_over.history"], wrong, (0, told_legal, b"")),
-        (["audit", folder / "taken_past_the_line.history"], legal, (1, told_wrong, b"")),
-    ]
-    for words, given, wanted in runs:
-        name = " ".join(pathlib.Path(w).name for w in map(str, words))
-        yield f"{name} with an input of {len(given)} bytes", run(program, words, given) == wanted
-    status, history, error = run(program, ["replay", "--history"], steps)
-    kept = (status, error) == (0, b"") and history.startswith(b"aqs-history 1 ")
-    yield "replay --history, audit", kept and run(program, ["audit"], history)[0] == 0
+def trimmed(program, folder):
+    """A trim after each step changes no answer, and folds as many entries as the step made."""
+    for file in sorted(folder.glob("*.steps")):
+        lines = re.sub(r"cap \d+", "cap 1000000", file.read_text(), count=1).splitlines()
+        if not lines[0].startswith("aqs-steps 1 "):
+            continue
+        status, replay, error = run(program, ["replay"], "\n".join([*lines, ""]).encode())
+        lines[0] = lines[0].replace(" 1 ", " 2 ", 1)
+        trims = [line for step in lines[1:-1] for line in (step, "trim")]
+        text = "\n".join([lines[0], *trims, f"end {len(trims)}", ""])
+        wanted = replay.decode().replace(" 1 ", " 2 ", 1).splitlines(keepends=True)
+        folds = ["- trim 0\n" if line.startswith("- ") else "- trim 1\n" for line in wanted[1:-1]]
+        wanted[1:-1] = [line for pair in zip(wanted[1:-1], folds) for line in pair]
+        answer = run(program, ["replay"], text.encode())
+        good = (status, error) == (0, b"") and answer == (0, "".join(wanted).encode(), b"")
+        yield f"replay {file.name} with a trim after each step", good
 
 
-def long_lines(scratch):
-    """A line of any length takes no more memory than a short one, and the time that its bytes take."""
-    header = b"aqs-steps 1 lock fair seats 2 conditions 0 cap 16\n"
-    (scratch / "long_line").write_bytes(header + b"0" * 64_000_000 + b"\nend 1\n")
-    (scratch / "long_cut").write_bytes(header + b"0" * 64_000_000)
-    yield ["replay", scratch / "long_line"], (3, b"", b"aqs: bad line 2\n")
-    yield ["replay", scratch / "long_cut"], (3, b"", b"aqs: cut short\n")
-    yield ["audit", scratch / "long_line"], (3, b"", b"aqs: bad header\n")
+def named_files(program, folder):
+    """A file that is named is read in place of standard input."""
+    steps, wrong = folder / "acquire_and_give.steps", folder / "taken_past_the_line.history"
+    answers = (0, steps.with_suffix(".answers").read_bytes(), b"")
+    yield "replay of a file beside an input", run(program, ["replay", steps], wrong.read_bytes()) == answers
+    answers = (1, wrong.with_suffix(".answers").read_bytes(), b"")
+    yield "audit of a file beside an input", run(program, ["audit", wrong], steps.read_bytes()) == answers
 
 
-LATCH = b'["a","latch seats 1 count 1 cap 16"]'
-
-
-def script(objects, calls):
-    return b'{"objects":[%s],"threads":[{"repeat":1, "calls":[%s]}]}' % (objects, calls)
-
-
-def faults(scratch):
-    header = b"aqs-steps 1 lock fair seats 2 conditions 0 cap 16\n"
-    texts = {
-        "bad_header": b"aqs-steps 3 lock fair seats 2 conditions 0 cap 16\nend 0\n",
-        "bad_line": header + b"0 acquire x 1\n2 acquire x 1\nend 2\n",
-        "cut_short": header + b"0 acquire x 1\n",
-        "not_legal": b"aqs-history 1 lock fair seats 2 conditions 0 cap 16\n"
-                     b"0 0 got x 1\n1 1 got x 1\nend 2 2\n",
-    }
-    for name, text in texts.items():
-        (scratch / name).write_bytes(text)
-    yield ["replay", scratch / "bad_header"], (3, b"", b"aqs: bad header\n")
-    yield ["replay", scratch / "bad_line"], (3, b"", b"aqs: bad line 3\n")
-    yield ["replay", scratch / "cut_short"], (3, b"", b"aqs: cut short\n")
-    yield ["audit", scratch / "bad_line"], (3, b"", b"aqs: bad header\n")
-    yield ["audit", scratch / "not_legal"], (1, b"not legal at 1\n", b"")
-    yield ["replay", scratch / "missing"], (4, b"", b"aqs: read failed\n")
-    yield ["audit", scratch / "missing"], (4, b"", b"aqs: read failed\n")
-    yield ["replay", scratch], (4, b"", b"aqs: read failed\n")
-    scripts = {
-        "no_json": (b"{", b"not JSON"),
-        "bad_top": (b"{}", b"bad top"),
-        "bad_object": (script(b'["interrupt","latch seats 1 count 1 cap 16"]', b""), b"bad object 0"),
-        "other_seats": (script(b'["a","latch seats 2 count 1 cap 16"]', b""), b"bad object 0"),
-        "bad_thread": (script(LATCH, b"").replace(b"1,", b"1.0,"), b"bad thread 0"),
-        "bad_call": (script(LATCH, b'"a give s 1","b give s 1"'), b"bad call 0 1"),
-        "deep": (b"[" * 100_000 + b"]" * 100_000, b"not JSON"),
-    }
-    for name, (text, fault) in scripts.items():
-        (scratch / name).write_bytes(text)
-        yield ["run", scratch / name], (3, b"", b"aqs: " + fault + b"\n")
-    yield ["run", scratch / "missing"], (4, b"", b"aqs: read failed\n")
-    yield ["run", scratch], (4, b"", b"aqs: read failed\n")
-    yield ["run", "--history"], (2, b"", b"aqs: usage\n")
-    yield ["replay", "--unknown"], (2, b"", b"aqs: usage\n")
-    yield ["draw", scratch / "cut_short"], (3, b"", b"aqs: bad header\n")
-    yield ["draw", scratch / "missing"], (4, b"", b"aqs: read failed\n")
-    yield ["draw", "--from", "x", scratch / "not_legal"], (2, b"", b"aqs: bad --from\n")
-    yield ["draw", "--to", "-1", scratch / "not_legal"], (2, b"", b"aqs: usage\n")
-    yield ["draw", "--from", "3", "--to", "2", scratch / "not_legal"], (2, b"", b"aqs: bad --from\n")
-    yield ["audit", "--history"], (2, b"", b"aqs: usage\n")
-    yield ["--help"], (2, b"", b"aqs: usage\n")
+def hostile(program):
+    """A line of any length takes no more memory than a short one. JSON that is deep is told as no JSON, and a
+    word that isn't UTF-8 as a bad command line."""
+    header, line = b"aqs-steps 1 lock fair seats 2 conditions 0 cap 16\n", b"0" * 64_000_000
+    whole = header + line + b"\nend 1\n"
+    yield "a long line", run(program, ["replay"], whole) == (3, b"", b"aqs: bad line 2\n")
+    yield "a long line that is cut", run(program, ["replay"], header + line) == (3, b"", b"aqs: cut short\n")
+    yield "a long first line", run(program, ["audit"], line + b"\n") == (3, b"", b"aqs: bad header\n")
+    deep = b"[" * 100_000 + b"]" * 100_000
+    yield "deep JSON", run(program, ["run"], deep) == (3, b"", b"aqs: not JSON\n")
+    yield "a word that is no text", run(program, ["replay", "\udcff"]) == (2, b"", b"aqs: usage\n")
 
 
 def results(program, folder, scratch):
-    for words, wanted in [*pairs(folder), *faults(scratch), *long_lines(scratch)]:
+    for words, wanted in pairs(folder):
         yield " ".join(pathlib.Path(w).name for w in map(str, words)), run(program, words) == wanted
-    yield from from_input(program, folder)
     yield from round_trips(program, folder, scratch)
+    yield from trimmed(program, folder)
     yield from runs(program, folder, scratch)
     yield from pictures(program, folder)
+    yield from named_files(program, folder)
+    yield from hostile(program)
     for file in unpaired(folder):
         yield f"{file.name} has its pair", False
-    for wrong in cases.results(program, cases.all_files()):
+    for wrong in [*cases.results(program, cases.all_files()), *crowds.results(program)]:
         yield wrong, wrong is None
 
 

@@ -41,7 +41,7 @@ class TextFault(Exception):
 
 def number(word, most):
     """The number that a word spells, if it is at most so much."""
-    if not word.isdigit() or word.startswith(b"0") and word != b"0" or len(word) > 20:
+    if not word.isdigit() or word.startswith(b"0") and word != b"0" or len(word) > len(str(HELD)):
         return None
     value = int(word)
     return value if value <= most else None

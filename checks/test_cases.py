@@ -18,9 +18,9 @@ class Reading(unittest.TestCase):
         read = cases.read("# Of two\n\n# One\n# more\n$ a 'b c'\n< x\n> y\n! usage\n= 2\n\n# Two\n$\n", "f")
         self.assertEqual([case.name for case in read], ["One", "Two"])
         first, second = read
-        self.assertEqual((first.words, first.input, first.output), (["a", "b c"], b"x\n", b"y\n"))
+        self.assertEqual((first.words, first.input(), first.output()), (["a", "b c"], b"x\n", b"y\n"))
         self.assertEqual((first.error, first.status, first.line), (b"aqs: usage\n", 2, 3))
-        self.assertEqual((second.words, second.input, second.output), ([], b"", b""))
+        self.assertEqual((second.words, second.input(), second.output()), ([], b"", b""))
         self.assertEqual((second.error, second.status), (b"", 0))
 
     def test_each_way_to_spell_bytes(self):
@@ -29,9 +29,9 @@ class Reading(unittest.TestCase):
         [case] = cases.read(text)
         steps = (cases.EXAMPLES / "no_steps.steps").read_bytes()
         wanted = "é \n\nab\0\r\nc\nd\nc\nd\n9 18 19 8\n10 20 21 9\n".encode() + steps
-        self.assertEqual(case.input, wanted)
+        self.assertEqual(case.input(), wanted)
         [case] = cases.read(text.replace("\n<", "\n>"))
-        self.assertEqual(case.output, wanted)
+        self.assertEqual(case.output(), wanted)
 
     def test_other_lines_are_refused(self):
         blocks = ["# a\n> x", "$ replay"]
@@ -97,6 +97,11 @@ class Running(unittest.TestCase):
             [failed] = self.failures(right.replace(old, new))
             self.assertIn("some.cases, line 1: Right\n$ usage 2\n-- expected status", failed)
             self.assertIn("-- came status 2, standard error b'aqs: usage\\n', standard output\nx\n", failed)
+
+    def test_a_long_answer_is_told_from_its_first_other_line_on(self):
+        [failed] = self.failures("# Long\n$ '' 0\n<* 900 x\n< y\n>* 900 x\n> z\n")
+        self.assertIn("standard output\n.. (1800 bytes)\nz\n-- came", failed)
+        self.assertIn("standard output\n.. (1800 bytes)\ny\n", failed)
 
 
 class Files(unittest.TestCase):

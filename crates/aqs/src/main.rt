@@ -83,6 +83,3 @@ fn main(rt: HostRuntime) -> ExitCode {
     };
     ExitCode::from(told(&rt, done))
 }
-
-#[cfg(test)]
-mod tests;

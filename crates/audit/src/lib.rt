@@ -23,8 +23,6 @@ mod holds;
 pub mod ledger;
 mod situation;
 pub mod sums;
-#[cfg(test)]
-mod tests;
 pub mod totals;
 pub mod verdict;
 mod waiting;

@@ -16,5 +16,3 @@ pub mod room;
 pub mod situation;
 pub mod sleep;
 pub mod tables;
-#[cfg(test)]
-mod tests;

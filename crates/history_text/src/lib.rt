@@ -41,6 +41,3 @@ pub use crate::law::{
 };
 pub use crate::reading::read_text;
 pub use line_text::fault::{ReadFault, TextFault};
-
-#[cfg(test)]
-mod tests;

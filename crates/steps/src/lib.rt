@@ -17,6 +17,3 @@ pub use crate::law::{cut_short, lines_are_short, one_reading};
 pub use crate::step_line::{asked, condition};
 pub use crate::steps_text::{StepsText, read_steps};
 pub use line_text::fault::{ReadFault, TextFault};
-
-#[cfg(test)]
-mod tests;

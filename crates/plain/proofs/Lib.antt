@@ -1,4 +1,0 @@
-mod NextEntries
-mod Owes
-mod Recording
-mod BaseOwes

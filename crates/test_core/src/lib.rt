@@ -1,5 +1,0 @@
-//! Tests of what decides steps: cores of all four objects.
-#![tactic(auto)]
-
-#[cfg(test)]
-mod cores;
