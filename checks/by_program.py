@@ -1,13 +1,13 @@
 #!/usr/bin/env python3
-"""Five checks by the built program, one after the other: checks/by_program.py PROGRAM SEED.
+"""Checks by the built program, one after the other: checks/by_program.py PROGRAM SEED.
 
 - `limits.py`: each limit at its value and one past it, and long texts.
 - `devices.py`: devices that fail, and ever less memory.
-- `storms.py`: a short storm of threads.
+- `storms.py`: two short storms of threads.
 - `fuzz.py`: random texts, others each day.
 - `spoilt.py`: two examples with each byte changed.
 
-The seed, as the hash of a commit, chooses the examples and the storm. Each check has a line with its numbers,
+The seed, as the hash of a commit, chooses the examples and the storms. Each check has a line with its numbers,
 its seconds and those of processors. What a check that failed has printed stands above its line. The last line
 is 'N passed, M failed'.
 """
@@ -29,7 +29,8 @@ def checks(seed):
     number = str(zlib.crc32(seed.encode()))
     yield ["limits.py"]
     yield ["devices.py"]
-    yield ["storms.py", "3", "16", "4", number]
+    yield ["storms.py", "2", "16", "4", number]
+    yield ["storms.py", "1", "64", "8", number]
     yield ["fuzz.py", "4000"]
     yield ["spoilt.py", seed]
 

@@ -19,13 +19,13 @@ SECONDS = 120
 
 
 def objects(chance, threads, count):
-    """Objects by name, with as many latches' counts as there are releases, or 1."""
+    """Objects by name; the latches' counts come later."""
     policy = lambda: chance.choice(("fair", "nonfair", "strict"))
     kinds = [
         lambda: f"lock {policy()} seats {threads} conditions 2 cap 4000000",
         lambda: f"rw {policy()} seats {threads} conditions 1 cap 4000000",
         lambda: f"semaphore {policy()} seats {threads} permits {chance.choice((3, 5, 9))} cap 4000000",
-        lambda: f"latch seats {threads} count {chance.choice((0, 1, 3))} cap 4000000",
+        lambda: f"latch seats {threads} count 0 cap 4000000",
     ]
     return [[f"o-{number}", kinds[number % 4]()] for number in range(count)]
 
@@ -51,6 +51,17 @@ def calls(chance, name, part, threads):
     return held + again + within + [f"{name} give x 1"] * (1 + len(again))
 
 
+def counts(chance, parts, works):
+    """Gives each latch a count. Who counts at it before any other latch does so without waiting for one, so
+    the count is at most the number of these threads."""
+    latches = [part for part in parts if part[1].startswith("latch")]
+    gives = {f"{name} give s 1": name for name, _ in latches}
+    first = [next((gives[call] for call in work["calls"] if call in gives), None) for work in works]
+    for part in latches:
+        count = min(first.count(part[0]), chance.choice((0, 1, 3, len(works))))
+        part[1] = part[1].replace("count 0", f"count {count}")
+
+
 def script(chance, threads, count):
     parts = objects(chance, threads, count)
     works = []
@@ -59,6 +70,7 @@ def script(chance, threads, count):
         for _ in range(chance.randint(2, 6)):
             each += calls(chance, *chance.choice(parts), threads)
         works.append({"repeat": chance.randint(50, 200), "calls": each})
+    counts(chance, parts, works)
     return {"objects": parts, "threads": works}
 
 
