@@ -1,14 +1,15 @@
 #!/usr/bin/env python3
-"""Five checks by the built program, one after the other: checks/by_program.py PROGRAM SEED.
+"""Checks by the built program, one after the other: checks/by_program.py PROGRAM SEED.
 
 - `limits.py`: each limit at its value and one past it, and long texts.
 - `devices.py`: devices that fail, and ever less memory.
-- `storms.py`: a short storm of threads.
+- `storms.py`: two short storms of threads.
 - `fuzz.py`: random texts, others each day.
-- `spoilt.py`: two examples with each byte changed. The seed, as the hash of a commit, chooses them and the storm.
+- `spoilt.py`: two examples with each byte changed.
 
-For each check there is a line with its numbers and its seconds: those of the clock and those of processors. What a
-check that failed has printed is shown above its line. The last line is 'N passed, M failed'.
+The seed, as the hash of a commit, chooses the examples and the storms. Each check has a line with its numbers,
+its seconds and those of processors. What a check that failed has printed stands above its line. The last line
+is 'N passed, M failed'.
 """
 
 import pathlib
@@ -28,7 +29,8 @@ def checks(seed):
     number = str(zlib.crc32(seed.encode()))
     yield ["limits.py"]
     yield ["devices.py"]
-    yield ["storms.py", "3", "16", "4", number]
+    yield ["storms.py", "2", "16", "4", number]
+    yield ["storms.py", "1", "64", "8", number]
     yield ["fuzz.py", "4000"]
     yield ["spoilt.py", seed]
 
@@ -59,7 +61,8 @@ def main(program, seed):
         if bad:
             print(told.decode(errors="backslashreplace"), end="")
         spent, used = time.monotonic() - begun, processor_seconds() - used
-        print(f"{name} {' '.join(words)}: {good} passed, {bad} failed, {spent:.0f} s, {used:.0f} s of processors", flush=True)
+        numbers = f"{good} passed, {bad} failed, {spent:.0f} s, {used:.0f} s of processors"
+        print(f"{' '.join([name, *words])}: {numbers}", flush=True)
     print(f"{passed} passed, {failed} failed")
     return 0 if passed and not failed else 1
 

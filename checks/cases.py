@@ -19,8 +19,8 @@ and all that it answers. A block of comments alone is a comment on what follows.
     = N           the exit status; without it, it is 0
 
 The input is given on standard input unless a word is FILE. Where nothing is expected the program writes
-nothing. A run text is judged by checks/runs.py too. The last line is 'N passed, M failed', and the status is 0
-only if nothing failed and something passed.
+nothing. A run text is judged by checks/runs.py too. The last line is 'N passed, M failed', and the status is
+0 only if nothing failed and something passed.
 """
 
 import codecs

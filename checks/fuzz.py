@@ -1,5 +1,5 @@
 #!/usr/bin/env python3
-"""Random texts through the program: checks/fuzz.py PROGRAM [TEXTS [SEED [PROCESSES]]].
+"""Random texts through the program: checks/fuzz.py PROGRAM [TEXTS [SEED]].
 
 Two of five texts are good steps: `aqs replay`, `aqs replay --history` and `aqs audit` of that history must
 answer as checks/rules.py does, and the history must be legal. A fifth are steps that were spoilt, a fifth
@@ -20,6 +20,9 @@ import drawn
 import rules
 import runs
 from program import Program
+
+# How many parts the texts come in, each with a seed of its own.
+PARTS = 16
 
 WORDS = ("acquire", "try", "tryfair", "entryinterrupt", "give", "look", "expire", "interrupt", "await",
          "signal", "signalall", "drain")
@@ -269,24 +272,24 @@ def fuzz(path, texts, seed):
 
 
 def main(words):
-    path = words[0]
-    day = int(datetime.date.today().strftime("%Y%m%d"))
-    texts, seed, processes = [int(word) for word in words[1:]] + [2000, day, 2][len(words) - 1:]
-    parts = [(path, texts // processes, seed * 1000 + number) for number in range(processes)]
+    texts = int(words[1]) if len(words) > 1 else 2000
+    seed = int(words[2]) if len(words) > 2 else int(datetime.date.today().strftime("%Y%m%d"))
+    parts = [(words[0], -(-texts // PARTS), seed * PARTS + number) for number in range(PARTS)]
     kinds, wrong = collections.Counter(), []
-    with multiprocessing.Pool(processes) as pool:
-        for some, bad in pool.starmap(fuzz, parts):
+    with multiprocessing.Pool() as pool:
+        for some, bad in pool.starmap(fuzz, parts, 1):
             kinds += some
             wrong += bad
     for (name, status), count in sorted(kinds.items()):
         print(f"{count} runs of {name}, status {status}")
     for asked, text, wanted, answer in wrong[:10]:
         print(f"disagrees: {asked} {text!r}\n  wanted {wanted!r}\n  answer {answer!r}")
+    print(f"seed {seed}")
     print(f"{sum(kinds.values()) - len(wrong)} passed, {len(wrong)} failed")
     return 1 if wrong or not kinds else 0
 
 
 if __name__ == "__main__":
-    if not 2 <= len(sys.argv) <= 5:
+    if not 2 <= len(sys.argv) <= 4:
         sys.exit(__doc__)
     sys.exit(main(sys.argv[1:]))

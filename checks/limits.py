@@ -2,8 +2,8 @@
 """Each limit at its value and one past it, through the program: checks/limits.py PROGRAM.
 
 The limits are those of docs/SPECIFICATION.md. What is past a limit has the fault that is told here, and
-nothing is written. What is at the limit is answered as checks/rules.py does, a script with status 0. The last
-line is 'N passed, M failed'.
+nothing is written. What is at the limit is answered as checks/rules.py does, a script as checks/runs.py does.
+Texts that are larger than any buffer are among them. The last line is 'N passed, M failed'.
 """
 
 import json
@@ -12,6 +12,7 @@ import subprocess
 import sys
 
 import rules
+import runs
 
 REPLAY, AUDIT, RUN = ["replay"], ["audit"], ["run"]
 HEADERS = ((REPLAY, "aqs-steps 1 ", "end 0\n"), (AUDIT, "aqs-history 1 ", "end 0 0\n"))
@@ -126,28 +127,70 @@ def scripts():
     ):
         yield RUN, script(permits, 1, [call.format(within)]), None
         yield RUN, script(permits, 1, [call.format(past)]), "bad call 0 0"
+    yield RUN, script(named(3), 2), "bad object 0"
+
+
+def json_limits():
+    """Numbers, depths and lengths of JSON texts."""
     deep = lambda levels: '{"objects":%s,"threads":1}' % ("[" * levels + "]" * levels)
     yield RUN, deep(126), "bad top"
     yield RUN, deep(127), "not JSON"
+    for levels in (128, 200, 100_000, 1_000_000):
+        yield RUN, "[" * levels + "]" * levels, "not JSON"
+        yield RUN, "[" * levels, "not JSON"
+    one = [["a", "latch seats 1 count 0 cap 16"]]
+    call = "bad call 0 0"
+    for levels, fault in ((1, call), (123, call), (124, "not JSON"), (100_000, "not JSON")):
+        nested = "[" * levels + "]" * levels
+        yield RUN, script(one, 1, ["x"]).replace('"x"', nested), fault
     yield RUN, '{"objects":1E308}', "bad top"
     yield RUN, '{"objects":1E309}', "not JSON"
+    # A script of 17 MiB, and one whose bad call stands behind 2 MiB.
+    yield RUN, script(one, 1, ["a give s 1"]).replace("[", "[" + " " * (17 << 20), 1), None
+    works = [{"repeat": 1, "calls": ["a give s 1"] * 10_000} for _ in range(16)]
+    works[15]["calls"][9_999] = "a give s"
+    objects = [["a", "latch seats 16 count 0 cap 16"]]
+    yield RUN, json.dumps({"objects": objects, "threads": works}), "bad call 15 9999"
+
+
+def crowds():
+    """As many threads, objects and conditions as there may be, all in use."""
+    objects = [[f"{number}", "semaphore nonfair seats 256 permits 2 cap 4096"] for number in range(64)]
+    calls = lambda number: [f"{number} acquire s 1", f"{number} give s 1"]
+    works = [{"repeat": 1, "calls": calls(thread % 64)} for thread in range(256)]
+    yield RUN, json.dumps({"objects": objects, "threads": works}), None
+    calls = ["a acquire x 1", "a await-timed 15 1", "a signalall 15", "a give x 1"]
+    at = lambda condition: [call.replace("15", str(condition)) for call in calls]
+    works = [{"repeat": 1, "calls": at(thread % 16)} for thread in range(256)]
+    objects = [["a", "lock fair seats 256 conditions 16 cap 4294967295"]]
+    yield RUN, json.dumps({"objects": objects, "threads": works}), None
+    calls = ["a acquire x 1"] + [f"a await-timed {number} 0" for number in range(17)] + ["a give x 1"]
+    yield RUN, script([["a", "rw strict seats 1 conditions 16 cap 64"]], 1, calls), None
+    latches = [["start", "latch seats 256 count 255 cap 4096"], ["done", "latch seats 256 count 1 cap 4096"]]
+    works = [{"repeat": 1, "calls": ["start give s 1", "done acquire s 1"]}] * 255
+    works = works + [{"repeat": 1, "calls": ["start acquire s 1", "done give s 1"]}]
+    yield RUN, json.dumps({"objects": latches, "threads": works}), None
 
 
 def is_so(program, words, text, fault):
-    done = subprocess.run([program, *words], input=text.encode(), capture_output=True, timeout=60)
+    try:
+        done = subprocess.run([program, *words], input=text.encode(), capture_output=True, timeout=60)
+    except subprocess.TimeoutExpired:
+        return False
     answer = (done.returncode, done.stdout, done.stderr)
     read = None if words == RUN else (rules.audit if words == AUDIT else rules.replay)(text.encode())
     if fault is not None:
         return answer == (3, b"", f"aqs: {fault}\n".encode()) and read in (None, answer)
     if words == RUN:
-        return (answer[0], answer[2]) == (0, b"") and rules.script_fault(text.encode()) is None
+        is_good = (answer[0], answer[2], rules.script_fault(text.encode())) == (0, b"", None)
+        return is_good and runs.judged(json.loads(text), answer[1]) is None
     return answer == read and answer[0] < 3
 
 
 def main(words):
     program = str(pathlib.Path(words[0]).resolve())
     passed = failed = 0
-    for asked, text, fault in [*headers(), *lines(), *holds(), *scripts()]:
+    for asked, text, fault in (*headers(), *lines(), *holds(), *scripts(), *json_limits(), *crowds()):
         good = is_so(program, asked, text, fault)
         passed, failed = passed + good, failed + (not good)
         if not good:

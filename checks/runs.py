@@ -1,9 +1,10 @@
-"""What `aqs run` must answer to a good thread script, by docs/SPECIFICATION.md alone: the program is asked nothing.
+"""What `aqs run` must answer to a good thread script, by docs/SPECIFICATION.md alone.
 
-`alone(script)` is the whole run text of a script of one thread. `judged(script, text)` says what is wrong with
-the run text of any script: each history must be legal by `rules.py` and have the audit text that follows it,
-and the entries of each seat must be those of its thread's calls, in their order. Only a call with a fault, or
-one for which there may be no room, has none. A script is the value of its JSON text.
+`alone(script)` is the whole run text of a script of one thread. `judged(script, text)` says what is wrong
+with the run text of any script: each history must be legal by `rules.py` and have the audit text that follows it,
+and the entries of each seat must be those of its thread's calls, in order. Only a call with a fault, or one
+for which there may be no room, has none. A script is the value of its JSON text. The program is asked
+nothing.
 """
 
 import collections
@@ -12,7 +13,9 @@ import re
 
 import rules
 
-PART = re.compile(rb"object ([a-z0-9-]+)\n(aqs-history .*?\nend \d+ \d+\n)((?:not )?legal.*?\n)shares (\d+)\n", re.S)
+PART = re.compile(
+    rb"object ([a-z0-9-]+)\n(aqs-history .*?\nend \d+ \d+\n)((?:not )?legal.*?\n)shares (\d+)\n", re.S
+)
 LAST = re.compile(rb"unrecorded (\d+)\n")
 
 Part = collections.namedtuple("Part", "name history audit shares")
@@ -103,9 +106,9 @@ class Alone:
     def text(self):
         parts = []
         for name, called in self.objects.items():
-            history = called.text()
-            shares = sum(called.state.calls)
-            parts.append(b"object %s\n%s%sshares %d\n" % (name.encode(), history, rules.audit(history)[1], shares))
+            history, shares = called.text(), sum(called.state.calls)
+            audit = rules.audit(history)[1]
+            parts.append(b"object %s\n%s%sshares %d\n" % (name.encode(), history, audit, shares))
         return b"".join(parts) + b"unrecorded %d\n" % self.unrecorded
 
 

@@ -60,8 +60,8 @@ class Answers(unittest.TestCase):
         [case] = cases.read(f"# a\n$ run\n< {script}\n>...\n")
         text = runs.alone(json.loads(script))
         self.assertTrue(case.is_answer(0, text, b""))
-        for old, new in ((b"0 0 got", b"0 0 counted"), (b"shares 1", b"shares 0"), (b"recorded 0", b"recorded 1"),
-                         (b"legal", b"not legal at 0"), (b"object a", b"object b"), (text, b"")):
+        for old, new in ((b"0 0 got", b"0 0 counted"), (b"shares 1", b"shares 0"), (text, b""),
+                         (b"legal", b"not legal at 0"), (b"object a", b"object b")):
             self.assertFalse(case.is_answer(0, text.replace(old, new), b""), new)
 
     def test_each_part_of_an_answer_counts(self):

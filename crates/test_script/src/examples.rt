@@ -9,14 +9,3 @@ pub const EACH_CALL: &str = r#"{"objects": [["a", "lock nonfair seats 2 conditio
  "a await-timed 1 0", "a signal 2", "a signalall 3", "0 drain", "- trim",
  "interrupt 1"]}, {"calls": [], "repeat": 1}]}
 "#;
-
-/// A thread whose entries are folded in each round.
-pub const TRIMS: &str = r#"{"objects":[["a","lock nonfair seats 1 conditions 0 cap 16"]],
- "threads":[{"repeat":1000,"calls":["a acquire x 1","a give x 1","a trim"]}]}
-"#;
-
-/// Two threads at one lock.
-pub const TWO_THREADS: &str = r#"{"objects":[["a","lock nonfair seats 2 conditions 0 cap 100000"]],
- "threads":[{"repeat":1000,"calls":["a acquire x 1","a give x 1"]},
-            {"repeat":1000,"calls":["a acquire x 1","a give x 1"]}]}
-"#;

@@ -5,5 +5,6 @@ pub mod audits;
 pub mod cores;
 pub mod histories;
 pub mod replays;
+pub mod scripts;
 #[cfg(test)]
 mod tests;
