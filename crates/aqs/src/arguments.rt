@@ -5,7 +5,7 @@ use clap::{Arg, ArgAction, ArgMatches, Command, Error};
 use driver::choice::Choice;
 use driver::form::Form;
 use history::number::number_of;
-use std::alloc::Global;
+use std::alloc::{AllocError, Global};
 use std::convert::AsStr;
 use tasks::fault::Fault;
 use tasks::task::{Job, Task};
@@ -47,46 +47,82 @@ fn choice_in(asked: &ArgMatches<'_>) -> Result<Choice, Fault> {
     }
 }
 
-/// What the words of a command line ask for, the program's name first.
-pub fn arguments<S: AsStr>(alloc: Global, words: &[S]) -> Result<Asked, Fault> {
-    let history = Arg::new(alloc, "history")
-        .long("history")
-        .action(ArgAction::SetTrue);
-    let replay = Command::new(alloc, "replay")
-        .arg(Arg::new(alloc, "file"))?
-        .arg(history)?;
-    let audit = Command::new(alloc, "audit").arg(Arg::new(alloc, "file"))?;
-    let run = Command::new(alloc, "run").arg(Arg::new(alloc, "file"))?;
-    let draw = Command::new(alloc, "draw")
-        .arg(Arg::new(alloc, "file"))?
-        .arg(Arg::new(alloc, "from").long("from").action(ArgAction::Set))?
-        .arg(Arg::new(alloc, "to").long("to").action(ArgAction::Set))?;
-    let command = Command::new(alloc, "aqs")
-        .subcommand(replay)?
-        .subcommand(audit)?
-        .subcommand(draw)?
-        .subcommand(run)?;
-    let matches = command.try_get_matches_from(words).map_err(fault_of)?;
-    let Some((name, asked)) = matches.subcommand() else {
+/// An option `--NAME`.
+fn option<'a>(alloc: Global, name: &'a str, action: ArgAction) -> Arg<'a> {
+    Arg::new(alloc, name).long(name).action(action)
+}
+
+/// A command that reads a text: `NAME [FILE]`.
+fn reader<'a>(alloc: Global, name: &'a str) -> Result<Command<'a>, AllocError> {
+    Command::new(alloc, name).arg(Arg::new(alloc, "file"))
+}
+
+/// `replay [--history] [FILE]`
+fn replay<'a>(alloc: Global) -> Result<Command<'a>, AllocError> {
+    let replay = reader(alloc, "replay")?;
+    replay.arg(option(alloc, "history", ArgAction::SetTrue))
+}
+
+/// `draw [--from NUMBER] [--to NUMBER] [FILE]`
+fn draw<'a>(alloc: Global) -> Result<Command<'a>, AllocError> {
+    let draw = reader(alloc, "draw")?;
+    let draw = draw.arg(option(alloc, "from", ArgAction::Set))?;
+    draw.arg(option(alloc, "to", ArgAction::Set))
+}
+
+/// The program with one command more.
+fn with<'a>(
+    program: Command<'a>,
+    command: Result<Command<'a>, AllocError>,
+) -> Result<Command<'a>, AllocError> {
+    program.subcommand(command?)
+}
+
+/// The program with all its commands.
+fn program<'a>(alloc: Global) -> Result<Command<'a>, AllocError> {
+    let program = with(Command::new(alloc, "aqs"), replay(alloc))?;
+    let program = with(program, reader(alloc, "audit"))?;
+    let program = with(program, reader(alloc, "run"))?;
+    with(program, draw(alloc))
+}
+
+/// What a command with these options is to do.
+fn job_of(name: &str, options: &ArgMatches<'_>) -> Result<Job, Fault> {
+    Ok(match name {
+        "run" => Job::Run,
+        "audit" => Job::Answer(Task::Audit),
+        "draw" => Job::Answer(Task::Draw(choice_in(options)?)),
+        _ if options.get_flag("history") => Job::Answer(Task::Replay(Form::History)),
+        _ => Job::Answer(Task::Replay(Form::Replay)),
+    })
+}
+
+/// The file that a command names, if it names one.
+fn file_in(alloc: Global, options: &ArgMatches<'_>) -> Result<Option<String>, Fault> {
+    match options.get_str("file") {
+        None => Ok(None),
+        // The parser lets it through after `--`.
+        Some(file) if file.starts_with('-') => Err(Fault::Usage),
+        Some(file) => Ok(Some(String::from_str(alloc, file)?)),
+    }
+}
+
+/// What the parsed words ask for. Without a command, standard input is replayed.
+fn asked_by(alloc: Global, words: &ArgMatches<'_>) -> Result<Asked, Fault> {
+    let Some((name, options)) = words.subcommand() else {
         return Ok(Asked {
             job: Job::Answer(Task::Replay(Form::Replay)),
             file: None,
         });
     };
-    let job = match name {
-        "run" => Job::Run,
-        "audit" => Job::Answer(Task::Audit),
-        "draw" => Job::Answer(Task::Draw(choice_in(asked)?)),
-        _ if asked.get_flag("history") => Job::Answer(Task::Replay(Form::History)),
-        _ => Job::Answer(Task::Replay(Form::Replay)),
-    };
-    match asked.get_str("file") {
-        None => Ok(Asked { job, file: None }),
-        // Behind `--` the parser lets it through.
-        Some(file) if file.starts_with('-') => Err(Fault::Usage),
-        Some(file) => Ok(Asked {
-            job,
-            file: Some(String::from_str(alloc, file)?),
-        }),
-    }
+    let job = job_of(name, options)?;
+    let file = file_in(alloc, options)?;
+    Ok(Asked { job, file })
+}
+
+/// What the words of a command line ask for, the program's name first.
+pub fn arguments<S: AsStr>(alloc: Global, words: &[S]) -> Result<Asked, Fault> {
+    let program = program(alloc)?;
+    let words = program.try_get_matches_from(words).map_err(fault_of)?;
+    asked_by(alloc, &words)
 }

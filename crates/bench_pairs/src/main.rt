@@ -1,0 +1,33 @@
+//! Pairs of acquire and release by 1 to 8 threads, counted or measured.
+//!
+//! - `lock_pairs`: pairs under the word lock, and under std's mutex.
+//! - `monitor_pairs`: pairs at monitors of each kind.
+//!
+//! `bench_pairs` makes a few pairs of both, and `bench_pairs NAME` a few of one. `bench_pairs lock_pairs
+//! measure` and `bench_pairs monitor_pairs measure MS` measure how many pairs the threads make.
+#![tactic(auto)]
+
+mod lock_pairs;
+mod monitor_pairs;
+
+use std::{env, io};
+
+/// The word at a place, if there are so many.
+fn word_at(words: &[String], place: usize) -> Option<&str> {
+    words.get(place).map(|word| word.as_str())
+}
+
+fn main(rt: HostRuntime) -> io::Result<()> {
+    let words = env::args(&rt)?.skip(1).collect::<Vec<String>>(rt.alloc())?;
+    let measure = word_at(&words, 1) == Some("measure");
+    let milliseconds = word_at(&words, 2).and_then(|word| word.parse::<u64>().ok());
+    match word_at(&words, 0) {
+        None => {
+            lock_pairs::run(&rt, false)?;
+            monitor_pairs::run(&rt, false, None)
+        }
+        Some("lock_pairs") => lock_pairs::run(&rt, measure),
+        Some("monitor_pairs") => monitor_pairs::run(&rt, measure, milliseconds),
+        Some(other) => eprintln!(rt; "bench_pairs: no pairs {other}"),
+    }
+}

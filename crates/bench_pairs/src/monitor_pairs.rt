@@ -1,0 +1,63 @@
+//! Pairs of acquire and release by 1 to 8 threads, on monitors of each kind.
+//!
+//! Each thread makes a few pairs, and pairs and calls are printed. With the words `measure MS` the threads of
+//! a line make pairs for so many milliseconds, and the line says how many a second: `NAME hist THREADS
+//! PAIRS_PER_SECOND`. The history keeps two entries of each pair, and more of one that had to wait.
+
+mod kind;
+mod pairs;
+mod race;
+
+use crate::monitor_pairs::kind::{ALL_KINDS, count_pairs};
+use crate::monitor_pairs::pairs::Counted;
+use crate::monitor_pairs::race::Limit;
+use std::io;
+use std::sync::Wait;
+use std::thread::Threads;
+use std::time::{Clock, Duration};
+
+const THREADS: [u16; 4] = [1, 2, 4, 8];
+
+const FEW_PAIRS: u64 = 200;
+
+/// How long the threads of a line work, if nothing else is said.
+const MILLISECONDS: u64 = 60;
+
+/// Makes the pairs, and prints a line for each kind of monitor and each number of threads.
+pub fn run<R: Print + AllocGlobal + Threads + Wait + Clock + Sync>(
+    rt: &R,
+    measure: bool,
+    milliseconds: Option<u64>,
+) -> io::Result<()> {
+    let limit = if measure {
+        Limit::Time(Duration::from_millis(milliseconds.unwrap_or(MILLISECONDS)))
+    } else {
+        Limit::Pairs(FEW_PAIRS)
+    };
+    for kind in ALL_KINDS {
+        for threads in THREADS {
+            match count_pairs(rt, rt.alloc(), kind, threads, limit) {
+                Ok(counted) => print_line(rt, kind.name(), threads, limit, counted)?,
+                Err(_) => println!(rt; "{} {threads}: out of memory", kind.name())?,
+            }
+        }
+    }
+    Ok(())
+}
+
+fn print_line<R: Print>(
+    rt: &R,
+    name: &str,
+    threads: u16,
+    limit: Limit,
+    counted: Counted,
+) -> io::Result<()> {
+    let Counted { pairs, calls, time } = counted;
+    match limit {
+        Limit::Pairs(_) => println!(rt; "{name} threads {threads}: {pairs} pairs, {calls} calls"),
+        Limit::Time(_) => {
+            let rate = u128::from(pairs).saturating_mul(1_000_000) / time.as_micros().max(1);
+            println!(rt; "aqs:{name} hist {threads} {rate}")
+        }
+    }
+}

@@ -1,0 +1,168 @@
+//! A bounded buffer: one thread puts, another takes, and a fair lock with two conditions stands between them.
+//!
+//! Prints the sum of what was taken, and what the audit says of the history of the lock.
+
+ghost use Rattle.std.specs.Prelude.{◌≡◌, ◌≤◌, IfOk, IfSome};
+ghost use Rattle.example_locks.specs.declared.bounded_buffer.Failure.TheVariants.{Call};
+ghost use Rattle.monitor.specs.Stepping.{IsSame};
+
+mod buffer;
+
+use crate::bounded_buffer::buffer::{Buffer, consume, produce};
+use audit::verdict::{Verdict, check};
+use history::fault::Fault;
+use history::header::{Header, Object, Policy};
+use monitor::{Monitor, Pass};
+use permit::ThreadParking;
+use reentrant::lock::LockHooks;
+use std::alloc::Global;
+use std::snapshot::Snapshot;
+use std::sync::Wait;
+use std::thread::{Promise, Threads};
+use std::time::Clock;
+use std::{io, thread};
+use thiserror::Error;
+
+const ITEMS: u64 = 100;
+
+const HEADER: Header = Header {
+    object: Object::Lock(Policy::Fair),
+    seats: 2,
+    conditions: 2,
+    cap: 10_000,
+};
+
+/// Why nothing is told.
+#[derive(Clone, Copy, Debug, PartialEq, Eq, Error)]
+enum Failure {
+    /// A call ended with this fault, or memory was refused.
+    #[error("{0}")]
+    Call(Fault),
+    /// The system refused the producer its thread. Nobody put or took.
+    #[error("producer not started")]
+    NotStarted,
+}
+
+impl From<Fault> for Failure {
+    ghost from_gives = { λ fault e. e ≡ Call fault };
+
+    fn from(fault: Fault) -> Failure {
+        Failure::Call(fault)
+    }
+}
+
+/// That the producer comes back with its pass.
+#[derive(Drop)]
+struct ComesBack {
+    producer: Snapshot<Pass>,
+}
+
+impl Promise<Result<Pass, Fault>> for ComesBack {
+    ghost use Rattle.std.specs.Prelude.{IfOk};
+    ghost use Rattle.monitor.specs.Stepping.{IsSame};
+
+    ghost kept_by = { λ p back. IfOk back (IsSame p.producer.value) };
+}
+
+/// What the producer and the consumer end with.
+type Exchanged = (Result<Pass, Fault>, Result<(Pass, u64), Fault>);
+
+/// Both threads. None if the system refuses the producer its thread: then nobody waits for what it would put.
+fn exchange<R: Threads + Wait + Clock + Sync>(
+    rt: &R,
+    parking: &ThreadParking,
+    monitor: &Monitor<LockHooks>,
+    producer: Pass,
+    consumer: Pass,
+) -> Option<Exchanged>
+    requires own { (producer.lock ≡ monitor.now) × (consumer.lock ≡ monitor.now) }
+    requires places { monitor.now.header.seats ≤ parking.now }
+    ensures put { IfSome result (λ r. IfOk r.0 (IsSame producer)) }
+    ensures taken { IfSome result (λ r. IfOk r.1 (λ t. IsSame consumer t.0)) }
+{
+    let buffer = Buffer::new();
+    let shared = &buffer;
+    thread::scope(
+        thread::scope_env(),
+        rt,
+        |scope| -> Option<Exchanged>
+            requires { (producer.lock ≡ monitor.now) × (consumer.lock ≡ monitor.now)
+                × (monitor.now.header.seats ≤ parking.now) }
+            ensures put { IfSome result (λ r. IfOk r.0 (IsSame producer)) }
+            ensures taken { IfSome result (λ r. IfOk r.1 (λ t. IsSame consumer t.0)) }
+        {
+            let promise = ComesBack {
+                producer: Snapshot::of(&producer),
+            };
+            let started = scope.spawn_with(
+                promise,
+                move || -> Result<Pass, Fault>
+                    requires { (producer.lock ≡ monitor.now) × (monitor.now.header.seats ≤ parking.now) }
+                    ensures { IfOk result (IsSame producer) }
+                { produce(rt, parking, monitor, shared, producer, ITEMS) },
+            );
+            let Ok(handle) = started else {
+                return None;
+            };
+            let taken = consume(rt, parking, monitor, shared, consumer, ITEMS);
+            Some((handle.join(rt), taken))
+        },
+    )
+}
+
+/// What is told at the end.
+#[derive(Clone, Copy)]
+struct Told {
+    sum: u64,
+    all_calls: bool,
+    verdict: Verdict,
+}
+
+/// Plays, closes the lock and has its history judged.
+fn play<R: Threads + Wait + Clock + Sync>(rt: &R, alloc: Global) -> Result<Told, Failure> {
+    let parking = ThreadParking::open(rt, alloc, HEADER.seats)?;
+    let hooks = LockHooks::open(Policy::Fair);
+    let (monitor, mut passes) = Monitor::open(
+        alloc,
+        hooks,
+        HEADER.seats,
+        HEADER.conditions,
+        HEADER.cap,
+    )?;
+    let Some(consumer) = passes.pop() else {
+        unreachable!()
+    };
+    let Some(producer) = passes.pop() else {
+        unreachable!()
+    };
+    let Some((put, taken)) = exchange(rt, &parking, &monitor, producer, consumer) else {
+        return Err(Failure::NotStarted);
+    };
+    let (consumer, sum) = taken?;
+    let producer = put?;
+    let Ok(passes) = vec![in alloc; producer, consumer] else {
+        return Err(Failure::Call(Fault::OutOfMemory));
+    };
+    let Ok(closed) = monitor.close(rt, passes) else {
+        return Err(Failure::Call(Fault::OutOfPhase));
+    };
+    Ok(Told {
+        sum,
+        all_calls: closed.history.calls() == closed.share,
+        verdict: check(alloc, &HEADER, &closed.history)?,
+    })
+}
+
+/// Runs both threads, and prints what came of it.
+pub fn run<R: Print + AllocGlobal + Threads + Wait + Clock + Sync>(rt: &R) -> io::Result<()> {
+    let told = match play(rt, rt.alloc()) {
+        Ok(told) => told,
+        Err(failure) => return println!(rt; "{failure}"),
+    };
+    println!(rt; "taken {}", told.sum)?;
+    println!(rt; "every call is in the history: {}", told.all_calls)?;
+    match told.verdict {
+        Verdict::Legal => println!(rt; "the history is legal"),
+        Verdict::NotLegal(number) => println!(rt; "not legal at {number}"),
+    }
+}

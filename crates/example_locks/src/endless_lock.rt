@@ -1,0 +1,56 @@
+//! A lock that runs on past the cap of its history.
+//!
+//! Two threads, as seats of a core, take turns at a lock, in rounds of four calls: seat 0 acquires, seat 1
+//! joins the queue, seat 0 releases, seat 1 is granted and releases. Whenever so many entries stand in the
+//! history, its text is printed, and the entries are folded into the base. So the lock makes any number of
+//! calls in the memory of one part, and each part is a history text that `aqs audit` judges by itself: the
+//! lines of its base are what the parts before it left.
+//!
+//! `example_locks endless_lock` makes 12 rounds in parts of 17 entries. `example_locks endless_lock ROUNDS
+//! ENTRIES` makes so many rounds in parts of so many entries: `example_locks endless_lock 25000000 1000000`
+//! makes 100,000,000 calls in 125 parts. `checks/parts.py` audits the parts one after the other.
+//!
+//! Proved of a writer whose bytes are known: where `play` ends without a failure, it has written five entries
+//! a round and nothing else, in parts that are legal, and each part stands on the fold of those before it.
+
+mod failure;
+mod parts;
+
+ghost use Rattle.std.specs.Prelude.{◌≤◌};
+
+use crate::endless_lock::parts::play;
+use std::io;
+
+/// The rounds and the entries of a part if the command line names none.
+const FEW: (u64, u64) = (12, 17);
+
+/// The fewest and the most entries of a part.
+const FEWEST: u64 = 8;
+
+const MOST: u64 = 4_000_000_000;
+
+/// The rounds and the entries of a part. They are the words after the name of the example.
+fn asked(words: &[String]) -> (u64, u64)
+    ensures { (8 ≤ result.1) × (result.1 ≤ 4000000000) }
+{
+    let rounds = words
+        .get(1)
+        .and_then(|word| word.as_str().parse::<u64>().ok());
+    let entries = words
+        .get(2)
+        .and_then(|word| word.as_str().parse::<u64>().ok());
+    match (rounds, entries) {
+        (Some(rounds), Some(entries)) => (rounds, entries.clamp(FEWEST, MOST)),
+        _ => FEW,
+    }
+}
+
+/// Runs the lock as the words say. The first word is the name of the example.
+pub fn run(rt: &HostRuntime, words: &[String]) -> io::Result<()> {
+    let (rounds, entries) = asked(words);
+    let mut out = rt.stdout();
+    match play(rt.alloc(), rounds, entries, &mut out) {
+        Ok(()) => Ok(()),
+        Err(failure) => eprintln!(rt; "endless_lock: {failure}"),
+    }
+}

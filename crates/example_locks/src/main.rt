@@ -1,0 +1,37 @@
+//! Example programs at locks.
+//!
+//! - `first_lock`: a fair lock, and an acquire that gives up after 50 milliseconds.
+//! - `bounded_buffer`: a lock with two conditions between a thread that puts and a thread that takes.
+//! - `read_mostly_table`: a read-write lock, and writers that go on as readers.
+//! - `endless_lock`: a lock that runs on past the cap of its history.
+//! - `small_calls`: the callers of the pages `CALLING.md`, each called once.
+//!
+//! `example_locks` runs these one after another, and `example_locks NAME` runs the example of this name.
+#![tactic(auto)]
+
+mod bounded_buffer;
+mod endless_lock;
+mod first_lock;
+mod read_mostly_table;
+mod small_calls;
+
+use std::{env, io};
+
+fn main(rt: HostRuntime) -> io::Result<()> {
+    let words = env::args(&rt)?.skip(1).collect::<Vec<String>>(rt.alloc())?;
+    match words.first().map(|word| word.as_str()) {
+        None => {
+            first_lock::run(&rt)?;
+            bounded_buffer::run(&rt)?;
+            read_mostly_table::run(&rt)?;
+            endless_lock::run(&rt, &words)?;
+            small_calls::run(&rt)
+        }
+        Some("first_lock") => first_lock::run(&rt),
+        Some("bounded_buffer") => bounded_buffer::run(&rt),
+        Some("read_mostly_table") => read_mostly_table::run(&rt),
+        Some("endless_lock") => endless_lock::run(&rt, &words),
+        Some("small_calls") => small_calls::run(&rt),
+        Some(other) => eprintln!(rt; "example_locks: no example {other}"),
+    }
+}

@@ -1,0 +1,26 @@
+//! Example programs with workers in threads.
+//!
+//! - `connection_pool`: clients that share connections, and a fair semaphore with a permit for each that is
+//!   free.
+//! - `latch_workers`: workers that start together at one latch, and are waited for at another.
+//!
+//! `example_workers` runs these one after another, and `example_workers NAME` runs the example of this name.
+#![tactic(auto)]
+
+mod connection_pool;
+mod latch_workers;
+
+use std::{env, io};
+
+fn main(rt: HostRuntime) -> io::Result<()> {
+    let word = env::args(&rt)?.nth(1);
+    match word.as_ref().map(|word| word.as_str()) {
+        None => {
+            connection_pool::run(&rt)?;
+            latch_workers::run(&rt)
+        }
+        Some("connection_pool") => connection_pool::run(&rt),
+        Some("latch_workers") => latch_workers::run(&rt),
+        Some(other) => eprintln!(rt; "example_workers: no example {other}"),
+    }
+}

@@ -1,5 +1,0 @@
-use Rattle.std.proofs.Common.{◌≡◌, true, length}
-use Rattle.lock_pairs.proofs.word.work.Given as goal
-
-abbrev pub invariant-loop : goal.invariant-loop
-invariant-loop g l = (l.token.lock ≡ l.lock) × (l.token.free ≡ true) × (length l.token.logs ≡ 1)

@@ -1,5 +1,0 @@
-use Rattle.monitor.specs.Stepping.{IsSame}
-use Rattle.monitor_pairs.proofs.pairs.make_pairs.Given as goal
-
-abbrev pub invariant-loop : goal.invariant-loop
-invariant-loop g l = IsSame l.fn.pass l.own
