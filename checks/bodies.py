@@ -1,4 +1,6 @@
-"""Wrong bodies: which function an edit of must-fail/ changes, and the text of a crate that has many of them.
+"""Wrong bodies: which function an edit changes, and the text of a crate that has many of them.
+
+They stand in crates/NAME/wrong-bodies/, in the form of rt's must-fail edits. rt ci reads only must-fail/.
 
 A file is read in rt fmt's layout: a function ends with the brace that stands as far in as its first line.
 """
@@ -8,6 +10,8 @@ from dataclasses import dataclass
 
 from kit import rt
 
+FOLDER = "wrong-bodies"
+EDIT = re.compile(r"[A-Za-z0-9_-][A-Za-z0-9_.-]*\.edit")
 FUNCTION = re.compile(r"(?m)^( *)((?:pub(?:\([^)]*\))? |const |unsafe )*)fn (\w+)")
 OWNER = re.compile(
     r"(?m)^(?:pub(?:\([^)]*\))? )?(?:unsafe )?(?:trait|impl(?:<[^{]*?>)?) "
@@ -44,6 +48,14 @@ class Place:
     words: str
     name: str
     is_inner: bool
+
+
+def edits_of(crate):
+    """Returns the paths of a crate's wrong bodies, and those of files that are none."""
+    folder = f"{crate.folder}/{FOLDER}"
+    names = sorted(os.listdir(folder)) if os.path.isdir(folder) else []
+    good = [f"{folder}/{it}" for it in names if EDIT.fullmatch(it)]
+    return good, [f"{folder}/{it}" for it in names if not EDIT.fullmatch(it) and it != "refused.txt"]
 
 
 def function_at(text, at):

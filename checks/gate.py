@@ -1,12 +1,16 @@
-"""All checks from nothing: rt ci over a copy of the tree without the wrong bodies, then these over what it
-built.
+#!/usr/bin/env python3
+"""All checks from nothing: `.ci/run`, or checks/gate.py [--write].
 
-Between them the program that rt ci built answers the files of examples/ (`examples.py`).
+First plain rt ci: each proof, each test and program, and the few wrong bodies of must-fail/. Then, over what it
+built, the program answers the files of examples/ and cases/ (`examples.py`), and random, spoilt and endless texts,
+storms of threads and failing devices (`by_program.py`). The wrong bodies of wrong-bodies/ are held to their ledger, of
+which a sample is tried again (`wrong_bodies.py`). The commit's hash decides which, and which texts. --write writes the
+ledger's lines anew.
 
-rt ci tries each wrong body alone, most of which is the reading of libraries again; here many go into one
-check (`wrong_bodies.py`). The last line is 'N passed, M failed' for both, and the status is 1 where anything
-failed.
+A clean clone is checked where it is. A tree in which checks have left their out/ is copied without it first. The last
+line is 'N passed, M failed' for all of this, and the status is 1 if anything failed.
 """
+import glob
 import os
 import re
 import shutil
@@ -16,20 +20,22 @@ import tempfile
 
 HERE = os.path.dirname(os.path.realpath(__file__))
 ROOT = os.path.dirname(HERE)
-WRONG_BODIES = "must-fail"
+COUNTED = r"(\d+) passed, (\d+) failed"
+REFUSED = r"(\d+) refused, (\d+) not refused"
 
 
 def copied(to):
-    """Copies the tree without what git and earlier checks keep, and without the wrong bodies."""
-    ignored = shutil.ignore_patterns(".git", "out", WRONG_BODIES, "__pycache__")
+    """Copies the tree without what git and earlier checks keep."""
+    ignored = shutil.ignore_patterns(".git", "out", "__pycache__")
     shutil.copytree(ROOT, to, ignore=ignored, symlinks=True)
     os.mkdir(f"{to}/.git")  # the mark of a repository's top, and the place of rt ci's lock
+    return to
 
 
-def with_wrong_bodies(to):
-    for name in sorted(os.listdir(f"{ROOT}/crates")):
-        if os.path.isdir(f"{ROOT}/crates/{name}/{WRONG_BODIES}"):
-            shutil.copytree(f"{ROOT}/crates/{name}/{WRONG_BODIES}", f"{to}/crates/{name}/{WRONG_BODIES}")
+def seed():
+    """Returns the commit's hash."""
+    ran = subprocess.run(["git", "rev-parse", "HEAD"], cwd=ROOT, capture_output=True, text=True)
+    return ran.stdout.strip() or "no commit"
 
 
 def run(words, folder, last_line):
@@ -51,28 +57,39 @@ def run(words, folder, last_line):
     return good, bad
 
 
-def main():
-    with tempfile.TemporaryDirectory(prefix="gate-") as room:
-        copy = f"{room}/tree"
-        copied(copy)
-        own = subprocess.run([sys.executable, "-B", "-m", "unittest", "discover", f"{copy}/checks"], cwd=copy)
-        passed, failed = run(["rt", "ci"], copy, r"(\d+) passed, (\d+) failed")
-        good, bad = run(
-            [sys.executable, "-B", f"{copy}/checks/examples.py", f"{copy}/crates/aqs/out/aqs"],
-            copy,
-            r"(\d+) passed, (\d+) failed",
-        )
+def steps(tree, is_written):
+    """Returns the steps over a tree, each with the form of its last line."""
+    python, program = [sys.executable, "-B"], f"{tree}/crates/aqs/out/aqs"
+    yield ["rt", "ci"], COUNTED
+    yield [*python, f"{tree}/checks/examples.py", program], COUNTED
+    yield [*python, f"{tree}/checks/by_program.py", program, seed()], COUNTED
+    more = ["--write"] if is_written else []
+    yield [*python, f"{tree}/checks/wrong_bodies.py", "--built", "--sample", seed(), *more], REFUSED
+
+
+def checked(tree, is_written):
+    own = subprocess.run([sys.executable, "-B", "-m", "unittest", "discover", f"{tree}/checks"], cwd=tree)
+    passed, failed = 0, int(own.returncode != 0)
+    for words, last_line in steps(tree, is_written):
+        good, bad = run(words, tree, last_line)
         passed, failed = passed + good, failed + bad
-        with_wrong_bodies(copy)
-        refused, others = run(
-            [sys.executable, f"{copy}/checks/wrong_bodies.py", "--built"],
-            copy,
-            r"(\d+) refused, (\d+) not refused",
-        )
-    failed += others + (own.returncode != 0)
-    print(f"{passed + refused} passed, {failed} failed", flush=True)
+    print(f"{passed} passed, {failed} failed", flush=True)
     return 1 if failed else 0
 
 
+def main(words):
+    is_written = words == ["--write"]
+    if words and not is_written:
+        sys.exit(__doc__)
+    if not glob.glob(f"{ROOT}/crates/*/out"):
+        return checked(ROOT, is_written)
+    with tempfile.TemporaryDirectory(prefix="gate-") as room:
+        tree = copied(f"{room}/tree")
+        status = checked(tree, is_written)
+        for path in glob.glob("crates/*/wrong-bodies/refused.txt", root_dir=tree) if is_written else []:
+            shutil.copyfile(f"{tree}/{path}", f"{ROOT}/{path}")
+    return status
+
+
 if __name__ == "__main__":
-    sys.exit(main())
+    sys.exit(main(sys.argv[1:]))

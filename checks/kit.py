@@ -7,8 +7,7 @@ import sys
 
 # What the checks take of rt. A kit that lacks any of these is told at once, and not in the middle of a run.
 USED = (
-    "AT_LIMIT", "REFUSED", "STORE", "checked", "edits_of", "free", "must_fail", "processors", "read_edit", "rtlib",
-    "stamp_of",
+    "AT_LIMIT", "KIT", "REFUSED", "checked", "free", "must_fail", "processors", "read_edit", "rtlib",
 )
 
 

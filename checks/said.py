@@ -37,8 +37,8 @@ class Said:
 
     def is_judged(self):
         """Whether the prover came to an end and refused: else nothing that it said counts."""
-        refused = self.status == 1 and "\nlogic=not-proved" in self.text
-        return refused and not rt.rtlib.STALE.search(self.text)
+        refused = self.status == 1 and re.search(r"(?m)^(logic=not-proved|only=\d+ proved=\d+)", self.text)
+        return bool(refused) and not rt.rtlib.STALE.search(self.text)
 
     def failures(self, bodies):
         """Returns the lines on goals that fail, each with the wrong body whose function it is of, or None."""

@@ -8,8 +8,9 @@ refused one.
 import os
 import tempfile
 
+from bodies import FOLDER, edits_of
 from kit import rt
-from trial import tried
+from trial import tried, tried_by_itself
 
 SOURCE = """\
 //! Two functions.
@@ -48,18 +49,21 @@ def failure(tell):
     with tempfile.TemporaryDirectory(prefix="wrong-bodies-self-") as root:
         write(f"{root}/crates.txt", "small:\n")
         write(f"{root}/crates/small/src/lib.rt", SOURCE)
-        write(f"{root}/crates/small/must-fail/same.is_the_same.edit", HARMLESS)
-        write(f"{root}/crates/small/must-fail/smaller.is_the_larger.edit", HARMFUL)
+        write(f"{root}/crates/small/{FOLDER}/same.is_the_same.edit", HARMLESS)
+        write(f"{root}/crates/small/{FOLDER}/smaller.is_the_larger.edit", HARMFUL)
         os.makedirs(f"{root}/.git")
         at = os.getcwd()
         os.chdir(root)
         try:
             [crate] = rt.rtlib.crates_below(root)
-            harmless, harmful = tried(crate, rt.edits_of(crate)[0], tell)
+            harmless, harmful = tried(crate, edits_of(crate)[0], tell)
+            alone = tried_by_itself(crate, edits_of(crate)[0][1])
         finally:
             os.chdir(at)
     if not harmful.is_refused or harmful.is_alone:
         return f"a harmful wrong body is not told as refused beside another: {harmful.text}"
+    if not alone.is_refused or "src/lib.rt" not in alone.text:
+        return f"a harmful wrong body is not told as refused by itself: {alone.text}"
     if harmless.is_refused:
         return f"a harmless wrong body is told as refused: {harmless.text}"
     return None

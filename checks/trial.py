@@ -1,4 +1,5 @@
-"""The trial of a crate's wrong bodies: many in one check, and what isn't settled so alone, by rt's rules."""
+"""The trial of a crate's wrong bodies: one by itself, or many in one check, and what isn't settled so alone, by rt's
+rules."""
 import os
 import resource
 import shutil
@@ -21,6 +22,7 @@ class Result:
     is_refused: bool
     is_alone: bool
     text: str
+    is_by_limit: bool = False  # refused by a limit of the prover, which another machine may not meet
 
 
 def seconds():
@@ -49,15 +51,37 @@ def picked(left, calls):
     return [*chosen.values()]
 
 
+def result_of(kind, text):
+    """Returns what a trial by rt's rules came to. A refusal for a name that is gone says nothing of the contract."""
+    is_by_name = "only because a proof file names" in text
+    return Result(kind in REFUSALS and not is_by_name, True, text.partition(": ")[2], kind == rt.AT_LIMIT)
+
+
+def tried_by_itself(crate, edit):
+    """Tries one wrong body over nothing kept, by a check of its function and what that calls.
+
+    What is not so refused is tried once more over the whole crate.
+    """
+    body = body_of(crate, edit)
+    if body:
+        name = "::".join([*(body.owner or body.path[1:]), body.name])  # a method may stand in another module than its type
+        ran = rt.checked(crate, composed(crate, [body]), [*ONE_JOB, "--only", name], None)
+        said = Said(ran.stdout, ran.returncode)
+        body.symbol = symbol_of(body, [*said.verdicts])
+        why = said.refused([body]).get(body)
+        if why:
+            return Result(True, True, why)
+    return result_of(*rt.must_fail(crate, edit, ONE_JOB))
+
+
 class Trial:
     def __init__(self, crate, edits, room, tell):
         self.crate, self.edits, self.room, self.tell = crate, edits, room, tell
         self.results, self.calls = {}, {}
 
     def check(self, texts, kept):
-        at = seconds()
         ran = rt.checked(self.crate, texts, ONE_JOB, kept)
-        return Said(ran.stdout, ran.returncode), seconds() - at
+        return Said(ran.stdout, ran.returncode)
 
     def over_a_copy(self, work):
         """Gives a call a copy of what the crate's own check kept, so that no wrong body's work is found."""
@@ -70,7 +94,7 @@ class Trial:
 
     def together(self, group):
         """Tries bodies of different functions in one check, and returns those to be tried so again."""
-        said, took = self.over_a_copy(lambda copy: self.check(composed(self.crate, group), copy))
+        said = self.over_a_copy(lambda copy: self.check(composed(self.crate, group), copy))
         for symbol, callees in said.calls.items():
             self.calls.setdefault(symbol, set()).update(callees)
         refused, strays = said.refused(group), said.strays(group)
@@ -85,27 +109,22 @@ class Trial:
         if strays:
             first = strays[0][:150]
             self.tell(f"a function that no wrong body changes fails too, so each goes alone: {first}")
-        self.tell(f"{len(group)} in one check, {len(refused)} refused, {len(again)} once more, {took:.0f} s")
+        self.tell(f"{len(group)} in one check, {len(refused)} refused, {len(again)} once more")
         return again
 
     def alone(self, edit):
-        at = seconds()
         kind, text = self.over_a_copy(lambda copy: rt.must_fail(self.crate, edit, ONE_JOB, copy))
         if kind not in REFUSALS:
             kind, text = rt.must_fail(self.crate, edit, ONE_JOB)
-        is_by_name = "only because a proof file names" in text
-        text = text.partition(": ")[2] + f" (alone, {seconds() - at:.0f} s)"
-        return Result(kind in REFUSALS and not is_by_name, True, text)
+        return result_of(kind, text)
 
-    def run(self, all_alone):
+    def run(self):
         """Tries all, and returns what came of each edit, in their order."""
-        at = seconds()
-        whole, _ = self.check({}, f"{self.room}/kept")
-        self.tell(f"as it stands: {seconds() - at:.0f} s")
+        whole = self.check({}, f"{self.room}/kept")
         if whole.status:
             why = "NOT TRIED: the crate is not proved as it stands"
             return [Result(False, True, why) for _ in self.edits]
-        bodies = [] if all_alone else [it for it in (body_of(self.crate, edit) for edit in self.edits) if it]
+        bodies = [it for it in (body_of(self.crate, edit) for edit in self.edits) if it]
         known = whole.proved()
         for body in bodies:
             body.symbol = symbol_of(body, known)
@@ -119,7 +138,7 @@ class Trial:
         return [self.results[it] for it in self.edits]
 
 
-def tried(crate, edits, tell, all_alone=False, begin_with=None):
+def tried(crate, edits, tell, begin_with=None):
     """Tries a crate's edits, and returns what came of each.
 
     `begin_with` is a folder of earlier checks' work, which spares the crate's own proof.
@@ -127,4 +146,4 @@ def tried(crate, edits, tell, all_alone=False, begin_with=None):
     with tempfile.TemporaryDirectory(prefix="wrong-bodies-") as room:
         if begin_with and os.path.isdir(begin_with):
             shutil.copytree(begin_with, f"{room}/kept")
-        return Trial(crate, edits, room, tell).run(all_alone)
+        return Trial(crate, edits, room, tell).run()

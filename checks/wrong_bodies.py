@@ -1,142 +1,194 @@
 #!/usr/bin/env python3
-"""Tries the wrong bodies crates/NAME/must-fail/*.edit, as rt must-fail does, but many in one check.
+"""Tries the wrong bodies crates/NAME/wrong-bodies/*.edit, and keeps a ledger of those that were refused.
 
-usage: checks/wrong_bodies.py [--built] [--alone] [--anew] [NAME..]     at the top, of all crates or of these
+usage: checks/wrong_bodies.py [--anew] [--sample SEED] [--built] [--write] [NAME..]    at the top, of all crates or of these
 
-A check reports each function by itself, so one copy of a crate takes a wrong body of each of many functions.
-A wrong body is refused where its own function is not proved, and one of that function's own goals fails. What
-is not so refused, since a callee's wrong body stood in the way, is tried once more without that one, and then
-alone, by rt's own rules. Alone from the start go edits that change more than one function's body. An edit
-that is refused only because a proof names what it took away counts as not refused: it says nothing of the
-contract.
+A wrong body is refused if its function is not proved, and one of that function's own goals fails. An edit that is
+refused only because a proof names what it took away counts as not refused: it says nothing of the contract.
 
-Each crate is a process of its own, the largest first, as many at once as there are processors and memory, or
-as RT_JOBS says.
+A line of the ledger is valid while nothing has changed of all that the refusal depends on (ledger.py). Wrong bodies
+without a valid line are tried: a few of a crate each by itself, by a check of their functions alone; more of them many
+in one check, since a check reports each function by itself. What is not so refused, since a callee's wrong body stood
+in the way, is tried once more without that one, and then alone, by rt's own rules. So are edits that change more than
+one function's body.
 
---built   the libraries stand as rt ci has just left them, and nothing else that earlier checks kept is taken.
-          A wrong body that is refused so is not tried again while nothing of it and its crate changes (kept.py)
---anew    tries those too
---alone   tries each edit alone
-The last line is 'N refused, M not refused', and the status is 1 where any is not.
+--anew           tries all, with a valid line or without
+--sample SEED    tries some of those with a valid line again, by themselves, in an order that the seed decides, until
+                 the sample has taken five minutes of processor time
+--built          the libraries stand as rt ci has just left them, and nothing else that earlier checks kept is taken
+--write          writes the ledger: a line for each that was refused now, or stands by its line. It needs --built
+A file that is no wrong body, a wrong body without a line and a line without a wrong body fail. The last line is
+'N refused, M not refused', and the status is 1 if any is not.
 """
+import hashlib
 import os
-import subprocess
 import sys
-import tempfile
 import time
+from concurrent.futures import ThreadPoolExecutor
+from dataclasses import dataclass, field
 
 sys.dont_write_bytecode = True
 
-import kept
+import ledger
 import selftest
+from bodies import edits_of
 from kit import rt
-from trial import ONE_JOB, seconds, tried
+from trial import ONE_JOB, seconds, tried, tried_by_itself
 
 MEMORY = 2_000_000_000  # of a crate's checks, one at a time
+FEW = 5  # wrong bodies of a crate that are tried each by itself: more go into one check
+SAMPLE = 300  # processor seconds of the sample
 
 
 def tell(text):
     print(f"checks: {text}", flush=True)
 
 
-def try_one(name, flags):
-    """Tries one crate's edits, and prints what came of each."""
-    [crate] = [it for it in rt.rtlib.crates_below(os.getcwd()) if it.name == name]
-    edits, bad = rt.edits_of(crate)
-    lacking = [it.name for it in crate.below() if not os.path.exists(it.rlib)]
-    is_built = "--built" in flags
-    begin_with = None if is_built else f"{crate.folder}/out/incremental"
-    marks, before = kept.marks_of(crate), refused_before(crate, flags)
-    left, results = [it for it in edits if it not in before], []
-    if lacking:
-        tell(f"{name}: NOT TRIED: its library {lacking[0]} is not built")
-    elif left:
-        results = tried(crate, left, lambda text: tell(f"{name}: {text}"), "--alone" in flags, begin_with)
-    for edit, it in zip(left, results):
-        tell(f"{name}/{os.path.basename(edit)}: {'refused' if it.is_refused else 'NOT REFUSED'}: {it.text}")
-    for it in bad:
-        tell(f"{name}/{os.path.basename(it)}: BAD EDIT: not a file NAME.edit right in must-fail/")
-    refused = [edit for edit, it in zip(left, results) if it.is_refused]
-    if is_built and marks == kept.marks_of(crate):
-        for edit in refused:
-            kept.keep(marks[edit])
-    tell_before(name, before)
-    tell(f"{name}: {seconds():.0f} processor seconds")
-    refused += before
-    print(f"{len(refused)} refused, {len(edits) + len(bad) - len(refused)} not refused")
-    return 0
+@dataclass
+class Ledger:
+    """A crate's wrong bodies and its lines."""
+
+    crate: object
+    sums: dict  # of each wrong body, by its path
+    lines: dict  # of each line, by the wrong body's name
+    results: dict = field(default_factory=dict)  # of each trial, by the path
+
+    def is_valid(self, edit):
+        return self.lines.get(os.path.basename(edit)) == self.sums[edit]
+
+    def faults(self):
+        """Returns what is wrong with the files of the folder and their lines."""
+        names = {os.path.basename(it) for it in self.sums}
+        bad = [f"{os.path.basename(it)} is no wrong body" for it in edits_of(self.crate)[1]]
+        bad += [f"{it} has no line in the ledger" for it in sorted(names - {*self.lines})]
+        return bad + [f"{it} has a line and is not there" for it in sorted({*self.lines} - names)]
+
+    def is_refused(self, edit):
+        return self.results[edit].is_refused if edit in self.results else self.is_valid(edit)
+
+    def renewed(self):
+        """Returns the lines as they are to stand."""
+        is_kept = lambda edit: self.is_refused(edit) and not (edit in self.results and self.results[edit].is_by_limit)
+        return {os.path.basename(edit): made for edit, made in self.sums.items() if is_kept(edit)}
+
+    def note(self, edit, result):
+        self.results[edit] = result
+        limit = ", but only by a limit of the prover, so it gets no line" if result.is_by_limit else ""
+        verdict = "refused" if result.is_refused else "NOT REFUSED"
+        tell(f"{self.crate.name}/{os.path.basename(edit)}: {verdict}{limit}: {result.text}")
 
 
-def refused_before(crate, flags):
-    """Returns the wrong bodies of a crate that need not be tried again."""
-    return kept.are_refused(crate) if "--built" in flags and "--anew" not in flags else []
-
-
-def tell_before(name, edits):
-    if edits:
-        tell(f"{name}: {len(edits)} refused in an earlier run, and nothing has changed since")
-
-
-def size(crate):
-    """Returns a number that grows with the time that a crate's trial takes."""
-    below = sum(it.count(b"\n") for it in crate.below())
-    return crate.count(b"\n") + 50 * len(rt.edits_of(crate)[0]) + below // 10
-
-
-def in_processes(crates, flags):
-    """Tries crates side by side, prints what each says once it has ended, and returns what they count."""
+def at_once():
     fixed = os.environ.get("RT_JOBS", "")  # as rt ci reads it
-    at_once = int(fixed) if fixed.isdigit() else max(1, min(rt.processors(), rt.free() // MEMORY))
-    left, running, counts = sorted(crates, key=size), {}, [0, 0]
-    while left or running:
-        while left and len(running) < at_once:
-            crate = left.pop()
-            out = tempfile.TemporaryFile("w+", errors="replace")
-            words = [sys.executable, os.path.realpath(__file__), "--crate", *flags, crate.name]
-            trial = subprocess.Popen(words, stdin=subprocess.DEVNULL, stdout=out, stderr=subprocess.STDOUT)
-            running[trial] = crate, out
-        time.sleep(0.2)
-        for ended in [it for it in running if it.poll() is not None]:
-            crate, out = running.pop(ended)
-            out.seek(0)
-            *lines, last = out.read().rstrip("\n").split("\n")
-            words = last.split()
-            print("\n".join(lines), flush=True)
-            if ended.returncode or len(words) != 5 or words[1] != "refused,":
-                tell(f"{crate.name}: its trial stopped: {last}")
-                words = ["0", "", str(max(1, len(rt.edits_of(crate)[0])))]
-            counts = [counts[0] + int(words[0]), counts[1] + int(words[2])]
-    return counts
+    return int(fixed) if fixed.isdigit() else max(1, min(rt.processors(), rt.free() // MEMORY))
+
+
+def try_together(of, edits, is_built):
+    """Tries many wrong bodies of a crate."""
+    begin_with = None if is_built else f"{of.crate.folder}/out/incremental"
+    said = lambda text: tell(f"{of.crate.name}: {text}")
+    for edit, result in zip(edits, tried(of.crate, edits, said, begin_with)):
+        of.note(edit, result)
+
+
+def try_by_itself(of, edit):
+    of.note(edit, tried_by_itself(of.crate, edit))
+
+
+def try_left(ledgers, is_anew, is_built):
+    """Tries the wrong bodies without a valid line, the crates with most of them first."""
+    left = {of.crate.name: [it for it in of.sums if is_anew or not of.is_valid(it)] for of in ledgers}
+    ledgers = sorted(ledgers, key=lambda of: -len(left[of.crate.name]) * of.crate.count(b"\n"))
+    with ThreadPoolExecutor(at_once()) as pool:
+        begun = []
+        for of in ledgers:
+            edits = left[of.crate.name]
+            if len(edits) > FEW:
+                begun.append(pool.submit(try_together, of, edits, is_built))
+            else:
+                begun += [pool.submit(try_by_itself, of, it) for it in edits]
+        for it in begun:
+            it.result()
+    return sum(map(len, left.values()))
+
+
+def in_order(ledgers, seed):
+    """Returns the wrong bodies that stand by their lines, in the order that a seed decides."""
+    standing = [(of, it) for of in ledgers for it in of.sums if it not in of.results and of.is_valid(it)]
+    place = lambda of, it: hashlib.sha256(f"{seed} {of.crate.name} {os.path.basename(it)}".encode()).digest()
+    return sorted(standing, key=lambda pair: place(*pair))
+
+
+def try_sample(ledgers, seed):
+    """Tries some of the wrong bodies that stand by their lines, and returns how many."""
+    standing, began, begun = in_order(ledgers, seed), seconds(), 0
+
+    def go_on(_):
+        nonlocal begun
+        while standing and seconds() - began < SAMPLE:
+            of, edit = standing.pop(0)
+            begun += 1
+            try_by_itself(of, edit)
+
+    with ThreadPoolExecutor(at_once()) as pool:
+        [*pool.map(go_on, range(at_once()))]
+    return begun
+
+
+def build(crates):
+    """Builds these crates' rlibs, and those below them, and says whether they stand."""
+    libraries = {it.name: it for crate in crates for it in (*crate.below(), crate) if not it.is_program}
+    upwards = sorted(libraries.values(), key=lambda it: len(it.below()))
+    return not any(it.build_rlib(ONE_JOB, anew=False) for it in upwards)
+
+
+def lacking(crates, is_built):
+    """Returns why the crates can't be tried, or None."""
+    if not is_built:
+        return None if build(crates) else "a library is not proved"
+    libraries = {it.name: it for crate in crates for it in (*crate.below(), crate) if not it.is_program}
+    found = [name for name, it in libraries.items() if not os.path.exists(it.rlib)]
+    return f"the library {found[0]} is not built" if found else None
+
+
+def judged(ledgers, is_written):
+    """Says what fails, writes the ledgers where that is asked, and returns how many are refused, and how much fails."""
+    refused, others = 0, 0
+    for of in ledgers:
+        good = [it for it in of.sums if of.is_refused(it)]
+        refused, others = refused + len(good), others + len(of.sums) - len(good)
+        if is_written and of.renewed() != of.lines:
+            of.lines = of.renewed()
+            ledger.write(of.crate, of.lines)
+        for fault in of.faults():
+            others += 1
+            tell(f"{of.crate.name}: {fault}")
+    return refused, others
 
 
 def main(words):
     flags = [it for it in words if it.startswith("--")]
-    names = [it for it in words if it not in flags]
-    unknown = {*flags} - {"--built", "--alone", "--anew", "--crate"}
-    if unknown:
+    seed = words[words.index("--sample") + 1] if "--sample" in words[:-1] else None
+    names = [it for it in words if it not in flags and it != seed]
+    if {*flags} - {"--anew", "--sample", "--built", "--write"} or ("--sample" in flags) != bool(seed):
+        sys.exit(__doc__)
+    if "--write" in flags and "--built" not in flags:
         sys.exit(__doc__)
     rt.rtlib.guarded()
-    if "--crate" in flags:
-        return try_one(names[0], flags)
-    at = time.monotonic()
-    why = selftest.failure(lambda text: tell(f"self-test: {text}"))
-    if why:
-        tell(f"the self-test FAILED, so nothing is tried: {why}")
-        return 2
-    crates = [it for it in rt.rtlib.crates_below(os.getcwd()) if any(rt.edits_of(it))]
+    at, is_built = time.monotonic(), "--built" in flags
+    crates = [it for it in rt.rtlib.crates_below(os.getcwd()) if any(edits_of(it)) or ledger.lines_of(it)]
     crates = [it for it in crates if not names or it.name in names]
-    if "--built" not in flags:
-        libraries = {it.name: it for crate in crates for it in crate.below()}
-        upwards = sorted(libraries.values(), key=lambda it: len(it.below()))
-        if any(it.build_rlib(ONE_JOB, anew=False) for it in upwards):
-            return 1
-    before = [it for it in crates if [*map(len, rt.edits_of(it))] == [len(refused_before(it, flags)), 0]]
-    for crate in before:
-        tell_before(crate.name, rt.edits_of(crate)[0])
-    left = [it for it in crates if it not in before]
-    refused, others = in_processes(left, [it for it in flags if it != "--crate"])
-    refused += sum(len(rt.edits_of(it)[0]) for it in before)
-    tell(f"{(time.monotonic() - at) / 60:.0f} minutes, {seconds() / 60:.0f} processor minutes")
+    why = lacking(crates, is_built) or selftest.failure(lambda text: tell(f"self-test: {text}"))
+    if why:
+        tell(f"nothing is tried: {why}")
+        return 2
+    seen = {}
+    ledgers = [Ledger(it, ledger.sums(it, seen), ledger.lines_of(it)) for it in crates]
+    left = try_left(ledgers, "--anew" in flags, is_built)
+    again = try_sample(ledgers, seed) if seed else 0
+    refused, others = judged(ledgers, "--write" in flags)
+    tell(f"tried {left} without a valid line or anew, and {again} of the others")
+    tell(f"{(time.monotonic() - at) / 60:.1f} minutes, {seconds() / 60:.1f} processor minutes")
     print(f"{refused} refused, {others} not refused", flush=True)
     return 1 if others else 0
 

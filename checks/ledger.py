@@ -1,0 +1,127 @@
+"""The ledger: wrong bodies that were refused, each with the checksum of all that its refusal depends on.
+
+A refusal is a goal of one function that the prover does not close. It reads that function's text and proof, the
+contracts of what it calls, types, definitions and lemmas. It reads no other function's body or proof. rt ci
+leaves exactly this in the rlib of each crate: src without bodies, the definitions, and the files of lemmas. We
+call it the crate's face. So a wrong body's sum is made of the kit, of the programs here that judge a trial, of the
+faces of its crate and of the crates below, of its function with its proof, and of the edit. It is the same on
+each machine.
+
+The lines stand in crates/NAME/wrong-bodies/refused.txt, a sum and a name each.
+"""
+import hashlib
+import os
+
+from bodies import FOLDER, body_of, edits_of
+from kit import rt
+
+HERE = os.path.dirname(os.path.realpath(__file__))
+JUDGES = ("bodies.py", "kit.py", "ledger.py", "said.py", "trial.py")
+OF_THE_KIT = ("KIT-ID", "WHAT", "bin/rt", "bin/rtlib.py", "bin/rattle")
+SOURCES = ("src", "specs", "proofs")
+FACE = ("lang/src", "lang/antt/specs", "lang/antt/proofs")
+OF_A_FUNCTION = ("Answers.antt", "Invariants.antt", "Proof.antt")  # the parts of a function's proof, which no other reads
+DIGITS = 24
+
+
+def sum_of(*parts):
+    made = hashlib.sha256()
+    for it in parts:
+        made.update(len(it).to_bytes(8, "big") + it)
+    return made.digest()
+
+
+def read(path):
+    with open(path, "rb") as it:
+        return it.read()
+
+
+def files(top, leave_out=()):
+    """Returns the names and bytes of all files below a folder, in one list."""
+    found = []
+    for at, folders, names in os.walk(top):
+        folders.sort()
+        for name in sorted(names):
+            if name not in leave_out:
+                path = f"{at}/{name}"
+                found += [os.path.relpath(path, top).encode(), read(path)]
+    return found
+
+
+def kit_sum():
+    """Returns a sum of the kit by what it is, not by where or when it was unpacked."""
+    formats = [f"rlibs/{it}/format" for it in sorted(os.listdir(f"{rt.KIT}/rlibs"))]
+    return sum_of(*[read(f"{rt.KIT}/{it}") for it in (*OF_THE_KIT, *formats)])
+
+
+def judges_sum():
+    return sum_of(*[read(f"{HERE}/{it}") for it in JUDGES])
+
+
+def sources_sum(crate):
+    return sum_of(*[it for part in SOURCES for it in (part.encode(), *files(f"{crate.folder}/{part}"))])
+
+
+def face(crate):
+    """Returns a sum of what others read of a crate; of a program, which has no rlib, of all its sources."""
+    if not os.path.isdir(crate.rlib):
+        return sources_sum(crate)
+    return sum_of(*[it for part in FACE for it in (part.encode(), *files(f"{crate.rlib}/{part}", OF_A_FUNCTION))])
+
+
+def is_read_whole(crate):
+    """Whether a crate's wrong bodies depend on all its sources: of a program, and where functions share a proof or a
+    macro of the crate writes text."""
+    proofs = f"{crate.folder}/proofs"
+    shares = any(name.startswith("+") for _, folders, _ in os.walk(proofs) for name in folders)
+    return shares or not os.path.isdir(crate.rlib) or b"macro_rules" in b"".join(files(f"{crate.folder}/src"))
+
+
+def own(crate, edit):
+    """Returns a sum of the function that a wrong body changes, with its proof."""
+    body = None if is_read_whole(crate) else body_of(crate, edit)
+    if not body:
+        return sources_sum(crate)
+    text = read(f"{crate.folder}/{body.file}").decode()[body.start : body.end]
+    ending = "/".join(["", *body.owner, body.name])
+    proof = []
+    for at, folders, _ in os.walk(f"{crate.folder}/proofs"):
+        folders.sort()
+        if at.endswith(ending) or f"{ending}/" in at:
+            proof += [at[len(crate.folder) :].encode(), *files(at)]
+    return sum_of(text.encode(), *proof)
+
+
+def sums(crate, seen):
+    """Returns the sum of each of a crate's wrong bodies, by its path. `seen` keeps what crates share."""
+    if not seen:
+        seen.update(kit=kit_sum(), judges=judges_sum())
+    below = sorted(crate.below(), key=lambda it: it.name)
+    for it in (crate, *below):
+        if it.name not in seen:
+            seen[it.name] = face(it)
+    kind = repr((sorted(crate.said.items()), crate.is_program, [*crate.of_kit])).encode()
+    faces = [it for dep in below for it in (dep.name.encode(), seen[dep.name])]
+    above = sum_of(seen["kit"], seen["judges"], kind, *faces, seen[crate.name])
+    return {
+        edit: sum_of(above, own(crate, edit), os.path.basename(edit).encode(), read(edit)).hex()[:DIGITS]
+        for edit in edits_of(crate)[0]
+    }
+
+
+def path_of(crate):
+    return f"{crate.folder}/{FOLDER}/refused.txt"
+
+
+def lines_of(crate):
+    """Returns the sums of a crate's lines, by the name of the wrong body."""
+    try:
+        with open(path_of(crate), encoding="utf-8") as it:
+            return {name: made for made, name in (line.split() for line in it)}
+    except FileNotFoundError:
+        return {}
+
+
+def write(crate, lines):
+    with open(path_of(crate), "w", encoding="utf-8") as it:
+        it.writelines(f"{made} {name}\n" for name, made in sorted(lines.items()))
