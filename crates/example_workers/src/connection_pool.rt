@@ -4,17 +4,17 @@
 //! First one client has all connections, and no other gets one in time. Then all clients share them. Prints
 //! how many requests were served and refused, and what the audit says of the history of the semaphore.
 
-ghost use Rattle.std.specs.Prelude.{◌≡◌, ◌≤◌, All, IfOk};
+ghost use Rattle.std.specs.Prelude.{◌≡◌, ◌<◌, ◌≤◌, All, IfOk, length};
 
 mod pool;
 
-use crate::connection_pool::pool::{Pool, Tally, request_all};
-use counting::semaphore::SemaphoreHooks;
+use crate::closing::close_and_judge;
+use crate::connection_pool::pool::{Outcome, Pool, Tally, request_all};
 use history::fault::Fault;
 use history::header::{Header, Object, Policy};
-use monitor::{Monitor, Pass};
+use monitor::Pass;
 use monitor_audit::Findings;
-use monitor_fronts::Semaphore;
+use monitor_fronts::{Semaphore, open_semaphore};
 use permit::ThreadParking;
 use std::alloc::Global;
 use std::sync::Wait;
@@ -99,40 +99,51 @@ fn play_rounds<R: Threads + Wait + Clock + Sync>(
     }
 }
 
+/// All clients play with these passes, and give them back. Says what came of their requests.
+fn play_all<R: Threads + Wait + Clock + Sync>(
+    rt: &R,
+    alloc: Global,
+    parking: &ThreadParking,
+    permits: Semaphore,
+    passes: Vec<Pass>,
+) -> Result<(Vec<Pass>, Outcome), Fault>
+    requires places { permits.monitor.now.header.seats ≤ parking.now }
+    requires all { 0 < length passes.items }
+    requires own { All (λ p. p.lock ≡ permits.monitor.now) passes.items }
+    ensures { IfOk result (λ r. All (λ p. p.lock ≡ permits.entry.monitor.now) r.0.items) }
+{
+    let mut clients = passes;
+    let Some(owner) = clients.pop() else {
+        unreachable!()
+    };
+    let pool = Pool::open(alloc, parking, permits, CONNECTIONS)?;
+    let tally = Tally::new();
+    match play_rounds(rt, &pool, &tally, owner, clients) {
+        Ok(passes) => Ok((passes, tally.outcome(pool.requests()))),
+        Err(fault) => Err(fault),
+    }
+}
+
 /// What is told at the end.
+#[derive(Clone, Copy)]
 struct Told {
-    tally: Tally,
-    requests: u64,
+    outcome: Outcome,
     findings: Findings,
 }
 
 /// Plays, closes the semaphore and has its history judged.
 fn play<R: Threads + Wait + Clock + Sync>(rt: &R, alloc: Global) -> Result<Told, Fault> {
     let parking = ThreadParking::open(rt, alloc, HEADER.seats)?;
-    let hooks = SemaphoreHooks::open(Policy::Fair, CONNECTIONS as i32);
-    let (monitor, mut clients) = Monitor::open(
+    let (monitor, passes) = open_semaphore(
         alloc,
-        hooks,
+        Policy::Fair,
+        CONNECTIONS as i32,
         HEADER.seats,
-        HEADER.conditions,
         HEADER.cap,
     )?;
-    let Some(owner) = clients.pop() else {
-        unreachable!()
-    };
-    let pool = Pool::open(alloc, &parking, Semaphore::of(&monitor), CONNECTIONS)?;
-    let tally = Tally::new();
-    let passes = play_rounds(rt, &pool, &tally, owner, clients)?;
-    let requests = pool.requests();
-    let Ok(closed) = monitor.close(rt, passes) else {
-        return Err(Fault::OutOfPhase);
-    };
-    let findings = Findings::of(alloc, &HEADER, &closed)?;
-    Ok(Told {
-        tally,
-        requests,
-        findings,
-    })
+    let (passes, outcome) = play_all(rt, alloc, &parking, Semaphore::of(&monitor), passes)?;
+    let findings = close_and_judge(rt, alloc, &HEADER, monitor, passes)?;
+    Ok(Told { outcome, findings })
 }
 
 /// Runs all clients, and prints what came of it.
@@ -140,20 +151,15 @@ pub fn run<R: Print + AllocGlobal + Threads + Wait + Clock + Sync>(rt: &R) -> io
     let Ok(told) = play(rt, rt.alloc()) else {
         return println!(rt; "out of memory");
     };
-    let Told {
-        tally,
-        requests,
-        findings,
-    } = told;
+    let Told { outcome, findings } = told;
     println!(rt;
-        "served {}, of them by the connections {requests}",
-        tally.served()
+        "served {}, of them by the connections {}",
+        outcome.served, outcome.by_connections
     )?;
-    println!(rt; "not served in time {}", tally.timed_out())?;
+    println!(rt; "not served in time {}", outcome.timed_out)?;
     println!(rt;
         "permits without a connection {}, faults {}",
-        tally.missing(),
-        tally.failed()
+        outcome.missing, outcome.failed
     )?;
     println!(rt; "calls {}", findings.calls)?;
     findings.print(rt)

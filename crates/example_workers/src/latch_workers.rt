@@ -4,7 +4,8 @@
 //! worker has a thread of its own. If the system refuses one, the others are let go, and nobody works. Prints
 //! what the workers made, and what the audit says of the histories of both latches.
 
-ghost use Rattle.std.specs.Prelude.{◌≡◌, All};
+ghost use Rattle.std.specs.Prelude.{◌≡◌, All, IfOk};
+ghost use Rattle.example_workers.specs.Opened.{IsOpened};
 ghost use Rattle.monitor.specs.Lawful.{blank};
 ghost use Rattle.monitor.specs.Shown.{opening_passes};
 
@@ -14,9 +15,10 @@ mod tally;
 mod threads;
 mod worker;
 
+use crate::closing::close_and_judge;
 use crate::latch_workers::fault::ShiftFault;
 use crate::latch_workers::shift::{SEATS, Shift};
-use crate::latch_workers::tally::{NUMBERS, Tally};
+use crate::latch_workers::tally::{NUMBERS, Outcome, Tally};
 use crate::latch_workers::threads::work_in_threads;
 use crate::latch_workers::worker::{Worker, pair_up, part};
 use counting::latch::LatchHooks;
@@ -62,48 +64,72 @@ fn apart(monitor: &Monitor<LatchHooks>, passes: Vec<Pass>) -> (Pass, Vec<Pass>)
     (last, passes)
 }
 
+/// Opens both latches, with the passes of each.
+fn open_shift<R: Wait + Clock>(
+    rt: &R,
+    alloc: Global,
+) -> Result<(Shift, Vec<Pass>, Vec<Pass>), Fault>
+    ensures start { IfOk result (λ r. IsOpened 1 r.0.start r.1.items) }
+    ensures end { IfOk result (λ r. IsOpened 4 r.0.end r.2.items) }
+{
+    let parking = ThreadParking::open(rt, alloc, SEATS)?;
+    let (start, starts) = open_latch(alloc, 1, SEATS, START.cap)?;
+    let (end, ends) = open_latch(alloc, 4, SEATS, END.cap)?;
+    let tally = Tally::new();
+    let shift = Shift {
+        parking,
+        start,
+        end,
+        tally,
+    };
+    Ok((shift, starts, ends))
+}
+
+/// All work with these passes, and give them back.
+fn work<R: Threads + Wait + Clock + Sync>(
+    rt: &R,
+    alloc: Global,
+    shift: &Shift,
+    starts: Vec<Pass>,
+    ends: Vec<Pass>,
+) -> Result<(Vec<Pass>, Vec<Pass>), ShiftFault>
+    requires start { IsOpened 1 shift.now.start starts.items }
+    requires end { IsOpened 4 shift.now.end ends.items }
+    ensures starts { IfOk result (λ r. All (λ p. p.lock ≡ shift.now.start) r.0.items) }
+    ensures ends { IfOk result (λ r. All (λ p. p.lock ≡ shift.now.end) r.1.items) }
+{
+    let (last_start, starts) = apart(&shift.start, starts);
+    let (last_end, ends) = apart(&shift.end, ends);
+    let foreman = Worker {
+        start: last_start,
+        end: last_end,
+    };
+    let workers = pair_up(alloc, shift, starts, ends)?;
+    let workers = work_in_threads(rt, alloc, shift, workers, foreman)?;
+    Ok(part(alloc, shift, workers)?)
+}
+
 /// What is told at the end.
+#[derive(Clone, Copy)]
 struct Told {
-    tally: Tally,
+    outcome: Outcome,
     start: Findings,
     end: Findings,
 }
 
 /// Plays, closes both latches and has their histories judged.
 fn play<R: Threads + Wait + Clock + Sync>(rt: &R, alloc: Global) -> Result<Told, ShiftFault> {
-    let parking = ThreadParking::open(rt, alloc, SEATS)?;
-    let (start, starts) = open_latch(alloc, 1, SEATS, START.cap)?;
-    let (end, ends) = open_latch(alloc, 4, SEATS, END.cap)?;
-    let (last_start, starts) = apart(&start, starts);
-    let (last_end, ends) = apart(&end, ends);
-    let foreman = Worker {
-        start: last_start,
-        end: last_end,
-    };
-    let shift = Shift {
-        parking,
-        start,
-        end,
-        tally: Tally::new(),
-    };
-    let workers = pair_up(alloc, &shift, starts, ends)?;
-    let workers = work_in_threads(rt, alloc, &shift, workers, foreman)?;
-    let (starts, ends) = part(alloc, &shift, workers)?;
-    let Shift {
-        parking: _,
-        start,
-        end,
-        tally,
-    } = shift;
-    let Ok(start) = start.close(rt, starts) else {
-        return Err(ShiftFault::Call(Fault::OutOfPhase));
-    };
-    let Ok(end) = end.close(rt, ends) else {
-        return Err(ShiftFault::Call(Fault::OutOfPhase));
-    };
-    let start = Findings::of(alloc, &START, &start)?;
-    let end = Findings::of(alloc, &END, &end)?;
-    Ok(Told { tally, start, end })
+    let (shift, starts, ends) = open_shift(rt, alloc)?;
+    let (starts, ends) = work(rt, alloc, &shift, starts, ends)?;
+    let outcome = shift.tally.outcome();
+    let Shift { start, end, .. } = shift;
+    let start = close_and_judge(rt, alloc, &START, start, starts);
+    let end = close_and_judge(rt, alloc, &END, end, ends);
+    Ok(Told {
+        outcome,
+        start: start?,
+        end: end?,
+    })
 }
 
 /// Runs the shift, and prints what came of it.
@@ -112,15 +138,18 @@ pub fn run<R: Print + AllocGlobal + Threads + Wait + Clock + Sync>(rt: &R) -> io
         Ok(told) => told,
         Err(fault) => return println!(rt; "{fault}"),
     };
-    let Told { tally, start, end } = told;
+    let Told {
+        outcome,
+        start,
+        end,
+    } = told;
     println!(rt;
         "sum of {NUMBERS} squares at the end {}",
-        tally.sum_at_end()
+        outcome.sum_at_end
     )?;
     println!(rt;
         "began before the start {}, faults {}",
-        tally.early(),
-        tally.faults()
+        outcome.early, outcome.faults
     )?;
     println!(rt; "start: calls {}", start.calls)?;
     start.print(rt)?;

@@ -41,6 +41,20 @@ pub struct Tally {
     failed: AtomicU64,
 }
 
+/// How many requests ended in which way.
+#[derive(Clone, Copy)]
+pub struct Outcome {
+    pub served: u64,
+    /// Requests that the connections counted.
+    pub by_connections: u64,
+    /// Requests that got no connection in time.
+    pub timed_out: u64,
+    /// Permits that came without a connection.
+    pub missing: u64,
+    /// Requests that ended with a fault.
+    pub failed: u64,
+}
+
 impl<'p> Pool<'p> {
     /// So many connections, all of them free.
     pub fn open(
@@ -155,22 +169,15 @@ impl Tally {
         }
     }
 
-    pub fn served(&self) -> u64 {
-        self.served.load(Ordering::SeqCst)
-    }
-
-    pub fn timed_out(&self) -> u64 {
-        self.timed_out.load(Ordering::SeqCst)
-    }
-
-    /// Permits that came without a connection.
-    pub fn missing(&self) -> u64 {
-        self.missing.load(Ordering::SeqCst)
-    }
-
-    /// Requests that ended with a fault.
-    pub fn failed(&self) -> u64 {
-        self.failed.load(Ordering::SeqCst)
+    /// What came of the requests so far, beside what the connections counted.
+    pub fn outcome(&self, by_connections: u64) -> Outcome {
+        Outcome {
+            served: self.served.load(Ordering::SeqCst),
+            by_connections,
+            timed_out: self.timed_out.load(Ordering::SeqCst),
+            missing: self.missing.load(Ordering::SeqCst),
+            failed: self.failed.load(Ordering::SeqCst),
+        }
     }
 }
 

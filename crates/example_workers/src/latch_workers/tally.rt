@@ -16,6 +16,17 @@ pub struct Tally {
     faults: AtomicU64,
 }
 
+/// What came of the work.
+#[derive(Clone, Copy)]
+pub struct Outcome {
+    /// The sum that the foreman saw.
+    pub sum_at_end: u64,
+    /// How many workers began before the work was laid out.
+    pub early: u64,
+    /// How many workers, the foreman among them, could not work.
+    pub faults: u64,
+}
+
 impl Tally {
     pub fn new() -> Self {
         Tally {
@@ -59,18 +70,12 @@ impl Tally {
         self.faults.fetch_add(1, Ordering::SeqCst);
     }
 
-    /// What the foreman saw.
-    pub fn sum_at_end(&self) -> u64 {
-        self.sum_at_end.load(Ordering::SeqCst)
-    }
-
-    /// How many began before the work was laid out.
-    pub fn early(&self) -> u64 {
-        self.early.load(Ordering::SeqCst)
-    }
-
-    /// How many calls ended with a fault.
-    pub fn faults(&self) -> u64 {
-        self.faults.load(Ordering::SeqCst)
+    /// What came of it so far.
+    pub fn outcome(&self) -> Outcome {
+        Outcome {
+            sum_at_end: self.sum_at_end.load(Ordering::SeqCst),
+            early: self.early.load(Ordering::SeqCst),
+            faults: self.faults.load(Ordering::SeqCst),
+        }
     }
 }
