@@ -1,0 +1,12 @@
+//! Tests of threads: of the lock under a monitor, of the places where threads park, and of the front types
+//! that many threads call.
+#![tactic(auto)]
+
+#[cfg(test)]
+mod asks;
+#[cfg(test)]
+mod noted;
+#[cfg(test)]
+mod plays;
+#[cfg(test)]
+mod tales;
