@@ -5,8 +5,12 @@
 #[cfg(test)]
 mod asks;
 #[cfg(test)]
+mod chance;
+#[cfg(test)]
 mod noted;
 #[cfg(test)]
 mod plays;
+#[cfg(test)]
+mod storms;
 #[cfg(test)]
 mod tales;
