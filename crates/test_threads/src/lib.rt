@@ -9,8 +9,12 @@ mod chance;
 #[cfg(test)]
 mod noted;
 #[cfg(test)]
+mod parking;
+#[cfg(test)]
 mod plays;
 #[cfg(test)]
 mod storms;
 #[cfg(test)]
 mod tales;
+#[cfg(test)]
+mod word_locks;
