@@ -8,7 +8,7 @@ use frame::hooks::Hooks;
 use history::entry::{Mode, Word};
 use history::fault::Fault;
 use history::step::{Answer, Step};
-use monitor::{Monitor, Now, Pass};
+use monitor::{Monitor, Pass};
 use monitor_fronts::{Latch, ReadWriteLock, ReentrantLock, Semaphore};
 use permit::Parking;
 use read_write::hooks::RwHooks;
@@ -47,9 +47,8 @@ pub enum Ask {
     AwaitZero,
     AwaitZeroFor(u32),
     CountDown,
-    /// A step of the monitor, which parks and unparks nobody, and one that doesn't wait for the object.
+    /// A step of the monitor, which parks and unparks nobody.
     Step(Step),
-    StepNow(Step),
     /// The monitor folds its entries.
     Trim,
     /// The observers of the monitor. The first and the third are of the pass's own seat.
@@ -98,68 +97,19 @@ fn whether(answer: Result<bool, Fault>) -> Reply {
     }
 }
 
-/// The numbers of the words of entries. One that names a seat adds `NAMES` and its number.
-pub const GOT: u32 = 1;
-
-pub const TRY_GOT: u32 = 2;
-
-pub const QUEUED: u32 = 3;
-
-pub const GRANTED: u32 = 4;
-
-pub const MISSED: u32 = 5;
-
-pub const LEFT: u32 = 6;
-
-pub const GAVE: u32 = 7;
-
-pub const AWAIT: u32 = 8;
-
-pub const SIGNAL: u32 = 9;
-
-/// Any other word.
-const OTHER: u32 = 20;
-
+/// What is answered to a step that names a seat: so much more than the seat's number.
 pub const NAMES: u32 = 1000;
 
-/// The seat sleeps on.
-pub const SLEEP: Reply = Ok(0);
-
-fn of_word(word: Word) -> Reply {
-    match word {
-        Word::Got => Ok(GOT),
-        Word::TryGot => Ok(TRY_GOT),
-        Word::Queued => Ok(QUEUED),
-        Word::Granted => Ok(GRANTED),
-        Word::Missed => Ok(MISSED),
-        Word::Left => Ok(LEFT),
-        Word::Gave => Ok(GAVE),
-        Word::Await => Ok(AWAIT),
-        Word::Signal => Ok(SIGNAL),
-        Word::Refused(fault) => Err(fault),
-        _ => Ok(OTHER),
-    }
-}
-
+/// Whether a step took or gave something. If not, it joined the line, left it, missed or sleeps on.
 fn stepped(answer: Result<Answer, Fault>) -> Reply {
     match answer {
-        Ok(Answer::Recorded(entry, None)) => of_word(entry.word),
-        Ok(Answer::Recorded(entry, Some(seat))) => match of_word(entry.word) {
-            Ok(word) => Ok(word.saturating_add(NAMES).saturating_add(u32::from(seat))),
-            Err(fault) => Err(fault),
+        Ok(Answer::Recorded(entry, named)) => match (entry.word, named) {
+            (Word::Refused(fault), _) => Err(fault),
+            (_, Some(seat)) => Ok(NAMES.saturating_add(u32::from(seat))),
+            (Word::Queued | Word::Missed | Word::Left | Word::Lapse, None) => NO,
+            (_, None) => YES,
         },
-        Ok(Answer::Sleep) => SLEEP,
-        Err(fault) => Err(fault),
-    }
-}
-
-/// The answer of a monitor that another thread has.
-const BUSY: Reply = Ok(u32::MAX);
-
-fn stepped_now(answer: Result<Now, Fault>) -> Reply {
-    match answer {
-        Ok(Now::Done(answer)) => stepped(Ok(answer)),
-        Ok(Now::Busy) => BUSY,
+        Ok(Answer::Sleep) => NO,
         Err(fault) => Err(fault),
     }
 }
@@ -358,7 +308,6 @@ pub fn perform<H: Front, P: Parking, R: Wait + Clock>(
     pass.is_true();
     match ask {
         Ask::Step(step) => stepped(monitor.step(rt, pass, step)),
-        Ask::StepNow(step) => stepped_now(monitor.step_now(pass, step)),
         Ask::Trim => folded(monitor.trim(rt, pass)),
         Ask::Interrupt => {
             parking.interrupt(pass.seat());

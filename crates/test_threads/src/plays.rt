@@ -88,12 +88,8 @@ fn act<H: Front, R: Abort + Wait + Clock>(
 {
     match ask {
         Ask::Meet => meet_last(rt, monitor, passes),
-        Ask::DropPass => {
-            if passes.pop().is_some() { DONE } else { NO }
-        }
-        Ask::NextPark => {
-            if parking.next_park(rt) { YES } else { NO }
-        }
+        Ask::DropPass => { if passes.pop().is_some() { DONE } else { NO } }
+        Ask::NextPark => { if parking.next_park(rt) { YES } else { NO } }
         _ => match passes.get_mut(usize::from(place)) {
             Some(pass) => perform(rt, monitor, parking, pass, ask),
             None => NO,
@@ -137,7 +133,10 @@ fn wait_all<H: Front, R: Abort + Wait + Clock>(
     let mut number = 0u32;
     for (_, ask, told) in rows {
         let reply = perform(rt, monitor, parking, &mut own, *ask);
-        assert!(rt; reply == *told, "{name}, row {number} of the waiter: {reply:?}");
+        assert!(rt;
+            reply == *told,
+            "{name}, row {number} of the waiter: {reply:?}"
+        );
         number = number.saturating_add(1);
     }
     own

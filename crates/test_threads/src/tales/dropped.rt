@@ -2,71 +2,50 @@
 //!
 //! Nobody can step such a seat any more. The others go on by the rules: the line may stand behind it for
 //! good. Their passes are too few to close the lock, and come back with it.
-use crate::asks::{
-    AWAIT, Ask, DONE, GAVE, GOT, GRANTED, LEFT, MISSED, NAMES, NOT_OWNER, QUEUED, Reply, SIGNAL,
-    SLEEP, TRY_GOT,
-};
+use crate::asks::{DONE, NAMES, NO, NOT_OWNER, Reply, YES};
 use crate::plays::{LOCK, TWO, Tale, play_all};
 use history::entry::Mode;
 use history::header::{Header, Object, Policy};
 use history::step::Step;
 
-const ACQUIRE: Ask = Ask::StepNow(Step::Acquire(Mode::X, 1));
+const ACQUIRE: Step = Step::Acquire(Mode::X, 1);
 
-const TRY: Ask = Ask::StepNow(Step::Try(Mode::X, 1));
+const TRY: Step = Step::Try(Mode::X, 1);
 
-const TRY_FAIR: Ask = Ask::StepNow(Step::TryFair(Mode::X, 1));
+const TRY_FAIR: Step = Step::TryFair(Mode::X, 1);
 
-const GIVE: Ask = Ask::StepNow(Step::Give(Mode::X, 1));
+const GIVE: Step = Step::Give(Mode::X, 1);
 
-const LOOK: Ask = Ask::StepNow(Step::Look);
+const LOOK: Step = Step::Look;
 
-const EXPIRE: Ask = Ask::StepNow(Step::Expire);
-
-const INTERRUPT: Ask = Ask::StepNow(Step::Interrupt);
+const EXPIRE: Step = Step::Expire;
 
 /// The gives that name seats 1 and 2.
-const TO_ONE: Reply = Ok(GAVE + NAMES + 1);
+const TO_ONE: Reply = Ok(NAMES + 1);
 
-const TO_TWO: Reply = Ok(GAVE + NAMES + 2);
+const TO_TWO: Reply = Ok(NAMES + 2);
 
-const FAIR: Header = Header {
-    seats: 3,
-    ..TWO
-};
+const FAIR: Header = Header { seats: 3, ..TWO };
 
 const IDLE: Tale = Tale {
     name: "a seat that held nothing is not missed",
     header: FAIR,
-    rows: &[
-        (2, Ask::DropPass, DONE),
-        (0, ACQUIRE, Ok(GOT)),
-        (1, ACQUIRE, Ok(QUEUED)),
-        (0, GIVE, TO_ONE),
-        (1, LOOK, Ok(GRANTED)),
-        (1, GIVE, Ok(GAVE)),
+    rows: rows![
+        2 DropPass => DONE, 0 Step(ACQUIRE) => YES, 1 Step(ACQUIRE) => NO, 0 Step(GIVE) => TO_ONE,
+        1 Step(LOOK) => YES, 1 Step(GIVE) => YES,
     ],
-    behind: &[(1, TRY, Ok(TRY_GOT))],
+    behind: rows![1 Step(TRY) => YES],
     ..LOCK
 };
 
 /// Only an untimed try passes it. Who waits behind it sleeps until its timeout or an interrupt.
 const HEAD: Tale = Tale {
     name: "a fair line stands behind an abandoned head",
-    rows: &[
-        (0, ACQUIRE, Ok(GOT)),
-        (2, ACQUIRE, Ok(QUEUED)),
-        (2, Ask::DropPass, DONE),
-        (0, GIVE, TO_TWO),
-        (1, TRY_FAIR, Ok(MISSED)),
-        (1, ACQUIRE, Ok(QUEUED)),
-        (1, LOOK, SLEEP),
-        (0, TRY, Ok(TRY_GOT)),
-        (0, GIVE, TO_TWO),
-        (1, LOOK, SLEEP),
-        (1, EXPIRE, Ok(LEFT)),
-        (0, ACQUIRE, Ok(QUEUED)),
-        (0, INTERRUPT, Ok(LEFT)),
+    rows: rows![
+        0 Step(ACQUIRE) => YES, 2 Step(ACQUIRE) => NO, 2 DropPass => DONE, 0 Step(GIVE) => TO_TWO,
+        1 Step(TRY_FAIR) => NO, 1 Step(ACQUIRE) => NO, 1 Step(LOOK) => NO, 0 Step(TRY) => YES,
+        0 Step(GIVE) => TO_TWO, 1 Step(LOOK) => NO, 1 Step(EXPIRE) => NO, 0 Step(ACQUIRE) => NO,
+        0 Step(Step::Interrupt) => NO,
     ],
     ..IDLE
 };
@@ -78,18 +57,12 @@ const STRICT: Tale = Tale {
         object: Object::Lock(Policy::Strict),
         ..FAIR
     },
-    rows: &[
-        (0, ACQUIRE, Ok(GOT)),
-        (2, ACQUIRE, Ok(QUEUED)),
-        (2, Ask::DropPass, DONE),
-        (0, TRY, Ok(TRY_GOT)),
-        (0, GIVE, Ok(GAVE)),
-        (0, GIVE, TO_TWO),
-        (0, TRY, Ok(MISSED)),
-        (1, TRY_FAIR, Ok(MISSED)),
-        (1, TRY, Ok(MISSED)),
+    rows: rows![
+        0 Step(ACQUIRE) => YES, 2 Step(ACQUIRE) => NO, 2 DropPass => DONE, 0 Step(TRY) => YES,
+        0 Step(GIVE) => YES, 0 Step(GIVE) => TO_TWO, 0 Step(TRY) => NO, 1 Step(TRY_FAIR) => NO,
+        1 Step(TRY) => NO,
     ],
-    behind: &[(1, TRY, Ok(MISSED))],
+    behind: rows![1 Step(TRY) => NO],
     ..LOCK
 };
 
@@ -99,16 +72,10 @@ const BARGED: Tale = Tale {
         object: Object::Lock(Policy::NonFair),
         ..FAIR
     },
-    rows: &[
-        (0, ACQUIRE, Ok(GOT)),
-        (2, ACQUIRE, Ok(QUEUED)),
-        (2, Ask::DropPass, DONE),
-        (0, GIVE, TO_TWO),
-        (1, ACQUIRE, Ok(GOT)),
-        (0, ACQUIRE, Ok(QUEUED)),
-        (1, GIVE, TO_TWO),
-        (0, LOOK, SLEEP),
-        (0, EXPIRE, Ok(LEFT)),
+    rows: rows![
+        0 Step(ACQUIRE) => YES, 2 Step(ACQUIRE) => NO, 2 DropPass => DONE, 0 Step(GIVE) => TO_TWO,
+        1 Step(ACQUIRE) => YES, 0 Step(ACQUIRE) => NO, 1 Step(GIVE) => TO_TWO, 0 Step(LOOK) => NO,
+        0 Step(EXPIRE) => NO,
     ],
     ..IDLE
 };
@@ -116,34 +83,21 @@ const BARGED: Tale = Tale {
 /// A sleeper is in nobody's way until it is signalled. Then it stands in line.
 const SLEEPER: Tale = Tale {
     name: "an abandoned sleeper is moved by a signal",
-    rows: &[
-        (2, ACQUIRE, Ok(GOT)),
-        (2, Ask::StepNow(Step::Await(0)), Ok(AWAIT)),
-        (2, Ask::DropPass, DONE),
-        (0, ACQUIRE, Ok(GOT)),
-        (0, GIVE, Ok(GAVE)),
-        (0, ACQUIRE, Ok(GOT)),
-        (0, Ask::StepNow(Step::Signal(0)), Ok(SIGNAL)),
-        (0, GIVE, TO_TWO),
-        (1, ACQUIRE, Ok(QUEUED)),
-        (1, LOOK, SLEEP),
-        (1, INTERRUPT, Ok(LEFT)),
+    rows: rows![
+        2 Step(ACQUIRE) => YES, 2 Step(Step::Await(0)) => YES, 2 DropPass => DONE, 0 Step(ACQUIRE) => YES,
+        0 Step(GIVE) => YES, 0 Step(ACQUIRE) => YES, 0 Step(Step::Signal(0)) => YES,
+        0 Step(GIVE) => TO_TWO, 1 Step(ACQUIRE) => NO, 1 Step(LOOK) => NO, 1 Step(Step::Interrupt) => NO,
     ],
     ..IDLE
 };
 
 const HELD: Tale = Tale {
     name: "what an abandoned seat holds stays held",
-    rows: &[
-        (2, ACQUIRE, Ok(GOT)),
-        (2, Ask::DropPass, DONE),
-        (0, TRY, Ok(MISSED)),
-        (0, ACQUIRE, Ok(QUEUED)),
-        (0, LOOK, SLEEP),
-        (1, GIVE, NOT_OWNER),
-        (0, EXPIRE, Ok(LEFT)),
+    rows: rows![
+        2 Step(ACQUIRE) => YES, 2 DropPass => DONE, 0 Step(TRY) => NO, 0 Step(ACQUIRE) => NO,
+        0 Step(LOOK) => NO, 1 Step(GIVE) => NOT_OWNER, 0 Step(EXPIRE) => NO,
     ],
-    behind: &[(1, TRY, Ok(MISSED)), (0, Ask::IsHeld, DONE)],
+    behind: rows![1 Step(TRY) => NO, 0 IsHeld => YES],
     ..BARGED
 };
 

@@ -214,7 +214,10 @@ fn one_who_sleeps_is_woken(rt: HostRuntime) {
     let a = last(&lock, &mut tokens, 0);
     let before = rt.process_cpu_time().expect(&rt, "a clock");
     let token = two_add(&rt, &lock, a, b, (0, 1), (HOLDS, COMES));
-    let used = rt.process_cpu_time().expect(&rt, "a clock").saturating_sub(before);
+    let used = rt
+        .process_cpu_time()
+        .expect(&rt, "a clock")
+        .saturating_sub(before);
     let notes = lock.close(&rt, token);
     assert_eq!(rt; (notes.count_of(0), notes.count_of(1)), (1, 1));
     assert!(rt; used < Duration::from_millis(USED), "{used:?}");
