@@ -1,13 +1,12 @@
 //! Tales: what the seats of an object do, what they are answered, and how the monitor parks and unparks them.
 ghost use Rattle.std.specs.Prelude.{◌≡◌, ◌≤◌, All};
 ghost use Rattle.history.specs.Header.{IsInRange};
-ghost use Rattle.monitor.specs.Stepping.{IsSame};
 
-use crate::asks::{Ask, DONE, Front, NO, Reply, YES, perform};
+use crate::asks::{Ask, DONE, Front, NO, Reply, perform};
 use crate::noted::NotedParking;
 use audit::verdict::Judgement;
 use history::header::{Header, Object, Policy};
-use monitor::{Closed, Monitor, Pass};
+use monitor::{Monitor, Pass};
 use monitor_audit::Findings;
 use monitor_fronts::{open_latch, open_lock, open_read_write_lock, open_semaphore};
 use permit::{Call, Woke};
@@ -15,6 +14,75 @@ use std::process::Abort;
 use std::sync::Wait;
 use std::thread::{Threads, join};
 use std::time::Clock;
+
+/// What is played at a monitor.
+pub trait Game {
+    /// Plays it by the passes of a monitor that was opened with this header.
+    fn play<H: Front + Send, R: Abort + AllocGlobal + Threads + Wait + Clock + Sync>(
+        &self,
+        rt: &R,
+        header: &Header,
+        opened: (Monitor<H>, Vec<Pass>),
+    )
+        requires is_of { All (λ p. p.lock ≡ opened.0) opened.1.items }
+        requires header { opened.0.header ≡ header.now }
+        requires range { IsInRange header.now };
+}
+
+/// Plays a game at the object of a header.
+pub fn play_at<G: Game, R: Abort + AllocGlobal + Threads + Wait + Clock + Sync>(
+    rt: &R,
+    header: &Header,
+    game: &G,
+) {
+    assert!(rt; header.in_range());
+    let Header {
+        object,
+        seats,
+        conditions,
+        cap,
+    } = *header;
+    let alloc = rt.alloc();
+    match object {
+        Object::Lock(policy) => {
+            let opened = open_lock(alloc, policy, seats, conditions, cap).expect(rt, "memory");
+            game.play(rt, header, opened);
+        }
+        Object::ReadWrite(policy) => {
+            let opened = open_read_write_lock(alloc, policy, seats, conditions, cap);
+            game.play(rt, header, opened.expect(rt, "memory"));
+        }
+        Object::Semaphore(policy, permits) => {
+            let opened = open_semaphore(alloc, policy, permits, seats, cap).expect(rt, "memory");
+            game.play(rt, header, opened);
+        }
+        Object::Latch(count) => {
+            let opened = open_latch(alloc, count, seats, cap).expect(rt, "memory");
+            game.play(rt, header, opened);
+        }
+    }
+}
+
+/// Closes a monitor that was opened with this header. Its history is legal, and each call that it has was
+/// counted by a pass.
+pub fn close_and_audit<H: Front, R: Abort + AllocGlobal + Wait>(
+    rt: &R,
+    monitor: Monitor<H>,
+    header: &Header,
+    passes: Vec<Pass>,
+) -> Findings
+    requires is_of { All (λ p. p.lock ≡ monitor) passes.items }
+    requires header { monitor.header ≡ header.now }
+    requires range { IsInRange header.now }
+{
+    let Ok(closed) = monitor.close(rt, passes) else {
+        panic!(rt; "a pass is missing")
+    };
+    let findings = Findings::of(rt.alloc(), header, &closed).expect(rt, "memory");
+    assert!(rt; matches!(&findings.judgement, Judgement::Legal(_)));
+    assert_eq!(rt; findings.share, findings.calls);
+    findings
+}
 
 /// A seat, what it does, and what it is answered.
 pub type Row = (u16, Ask, Reply);
@@ -79,7 +147,7 @@ fn act<H: Front, R: Abort + Wait + Clock>(
     monitor: &Monitor<H>,
     parking: &NotedParking,
     passes: &mut Vec<Pass>,
-    place: u16,
+    place: usize,
     ask: Ask,
 ) -> Reply
     requires own { All (λ p. p.lock ≡ monitor.now) passes.old.items }
@@ -88,16 +156,16 @@ fn act<H: Front, R: Abort + Wait + Clock>(
 {
     match ask {
         Ask::Meet => meet_last(rt, monitor, passes),
-        Ask::DropPass => { if passes.pop().is_some() { DONE } else { NO } }
-        Ask::NextPark => { if parking.next_park(rt) { YES } else { NO } }
-        _ => match passes.get_mut(usize::from(place)) {
+        Ask::DropPass => Ok(u32::from(passes.pop().is_some())),
+        Ask::NextPark => Ok(u32::from(parking.next_park(rt))),
+        _ => match passes.get_mut(place) {
             Some(pass) => perform(rt, monitor, parking, pass, ask),
             None => NO,
         },
     }
 }
 
-/// The rows by one thread, each by the pass at its place.
+/// Makes rows by one thread, each by the pass at the place of its seat, or by the only one.
 fn act_all<H: Front, R: Abort + Wait + Clock>(
     rt: &R,
     monitor: &Monitor<H>,
@@ -110,85 +178,63 @@ fn act_all<H: Front, R: Abort + Wait + Clock>(
     requires places { monitor.now.header.seats ≤ 256 }
     ensures { All (λ p. p.lock ≡ monitor.now) passes.new.items }
 {
+    let is_alone = passes.len() == 1;
     let mut number = 0u32;
-    for (place, ask, told) in rows {
-        let reply = act(rt, monitor, parking, passes, *place, *ask);
-        assert!(rt; reply == *told, "{name}, row {number}: {reply:?}");
-        number = number.saturating_add(1);
-    }
-}
-
-fn wait_all<H: Front, R: Abort + Wait + Clock>(
-    rt: &R,
-    monitor: &Monitor<H>,
-    parking: &NotedParking,
-    waiter: Pass,
-    rows: &[Row],
-    name: &str,
-) -> Pass
-    requires { (waiter.lock ≡ monitor.now) × (monitor.now.header.seats ≤ 256) }
-    ensures { IsSame waiter result }
-{
-    let mut own = waiter;
-    let mut number = 0u32;
-    for (_, ask, told) in rows {
-        let reply = perform(rt, monitor, parking, &mut own, *ask);
+    for (seat, ask, told) in rows {
+        let place = if is_alone { 0 } else { usize::from(*seat) };
+        let reply = act(rt, monitor, parking, passes, place, *ask);
         assert!(rt;
             reply == *told,
-            "{name}, row {number} of the waiter: {reply:?}"
+            "{name}, row {number} of seat {seat}: {reply:?}"
         );
         number = number.saturating_add(1);
     }
-    own
 }
 
-fn act_once_parked<H: Front, R: Abort + Wait + Clock>(
-    rt: &R,
-    monitor: &Monitor<H>,
-    parking: &NotedParking,
-    passes: Vec<Pass>,
-    rows: &[Row],
-    name: &str,
-) -> Vec<Pass>
-    requires own { All (λ p. p.lock ≡ monitor.now) passes.items }
-    requires places { monitor.now.header.seats ≤ 256 }
-    ensures { All (λ p. p.lock ≡ monitor.now) result.items }
-{
-    let mut passes = passes;
-    assert!(rt; parking.wait_for_parks(rt, 1), "{name}: nobody parks");
-    act_all(rt, monitor, parking, &mut passes, rows, name);
-    parking.end_all();
-    passes
-}
-
+/// What the last seat and the others do, each in a thread.
 fn act_in_threads<H: Front + Send, R: Abort + Threads + Wait + Clock + Sync>(
     rt: &R,
     monitor: &Monitor<H>,
     parking: &NotedParking,
-    passes: Vec<Pass>,
-    waiter: Pass,
+    waiters: Vec<Pass>,
+    others: Vec<Pass>,
     tale: &Tale,
-) -> (Pass, Vec<Pass>)
-    requires own { (waiter.lock ≡ monitor.now) × All (λ p. p.lock ≡ monitor.now) passes.items }
+) -> (Vec<Pass>, Vec<Pass>)
+    requires waiters { All (λ p. p.lock ≡ monitor.now) waiters.items }
+    requires others { All (λ p. p.lock ≡ monitor.now) others.items }
     requires places { monitor.now.header.seats ≤ 256 }
-    ensures waiter { result.0.lock ≡ monitor.now }
+    ensures waiters { All (λ p. p.lock ≡ monitor.now) result.0.items }
     ensures others { All (λ p. p.lock ≡ monitor.now) result.1.items }
 {
     join(
         rt,
-        move || -> Pass
-            requires { (waiter.lock ≡ monitor.now) × (monitor.now.header.seats ≤ 256) }
-            ensures { result.lock ≡ monitor.entry.now }
-        { wait_all(rt, monitor, parking, waiter, tale.waiter, tale.name) },
         move || -> Vec<Pass>
-            requires { All (λ p. p.lock ≡ monitor.now) passes.items × (monitor.now.header.seats ≤ 256) }
+            requires { All (λ p. p.lock ≡ monitor.now) waiters.items × (monitor.now.header.seats ≤ 256) }
             ensures { All (λ p. p.lock ≡ monitor.entry.now) result.items }
-        { act_once_parked(rt, monitor, parking, passes, tale.others, tale.name) },
+        {
+            let mut own = waiters;
+            act_all(rt, monitor, parking, &mut own, tale.waiter, tale.name);
+            own
+        },
+        move || -> Vec<Pass>
+            requires { All (λ p. p.lock ≡ monitor.now) others.items × (monitor.now.header.seats ≤ 256) }
+            ensures { All (λ p. p.lock ≡ monitor.entry.now) result.items }
+        {
+            let mut own = others;
+            assert!(rt;
+                parking.wait_for_parks(rt, 1),
+                "{}: nobody parks",
+                tale.name
+            );
+            act_all(rt, monitor, parking, &mut own, tale.others, tale.name);
+            parking.end_all();
+            own
+        },
     )
 }
 
-/// Has the last seat act in a thread of its own, if the tale says so.
-fn act_both<H: Front + Send, R: Abort + Threads + Wait + Clock + Sync>(
+/// Has the last seat act in a thread of its own.
+fn act_apart<H: Front + Send, R: Abort + AllocGlobal + Threads + Wait + Clock + Sync>(
     rt: &R,
     monitor: &Monitor<H>,
     parking: &NotedParking,
@@ -200,34 +246,12 @@ fn act_both<H: Front + Send, R: Abort + Threads + Wait + Clock + Sync>(
     ensures { All (λ p. p.lock ≡ monitor.now) result.items }
 {
     let mut passes = passes;
-    if tale.waiter.is_empty() {
-        return passes;
-    }
-    let waiter = passes.pop().expect(rt, "a pass");
-    let (waiter, mut passes) = act_in_threads(rt, monitor, parking, passes, waiter, tale);
-    passes.push(waiter).expect(rt, "memory");
+    let last = passes.pop().expect(rt, "a pass");
+    let waiters = vec![in rt.alloc(); last].expect(rt, "memory");
+    let (mut waiters, mut passes) = act_in_threads(rt, monitor, parking, waiters, passes, tale);
+    let last = waiters.pop().expect(rt, "a pass");
+    passes.push(last).expect(rt, "memory");
     passes
-}
-
-/// Closes a monitor that was opened with this header. Its history is legal, and each call that it has was
-/// counted by a pass.
-pub fn close_and_audit<H: Front, R: Abort + AllocGlobal + Wait>(
-    rt: &R,
-    monitor: Monitor<H>,
-    header: &Header,
-    passes: Vec<Pass>,
-) -> Findings
-    requires is_of { All (λ p. p.lock ≡ monitor) passes.items }
-    requires header { monitor.header ≡ header.now }
-    requires range { IsInRange header.now }
-{
-    let Ok(closed) = monitor.close(rt, passes) else {
-        panic!(rt; "a pass is missing")
-    };
-    let findings = Findings::of(rt.alloc(), header, &closed).expect(rt, "memory");
-    assert!(rt; matches!(&findings.judgement, Judgement::Legal(_)));
-    assert_eq!(rt; findings.share, findings.calls);
-    findings
 }
 
 /// Closes the monitor of a tale, or is refused, since a pass is missing. Then the others go on.
@@ -236,14 +260,15 @@ fn end<H: Front, R: Abort + AllocGlobal + Wait + Clock>(
     monitor: Monitor<H>,
     parking: &NotedParking,
     passes: Vec<Pass>,
+    header: &Header,
     tale: &Tale,
 )
     requires is_of { All (λ p. p.lock ≡ monitor) passes.items }
-    requires header { monitor.header ≡ tale.now.header }
-    requires range { IsInRange tale.now.header }
+    requires header { monitor.header ≡ header.now }
+    requires range { IsInRange header.now }
 {
     if tale.behind.is_empty() {
-        let findings = close_and_audit(rt, monitor, &tale.header, passes);
+        let findings = close_and_audit(rt, monitor, header, passes);
         assert_eq!(rt; findings.calls, tale.calls, "{}", tale.name);
         return;
     }
@@ -256,62 +281,32 @@ fn end<H: Front, R: Abort + AllocGlobal + Wait + Clock>(
     }
 }
 
-/// Plays a tale at a monitor that was opened with its header.
-fn play<H: Front + Send, R: Abort + AllocGlobal + Threads + Wait + Clock + Sync>(
-    rt: &R,
-    tale: &Tale,
-    opened: (Monitor<H>, Vec<Pass>),
-)
-    requires is_of { All (λ p. p.lock ≡ opened.0) opened.1.items }
-    requires header { opened.0.header ≡ tale.now.header }
-    requires range { IsInRange tale.now.header }
-{
-    let parking = NotedParking::open(rt.alloc(), tale.answers).expect(rt, "memory");
-    if tale.waiter.is_empty() {
-        parking.end_all();
-    }
-    let (monitor, mut passes) = opened;
-    act_all(rt, &monitor, &parking, &mut passes, tale.rows, tale.name);
-    let passes = act_both(rt, &monitor, &parking, passes, tale);
-    end(rt, monitor, &parking, passes, tale);
-    let calls = parking.calls();
-    assert!(rt; calls.as_slice() == tale.parked, "{}: {calls:?}", tale.name);
-}
-
-/// Plays a tale at its object.
-pub fn play_tale<R: Abort + AllocGlobal + Threads + Wait + Clock + Sync>(rt: &R, tale: &Tale) {
-    let header = tale.header;
-    assert!(rt; header.in_range());
-    let Header {
-        object,
-        seats,
-        conditions,
-        cap,
-    } = header;
-    let alloc = rt.alloc();
-    match object {
-        Object::Lock(policy) => {
-            let opened = open_lock(alloc, policy, seats, conditions, cap).expect(rt, "memory");
-            play(rt, tale, opened);
+impl Game for Tale {
+    fn play<H: Front + Send, R: Abort + AllocGlobal + Threads + Wait + Clock + Sync>(
+        &self,
+        rt: &R,
+        header: &Header,
+        opened: (Monitor<H>, Vec<Pass>),
+    ) {
+        let parking = NotedParking::open(rt.alloc(), self.answers).expect(rt, "memory");
+        let (monitor, passes) = opened;
+        let mut passes = passes;
+        if self.waiter.is_empty() {
+            parking.end_all();
         }
-        Object::ReadWrite(policy) => {
-            let opened = open_read_write_lock(alloc, policy, seats, conditions, cap);
-            play(rt, tale, opened.expect(rt, "memory"));
+        act_all(rt, &monitor, &parking, &mut passes, self.rows, self.name);
+        if !self.waiter.is_empty() {
+            passes = act_apart(rt, &monitor, &parking, passes, self);
         }
-        Object::Semaphore(policy, permits) => {
-            let opened = open_semaphore(alloc, policy, permits, seats, cap).expect(rt, "memory");
-            play(rt, tale, opened);
-        }
-        Object::Latch(count) => {
-            let opened = open_latch(alloc, count, seats, cap).expect(rt, "memory");
-            play(rt, tale, opened);
-        }
+        end(rt, monitor, &parking, passes, header, self);
+        let calls = parking.calls();
+        assert!(rt; calls.as_slice() == self.parked, "{}: {calls:?}", self.name);
     }
 }
 
 /// Plays tales one after another.
 pub fn play_all<R: Abort + AllocGlobal + Threads + Wait + Clock + Sync>(rt: &R, tales: &[Tale]) {
     for tale in tales {
-        play_tale(rt, tale);
+        play_at(rt, &tale.header, tale);
     }
 }

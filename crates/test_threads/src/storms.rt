@@ -6,14 +6,13 @@ ghost use Rattle.monitor.specs.Stepping.{IsSame};
 
 use crate::asks::{Ask, DONE, Front};
 use crate::chance::Chance;
-use crate::plays::close_and_audit;
+use crate::plays::{Game, close_and_audit, play_at};
 use audit::verdict::Judgement;
 use history::entry::Word;
 use history::fault::Fault;
 use history::header::{Header, Object, Policy};
 use history::step::{Answer, Step};
 use monitor::{Monitor, Now, Pass};
-use monitor_fronts::{open_latch, open_lock, open_read_write_lock, open_semaphore};
 use permit::{Parking, ThreadParking};
 use std::process::Abort;
 use std::sync::Wait;
@@ -303,64 +302,38 @@ fn is_idle(judgement: &Judgement) -> bool {
     }
 }
 
-/// Then the monitor is closed and audited, and nobody waits or holds a lock.
-fn rage<H: Front + Send, R: Abort + AllocGlobal + Threads + Wait + Clock + Sync>(
-    rt: &R,
-    storm: &Storm,
-    opened: (Monitor<H>, Vec<Pass>),
-)
-    requires passes { All (λ p. p.lock ≡ opened.0) opened.1.items }
-    requires header { opened.0.header ≡ storm.now.header }
-    requires range { IsInRange storm.now.header }
-{
-    let seats = storm.header.seats;
-    let parking = ThreadParking::open(rt, rt.alloc(), seats).expect(rt, "memory");
-    assert!(rt; 4 <= seats);
-    let (monitor, passes) = opened;
-    let passes = work_and_interrupt(rt, &monitor, &parking, passes, storm);
-    let findings = close_and_audit(rt, monitor, &storm.header, passes);
-    assert!(rt; storm.least <= findings.calls, "{} calls", findings.calls);
-    assert!(rt; is_idle(&findings.judgement), "somebody waits or holds");
-}
-
-fn storm_at<R: Abort + AllocGlobal + Threads + Wait + Clock + Sync>(rt: &R, storm: &Storm) {
-    let header = storm.header;
-    assert!(rt; header.in_range());
-    let Header {
-        object,
-        seats,
-        conditions,
-        cap,
-    } = header;
-    let alloc = rt.alloc();
-    match object {
-        Object::Lock(policy) => {
-            let opened = open_lock(alloc, policy, seats, conditions, cap).expect(rt, "memory");
-            rage(rt, storm, opened);
-        }
-        Object::ReadWrite(policy) => {
-            let opened = open_read_write_lock(alloc, policy, seats, conditions, cap);
-            rage(rt, storm, opened.expect(rt, "memory"));
-        }
-        Object::Semaphore(policy, permits) => {
-            let opened = open_semaphore(alloc, policy, permits, seats, cap).expect(rt, "memory");
-            rage(rt, storm, opened);
-        }
-        Object::Latch(count) => {
-            let opened = open_latch(alloc, count, seats, cap).expect(rt, "memory");
-            rage(rt, storm, opened);
-        }
+impl Game for Storm {
+    /// Then the monitor is closed and audited, and nobody waits or holds a lock.
+    fn play<H: Front + Send, R: Abort + AllocGlobal + Threads + Wait + Clock + Sync>(
+        &self,
+        rt: &R,
+        header: &Header,
+        opened: (Monitor<H>, Vec<Pass>),
+    ) {
+        let parking = ThreadParking::open(rt, rt.alloc(), header.seats).expect(rt, "memory");
+        assert!(rt; 4 <= header.seats);
+        let (monitor, passes) = opened;
+        let passes = work_and_interrupt(rt, &monitor, &parking, passes, self);
+        let findings = close_and_audit(rt, monitor, header, passes);
+        assert!(rt; self.least <= findings.calls, "{} calls", findings.calls);
+        assert!(rt; is_idle(&findings.judgement), "somebody waits or holds");
     }
 }
 
+fn storm_at<R: Abort + AllocGlobal + Threads + Wait + Clock + Sync>(rt: &R, storm: &Storm) {
+    play_at(rt, &storm.header, storm);
+}
+
+const FOUR: Header = Header {
+    object: Object::Lock(Policy::Fair),
+    seats: 4,
+    conditions: 1,
+    cap: 100_000,
+};
+
 const LOCK: Storm = Storm {
     way: Way::Calls,
-    header: Header {
-        object: Object::Lock(Policy::Fair),
-        seats: 4,
-        conditions: 1,
-        cap: 100_000,
-    },
+    header: FOUR,
     rounds: 2500,
     gives: &[Ask::Unlock],
     least: 10_000,
@@ -369,9 +342,7 @@ const LOCK: Storm = Storm {
 const READ_WRITE: Storm = Storm {
     header: Header {
         object: Object::ReadWrite(Policy::NonFair),
-        seats: 4,
-        conditions: 1,
-        cap: 100_000,
+        ..FOUR
     },
     gives: &[Ask::Unlock, Ask::EndRead],
     ..LOCK
@@ -380,9 +351,8 @@ const READ_WRITE: Storm = Storm {
 const SEMAPHORE: Storm = Storm {
     header: Header {
         object: Object::Semaphore(Policy::NonFair, 3),
-        seats: 4,
         conditions: 0,
-        cap: 100_000,
+        ..FOUR
     },
     gives: &[],
     ..LOCK
@@ -392,9 +362,8 @@ const SEMAPHORE: Storm = Storm {
 const LATCH: Storm = Storm {
     header: Header {
         object: Object::Latch(4000),
-        seats: 4,
         conditions: 0,
-        cap: 100_000,
+        ..FOUR
     },
     gives: &[],
     ..LOCK
@@ -441,7 +410,7 @@ fn threads_of_256_seats_step_a_lock_40_times_each(rt: HostRuntime) {
         header: Header {
             object: Object::Lock(Policy::NonFair),
             seats: 256,
-            ..LOCK.header
+            ..FOUR
         },
         rounds: 40,
         least: 640,
@@ -456,7 +425,7 @@ fn four_threads_take_a_lock_250_times_each_and_lose_no_call(rt: HostRuntime) {
         way: Way::Pairs,
         header: Header {
             object: Object::Lock(Policy::NonFair),
-            ..LOCK.header
+            ..FOUR
         },
         rounds: 250,
         least: 2000,

@@ -1,4 +1,4 @@
-//! Threads that wake one another.
+//! Threads that sleep at their seats, and are woken.
 ghost use Rattle.std.specs.Prelude.{◌≡◌, ◌<◌};
 
 use permit::{Parking, ThreadParking, Woke};
@@ -16,27 +16,22 @@ const LATER: u64 = 30;
 /// processors.
 const LITTLE: u64 = 5_000_000;
 
-#[derive(Clone, Copy, PartialEq, Eq)]
-enum Signal {
-    Unpark,
-    Interrupt,
-}
-
-fn send_later<R: Clock>(rt: &R, parking: &ThreadParking, signal: Signal)
+fn send_later<R: Clock>(rt: &R, parking: &ThreadParking, is_interrupt: bool)
     requires { 0 < parking.now }
 {
     thread::sleep(rt, Duration::from_millis(LATER));
-    match signal {
-        Signal::Unpark => parking.unpark(0),
-        Signal::Interrupt => parking.interrupt(0),
+    if is_interrupt {
+        parking.interrupt(0);
+    } else {
+        parking.unpark(0);
     }
 }
 
-/// What seat 0 is answered that sleeps until another thread sends it a signal.
-fn woken_by<R: Threads + Wait + Clock + Sync>(
+/// What seat 0 is answered that sleeps until another thread unparks or interrupts it.
+fn woken<R: Threads + Wait + Clock + Sync>(
     rt: &R,
     parking: &ThreadParking,
-    signal: Signal,
+    is_interrupt: bool,
     until: Option<u64>,
 ) -> Woke
     requires { 0 < parking.now }
@@ -48,37 +43,20 @@ fn woken_by<R: Threads + Wait + Clock + Sync>(
         { parking.park(rt, 0, until, true) },
         ||
             requires { 0 < parking.now }
-        { send_later(rt, parking, signal) },
+        { send_later(rt, parking, is_interrupt) },
     );
     woke
 }
 
 #[test]
-fn one_who_sleeps_is_woken_by_an_unpark(rt: HostRuntime) {
+fn one_who_sleeps_is_woken_by_an_unpark_and_by_an_interrupt(rt: HostRuntime) {
     let parking = ThreadParking::open(&rt, rt.alloc(), 1).expect(&rt, "memory");
     let far = Some(parking.now(&rt).saturating_add(50_000));
-    assert_eq!(rt; woken_by(&rt, &parking, Signal::Unpark, None), Woke::Permit);
-    assert_eq!(rt; woken_by(&rt, &parking, Signal::Unpark, far), Woke::Permit);
-    assert_eq!(rt;
-        woken_by(&rt, &parking, Signal::Unpark, Some(u64::MAX)),
-        Woke::Permit
-    );
-    assert_eq!(rt; parking.park(&rt, 0, Some(0), false), Woke::Deadline);
-}
-
-#[test]
-fn one_who_sleeps_is_woken_by_an_interrupt(rt: HostRuntime) {
-    let parking = ThreadParking::open(&rt, rt.alloc(), 1).expect(&rt, "memory");
-    let far = Some(parking.now(&rt).saturating_add(50_000));
-    assert_eq!(rt;
-        woken_by(&rt, &parking, Signal::Interrupt, None),
-        Woke::Interrupted
-    );
-    assert_eq!(rt;
-        woken_by(&rt, &parking, Signal::Interrupt, far),
-        Woke::Interrupted
-    );
-    assert!(rt; !parking.take_interrupt(0));
+    for until in [None, far, Some(u64::MAX)] {
+        assert_eq!(rt; woken(&rt, &parking, false, until), Woke::Permit);
+        assert_eq!(rt; woken(&rt, &parking, true, until), Woke::Interrupted);
+    }
+    assert_eq!(rt; parking.park(&rt, 0, Some(0), true), Woke::Deadline);
 }
 
 /// The processor time that the calling thread has had, in nanoseconds.
@@ -87,84 +65,18 @@ fn processor_time<R: Files + AllocGlobal>(rt: &R) -> Option<u64> {
     told.split(' ').next()?.parse::<u64>().ok()
 }
 
-/// How much of it a park at seat 0 takes.
-fn time_parked<R: Wait + Clock + Files + AllocGlobal>(
-    rt: &R,
-    parking: &ThreadParking,
-    until: Option<u64>,
-) -> Option<u64>
-    requires { 0 < parking.now }
-{
-    let before = processor_time(rt)?;
-    let _woke = parking.park(rt, 0, until, true);
-    Some(processor_time(rt)?.saturating_sub(before))
-}
-
 #[test]
 fn one_who_sleeps_takes_no_processor_time(rt: HostRuntime) {
     let parking = ThreadParking::open(&rt, rt.alloc(), 1).expect(&rt, "memory");
     let until = parking.now(&rt).saturating_add(LATER);
-    let time = time_parked(&rt, &parking, Some(until));
-    assert!(rt; time.is_some_and(|time| time < LITTLE), "{time:?}");
+    let before = processor_time(&rt).expect(&rt, "a time");
+    assert_eq!(rt; parking.park(&rt, 0, Some(until), true), Woke::Deadline);
+    let used = processor_time(&rt)
+        .expect(&rt, "a time")
+        .saturating_sub(before);
+    assert!(rt; used < LITTLE, "{used}");
     assert!(rt; until <= parking.now(&rt));
 }
-
-/// Wakes seat 1 and waits at seat 0 for its answer, so many times. Says how often `Permit` came.
-fn serve<R: Wait + Clock>(rt: &R, parking: &ThreadParking, turns: u32) -> u32
-    requires { 1 < parking.now }
-{
-    let mut permits = 0u32;
-    for _ in 0..turns {
-        parking.unpark(1);
-        if parking.park(rt, 0, None, false) == Woke::Permit {
-            permits = permits.saturating_add(1);
-        }
-    }
-    permits
-}
-
-/// Waits at seat 1 and then wakes seat 0, so many times. Says how often `Permit` came.
-fn return_all<R: Wait + Clock>(rt: &R, parking: &ThreadParking, turns: u32) -> u32
-    requires { 1 < parking.now }
-{
-    let mut permits = 0u32;
-    for _ in 0..turns {
-        if parking.park(rt, 1, None, false) == Woke::Permit {
-            permits = permits.saturating_add(1);
-        }
-        parking.unpark(0);
-    }
-    permits
-}
-
-fn both_take_turns<R: Threads + Wait + Clock + Sync>(
-    rt: &R,
-    parking: &ThreadParking,
-    turns: u32,
-) -> (u32, u32)
-    requires { 1 < parking.now }
-{
-    join(
-        rt,
-        || -> u32
-            requires { 1 < parking.now }
-        { serve(rt, parking, turns) },
-        || -> u32
-            requires { 1 < parking.now }
-        { return_all(rt, parking, turns) },
-    )
-}
-
-// They alternate strictly, so no two unparks meet in one permit. A wake that is lost leaves both asleep, and
-// the test never ends.
-#[test]
-fn two_threads_wake_each_other_2000_times(rt: HostRuntime) {
-    let parking = ThreadParking::open(&rt, rt.alloc(), 2).expect(&rt, "memory");
-    assert_eq!(rt; both_take_turns(&rt, &parking, 2000), (2000, 2000));
-}
-
-/// Signals that come as deadlines pass.
-const SIGNALS: u32 = 600;
 
 /// How often each answer came.
 #[derive(Clone, Copy)]
@@ -188,26 +100,26 @@ fn answer_all<R: Wait + Clock>(rt: &R, parking: &ThreadParking, signals: u32) ->
             break;
         }
         let until = Some(parking.now(rt).saturating_add(1));
-        match parking.park(rt, 0, until, true) {
-            Woke::Deadline => tally.deadlines = tally.deadlines.saturating_add(1),
-            Woke::Permit => {
-                tally.permits = tally.permits.saturating_add(1);
-                parking.unpark(1);
+        let count = match parking.park(rt, 0, until, true) {
+            Woke::Deadline => {
+                tally.deadlines = tally.deadlines.saturating_add(1);
+                continue;
             }
-            Woke::Interrupted => {
-                tally.interrupts = tally.interrupts.saturating_add(1);
-                parking.unpark(1);
-            }
-        }
+            Woke::Permit => &mut tally.permits,
+            Woke::Interrupted => &mut tally.interrupts,
+        };
+        *count = count.saturating_add(1);
+        parking.unpark(1);
     }
     tally
 }
 
 /// Sends seat 0 an unpark or, each third time, an interrupt, about when a timeout ends there. It parks at
-/// seat 1 until the signal is answered.
-fn send_all<R: Wait + Clock>(rt: &R, parking: &ThreadParking, signals: u32)
+/// seat 1 until the signal is answered. A wake that is lost leaves it asleep.
+fn send_all<R: Wait + Clock>(rt: &R, parking: &ThreadParking, signals: u32) -> u32
     requires { 1 < parking.now }
 {
+    let mut answered = 0u32;
     for number in 0..signals {
         thread::sleep(rt, Duration::from_micros(u64::from(number % 40) * 50));
         if number % 3 == 2 {
@@ -215,30 +127,40 @@ fn send_all<R: Wait + Clock>(rt: &R, parking: &ThreadParking, signals: u32)
         } else {
             parking.unpark(0);
         }
-        let _answered = parking.park(rt, 1, None, false);
+        if parking.park(rt, 1, None, false) == Woke::Permit {
+            answered = answered.saturating_add(1);
+        }
     }
+    answered
 }
 
-fn storm<R: Threads + Wait + Clock + Sync>(rt: &R, parking: &ThreadParking, signals: u32) -> Tally
+fn storm<R: Threads + Wait + Clock + Sync>(
+    rt: &R,
+    parking: &ThreadParking,
+    signals: u32,
+) -> (Tally, u32)
     requires { 1 < parking.now }
 {
-    let (tally, ()) = join(
+    join(
         rt,
         || -> Tally
             requires { 1 < parking.now }
         { answer_all(rt, parking, signals) },
-        ||
+        || -> u32
             requires { 1 < parking.now }
         { send_all(rt, parking, signals) },
-    );
-    tally
+    )
 }
 
 #[test]
-fn each_signal_is_answered_once_among_600_as_deadlines_pass(rt: HostRuntime) {
+fn each_signal_is_answered_once_among_900_as_deadlines_pass(rt: HostRuntime) {
     let parking = ThreadParking::open(&rt, rt.alloc(), 2).expect(&rt, "memory");
-    let tally = storm(&rt, &parking, SIGNALS);
-    assert!(rt; tally.permits == 400 && tally.interrupts == 200 && 0 < tally.deadlines);
+    let (tally, answered) = storm(&rt, &parking, 900);
+    assert_eq!(rt;
+        (tally.permits, tally.interrupts, answered),
+        (600, 300, 900)
+    );
+    assert!(rt; 0 < tally.deadlines);
     assert_eq!(rt; parking.park(&rt, 0, Some(0), true), Woke::Deadline);
     assert_eq!(rt; parking.park(&rt, 1, Some(0), true), Woke::Deadline);
 }

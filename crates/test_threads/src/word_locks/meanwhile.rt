@@ -8,61 +8,35 @@ use crate::word_locks::notes::Notes;
 use crate::word_locks::tokens::{count_now, last};
 use std::process::Abort;
 use std::sync::Wait;
-use std::sync::atomic::{AtomicBool, Ordering};
+use std::sync::atomic::{AtomicU64, Ordering};
 use std::thread::{Threads, join, sleep};
 use std::time::{Clock, Duration};
 use word_lock::{Token, WordLock};
 
-/// How often a thread looks for a flag, a millisecond apart.
+/// How often a thread looks how far the other is, a millisecond apart.
 const LOOKS: u32 = 10_000;
 
-/// What one thread tells another, once.
+/// How far two threads are: 1 once the value is out, 2 once the calls that may not wait have returned or the
+/// second thread is about to wait for the value, 3 once the value was given back.
 #[derive(Drop)]
-struct Flag {
-    is_raised: AtomicBool,
+struct Stage {
+    reached: AtomicU64,
 }
 
-impl Flag {
-    fn new() -> Flag {
-        Flag {
-            is_raised: AtomicBool::new(false),
-        }
+impl Stage {
+    fn reach(&self, stage: u64) {
+        self.reached.store(stage, Ordering::SeqCst);
     }
 
-    fn raise(&self) {
-        self.is_raised.store(true, Ordering::SeqCst);
-    }
-
-    /// Says whether it was raised in time.
-    fn wait<R: Clock>(&self, rt: &R) -> bool {
+    /// Says whether it was reached in time.
+    fn wait<R: Clock>(&self, rt: &R, stage: u64) -> bool {
         for _ in 0..LOOKS {
-            if self.is_raised.load(Ordering::SeqCst) {
+            if stage <= self.reached.load(Ordering::SeqCst) {
                 return true;
             }
             sleep(rt, Duration::from_millis(1));
         }
         false
-    }
-}
-
-/// What two threads tell each other.
-#[derive(Drop)]
-struct Flags {
-    /// The value is out.
-    out: Flag,
-    /// The calls that may not wait have returned, or the second thread is about to wait for the value.
-    called: Flag,
-    /// The value was given back.
-    given: Flag,
-}
-
-impl Flags {
-    fn new() -> Flags {
-        Flags {
-            out: Flag::new(),
-            called: Flag::new(),
-            given: Flag::new(),
-        }
     }
 }
 
@@ -75,18 +49,18 @@ fn hold<R: Wait + Clock>(
     lock: &WordLock<Notes>,
     token: Token,
     seat: u16,
-    flags: &Flags,
+    stage: &Stage,
 ) -> (Token, bool)
     requires { IsReady lock.now seat token }
     ensures { IsReady lock.now seat result.0 }
 {
     let mut token = token;
     let held = lock.lock(rt, &mut token);
-    flags.out.raise();
-    let in_time = flags.called.wait(rt);
+    stage.reach(1);
+    let in_time = stage.wait(rt, 2);
     sleep(rt, Duration::from_millis(ASLEEP));
     lock.unlock(&mut token, held);
-    flags.given.raise();
+    stage.reach(3);
     (token, in_time)
 }
 
@@ -96,18 +70,18 @@ fn call_meanwhile<R: Clock>(
     lock: &WordLock<Notes>,
     one: Token,
     two: Token,
-    flags: &Flags,
+    stage: &Stage,
 ) -> (Token, bool)
     requires one { IsReady lock.now 0 one }
     requires two { IsReady lock.now 1 two }
     ensures { (result.0.lock ≡ lock.now) × (result.0.free ≡ true) }
 {
     let mut one = one;
-    let is_out = flags.out.wait(rt);
+    let is_out = stage.wait(rt, 1);
     let count = count_now(lock, &mut one, 0, 0);
     let (one, two) = lock.meet(one, two);
     let both = lock.join(one, two);
-    flags.called.raise();
+    stage.reach(2);
     (both, is_out && count.is_none())
 }
 
@@ -123,18 +97,20 @@ fn hold_and_call<R: Threads + Wait + Clock + Sync>(
     requires holder { IsReady lock.now 2 holder }
     ensures { (result.1.0.lock ≡ lock.now) × (result.1.0.free ≡ true) }
 {
-    let flags = Flags::new();
-    let shared = &flags;
+    let shared = Stage {
+        reached: AtomicU64::new(0),
+    };
+    let stage = &shared;
     join(
         rt,
         move || -> (Token, bool)
             requires { IsReady lock.now 2 holder }
             ensures { IsReady lock.entry.now 2 result.0 }
-        { hold(rt, lock, holder, 2, shared) },
+        { hold(rt, lock, holder, 2, stage) },
         move || -> (Token, bool)
             requires { IsReady lock.now 0 one × IsReady lock.now 1 two }
             ensures { (result.0.lock ≡ lock.entry.now) × (result.0.free ≡ true) }
-        { call_meanwhile(rt, lock, one, two, shared) },
+        { call_meanwhile(rt, lock, one, two, stage) },
     )
 }
 
@@ -160,16 +136,16 @@ fn take_over<R: Wait + Clock>(
     lock: &WordLock<Notes>,
     token: Token,
     seat: u16,
-    flags: &Flags,
+    stage: &Stage,
 ) -> (Token, bool)
     requires { IsReady lock.now seat token }
     ensures { IsReady lock.now seat result.0 }
 {
     let mut token = token;
-    let is_out = flags.out.wait(rt);
-    flags.called.raise();
+    let is_out = stage.wait(rt, 1);
+    stage.reach(2);
     let held = lock.lock(rt, &mut token);
-    let in_time = flags.given.wait(rt);
+    let in_time = stage.wait(rt, 3);
     lock.unlock(&mut token, held);
     (token, is_out && in_time)
 }
@@ -185,18 +161,20 @@ fn hand_over<R: Threads + Wait + Clock + Sync>(
     ensures giver { IsReady lock.now 0 result.0.0 }
     ensures taker { IsReady lock.now 1 result.1.0 }
 {
-    let flags = Flags::new();
-    let shared = &flags;
+    let shared = Stage {
+        reached: AtomicU64::new(0),
+    };
+    let stage = &shared;
     join(
         rt,
         move || -> (Token, bool)
             requires { IsReady lock.now 0 giver }
             ensures { IsReady lock.entry.now 0 result.0 }
-        { hold(rt, lock, giver, 0, shared) },
+        { hold(rt, lock, giver, 0, stage) },
         move || -> (Token, bool)
             requires { IsReady lock.now 1 taker }
             ensures { IsReady lock.entry.now 1 result.0 }
-        { take_over(rt, lock, taker, 1, shared) },
+        { take_over(rt, lock, taker, 1, stage) },
     )
 }
 

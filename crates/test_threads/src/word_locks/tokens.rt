@@ -1,7 +1,6 @@
 //! Tokens that add entries under the lock, by turns and in threads.
 ghost use Rattle.std.specs.Prelude.{◌≡◌, ◌+◌, ◌<◌, true};
 ghost use Rattle.history.specs.declared.point.Point.{Point};
-ghost use Rattle.std.specs.Thread.{IsSync};
 ghost use Rattle.word_lock.specs.Ticket.{opening_tickets};
 ghost use Rattle.word_lock.specs.Ready.{IsReady};
 
@@ -112,79 +111,54 @@ fn two_add<R: Abort + Threads + Wait + Clock + Sync>(
     lock: &WordLock<Notes>,
     a: Token,
     b: Token,
-    seats: (u16, u16),
     turns: (Turns, Turns),
 ) -> Token
-    requires one { IsReady lock.now seats.0 a }
-    requires two { IsReady lock.now seats.1 b }
+    requires one { IsReady lock.now 0 a }
+    requires two { IsReady lock.now 1 b }
     ensures { (result.lock ≡ lock.now) × (result.free ≡ true) }
 {
-    let (i, j) = seats;
     let (first, second) = turns;
     let (x, y) = join(
         rt,
         move || -> Token
-            requires { IsReady lock.now i a }
-            ensures { IsReady lock.entry.now i result }
-        { add_all(rt, lock, a, i, first) },
+            requires { IsReady lock.now 0 a }
+            ensures { IsReady lock.entry.now 0 result }
+        { add_all(rt, lock, a, 0, first) },
         move || -> Token
-            requires { IsReady lock.now j b }
-            ensures { IsReady lock.entry.now j result }
-        { add_all(rt, lock, b, j, second) },
+            requires { IsReady lock.now 1 b }
+            ensures { IsReady lock.entry.now 1 result }
+        { add_all(rt, lock, b, 1, second) },
     );
     lock.join(x, y)
 }
 
 const MANY: Turns = Turns {
-    count: 500,
+    count: 1000,
     before: 0,
     within: 0,
 };
 
-fn four_add<R: Abort + Threads + Wait + Clock + Sync>(
+/// What two threads leave behind that add entries under a lock.
+fn added<R: Abort + Threads + Wait + Clock + Sync + AllocGlobal>(
     rt: &R,
-    lock: &WordLock<Notes>,
-    one: (Token, Token),
-    two: (Token, Token),
-) -> Token
-    requires a { IsReady lock.now 0 one.0 }
-    requires b { IsReady lock.now 1 one.1 }
-    requires c { IsReady lock.now 2 two.0 }
-    requires d { IsReady lock.now 3 two.1 }
-    ensures { (result.lock ≡ lock.now) × (result.free ≡ true) }
-{
-    let (a, b) = one;
-    let (c, d) = two;
-    let (x, y) = join(
-        rt,
-        move || -> Token
-            requires { IsReady lock.now 0 a × IsReady lock.now 1 b × IsSync R.row }
-            ensures { (result.lock ≡ lock.entry.now) × (result.free ≡ true) }
-        { two_add(rt, lock, a, b, (0, 1), (MANY, MANY)) },
-        move || -> Token
-            requires { IsReady lock.now 2 c × IsReady lock.now 3 d × IsSync R.row }
-            ensures { (result.lock ≡ lock.entry.now) × (result.free ≡ true) }
-        { two_add(rt, lock, c, d, (2, 3), (MANY, MANY)) },
-    );
-    lock.join(x, y)
+    first: Turns,
+    second: Turns,
+) -> Notes {
+    let notes = Notes::with_room(rt.alloc(), 0).expect(rt, "memory");
+    let Ok((lock, mut tokens)) = WordLock::open(rt.alloc(), notes, 2) else {
+        panic!(rt; "memory")
+    };
+    let b = last(&lock, &mut tokens, 1);
+    let a = last(&lock, &mut tokens, 0);
+    let token = two_add(rt, &lock, a, b, (first, second));
+    lock.close(rt, token)
 }
 
 #[test]
-fn four_threads_add_500_entries_each(rt: HostRuntime) {
-    let notes = Notes::with_room(rt.alloc(), 0).expect(&rt, "memory");
-    let Ok((lock, mut tokens)) = WordLock::open(rt.alloc(), notes, 4) else {
-        panic!(rt; "memory")
-    };
-    let d = last(&lock, &mut tokens, 3);
-    let c = last(&lock, &mut tokens, 2);
-    let b = last(&lock, &mut tokens, 1);
-    let a = last(&lock, &mut tokens, 0);
-    let token = four_add(&rt, &lock, (a, b), (c, d));
-    let notes = lock.close(&rt, token);
+fn two_threads_add_1000_entries_each(rt: HostRuntime) {
+    let notes = added(&rt, MANY, MANY);
     assert_eq!(rt; notes.list.len(), 2000);
-    for seat in 0..4u16 {
-        assert_eq!(rt; notes.count_of(seat), 500, "seat {seat}");
-    }
+    assert_eq!(rt; (notes.count_of(0), notes.count_of(1)), (1000, 1000));
 }
 
 /// One has the lock for so many milliseconds, and the other comes meanwhile.
@@ -206,19 +180,12 @@ const USED: u64 = 60;
 // The second thread sleeps, and is woken. One that spins uses the processor all the while.
 #[test]
 fn one_who_sleeps_is_woken(rt: HostRuntime) {
-    let notes = Notes::with_room(rt.alloc(), 2).expect(&rt, "memory");
-    let Ok((lock, mut tokens)) = WordLock::open(rt.alloc(), notes, 2) else {
-        panic!(rt; "memory")
-    };
-    let b = last(&lock, &mut tokens, 1);
-    let a = last(&lock, &mut tokens, 0);
     let before = rt.process_cpu_time().expect(&rt, "a clock");
-    let token = two_add(&rt, &lock, a, b, (0, 1), (HOLDS, COMES));
+    let notes = added(&rt, HOLDS, COMES);
     let used = rt
         .process_cpu_time()
         .expect(&rt, "a clock")
         .saturating_sub(before);
-    let notes = lock.close(&rt, token);
     assert_eq!(rt; (notes.count_of(0), notes.count_of(1)), (1, 1));
     assert!(rt; used < Duration::from_millis(USED), "{used:?}");
 }
