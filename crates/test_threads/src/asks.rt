@@ -100,15 +100,22 @@ fn whether(answer: Result<bool, Fault>) -> Reply {
 /// What is answered to a step that names a seat: so much more than the seat's number.
 pub const NAMES: u32 = 1000;
 
-/// Whether a step took or gave something. If not, it joined the line, left it, missed or sleeps on.
+/// Whether an entry takes or gives something. If not, its seat joined the line, left it or missed.
+fn recorded(word: Word) -> Reply {
+    match word {
+        Word::Refused(fault) => Err(fault),
+        Word::Queued => NO,
+        Word::Missed => NO,
+        Word::Left => NO,
+        Word::Lapse => NO,
+        _ => YES,
+    }
+}
+
 fn stepped(answer: Result<Answer, Fault>) -> Reply {
     match answer {
-        Ok(Answer::Recorded(entry, named)) => match (entry.word, named) {
-            (Word::Refused(fault), _) => Err(fault),
-            (_, Some(seat)) => Ok(NAMES.saturating_add(u32::from(seat))),
-            (Word::Queued | Word::Missed | Word::Left | Word::Lapse, None) => NO,
-            (_, None) => YES,
-        },
+        Ok(Answer::Recorded(entry, None)) => recorded(entry.word),
+        Ok(Answer::Recorded(_, Some(seat))) => Ok(NAMES.saturating_add(u32::from(seat))),
         Ok(Answer::Sleep) => NO,
         Err(fault) => Err(fault),
     }

@@ -15,54 +15,6 @@ use std::sync::Wait;
 use std::thread::{Threads, join};
 use std::time::Clock;
 
-/// What is played at a monitor.
-pub trait Game {
-    /// Plays it by the passes of a monitor that was opened with this header.
-    fn play<H: Front + Send, R: Abort + AllocGlobal + Threads + Wait + Clock + Sync>(
-        &self,
-        rt: &R,
-        header: &Header,
-        opened: (Monitor<H>, Vec<Pass>),
-    )
-        requires is_of { All (λ p. p.lock ≡ opened.0) opened.1.items }
-        requires header { opened.0.header ≡ header.now }
-        requires range { IsInRange header.now };
-}
-
-/// Plays a game at the object of a header.
-pub fn play_at<G: Game, R: Abort + AllocGlobal + Threads + Wait + Clock + Sync>(
-    rt: &R,
-    header: &Header,
-    game: &G,
-) {
-    assert!(rt; header.in_range());
-    let Header {
-        object,
-        seats,
-        conditions,
-        cap,
-    } = *header;
-    let alloc = rt.alloc();
-    match object {
-        Object::Lock(policy) => {
-            let opened = open_lock(alloc, policy, seats, conditions, cap).expect(rt, "memory");
-            game.play(rt, header, opened);
-        }
-        Object::ReadWrite(policy) => {
-            let opened = open_read_write_lock(alloc, policy, seats, conditions, cap);
-            game.play(rt, header, opened.expect(rt, "memory"));
-        }
-        Object::Semaphore(policy, permits) => {
-            let opened = open_semaphore(alloc, policy, permits, seats, cap).expect(rt, "memory");
-            game.play(rt, header, opened);
-        }
-        Object::Latch(count) => {
-            let opened = open_latch(alloc, count, seats, cap).expect(rt, "memory");
-            game.play(rt, header, opened);
-        }
-    }
-}
-
 /// Closes a monitor that was opened with this header. Its history is legal, and each call that it has was
 /// counted by a pass.
 pub fn close_and_audit<H: Front, R: Abort + AllocGlobal + Wait>(
@@ -129,16 +81,34 @@ pub const LOCK: Tale = Tale {
     parked: &[],
 };
 
+/// Takes the last pass of a list.
+fn take_last<H: Front, R: Abort>(rt: &R, monitor: &Monitor<H>, passes: &mut Vec<Pass>) -> Pass
+    requires { All (λ p. p.lock ≡ monitor.now) passes.old.items }
+    ensures own { result.lock ≡ monitor.now }
+    ensures others { All (λ p. p.lock ≡ monitor.now) passes.new.items }
+{
+    passes.pop().expect(rt, "a pass")
+}
+
+/// Puts a pass behind the others.
+fn put_last<H: Front, R: Abort>(rt: &R, monitor: &Monitor<H>, passes: &mut Vec<Pass>, pass: Pass)
+    requires own { pass.lock ≡ monitor.now }
+    requires others { All (λ p. p.lock ≡ monitor.now) passes.old.items }
+    ensures { All (λ p. p.lock ≡ monitor.now) passes.new.items }
+{
+    passes.push(pass).expect(rt, "memory");
+}
+
 /// The last two passes of a list meet, and change places.
 fn meet_last<H: Front, R: Abort>(rt: &R, monitor: &Monitor<H>, passes: &mut Vec<Pass>) -> Reply
     requires { All (λ p. p.lock ≡ monitor.now) passes.old.items }
     ensures { All (λ p. p.lock ≡ monitor.now) passes.new.items }
 {
-    let one = passes.pop().expect(rt, "a pass");
-    let two = passes.pop().expect(rt, "a pass");
+    let one = take_last(rt, monitor, passes);
+    let two = take_last(rt, monitor, passes);
     let (one, two) = monitor.meet(one, two);
-    passes.push(one).expect(rt, "memory");
-    passes.push(two).expect(rt, "memory");
+    put_last(rt, monitor, passes, one);
+    put_last(rt, monitor, passes, two);
     DONE
 }
 
@@ -246,11 +216,11 @@ fn act_apart<H: Front + Send, R: Abort + AllocGlobal + Threads + Wait + Clock + 
     ensures { All (λ p. p.lock ≡ monitor.now) result.items }
 {
     let mut passes = passes;
-    let last = passes.pop().expect(rt, "a pass");
+    let last = take_last(rt, monitor, &mut passes);
     let waiters = vec![in rt.alloc(); last].expect(rt, "memory");
     let (mut waiters, mut passes) = act_in_threads(rt, monitor, parking, waiters, passes, tale);
-    let last = waiters.pop().expect(rt, "a pass");
-    passes.push(last).expect(rt, "memory");
+    let last = take_last(rt, monitor, &mut waiters);
+    put_last(rt, monitor, &mut passes, last);
     passes
 }
 
@@ -260,15 +230,14 @@ fn end<H: Front, R: Abort + AllocGlobal + Wait + Clock>(
     monitor: Monitor<H>,
     parking: &NotedParking,
     passes: Vec<Pass>,
-    header: &Header,
     tale: &Tale,
 )
     requires is_of { All (λ p. p.lock ≡ monitor) passes.items }
-    requires header { monitor.header ≡ header.now }
-    requires range { IsInRange header.now }
+    requires header { monitor.header ≡ tale.now.header }
+    requires range { IsInRange tale.now.header }
 {
     if tale.behind.is_empty() {
-        let findings = close_and_audit(rt, monitor, header, passes);
+        let findings = close_and_audit(rt, monitor, &tale.header, passes);
         assert_eq!(rt; findings.calls, tale.calls, "{}", tale.name);
         return;
     }
@@ -281,32 +250,65 @@ fn end<H: Front, R: Abort + AllocGlobal + Wait + Clock>(
     }
 }
 
-impl Game for Tale {
-    fn play<H: Front + Send, R: Abort + AllocGlobal + Threads + Wait + Clock + Sync>(
-        &self,
-        rt: &R,
-        header: &Header,
-        opened: (Monitor<H>, Vec<Pass>),
-    ) {
-        let parking = NotedParking::open(rt.alloc(), self.answers).expect(rt, "memory");
-        let (monitor, passes) = opened;
-        let mut passes = passes;
-        if self.waiter.is_empty() {
-            parking.end_all();
+/// Plays a tale at a monitor that was opened with its header.
+fn play<H: Front + Send, R: Abort + AllocGlobal + Threads + Wait + Clock + Sync>(
+    rt: &R,
+    tale: &Tale,
+    opened: (Monitor<H>, Vec<Pass>),
+)
+    requires is_of { All (λ p. p.lock ≡ opened.0) opened.1.items }
+    requires header { opened.0.header ≡ tale.now.header }
+    requires range { IsInRange tale.now.header }
+{
+    let parking = NotedParking::open(rt.alloc(), tale.answers).expect(rt, "memory");
+    let (monitor, passes) = opened;
+    let mut passes = passes;
+    if tale.waiter.is_empty() {
+        parking.end_all();
+    }
+    act_all(rt, &monitor, &parking, &mut passes, tale.rows, tale.name);
+    if !tale.waiter.is_empty() {
+        passes = act_apart(rt, &monitor, &parking, passes, tale);
+    }
+    end(rt, monitor, &parking, passes, tale);
+    let calls = parking.calls();
+    assert!(rt; calls.as_slice() == tale.parked, "{}: {calls:?}", tale.name);
+}
+
+/// Plays a tale at its object.
+fn play_tale<R: Abort + AllocGlobal + Threads + Wait + Clock + Sync>(rt: &R, tale: &Tale) {
+    let header = tale.header;
+    assert!(rt; header.in_range());
+    let Header {
+        object,
+        seats,
+        conditions,
+        cap,
+    } = header;
+    let alloc = rt.alloc();
+    match object {
+        Object::Lock(policy) => {
+            let opened = open_lock(alloc, policy, seats, conditions, cap).expect(rt, "memory");
+            play(rt, tale, opened);
         }
-        act_all(rt, &monitor, &parking, &mut passes, self.rows, self.name);
-        if !self.waiter.is_empty() {
-            passes = act_apart(rt, &monitor, &parking, passes, self);
+        Object::ReadWrite(policy) => {
+            let opened = open_read_write_lock(alloc, policy, seats, conditions, cap);
+            play(rt, tale, opened.expect(rt, "memory"));
         }
-        end(rt, monitor, &parking, passes, header, self);
-        let calls = parking.calls();
-        assert!(rt; calls.as_slice() == self.parked, "{}: {calls:?}", self.name);
+        Object::Semaphore(policy, permits) => {
+            let opened = open_semaphore(alloc, policy, permits, seats, cap).expect(rt, "memory");
+            play(rt, tale, opened);
+        }
+        Object::Latch(count) => {
+            let opened = open_latch(alloc, count, seats, cap).expect(rt, "memory");
+            play(rt, tale, opened);
+        }
     }
 }
 
 /// Plays tales one after another.
 pub fn play_all<R: Abort + AllocGlobal + Threads + Wait + Clock + Sync>(rt: &R, tales: &[Tale]) {
     for tale in tales {
-        play_at(rt, &tale.header, tale);
+        play_tale(rt, tale);
     }
 }

@@ -6,13 +6,14 @@ ghost use Rattle.monitor.specs.Stepping.{IsSame};
 
 use crate::asks::{Ask, DONE, Front};
 use crate::chance::Chance;
-use crate::plays::{Game, close_and_audit, play_at};
+use crate::plays::close_and_audit;
 use audit::verdict::Judgement;
 use history::entry::Word;
 use history::fault::Fault;
 use history::header::{Header, Object, Policy};
 use history::step::{Answer, Step};
 use monitor::{Monitor, Now, Pass};
+use monitor_fronts::{open_latch, open_lock, open_read_write_lock, open_semaphore};
 use permit::{Parking, ThreadParking};
 use std::process::Abort;
 use std::sync::Wait;
@@ -302,26 +303,54 @@ fn is_idle(judgement: &Judgement) -> bool {
     }
 }
 
-impl Game for Storm {
-    /// Then the monitor is closed and audited, and nobody waits or holds a lock.
-    fn play<H: Front + Send, R: Abort + AllocGlobal + Threads + Wait + Clock + Sync>(
-        &self,
-        rt: &R,
-        header: &Header,
-        opened: (Monitor<H>, Vec<Pass>),
-    ) {
-        let parking = ThreadParking::open(rt, rt.alloc(), header.seats).expect(rt, "memory");
-        assert!(rt; 4 <= header.seats);
-        let (monitor, passes) = opened;
-        let passes = work_and_interrupt(rt, &monitor, &parking, passes, self);
-        let findings = close_and_audit(rt, monitor, header, passes);
-        assert!(rt; self.least <= findings.calls, "{} calls", findings.calls);
-        assert!(rt; is_idle(&findings.judgement), "somebody waits or holds");
-    }
+/// Then the monitor is closed and audited, and nobody waits or holds a lock.
+fn rage<H: Front + Send, R: Abort + AllocGlobal + Threads + Wait + Clock + Sync>(
+    rt: &R,
+    storm: &Storm,
+    opened: (Monitor<H>, Vec<Pass>),
+)
+    requires passes { All (λ p. p.lock ≡ opened.0) opened.1.items }
+    requires header { opened.0.header ≡ storm.now.header }
+    requires range { IsInRange storm.now.header }
+{
+    let seats = storm.header.seats;
+    let parking = ThreadParking::open(rt, rt.alloc(), seats).expect(rt, "memory");
+    assert!(rt; 4 <= seats);
+    let (monitor, passes) = opened;
+    let passes = work_and_interrupt(rt, &monitor, &parking, passes, storm);
+    let findings = close_and_audit(rt, monitor, &storm.header, passes);
+    assert!(rt; storm.least <= findings.calls, "{} calls", findings.calls);
+    assert!(rt; is_idle(&findings.judgement), "somebody waits or holds");
 }
 
 fn storm_at<R: Abort + AllocGlobal + Threads + Wait + Clock + Sync>(rt: &R, storm: &Storm) {
-    play_at(rt, &storm.header, storm);
+    let header = storm.header;
+    assert!(rt; header.in_range());
+    let Header {
+        object,
+        seats,
+        conditions,
+        cap,
+    } = header;
+    let alloc = rt.alloc();
+    match object {
+        Object::Lock(policy) => {
+            let opened = open_lock(alloc, policy, seats, conditions, cap).expect(rt, "memory");
+            rage(rt, storm, opened);
+        }
+        Object::ReadWrite(policy) => {
+            let opened = open_read_write_lock(alloc, policy, seats, conditions, cap);
+            rage(rt, storm, opened.expect(rt, "memory"));
+        }
+        Object::Semaphore(policy, permits) => {
+            let opened = open_semaphore(alloc, policy, permits, seats, cap).expect(rt, "memory");
+            rage(rt, storm, opened);
+        }
+        Object::Latch(count) => {
+            let opened = open_latch(alloc, count, seats, cap).expect(rt, "memory");
+            rage(rt, storm, opened);
+        }
+    }
 }
 
 const FOUR: Header = Header {

@@ -10,7 +10,7 @@ macro_rules! rows {
 }
 
 mod dropped;
-mod fronts;
+pub mod fronts;
 mod woken;
 
 const PLAIN: Call = Call::Park {

@@ -1,5 +1,5 @@
 //! The lock under a monitor, by its tokens.
 
 mod meanwhile;
-mod notes;
-mod tokens;
+pub mod notes;
+pub mod tokens;

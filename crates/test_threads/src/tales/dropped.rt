@@ -101,8 +101,9 @@ const HELD: Tale = Tale {
     ..BARGED
 };
 
+static DROPPED: [Tale; 6] = [IDLE, HEAD, STRICT, BARGED, SLEEPER, HELD];
+
 #[test]
 fn the_others_go_on_where_a_pass_was_dropped(rt: HostRuntime) {
-    play_all(&rt, &[IDLE, HEAD, STRICT]);
-    play_all(&rt, &[BARGED, SLEEPER, HELD]);
+    play_all(&rt, &DROPPED);
 }

@@ -91,10 +91,11 @@ const OBSERVED: Tale = Tale {
     ..LOCK
 };
 
+static OF_A_LOCK: [Tale; 5] = [LOCKED, PENDING, LONG, MET, OBSERVED];
+
 #[test]
 fn each_call_of_a_lock_and_each_observer_answers(rt: HostRuntime) {
-    play_all(&rt, &[LOCKED, PENDING, LONG]);
-    play_all(&rt, &[MET, OBSERVED]);
+    play_all(&rt, &OF_A_LOCK);
 }
 
 const READ_WRITE: Tale = Tale {
@@ -149,9 +150,11 @@ const READ: Tale = Tale {
     ..READ_WRITE
 };
 
+static OF_A_READ_WRITE_LOCK: [Tale; 2] = [WRITTEN, READ];
+
 #[test]
 fn each_call_of_a_read_write_lock_answers(rt: HostRuntime) {
-    play_all(&rt, &[WRITTEN, READ]);
+    play_all(&rt, &OF_A_READ_WRITE_LOCK);
 }
 
 const THREE: Header = Header {
@@ -212,7 +215,12 @@ const COUNTED: Tale = Tale {
     ..LOCK
 };
 
+static OF_COUNTS: [Tale; 3] = [PERMITS, OWING, COUNTED];
+
 #[test]
 fn each_call_of_a_semaphore_and_a_latch_answers(rt: HostRuntime) {
-    play_all(&rt, &[PERMITS, OWING, COUNTED]);
+    play_all(&rt, &OF_COUNTS);
 }
+
+/// A tale of each object.
+pub static OF_EACH: [Tale; 4] = [LOCKED, WRITTEN, PERMITS, COUNTED];

@@ -89,14 +89,21 @@ const AWAITED: Tale = Tale {
     ..SIGNALLED
 };
 
+static AT_A_LOCK: [Tale; 9] = [
+    GRANTED,
+    GRANTED_IN_TIME,
+    SIGNALLED,
+    SIGNALLED_WITH_ALL,
+    SIGNALLED_IN_TIME,
+    INTERRUPTED_LATE,
+    INTERRUPTED_EARLY,
+    LAPSED,
+    AWAITED,
+];
+
 #[test]
 fn a_lock_parks_who_waits_and_unparks_whom_an_entry_names(rt: HostRuntime) {
-    play_all(&rt, &[GRANTED, GRANTED_IN_TIME, SIGNALLED]);
-    play_all(
-        &rt,
-        &[SIGNALLED_WITH_ALL, SIGNALLED_IN_TIME, INTERRUPTED_LATE],
-    );
-    play_all(&rt, &[INTERRUPTED_EARLY, LAPSED, AWAITED]);
+    play_all(&rt, &AT_A_LOCK);
 }
 
 const READ_WRITE: Header = Header {
@@ -201,14 +208,21 @@ const INTERRUPT_NAMES: Tale = Tale {
     ..LEAVE_NAMES
 };
 
+static AT_A_READ_WRITE_LOCK: [Tale; 9] = [
+    WRITES,
+    WRITES_PLAINLY,
+    READS,
+    WRITER_SLEEPS,
+    WRITER_SLEEPS_PLAINLY,
+    WRITER_SLEEPS_IN_TIME,
+    GRANT_NAMES,
+    LEAVE_NAMES,
+    INTERRUPT_NAMES,
+];
+
 #[test]
 fn a_read_write_lock_parks_who_waits_and_unparks_whom_an_entry_names(rt: HostRuntime) {
-    play_all(&rt, &[WRITES, WRITES_PLAINLY, READS]);
-    play_all(
-        &rt,
-        &[WRITER_SLEEPS, WRITER_SLEEPS_PLAINLY, WRITER_SLEEPS_IN_TIME],
-    );
-    play_all(&rt, &[GRANT_NAMES, LEAVE_NAMES, INTERRUPT_NAMES]);
+    play_all(&rt, &AT_A_READ_WRITE_LOCK);
 }
 
 const THREE: Header = Header {
@@ -261,8 +275,9 @@ const ZERO_IN_TIME: Tale = Tale {
     ..ZERO
 };
 
+static AT_COUNTS: [Tale; 5] = [PERMIT, PERMIT_PLAINLY, PERMIT_IN_TIME, ZERO, ZERO_IN_TIME];
+
 #[test]
 fn a_semaphore_and_a_latch_park_who_waits_and_unpark_whom_an_entry_names(rt: HostRuntime) {
-    play_all(&rt, &[PERMIT, PERMIT_PLAINLY, PERMIT_IN_TIME]);
-    play_all(&rt, &[ZERO, ZERO_IN_TIME]);
+    play_all(&rt, &AT_COUNTS);
 }
