@@ -3,20 +3,27 @@ ghost use Rattle.std.specs.Prelude.{◌≡◌, true};
 
 use std::sync::Wait;
 use std::sync::atomic::{AtomicU64, Ordering};
-use std::time::Clock;
+use std::thread;
+use std::time::{Clock, Duration};
 use workers::Gate;
 
-/// Lets one call go at a time: the workers take turns in this order. It shuts behind the last turn.
+/// How often a worker looks for its turn, a millisecond apart. Then the gate is shut, so that workers that run
+/// one after another fail and don't hang.
+const LOOKS: u32 = 10_000;
+
+/// Lets one call go at a time: the workers take turns in this order. Behind the last turn it is open or shut.
 #[derive(Drop)]
 pub struct Turns {
     order: &'static [u16],
+    opens: bool,
     made: AtomicU64,
 }
 
 impl Turns {
-    pub fn new(order: &'static [u16]) -> Turns {
+    pub fn new(order: &'static [u16], opens: bool) -> Turns {
         Turns {
             order,
+            opens,
             made: AtomicU64::new(0),
         }
     }
@@ -31,121 +38,53 @@ impl Gate for Turns {
     ghost answers = { λ _ _ _ _. Unit {0} };
 
     fn before<R: Wait + Clock>(&self, rt: &R, worker: u16, _call: u64) -> bool {
-        for _ in rt.forever() {
-            let made = self.made();
-            match self.order.get(made as usize) {
-                None => return false,
+        for _ in 0..LOOKS {
+            match self.order.get(self.made() as usize) {
+                None => return self.opens,
                 Some(next) if *next == worker => return true,
-                Some(_) => self.made.park(rt, (made & 0xffff_ffff) as u32),
+                Some(_) => thread::sleep(rt, Duration::from_millis(1)),
             }
         }
-        unreachable!()
+        false
     }
 
     fn after<R: Wait + Clock>(&self, _rt: &R, _worker: u16, _call: u64) {
         self.made.fetch_add(1, Ordering::SeqCst);
-        self.made.wake_all();
     }
 }
 
-/// Worker 0 makes its first call before all others make theirs.
-#[derive(Drop)]
-pub struct Leader {
-    answered: AtomicU64,
-}
-
-impl Leader {
-    pub fn new() -> Leader {
-        Leader {
-            answered: AtomicU64::new(0),
-        }
-    }
-}
-
-impl Gate for Leader {
-    ghost answers = { λ _ _ _ answer. answer ≡ true };
-
-    fn before<R: Wait + Clock>(&self, rt: &R, worker: u16, _call: u64) -> bool {
-        if worker == 0 {
-            return true;
-        }
-        for _ in rt.forever() {
-            if self.answered.load(Ordering::SeqCst) != 0 {
-                return true;
-            }
-            self.answered.park(rt, 0);
-        }
-        unreachable!()
-    }
-
-    fn after<R: Wait + Clock>(&self, _rt: &R, worker: u16, _call: u64) {
-        if worker == 0 {
-            self.answered.store(1, Ordering::SeqCst);
-            self.answered.wake_all();
-        }
-    }
-}
-
-/// Counts the calls of all workers, and lets each go at once.
-#[derive(Drop)]
-pub struct Seen {
-    calls: AtomicU64,
-}
-
-impl Seen {
-    pub fn new() -> Seen {
-        Seen {
-            calls: AtomicU64::new(0),
-        }
-    }
-
-    /// How many calls it let go.
-    pub fn calls(&self) -> u64 {
-        self.calls.load(Ordering::SeqCst)
-    }
-}
-
-impl Gate for Seen {
-    ghost answers = { λ _ _ _ answer. answer ≡ true };
-
-    fn before<R: Wait + Clock>(&self, _rt: &R, _worker: u16, _call: u64) -> bool {
-        self.calls.fetch_add(1, Ordering::SeqCst);
-        true
-    }
-
-    fn after<R: Wait + Clock>(&self, _rt: &R, _worker: u16, _call: u64) {}
-}
-
-/// What a gate was asked and told by one worker.
+/// What a gate was asked and told by one worker, which may make so many calls.
 #[derive(Drop)]
 struct Count {
+    limit: u64,
     asked: AtomicU64,
     answered: AtomicU64,
 }
 
 impl Count {
-    fn new() -> Count {
+    fn new(limit: u64) -> Count {
         Count {
+            limit,
             asked: AtomicU64::new(0),
             answered: AtomicU64::new(0),
         }
     }
 }
 
-/// Lets each of four workers make so many calls, and counts what it is asked and told. Calls whose numbers
-/// aren't the next from 0 on are astray.
+/// Lets each of the first four workers make so many calls, and all others any number. It counts what it is
+/// asked and told. Calls whose numbers aren't the next from 0 on are astray.
 #[derive(Drop)]
 pub struct Tally {
-    limits: [u64; 4],
     counts: [Count; 4],
+    gone: AtomicU64,
     astray: AtomicU64,
 }
 
 impl Tally {
     pub fn new(limits: [u64; 4]) -> Tally {
         Tally {
-            limits,
-            counts: [Count::new(), Count::new(), Count::new(), Count::new()],
+            counts: limits.map(|limit| Count::new(limit)),
+            gone: AtomicU64::new(0),
             astray: AtomicU64::new(0),
         }
     }
@@ -160,6 +99,11 @@ impl Tally {
     pub fn answered(&self) -> [u64; 4] {
         let [a, b, c, d] = &self.counts;
         [a, b, c, d].map(|count| count.answered.load(Ordering::SeqCst))
+    }
+
+    /// How many calls it let go.
+    pub fn gone(&self) -> u64 {
+        self.gone.load(Ordering::SeqCst)
     }
 
     /// How many times a worker told another number than the next.
@@ -179,16 +123,17 @@ impl Gate for Tally {
     ghost answers = { λ _ _ _ _. Unit {0} };
 
     fn before<R: Wait + Clock>(&self, _rt: &R, worker: u16, call: u64) -> bool {
-        match (
-            self.counts.get(worker as usize),
-            self.limits.get(worker as usize),
-        ) {
-            (Some(count), Some(limit)) => {
+        let goes = match self.counts.get(worker as usize) {
+            Some(count) => {
                 self.note(&count.asked, call);
-                call < *limit
+                call < count.limit
             }
-            _ => false,
+            None => true,
+        };
+        if goes {
+            self.gone.fetch_add(1, Ordering::SeqCst);
         }
+        goes
     }
 
     fn after<R: Wait + Clock>(&self, _rt: &R, worker: u16, call: u64) {

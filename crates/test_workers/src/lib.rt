@@ -1,7 +1,9 @@
-//! Tests of scripts that threads run: what reports say of scripts whose outcome is known, what gates see and
-//! stop, runs that lack memory, and runs from bytes to bytes.
+//! Tests of scripts that threads run: what gates see and stop, as many threads and objects as there may be,
+//! runs that lack memory, and devices that fail.
 #![tactic(auto)]
 
+#[cfg(test)]
+mod devices;
 #[cfg(test)]
 mod gated;
 #[cfg(test)]
@@ -9,12 +11,4 @@ mod gates;
 #[cfg(test)]
 mod memory;
 #[cfg(test)]
-mod reports;
-#[cfg(test)]
-mod running;
-#[cfg(test)]
-mod texts;
-#[cfg(test)]
-mod trims;
-#[cfg(test)]
-mod whole_runs;
+mod runs;

@@ -1,0 +1,118 @@
+//! Calls and steps by chance, the same from the same seed.
+ghost use Rattle.std.specs.Prelude.{◌≡◌, ◌<◌};
+
+use crate::asks::Ask;
+use history::entry::Mode;
+use history::header::Object;
+use history::step::Step;
+use rand_core::utils::NextWord;
+use rand_pcg::Pcg32;
+use std::thread;
+use std::time::{Clock, Duration};
+
+const SEED: u64 = 20_040_930;
+
+/// So many milliseconds a call waits at most.
+const TIME: u32 = 2;
+
+/// Numbers that are the same for the same seat.
+#[derive(Drop)]
+pub struct Chance {
+    words: Pcg32,
+}
+
+impl Chance {
+    pub fn of_seat(seat: u16) -> Chance {
+        Chance {
+            words: Pcg32::new(SEED, u64::from(seat)),
+        }
+    }
+
+    /// A number below another.
+    fn below(&mut self, end: u32) -> u32
+        requires { 0 < end }
+        ensures { result < end }
+    {
+        self.words.next_word() % end
+    }
+
+    /// Now and then a thread sleeps for a moment, with all that it holds.
+    pub fn pause<R: Clock>(&mut self, rt: &R) {
+        if self.below(8) == 0 {
+            thread::sleep(rt, Duration::from_micros(20));
+        }
+    }
+
+    /// A call that ends though nobody else does anything.
+    pub fn ask(&mut self, object: Object) -> Ask {
+        match object {
+            Object::Lock(_) => self.ask_lock(),
+            Object::ReadWrite(_) => match self.below(16) {
+                0..=1 => Ask::TryReadFor(TIME),
+                2 => Ask::TryRead,
+                3..=6 => Ask::EndRead,
+                _ => self.ask_lock(),
+            },
+            Object::Semaphore(_, _) => self.ask_semaphore(),
+            Object::Latch(_) => match self.below(4) {
+                0 => Ask::AwaitZeroFor(TIME),
+                _ => Ask::CountDown,
+            },
+        }
+    }
+
+    fn ask_lock(&mut self) -> Ask {
+        match self.below(16) {
+            0..=3 => Ask::TryLockFor(TIME),
+            4..=5 => Ask::TryLock,
+            6..=10 => Ask::Unlock,
+            11..=12 => Ask::WaitFor(0, TIME),
+            13 => Ask::TryLockFor(0),
+            14 => Ask::Signal(0),
+            _ => Ask::SignalAll(0),
+        }
+    }
+
+    fn ask_semaphore(&mut self) -> Ask {
+        let n = 1 + self.below(3);
+        match self.below(8) {
+            0..=2 => Ask::TryAcquireFor(n, TIME),
+            3 => Ask::TryAcquire(n),
+            4 => Ask::DrainPermits,
+            _ => Ask::Release(n),
+        }
+    }
+
+    /// Mostly a step that suits whether the seat waits.
+    pub fn step(&mut self, object: Object, waits: bool) -> Step {
+        if (self.below(16) > 0) == waits {
+            match self.below(32) {
+                0 => Step::Expire,
+                1 => Step::Interrupt,
+                _ => Step::Look,
+            }
+        } else {
+            self.idle_step(object)
+        }
+    }
+
+    fn idle_step(&mut self, object: Object) -> Step {
+        let (mode, n) = match object {
+            Object::Lock(_) => (Mode::X, 1),
+            Object::ReadWrite(_) if self.below(2) == 0 => (Mode::X, 1),
+            Object::Semaphore(_, _) => (Mode::S, 1 + self.below(3)),
+            _ => (Mode::S, 1),
+        };
+        match self.below(16) {
+            0..=2 => Step::Acquire(mode, n),
+            3 => Step::Try(mode, n),
+            4 => Step::TryFair(mode, n),
+            5 => Step::EntryInterrupt(mode, n),
+            6..=11 => Step::Give(mode, n),
+            12 => Step::Await(0),
+            13 => Step::Signal(0),
+            14 => Step::SignalAll(0),
+            _ => Step::Drain,
+        }
+    }
+}

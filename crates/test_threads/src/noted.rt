@@ -1,0 +1,110 @@
+//! A parking that notes what a monitor asks of it, and whose parks end when a test says so.
+ghost use Rattle.std.specs.Prelude.{◌≡◌, ◌<◌};
+
+use history::fault::Fault;
+use permit::{Call, Parking, ScriptedParking, Woke};
+use std::alloc::Global;
+use std::sync::Wait;
+use std::sync::atomic::{AtomicU64, Ordering};
+use std::thread;
+use std::time::{Clock, Duration};
+
+/// The moment that its clock stands at.
+pub const NOW: u64 = 1000;
+
+/// How many calls are noted.
+const PLACES: u32 = 16;
+
+/// How often a wait looks, a millisecond apart, before it gives up.
+const TURNS: u32 = 10_000;
+
+/// Answers parks from a list, and then by permits. A park ends once so many parks may end, or after some 10
+/// seconds, whatever is asked of it.
+#[derive(Drop)]
+pub struct NotedParking {
+    notes: ScriptedParking,
+    parks: AtomicU64,
+    /// How many parks may end.
+    ends: AtomicU64,
+}
+
+impl NotedParking {
+    pub fn open(alloc: Global, answers: &[Woke]) -> Result<NotedParking, Fault> {
+        let answers = Vec::from_slice(alloc, answers)?;
+        Ok(NotedParking {
+            notes: ScriptedParking::open(alloc, answers, PLACES)?,
+            parks: AtomicU64::new(0),
+            ends: AtomicU64::new(0),
+        })
+    }
+
+    /// Waits until so many parks were begun. Says whether they were.
+    pub fn wait_for_parks<R: Clock>(&self, rt: &R, parks: u64) -> bool {
+        for _ in 0..TURNS {
+            if parks <= self.parks.load(Ordering::SeqCst) {
+                return true;
+            }
+            thread::sleep(rt, Duration::from_millis(1));
+        }
+        false
+    }
+
+    /// Ends a park, and waits for the next one. Says whether it came.
+    pub fn next_park<R: Clock>(&self, rt: &R) -> bool {
+        let ended = self.ends.fetch_add(1, Ordering::SeqCst);
+        self.wait_for_parks(rt, ended.saturating_add(2))
+    }
+
+    /// Ends all parks, also those to come.
+    pub fn end_all(&self) {
+        self.ends.store(u64::MAX, Ordering::SeqCst);
+    }
+
+    /// The calls of park, unpark and interrupt, in order.
+    pub fn calls(self) -> Vec<Call> {
+        let NotedParking {
+            notes,
+            parks: _,
+            ends: _,
+        } = self;
+        notes.calls()
+    }
+}
+
+impl Parking for NotedParking {
+    ghost seats = { λ _. 256 };
+
+    fn now<R: Clock>(&self, _rt: &R) -> u64 {
+        NOW
+    }
+
+    fn park<R: Wait + Clock>(
+        &self,
+        rt: &R,
+        seat: u16,
+        until: Option<u64>,
+        interruptible: bool,
+    ) -> Woke {
+        let answer = self.notes.park(rt, seat, until, interruptible);
+        let number = self.parks.fetch_add(1, Ordering::SeqCst);
+        for _ in 0..TURNS {
+            if number < self.ends.load(Ordering::SeqCst) {
+                break;
+            }
+            thread::sleep(rt, Duration::from_millis(1));
+        }
+        answer
+    }
+
+    fn unpark(&self, seat: u16) {
+        self.notes.unpark(seat);
+    }
+
+    fn interrupt(&self, seat: u16) {
+        self.notes.interrupt(seat);
+    }
+
+    fn take_interrupt(&self, seat: u16) -> bool {
+        self.notes.take_interrupt(seat)
+    }
+}

@@ -1,0 +1,4 @@
+//! The places to park.
+
+mod order;
+mod threads;

@@ -1,0 +1,202 @@
+//! Parks, unparks and interrupts as data, and which answer comes first.
+ghost use Rattle.std.specs.Prelude.{◌≡◌, ◌≤◌, ◌<◌};
+
+use permit::{Call, Parking, ScriptedParking, ThreadParking, Woke};
+use std::io;
+use std::process::Abort;
+use std::sync::Wait;
+use std::time::{Clock, Duration};
+
+/// What is done at a seat.
+#[derive(Clone, Copy)]
+enum Deed {
+    Unpark(u8),
+    Interrupt(u8),
+    /// The seat's flag is asked for, and cleared.
+    Take(u8),
+    /// A park for so many milliseconds, or without a time, that minds an interrupt or doesn't.
+    Park(u8, Option<u64>, bool),
+}
+
+/// The answers. An unpark and an interrupt have none.
+const NONE: u8 = 0;
+
+const NOT_SET: u8 = 1;
+
+const WAS_SET: u8 = 2;
+
+const PERMIT: u8 = 3;
+
+const DEADLINE: u8 = 4;
+
+const INTERRUPTED: u8 = 5;
+
+fn park<P: Parking, R: Wait + Clock>(
+    rt: &R,
+    parking: &P,
+    seat: u16,
+    time: Option<u64>,
+    interruptible: bool,
+) -> u8
+    requires { seat < P.seats parking.now }
+{
+    let until = match time {
+        Some(time) => Some(parking.now(rt).saturating_add(time)),
+        None => None,
+    };
+    match parking.park(rt, seat, until, interruptible) {
+        Woke::Permit => PERMIT,
+        Woke::Deadline => DEADLINE,
+        Woke::Interrupted => INTERRUPTED,
+    }
+}
+
+fn answer<P: Parking, R: Wait + Clock>(rt: &R, parking: &P, deed: Deed) -> u8
+    requires { 256 ≤ P.seats parking.now }
+{
+    match deed {
+        Deed::Unpark(seat) => {
+            parking.unpark(u16::from(seat));
+            NONE
+        }
+        Deed::Interrupt(seat) => {
+            parking.interrupt(u16::from(seat));
+            NONE
+        }
+        Deed::Take(seat) => {
+            if parking.take_interrupt(u16::from(seat)) {
+                WAS_SET
+            } else {
+                NOT_SET
+            }
+        }
+        Deed::Park(seat, time, interruptible) => {
+            park(rt, parking, u16::from(seat), time, interruptible)
+        }
+    }
+}
+
+fn answer_all<P: Parking, R: Abort + Wait + Clock>(rt: &R, parking: &P, rows: &[(Deed, u8)])
+    requires { 256 ≤ P.seats parking.now }
+{
+    let mut number = 0u32;
+    for (deed, told) in rows {
+        let answer = answer(rt, parking, *deed);
+        assert_eq!(rt; answer, *told, "row {number}");
+        number = number.saturating_add(1);
+    }
+}
+
+/// An interrupt comes before a permit, and a permit before a deadline. A permit doesn't count. Signals of a
+/// seat are nothing to its neighbours.
+const IN_ORDER: [(Deed, u8); 23] = [
+    (Deed::Interrupt(0), NONE),
+    (Deed::Unpark(0), NONE),
+    (Deed::Unpark(0), NONE),
+    (Deed::Park(0, None, true), INTERRUPTED),
+    (Deed::Take(0), NOT_SET),
+    (Deed::Park(0, None, false), PERMIT),
+    (Deed::Park(0, Some(1), false), DEADLINE),
+    (Deed::Interrupt(0), NONE),
+    (Deed::Park(0, Some(2), false), DEADLINE),
+    (Deed::Park(0, Some(0), true), INTERRUPTED),
+    (Deed::Interrupt(0), NONE),
+    (Deed::Take(0), WAS_SET),
+    (Deed::Take(0), NOT_SET),
+    (Deed::Unpark(0), NONE),
+    (Deed::Park(0, Some(0), true), PERMIT),
+    (Deed::Park(0, Some(0), true), DEADLINE),
+    (Deed::Unpark(254), NONE),
+    (Deed::Interrupt(254), NONE),
+    (Deed::Park(253, Some(0), true), DEADLINE),
+    (Deed::Park(255, Some(0), true), DEADLINE),
+    (Deed::Take(255), NOT_SET),
+    (Deed::Park(254, Some(0), true), INTERRUPTED),
+    (Deed::Park(254, Some(0), true), PERMIT),
+];
+
+#[test]
+fn an_interrupt_comes_before_a_permit_and_a_permit_before_a_deadline(rt: HostRuntime) {
+    let parking = ThreadParking::open(&rt, rt.alloc(), 256).expect(&rt, "memory");
+    answer_all(&rt, &parking, &IN_ORDER);
+    answer_all(&rt, &parking, &IN_ORDER);
+}
+
+/// A clock that can't be read.
+struct NoClock;
+
+impl Clock for NoClock {
+    fn monotonic(&self) -> io::Result<Duration> {
+        Err(io::Error::from(io::ErrorKind::Unsupported))
+    }
+
+    fn since_1970(&self) -> io::Result<Duration> {
+        Err(io::Error::from(io::ErrorKind::Unsupported))
+    }
+}
+
+#[test]
+fn each_deadline_has_come_if_the_clock_cant_be_read(rt: HostRuntime) {
+    let parking = ThreadParking::open(&NoClock, rt.alloc(), 256).expect(&rt, "memory");
+    assert_eq!(rt; parking.now(&rt), u64::MAX);
+    let rows = [
+        (Deed::Park(0, Some(60_000), true), DEADLINE),
+        (Deed::Unpark(0), NONE),
+        (Deed::Park(0, Some(60_000), true), PERMIT),
+    ];
+    answer_all(&rt, &parking, &rows);
+    let parking = ThreadParking::open(&rt, rt.alloc(), 256).expect(&rt, "memory");
+    assert_eq!(rt; parking.now(&NoClock), u64::MAX);
+}
+
+/// An answer that may not be given is used up: an end of its time without a time, an interrupt that the park
+/// doesn't mind. Once none is left each park has a permit.
+const SCRIPTED: [(Deed, u8); 13] = [
+    (Deed::Interrupt(1), NONE),
+    (Deed::Interrupt(255), NONE),
+    (Deed::Park(3, Some(5), true), DEADLINE),
+    (Deed::Park(1, Some(5), true), INTERRUPTED),
+    (Deed::Take(1), NOT_SET),
+    (Deed::Park(3, Some(5), true), PERMIT),
+    (Deed::Park(255, None, true), PERMIT),
+    (Deed::Park(255, Some(1), false), PERMIT),
+    (Deed::Park(255, Some(1), false), DEADLINE),
+    (Deed::Unpark(7), NONE),
+    (Deed::Take(255), WAS_SET),
+    (Deed::Take(255), NOT_SET),
+    (Deed::Park(3, Some(5), true), PERMIT),
+];
+
+const ANSWERS: [Woke; 6] = [
+    Woke::Deadline,
+    Woke::Interrupted,
+    Woke::Permit,
+    Woke::Deadline,
+    Woke::Interrupted,
+    Woke::Deadline,
+];
+
+/// There is place for four.
+const RECORDED: [Call; 4] = [
+    Call::Interrupt { seat: 1 },
+    Call::Interrupt { seat: 255 },
+    Call::Park {
+        seat: 3,
+        until: Some(5),
+        interruptible: true,
+    },
+    Call::Park {
+        seat: 1,
+        until: Some(5),
+        interruptible: true,
+    },
+];
+
+#[test]
+fn a_script_answers_in_order_and_records_the_first_calls(rt: HostRuntime) {
+    let answers = Vec::from_slice(rt.alloc(), &ANSWERS).expect(&rt, "memory");
+    let parking = ScriptedParking::open(rt.alloc(), answers, 4).expect(&rt, "memory");
+    assert_eq!(rt; parking.now(&rt), 0);
+    answer_all(&rt, &parking, &SCRIPTED);
+    assert!(rt; parking.calls().as_slice() == RECORDED.as_slice());
+}

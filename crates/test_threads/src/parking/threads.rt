@@ -1,0 +1,166 @@
+//! Threads that sleep at their seats, and are woken.
+ghost use Rattle.std.specs.Prelude.{◌≡◌, ◌<◌};
+
+use permit::{Parking, ThreadParking, Woke};
+use std::process::Abort;
+use std::rt::Files;
+use std::sync::Wait;
+use std::thread::{Threads, join};
+use std::time::{Clock, Duration};
+use std::{fs, thread};
+
+/// So many milliseconds a thread waits before it wakes another, which sleeps by then.
+const LATER: u64 = 30;
+
+/// So many nanoseconds: less than a thread takes that spins so long, even where others have most of the
+/// processors.
+const LITTLE: u64 = 5_000_000;
+
+fn send_later<R: Clock>(rt: &R, parking: &ThreadParking, is_interrupt: bool)
+    requires { 0 < parking.now }
+{
+    thread::sleep(rt, Duration::from_millis(LATER));
+    if is_interrupt {
+        parking.interrupt(0);
+    } else {
+        parking.unpark(0);
+    }
+}
+
+/// What seat 0 is answered that sleeps until another thread unparks or interrupts it.
+fn woken<R: Threads + Wait + Clock + Sync>(
+    rt: &R,
+    parking: &ThreadParking,
+    is_interrupt: bool,
+    until: Option<u64>,
+) -> Woke
+    requires { 0 < parking.now }
+{
+    let (woke, ()) = join(
+        rt,
+        || -> Woke
+            requires { 0 < parking.now }
+        { parking.park(rt, 0, until, true) },
+        ||
+            requires { 0 < parking.now }
+        { send_later(rt, parking, is_interrupt) },
+    );
+    woke
+}
+
+#[test]
+fn one_who_sleeps_is_woken_by_an_unpark_and_by_an_interrupt(rt: HostRuntime) {
+    let parking = ThreadParking::open(&rt, rt.alloc(), 1).expect(&rt, "memory");
+    let far = Some(parking.now(&rt).saturating_add(50_000));
+    for until in [None, far, Some(u64::MAX)] {
+        assert_eq!(rt; woken(&rt, &parking, false, until), Woke::Permit);
+        assert_eq!(rt; woken(&rt, &parking, true, until), Woke::Interrupted);
+    }
+    assert_eq!(rt; parking.park(&rt, 0, Some(0), true), Woke::Deadline);
+}
+
+/// The processor time that the calling thread has had, in nanoseconds.
+fn processor_time<R: Files + AllocGlobal>(rt: &R) -> Option<u64> {
+    let told = fs::read_to_string(rt, "/proc/thread-self/schedstat").ok()?;
+    told.split(' ').next()?.parse::<u64>().ok()
+}
+
+#[test]
+fn one_who_sleeps_takes_no_processor_time(rt: HostRuntime) {
+    let parking = ThreadParking::open(&rt, rt.alloc(), 1).expect(&rt, "memory");
+    let until = parking.now(&rt).saturating_add(LATER);
+    let before = processor_time(&rt).expect(&rt, "a time");
+    assert_eq!(rt; parking.park(&rt, 0, Some(until), true), Woke::Deadline);
+    let used = processor_time(&rt)
+        .expect(&rt, "a time")
+        .saturating_sub(before);
+    assert!(rt; used < LITTLE, "{used}");
+    assert!(rt; until <= parking.now(&rt));
+}
+
+/// How often each answer came.
+#[derive(Clone, Copy)]
+struct Tally {
+    permits: u32,
+    interrupts: u32,
+    deadlines: u32,
+}
+
+/// Parks at seat 0 with short timeouts until so many signals were answered, and unparks seat 1 after each.
+fn answer_all<R: Wait + Clock>(rt: &R, parking: &ThreadParking, signals: u32) -> Tally
+    requires { 1 < parking.now }
+{
+    let mut tally = Tally {
+        permits: 0,
+        interrupts: 0,
+        deadlines: 0,
+    };
+    for _ in rt.forever() {
+        if signals <= tally.permits.saturating_add(tally.interrupts) {
+            break;
+        }
+        let until = Some(parking.now(rt).saturating_add(1));
+        let count = match parking.park(rt, 0, until, true) {
+            Woke::Deadline => {
+                tally.deadlines = tally.deadlines.saturating_add(1);
+                continue;
+            }
+            Woke::Permit => &mut tally.permits,
+            Woke::Interrupted => &mut tally.interrupts,
+        };
+        *count = count.saturating_add(1);
+        parking.unpark(1);
+    }
+    tally
+}
+
+/// Sends seat 0 an unpark or, each third time, an interrupt, about when a timeout ends there. It parks at
+/// seat 1 until the signal is answered. A wake that is lost leaves it asleep.
+fn send_all<R: Wait + Clock>(rt: &R, parking: &ThreadParking, signals: u32) -> u32
+    requires { 1 < parking.now }
+{
+    let mut answered = 0u32;
+    for number in 0..signals {
+        thread::sleep(rt, Duration::from_micros(u64::from(number % 40) * 50));
+        if number % 3 == 2 {
+            parking.interrupt(0);
+        } else {
+            parking.unpark(0);
+        }
+        if parking.park(rt, 1, None, false) == Woke::Permit {
+            answered = answered.saturating_add(1);
+        }
+    }
+    answered
+}
+
+fn storm<R: Threads + Wait + Clock + Sync>(
+    rt: &R,
+    parking: &ThreadParking,
+    signals: u32,
+) -> (Tally, u32)
+    requires { 1 < parking.now }
+{
+    join(
+        rt,
+        || -> Tally
+            requires { 1 < parking.now }
+        { answer_all(rt, parking, signals) },
+        || -> u32
+            requires { 1 < parking.now }
+        { send_all(rt, parking, signals) },
+    )
+}
+
+#[test]
+fn each_signal_is_answered_once_among_900_as_deadlines_pass(rt: HostRuntime) {
+    let parking = ThreadParking::open(&rt, rt.alloc(), 2).expect(&rt, "memory");
+    let (tally, answered) = storm(&rt, &parking, 900);
+    assert_eq!(rt;
+        (tally.permits, tally.interrupts, answered),
+        (600, 300, 900)
+    );
+    assert!(rt; 0 < tally.deadlines);
+    assert_eq!(rt; parking.park(&rt, 0, Some(0), true), Woke::Deadline);
+    assert_eq!(rt; parking.park(&rt, 1, Some(0), true), Woke::Deadline);
+}

@@ -1,0 +1,231 @@
+//! Tokens that add entries under the lock, by turns and in threads.
+ghost use Rattle.std.specs.Prelude.{◌≡◌, ◌+◌, ◌<◌, true};
+ghost use Rattle.history.specs.declared.point.Point.{Point};
+ghost use Rattle.word_lock.specs.Ticket.{opening_tickets};
+ghost use Rattle.word_lock.specs.Ready.{IsReady};
+
+use crate::word_locks::notes::{Notes, got};
+use std::process::Abort;
+use std::sync::Wait;
+use std::thread::{Threads, join, sleep};
+use std::time::{Clock, CpuClock, Duration};
+use word_lock::{Token, WordLock};
+
+/// The last of the tokens that `open` gave.
+pub fn last(lock: &WordLock<Notes>, tokens: &mut Vec<Token>, left: u16) -> Token
+    requires few { left < 100 }
+    requires tokens { (p : Point) × (tokens.old.items ≡ opening_tickets lock.now p 0 (left + 1)) }
+    ensures rest { (p : Point) × (tokens.new.items ≡ opening_tickets lock.now p 0 left) }
+    ensures last { IsReady lock.now left result }
+{
+    match tokens.pop() {
+        Some(token) => token,
+        None => unreachable!(),
+    }
+}
+
+/// What a thread does: so many times it waits `before` milliseconds, and has the lock for `within`.
+#[derive(Clone, Copy)]
+struct Turns {
+    count: u32,
+    before: u64,
+    within: u64,
+}
+
+fn wait_for<R: Clock>(rt: &R, milliseconds: u64) {
+    if 0 < milliseconds {
+        sleep(rt, Duration::from_millis(milliseconds));
+    }
+}
+
+/// Adds an entry, and says whether there was memory for it.
+fn add<R: Wait + Clock>(
+    rt: &R,
+    lock: &WordLock<Notes>,
+    token: &mut Token,
+    seat: u16,
+    turns: Turns,
+) -> bool
+    requires { IsReady lock.now seat token.old }
+    ensures { IsReady lock.now seat token.new }
+{
+    wait_for(rt, turns.before);
+    let mut held = lock.lock(rt, token);
+    wait_for(rt, turns.within);
+    let added = held.value.add(got(seat));
+    lock.unlock(token, held);
+    added.is_ok()
+}
+
+fn add_all<R: Abort + Wait + Clock>(
+    rt: &R,
+    lock: &WordLock<Notes>,
+    token: Token,
+    seat: u16,
+    turns: Turns,
+) -> Token
+    requires { IsReady lock.now seat token }
+    ensures { IsReady lock.now seat result }
+{
+    let mut token = token;
+    for _ in 0..turns.count {
+        assert!(rt; add(rt, lock, &mut token, seat, turns), "memory");
+    }
+    token
+}
+
+/// How many entries the seat `of` has, if nobody has the value.
+pub fn count_now(lock: &WordLock<Notes>, token: &mut Token, seat: u16, of: u16) -> Option<usize>
+    requires { IsReady lock.now seat token.old }
+    ensures { IsReady lock.now seat token.new }
+{
+    let held = lock.lock_now(token)?;
+    let count = held.value.count_of(of);
+    lock.unlock(token, held);
+    Some(count)
+}
+
+/// Whether one token finds the value out while the other, whose seat is 0, adds an entry.
+pub fn is_refused_meanwhile<R: Wait>(
+    rt: &R,
+    lock: &WordLock<Notes>,
+    zero: &mut Token,
+    one: &mut Token,
+) -> bool
+    requires zero { IsReady lock.now 0 zero.old }
+    requires one { IsReady lock.now 1 one.old }
+    ensures zero { IsReady lock.now 0 zero.new }
+    ensures one { IsReady lock.now 1 one.new }
+{
+    let mut held = lock.lock(rt, zero);
+    let holds = !zero.is_free();
+    let count = count_now(lock, one, 1, 0);
+    let added = held.value.add(got(0));
+    lock.unlock(zero, held);
+    holds && zero.is_free() && count.is_none() && added.is_ok()
+}
+
+/// Two threads add entries, and their tokens are joined.
+fn two_add<R: Abort + Threads + Wait + Clock + Sync>(
+    rt: &R,
+    lock: &WordLock<Notes>,
+    a: Token,
+    b: Token,
+    turns: (Turns, Turns),
+) -> Token
+    requires one { IsReady lock.now 0 a }
+    requires two { IsReady lock.now 1 b }
+    ensures { (result.lock ≡ lock.now) × (result.free ≡ true) }
+{
+    let (first, second) = turns;
+    let (x, y) = join(
+        rt,
+        move || -> Token
+            requires { IsReady lock.now 0 a }
+            ensures { IsReady lock.entry.now 0 result }
+        { add_all(rt, lock, a, 0, first) },
+        move || -> Token
+            requires { IsReady lock.now 1 b }
+            ensures { IsReady lock.entry.now 1 result }
+        { add_all(rt, lock, b, 1, second) },
+    );
+    lock.join(x, y)
+}
+
+const MANY: Turns = Turns {
+    count: 1000,
+    before: 0,
+    within: 0,
+};
+
+/// What two threads leave behind that add entries under a lock.
+fn added<R: Abort + Threads + Wait + Clock + Sync + AllocGlobal>(
+    rt: &R,
+    first: Turns,
+    second: Turns,
+) -> Notes {
+    let notes = Notes::with_room(rt.alloc(), 0).expect(rt, "memory");
+    let Ok((lock, mut tokens)) = WordLock::open(rt.alloc(), notes, 2) else {
+        panic!(rt; "memory")
+    };
+    let b = last(&lock, &mut tokens, 1);
+    let a = last(&lock, &mut tokens, 0);
+    let token = two_add(rt, &lock, a, b, (first, second));
+    lock.close(rt, token)
+}
+
+#[test]
+fn two_threads_add_1000_entries_each(rt: HostRuntime) {
+    let notes = added(&rt, MANY, MANY);
+    assert_eq!(rt; notes.list.len(), 2000);
+    assert_eq!(rt; (notes.count_of(0), notes.count_of(1)), (1000, 1000));
+}
+
+/// One has the lock for so many milliseconds, and the other comes meanwhile.
+const HOLDS: Turns = Turns {
+    count: 1,
+    before: 0,
+    within: 600,
+};
+
+const COMES: Turns = Turns {
+    count: 1,
+    before: 50,
+    within: 0,
+};
+
+/// So much of a processor's time the two threads use at most, in milliseconds.
+const USED: u64 = 60;
+
+// The second thread sleeps, and is woken. One that spins uses the processor all the while.
+#[test]
+fn one_who_sleeps_is_woken(rt: HostRuntime) {
+    let before = rt.process_cpu_time().expect(&rt, "a clock");
+    let notes = added(&rt, HOLDS, COMES);
+    let used = rt
+        .process_cpu_time()
+        .expect(&rt, "a clock")
+        .saturating_sub(before);
+    assert_eq!(rt; (notes.count_of(0), notes.count_of(1)), (1, 1));
+    assert!(rt; used < Duration::from_millis(USED), "{used:?}");
+}
+
+#[test]
+fn tokens_take_turns_meet_and_join(rt: HostRuntime) {
+    let notes = Notes::with_room(rt.alloc(), 2).expect(&rt, "memory");
+    let Ok((lock, mut tokens)) = WordLock::open(rt.alloc(), notes, 2) else {
+        panic!(rt; "memory")
+    };
+    let mut one = last(&lock, &mut tokens, 1);
+    let mut zero = last(&lock, &mut tokens, 0);
+    assert!(rt; is_refused_meanwhile(&rt, &lock, &mut zero, &mut one));
+    assert_eq!(rt; count_now(&lock, &mut one, 1, 0), Some(1));
+    let (mut zero, mut one) = lock.meet(zero, one);
+    assert!(rt; add(&rt, &lock, &mut one, 1, MANY));
+    assert_eq!(rt; count_now(&lock, &mut zero, 0, 1), Some(1));
+    let token = lock.join(zero, one);
+    let notes = lock.close(&rt, token);
+    assert_eq!(rt; (notes.count_of(0), notes.count_of(1)), (1, 1));
+}
+
+/// Opens a lock, which has a token for each seat.
+fn open_for<R: Abort + AllocGlobal>(rt: &R, seats: u16) {
+    if seats == 0 {
+        return;
+    }
+    let notes = Notes::with_room(rt.alloc(), 0).expect(rt, "memory");
+    let Ok((_lock, tokens)) = WordLock::open(rt.alloc(), notes, seats) else {
+        panic!(rt; "no memory for {seats}")
+    };
+    assert_eq!(rt; tokens.len(), usize::from(seats));
+}
+
+/// Each number that there are seats for, and the greatest.
+#[test]
+fn a_lock_has_a_token_for_each_seat(rt: HostRuntime) {
+    for seats in 1..=256 {
+        open_for(&rt, seats);
+    }
+    open_for(&rt, 1000);
+    open_for(&rt, 65_535);
+}

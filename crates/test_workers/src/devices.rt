@@ -1,0 +1,197 @@
+//! Runs from bytes to bytes: devices that fail, and memory that is refused.
+
+use crate::runs::count_of;
+use run_text::RunText;
+use script::read_script;
+use std::process::Abort;
+use std::sync::Wait;
+use std::thread::Threads;
+use std::time::Clock;
+use streams::device::Device;
+use streams::memory_sink::MemorySink;
+use streams::memory_source::MemorySource;
+use streams::stream_fault::StreamFault;
+use tasks::fault::Fault;
+use tasks::run_script::run_script;
+use test_support::memory::Memory;
+use workers::{OpenGate, RunFault, run_threads};
+
+/// The calls of one thread at an object of each kind, two of which aren't recorded. Each object but the last
+/// is trimmed.
+const SCRIPT: &str = "{\"objects\":[[\"a\",\"lock fair seats 1 conditions 1 cap 16\"],\
+    [\"b\",\"semaphore nonfair seats 1 permits 2 cap 16\"],[\"c\",\"latch seats 1 count 3 cap 16\"],\
+    [\"d\",\"rw nonfair seats 1 conditions 0 cap 16\"]],\"threads\":[{\"repeat\":1,\
+    \"calls\":[\"a acquire x 1\",\"a acquire x 1\",\"a trim\",\"a give x 1\",\"b acquire s 1\",\
+    \"b give s 5\",\"b trim\",\"b drain\",\"a give x 2\",\"c give s 1\",\"c trim\",\"c trim\",\"d trim\",\
+    \"d drain\",\"d acquire s 1\"]}]}";
+
+/// The run text of that script.
+const WRITTEN: &str = "object a\naqs-history 2 lock fair seats 1 conditions 1 cap 16\n\
+    base 2\nseat 0 calls 2 x 2 s 0\n2 0 gave x 1\nend 3 3\n\
+    legal\nbase 2\nentries 3\ncalls 3\nholds x 1 s 0 line 0 sleepers 0\nshares 3\n\
+    object b\naqs-history 2 semaphore nonfair seats 1 permits 2 cap 16\n\
+    base 2 unheld 4\nseat 0 calls 2 x 0 s 0\n2 0 drained s 6\nend 3 3\n\
+    legal\nbase 2\nentries 3\ncalls 3\nheld 6 free 0 created 2 unheld 4 line 0\nshares 3\n\
+    object c\naqs-history 2 latch seats 1 count 3 cap 16\n\
+    base 1 count 2\nseat 0 calls 1 x 0 s 0\nend 1 1\n\
+    legal\nbase 1\nentries 1\ncalls 1\ncount 2 line 0\nshares 1\n\
+    object d\naqs-history 1 rw nonfair seats 1 conditions 0 cap 16\n0 0 got s 1\nend 1 1\n\
+    legal\nentries 1\ncalls 1\nholds x 0 s 1 line 0 sleepers 0\nshares 1\nunrecorded 2\n";
+
+/// Places for more than is ever written.
+const PLACES: usize = 4096;
+
+/// So many bytes go through a device at once: one.
+const PIECE: usize = 1;
+
+/// More reads and writes than there are.
+const MOST: u64 = 2000;
+
+/// Runs the script over devices whose reads or writes of these numbers fail. How it ended; what it wrote is
+/// left.
+fn run_over<R: Abort + Threads + Wait + Clock + AllocGlobal + Sync>(
+    rt: &R,
+    failing_read: Option<u64>,
+    failing_write: Option<u64>,
+    written: &mut Vec<u8>,
+) -> Result<u8, Fault> {
+    let bytes = Vec::from_slice(rt.alloc(), SCRIPT.as_bytes()).expect(rt, "memory");
+    let mut source = MemorySource::new(bytes, PIECE, failing_read);
+    let sink = MemorySink::with_places(rt.alloc(), PLACES, PIECE, failing_write);
+    let mut sink = sink.expect(rt, "memory");
+    let ended = run_script(rt, &mut source, &mut sink);
+    written.clear();
+    written.extend_from_slice(sink.bytes()).expect(rt, "memory");
+    ended
+}
+
+/// Each read of the script fails in turn; then nothing is written.
+#[test]
+fn a_failed_read_is_told(rt: HostRuntime) {
+    let mut written = Vec::new(rt.alloc());
+    for number in 0..MOST {
+        let ended = run_over(&rt, Some(number), None, &mut written);
+        if ended == Ok(0) {
+            assert!(rt; SCRIPT.len() as u64 <= number && written.as_slice() == WRITTEN.as_bytes());
+            return;
+        }
+        assert!(rt; ended == Err(Fault::Stream(StreamFault::ReadFailed)));
+        assert!(rt; written.is_empty());
+    }
+    panic!(rt; "each read failed")
+}
+
+/// Each write of a run text fails in turn; then a front of the text was written.
+#[test]
+fn a_failed_write_is_told(rt: HostRuntime) {
+    let mut written = Vec::new(rt.alloc());
+    for number in 0..MOST {
+        let ended = run_over(&rt, None, Some(number), &mut written);
+        if ended == Ok(0) {
+            assert!(rt; WRITTEN.len() as u64 <= number && written.as_slice() == WRITTEN.as_bytes());
+            return;
+        }
+        assert!(rt; ended == Err(Fault::Stream(StreamFault::WriteFailed)));
+        assert!(rt; WRITTEN.as_bytes().starts_with(&written));
+    }
+    panic!(rt; "each write failed")
+}
+
+/// Whether the text of a run finds its memory in so many pieces of 256 bytes. It is written with no memory
+/// left.
+fn is_spelt<R: Abort + Threads + Wait + Clock + AllocGlobal + Sync>(rt: &R, pieces: usize) -> bool {
+    let script = read_script(rt.alloc(), SCRIPT.as_bytes()).expect(rt, "a script");
+    let report = run_threads(rt, rt.alloc(), &script, &OpenGate).expect(rt, "a run");
+    let sink = MemorySink::with_places(rt.alloc(), PLACES, PIECE, None);
+    let mut sink = sink.expect(rt, "memory");
+    let mut memory = Memory::take_all(rt.alloc(), 256).expect(rt, "memory");
+    memory.give_pieces(pieces);
+    match RunText::of(rt.alloc(), &script, report) {
+        Ok(text) => {
+            memory.take_rest().expect(rt, "memory");
+            text.write(&mut sink).expect(rt, "a device");
+            assert!(rt; sink.bytes() == WRITTEN.as_bytes());
+            true
+        }
+        Err(fault) => {
+            assert!(rt; fault == StreamFault::Memory);
+            false
+        }
+    }
+}
+
+/// How many pieces are given back in a turn: each number below 32, and each from 240 on. From one to the other
+/// a run lacks memory for its lines alone, whose buffer takes 256. The pieces are adjacent, so more of them
+/// make a larger request possible.
+fn pieces_in(turn: usize) -> usize {
+    if turn < 32 {
+        turn
+    } else {
+        turn.saturating_add(208)
+    }
+}
+
+/// Runs the script over bytes that take no memory of their own. How it ended; what it wrote is left.
+fn run_within<R: Threads + Wait + Clock + AllocGlobal + Sync>(
+    rt: &R,
+    written: &mut Vec<u8>,
+) -> Result<u8, Fault> {
+    written.clear();
+    let mut source = Device::new(SCRIPT.as_bytes());
+    run_script(rt, &mut source, &mut Device::new(&mut *written))
+}
+
+#[test]
+fn the_text_of_a_run_lacks_memory(rt: HostRuntime) {
+    // The stack grows to its depth first: where it finds no memory the system ends the program.
+    let mut written = Vec::with_capacity(rt.alloc(), PLACES).expect(&rt, "memory");
+    assert!(rt; run_within(&rt, &mut written) == Ok(0));
+    for turn in 0..1000 {
+        let pieces = pieces_in(turn);
+        if is_spelt(&rt, pieces) {
+            assert!(rt; 256 <= pieces, "{pieces}");
+            return;
+        }
+    }
+    panic!(rt; "never spelt")
+}
+
+/// Whether a run is written in so many pieces of memory, each of 256 bytes. If it isn't, it lacked memory, and
+/// wrote nothing. Its thread lacks memory for each entry, as the module `memory` tells.
+fn is_run<R: Abort + Threads + Wait + Clock + AllocGlobal + Sync>(
+    rt: &R,
+    written: &mut Vec<u8>,
+    pieces: usize,
+) -> bool {
+    let mut memory = Memory::take_all(rt.alloc(), 256).expect(rt, "memory");
+    memory.give_pieces(pieces);
+    match run_within(rt, written) {
+        Ok(status) => {
+            assert!(rt; status == 0 && written.ends_with(b"unrecorded 11\n"));
+            assert_eq!(rt; count_of(written, "entries 0\ncalls 0\n"), 4);
+            true
+        }
+        Err(fault) => {
+            let is_want = fault.status() == 5 || fault == Fault::Run(RunFault::NotStarted(0));
+            assert!(rt; is_want && written.is_empty(), "{pieces}");
+            false
+        }
+    }
+}
+
+/// Each run has more pieces than the one before. With all memory again it is whole.
+#[test]
+fn a_whole_run_lacks_memory(rt: HostRuntime) {
+    let mut written = Vec::with_capacity(rt.alloc(), PLACES).expect(&rt, "memory");
+    assert!(rt; run_within(&rt, &mut written) == Ok(0));
+    for turn in 0..1000 {
+        let pieces = pieces_in(turn);
+        if is_run(&rt, &mut written, pieces) {
+            assert!(rt; 256 <= pieces, "{pieces}");
+            assert!(rt; run_within(&rt, &mut written) == Ok(0));
+            assert!(rt; written.as_slice() == WRITTEN.as_bytes());
+            return;
+        }
+    }
+    panic!(rt; "never run")
+}

@@ -1,0 +1,79 @@
+//! Runs of scripts, and what is written of them.
+
+ghost use Rattle.std.specs.Prelude.{◌<◌};
+
+use run_text::RunText;
+use script::read_script;
+use std::process::Abort;
+use std::sync::Wait;
+use std::thread::Threads;
+use std::time::Clock;
+use streams::device::Device;
+use workers::{Gate, OpenGate, RunFault, run_threads};
+
+/// Runs the script of a text, and writes the run text in place of what was there. Says why there is none.
+pub fn run<G: Gate + Sync, R: Abort + Threads + Wait + Clock + AllocGlobal + Sync>(
+    rt: &R,
+    text: &str,
+    gate: &G,
+    written: &mut Vec<u8>,
+) -> Option<RunFault> {
+    written.clear();
+    let script = read_script(rt.alloc(), text.as_bytes()).expect(rt, "a script");
+    let report = match run_threads(rt, rt.alloc(), &script, gate) {
+        Ok(report) => report,
+        Err(fault) => return Some(fault),
+    };
+    let text = RunText::of(rt.alloc(), &script, report).expect(rt, "memory");
+    text.write(&mut Device::new(&mut *written))
+        .expect(rt, "a device");
+    None
+}
+
+/// How often a part stands in a text.
+pub fn count_of(text: &[u8], part: &str) -> usize {
+    (0..text.len())
+        .filter(|at| text[*at..].starts_with(part.as_bytes()))
+        .count()
+}
+
+/// So many texts in a list. Between the two halves of each stands its number, below `end` by turns.
+pub fn list_of<R: Abort + AllocGlobal>(rt: &R, halves: (&str, &str), count: u32, end: u32) -> String
+    requires { 0 < end }
+{
+    let (before, behind) = halves;
+    let mut list = String::new(rt.alloc());
+    for number in 0..count {
+        let comma = if number == 0 { "" } else { "," };
+        let number = number % end;
+        let item = format!(in rt.alloc(); "{comma}{before}{number}{behind}").expect(rt, "memory");
+        list.push_str(&item).expect(rt, "memory");
+    }
+    list
+}
+
+/// A script of these objects and threads.
+pub fn script_of<R: Abort + AllocGlobal>(rt: &R, objects: &str, threads: &str) -> String {
+    format!(in rt.alloc(); "{{\"objects\":[{objects}],\"threads\":[{threads}]}}").expect(
+        rt, "memory",
+    )
+}
+
+/// 256 threads that each try one of 64 semaphores of two permits: as many as there may be.
+#[test]
+fn as_many_threads_and_objects_as_there_may_be(rt: HostRuntime) {
+    let semaphore = (
+        "[\"",
+        "\",\"semaphore nonfair seats 256 permits 2 cap 64\"]",
+    );
+    let objects = list_of(&rt, semaphore, 64, 64);
+    let tries = ("{\"repeat\":1,\"calls\":[\"", " try s 1\"]}");
+    let threads = list_of(&rt, tries, 256, 64);
+    let text = script_of(&rt, &objects, &threads);
+    let mut written = Vec::new(rt.alloc());
+    assert!(rt; run(&rt, &text, &OpenGate, &mut written).is_none());
+    let part = "legal\nentries 4\ncalls 4\nheld 2 free 0 created 2 unheld 0 line 0\nshares 4\n";
+    assert_eq!(rt; count_of(&written, part), 64);
+    assert_eq!(rt; count_of(&written, "object "), 64);
+    assert!(rt; written.ends_with(b"unrecorded 0\n"));
+}
