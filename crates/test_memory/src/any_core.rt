@@ -1,12 +1,10 @@
-//! A core of any object, whose calls test what the core's own calls ask of their caller. What it answers and
-//! tells is spelt as bytes and counted as numbers, to compare.
+//! A core of any object, whose calls test what the core's own calls ask of their caller. What it tells of
+//! itself is one number, to compare.
 
 ghost use Rattle.std.specs.Prelude.{◌<◌, All, IsTrue, ⊤};
-ghost use Rattle.driver.specs.Replay.{HasLine};
 ghost use Rattle.frame.specs.Acts.{IsOfSeats};
 
 use any_object::AnyHooks;
-use driver::line_writer::LineWriter;
 use frame::acts::{Act, Done, run_acts};
 use frame::machine::Core;
 use frame::run::run;
@@ -14,9 +12,8 @@ use history::entry::Mode;
 use history::fault::Fault;
 use history::header::Header;
 use history::step::{Answer, Step};
-use std::alloc::{AllocError, Global};
+use std::alloc::Global;
 use std::marker::Model;
-use streams::device::Device;
 
 /// The core of any object.
 type Inner = Core<AnyHooks>;
@@ -112,47 +109,24 @@ impl AnyCore {
         }
     }
 
-    /// Appends the lines of what the steps are answered in one run. The fault is `OutOfPhase` if a step is of
-    /// no seat, and else that of the list of answers.
+    /// The answers to the steps; `OutOfPhase` if one is of a seat that the core doesn't have.
     pub fn run(
         &mut self,
         alloc: Global,
         steps: &[(u16, Step)],
-        lines: &mut Lines,
-    ) -> Result<(), Fault> {
+    ) -> Result<Vec<Result<Answer, Fault>>, Fault> {
         if !are_seated(self.core.header().seats, steps) {
             return Err(Fault::OutOfPhase);
         }
-        match run(alloc, &mut self.core, steps) {
-            Ok(answers) => {
-                for (step, answer) in steps.iter().zip(&answers) {
-                    lines.put_answer(step.0, answer);
-                }
-                Ok(())
-            }
-            Err(fault) => Err(fault),
-        }
+        run(alloc, &mut self.core, steps)
     }
 
     /// The same of steps and trims.
-    pub fn run_acts(
-        &mut self,
-        alloc: Global,
-        acts: &[Act],
-        lines: &mut Lines,
-    ) -> Result<(), Fault> {
+    pub fn run_acts(&mut self, alloc: Global, acts: &[Act]) -> Result<Vec<Outcome>, Fault> {
         if !are_of_seats(self.core.header().seats, acts) {
             return Err(Fault::OutOfPhase);
         }
-        match run_acts(alloc, &mut self.core, acts) {
-            Ok(outcomes) => {
-                for (act, outcome) in acts.iter().zip(&outcomes) {
-                    lines.put(*act, outcome);
-                }
-                Ok(())
-            }
-            Err(fault) => Err(fault),
-        }
+        run_acts(alloc, &mut self.core, acts)
     }
 
     pub fn header(&self) -> &Header {
@@ -190,101 +164,4 @@ impl AnyCore {
         }
         sum
     }
-}
-
-/// Whether an answer can be spelt.
-fn has_line(answer: &Result<Answer, Fault>) -> bool
-    ensures { IsTrue result → HasLine answer.now }
-{
-    match answer {
-        Ok(Answer::Recorded(entry, _)) => entry.is_spelt(),
-        Ok(Answer::Sleep) | Err(_) => true,
-    }
-}
-
-/// The lines of a replay text. All memory for them is reserved first.
-#[derive(Drop)]
-pub struct Lines {
-    writer: LineWriter,
-    bytes: Vec<u8>,
-    number: u64,
-    are_all: bool,
-}
-
-impl Lines {
-    /// The first line, and no answers.
-    pub fn open(alloc: Global, first: &[u8]) -> Result<Lines, AllocError> {
-        let bytes = Vec::with_capacity(alloc, 65_536)?;
-        Lines::over(alloc, first, bytes)
-    }
-
-    fn over(alloc: Global, first: &[u8], bytes: Vec<u8>) -> Result<Lines, AllocError> {
-        match LineWriter::open(alloc, first) {
-            Ok(writer) => Ok(Lines {
-                writer,
-                bytes,
-                number: 0,
-                are_all: true,
-            }),
-            Err(AllocError) => Err(AllocError),
-        }
-    }
-
-    fn put_answer(&mut self, seat: u16, answer: &Result<Answer, Fault>) {
-        if !has_line(answer) {
-            self.are_all = false;
-            return;
-        }
-        let sink = &mut Device::new(&mut self.bytes);
-        let is_put = self
-            .writer
-            .put_answer(sink, self.number, seat, answer)
-            .is_ok();
-        self.are_all = self.are_all && is_put;
-        self.number = self
-            .number
-            .saturating_add(u64::from(matches!(answer, Ok(Answer::Recorded(_, _)))));
-    }
-
-    fn put_trim(&mut self, folded: &Result<u64, Fault>) {
-        let is_put = self
-            .writer
-            .put_trim(&mut Device::new(&mut self.bytes), folded)
-            .is_ok();
-        self.are_all = self.are_all && is_put;
-    }
-
-    /// Adds the line of what an act is answered.
-    pub fn put(&mut self, act: Act, outcome: &Outcome) {
-        match (act, *outcome) {
-            (Act::Do(seat, _), Ok(Done::Answered(answer))) => self.put_answer(seat, &Ok(answer)),
-            (Act::Do(seat, _), Err(fault)) => self.put_answer(seat, &Err(fault)),
-            (Act::Trim, Ok(Done::Trimmed(count))) => self.put_trim(&Ok(count)),
-            (Act::Trim, Err(fault)) => self.put_trim(&Err(fault)),
-            _ => self.are_all = false,
-        }
-    }
-
-    /// The whole text that ends with so many entries and ended calls, if all lines were put.
-    pub fn end(&mut self, entries: u64, calls: u64) -> &[u8] {
-        let sink = &mut Device::new(&mut self.bytes);
-        let is_put = self.writer.put_counts(sink, entries, calls).is_ok();
-        let is_flushed = self.writer.flush(&mut Device::new(&mut self.bytes)).is_ok();
-        if self.are_all && is_put && is_flushed {
-            &self.bytes
-        } else {
-            b"not all"
-        }
-    }
-}
-
-/// The steps of a list.
-pub fn steps_of(alloc: Global, acts: &[Act]) -> Result<Vec<(u16, Step)>, AllocError> {
-    let mut steps = Vec::with_capacity(alloc, acts.len())?;
-    for act in acts {
-        if let Act::Do(seat, step) = act {
-            steps.push((*seat, *step))?;
-        }
-    }
-    Ok(steps)
 }

@@ -1,7 +1,7 @@
 //! Cores where next to no memory is free: no step, trim or observer takes any, but for the pages of a
 //! history. And cores of all sizes, with memory.
 
-use crate::any_core::{AnyCore, Lines, Outcome};
+use crate::any_core::{AnyCore, Outcome};
 use frame::acts::{Act, Done};
 use history::entry::{Mode, Word};
 use history::fault::Fault;
@@ -287,12 +287,10 @@ fn a_long_run_and_a_long_history_find_memory(rt: HostRuntime) -> Result<(), Fail
     let mut acts = Vec::new(rt.alloc());
     put_pairs(&mut acts)?;
     let mut core = AnyCore::open(rt.alloc(), &LONG)?;
-    let mut lines = Lines::open(rt.alloc(), b"")?;
-    let is_run = core.run_acts(rt.alloc(), &acts, &mut lines).is_ok();
-    assert!(rt; is_run && core.entries() == 1_200_000);
-    let (entries, calls) = (core.entries(), core.calls());
-    let text = lines.end(entries, calls);
-    assert!(rt; text.ends_with(b"1199999 15 gave x 1\nend 1200000 1200000\n"));
+    let answered = core
+        .run_acts(rt.alloc(), &acts)
+        .map(|outcomes| outcomes.len());
+    assert!(rt; answered == Ok(1_200_000) && core.entries() == 1_200_000);
     for act in &acts {
         let _outcome = core.act(*act);
     }

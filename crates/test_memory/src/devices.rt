@@ -2,9 +2,10 @@
 
 ghost use Rattle.std.specs.Prelude.{◌≤◌, IfOk};
 
-use crate::streamed::{Came, Stream, Ways, between, streamed, through};
-use crate::texts::{STEPS, THROUGH, put_pairs};
-use std::alloc::Global;
+use crate::streamed::{Came, Stream, Ways, streamed, through};
+use crate::texts::{STEPS, THROUGH, put_pairs, put_times};
+use line_text::fault::TextFault;
+use std::alloc::{AllocError, Global};
 use std::io;
 use std::process::Abort;
 use std::test::Fail;
@@ -251,29 +252,35 @@ fn fail_first(rt: &(impl Abort + AllocGlobal), first: First, reads: bool) {
     assert!(rt; writer.write(b"line").is_err() && Sink::has_failed(&writer));
 }
 
-/// A stream over such devices tells the failure.
-#[test]
-fn a_stream_tells_the_error_of_its_reader_or_its_writer(rt: HostRuntime) -> Result<(), Fail> {
-    let mut written = Vec::new(rt.alloc());
-    let fails = First::Fails(io::ErrorKind::Interrupted);
-    let reader = &mut Device::new(Calls {
-        first: fails,
-        calls: 0,
-    });
-    let read = between(
-        rt.alloc(),
+/// A text whose second line is so long, how it ends, and its fault.
+fn tells_long_line(
+    alloc: Global,
+    length: u32,
+    ending: &str,
+    fault: TextFault,
+) -> Result<bool, AllocError> {
+    let mut text = String::from_str(alloc, "aqs-steps 1 lock fair seats 2 conditions 0 cap 64\n")?;
+    put_times(&mut text, "7", length)?;
+    text.push_str(ending)?;
+    let mut out = Vec::new(alloc);
+    let came = streamed(
+        alloc,
         Stream::Replay,
-        reader,
-        &mut Device::new(&mut written),
+        text.as_bytes(),
+        in_pieces(1_000_000),
+        &mut out,
     );
-    assert!(rt; read == READ_FAILED && written.is_empty());
-    let writer = &mut Device::new(Calls {
-        first: fails,
-        calls: 0,
-    });
-    let answer = between(rt.alloc(), Stream::Replay, &mut Device::new(STEPS), writer);
-    assert!(rt; answer == WRITE_FAILED);
-    Ok(())
+    Ok(came == Err(StreamFault::Text(fault)) && out.is_empty())
+}
+
+#[test]
+fn a_line_longer_than_a_read_is_a_bad_line(rt: HostRuntime) {
+    for length in [65_000, 65_486, 65_536, 200_000, 1_100_000] {
+        let ending = "\n0 give x 1\nend 2\n";
+        let ended = tells_long_line(rt.alloc(), length, ending, TextFault::BadLine(2));
+        let cut = tells_long_line(rt.alloc(), length, "", TextFault::CutShort);
+        assert!(rt; ended == Ok(true) && cut == Ok(true), "{length}");
+    }
 }
 
 /// As much is moved by a call as the reader gives and the writer takes.

@@ -2,12 +2,12 @@
 
 use crate::played::{Play, perform};
 use crate::streamed::Stream;
-use crate::texts::{ON_COUNT, ON_READER, ON_SLEEPER, SCRIPT, STEPS, TRIMMED, WRONG};
+use crate::texts::{ON_COUNT, ON_READER, ON_SLEEPER, SCRIPT, STEPS, TRIMMED, WRONG, put_history};
 use history::header::{Header, Object, Policy};
 use std::process::Abort;
 use std::test::Fail;
 use std::time::Clock;
-use test_support::examples::{situations, strict_situations};
+use test_support::examples::{Example, situations, strict_situations};
 use test_support::memory::Memory;
 
 /// More bytes than any answer here has.
@@ -22,11 +22,11 @@ const ENOUGH: usize = 400;
 /// After so many times a heap has kept all blocks back that it will.
 const FIRST_TIMES: u32 = 16;
 
-/// If the smallest block were kept each time, three pieces and more would be missed.
-const MORE_TIMES: u32 = 200;
+/// If the smallest block were kept each time, four pieces and more would be missed.
+const MORE_TIMES: u32 = 300;
 
 /// Blocks that the heap keeps back are cut from other pieces at times.
-const CUT: usize = 1;
+const CUT: usize = 2;
 
 /// Whether a play comes so each time.
 fn comes_so(
@@ -67,38 +67,54 @@ fn keeps_none(
     memory.take_pieces();
 }
 
-/// The texts of a situation, and the core of its header.
+/// The texts of a situation through each stream.
 fn situation_keeps_none(
     rt: &(impl Abort + AllocGlobal + Clock),
     memory: &mut Memory,
+    example: &Example,
+    history: &mut Vec<u8>,
     out: &mut Vec<u8>,
-    texts: (&str, &str),
-    name: &str,
 ) {
-    let (steps, history) = (texts.0.as_bytes(), texts.1.as_bytes());
-    for stream in [Stream::Replay, Stream::History] {
-        keeps_none(rt, memory, Play::Through(stream, steps), true, out, name);
+    history.clear();
+    let is_put = put_history(history, example.replay);
+    assert!(rt; is_put.is_ok());
+    for what in [
+        Play::Through(Stream::Replay, example.steps.as_bytes()),
+        Play::Through(Stream::History, example.steps.as_bytes()),
+        Play::Through(Stream::Audit, history),
+        Play::Through(Stream::Draw, history),
+        Play::Again(history),
+    ] {
+        keeps_none(rt, memory, what, true, out, example.name);
     }
-    for stream in [Stream::Audit, Stream::Draw] {
-        keeps_none(rt, memory, Play::Through(stream, history), true, out, name);
-    }
-    keeps_none(rt, memory, Play::Again(history), true, out, name);
 }
 
 #[test]
 fn situations_keep_no_memory(rt: HostRuntime) -> Result<(), Fail> {
+    let mut history = Vec::with_capacity(rt.alloc(), AMPLE)?;
     let mut out = Vec::with_capacity(rt.alloc(), AMPLE)?;
     let mut memory = Memory::take_all(rt.alloc(), PIECE)?;
     for examples in [situations(), strict_situations()] {
         for example in examples {
-            let texts = (example.steps, example.history);
-            situation_keeps_none(&rt, &mut memory, &mut out, texts, example.name);
+            situation_keeps_none(&rt, &mut memory, example, &mut history, &mut out);
         }
     }
     Ok(())
 }
 
-const OPENED: [Play; 10] = [
+/// Histories, and whether they are legal.
+const BASED: [(&[u8], bool); 4] = [
+    (ON_SLEEPER, true),
+    (ON_READER, false),
+    (ON_COUNT, true),
+    (WRONG, false),
+];
+
+const OPENED: [Play; 14] = [
+    Play::Steps(STEPS),
+    Play::Script(SCRIPT),
+    Play::Run,
+    Play::RunActs,
     Play::Core(Header {
         object: Object::ReadWrite(Policy::Strict),
         seats: 4,
@@ -123,45 +139,18 @@ fn trims_and_bases_and_openings_keep_no_memory(rt: HostRuntime) -> Result<(), Fa
     let mut memory = Memory::take_all(rt.alloc(), PIECE)?;
     for text in &TRIMMED {
         for stream in [Stream::Replay, Stream::History] {
-            keeps_none(
-                &rt,
-                &mut memory,
-                Play::Through(stream, text),
-                true,
-                &mut out,
-                "trims",
-            );
+            let what = Play::Through(stream, text);
+            keeps_none(&rt, &mut memory, what, true, &mut out, "trims");
         }
     }
-    for (text, legal) in [
-        (ON_SLEEPER, true),
-        (ON_READER, false),
-        (ON_COUNT, true),
-        (WRONG, false),
-    ] {
+    for (text, legal) in BASED {
         for stream in [Stream::Audit, Stream::Draw] {
             let what = Play::Through(stream, text);
             keeps_none(&rt, &mut memory, what, legal, &mut out, "bases");
         }
     }
-    keeps_none(
-        &rt,
-        &mut memory,
-        Play::Steps(STEPS),
-        true,
-        &mut out,
-        "steps",
-    );
-    keeps_none(
-        &rt,
-        &mut memory,
-        Play::Script(SCRIPT.as_bytes()),
-        true,
-        &mut out,
-        "script",
-    );
     for what in OPENED {
-        keeps_none(&rt, &mut memory, what, true, &mut out, "opening");
+        keeps_none(&rt, &mut memory, what, true, &mut out, "lists and openings");
     }
     Ok(())
 }

@@ -13,11 +13,9 @@ mod devices;
 #[cfg(test)]
 mod kept;
 #[cfg(test)]
-mod long_texts;
+mod monitors;
 #[cfg(test)]
 mod played;
-#[cfg(test)]
-mod readers;
 #[cfg(test)]
 mod refused;
 #[cfg(test)]

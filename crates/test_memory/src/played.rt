@@ -10,11 +10,13 @@ use acquire_queue::queue::Queue;
 use condition_queue::waiters::Waiters;
 use deciding::entries::plain;
 use drawing::whole::drawn_of;
+use frame::acts::Act;
 use history::base::Base;
 use history::entries::History;
 use history::entry::{Mode, Word};
 use history::fault::Fault;
 use history::header::{Header, Object, Policy};
+use history::step::Step;
 use history_text::fitting::fits;
 use history_text::{read_text, write_text};
 use line_text::fault::ReadFault;
@@ -44,6 +46,10 @@ pub enum Play<'a> {
     Script(&'a [u8]),
     /// Bars of two entries.
     Bars,
+    /// A core that answers many steps in one run.
+    Run,
+    /// The same as a list of acts.
+    RunActs,
     Core(Header),
     Base(Header),
     /// The hooks of a read-write lock of 256 seats.
@@ -124,6 +130,9 @@ fn scripted(alloc: Global, text: &[u8], out: &mut Vec<u8>) -> Came {
     }
 }
 
+/// So many steps are made in one run.
+const MANY: usize = 500;
+
 const THREE_SEATS: Header = Header {
     object: Object::Lock(Policy::Fair),
     seats: 3,
@@ -137,6 +146,31 @@ fn bars(alloc: Global) -> Came {
     match drawn_of(alloc, THREE_SEATS, None, 0, &[got, gave]) {
         Ok(drawn) => Ok(drawn.bars.len() == 1),
         Err(AllocError) => Err(StreamFault::Memory),
+    }
+}
+
+/// Answers that are right if they are as many as the acts.
+fn counted(answers: Result<usize, Fault>) -> Came {
+    match answers {
+        Ok(count) => Ok(count == MANY),
+        Err(fault) => opened::<()>(Err(fault)),
+    }
+}
+
+/// A core that makes many looks in one run: each is answered a fault, and none takes memory.
+fn look(alloc: Global, by_acts: bool) -> Came {
+    match AnyCore::open(alloc, &THREE_SEATS) {
+        Ok(mut core) if by_acts => {
+            counted(
+                core.run_acts(alloc, &[Act::Do(0, Step::Look); MANY])
+                    .map(|all| all.len()),
+            )
+        }
+        Ok(mut core) => counted(
+            core.run(alloc, &[(0, Step::Look); MANY])
+                .map(|all| all.len()),
+        ),
+        Err(fault) => opened::<()>(Err(fault)),
     }
 }
 
@@ -167,6 +201,8 @@ pub fn perform(rt: &(impl AllocGlobal + Clock), what: Play, out: &mut Vec<u8>) -
     let alloc = rt.alloc();
     match what {
         Play::Bars => bars(alloc),
+        Play::Run => look(alloc, false),
+        Play::RunActs => look(alloc, true),
         Play::Core(header) => opened(AnyCore::open(alloc, &header)),
         Play::Base(header) => opened(Base::open(alloc, &header)),
         Play::Readers => opened(RwHooks::open(alloc, Policy::Fair, 256)),

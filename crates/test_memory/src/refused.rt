@@ -154,6 +154,8 @@ fn cores_and_what_they_stand_on_are_opened_whole_or_not_at_all(
             Row::of(Play::Line, COARSE, 145, 158),
             Row::of(Play::Sleepers, COARSE, 50, 64),
             Row::of(Play::Nodes, COARSE, 34, 44),
+            Row::of(Play::Run, COARSE, 60, 100),
+            Row::of(Play::RunActs, COARSE, 60, 100),
         ],
     )?;
     Ok(())
@@ -208,7 +210,7 @@ fn a_stream_that_lacks_memory_writes_nothing(rt: HostRuntime) -> Result<(), Fail
 #[test]
 fn a_replay_of_many_seats_takes_hardly_more_than_its_tables(rt: HostRuntime) -> Result<(), Fail> {
     for (number, text) in WIDE.iter().enumerate() {
-        let most = if number < 2 || number == 4 { 740 } else { 620 };
+        let most: u32 = if number < 2 || number == 4 { 740 } else { 620 };
         for stream in [Stream::Replay, Stream::History] {
             let what = Play::Through(stream, text);
             try_rows(&rt, &[Row::of(what, COARSE, most.saturating_sub(60), most)])?;
@@ -239,7 +241,7 @@ fn what_is_read_is_read_whole_or_not_at_all(rt: HostRuntime) -> Result<(), Fail>
         &[
             Row::of(Play::Steps(steps.as_bytes()), COARSE, 12, 24),
             Row::of(Play::Bytes(&bytes), COARSE, 440, 530),
-            Row::of(Play::Script(SCRIPT.as_bytes()), FINE, 700, 860),
+            Row::of(Play::Script(SCRIPT), FINE, 700, 860),
             Row::of(Play::Again(HISTORY), 64, 160, 200),
             Row::of(Play::Again(ON_SLEEPER), 64, 185, 230),
         ],

@@ -1,14 +1,14 @@
-//! Memory that is refused to a step, and to the list of answers of a run.
+//! Memory that is refused to a step.
 //!
 //! What a core is to answer is told by one that lacks no memory.
 
-use crate::any_core::{AnyCore, Lines, Outcome, steps_of};
+use crate::any_core::{AnyCore, Outcome};
 use frame::acts::{Act, Done};
 use history::entry::Mode;
 use history::fault::Fault;
 use history::header::{Header, Object, Policy};
 use history::step::{Answer, Step};
-use std::alloc::{AllocError, Global};
+use std::alloc::AllocError;
 use std::process::Abort;
 use std::test::Fail;
 use steps::read_steps;
@@ -20,12 +20,6 @@ const PIECE: usize = 4096;
 
 /// A page and the list of pages take no more pieces.
 const PAGE: u32 = 6;
-
-/// Less than a list of answers takes.
-const LEAST: usize = 256;
-
-/// More pieces than a list of answers takes.
-const MANY: u32 = 64;
 
 /// The places of three pages.
 const MANY_PLACES: u64 = 3072;
@@ -172,118 +166,6 @@ fn a_refused_step_changes_nothing(rt: HostRuntime) -> Result<(), Fail> {
     Ok(())
 }
 
-/// A list of steps, or of acts.
-#[derive(Clone, Copy)]
-enum List<'a> {
-    Steps(&'a [(u16, Step)]),
-    Acts(&'a [Act]),
-}
-
-fn run(core: &mut AnyCore, alloc: Global, list: List, lines: &mut Lines) -> Result<(), Fault> {
-    match list {
-        List::Steps(steps) => core.run(alloc, steps, lines),
-        List::Acts(acts) => core.run_acts(alloc, acts, lines),
-    }
-}
-
-/// How often a list is refused its answers until so many pieces are enough for them; before that nothing is
-/// done.
-fn feed_list(
-    rt: &(impl Abort + AllocGlobal),
-    core: &mut AnyCore,
-    memory: &mut Memory,
-    list: List,
-    lines: &mut Lines,
-) -> u32 {
-    let before = core.told();
-    for refused in 0..MANY {
-        match run(core, rt.alloc(), list, lines) {
-            Ok(()) => return refused,
-            Err(fault) => {
-                let given = memory.give_piece();
-                assert!(rt; given && fault == Fault::OutOfMemory && core.told() == before);
-            }
-        }
-    }
-    u32::MAX
-}
-
-fn starve_list(
-    rt: &(impl Abort + AllocGlobal),
-    core: &mut AnyCore,
-    list: List,
-    lines: &mut Lines,
-) -> Result<u32, AllocError> {
-    let mut memory = Memory::take_all(rt.alloc(), LEAST)?;
-    Ok(feed_list(rt, core, &mut memory, list, lines))
-}
-
-/// A core whose history has a page, and a list that it makes: with all memory, or with none but for the
-/// answers. Each is followed by what it tells.
-fn list_behind(
-    rt: &(impl Abort + AllocGlobal),
-    header: &Header,
-    acts: &[Act],
-    list: List,
-    is_starved: bool,
-    lines: &mut Lines,
-) -> Result<(u32, u64), Fault> {
-    let mut core = AnyCore::open(rt.alloc(), header)?;
-    for act in acts {
-        let _outcome = core.act(*act);
-    }
-    let refused = if is_starved {
-        starve_list(rt, &mut core, list, lines)?
-    } else {
-        run(&mut core, rt.alloc(), list, lines)?;
-        0
-    };
-    Ok((refused, core.told()))
-}
-
-/// A list is answered alike with memory for its answers alone, and takes hardly more pieces than they fill.
-fn try_list(
-    rt: &(impl Abort + AllocGlobal),
-    header: &Header,
-    acts: &[Act],
-    list: List,
-    most: u32,
-) -> Result<(), Fault> {
-    let mut wanted = Lines::open(rt.alloc(), b"")?;
-    let rich = list_behind(rt, header, acts, list, false, &mut wanted)?;
-    let mut lines = Lines::open(rt.alloc(), b"")?;
-    let starved = list_behind(rt, header, acts, list, true, &mut lines)?;
-    assert!(rt; lines.end(0, 0) == wanted.end(0, 0) && starved.1 == rich.1);
-    assert!(rt;
-        1 <= starved.0 && starved.0 <= most,
-        "refused {} times",
-        starved.0
-    );
-    Ok(())
-}
-
-fn try_text(rt: &(impl Abort + AllocGlobal), text: &str) -> Result<(), Fail> {
-    let read = read_steps(rt.alloc(), text.as_bytes())?;
-    let steps = steps_of(rt.alloc(), &read.acts)?;
-    let most = (steps.len() / 4 + 8) as u32;
-    let mut header = read.header.header;
-    header.cap = 1_000_000;
-    try_list(rt, &header, &read.acts, List::Acts(&read.acts), most)?;
-    try_list(rt, &header, &read.acts, List::Steps(&steps), most)?;
-    Ok(())
-}
-
-/// A run that is refused its list of answers makes no step. The list takes no more than its answers do.
-#[test]
-fn a_refused_run_makes_no_step(rt: HostRuntime) -> Result<(), Fail> {
-    for example in situations() {
-        if example.name != "no_steps" {
-            try_text(&rt, example.steps)?;
-        }
-    }
-    Ok(())
-}
-
 const TAKE: Step = Step::Acquire(Mode::X, 1);
 
 const ACTS: [Act; 4] = [Act::Do(0, TAKE), Act::Trim, Act::Do(1, TAKE), Act::Trim];
@@ -295,21 +177,44 @@ const LOCK: Header = Header {
     cap: 64,
 };
 
-const STARVED: &[u8] = b"- 0 OutOfMemory\n- trim 0\n- 1 OutOfMemory\n- trim 0\nend 0 0\n";
+/// Acts once there is memory for the list of their answers. Before that nothing is done.
+fn act_starved(
+    rt: &(impl Abort + AllocGlobal),
+    core: &mut AnyCore,
+    acts: &[Act],
+) -> Result<Vec<Outcome>, Fault> {
+    let before = core.told();
+    let mut memory = Memory::take_all(rt.alloc(), 256)?;
+    for refused in 0..9 {
+        match core.run_acts(rt.alloc(), acts) {
+            Ok(outcomes) => {
+                assert!(rt; 1 <= refused);
+                return Ok(outcomes);
+            }
+            Err(fault) => {
+                let given = memory.give_piece();
+                assert!(rt; given && fault == Fault::OutOfMemory && core.told() == before);
+            }
+        }
+    }
+    Err(Fault::OutOfMemory)
+}
 
-const FED: &[u8] = b"0 0 got x 1\n- trim 1\n1 1 queued x 1\n- trim 1\nend 2 1\n";
+fn has_recorded(outcome: &Outcome) -> bool {
+    matches!(outcome, Ok(Done::Answered(Answer::Recorded(_, _))))
+}
 
 /// With memory for the answers alone no step has a place for its entry, and a trim finds none to fold. With
 /// memory each step is recorded, and folded by the next trim.
 #[test]
 fn acts_go_on_if_memory_was_refused(rt: HostRuntime) -> Result<(), Fail> {
     let mut core = AnyCore::open(rt.alloc(), &LOCK)?;
-    let mut starved = Lines::open(rt.alloc(), b"")?;
-    let refused = starve_list(&rt, &mut core, List::Acts(&ACTS), &mut starved)?;
-    assert!(rt; 1 <= refused && refused <= 8);
-    assert!(rt; starved.end(0, 0) == STARVED);
-    let mut lines = Lines::open(rt.alloc(), b"")?;
-    core.run_acts(rt.alloc(), &ACTS, &mut lines)?;
-    assert!(rt; lines.end(2, 1) == FED);
+    let starved = act_starved(&rt, &mut core, &ACTS)?;
+    let wanted = [Err(Fault::OutOfMemory), Ok(Done::Trimmed(0))];
+    assert!(rt; starved.starts_with(&wanted) && starved.ends_with(&wanted) && starved.len() == 4);
+    let outcomes = core.run_acts(rt.alloc(), &ACTS)?;
+    assert_eq!(rt; outcomes.len(), 4);
+    assert!(rt; has_recorded(&outcomes[0]) && has_recorded(&outcomes[2]));
+    assert!(rt; outcomes[1] == Ok(Done::Trimmed(1)) && outcomes[3] == Ok(Done::Trimmed(1)));
     Ok(())
 }

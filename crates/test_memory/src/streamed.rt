@@ -48,8 +48,7 @@ fn judged(verdict: Result<Verdict, StreamFault>) -> Came {
     }
 }
 
-/// What comes of a source and a sink.
-pub fn between<R: Source, W: Sink>(
+fn between<R: Source, W: Sink>(
     alloc: Global,
     stream: Stream,
     reader: &mut R,

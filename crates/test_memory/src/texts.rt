@@ -80,7 +80,7 @@ base 2 count 1\nseat 0 calls 1 x 0 s 0\nseat 1 calls 0 x 0 s 0\nline 1 queued s 
 2 0 counted s 1\n3 1 granted s 1\nend 4 3\n";
 
 /// Each call that there is, of each object.
-pub const SCRIPT: &str = r#"{"objects": [["a", "lock nonfair seats 2 conditions 1 cap 100"],
+pub const SCRIPT: &[u8] = br#"{"objects": [["a", "lock nonfair seats 2 conditions 1 cap 100"],
  ["b-2", "rw fair seats 2 conditions 16 cap 4294967295"],
  ["0", "semaphore fair seats 2 permits -3 cap 16"], ["-", "latch seats 2 count 7 cap 17"]],
  "threads": [{"repeat": 1000000, "calls": ["a acquire x 1", "b-2 acquire-interruptible s 4294967295",
@@ -114,6 +114,20 @@ pub fn put_history_of_pairs(out: &mut String, pairs: u32) -> Result<(), AllocErr
     }
     let entries = u64::from(pairs) * 2;
     write!(out, "end {entries} {entries}\n")
+}
+
+/// Appends the history text of a replay text of format 1: the same without what was not recorded, and without
+/// whom an entry names.
+pub fn put_history(out: &mut Vec<u8>, replay: &str) -> Result<(), AllocError> {
+    out.extend_from_slice(b"aqs-history")?;
+    for line in replay.strip_prefix("aqs-replay").unwrap_or(replay).lines() {
+        if !line.starts_with("- ") {
+            let entry = line.split_once(" wakes ").map_or(line, |cut| cut.0);
+            out.extend_from_slice(entry.as_bytes())?;
+            out.push(b'\n')?;
+        }
+    }
+    Ok(())
 }
 
 /// Appends a script of 256 threads, with 16 calls each.
