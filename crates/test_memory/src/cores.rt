@@ -1,0 +1,299 @@
+//! Cores where next to no memory is free: no step, trim or observer takes any, but for the pages of a
+//! history. And cores of all sizes, with memory.
+
+use crate::any_core::{AnyCore, Outcome};
+use frame::acts::{Act, Done};
+use history::entry::{Mode, Word};
+use history::fault::Fault;
+use history::header::{Header, Object, Policy};
+use history::step::{Answer, Step};
+use std::alloc::AllocError;
+use std::process::Abort;
+use std::test::Fail;
+use test_support::memory::Memory;
+
+/// A copy of any table of a core fits in a piece of this size.
+const WIDE: usize = 16_384;
+
+/// A heap keeps each smaller block for requests of its size, also once it is given back. So whatever is cut
+/// from such a piece is missed.
+const NARROW: usize = 1040;
+
+/// As many pieces are enough to open a core, and for the one page of its history.
+const ENOUGH: usize = 128;
+
+/// Acts of a list.
+const ACTS: u32 = 200;
+
+/// The next of numbers that look like chance.
+fn next(number: u64) -> u64 {
+    number
+        .wrapping_mul(6_364_136_223_846_793_005)
+        .wrapping_add(1_442_695_040_888_963_407)
+}
+
+/// A number below another, from some of a number's digits.
+fn part(number: u64, digits: u64, end: u64) -> u64 {
+    number / digits.max(1) % end.max(1)
+}
+
+fn amount(object: Object, number: u64) -> u32 {
+    match object {
+        Object::Semaphore(_, _) => match part(number, 1 << 30, 24) {
+            0 => 2_147_483_647,
+            few => (few % 4) as u32,
+        },
+        _ => 1,
+    }
+}
+
+fn mode(object: Object, number: u64) -> Mode {
+    let exclusive = match object {
+        Object::Lock(_) => true,
+        Object::ReadWrite(_) => part(number, 1 << 34, 2) == 0,
+        Object::Semaphore(_, _) | Object::Latch(_) => false,
+    };
+    if exclusive { Mode::X } else { Mode::S }
+}
+
+/// An act of whatever kind.
+fn act_of(header: &Header, number: u64) -> Act {
+    let seat = part(number, 1 << 36, u64::from(header.seats)) as u16;
+    let condition = part(number, 1 << 40, 2) as u8;
+    let (mode, n) = (mode(header.object, number), amount(header.object, number));
+    let step = match part(number, 1 << 44, 24) {
+        0..=5 => Step::Acquire(mode, n),
+        6 => Step::Try(mode, n),
+        7 => Step::TryFair(mode, n),
+        8 => Step::EntryInterrupt(mode, n),
+        9..=12 => Step::Give(mode, n),
+        13..=16 => Step::Look,
+        17 => Step::Expire,
+        18 => Step::Interrupt,
+        19 => Step::Await(condition),
+        20 => Step::Signal(condition),
+        21 => Step::SignalAll(condition),
+        22 => Step::Drain,
+        _ => return Act::Trim,
+    };
+    Act::Do(seat, step)
+}
+
+/// A digit of its own for each word that may be recorded.
+fn digit(word: Word) -> u32 {
+    match word {
+        Word::Got => 1,
+        Word::TryGot => 2,
+        Word::Queued => 4,
+        Word::Granted => 8,
+        Word::Missed => 16,
+        Word::Left => 32,
+        Word::Gave => 64,
+        Word::Await => 128,
+        Word::Lapse => 256,
+        Word::Signal => 512,
+        Word::SignalAll => 1024,
+        Word::Back => 2048,
+        Word::Counted => 4096,
+        Word::Drained => 8192,
+        Word::Refused(_) => 16_384,
+    }
+}
+
+const SLEPT: u32 = 32_768;
+
+const TRIMMED: u32 = 65_536;
+
+const NAMED: u32 = 131_072;
+
+/// What comes up in an outcome.
+fn digits(outcome: &Outcome) -> u32 {
+    match outcome {
+        Ok(Done::Answered(Answer::Recorded(entry, None))) => digit(entry.word),
+        Ok(Done::Answered(Answer::Recorded(entry, Some(_)))) => digit(entry.word) | NAMED,
+        Ok(Done::Answered(Answer::Sleep)) => SLEPT,
+        Ok(Done::Trimmed(0)) | Err(_) => 0,
+        Ok(Done::Trimmed(_)) => TRIMMED,
+    }
+}
+
+/// Makes acts, and asks what the core tells after each: none lacks memory, and as many pieces are free as
+/// before. What came up.
+fn act_on(
+    rt: &(impl Abort + AllocGlobal),
+    core: &mut AnyCore,
+    memory: &mut Memory,
+    free: usize,
+    seed: u64,
+) -> u32 {
+    let mut seen = 0;
+    let mut number = next(seed);
+    for _ in 0..ACTS {
+        number = next(number);
+        let act = act_of(core.header(), number);
+        let outcome = core.act(act);
+        let _told = core.told();
+        let left = memory.free_pieces();
+        assert!(rt;
+            outcome != Err(Fault::OutOfMemory) && left == free,
+            "{act:?}"
+        );
+        seen |= digits(&outcome);
+    }
+    seen
+}
+
+/// Makes the page on which all entries of a list stand, and leaves so many pieces free.
+fn leave(core: &mut AnyCore, memory: &mut Memory, free: usize) -> Result<(), AllocError> {
+    let mode = mode(core.header().object, 0);
+    let _first = core.act(Act::Do(0, Step::Acquire(mode, 1)));
+    memory.take_pieces();
+    memory.take_rest()?;
+    memory.give_pieces(free);
+    Ok(())
+}
+
+/// A list of a fresh core. The core's own memory is given back and taken by others behind it.
+fn play_list(
+    rt: &(impl Abort + AllocGlobal),
+    memory: &mut Memory,
+    header: &Header,
+    free: usize,
+    seed: u64,
+) -> Result<u32, Fault> {
+    memory.give_pieces(ENOUGH);
+    let mut core = AnyCore::open(rt.alloc(), header)?;
+    let left = leave(&mut core, memory, free);
+    assert!(rt; left.is_ok());
+    Ok(act_on(rt, &mut core, memory, free, seed))
+}
+
+fn most_conditions(object: Object) -> u8 {
+    match object {
+        Object::Lock(_) | Object::ReadWrite(_) => 16,
+        Object::Semaphore(_, _) | Object::Latch(_) => 0,
+    }
+}
+
+/// The header of a list by its number.
+fn header_of(object: Object, number: u64) -> Header {
+    Header {
+        object,
+        seats: 1 + part(number, 1, 4) as u16,
+        conditions: (part(number, 4, 3) as u8).min(most_conditions(object)),
+        cap: 16 + 40 * part(number, 2, 3) as u32,
+    }
+}
+
+/// Lists of an object keep no memory, and all this comes up in them.
+fn keeps_none(rt: &(impl Abort + AllocGlobal), object: Object, wanted: u32) -> Result<(), Fault> {
+    let mut seen = 0;
+    for (piece, free) in [(WIDE, 0), (WIDE, 1), (NARROW, 1)] {
+        let mut memory = Memory::take_all(rt.alloc(), piece)?;
+        for number in 0..24 {
+            let header = header_of(object, number);
+            seen |= play_list(rt, &mut memory, &header, free, number)?;
+        }
+    }
+    assert!(rt;
+        seen & wanted == wanted,
+        "{object:?}: {seen} and not {wanted}"
+    );
+    Ok(())
+}
+
+/// What comes up at a lock, at a semaphore and at a latch.
+const AT_LOCKS: u32 = 4095 | 16_384 | SLEPT | TRIMMED | NAMED;
+
+const AT_SEMAPHORES: u32 = 127 | 8192 | 16_384 | SLEPT | TRIMMED | NAMED;
+
+const AT_LATCHES: u32 = 61 | 4096 | 16_384 | SLEPT | TRIMMED | NAMED;
+
+#[test]
+fn steps_and_trims_at_locks_take_no_memory(rt: HostRuntime) -> Result<(), Fail> {
+    for policy in [Policy::Fair, Policy::NonFair, Policy::Strict] {
+        keeps_none(&rt, Object::Lock(policy), AT_LOCKS)?;
+        keeps_none(&rt, Object::ReadWrite(policy), AT_LOCKS)?;
+    }
+    Ok(())
+}
+
+#[test]
+fn steps_and_trims_at_permits_and_counts_take_no_memory(rt: HostRuntime) -> Result<(), Fail> {
+    for policy in [Policy::Fair, Policy::NonFair, Policy::Strict] {
+        keeps_none(&rt, Object::Semaphore(policy, 2), AT_SEMAPHORES)?;
+    }
+    keeps_none(&rt, Object::Latch(9), AT_LATCHES)?;
+    Ok(())
+}
+
+/// How many entries the first steps of an object's last seat leave: it acquires, and waits on the last
+/// condition.
+fn first_entries(rt: &(impl Abort + AllocGlobal), header: &Header) -> Result<u64, Fault> {
+    let last = header.seats.saturating_sub(1);
+    let mut core = AnyCore::open(rt.alloc(), header)?;
+    let _first = core.act(Act::Do(last, Step::Acquire(mode(header.object, 0), 1)));
+    let _second = core.act(Act::Do(last, Step::Await(header.conditions.saturating_sub(1))));
+    Ok(core.entries())
+}
+
+#[test]
+fn each_number_of_seats_and_conditions_is_opened(rt: HostRuntime) -> Result<(), Fail> {
+    for object in [
+        Object::Lock(Policy::Fair),
+        Object::ReadWrite(Policy::NonFair),
+        Object::Semaphore(Policy::Strict, 1),
+        Object::Latch(0),
+    ] {
+        for seats in 1..=256 {
+            for conditions in 0..=most_conditions(object) {
+                let header = Header {
+                    object,
+                    seats,
+                    conditions,
+                    cap: 1_000_000,
+                };
+                let entries = first_entries(&rt, &header)?;
+                let wanted = if conditions == 0 { 1 } else { 2 };
+                assert!(rt; entries == wanted, "{object:?} {seats} {conditions}");
+            }
+        }
+    }
+    Ok(())
+}
+
+/// Pairs of an acquire and a release, by one seat after another.
+const PAIRS: u32 = 600_000;
+
+const LONG: Header = Header {
+    object: Object::Lock(Policy::NonFair),
+    seats: 77,
+    conditions: 13,
+    cap: 4_294_967_295,
+};
+
+fn put_pairs(acts: &mut Vec<Act>) -> Result<(), AllocError> {
+    for pair in 0..PAIRS {
+        let seat = (pair % 77) as u16;
+        acts.push(Act::Do(seat, Step::Acquire(Mode::X, 1)))?;
+        acts.push(Act::Do(seat, Step::Give(Mode::X, 1)))?;
+    }
+    Ok(())
+}
+
+/// More than a million steps in one run, and then as many one by one.
+#[test]
+fn a_long_run_and_a_long_history_find_memory(rt: HostRuntime) -> Result<(), Fail> {
+    let mut acts = Vec::new(rt.alloc());
+    put_pairs(&mut acts)?;
+    let mut core = AnyCore::open(rt.alloc(), &LONG)?;
+    let answered = core
+        .run_acts(rt.alloc(), &acts)
+        .map(|outcomes| outcomes.len());
+    assert!(rt; answered == Ok(1_200_000) && core.entries() == 1_200_000);
+    for act in &acts {
+        let _outcome = core.act(*act);
+    }
+    assert!(rt; core.entries() == 2_400_000 && core.calls() == 2_400_000);
+    Ok(())
+}

@@ -1,0 +1,295 @@
+//! Devices that fail, take little or have no more places; and the readers and writers of std as devices.
+
+ghost use Rattle.std.specs.Prelude.{◌≤◌, IfOk};
+
+use crate::streamed::{Came, Stream, Ways, streamed, through};
+use crate::texts::{STEPS, THROUGH, put_pairs, put_times};
+use line_text::fault::TextFault;
+use std::alloc::{AllocError, Global};
+use std::io;
+use std::process::Abort;
+use std::test::Fail;
+use streams::device::Device;
+use streams::sink::Sink;
+use streams::source::Source;
+use streams::stream_fault::StreamFault;
+
+/// More places than any answer here takes.
+const AMPLE: usize = 400_000;
+
+const READ_FAILED: Came = Err(StreamFault::ReadFailed);
+
+const WRITE_FAILED: Came = Err(StreamFault::WriteFailed);
+
+/// All that is there, in pieces.
+fn in_pieces(piece: usize) -> Ways {
+    Ways {
+        piece,
+        read: None,
+        write: None,
+        places: AMPLE,
+    }
+}
+
+/// A text, what a stream writes for it, and room for what it writes when a device fails.
+#[derive(Drop)]
+struct Trial<'a> {
+    stream: Stream,
+    text: &'a [u8],
+    wanted: Vec<u8>,
+    out: Vec<u8>,
+}
+
+impl<'a> Trial<'a> {
+    /// What comes of the text in these ways.
+    fn came(&mut self, alloc: Global, ways: Ways) -> Came {
+        streamed(alloc, self.stream, self.text, ways, &mut self.out)
+    }
+
+    fn is_whole(&mut self, alloc: Global, ways: Ways) -> bool {
+        self.came(alloc, ways) == Ok(true) && self.out == self.wanted
+    }
+
+    /// Whether a read fails so, and nothing is written.
+    fn fails_reading(&mut self, alloc: Global, piece: usize, call: u64) -> bool {
+        let ways = Ways {
+            read: Some(call),
+            ..in_pieces(piece)
+        };
+        self.came(alloc, ways) == READ_FAILED && self.out.is_empty()
+    }
+
+    /// Whether a write fails so, and so many bytes were written before.
+    fn fails_writing(&mut self, alloc: Global, ways: Ways, written: usize) -> bool {
+        let came = self.came(alloc, ways);
+        came == WRITE_FAILED && self.wanted.get(..written) == Some(self.out.as_slice())
+    }
+}
+
+/// Each read fails in turn, and there is none after them.
+fn fail_each_read(rt: &(impl Abort + AllocGlobal), trial: &mut Trial, piece: usize) {
+    let reads = trial.text.len().div_ceil(piece.max(1)) as u64;
+    for call in 0..=reads {
+        assert!(rt;
+            trial.fails_reading(rt.alloc(), piece, call),
+            "read {call} of {piece} bytes"
+        );
+    }
+    let ways = Ways {
+        read: Some(reads.saturating_add(1)),
+        ..in_pieces(piece)
+    };
+    assert!(rt; trial.is_whole(rt.alloc(), ways), "reads of {piece} bytes");
+}
+
+/// Each write fails in turn, after as many pieces, and there is none after them.
+fn fail_each_write(rt: &(impl Abort + AllocGlobal), trial: &mut Trial, piece: usize) {
+    let writes = trial.wanted.len().div_ceil(piece.max(1));
+    for call in 0..writes {
+        let ways = Ways {
+            write: Some(call as u64),
+            ..in_pieces(piece)
+        };
+        let written = call.saturating_mul(piece);
+        assert!(rt;
+            trial.fails_writing(rt.alloc(), ways, written),
+            "write {call} of {piece}"
+        );
+    }
+    let ways = Ways {
+        write: Some(writes as u64),
+        ..in_pieces(piece)
+    };
+    assert!(rt; trial.is_whole(rt.alloc(), ways), "writes of {piece} bytes");
+}
+
+/// What finds too few places is written so far.
+fn fill_each_place(rt: &(impl Abort + AllocGlobal), trial: &mut Trial) {
+    let whole = trial.wanted.len();
+    for places in 0..whole {
+        let ways = Ways {
+            places,
+            ..in_pieces(10)
+        };
+        assert!(rt;
+            trial.fails_writing(rt.alloc(), ways, places),
+            "{places} places"
+        );
+    }
+    let ways = Ways {
+        places: whole,
+        ..in_pieces(10)
+    };
+    assert!(rt; trial.is_whole(rt.alloc(), ways), "{whole} places");
+}
+
+#[test]
+fn each_read_and_each_write_fails_in_turn(rt: HostRuntime) -> Result<(), Fail> {
+    for (stream, text) in THROUGH {
+        let mut trial = Trial {
+            stream,
+            text,
+            wanted: Vec::new(rt.alloc()),
+            out: Vec::new(rt.alloc()),
+        };
+        let came = through(rt.alloc(), stream, text, &mut trial.wanted);
+        assert!(rt; came == Ok(true));
+        for piece in [1, 16] {
+            fail_each_read(&rt, &mut trial, piece);
+            fail_each_write(&rt, &mut trial, piece);
+        }
+        fill_each_place(&rt, &mut trial);
+    }
+    Ok(())
+}
+
+/// As much is written at once as a piece has places, but for those of a last line.
+const PIECE: usize = 65_400;
+
+/// Each piece of a long answer isn't written: what was written before is a beginning of the answer, and longer
+/// by a piece each time.
+fn fail_each_piece(rt: &(impl Abort + AllocGlobal), trial: &mut Trial) {
+    let mut least = 0;
+    for call in 0..4 {
+        let ways = Ways {
+            write: Some(call),
+            ..in_pieces(1_000_000)
+        };
+        let came = trial.came(rt.alloc(), ways);
+        let is_front = trial.wanted.starts_with(&trial.out) && trial.out.len() < trial.wanted.len();
+        assert!(rt;
+            came == WRITE_FAILED && is_front && least <= trial.out.len(),
+            "{call} writes"
+        );
+        least = trial.out.len().saturating_add(PIECE);
+    }
+}
+
+#[test]
+fn each_piece_of_a_long_answer_fails_in_turn(rt: HostRuntime) -> Result<(), Fail> {
+    let mut text = String::new(rt.alloc());
+    put_pairs(&mut text, 8_000)?;
+    for stream in [Stream::Replay, Stream::History] {
+        let mut trial = Trial {
+            stream,
+            text: text.as_bytes(),
+            wanted: Vec::new(rt.alloc()),
+            out: Vec::new(rt.alloc()),
+        };
+        let came = through(rt.alloc(), stream, text.as_bytes(), &mut trial.wanted);
+        assert!(rt; came == Ok(true) && 65_536 * 3 < trial.wanted.len());
+        fail_each_piece(&rt, &mut trial);
+    }
+    Ok(())
+}
+
+/// What the first call of a reader or a writer of std answers.
+#[derive(Clone, Copy)]
+enum First {
+    Fails(io::ErrorKind),
+    TakesNothing,
+}
+
+/// A reader and a writer of which the first call does so, and each later one all.
+#[derive(Drop)]
+struct Calls {
+    first: First,
+    calls: u32,
+}
+
+impl Calls {
+    /// What a call answers that otherwise does so much.
+    fn call(&mut self, done: usize) -> io::Result<usize>
+        ensures { IfOk result (λ n. n ≤ done) }
+    {
+        let is_first = self.calls == 0;
+        self.calls = self.calls.saturating_add(1);
+        match self.first {
+            First::Fails(kind) if is_first => Err(io::Error::from(kind)),
+            First::TakesNothing if is_first => Ok(0),
+            _ => Ok(done),
+        }
+    }
+}
+
+impl io::Read for Calls {
+    fn read(&mut self, buf: &mut [u8]) -> io::Result<usize> {
+        self.call(buf.len())
+    }
+}
+
+impl io::Write for Calls {
+    fn write(&mut self, buf: &[u8]) -> io::Result<usize> {
+        self.call(buf.len())
+    }
+
+    fn flush(&mut self) -> io::Result<()> {
+        Ok(())
+    }
+}
+
+/// An error is told, an interruption among them, and so is a write that takes nothing: whatever a second call
+/// would have answered, the device isn't asked again.
+#[test]
+fn an_error_of_a_reader_or_a_writer_fails_once_and_for_all(rt: HostRuntime) {
+    for kind in [
+        io::ErrorKind::Interrupted,
+        io::ErrorKind::WouldBlock,
+        io::ErrorKind::BrokenPipe,
+        io::ErrorKind::Other,
+    ] {
+        fail_first(&rt, First::Fails(kind), false);
+    }
+    fail_first(&rt, First::TakesNothing, true);
+}
+
+fn fail_first(rt: &(impl Abort + AllocGlobal), first: First, reads: bool) {
+    let mut buffer = [0; 16];
+    let mut reader = Device::new(Calls { first, calls: 0 });
+    assert!(rt; reader.read(&mut buffer).is_ok() == reads);
+    assert!(rt; Source::has_failed(&reader) != reads);
+    let mut writer = Device::new(Calls { first, calls: 0 });
+    assert!(rt; writer.write(b"line").is_err() && Sink::has_failed(&writer));
+}
+
+/// A text whose second line is so long, how it ends, and its fault.
+fn tells_long_line(
+    alloc: Global,
+    length: u32,
+    ending: &str,
+    fault: TextFault,
+) -> Result<bool, AllocError> {
+    let mut text = String::from_str(alloc, "aqs-steps 1 lock fair seats 2 conditions 0 cap 64\n")?;
+    put_times(&mut text, "7", length)?;
+    text.push_str(ending)?;
+    let mut out = Vec::new(alloc);
+    let came = streamed(
+        alloc,
+        Stream::Replay,
+        text.as_bytes(),
+        in_pieces(1_000_000),
+        &mut out,
+    );
+    Ok(came == Err(StreamFault::Text(fault)) && out.is_empty())
+}
+
+#[test]
+fn a_line_longer_than_a_read_is_a_bad_line(rt: HostRuntime) {
+    for length in [65_000, 65_486, 65_536, 200_000, 1_100_000] {
+        let ending = "\n0 give x 1\nend 2\n";
+        let ended = tells_long_line(rt.alloc(), length, ending, TextFault::BadLine(2));
+        let cut = tells_long_line(rt.alloc(), length, "", TextFault::CutShort);
+        assert!(rt; ended == Ok(true) && cut == Ok(true), "{length}");
+    }
+}
+
+/// As much is moved by a call as the reader gives and the writer takes.
+#[test]
+fn a_device_moves_all_that_it_can(rt: HostRuntime) {
+    let mut buffer = [0; 16];
+    assert!(rt; Device::new(STEPS).read(&mut buffer) == Ok(16));
+    assert!(rt; buffer.as_slice() == &STEPS[..16]);
+    let mut written = Vec::new(rt.alloc());
+    assert!(rt; Device::new(&mut written).write(STEPS) == Ok(STEPS.len()));
+    assert!(rt; written.as_slice() == STEPS);
+}

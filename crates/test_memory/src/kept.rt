@@ -1,0 +1,156 @@
+//! Memory that is kept: what is played over and over leaves the memory that there was after the first times.
+
+use crate::played::{Play, perform};
+use crate::streamed::Stream;
+use crate::texts::{ON_COUNT, ON_READER, ON_SLEEPER, SCRIPT, STEPS, TRIMMED, WRONG, put_history};
+use history::header::{Header, Object, Policy};
+use std::process::Abort;
+use std::test::Fail;
+use std::time::Clock;
+use test_support::examples::{Example, situations, strict_situations};
+use test_support::memory::Memory;
+
+/// More bytes than any answer here has.
+const AMPLE: usize = 65_536;
+
+/// Whatever is kept takes up such a piece once it is kept often enough.
+const PIECE: usize = 2048;
+
+/// As many pieces are enough for each play.
+const ENOUGH: usize = 400;
+
+/// After so many times a heap has kept all blocks back that it will.
+const FIRST_TIMES: u32 = 16;
+
+/// If the smallest block were kept each time, four pieces and more would be missed.
+const MORE_TIMES: u32 = 300;
+
+/// Blocks that the heap keeps back are cut from other pieces at times.
+const CUT: usize = 2;
+
+/// Whether a play comes so each time.
+fn comes_so(
+    rt: &(impl Abort + AllocGlobal + Clock),
+    what: Play,
+    legal: bool,
+    times: u32,
+    out: &mut Vec<u8>,
+) -> bool {
+    for _ in 0..times {
+        out.clear();
+        if perform(rt, what, out) != Ok(legal) {
+            return false;
+        }
+    }
+    true
+}
+
+/// A play keeps no memory.
+fn keeps_none(
+    rt: &(impl Abort + AllocGlobal + Clock),
+    memory: &mut Memory,
+    what: Play,
+    legal: bool,
+    out: &mut Vec<u8>,
+    name: &str,
+) {
+    memory.give_pieces(ENOUGH);
+    let first = comes_so(rt, what, legal, FIRST_TIMES, out);
+    assert!(rt; first, "{name}");
+    let free = memory.free_pieces();
+    let more = comes_so(rt, what, legal, MORE_TIMES, out);
+    let left = memory.free_pieces();
+    assert!(rt;
+        more && free <= left.saturating_add(CUT),
+        "{name}: {free} and {left}"
+    );
+    memory.take_pieces();
+}
+
+/// The texts of a situation through each stream.
+fn situation_keeps_none(
+    rt: &(impl Abort + AllocGlobal + Clock),
+    memory: &mut Memory,
+    example: &Example,
+    history: &mut Vec<u8>,
+    out: &mut Vec<u8>,
+) {
+    history.clear();
+    let is_put = put_history(history, example.replay);
+    assert!(rt; is_put.is_ok());
+    for what in [
+        Play::Through(Stream::Replay, example.steps.as_bytes()),
+        Play::Through(Stream::History, example.steps.as_bytes()),
+        Play::Through(Stream::Audit, history),
+        Play::Through(Stream::Draw, history),
+        Play::Again(history),
+    ] {
+        keeps_none(rt, memory, what, true, out, example.name);
+    }
+}
+
+#[test]
+fn situations_keep_no_memory(rt: HostRuntime) -> Result<(), Fail> {
+    let mut history = Vec::with_capacity(rt.alloc(), AMPLE)?;
+    let mut out = Vec::with_capacity(rt.alloc(), AMPLE)?;
+    let mut memory = Memory::take_all(rt.alloc(), PIECE)?;
+    for examples in [situations(), strict_situations()] {
+        for example in examples {
+            situation_keeps_none(&rt, &mut memory, example, &mut history, &mut out);
+        }
+    }
+    Ok(())
+}
+
+/// Histories, and whether they are legal.
+const BASED: [(&[u8], bool); 4] = [
+    (ON_SLEEPER, true),
+    (ON_READER, false),
+    (ON_COUNT, true),
+    (WRONG, false),
+];
+
+const OPENED: [Play; 14] = [
+    Play::Steps(STEPS),
+    Play::Script(SCRIPT),
+    Play::Run,
+    Play::RunActs,
+    Play::Core(Header {
+        object: Object::ReadWrite(Policy::Strict),
+        seats: 4,
+        conditions: 2,
+        cap: 64,
+    }),
+    Play::Line,
+    Play::Sleepers,
+    Play::Lock,
+    Play::ReadWriteLock,
+    Play::Semaphore,
+    Play::Latch,
+    Play::Threads,
+    Play::Scripted,
+    Play::Bars,
+];
+
+/// Trims, bases, histories that aren't legal, and openings.
+#[test]
+fn trims_and_bases_and_openings_keep_no_memory(rt: HostRuntime) -> Result<(), Fail> {
+    let mut out = Vec::with_capacity(rt.alloc(), AMPLE)?;
+    let mut memory = Memory::take_all(rt.alloc(), PIECE)?;
+    for text in &TRIMMED {
+        for stream in [Stream::Replay, Stream::History] {
+            let what = Play::Through(stream, text);
+            keeps_none(&rt, &mut memory, what, true, &mut out, "trims");
+        }
+    }
+    for (text, legal) in BASED {
+        for stream in [Stream::Audit, Stream::Draw] {
+            let what = Play::Through(stream, text);
+            keeps_none(&rt, &mut memory, what, legal, &mut out, "bases");
+        }
+    }
+    for what in OPENED {
+        keeps_none(&rt, &mut memory, what, true, &mut out, "lists and openings");
+    }
+    Ok(())
+}

@@ -1,0 +1,30 @@
+//! Tests of memory that is refused, of memory that is kept, and of devices that fail. No clause says that a
+//! call finds memory where there is some, or how much it takes.
+#![tactic(auto)]
+
+#[cfg(test)]
+mod any_core;
+#[cfg(test)]
+mod calls;
+#[cfg(test)]
+mod cores;
+#[cfg(test)]
+mod devices;
+#[cfg(test)]
+mod kept;
+#[cfg(test)]
+mod monitors;
+#[cfg(test)]
+mod played;
+#[cfg(test)]
+mod refused;
+#[cfg(test)]
+mod refused_steps;
+#[cfg(test)]
+mod situations;
+#[cfg(test)]
+mod streamed;
+#[cfg(test)]
+mod texts;
+#[cfg(test)]
+mod windows;

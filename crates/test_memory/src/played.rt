@@ -1,0 +1,217 @@
+//! What is played with memory and without it: texts that are answered, and openings. One call of a table is
+//! one value of [`Play`], and what comes of it is a plain value, beside bytes to compare.
+
+ghost use Rattle.std.specs.Prelude.{◌≡◌};
+ghost use Rattle.history.specs.Header.{IsInRange};
+
+use crate::any_core::AnyCore;
+use crate::streamed::{Came, Stream, through};
+use acquire_queue::queue::Queue;
+use condition_queue::waiters::Waiters;
+use deciding::entries::plain;
+use drawing::whole::drawn_of;
+use frame::acts::Act;
+use history::base::Base;
+use history::entries::History;
+use history::entry::{Mode, Word};
+use history::fault::Fault;
+use history::header::{Header, Object, Policy};
+use history::step::Step;
+use history_text::fitting::fits;
+use history_text::{read_text, write_text};
+use line_text::fault::ReadFault;
+use monitor_fronts::{open_latch, open_lock, open_read_write_lock, open_semaphore};
+use node_arena::node_list::NodeList;
+use permit::{ScriptedParking, ThreadParking};
+use read_write::hooks::RwHooks;
+use script::{ScriptFault, read_script};
+use std::alloc::{AllocError, Global};
+use std::time::Clock;
+use steps::read_steps;
+use streams::device::Device;
+use streams::rest::read_all;
+use streams::stream_fault::StreamFault;
+
+/// What is played.
+#[derive(Clone, Copy)]
+pub enum Play<'a> {
+    /// A text through a stream.
+    Through(Stream, &'a [u8]),
+    /// A history text that is read, and written again.
+    Again(&'a [u8]),
+    /// A steps text that is read as a list.
+    Steps(&'a [u8]),
+    /// Bytes that are read whole.
+    Bytes(&'a [u8]),
+    Script(&'a [u8]),
+    /// Bars of two entries.
+    Bars,
+    /// A core that answers many steps in one run.
+    Run,
+    /// The same as a list of acts.
+    RunActs,
+    Core(Header),
+    Base(Header),
+    /// The hooks of a read-write lock of 256 seats.
+    Readers,
+    /// A line of 256 seats.
+    Line,
+    /// The sleepers of 256 seats on three conditions.
+    Sleepers,
+    Nodes,
+    /// The monitors of the four front types, with four seats.
+    Lock,
+    ReadWriteLock,
+    Semaphore,
+    Latch,
+    /// A place to park for four threads.
+    Threads,
+    /// One that records four calls.
+    Scripted,
+}
+
+fn opened<T: Drop>(made: Result<T, Fault>) -> Came {
+    match made {
+        Ok(_) => Ok(true),
+        Err(Fault::OutOfMemory) => Err(StreamFault::Memory),
+        Err(_) => Ok(false),
+    }
+}
+
+/// A read that is right if it has so many items.
+fn read_as(items: Result<usize, ReadFault>, wanted: usize) -> Came {
+    match items {
+        Ok(found) => Ok(found == wanted),
+        Err(ReadFault::OutOfMemory) => Err(StreamFault::Memory),
+        Err(ReadFault::Text(fault)) => Err(StreamFault::Text(fault)),
+    }
+}
+
+fn written(alloc: Global, header: &Header, history: &History, out: &mut Vec<u8>) -> Came
+    requires { IsInRange header.now }
+{
+    if !fits(header, history) {
+        return Ok(false);
+    }
+    match write_text(alloc, header, history) {
+        Ok(text) => Ok(out.extend_from_slice(&text).is_ok()),
+        Err(_) => Err(StreamFault::Memory),
+    }
+}
+
+fn written_again(alloc: Global, text: &[u8], out: &mut Vec<u8>) -> Came {
+    match read_text(alloc, text) {
+        Ok((header, history)) => written(alloc, &header, &history, out),
+        Err(fault) => read_as(Err(fault), 0),
+    }
+}
+
+/// A list of as many acts as the text has lines between the first and the last.
+fn listed(alloc: Global, text: &[u8]) -> Came {
+    let lines = text.iter().filter(|byte| **byte == b'\n').count();
+    match read_steps(alloc, text) {
+        Ok(read) => read_as(Ok(read.acts.len().saturating_add(2)), lines),
+        Err(fault) => read_as(Err(fault), 0),
+    }
+}
+
+fn all_read(alloc: Global, text: &[u8]) -> Came {
+    match read_all(alloc, &mut Device::new(text)) {
+        Ok(bytes) => Ok(bytes.as_slice() == text),
+        Err(fault) => Err(fault),
+    }
+}
+
+fn scripted(alloc: Global, text: &[u8], out: &mut Vec<u8>) -> Came {
+    match read_script(alloc, text) {
+        Ok(script) => Ok(out.push((script.workers().len() % 256) as u8).is_ok()),
+        Err(ScriptFault::OutOfMemory) => Err(StreamFault::Memory),
+        Err(_) => Ok(false),
+    }
+}
+
+/// So many steps are made in one run.
+const MANY: usize = 500;
+
+const THREE_SEATS: Header = Header {
+    object: Object::Lock(Policy::Fair),
+    seats: 3,
+    conditions: 2,
+    cap: 64,
+};
+
+fn bars(alloc: Global) -> Came {
+    let got = plain(0, Word::Got, Mode::X, 1);
+    let gave = plain(0, Word::Gave, Mode::X, 1);
+    match drawn_of(alloc, THREE_SEATS, None, 0, &[got, gave]) {
+        Ok(drawn) => Ok(drawn.bars.len() == 1),
+        Err(AllocError) => Err(StreamFault::Memory),
+    }
+}
+
+/// Answers that are right if they are as many as the acts.
+fn counted(answers: Result<usize, Fault>) -> Came {
+    match answers {
+        Ok(count) => Ok(count == MANY),
+        Err(fault) => opened::<()>(Err(fault)),
+    }
+}
+
+/// A core that makes many looks in one run: each is answered a fault, and none takes memory.
+fn look(alloc: Global, by_acts: bool) -> Came {
+    match AnyCore::open(alloc, &THREE_SEATS) {
+        Ok(mut core) if by_acts => {
+            counted(
+                core.run_acts(alloc, &[Act::Do(0, Step::Look); MANY])
+                    .map(|all| all.len()),
+            )
+        }
+        Ok(mut core) => counted(
+            core.run(alloc, &[(0, Step::Look); MANY])
+                .map(|all| all.len()),
+        ),
+        Err(fault) => opened::<()>(Err(fault)),
+    }
+}
+
+/// A text that is played.
+fn read(alloc: Global, what: Play, out: &mut Vec<u8>) -> Came {
+    match what {
+        Play::Through(stream, text) => through(alloc, stream, text, out),
+        Play::Again(text) => written_again(alloc, text, out),
+        Play::Steps(text) => listed(alloc, text),
+        Play::Bytes(text) => all_read(alloc, text),
+        Play::Script(text) => scripted(alloc, text, out),
+        _ => Ok(false),
+    }
+}
+
+fn front(alloc: Global, what: Play) -> Came {
+    match what {
+        Play::Lock => opened(open_lock(alloc, Policy::Fair, 4, 1, 16)),
+        Play::ReadWriteLock => opened(open_read_write_lock(alloc, Policy::NonFair, 4, 1, 16)),
+        Play::Semaphore => opened(open_semaphore(alloc, Policy::NonFair, 3, 4, 16)),
+        Play::Latch => opened(open_latch(alloc, 2, 4, 16)),
+        _ => Ok(false),
+    }
+}
+
+/// Plays once. What is written is appended.
+pub fn perform(rt: &(impl AllocGlobal + Clock), what: Play, out: &mut Vec<u8>) -> Came {
+    let alloc = rt.alloc();
+    match what {
+        Play::Bars => bars(alloc),
+        Play::Run => look(alloc, false),
+        Play::RunActs => look(alloc, true),
+        Play::Core(header) => opened(AnyCore::open(alloc, &header)),
+        Play::Base(header) => opened(Base::open(alloc, &header)),
+        Play::Readers => opened(RwHooks::open(alloc, Policy::Fair, 256)),
+        Play::Line => opened(Queue::open(alloc, 256)),
+        Play::Sleepers => opened(Waiters::open(alloc, 3, 256)),
+        Play::Nodes => opened(NodeList::with_places(alloc, 128)),
+        Play::Threads => opened(ThreadParking::open(rt, alloc, 4)),
+        Play::Scripted => opened(ScriptedParking::open(alloc, Vec::new(alloc), 4)),
+        Play::Lock | Play::ReadWriteLock | Play::Semaphore | Play::Latch => front(alloc, what),
+        _ => read(alloc, what, out),
+    }
+}

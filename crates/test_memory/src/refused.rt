@@ -1,0 +1,291 @@
+//! Memory that is refused.
+//!
+//! A test takes all memory first, a part of it as small pieces side by side, and gives these back one by one.
+//! So one request after another is refused, until all are met. What kept memory when refused would never be
+//! whole, since one piece comes back at a time.
+
+use crate::played::{Play, perform};
+use crate::streamed::Stream;
+use crate::texts::{
+    HISTORY, ON_COUNT, ON_SLEEPER, SCRIPT, STEPS, TRIMMED, WIDE, put_history_of_pairs, put_pairs,
+    put_times, put_wide_script,
+};
+use history::header::{Header, Object, Policy};
+use std::alloc::AllocError;
+use std::process::Abort;
+use std::test::Fail;
+use std::time::Clock;
+use streams::stream_fault::StreamFault;
+use test_support::memory::Memory;
+
+/// More bytes than any answer here has.
+const AMPLE: usize = 1_000_000;
+
+/// Pieces that the smallest requests take one of.
+const FINE: usize = 16;
+
+/// Less than each table of a core of 256 seats takes.
+const COARSE: usize = 256;
+
+/// What is played, the size of a piece, and how often it is refused at least and at most.
+#[derive(Clone, Copy)]
+struct Row<'a> {
+    what: Play<'a>,
+    piece: usize,
+    least: u32,
+    most: u32,
+}
+
+impl<'a> Row<'a> {
+    fn of(what: Play<'a>, piece: usize, least: u32, most: u32) -> Row<'a> {
+        Row {
+            what,
+            piece,
+            least,
+            most,
+        }
+    }
+}
+
+/// How often a play is refused. Each time nothing is written, and in the end all that is wanted.
+fn fed(
+    rt: &(impl Abort + AllocGlobal + Clock),
+    what: Play,
+    memory: &mut Memory,
+    wanted: &[u8],
+    out: &mut Vec<u8>,
+) -> u32 {
+    for refused in 0..4096 {
+        out.clear();
+        let came = perform(rt, what, out);
+        if came == Ok(true) {
+            assert!(rt;
+                out.as_slice() == wanted,
+                "other bytes with memory that came back"
+            );
+            return refused;
+        }
+        assert!(rt; came == Err(StreamFault::Memory) && out.is_empty());
+        let was_left = memory.give_piece();
+        assert!(rt; was_left);
+    }
+    u32::MAX
+}
+
+/// The same from no memory on.
+fn refusals(
+    rt: &(impl Abort + AllocGlobal + Clock),
+    what: Play,
+    piece: usize,
+    wanted: &[u8],
+    out: &mut Vec<u8>,
+) -> Result<u32, AllocError> {
+    let mut memory = Memory::take_all(rt.alloc(), piece)?;
+    Ok(fed(rt, what, &mut memory, wanted, out))
+}
+
+/// What is wanted, and what is written: both have all the memory that they will want.
+#[derive(Drop)]
+struct Answers {
+    wanted: Vec<u8>,
+    out: Vec<u8>,
+}
+
+/// Plays a row with memory first. Then the stack has its depth too: if it finds no memory for it, the system
+/// ends the program.
+fn try_row(
+    rt: &(impl Abort + AllocGlobal + Clock),
+    answers: &mut Answers,
+    number: usize,
+    row: &Row,
+) {
+    answers.wanted.clear();
+    let came = perform(rt, row.what, &mut answers.wanted);
+    assert!(rt; came == Ok(true), "row {number}: {came:?}");
+    let refused = refusals(rt, row.what, row.piece, &answers.wanted, &mut answers.out);
+    let (least, most) = (row.least, row.most);
+    match refused {
+        Ok(refused) => assert!(rt;
+            least <= refused && refused <= most,
+            "row {number}: refused {refused} times, and not {least} to {most}"
+        ),
+        Err(_) => assert!(rt; false, "row {number}: no memory to begin with"),
+    }
+}
+
+fn try_rows(rt: &(impl Abort + AllocGlobal + Clock), rows: &[Row]) -> Result<(), AllocError> {
+    let wanted = Vec::with_capacity(rt.alloc(), AMPLE)?;
+    let out = Vec::with_capacity(rt.alloc(), AMPLE)?;
+    let mut answers = Answers { wanted, out };
+    for (number, row) in rows.iter().enumerate() {
+        try_row(rt, &mut answers, number, row);
+    }
+    Ok(())
+}
+
+fn header_of(object: Object, conditions: u8) -> Header {
+    Header {
+        object,
+        seats: 256,
+        conditions,
+        cap: 1_000_000,
+    }
+}
+
+/// A core opens six tables for its seats, two lists of its conditions and two tables for each; a read-write
+/// lock has one table more, for its readers. All take hardly more pieces than they fill.
+#[test]
+fn cores_and_what_they_stand_on_are_opened_whole_or_not_at_all(
+    rt: HostRuntime,
+) -> Result<(), Fail> {
+    let lock = header_of(Object::Lock(Policy::Fair), 16);
+    let read_write = header_of(Object::ReadWrite(Policy::NonFair), 16);
+    let semaphore = header_of(Object::Semaphore(Policy::Strict, 3), 0);
+    let latch = header_of(Object::Latch(2), 0);
+    try_rows(
+        &rt,
+        &[
+            Row::of(Play::Core(lock), COARSE, 400, 424),
+            Row::of(Play::Core(read_write), COARSE, 416, 441),
+            Row::of(Play::Core(semaphore), COARSE, 280, 300),
+            Row::of(Play::Core(latch), COARSE, 280, 300),
+            Row::of(Play::Base(read_write), COARSE, 175, 192),
+            Row::of(Play::Readers, COARSE, 2, 12),
+            Row::of(Play::Line, COARSE, 145, 158),
+            Row::of(Play::Sleepers, COARSE, 50, 64),
+            Row::of(Play::Nodes, COARSE, 34, 44),
+            Row::of(Play::Run, COARSE, 60, 100),
+            Row::of(Play::RunActs, COARSE, 60, 100),
+        ],
+    )?;
+    Ok(())
+}
+
+/// A monitor of four seats takes its passes, four tables of its seats, and the tokens, the slot and the word
+/// of its lock. A condition adds a list and a table of lists, a read-write lock a table of readers. A parking
+/// takes one table, and a scripted one three.
+#[test]
+fn monitors_and_parkings_are_opened_whole_or_not_at_all(rt: HostRuntime) -> Result<(), Fail> {
+    try_rows(
+        &rt,
+        &[
+            Row::of(Play::Lock, FINE, 260, 300),
+            Row::of(Play::ReadWriteLock, FINE, 265, 310),
+            Row::of(Play::Semaphore, FINE, 260, 300),
+            Row::of(Play::Latch, FINE, 260, 300),
+            Row::of(Play::Threads, 64, 8, 18),
+            Row::of(Play::Scripted, 32, 40, 64),
+            Row::of(Play::Bars, FINE, 5, 1100),
+        ],
+    )?;
+    Ok(())
+}
+
+/// Texts through each stream, and how often they are refused in pieces of 64 bytes at least and at most.
+const NARROW: [(Stream, &[u8], u32, u32); 8] = [
+    (Stream::Replay, STEPS, 980, 1070),
+    (Stream::History, STEPS, 980, 1070),
+    (Stream::Audit, HISTORY, 830, 2600),
+    (Stream::Draw, HISTORY, 830, 2600),
+    (Stream::Audit, ON_SLEEPER, 830, 2600),
+    (Stream::Draw, ON_SLEEPER, 830, 2600),
+    (Stream::Audit, ON_COUNT, 830, 2600),
+    (Stream::Draw, ON_COUNT, 830, 2600),
+];
+
+/// Nothing is written before there is memory for all: for the window, which takes most, and then for each
+/// table, list and text.
+#[test]
+fn a_stream_that_lacks_memory_writes_nothing(rt: HostRuntime) -> Result<(), Fail> {
+    for (stream, text, least, most) in NARROW {
+        try_rows(
+            &rt,
+            &[Row::of(Play::Through(stream, text), 64, least, most)],
+        )?;
+    }
+    Ok(())
+}
+
+/// The tables of many seats and conditions take more than what a text does, and none is made twice.
+#[test]
+fn a_replay_of_many_seats_takes_hardly_more_than_its_tables(rt: HostRuntime) -> Result<(), Fail> {
+    for (number, text) in WIDE.iter().enumerate() {
+        let most: u32 = if number < 2 || number == 4 { 740 } else { 620 };
+        for stream in [Stream::Replay, Stream::History] {
+            let what = Play::Through(stream, text);
+            try_rows(&rt, &[Row::of(what, COARSE, most.saturating_sub(60), most)])?;
+        }
+    }
+    for text in &TRIMMED {
+        for stream in [Stream::Replay, Stream::History] {
+            try_rows(
+                &rt,
+                &[Row::of(Play::Through(stream, text), COARSE, 320, 360)],
+            )?;
+        }
+    }
+    Ok(())
+}
+
+/// Sources, lists and scripts that are read whole, and a history that is written again. A list of steps takes
+/// memory twice, each time more pieces, and no more than it needs.
+#[test]
+fn what_is_read_is_read_whole_or_not_at_all(rt: HostRuntime) -> Result<(), Fail> {
+    let mut steps = String::new(rt.alloc());
+    steps.push_str("aqs-steps 1 latch seats 1 count 1 cap 16\n")?;
+    put_times(&mut steps, "0 look\n", 200)?;
+    steps.push_str("end 200\n")?;
+    let bytes = [b'7'; 100_000];
+    try_rows(
+        &rt,
+        &[
+            Row::of(Play::Steps(steps.as_bytes()), COARSE, 12, 24),
+            Row::of(Play::Bytes(&bytes), COARSE, 440, 530),
+            Row::of(Play::Script(SCRIPT), FINE, 700, 860),
+            Row::of(Play::Again(HISTORY), 64, 160, 200),
+            Row::of(Play::Again(ON_SLEEPER), 64, 185, 230),
+        ],
+    )?;
+    Ok(())
+}
+
+/// The lists of calls and of workers are made for as many as there are. Lists for ten times as many would
+/// take more pages.
+#[test]
+fn a_script_takes_hardly_more_than_its_text_and_its_calls(rt: HostRuntime) -> Result<(), Fail> {
+    let mut script = String::new(rt.alloc());
+    put_wide_script(&mut script)?;
+    try_rows(
+        &rt,
+        &[Row::of(Play::Script(script.as_bytes()), 4096, 100, 175)],
+    )?;
+    Ok(())
+}
+
+/// A history whose growth is the greatest request: the last refusals are those of steps. The same history is
+/// read as a list, and written again.
+#[test]
+fn a_growth_of_a_history_is_refused(rt: HostRuntime) -> Result<(), Fail> {
+    let mut steps = String::new(rt.alloc());
+    put_pairs(&mut steps, 2_000)?;
+    for stream in [Stream::Replay, Stream::History] {
+        let what = Play::Through(stream, steps.as_bytes());
+        try_rows(&rt, &[Row::of(what, COARSE, 700, 900)])?;
+    }
+    let mut history = String::new(rt.alloc());
+    put_history_of_pairs(&mut history, 600)?;
+    try_rows(
+        &rt,
+        &[Row::of(Play::Again(history.as_bytes()), COARSE, 220, 280)],
+    )?;
+    try_rows(
+        &rt,
+        &[Row::of(
+            Play::Through(Stream::Audit, history.as_bytes()),
+            COARSE,
+            250,
+            290,
+        )],
+    )?;
+    Ok(())
+}

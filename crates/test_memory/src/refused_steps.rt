@@ -1,0 +1,220 @@
+//! Memory that is refused to a step.
+//!
+//! What a core is to answer is told by one that lacks no memory.
+
+use crate::any_core::{AnyCore, Outcome};
+use frame::acts::{Act, Done};
+use history::entry::Mode;
+use history::fault::Fault;
+use history::header::{Header, Object, Policy};
+use history::step::{Answer, Step};
+use std::alloc::AllocError;
+use std::process::Abort;
+use std::test::Fail;
+use steps::read_steps;
+use test_support::examples::{situations, strict_situations};
+use test_support::memory::Memory;
+
+/// A page of a history takes three such pieces and a part of a fourth.
+const PIECE: usize = 4096;
+
+/// A page and the list of pages take no more pieces.
+const PAGE: u32 = 6;
+
+/// The places of three pages.
+const MANY_PLACES: u64 = 3072;
+
+/// An act of a core that lacks no memory: what it was answered, and what the core told afterwards.
+#[derive(Clone, Copy, Drop)]
+struct Played {
+    act: Act,
+    outcome: Outcome,
+    told: u64,
+    places: u64,
+}
+
+fn lacks_memory(outcome: &Outcome) -> bool {
+    matches!(outcome, Err(Fault::OutOfMemory))
+}
+
+/// Makes the acts over and over, but no longer than until the history has three pages. Whether there was
+/// memory for what came of them.
+fn note(core: &mut AnyCore, acts: &[Act], rounds: u32, played: &mut Vec<Played>) -> bool {
+    for _ in 0..rounds {
+        if MANY_PLACES <= core.places() {
+            break;
+        }
+        for act in acts {
+            let outcome = core.act(*act);
+            let noted = Played {
+                act: *act,
+                outcome,
+                told: core.told(),
+                places: core.places(),
+            };
+            if played.push(noted).is_err() {
+                return false;
+            }
+        }
+    }
+    true
+}
+
+/// Asks for an act while memory is given back piece by piece, until it is enough for a page, and no more.
+/// Each refusal leaves all as it was.
+fn feed(
+    rt: &(impl Abort + AllocGlobal),
+    core: &mut AnyCore,
+    memory: &mut Memory,
+    act: Act,
+    before: u64,
+) -> Outcome {
+    for _ in 0..PAGE {
+        let outcome = core.act(act);
+        if !lacks_memory(&outcome) {
+            return outcome;
+        }
+        let given = memory.give_piece();
+        assert!(rt; given && core.told() == before);
+    }
+    Err(Fault::OutOfMemory)
+}
+
+/// An act where there is no memory is refused exactly if its history wants a page, and is answered in the end
+/// as if it came first. Whether it was refused.
+fn follow(
+    rt: &(impl Abort + AllocGlobal),
+    core: &mut AnyCore,
+    memory: &mut Memory,
+    played: &Played,
+) -> bool {
+    let (before, places) = (core.told(), core.places());
+    let mut outcome = core.act(played.act);
+    let is_refused = lacks_memory(&outcome);
+    if is_refused {
+        assert!(rt; core.told() == before && core.places() == places);
+        outcome = feed(rt, core, memory, played.act, before);
+        let taken = memory.take_rest();
+        assert!(rt; taken.is_ok());
+    }
+    assert!(rt; is_refused == (places < played.places));
+    assert!(rt; outcome == played.outcome, "{outcome:?}");
+    assert!(rt; core.told() == played.told);
+    assert!(rt; core.places() == played.places);
+    is_refused
+}
+
+/// How many acts are refused.
+fn follow_all(
+    rt: &(impl Abort + AllocGlobal),
+    core: &mut AnyCore,
+    played: &[Played],
+) -> Result<u32, AllocError> {
+    let mut memory = Memory::take_all(rt.alloc(), PIECE)?;
+    let mut refused: u32 = 0;
+    for step in played {
+        refused = refused.saturating_add(u32::from(follow(rt, core, &mut memory, step)));
+    }
+    Ok(refused)
+}
+
+/// The acts over and over, once with all memory and once with each growth of the history refused first; how
+/// many were.
+fn refuse(
+    rt: &(impl Abort + AllocGlobal),
+    header: &Header,
+    acts: &[Act],
+    rounds: u32,
+) -> Result<u32, Fault> {
+    let mut played = Vec::new(rt.alloc());
+    let mut core = AnyCore::open(rt.alloc(), header)?;
+    let is_noted = note(&mut core, acts, rounds, &mut played);
+    assert!(rt; is_noted);
+    drop(core);
+    let mut core = AnyCore::open(rt.alloc(), header)?;
+    Ok(follow_all(rt, &mut core, &played)?)
+}
+
+/// The same of a steps text, with a cap of its own or with one that its history doesn't come near.
+fn refuse_text(
+    rt: &(impl Abort + AllocGlobal),
+    text: &str,
+    cap: Option<u32>,
+    rounds: u32,
+) -> Result<u32, Fail> {
+    let read = read_steps(rt.alloc(), text.as_bytes())?;
+    let mut header = read.header.header;
+    header.cap = cap.unwrap_or(header.cap);
+    Ok(refuse(rt, &header, &read.acts, rounds)?)
+}
+
+/// A history within its cap takes one page, and a long one three. No steps take none.
+#[test]
+fn a_refused_step_changes_nothing(rt: HostRuntime) -> Result<(), Fail> {
+    for examples in [situations(), strict_situations()] {
+        for example in examples {
+            let (text, name) = (example.steps, example.name);
+            let some = u32::from(name != "no_steps");
+            let within = refuse_text(&rt, text, None, 24)?;
+            let beyond = refuse_text(&rt, text, Some(1_000_000), 4096)?;
+            assert!(rt;
+                within == some && beyond == 3 * some,
+                "{name}: {within} and {beyond}"
+            );
+        }
+    }
+    Ok(())
+}
+
+const TAKE: Step = Step::Acquire(Mode::X, 1);
+
+const ACTS: [Act; 4] = [Act::Do(0, TAKE), Act::Trim, Act::Do(1, TAKE), Act::Trim];
+
+const LOCK: Header = Header {
+    object: Object::Lock(Policy::Fair),
+    seats: 2,
+    conditions: 0,
+    cap: 64,
+};
+
+/// Acts once there is memory for the list of their answers. Before that nothing is done.
+fn act_starved(
+    rt: &(impl Abort + AllocGlobal),
+    core: &mut AnyCore,
+    acts: &[Act],
+) -> Result<Vec<Outcome>, Fault> {
+    let before = core.told();
+    let mut memory = Memory::take_all(rt.alloc(), 256)?;
+    for refused in 0..9 {
+        match core.run_acts(rt.alloc(), acts) {
+            Ok(outcomes) => {
+                assert!(rt; 1 <= refused);
+                return Ok(outcomes);
+            }
+            Err(fault) => {
+                let given = memory.give_piece();
+                assert!(rt; given && fault == Fault::OutOfMemory && core.told() == before);
+            }
+        }
+    }
+    Err(Fault::OutOfMemory)
+}
+
+fn has_recorded(outcome: &Outcome) -> bool {
+    matches!(outcome, Ok(Done::Answered(Answer::Recorded(_, _))))
+}
+
+/// With memory for the answers alone no step has a place for its entry, and a trim finds none to fold. With
+/// memory each step is recorded, and folded by the next trim.
+#[test]
+fn acts_go_on_if_memory_was_refused(rt: HostRuntime) -> Result<(), Fail> {
+    let mut core = AnyCore::open(rt.alloc(), &LOCK)?;
+    let starved = act_starved(&rt, &mut core, &ACTS)?;
+    let wanted = [Err(Fault::OutOfMemory), Ok(Done::Trimmed(0))];
+    assert!(rt; starved.starts_with(&wanted) && starved.ends_with(&wanted) && starved.len() == 4);
+    let outcomes = core.run_acts(rt.alloc(), &ACTS)?;
+    assert_eq!(rt; outcomes.len(), 4);
+    assert!(rt; has_recorded(&outcomes[0]) && has_recorded(&outcomes[2]));
+    assert!(rt; outcomes[1] == Ok(Done::Trimmed(1)) && outcomes[3] == Ok(Done::Trimmed(1)));
+    Ok(())
+}

@@ -1,0 +1,86 @@
+//! How much a window reads at once, and what is read of a source once memory is refused.
+
+ghost use Rattle.std.specs.Prelude.{◌≡◌, ◌<◌, false};
+ghost use Rattle.streams.specs.Window.{kept_of_line};
+
+use std::alloc::{AllocError, Global};
+use std::test::Fail;
+use streams::memory_source::MemorySource;
+use streams::rest::read_all;
+use streams::source::Source;
+use streams::stream_fault::StreamFault;
+use streams::window::Window;
+use test_support::memory::Memory;
+
+/// Reads on to a whole line, or to the end of a source that hasn't failed.
+fn read_line(window: &mut Window, source: &mut MemorySource) -> Result<(), StreamFault>
+    requires { kept_of_line < window.old.places }
+    ensures { window.new.places ≡ window.old.places }
+{
+    if source.has_failed() {
+        return Err(StreamFault::ReadFailed);
+    }
+    window.read_line(source)
+}
+
+/// Whether a window that looks at one line has these bytes of a source then, and reading has failed or not.
+fn sees(
+    alloc: Global,
+    source: &mut MemorySource,
+    left: &[u8],
+    fails: bool,
+) -> Result<bool, AllocError> {
+    let mut window = Window::open(alloc)?;
+    let has_failed = read_line(&mut window, source) == Err(StreamFault::ReadFailed);
+    Ok(has_failed == fails && window.bytes() == left)
+}
+
+fn source_of(
+    alloc: Global,
+    text: &[u8],
+    piece: usize,
+    fails_at: Option<u64>,
+) -> Result<MemorySource, AllocError> {
+    let bytes = Vec::from_slice(alloc, text)?;
+    Ok(MemorySource::new(bytes, piece.max(1), fails_at))
+}
+
+/// A text in pieces of some size, the read that fails, the bytes that stand in the window then, and whether
+/// reading has failed. What was read before a read failed stands in the window. Once a whole line stands in
+/// it nothing more is read: the next read would fail. A read takes all that the source gives.
+const SEEN: [(&[u8], usize, Option<u64>, &[u8], bool); 6] = [
+    (b"one two\n", 2, Some(0), b"", true),
+    (b"one two\n", 2, Some(1), b"on", true),
+    (b"one two\n", 2, Some(2), b"one ", true),
+    (b"one\ntwo\n", 1, Some(4), b"one\n", false),
+    (b"one\ntwo\n", 3, Some(2), b"one\ntw", false),
+    (b"one\ntwo\n", 4096, Some(1), b"one\ntwo\n", false),
+];
+
+#[test]
+fn a_window_reads_one_line_and_keeps_what_it_read(rt: HostRuntime) -> Result<(), Fail> {
+    for (number, (text, piece, fails_at, left, fails)) in SEEN.iter().enumerate() {
+        let mut source = source_of(rt.alloc(), text, *piece, *fails_at)?;
+        let is_seen = sees(rt.alloc(), &mut source, left, *fails);
+        assert!(rt; is_seen == Ok(true), "{number}");
+    }
+    Ok(())
+}
+
+/// Whether a source that hasn't failed is read into no memory.
+fn lacks_memory(alloc: Global, source: &mut MemorySource) -> Result<bool, AllocError>
+    requires { source.old.failed ≡ false }
+{
+    let _memory = Memory::take_all(alloc, 256)?;
+    Ok(matches!(read_all(alloc, source), Err(StreamFault::Memory)))
+}
+
+/// Once memory is refused nothing more is read: the second read would fail.
+#[test]
+fn nothing_is_read_after_want_of_memory(rt: HostRuntime) -> Result<(), Fail> {
+    let bytes = Vec::from_slice(rt.alloc(), &[b'7'; 1000])?;
+    let mut source = MemorySource::new(bytes, 100, Some(1));
+    let lacks = lacks_memory(rt.alloc(), &mut source);
+    assert!(rt; lacks == Ok(true) && !source.has_failed());
+    Ok(())
+}
