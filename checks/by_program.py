@@ -7,9 +7,9 @@
 - `fuzz.py`: random texts, others each day.
 - `spoilt.py`: two examples with each byte changed.
 
-The seed, as the hash of a commit, chooses the examples and the storms. Each check has a line with its numbers,
-its seconds and those of processors. What a check that failed has printed stands above its line. The last line
-is 'N passed, M failed'.
+The seed, as the hash of a commit, chooses the examples and the storms. Each check has a line with its
+numbers, its seconds and those of processors. What a check that failed has printed stands above its line. The
+last line is 'N passed, M failed'.
 """
 
 import pathlib

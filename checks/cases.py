@@ -75,7 +75,8 @@ class Case:
 
     def is_run(self, text):
         """Whether a text may be that of a run, if this is a run."""
-        return self.words[:1] != ["run"] or self.status != 0 or not runs.judged(json.loads(self.input()), text)
+        is_other = self.words[:1] != ["run"] or self.status != 0
+        return is_other or runs.judged(json.loads(self.input()), text) is None
 
     def is_answer(self, status, output, error):
         is_told = (status, error) == (self.status, self.error) and self.is_output(output)

@@ -3,9 +3,9 @@
 
 For each of replay, audit, draw and run: input that comes one byte at a time and output that is taken so, an
 output that nobody reads, a full disk, a folder and a file that may not be read as FILE, and ever less memory
-for data until the system does not load the program. With GIGABYTES, that much of good steps flows through
-`aqs replay --history` into `aqs audit` by pipes, and their greatest memory is told. The last line is
-'N passed, M failed'.
+for data until the system does not load the program. Of eight threads each one in turn is not started. With
+GIGABYTES, that much of good steps flows through `aqs replay --history` into `aqs audit` by pipes, and their
+greatest memory is told. The last line is 'N passed, M failed'.
 """
 
 import collections
@@ -154,6 +154,21 @@ def little_memory(program, words, text, wanted):
     return False
 
 
+def threads_not_started(program, count=8):
+    """Whether a script of so many threads tells the lowest that the system does not start: with ever less
+    memory the last, then the one before it, down to the first. Nothing is written."""
+    script = {"objects": [["a", f"latch seats {count} count 0 cap 64"]], "threads": []}
+    script["threads"] = [{"repeat": 1, "calls": ["a give s 1"]}] * count
+    text, told = json.dumps(script).encode(), []
+    answer_at = lambda pages: within(program, ["run"], text, pages)
+    most = next(2000 << doubled for doubled in range(10) if answer_at(2000 << doubled)[0] == 0)
+    for pages in range(most, 0, -(most // 128)):
+        answer = answer_at(pages)
+        if answer[0] == 4 and answer not in told:
+            told.append(answer)
+    return told == [(4, b"", b"aqs: thread %d not started\n" % number) for number in range(count - 1, -1, -1)]
+
+
 def as_somebody(program, scratch):
     """The program, and how it is run by a user who may not read every file."""
     if os.geteuid():
@@ -189,6 +204,7 @@ def results(program, scratch):
         yield f"{name} of a file that may not be read", answer == READ_FAILED
         yield f"{name}, no input", run(program, words)[0] == 3
         yield f"{name}, little memory", little_memory(program, words, text, wanted)
+    yield "run, threads that are not started", threads_not_started(program)
 
 
 def flow(program, gigabytes):

@@ -1,9 +1,9 @@
 """What `aqs run` must answer to a good thread script, by docs/SPECIFICATION.md alone.
 
 `alone(script)` is the whole run text of a script of one thread. `judged(script, text)` says what is wrong
-with the run text of any script: each history must be legal by `rules.py` and have the audit text that follows it,
-and the entries of each seat must be those of its thread's calls, in order. Only a call with a fault, or one
-for which there may be no room, has none. A script is the value of its JSON text. The program is asked
+with the run text of any script: each history must be legal by `rules.py` and have the audit text that follows
+it, and the entries of each seat must be those of its thread's calls, in order. Only a call with a fault, or
+one for which there may be no room, has none. A script is the value of its JSON text. The program is asked
 nothing.
 """
 

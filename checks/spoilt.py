@@ -8,8 +8,8 @@ by chance. Without a SEED all files are taken, with all values, which takes an h
 
 The program must answer each text as checks/rules.py does: with its first fault and nothing written, or whole.
 A script that is still good must be run as checks/runs.py says; one of several threads may wait for ever, so
-it has half a second. Each text comes with CR LF, NUL and long numbers too, and with a line of a megabyte. What
-disagrees is printed. The last line is 'N passed, M failed'.
+it has half a second. Each text comes with CR LF, NUL and long numbers too, and with a line of a megabyte.
+What disagrees is printed. The last line is 'N passed, M failed'.
 """
 
 import collections
