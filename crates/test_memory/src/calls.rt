@@ -12,10 +12,7 @@ use history::arrival::Arrival;
 use history::entries::History;
 use history::entry::{End, Entry, Mode, Word};
 use history::header::{Header, Object, Policy};
-use history::number::{Numbering, number_of, put_number, put_permits, spell};
-use history::pieces::{put_byte, put_bytes};
-use history::words::Words;
-use history_text::{ReadFault, TextFault, read_text};
+use history::number::{Numbering, number_of, put_number, spell};
 use node_arena::arena::Arena;
 use node_arena::node::Node;
 use std::test::Fail;
@@ -50,18 +47,28 @@ fn a_node_stands_until_it_comes_to_the_head(rt: HostRuntime) -> Result<(), Fail>
     Ok(())
 }
 
-#[test]
-fn sleepers_move_to_the_line_in_order(rt: HostRuntime) -> Result<(), Fail> {
-    let mut queue = Queue::open(rt.alloc(), 8)?;
-    let mut waiters = Waiters::open(rt.alloc(), 3, 8)?;
+/// Puts seats to sleep on a condition; whether all of them were awake.
+fn put_to_sleep(waiters: &mut Waiters) -> bool
+    requires seats { waiters.old.seats ≡ 8 }
+    requires conditions { waiters.old.conditions ≡ 3 }
+{
+    let mut all = true;
     for seat in [4, 5, 6] {
         if waiters.sleeper_of(seat).is_none() {
             waiters.join(2, seat, 7);
+        } else {
+            all = false;
         }
     }
-    assert!(rt; waiters.len(2) == 3 && waiters.leave(6));
+    all
+}
+
+#[test]
+fn sleepers_sleep_until_they_leave(rt: HostRuntime) -> Result<(), Fail> {
+    let mut waiters = Waiters::open(rt.alloc(), 3, 8)?;
+    let are_asleep = put_to_sleep(&mut waiters);
+    assert!(rt; are_asleep && waiters.len(2) == 3 && waiters.leave(6) && waiters.len(2) == 2);
     assert!(rt; waiters.sleeper_of(5).map(|sleeper| sleeper.holds) == Some(7));
-    assert!(rt; waiters.len(2) == 2 && queue.is_empty());
     Ok(())
 }
 
@@ -107,30 +114,9 @@ fn numbers_have_one_spelling(rt: HostRuntime) -> Result<(), Fail> {
         put_number(&mut out, *number)?;
         assert!(rt; out.ends_with(text.as_bytes()) && number_of(text.as_bytes()) == Some(*number));
     }
-    let mut out = Vec::new(rt.alloc());
-    put_permits(&mut out, -2_147_483_648)?;
-    assert!(rt; out.as_slice() == b"-2147483648".as_slice());
-    Ok(())
-}
-
-/// The bytes beside those that are put stay.
-#[test]
-fn pieces_are_put_over_other_bytes(rt: HostRuntime) {
-    let mut line = [b'.'; 6];
-    let after = put_byte(&mut line, 1, b'a');
-    let end = put_bytes(&mut line, after, b"bcd");
-    assert!(rt; after == 2 && end == 5 && line == *b".abcd.");
-}
-
-#[test]
-fn words_are_taken_one_by_one(rt: HostRuntime) {
-    let mut words = Words::of(b"12 s seats 5 x  end");
-    assert!(rt; words.number(12, 12) == Some(12) && words.mode() == Some(Mode::S));
-    assert!(rt; words.named(b"seats", 1, 5) == Some(5) && words.mode() == Some(Mode::X));
-    assert!(rt; words.next() == Some(b"".as_slice()) && words.expect(b"end").is_some());
-    assert!(rt; words.next().is_none());
     let got = Entry::read_words(3, b"got x 1");
     assert!(rt; got == Some(GOT) && Entry::read_words(3, b"got x 01").is_none());
+    Ok(())
 }
 
 const GOT: Entry = Entry {
@@ -183,25 +169,6 @@ fn totals_of_no_entries_are_none(rt: HostRuntime) -> Result<(), Fail> {
     Ok(())
 }
 
-/// A text that isn't a history is read to its first fault.
-#[test]
-fn a_text_has_its_first_fault(rt: HostRuntime) {
-    for (text, fault) in [
-        (b"aqs-history 2 lock\n".as_slice(), TextFault::BadHeader),
-        (
-            b"aqs-history 1 latch seats 1 count 0 cap 16\n0 1 got s 1\n",
-            TextFault::BadLine(2),
-        ),
-        (
-            b"aqs-history 1 latch seats 1 count 0 cap 16\nend 0 0",
-            TextFault::CutShort,
-        ),
-    ] {
-        let read = read_text(rt.alloc(), text);
-        assert!(rt; matches!(read, Err(ReadFault::Text(found)) if found == fault));
-    }
-}
-
 /// No seat of a semaphore or a latch sleeps, so there is nothing to restore.
 #[test]
 fn restoring_changes_no_permits_and_no_count(rt: HostRuntime) {
@@ -210,46 +177,4 @@ fn restoring_changes_no_permits_and_no_count(rt: HostRuntime) {
     let mut latch = LatchHooks::open(3);
     latch.restore(0, 2);
     assert!(rt; semaphore.level() == 3 && latch.level() == 3);
-}
-
-/// Adds so many entries, each with its own number in it; how often the list has grown.
-fn add_numbers(history: &mut History, count: u32) -> u64 {
-    let mut grown: u64 = 0;
-    for n in 0..count {
-        let places = history.places();
-        if history.make_room(1).is_ok() {
-            history.add(Entry { n, ..GOT }, 0);
-        }
-        grown = grown.saturating_add(u64::from(history.places() != places));
-    }
-    grown
-}
-
-fn has_number(history: &History, n: u32) -> bool {
-    history.get(u64::from(n)).map(|entry| entry.n) == Some(n)
-}
-
-/// Entries stand on both sides of the border of a page, and each page is reserved once.
-#[test]
-fn a_history_stands_in_its_pages(rt: HostRuntime) -> Result<(), Fail> {
-    for (count, pages) in [
-        (1, 1),
-        (1023, 1),
-        (1024, 1),
-        (1025, 2),
-        (2049, 3),
-        (100_000, 98),
-    ] {
-        let mut history = History::open(rt.alloc(), 100_000);
-        let grown = add_numbers(&mut history, count);
-        assert!(rt;
-            grown == pages && history.places() == pages.saturating_mul(1024),
-            "{count}"
-        );
-        let all = (0..count).all(|n| has_number(&history, n));
-        assert!(rt;
-            all && history.get(u64::from(count)).is_none() && history.len() == u64::from(count)
-        );
-    }
-    Ok(())
 }

@@ -33,15 +33,15 @@ fn next(number: u64) -> u64 {
 }
 
 /// A number below another, from some of a number's digits.
-fn part(number: u64, digits: u64, end: u64) -> u64 {
-    number / digits.max(1) % end.max(1)
+fn part(number: u64, digits: u64, end: u16) -> u16 {
+    (number / digits.max(1) % u64::from(end.max(1))) as u16
 }
 
 fn amount(object: Object, number: u64) -> u32 {
     match object {
         Object::Semaphore(_, _) => match part(number, 1 << 30, 24) {
             0 => 2_147_483_647,
-            few => (few % 4) as u32,
+            few => u32::from(few % 4),
         },
         _ => 1,
     }
@@ -58,8 +58,8 @@ fn mode(object: Object, number: u64) -> Mode {
 
 /// An act of whatever kind.
 fn act_of(header: &Header, number: u64) -> Act {
-    let seat = part(number, 1 << 36, u64::from(header.seats)) as u16;
-    let condition = part(number, 1 << 40, 2) as u8;
+    let seat = part(number, 1 << 36, header.seats);
+    let condition = u8::from(part(number, 1 << 40, 2) == 1);
     let (mode, n) = (mode(header.object, number), amount(header.object, number));
     let step = match part(number, 1 << 44, 24) {
         0..=5 => Step::Acquire(mode, n),
@@ -175,13 +175,19 @@ fn most_conditions(object: Object) -> u8 {
     }
 }
 
-/// The header of a list by its number.
+/// The header of a list by its number: each number of seats with each cap, and some conditions.
 fn header_of(object: Object, number: u64) -> Header {
+    let conditions = if number < 12 { 1 } else { 2 };
+    let cap = match part(number, 4, 3) {
+        0 => 16,
+        1 => 56,
+        _ => 96,
+    };
     Header {
         object,
-        seats: 1 + part(number, 1, 4) as u16,
-        conditions: (part(number, 4, 3) as u8).min(most_conditions(object)),
-        cap: 16 + 40 * part(number, 2, 3) as u32,
+        seats: part(number, 1, 4).saturating_add(1),
+        conditions: most_conditions(object).min(conditions),
+        cap,
     }
 }
 

@@ -149,27 +149,24 @@ fn bars(alloc: Global) -> Came {
     }
 }
 
-/// Answers that are right if they are as many as the acts.
-fn counted(answers: Result<usize, Fault>) -> Came {
-    match answers {
-        Ok(count) => Ok(count == MANY),
-        Err(fault) => opened::<()>(Err(fault)),
+/// Many looks of a core in one run: each is answered a fault, and none takes memory.
+fn look(alloc: Global, core: &mut AnyCore, by_acts: bool) -> Came {
+    if by_acts {
+        match core.run_acts(alloc, &[Act::Do(0, Step::Look); MANY]) {
+            Ok(outcomes) => Ok(outcomes.len() == MANY),
+            Err(fault) => opened::<()>(Err(fault)),
+        }
+    } else {
+        match core.run(alloc, &[(0, Step::Look); MANY]) {
+            Ok(answers) => Ok(answers.len() == MANY),
+            Err(fault) => opened::<()>(Err(fault)),
+        }
     }
 }
 
-/// A core that makes many looks in one run: each is answered a fault, and none takes memory.
-fn look(alloc: Global, by_acts: bool) -> Came {
+fn opened_and_run(alloc: Global, by_acts: bool) -> Came {
     match AnyCore::open(alloc, &THREE_SEATS) {
-        Ok(mut core) if by_acts => {
-            counted(
-                core.run_acts(alloc, &[Act::Do(0, Step::Look); MANY])
-                    .map(|all| all.len()),
-            )
-        }
-        Ok(mut core) => counted(
-            core.run(alloc, &[(0, Step::Look); MANY])
-                .map(|all| all.len()),
-        ),
+        Ok(mut core) => look(alloc, &mut core, by_acts),
         Err(fault) => opened::<()>(Err(fault)),
     }
 }
@@ -201,8 +198,8 @@ pub fn perform(rt: &(impl AllocGlobal + Clock), what: Play, out: &mut Vec<u8>) -
     let alloc = rt.alloc();
     match what {
         Play::Bars => bars(alloc),
-        Play::Run => look(alloc, false),
-        Play::RunActs => look(alloc, true),
+        Play::Run => opened_and_run(alloc, false),
+        Play::RunActs => opened_and_run(alloc, true),
         Play::Core(header) => opened(AnyCore::open(alloc, &header)),
         Play::Base(header) => opened(Base::open(alloc, &header)),
         Play::Readers => opened(RwHooks::open(alloc, Policy::Fair, 256)),

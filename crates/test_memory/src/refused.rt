@@ -227,24 +227,36 @@ fn a_replay_of_many_seats_takes_hardly_more_than_its_tables(rt: HostRuntime) -> 
     Ok(())
 }
 
-/// Sources, lists and scripts that are read whole, and a history that is written again. A list of steps takes
-/// memory twice, each time more pieces, and no more than it needs.
+/// Lists and scripts that are read whole, and histories that are written again.
 #[test]
 fn what_is_read_is_read_whole_or_not_at_all(rt: HostRuntime) -> Result<(), Fail> {
+    try_rows(
+        &rt,
+        &[
+            Row::of(Play::Again(HISTORY), 64, 160, 200),
+            Row::of(Play::Again(ON_SLEEPER), 64, 185, 230),
+            Row::of(Play::Script(SCRIPT), FINE, 700, 860),
+        ],
+    )?;
+    Ok(())
+}
+
+/// A list of steps takes memory twice, each time more pieces, and no more than it needs. So do the bytes of a
+/// source.
+#[test]
+fn a_list_and_a_source_take_hardly_more_than_they_have(rt: HostRuntime) -> Result<(), Fail> {
     let mut steps = String::new(rt.alloc());
     steps.push_str("aqs-steps 1 latch seats 1 count 1 cap 16\n")?;
     put_times(&mut steps, "0 look\n", 200)?;
     steps.push_str("end 200\n")?;
-    let bytes = [b'7'; 100_000];
     try_rows(
         &rt,
-        &[
-            Row::of(Play::Steps(steps.as_bytes()), COARSE, 12, 24),
-            Row::of(Play::Bytes(&bytes), COARSE, 440, 530),
-            Row::of(Play::Script(SCRIPT), FINE, 700, 860),
-            Row::of(Play::Again(HISTORY), 64, 160, 200),
-            Row::of(Play::Again(ON_SLEEPER), 64, 185, 230),
-        ],
+        &[Row::of(Play::Steps(steps.as_bytes()), COARSE, 12, 24)],
+    )?;
+    put_times(&mut steps, "0 look\n", 14_000)?;
+    try_rows(
+        &rt,
+        &[Row::of(Play::Bytes(steps.as_bytes()), COARSE, 440, 530)],
     )?;
     Ok(())
 }

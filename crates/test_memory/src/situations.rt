@@ -10,9 +10,9 @@ use driver::line_writer::LineWriter;
 use frame::acts::{Act, Done};
 use history::fault::Fault;
 use history::header::Header;
-use history::step::{Answer, Step};
+use history::step::Answer;
 use history::text::first_line;
-use std::alloc::{AllocError, Global};
+use std::alloc::Global;
 use std::process::Abort;
 use std::test::Fail;
 use steps::{ReadFault, read_steps};
@@ -48,7 +48,7 @@ fn put_answer(
     is_put
 }
 
-/// The answer to a step.
+/// The answer to a step of a list without trims.
 fn answer_of(outcome: &Outcome) -> Result<Answer, Fault> {
     match outcome {
         Ok(Done::Answered(answer)) => Ok(*answer),
@@ -57,17 +57,21 @@ fn answer_of(outcome: &Outcome) -> Result<Answer, Fault> {
     }
 }
 
-/// Appends a replay text of what steps were answered, but for its first line.
+/// Appends a replay text of what acts were answered.
 fn put_lines(
     lines: &mut LineWriter,
     out: &mut Vec<u8>,
-    steps: &[(u16, Step)],
-    answers: &[Result<Answer, Fault>],
+    acts: &[Act],
+    outcomes: &[Outcome],
     core: &AnyCore,
 ) -> bool {
     let mut number = 0;
-    for (step, answer) in steps.iter().zip(answers) {
-        if !put_answer(lines, out, &mut number, step.0, answer) {
+    for (act, outcome) in acts.iter().zip(outcomes) {
+        let seat = match act {
+            Act::Do(seat, _) => *seat,
+            Act::Trim => return false,
+        };
+        if !put_answer(lines, out, &mut number, seat, &answer_of(outcome)) {
             return false;
         }
     }
@@ -78,63 +82,18 @@ fn put_lines(
         && lines.flush(&mut Device::new(out)).is_ok()
 }
 
-/// Whether a list of acts is answered in one run as its steps are.
-fn acts_so(
-    alloc: Global,
-    core: &mut AnyCore,
-    acts: &[Act],
-    answers: &[Result<Answer, Fault>],
-) -> bool {
-    match core.run_acts(alloc, acts) {
-        Ok(outcomes) => {
-            let mut pairs = outcomes.iter().zip(answers);
-            outcomes.len() == answers.len() && pairs.all(|pair| answer_of(pair.0) == *pair.1)
-        }
-        Err(_) => false,
-    }
-}
-
-/// Appends the lines of what steps are answered in one run. Whether the acts are answered so by another core.
+/// Appends the replay text of a list in one run, behind a first line.
 fn run_lines(
-    alloc: Global,
-    cores: (&mut AnyCore, &mut AnyCore),
-    acts: &[Act],
-    steps: &[(u16, Step)],
-    lines: &mut LineWriter,
-    out: &mut Vec<u8>,
-) -> bool {
-    match cores.0.run(alloc, steps) {
-        Ok(answers) => {
-            put_lines(lines, out, steps, &answers, cores.0)
-                && acts_so(alloc, cores.1, acts, &answers)
-        }
-        Err(_) => false,
-    }
-}
-
-/// The steps of a list.
-fn steps_of(alloc: Global, acts: &[Act]) -> Result<Vec<(u16, Step)>, AllocError> {
-    let mut steps = Vec::with_capacity(alloc, acts.len())?;
-    for act in acts {
-        if let Act::Do(seat, step) = act {
-            steps.push((*seat, *step))?;
-        }
-    }
-    Ok(steps)
-}
-
-/// Appends the same of a header's object.
-fn run_both(
     alloc: Global,
     header: &Header,
     acts: &[Act],
-    lines: &mut LineWriter,
+    first: &[u8],
     out: &mut Vec<u8>,
 ) -> Result<bool, Fault> {
-    let steps = steps_of(alloc, acts)?;
-    let mut first = AnyCore::open(alloc, header)?;
-    let mut second = AnyCore::open(alloc, header)?;
-    Ok(run_lines(alloc, (&mut first, &mut second), acts, &steps, lines, out))
+    let mut lines = LineWriter::open(alloc, first)?;
+    let mut core = AnyCore::open(alloc, header)?;
+    let outcomes = core.run_acts(alloc, acts)?;
+    Ok(put_lines(&mut lines, out, acts, &outcomes, &core))
 }
 
 /// The first line of a text, with its line break.
@@ -148,10 +107,15 @@ fn first_of(text: &[u8]) -> &[u8] {
 /// Whether a situation is answered by its replay text in one run.
 fn is_run(alloc: Global, example: &Example, out: &mut Vec<u8>) -> Result<bool, ReadFault> {
     let replay = example.replay.as_bytes();
-    let mut lines = LineWriter::open(alloc, first_of(replay))?;
     let read = read_steps(alloc, example.steps.as_bytes())?;
     out.clear();
-    let is_run = run_both(alloc, &read.header.header, &read.acts, &mut lines, out);
+    let is_run = run_lines(
+        alloc,
+        &read.header.header,
+        &read.acts,
+        first_of(replay),
+        out,
+    );
     Ok(is_run == Ok(true) && out.as_slice() == replay)
 }
 
