@@ -1,8 +1,0 @@
-use Rattle.std.proofs.Common.{sym, ◌∙◌}
-use Rattle.word_lock.proofs.Sections.{follows_taken}
-use Rattle.test_lock.proofs.adds.add_slowly.Goals as goal
-
-pub unlock-requires-clause-follows : goal.unlock-requires-clause-follows
-unlock-requires-clause-follows g c =
-    follows_taken _ c.args.token _ _ c.got.result.seat c.lock-held.ensures.taken.1 (c.requires.seat_is
-    ∙ sym c.got.ensures) c.add-added.ensures

@@ -1,8 +1,0 @@
-use Rattle.word_lock.proofs.PointLaws.{follows_same}
-use Rattle.word_lock.proofs.Sections.{follows_taken}
-use Rattle.test_lock.proofs.adds.count_now.Goals as goal
-
-pub unlock-requires-clause-follows : goal.unlock-requires-clause-follows
-unlock-requires-clause-follows c =
-    follows_taken _ c.args.token.now _ _ c.args.seat c.in_ok-held.ensures.taken.1 c.requires.seat_is
-    (follows_same c.args.seat _)

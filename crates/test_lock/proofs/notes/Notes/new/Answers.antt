@@ -1,7 +1,0 @@
-use Rattle.std.proofs.Common.{ap, refl}
-use Rattle.std.specs.Prelude.{reverse}
-use Rattle.word_lock.proofs.PointLaws.{agrees_empty}
-use Rattle.test_lock.proofs.notes.Notes.new.Goals as goal
-
-pub returns : goal.returns
-returns c = λ seat. agrees_empty _ seat _ refl (ap reverse c.new.ensures.items)

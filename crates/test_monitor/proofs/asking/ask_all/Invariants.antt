@@ -1,5 +1,0 @@
-use Rattle.monitor.specs.Stepping.{IsSame}
-use Rattle.test_monitor.proofs.asking.ask_all.Given as goal
-
-abbrev pub invariant-loop-seat : goal.invariant-loop-seat
-invariant-loop-seat g l = IsSame l.fn.zero l.zero × IsSame l.fn.one l.one
