@@ -10,7 +10,7 @@ use crate::noted::NotedParking;
 use crate::plays::play_all;
 use crate::tales::fronts::OF_EACH;
 use crate::word_locks::notes::{HEADER, Notes};
-use crate::word_locks::tokens::{is_refused_meanwhile, last};
+use crate::word_locks::tokens::{count_now, is_refused_meanwhile, last};
 use history::entry::{Mode, Word};
 use history::fault::Fault;
 use history::header::Policy;
@@ -82,8 +82,9 @@ fn tie_meanwhile<R: Wait>(
     both
 }
 
-/// Opens a lock, and then makes each of its calls with no memory at all. One entry is added.
-fn open_and_call<R: Abort + Wait + AllocGlobal>(rt: &R, memory: &mut Memory) {
+/// Opens a lock, and makes each of its calls with no more memory than so many pieces, from which nothing is cut.
+/// One entry is added.
+fn open_and_call<R: Abort + Wait + AllocGlobal>(rt: &R, memory: &mut Memory, left: usize) {
     let notes = Notes::with_room(rt.alloc(), 1).expect(rt, "memory");
     let Ok((lock, mut tokens)) = WordLock::open(rt.alloc(), notes, 3) else {
         panic!(rt; "memory")
@@ -93,13 +94,14 @@ fn open_and_call<R: Abort + Wait + AllocGlobal>(rt: &R, memory: &mut Memory) {
     let mut one = last(&lock, &mut tokens, 0);
     let taken = memory.take_pieces();
     memory.take_rest().expect(rt, "a place for each block");
+    memory.give_pieces(left);
     assert!(rt; is_refused_meanwhile(rt, &lock, &mut one, &mut two));
-    assert_eq!(rt; memory.free_pieces(), 0);
+    assert!(rt; count_now(&lock, &mut two, 1, 0) == Some(1) && memory.free_pieces() == left);
     let both = tie_meanwhile(rt, &lock, three, one, two);
-    assert_eq!(rt; memory.free_pieces(), 0);
+    assert_eq!(rt; memory.free_pieces(), left);
     let notes = lock.close(rt, both);
     assert_eq!(rt; notes.list.len(), 1);
-    memory.give_pieces(taken);
+    memory.give_pieces(taken.saturating_sub(left));
 }
 
 // After 16 times a heap has kept all blocks back that it will. Were the smallest block kept each time, more
@@ -108,12 +110,12 @@ fn open_and_call<R: Abort + Wait + AllocGlobal>(rt: &R, memory: &mut Memory) {
 fn no_call_of_a_lock_but_open_takes_memory_and_a_closed_one_keeps_none(rt: HostRuntime) {
     let mut memory = Memory::take_all(rt.alloc(), PIECE).expect(&rt, "memory");
     memory.give_pieces(ENOUGH);
-    for _ in 0..16 {
-        open_and_call(&rt, &mut memory);
+    for turn in 0..16 {
+        open_and_call(&rt, &mut memory, turn % 2);
     }
     let free = memory.free_pieces();
-    for _ in 0..100 {
-        open_and_call(&rt, &mut memory);
+    for turn in 0..100 {
+        open_and_call(&rt, &mut memory, turn % 2);
     }
     assert_eq!(rt; memory.free_pieces(), free);
 }

@@ -131,29 +131,14 @@ fn call_all<H: Front, R: Wait + Clock>(
     ensures { IsSame pass.old pass.new }
 {
     let mut chance = Chance::of_seat(pass.seat());
-    for _ in 0..storm.rounds {
-        let ask = chance.ask(storm.header.object);
+    for number in 0..storm.rounds {
+        let ask = match storm.way {
+            Way::Pairs if number % 2 == 0 => Ask::Lock,
+            Way::Pairs => Ask::Unlock,
+            _ => chance.ask(storm.header.object),
+        };
         let _reply = H::ask(rt, monitor, parking, pass, ask);
         chance.pause(rt);
-    }
-}
-
-/// Repeats calls, all in turn, which do what they are for.
-fn take_and_give<H: Front, R: Abort + Wait + Clock>(
-    rt: &R,
-    monitor: &Monitor<H>,
-    parking: &ThreadParking,
-    pass: &mut Pass,
-    storm: &Storm,
-)
-    requires own { pass.old.lock ≡ monitor.now }
-    requires places { monitor.now.header.seats ≤ parking.now }
-    ensures { IsSame pass.old pass.new }
-{
-    for _ in 0..storm.rounds {
-        let taken = H::ask(rt, monitor, parking, pass, Ask::Lock);
-        let given = H::ask(rt, monitor, parking, pass, Ask::Unlock);
-        assert!(rt; taken == DONE && given == DONE);
     }
 }
 
@@ -191,9 +176,8 @@ fn work<H: Front, R: Abort + Wait + Clock>(
     let mut own = pass;
     counts.start_together(rt, u32::from(storm.header.seats));
     match storm.way {
-        Way::Calls => call_all(rt, monitor, parking, &mut own, storm),
         Way::Steps => step_all(rt, monitor, &mut own, storm),
-        Way::Pairs => take_and_give(rt, monitor, parking, &mut own, storm),
+        _ => call_all(rt, monitor, parking, &mut own, storm),
     }
     for ask in storm.gives {
         give_back(rt, monitor, parking, &mut own, *ask);
@@ -456,7 +440,7 @@ fn four_threads_take_a_lock_250_times_each_and_lose_no_call(rt: HostRuntime) {
             object: Object::Lock(Policy::NonFair),
             ..FOUR
         },
-        rounds: 250,
+        rounds: 500,
         least: 2000,
         ..LOCK
     };

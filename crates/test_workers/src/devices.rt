@@ -167,7 +167,7 @@ fn is_run<R: Abort + Threads + Wait + Clock + AllocGlobal + Sync>(
     memory.give_pieces(pieces);
     match run_within(rt, written) {
         Ok(status) => {
-            assert!(rt; status == 0 && written.ends_with(b"unrecorded 11\n"));
+            assert!(rt; status == 0 && written.ends_with(b"unrecorded 10\n"));
             assert_eq!(rt; count_of(written, "entries 0\ncalls 0\n"), 4);
             true
         }

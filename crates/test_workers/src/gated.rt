@@ -87,7 +87,7 @@ const PERMITS: &str = r#"{"objects":[["a","semaphore nonfair seats 2 permits 9 c
  {"repeat":1,"calls":["a drain","a trim","a give s 8","a try s 3"]}]}"#;
 
 const TRIMMED: &str = "object a\naqs-history 2 semaphore nonfair seats 2 permits 9 cap 16\n\
-    base 2\nseat 0 calls 1 x 0 s 2\nseat 1 calls 1 x 0 s 7\n\
+    base 2 unheld 0\nseat 0 calls 1 x 0 s 2\nseat 1 calls 1 x 0 s 7\n\
     2 1 gave s 8\n3 0 gave s 1\n4 1 trygot s 3\nend 5 5\n\
     legal\nbase 2\nentries 5\ncalls 5\nheld 4 free 6 created 9 unheld 1 line 0\nshares 5\nunrecorded 0\n";
 

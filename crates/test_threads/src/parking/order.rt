@@ -18,6 +18,16 @@ enum Deed {
     Park(u8, Option<u64>, bool),
 }
 
+/// What is done, and what is answered.
+type Row = (Deed, u8);
+
+/// Rows, each written `Deed => answer`.
+macro_rules! deeds {
+    ($($deed:ident($($of:expr),*) => $told:expr),* $(,)?) => {
+        [$((Deed::$deed($($of),*), $told)),*]
+    };
+}
+
 /// The answers. An unpark and an interrupt have none.
 const NONE: u8 = 0;
 
@@ -76,7 +86,7 @@ fn answer<P: Parking, R: Wait + Clock>(rt: &R, parking: &P, deed: Deed) -> u8
     }
 }
 
-fn answer_all<P: Parking, R: Abort + Wait + Clock>(rt: &R, parking: &P, rows: &[(Deed, u8)])
+fn answer_all<P: Parking, R: Abort + Wait + Clock>(rt: &R, parking: &P, rows: &[Row])
     requires { 256 ≤ P.seats parking.now }
 {
     let mut number = 0u32;
@@ -89,30 +99,14 @@ fn answer_all<P: Parking, R: Abort + Wait + Clock>(rt: &R, parking: &P, rows: &[
 
 /// An interrupt comes before a permit, and a permit before a deadline. A permit doesn't count. Signals of a
 /// seat are nothing to its neighbours.
-const IN_ORDER: [(Deed, u8); 23] = [
-    (Deed::Interrupt(0), NONE),
-    (Deed::Unpark(0), NONE),
-    (Deed::Unpark(0), NONE),
-    (Deed::Park(0, None, true), INTERRUPTED),
-    (Deed::Take(0), NOT_SET),
-    (Deed::Park(0, None, false), PERMIT),
-    (Deed::Park(0, Some(1), false), DEADLINE),
-    (Deed::Interrupt(0), NONE),
-    (Deed::Park(0, Some(2), false), DEADLINE),
-    (Deed::Park(0, Some(0), true), INTERRUPTED),
-    (Deed::Interrupt(0), NONE),
-    (Deed::Take(0), WAS_SET),
-    (Deed::Take(0), NOT_SET),
-    (Deed::Unpark(0), NONE),
-    (Deed::Park(0, Some(0), true), PERMIT),
-    (Deed::Park(0, Some(0), true), DEADLINE),
-    (Deed::Unpark(254), NONE),
-    (Deed::Interrupt(254), NONE),
-    (Deed::Park(253, Some(0), true), DEADLINE),
-    (Deed::Park(255, Some(0), true), DEADLINE),
-    (Deed::Take(255), NOT_SET),
-    (Deed::Park(254, Some(0), true), INTERRUPTED),
-    (Deed::Park(254, Some(0), true), PERMIT),
+static IN_ORDER: [Row; 23] = deeds![
+    Interrupt(0) => NONE, Unpark(0) => NONE, Unpark(0) => NONE, Park(0, None, true) => INTERRUPTED,
+    Take(0) => NOT_SET, Park(0, None, false) => PERMIT, Park(0, Some(1), false) => DEADLINE,
+    Interrupt(0) => NONE, Park(0, Some(2), false) => DEADLINE, Park(0, Some(0), true) => INTERRUPTED,
+    Interrupt(0) => NONE, Take(0) => WAS_SET, Take(0) => NOT_SET, Unpark(0) => NONE,
+    Park(0, Some(0), true) => PERMIT, Park(0, Some(0), true) => DEADLINE, Unpark(254) => NONE,
+    Interrupt(254) => NONE, Park(253, Some(0), true) => DEADLINE, Park(255, Some(0), true) => DEADLINE,
+    Take(255) => NOT_SET, Park(254, Some(0), true) => INTERRUPTED, Park(254, Some(0), true) => PERMIT,
 ];
 
 #[test]
@@ -121,6 +115,10 @@ fn an_interrupt_comes_before_a_permit_and_a_permit_before_a_deadline(rt: HostRun
     answer_all(&rt, &parking, &IN_ORDER);
     answer_all(&rt, &parking, &IN_ORDER);
 }
+
+static AT_ONCE: [Row; 3] = deeds![
+    Park(0, Some(60_000), true) => DEADLINE, Unpark(0) => NONE, Park(0, Some(60_000), true) => PERMIT,
+];
 
 /// A clock that can't be read.
 struct NoClock;
@@ -139,32 +137,19 @@ impl Clock for NoClock {
 fn each_deadline_has_come_if_the_clock_cant_be_read(rt: HostRuntime) {
     let parking = ThreadParking::open(&NoClock, rt.alloc(), 256).expect(&rt, "memory");
     assert_eq!(rt; parking.now(&rt), u64::MAX);
-    let rows = [
-        (Deed::Park(0, Some(60_000), true), DEADLINE),
-        (Deed::Unpark(0), NONE),
-        (Deed::Park(0, Some(60_000), true), PERMIT),
-    ];
-    answer_all(&rt, &parking, &rows);
+    answer_all(&rt, &parking, &AT_ONCE);
     let parking = ThreadParking::open(&rt, rt.alloc(), 256).expect(&rt, "memory");
     assert_eq!(rt; parking.now(&NoClock), u64::MAX);
 }
 
 /// An answer that may not be given is used up: an end of its time without a time, an interrupt that the park
 /// doesn't mind. Once none is left each park has a permit.
-const SCRIPTED: [(Deed, u8); 13] = [
-    (Deed::Interrupt(1), NONE),
-    (Deed::Interrupt(255), NONE),
-    (Deed::Park(3, Some(5), true), DEADLINE),
-    (Deed::Park(1, Some(5), true), INTERRUPTED),
-    (Deed::Take(1), NOT_SET),
-    (Deed::Park(3, Some(5), true), PERMIT),
-    (Deed::Park(255, None, true), PERMIT),
-    (Deed::Park(255, Some(1), false), PERMIT),
-    (Deed::Park(255, Some(1), false), DEADLINE),
-    (Deed::Unpark(7), NONE),
-    (Deed::Take(255), WAS_SET),
-    (Deed::Take(255), NOT_SET),
-    (Deed::Park(3, Some(5), true), PERMIT),
+static SCRIPTED: [Row; 13] = deeds![
+    Interrupt(1) => NONE, Interrupt(255) => NONE, Park(3, Some(5), true) => DEADLINE,
+    Park(1, Some(5), true) => INTERRUPTED, Take(1) => NOT_SET, Park(3, Some(5), true) => PERMIT,
+    Park(255, None, true) => PERMIT, Park(255, Some(1), false) => PERMIT,
+    Park(255, Some(1), false) => DEADLINE, Unpark(7) => NONE, Take(255) => WAS_SET,
+    Take(255) => NOT_SET, Park(3, Some(5), true) => PERMIT,
 ];
 
 const ANSWERS: [Woke; 6] = [

@@ -29,27 +29,19 @@ const GRANTED_IN_TIME: Tale = Tale {
 };
 
 const SIGNALLED: Tale = Tale {
-    name: "a sleeper parks once, and is unparked by the unlock behind its signal",
-    waiter: rows![1 Lock => DONE, 1 Wait(0) => DONE, 1 Unlock => DONE],
-    others: rows![0 Lock => DONE, 0 Signal(0) => DONE, 0 Unlock => DONE],
-    calls: 6,
-    parked: &[HEARS, WAKES],
+    name: "who sleeps parks once, and is unparked by the unlock behind its signal",
+    waiter: rows![
+        1 Lock => DONE, 1 Wait(0) => DONE, 1 WaitUninterruptibly(0) => DONE, 1 WaitFor(0, A_MINUTE) => YES,
+        1 Unlock => DONE,
+    ],
+    others: rows![
+        0 Lock => DONE, 0 Signal(0) => DONE, 0 Unlock => DONE, 0 NextPark => YES, 0 Lock => DONE,
+        0 SignalAll(0) => DONE, 0 Unlock => DONE, 0 NextPark => YES, 0 Lock => DONE, 0 Signal(0) => DONE,
+        0 Unlock => DONE,
+    ],
+    calls: 14,
+    parked: &[HEARS, WAKES, PLAIN, WAKES, TIMED, WAKES],
     ..LOCK
-};
-
-const SIGNALLED_WITH_ALL: Tale = Tale {
-    name: "who sleeps uninterruptibly is unparked by the unlock behind its signal",
-    waiter: rows![1 Lock => DONE, 1 WaitUninterruptibly(0) => DONE, 1 Unlock => DONE],
-    others: rows![0 Lock => DONE, 0 SignalAll(0) => DONE, 0 Unlock => DONE],
-    parked: &[PLAIN, WAKES],
-    ..SIGNALLED
-};
-
-const SIGNALLED_IN_TIME: Tale = Tale {
-    name: "who sleeps for a time is unparked by the unlock behind its signal",
-    waiter: rows![1 Lock => DONE, 1 WaitFor(0, A_MINUTE) => YES, 1 Unlock => DONE],
-    parked: &[TIMED, WAKES],
-    ..SIGNALLED
 };
 
 const INTERRUPTED_LATE: Tale = Tale {
@@ -58,9 +50,10 @@ const INTERRUPTED_LATE: Tale = Tale {
     waiter: rows![
         1 Lock => DONE, 1 Wait(0) => DONE, 1 Unlock => DONE, 1 LockInterruptibly => INTERRUPTED,
     ],
+    others: rows![0 Lock => DONE, 0 Signal(0) => DONE, 0 Unlock => DONE],
     calls: 7,
     parked: &[HEARS, WAKES, INTERRUPTS],
-    ..SIGNALLED
+    ..LOCK
 };
 
 const INTERRUPTED_EARLY: Tale = Tale {
@@ -77,7 +70,7 @@ const LAPSED: Tale = Tale {
     others: rows![0 Lock => DONE, 0 NextPark => YES, 0 Unlock => DONE],
     calls: 5,
     parked: &[TIMED, PLAIN, WAKES],
-    ..SIGNALLED
+    ..LOCK
 };
 
 const AWAITED: Tale = Tale {
@@ -85,16 +78,15 @@ const AWAITED: Tale = Tale {
     rows: rows![1 Lock => DONE, 0 Step(Step::Acquire(Mode::X, 1)) => NO],
     waiter: rows![1 Wait(0) => DONE, 1 Unlock => DONE],
     others: rows![0 Step(Step::Look) => YES, 0 Signal(0) => DONE, 0 Unlock => DONE],
+    calls: 6,
     parked: &[Call::Unpark { seat: 0 }, HEARS, WAKES],
-    ..SIGNALLED
+    ..LOCK
 };
 
-static AT_A_LOCK: [Tale; 9] = [
+static AT_A_LOCK: [Tale; 7] = [
     GRANTED,
     GRANTED_IN_TIME,
     SIGNALLED,
-    SIGNALLED_WITH_ALL,
-    SIGNALLED_IN_TIME,
     INTERRUPTED_LATE,
     INTERRUPTED_EARLY,
     LAPSED,
@@ -141,16 +133,6 @@ const READS: Tale = Tale {
 const WRITER_SLEEPS: Tale = Tale {
     header: READ_WRITE,
     ..SIGNALLED
-};
-
-const WRITER_SLEEPS_PLAINLY: Tale = Tale {
-    header: READ_WRITE,
-    ..SIGNALLED_WITH_ALL
-};
-
-const WRITER_SLEEPS_IN_TIME: Tale = Tale {
-    header: READ_WRITE,
-    ..SIGNALLED_IN_TIME
 };
 
 const GRANT_NAMES: Tale = Tale {
@@ -208,13 +190,11 @@ const INTERRUPT_NAMES: Tale = Tale {
     ..LEAVE_NAMES
 };
 
-static AT_A_READ_WRITE_LOCK: [Tale; 9] = [
+static AT_A_READ_WRITE_LOCK: [Tale; 7] = [
     WRITES,
     WRITES_PLAINLY,
     READS,
     WRITER_SLEEPS,
-    WRITER_SLEEPS_PLAINLY,
-    WRITER_SLEEPS_IN_TIME,
     GRANT_NAMES,
     LEAVE_NAMES,
     INTERRUPT_NAMES,

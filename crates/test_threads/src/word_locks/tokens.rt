@@ -190,24 +190,6 @@ fn one_who_sleeps_is_woken(rt: HostRuntime) {
     assert!(rt; used < Duration::from_millis(USED), "{used:?}");
 }
 
-#[test]
-fn tokens_take_turns_meet_and_join(rt: HostRuntime) {
-    let notes = Notes::with_room(rt.alloc(), 2).expect(&rt, "memory");
-    let Ok((lock, mut tokens)) = WordLock::open(rt.alloc(), notes, 2) else {
-        panic!(rt; "memory")
-    };
-    let mut one = last(&lock, &mut tokens, 1);
-    let mut zero = last(&lock, &mut tokens, 0);
-    assert!(rt; is_refused_meanwhile(&rt, &lock, &mut zero, &mut one));
-    assert_eq!(rt; count_now(&lock, &mut one, 1, 0), Some(1));
-    let (mut zero, mut one) = lock.meet(zero, one);
-    assert!(rt; add(&rt, &lock, &mut one, 1, MANY));
-    assert_eq!(rt; count_now(&lock, &mut zero, 0, 1), Some(1));
-    let token = lock.join(zero, one);
-    let notes = lock.close(&rt, token);
-    assert_eq!(rt; (notes.count_of(0), notes.count_of(1)), (1, 1));
-}
-
 /// Opens a lock, which has a token for each seat.
 fn open_for<R: Abort + AllocGlobal>(rt: &R, seats: u16) {
     if seats == 0 {
