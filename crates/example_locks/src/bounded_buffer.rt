@@ -2,7 +2,10 @@
 //!
 //! Prints the sum of what was taken, and what the audit says of the history of the lock.
 
-ghost use Rattle.std.specs.Prelude.{◌≡◌, ◌≤◌, IfOk, IfSome};
+ghost use Rattle.std.specs.Prelude.{◌≡◌, ◌≤◌, All, IfOk, IfSome, length};
+ghost use Rattle.frame.specs.Core.{header_of};
+ghost use Rattle.history.specs.declared.header.Object.TheVariants.{Lock};
+ghost use Rattle.history.specs.declared.header.Policy.TheVariants.{Fair};
 ghost use Rattle.example_locks.specs.declared.bounded_buffer.Failure.TheVariants.{Call};
 ghost use Rattle.monitor.specs.Stepping.{IsSame};
 
@@ -110,6 +113,36 @@ fn exchange<R: Threads + Wait + Clock + Sync>(
     )
 }
 
+/// Both threads with the passes of a lock as it is opened. Gives the passes back, and the sum of what was taken.
+fn exchange_all<R: Threads + Wait + Clock + Sync>(
+    rt: &R,
+    parking: &ThreadParking,
+    monitor: &Monitor<LockHooks>,
+    passes: Vec<Pass>,
+) -> Result<(Vec<Pass>, u64), Failure>
+    requires all { length passes.items ≡ 2 }
+    requires own { All (λ p. p.lock ≡ monitor.now) passes.items }
+    requires places { monitor.now.header.seats ≤ parking.now }
+    ensures { IfOk result (λ r. All (λ p. p.lock ≡ monitor.now) r.0.items) }
+{
+    let mut passes = passes;
+    let Some(consumer) = passes.pop() else {
+        unreachable!()
+    };
+    let Some(producer) = passes.pop() else {
+        unreachable!()
+    };
+    let Some((put, taken)) = exchange(rt, parking, monitor, producer, consumer) else {
+        return Err(Failure::NotStarted);
+    };
+    let (consumer, sum) = taken?;
+    let producer = put?;
+    if passes.push(producer).is_err() || passes.push(consumer).is_err() {
+        return Err(Failure::Call(Fault::OutOfMemory));
+    }
+    Ok((passes, sum))
+}
+
 /// What is told at the end.
 #[derive(Clone, Copy)]
 struct Told {
@@ -118,39 +151,43 @@ struct Told {
     verdict: Verdict,
 }
 
-/// Plays, closes the lock and has its history judged.
+/// Closes the lock and has its history judged.
+fn close<R: Wait>(
+    rt: &R,
+    alloc: Global,
+    monitor: Monitor<LockHooks>,
+    passes: Vec<Pass>,
+    sum: u64,
+) -> Result<Told, Fault>
+    requires own { All (λ p. p.lock ≡ monitor) passes.items }
+    requires header { monitor.header ≡ header_of (Lock Fair) 2 2 10000 }
+{
+    let Ok(closed) = monitor.close(rt, passes) else {
+        return Err(Fault::OutOfPhase);
+    };
+    match check(alloc, &HEADER, &closed.history) {
+        Ok(verdict) => Ok(Told {
+            sum,
+            all_calls: closed.history.calls() == closed.share,
+            verdict,
+        }),
+        Err(fault) => Err(fault),
+    }
+}
+
+/// Plays with a new lock, closes it and has its history judged.
 fn play<R: Threads + Wait + Clock + Sync>(rt: &R, alloc: Global) -> Result<Told, Failure> {
     let parking = ThreadParking::open(rt, alloc, HEADER.seats)?;
     let hooks = LockHooks::open(Policy::Fair);
-    let (monitor, mut passes) = Monitor::open(
+    let (monitor, passes) = Monitor::open(
         alloc,
         hooks,
         HEADER.seats,
         HEADER.conditions,
         HEADER.cap,
     )?;
-    let Some(consumer) = passes.pop() else {
-        unreachable!()
-    };
-    let Some(producer) = passes.pop() else {
-        unreachable!()
-    };
-    let Some((put, taken)) = exchange(rt, &parking, &monitor, producer, consumer) else {
-        return Err(Failure::NotStarted);
-    };
-    let (consumer, sum) = taken?;
-    let producer = put?;
-    let Ok(passes) = vec![in alloc; producer, consumer] else {
-        return Err(Failure::Call(Fault::OutOfMemory));
-    };
-    let Ok(closed) = monitor.close(rt, passes) else {
-        return Err(Failure::Call(Fault::OutOfPhase));
-    };
-    Ok(Told {
-        sum,
-        all_calls: closed.history.calls() == closed.share,
-        verdict: check(alloc, &HEADER, &closed.history)?,
-    })
+    let (passes, sum) = exchange_all(rt, &parking, &monitor, passes)?;
+    Ok(close(rt, alloc, monitor, passes, sum)?)
 }
 
 /// Runs both threads, and prints what came of it.

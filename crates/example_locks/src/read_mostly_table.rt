@@ -7,14 +7,13 @@ ghost use Rattle.std.specs.Prelude.{◌≡◌, ◌≤◌, All, IfOk};
 
 mod table;
 
-use crate::read_mostly_table::table::{Table, Tally, work};
+use crate::read_mostly_table::table::{Outcome, Table, Tally, work};
 use history::fault::Fault;
 use history::header::{Header, Object, Policy};
-use monitor::{Monitor, Pass};
-use monitor_audit::Findings;
-use monitor_fronts::ReadWriteLock;
+use monitor::Pass;
+use monitor_audit::{Findings, close_and_judge};
+use monitor_fronts::{ReadWriteLock, open_read_write_lock};
 use permit::ThreadParking;
-use read_write::hooks::RwHooks;
 use std::alloc::Global;
 use std::sync::Wait;
 use std::thread::Threads;
@@ -49,38 +48,45 @@ fn work_in_threads<R: Threads + Wait + Clock + Sync>(
     Ok(passes)
 }
 
+/// All threads work with these passes, and give them back. Says what they did and saw.
+fn work_at<R: Threads + Wait + Clock + Sync>(
+    rt: &R,
+    parking: &ThreadParking,
+    lock: ReadWriteLock,
+    passes: Vec<Pass>,
+) -> Result<(Vec<Pass>, Outcome), Fault>
+    requires places { lock.monitor.now.header.seats ≤ parking.now }
+    requires own { All (λ p. p.lock ≡ lock.monitor.now) passes.items }
+    ensures { IfOk result (λ r. All (λ p. p.lock ≡ lock.entry.monitor.now) r.0.items) }
+{
+    let table = Table::new(parking, lock);
+    let tally = Tally::new();
+    match work_in_threads(rt, &table, &tally, passes) {
+        Ok(passes) => Ok((passes, tally.outcome(table.version()))),
+        Err(fault) => Err(fault),
+    }
+}
+
 /// What is told at the end.
+#[derive(Clone, Copy)]
 struct Told {
-    tally: Tally,
-    version: u64,
+    outcome: Outcome,
     findings: Findings,
 }
 
 /// Plays, closes the lock and has its history judged.
 fn play<R: Threads + Wait + Clock + Sync>(rt: &R, alloc: Global) -> Result<Told, Fault> {
     let parking = ThreadParking::open(rt, alloc, HEADER.seats)?;
-    let hooks = RwHooks::open(alloc, Policy::NonFair, HEADER.seats)?;
-    let (monitor, passes) = Monitor::open(
+    let (monitor, passes) = open_read_write_lock(
         alloc,
-        hooks,
+        Policy::NonFair,
         HEADER.seats,
         HEADER.conditions,
         HEADER.cap,
     )?;
-    let table = Table::new(&parking, ReadWriteLock::of(&monitor));
-    let tally = Tally::new();
-    let passes = work_in_threads(rt, &table, &tally, passes)?;
-    let version = table.version();
-    drop(table);
-    let Ok(closed) = monitor.close(rt, passes) else {
-        return Err(Fault::OutOfPhase);
-    };
-    let findings = Findings::of(alloc, &HEADER, &closed)?;
-    Ok(Told {
-        tally,
-        version,
-        findings,
-    })
+    let (passes, outcome) = work_at(rt, &parking, ReadWriteLock::of(&monitor), passes)?;
+    let findings = close_and_judge(rt, alloc, &HEADER, monitor, passes)?;
+    Ok(Told { outcome, findings })
 }
 
 /// Runs all threads, and prints what came of it.
@@ -88,21 +94,19 @@ pub fn run<R: Print + AllocGlobal + Threads + Wait + Clock + Sync>(rt: &R) -> io
     let Ok(told) = play(rt, rt.alloc()) else {
         return println!(rt; "out of memory");
     };
-    let Told {
-        tally,
-        version,
-        findings,
-    } = told;
-    println!(rt; "version {version} after {} updates", tally.updates())?;
+    let Told { outcome, findings } = told;
+    println!(rt;
+        "version {} after {} updates",
+        outcome.version, outcome.updates
+    )?;
     println!(rt;
         "looks {}, of them at half an update {}",
-        tally.looks(),
-        tally.halves()
+        outcome.looks, outcome.halves
     )?;
     println!(rt;
         "updates overwritten before their writer looked {}",
-        tally.overwritten()
+        outcome.overwritten
     )?;
-    println!(rt; "faults {}, calls {}", tally.faults(), findings.calls)?;
+    println!(rt; "faults {}, calls {}", outcome.faults, findings.calls)?;
     findings.print(rt)
 }

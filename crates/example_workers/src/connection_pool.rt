@@ -8,12 +8,11 @@ ghost use Rattle.std.specs.Prelude.{◌≡◌, ◌<◌, ◌≤◌, All, IfOk, le
 
 mod pool;
 
-use crate::closing::close_and_judge;
 use crate::connection_pool::pool::{Outcome, Pool, Tally, request_all};
 use history::fault::Fault;
 use history::header::{Header, Object, Policy};
 use monitor::Pass;
-use monitor_audit::Findings;
+use monitor_audit::{Findings, close_and_judge};
 use monitor_fronts::{Semaphore, open_semaphore};
 use permit::ThreadParking;
 use std::alloc::Global;

@@ -15,7 +15,6 @@ mod tally;
 mod threads;
 mod worker;
 
-use crate::closing::close_and_judge;
 use crate::latch_workers::fault::ShiftFault;
 use crate::latch_workers::shift::{SEATS, Shift};
 use crate::latch_workers::tally::{NUMBERS, Outcome, Tally};
@@ -25,7 +24,7 @@ use counting::latch::LatchHooks;
 use history::fault::Fault;
 use history::header::{Header, Object};
 use monitor::{Monitor, Pass};
-use monitor_audit::Findings;
+use monitor_audit::{Findings, close_and_judge};
 use monitor_fronts::open_latch;
 use permit::ThreadParking;
 use std::alloc::Global;

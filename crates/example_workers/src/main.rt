@@ -7,7 +7,6 @@
 //! `example_workers` runs these one after another, and `example_workers NAME` runs the example of this name.
 #![tactic(auto)]
 
-mod closing;
 mod connection_pool;
 mod latch_workers;
 

@@ -1,7 +1,7 @@
 //! What the audit finds in the history that a monitor left.
 #![tactic(auto)]
 
-ghost use Rattle.std.specs.Prelude.{◌≡◌, ◌≤◌, IfOk, IsOkUnless, get_or, length};
+ghost use Rattle.std.specs.Prelude.{◌≡◌, ◌≤◌, All, IfOk, IsOkUnless, get_or, length};
 ghost use Rattle.audit.specs.Verdict.{IsJudgement};
 ghost use Rattle.history.specs.Base.{nothing};
 ghost use Rattle.history.specs.Counts.{total};
@@ -9,16 +9,19 @@ ghost use Rattle.history.specs.Entries.{IsBasedWell, start_on};
 ghost use Rattle.history.specs.GoodBase.{most_folded};
 ghost use Rattle.history.specs.Header.{IsInRange};
 ghost use Rattle.history.specs.Legal.{AreSeated, calls};
+ghost use Rattle.monitor.specs.Closing.{shares};
 
 use audit::sums::Totals;
 use audit::verdict::{Judgement, judge};
+use frame::hooks::Hooks;
 use history::base::SeatBase;
 use history::entries::History;
 use history::fault::Fault;
 use history::header::{Header, Object};
-use monitor::Closed;
+use monitor::{Closed, Monitor, Pass};
 use std::alloc::Global;
 use std::io;
+use std::sync::Wait;
 
 /// What a closed monitor adds up to, and what the audit says of its history.
 #[derive(Clone, Copy, Debug, Drop)]
@@ -70,6 +73,28 @@ impl Findings {
             }
             Judgement::NotLegal(number) => println!(rt; "not legal at {number}"),
         }
+    }
+}
+
+/// Closes a monitor that was opened with this header, and judges its history. `OutOfPhase` if a pass is
+/// missing.
+pub fn close_and_judge<H: Hooks + Drop, R: Wait>(
+    rt: &R,
+    alloc: Global,
+    header: &Header,
+    monitor: Monitor<H>,
+    passes: Vec<Pass>,
+) -> Result<Findings, Fault>
+    requires own { All (λ p. p.lock ≡ monitor) passes.items }
+    requires header { monitor.header ≡ header.now }
+    requires range { IsInRange header.now }
+    ensures object { IfOk result (λ f. f.object ≡ header.now.object) }
+    ensures calls { IfOk result (λ f. f.calls ≡ f.share) }
+    ensures share { IfOk result (λ f. f.share ≡ shares passes.items) }
+{
+    match monitor.close(rt, passes) {
+        Ok(closed) => Findings::of(alloc, header, &closed),
+        Err(_) => Err(Fault::OutOfPhase),
     }
 }
 

@@ -41,6 +41,21 @@ pub struct Tally {
     faults: AtomicU64,
 }
 
+/// What the threads did and saw, as numbers.
+#[derive(Clone, Copy)]
+pub struct Outcome {
+    /// The version of the first row.
+    pub version: u64,
+    pub updates: u64,
+    pub looks: u64,
+    /// Looks that saw rows of two versions.
+    pub halves: u64,
+    /// Updates whose writer found another version as it looked.
+    pub overwritten: u64,
+    /// Turns that ended with a fault.
+    pub faults: u64,
+}
+
 impl Rows {
     fn new() -> Self {
         Rows {
@@ -158,27 +173,16 @@ impl Tally {
         }
     }
 
-    pub fn updates(&self) -> u64 {
-        self.updates.load(Ordering::SeqCst)
-    }
-
-    pub fn looks(&self) -> u64 {
-        self.looks.load(Ordering::SeqCst)
-    }
-
-    /// Looks that saw rows of two versions.
-    pub fn halves(&self) -> u64 {
-        self.halves.load(Ordering::SeqCst)
-    }
-
-    /// Updates whose writer found another version as it looked.
-    pub fn overwritten(&self) -> u64 {
-        self.overwritten.load(Ordering::SeqCst)
-    }
-
-    /// Turns that ended with a fault.
-    pub fn faults(&self) -> u64 {
-        self.faults.load(Ordering::SeqCst)
+    /// What the threads did and saw so far, beside the table's version.
+    pub fn outcome(&self, version: u64) -> Outcome {
+        Outcome {
+            version,
+            updates: self.updates.load(Ordering::SeqCst),
+            looks: self.looks.load(Ordering::SeqCst),
+            halves: self.halves.load(Ordering::SeqCst),
+            overwritten: self.overwritten.load(Ordering::SeqCst),
+            faults: self.faults.load(Ordering::SeqCst),
+        }
     }
 }
 
