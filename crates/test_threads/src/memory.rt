@@ -82,9 +82,9 @@ fn tie_meanwhile<R: Wait>(
     both
 }
 
-/// Opens a lock, and makes each of its calls with no more memory than so many pieces, from which nothing is cut.
-/// One entry is added.
-fn open_and_call<R: Abort + Wait + AllocGlobal>(rt: &R, memory: &mut Memory, left: usize) {
+/// Opens a lock, and makes each of its calls, none of which changes how many pieces are free. They find as many
+/// pieces as are told, and no other memory. One entry is added.
+fn open_and_call<R: Abort + Wait + AllocGlobal>(rt: &R, memory: &mut Memory, left: Option<usize>) {
     let notes = Notes::with_room(rt.alloc(), 1).expect(rt, "memory");
     let Ok((lock, mut tokens)) = WordLock::open(rt.alloc(), notes, 3) else {
         panic!(rt; "memory")
@@ -92,30 +92,42 @@ fn open_and_call<R: Abort + Wait + AllocGlobal>(rt: &R, memory: &mut Memory, lef
     let three = last(&lock, &mut tokens, 2);
     let mut two = last(&lock, &mut tokens, 1);
     let mut one = last(&lock, &mut tokens, 0);
-    let taken = memory.take_pieces();
-    memory.take_rest().expect(rt, "a place for each block");
-    memory.give_pieces(left);
+    if let Some(pieces) = left {
+        memory.take_pieces();
+        memory.take_rest().expect(rt, "a place for each block");
+        memory.give_pieces(pieces);
+    }
+    let free = memory.free_pieces();
     assert!(rt; is_refused_meanwhile(rt, &lock, &mut one, &mut two));
-    assert!(rt; count_now(&lock, &mut two, 1, 0) == Some(1) && memory.free_pieces() == left);
+    assert!(rt; count_now(&lock, &mut two, 1, 0) == Some(1) && memory.free_pieces() == free);
     let both = tie_meanwhile(rt, &lock, three, one, two);
-    assert_eq!(rt; memory.free_pieces(), left);
+    assert_eq!(rt; memory.free_pieces(), free);
     let notes = lock.close(rt, both);
     assert_eq!(rt; notes.list.len(), 1);
-    memory.give_pieces(taken.saturating_sub(left));
+}
+
+/// First with no memory at all, then with a piece, from which nothing is cut.
+#[test]
+fn no_call_of_a_lock_but_open_takes_memory(rt: HostRuntime) {
+    for left in 0..2 {
+        let mut memory = Memory::take_all(rt.alloc(), PIECE).expect(&rt, "memory");
+        memory.give_pieces(ENOUGH);
+        open_and_call(&rt, &mut memory, Some(left));
+    }
 }
 
 // After 16 times a heap has kept all blocks back that it will. Were the smallest block kept each time, more
 // than a piece would be missed.
 #[test]
-fn no_call_of_a_lock_but_open_takes_memory_and_a_closed_one_keeps_none(rt: HostRuntime) {
+fn a_lock_that_was_closed_keeps_no_memory(rt: HostRuntime) {
     let mut memory = Memory::take_all(rt.alloc(), PIECE).expect(&rt, "memory");
     memory.give_pieces(ENOUGH);
-    for turn in 0..16 {
-        open_and_call(&rt, &mut memory, turn % 2);
+    for _ in 0..16 {
+        open_and_call(&rt, &mut memory, None);
     }
     let free = memory.free_pieces();
-    for turn in 0..100 {
-        open_and_call(&rt, &mut memory, turn % 2);
+    for _ in 0..100 {
+        open_and_call(&rt, &mut memory, None);
     }
     assert_eq!(rt; memory.free_pieces(), free);
 }
