@@ -13,7 +13,7 @@ import pathlib
 import sys
 import tempfile
 
-MOST, ROUNDS, LINES = 0.85, 6, 60_000
+MOST, FEWEST, ROUNDS, LINES = 0.88, 3, 40, 100_000
 SEATS = (0, 7, 10, 42, 99, 100, 199, 254, 255)
 LATCH, LOCK = "latch seats 256 count 1 cap 4294967295", "lock fair seats 256 conditions 0 cap 4294967295"
 # A common step, another one, and an object that refuses both.
@@ -65,17 +65,17 @@ def seconds(program, words, text):
 
 
 def is_fast(program, words, common, other):
-    """Whether common lines take less time, the least of a few rounds."""
-    least = [None, None]
-    for _ in range(ROUNDS):
-        for place, text in enumerate((common, other)):
-            taken, status = seconds(program, words, text)
+    """Whether common lines take less time, the least of a few rounds. Other work makes a round slower."""
+    taken = ([], [])
+    for number in range(1, ROUNDS + 1):
+        for times, text in zip(taken, (common, other)):
+            time, status = seconds(program, words, text)
             if status not in (0, 1):
                 return False
-            least[place] = taken if least[place] is None else min(least[place], taken)
-        if least[0] < MOST * least[1]:
+            times.append(time)
+        if number >= FEWEST and min(taken[0]) < MOST * min(taken[1]):
             return True
-    print(f"  {least[0]:.3f} s for common lines, {least[1]:.3f} s for others")
+    print(f"  {min(taken[0]):.3f} s for common lines, {min(taken[1]):.3f} s for others")
     return False
 
 

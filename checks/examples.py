@@ -6,9 +6,9 @@ the file. The history text of each steps text is legal, and a trim after each st
 NAME.svg is the picture of NAME.history, or of the history that a replay of NAME.steps gives. Each NAME.script
 is run: the lines outside its histories are as NAME.answers has them, where * stands for a number that depends
 on the schedule, and `aqs audit` says the same of each history. Texts of an enemy follow, the cases of cases/
-(`cases.py`), and long random lists of steps (`crowds.py`). Compared are the exit status, standard output
-and standard error. The last line is 'N passed, M failed', and the status is 0 only if nothing failed and
-something passed.
+(`cases.py`), long random lists of steps (`crowds.py`), and the times of common lines (`common_lines.py`).
+Compared are the exit status, standard output and standard error. The last line is 'N passed, M failed', and
+the status is 0 only if nothing failed and something passed.
 """
 
 import pathlib
@@ -18,6 +18,7 @@ import sys
 import tempfile
 
 import cases
+import common_lines
 import crowds
 
 SECONDS = 60
@@ -170,6 +171,7 @@ def results(program, folder, scratch):
         yield f"{file.name} has its pair", False
     for wrong in [*cases.results(program, cases.all_files()), *crowds.results(program)]:
         yield wrong, wrong is None
+    yield from common_lines.results(program)
 
 
 def main(words):
