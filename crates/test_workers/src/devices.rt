@@ -2,7 +2,7 @@
 
 use crate::runs::count_of;
 use run_text::RunText;
-use script::read_script;
+use script::{Script, read_script};
 use std::process::Abort;
 use std::sync::Wait;
 use std::thread::Threads;
@@ -65,52 +65,74 @@ fn run_over<R: Abort + Threads + Wait + Clock + AllocGlobal + Sync>(
     ended
 }
 
-/// Each read of the script fails in turn; then nothing is written.
-#[test]
-fn a_failed_read_is_told(rt: HostRuntime) {
-    let mut written = Vec::new(rt.alloc());
-    for number in 0..MOST {
-        let ended = run_over(&rt, Some(number), None, &mut written);
-        if ended == Ok(0) {
-            assert!(rt; SCRIPT.len() as u64 <= number && written.as_slice() == WRITTEN.as_bytes());
-            return;
+/// Whether a run is whole whose read or write of this number fails. If not, that is told, and a front of the
+/// run text was written: nothing if a read failed.
+fn is_whole<R: Abort + Threads + Wait + Clock + AllocGlobal + Sync>(
+    rt: &R,
+    number: u64,
+    is_read: bool,
+    written: &mut Vec<u8>,
+) -> bool {
+    let (read, write, fault) = if is_read {
+        (Some(number), None, StreamFault::ReadFailed)
+    } else {
+        (None, Some(number), StreamFault::WriteFailed)
+    };
+    match run_over(rt, read, write, written) {
+        Ok(status) => {
+            let calls = if is_read { SCRIPT.len() } else { WRITTEN.len() };
+            assert!(rt; status == 0 && calls as u64 <= number);
+            assert!(rt; written.as_slice() == WRITTEN.as_bytes());
+            true
         }
-        assert!(rt; ended == Err(Fault::Stream(StreamFault::ReadFailed)));
-        assert!(rt; written.is_empty());
+        Err(told) => {
+            assert!(rt; told == Fault::Stream(fault));
+            assert!(rt;
+                WRITTEN.as_bytes().starts_with(written) && (!is_read || written.is_empty())
+            );
+            false
+        }
     }
-    panic!(rt; "each read failed")
 }
 
-/// Each write of a run text fails in turn; then a front of the text was written.
-#[test]
-fn a_failed_write_is_told(rt: HostRuntime) {
+fn fail_each<R: Abort + Threads + Wait + Clock + AllocGlobal + Sync>(rt: &R, is_read: bool) {
     let mut written = Vec::new(rt.alloc());
     for number in 0..MOST {
-        let ended = run_over(&rt, None, Some(number), &mut written);
-        if ended == Ok(0) {
-            assert!(rt; WRITTEN.len() as u64 <= number && written.as_slice() == WRITTEN.as_bytes());
+        if is_whole(rt, number, is_read, &mut written) {
             return;
         }
-        assert!(rt; ended == Err(Fault::Stream(StreamFault::WriteFailed)));
-        assert!(rt; WRITTEN.as_bytes().starts_with(&written));
     }
-    panic!(rt; "each write failed")
+    panic!(rt; "each failed")
+}
+
+#[test]
+fn each_read_of_a_script_fails_in_turn(rt: HostRuntime) {
+    fail_each(&rt, true);
+}
+
+#[test]
+fn each_write_of_a_run_text_fails_in_turn(rt: HostRuntime) {
+    fail_each(&rt, false);
 }
 
 /// Whether the text of a run finds its memory in so many pieces of 256 bytes. It is written with no memory
-/// left.
-fn is_spelt<R: Abort + Threads + Wait + Clock + AllocGlobal + Sync>(rt: &R, pieces: usize) -> bool {
-    let script = read_script(rt.alloc(), SCRIPT.as_bytes()).expect(rt, "a script");
-    let report = run_threads(rt, rt.alloc(), &script, &OpenGate).expect(rt, "a run");
-    let sink = MemorySink::with_places(rt.alloc(), PLACES, PIECE, None);
-    let mut sink = sink.expect(rt, "memory");
+/// left, to a place that is there.
+fn is_spelt<R: Abort + Threads + Wait + Clock + AllocGlobal + Sync>(
+    rt: &R,
+    script: &Script,
+    written: &mut Vec<u8>,
+    pieces: usize,
+) -> bool {
+    written.clear();
+    let report = run_threads(rt, rt.alloc(), script, &OpenGate).expect(rt, "a run");
     let mut memory = Memory::take_all(rt.alloc(), 256).expect(rt, "memory");
     memory.give_pieces(pieces);
-    match RunText::of(rt.alloc(), &script, report) {
+    match RunText::of(rt.alloc(), script, report) {
         Ok(text) => {
             memory.take_rest().expect(rt, "memory");
-            text.write(&mut sink).expect(rt, "a device");
-            assert!(rt; sink.bytes() == WRITTEN.as_bytes());
+            text.write(&mut Device::new(&mut *written))
+                .expect(rt, "a device");
+            assert!(rt; 256 <= pieces && written.as_slice() == WRITTEN.as_bytes());
             true
         }
         Err(fault) => {
@@ -146,26 +168,19 @@ fn the_text_of_a_run_lacks_memory(rt: HostRuntime) {
     // The stack grows to its depth first: where it finds no memory the system ends the program.
     let mut written = Vec::with_capacity(rt.alloc(), PLACES).expect(&rt, "memory");
     assert!(rt; run_within(&rt, &mut written) == Ok(0));
+    let script = read_script(rt.alloc(), SCRIPT.as_bytes()).expect(&rt, "a script");
     for turn in 0..1000 {
-        let pieces = pieces_in(turn);
-        if is_spelt(&rt, pieces) {
-            assert!(rt; 256 <= pieces, "{pieces}");
+        if is_spelt(&rt, &script, &mut written, pieces_in(turn)) {
             return;
         }
     }
     panic!(rt; "never spelt")
 }
 
-/// Whether a run is written in so many pieces of memory, each of 256 bytes. If it isn't, it lacked memory, and
-/// wrote nothing. Its thread lacks memory for each entry, as the module `memory` tells.
-fn is_run<R: Abort + Threads + Wait + Clock + AllocGlobal + Sync>(
-    rt: &R,
-    written: &mut Vec<u8>,
-    pieces: usize,
-) -> bool {
-    let mut memory = Memory::take_all(rt.alloc(), 256).expect(rt, "memory");
-    memory.give_pieces(pieces);
-    match run_within(rt, written) {
+/// Whether a run ended well. If it didn't, it lacked memory, and wrote nothing. Its thread lacks memory for
+/// each entry, as the module `memory` tells.
+fn is_run<R: Abort>(rt: &R, ended: Result<u8, Fault>, written: &[u8]) -> bool {
+    match ended {
         Ok(status) => {
             assert!(rt; status == 0 && written.ends_with(b"unrecorded 10\n"));
             assert_eq!(rt; count_of(written, "entries 0\ncalls 0\n"), 4);
@@ -173,10 +188,22 @@ fn is_run<R: Abort + Threads + Wait + Clock + AllocGlobal + Sync>(
         }
         Err(fault) => {
             let is_want = fault.status() == 5 || fault == Fault::Run(RunFault::NotStarted(0));
-            assert!(rt; is_want && written.is_empty(), "{pieces}");
+            assert!(rt; is_want && written.is_empty());
             false
         }
     }
+}
+
+/// The same in so many pieces of memory, each of 256 bytes.
+fn is_run_in<R: Abort + Threads + Wait + Clock + AllocGlobal + Sync>(
+    rt: &R,
+    written: &mut Vec<u8>,
+    pieces: usize,
+) -> bool {
+    let mut memory = Memory::take_all(rt.alloc(), 256).expect(rt, "memory");
+    memory.give_pieces(pieces);
+    let ended = run_within(rt, written);
+    is_run(rt, ended, written)
 }
 
 /// Each run has more pieces than the one before. With all memory again it is whole.
@@ -186,9 +213,8 @@ fn a_whole_run_lacks_memory(rt: HostRuntime) {
     assert!(rt; run_within(&rt, &mut written) == Ok(0));
     for turn in 0..1000 {
         let pieces = pieces_in(turn);
-        if is_run(&rt, &mut written, pieces) {
-            assert!(rt; 256 <= pieces, "{pieces}");
-            assert!(rt; run_within(&rt, &mut written) == Ok(0));
+        if is_run_in(&rt, &mut written, pieces) {
+            assert!(rt; 256 <= pieces && run_within(&rt, &mut written) == Ok(0));
             assert!(rt; written.as_slice() == WRITTEN.as_bytes());
             return;
         }

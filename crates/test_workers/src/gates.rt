@@ -89,26 +89,19 @@ impl Tally {
         }
     }
 
-    /// How many calls each worker asked for.
-    pub fn asked(&self) -> [u64; 4] {
+    /// Whether the four workers asked for so many calls, so many of which were answered, and told the next
+    /// number each time.
+    pub fn has_counted(&self, asked: [u64; 4], answered: [u64; 4]) -> bool {
         let [a, b, c, d] = &self.counts;
-        [a, b, c, d].map(|count| count.asked.load(Ordering::SeqCst))
-    }
-
-    /// How many calls of each worker were answered.
-    pub fn answered(&self) -> [u64; 4] {
-        let [a, b, c, d] = &self.counts;
-        [a, b, c, d].map(|count| count.answered.load(Ordering::SeqCst))
+        let are_asked = [a, b, c, d].map(|count| count.asked.load(Ordering::SeqCst)) == asked;
+        let are_answered = [a, b, c, d].map(|count| count.answered.load(Ordering::SeqCst))
+            == answered;
+        are_asked && are_answered && self.astray.load(Ordering::SeqCst) == 0
     }
 
     /// How many calls it let go.
     pub fn gone(&self) -> u64 {
         self.gone.load(Ordering::SeqCst)
-    }
-
-    /// How many times a worker told another number than the next.
-    pub fn astray(&self) -> u64 {
-        self.astray.load(Ordering::SeqCst)
     }
 
     /// Counts a call of this number.

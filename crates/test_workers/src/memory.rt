@@ -8,7 +8,7 @@
 //! heap for that thread while the test has all memory, so the calls of such a thread lack memory to the end.
 
 use crate::gates::Tally;
-use crate::runs::{list_of, run, script_of};
+use crate::runs::{list_of, script_of};
 use script::{Script, read_script};
 use std::process::Abort;
 use std::sync::Wait;
@@ -26,8 +26,6 @@ const FINE: usize = 16;
 
 /// More pieces than a run needs.
 const MOST: u32 = 4096;
-
-const LOCK: &str = "[\"a\",\"lock fair seats 1 conditions 0 cap 1000\"]";
 
 /// The halves of a thread around the number of one that it interrupts.
 const THREAD: (&str, &str) = (
@@ -48,34 +46,74 @@ fn ended<G: Gate + Sync, R: Threads + Wait + Clock + AllocGlobal + Sync>(
     }
 }
 
+/// The script of so many threads at one lock.
+fn script_for<R: Abort + AllocGlobal>(rt: &R, threads: u32) -> Script {
+    let lock = format!(in rt.alloc();
+        "[\"a\",\"lock fair seats {threads} conditions 0 cap 1000\"]"
+    );
+    let list = list_of(rt, THREAD, threads, 256);
+    let text = script_of(rt, &lock.expect(rt, "memory"), &list);
+    read_script(rt.alloc(), text.as_bytes()).expect(rt, "a script")
+}
+
+/// Whether all threads of a script were started and have called. If the system refused a thread, nobody has
+/// called. Of the workers whose thread was refused `last` is the greatest.
+fn are_started<R: Abort + Threads + Wait + Clock + AllocGlobal + Sync>(
+    rt: &R,
+    script: &Script,
+    last: &mut u16,
+) -> bool {
+    let seen = Tally::new([u64::MAX; 4]);
+    match ended(rt, script, &seen) {
+        Ok(counts) => {
+            assert!(rt; counts == (32, 0) && seen.gone() == 48);
+            true
+        }
+        Err(fault) => {
+            match fault {
+                NotStarted(worker) => {
+                    assert_eq!(rt; seen.gone(), 0);
+                    *last = worker.max(*last);
+                }
+                _ => assert!(rt; fault == NoMemory, "{fault}"),
+            }
+            false
+        }
+    }
+}
+
 /// Each piece that is given back has place for the stack of one thread or two.
 #[test]
 fn nobody_makes_a_call_unless_all_threads_were_started(rt: HostRuntime) {
-    let lock = "[\"a\",\"lock fair seats 16 conditions 0 cap 1000\"]";
-    let text = script_of(&rt, lock, &list_of(&rt, THREAD, 16, 16));
-    let script = read_script(rt.alloc(), text.as_bytes()).expect(&rt, "a script");
     // The stack grows to its depth first: where it finds no memory the system ends the program. One thread is
     // enough for that, and the system keeps no more stacks than its own.
-    let one = script_of(&rt, LOCK, &list_of(&rt, THREAD, 1, 1));
-    let mut written = Vec::new(rt.alloc());
-    assert!(rt; run(&rt, &one, &OpenGate, &mut written).is_none());
+    assert!(rt; ended(&rt, &script_for(&rt, 1), &OpenGate) == Ok((2, 0)));
+    let script = script_for(&rt, 16);
     let mut memory = Memory::take_all(rt.alloc(), WIDE).expect(&rt, "memory");
     let mut last: u16 = 0;
     for _ in 0..MOST {
-        let seen = Tally::new([u64::MAX; 4]);
-        match ended(&rt, &script, &seen) {
+        if are_started(&rt, &script, &mut last) {
+            assert!(rt; 1 <= last, "{last}");
+            return;
+        }
+        assert!(rt; memory.give_piece());
+    }
+    panic!(rt; "never run")
+}
+
+/// How often a run of one thread is refused. Then its calls lack memory.
+fn refusals_of<R: Abort + Threads + Wait + Clock + AllocGlobal + Sync>(
+    rt: &R,
+    script: &Script,
+) -> u32 {
+    let mut memory = Memory::take_all(rt.alloc(), FINE).expect(rt, "memory");
+    for refused in 0..MOST {
+        match ended(rt, script, &OpenGate) {
             Ok(counts) => {
-                assert!(rt;
-                    counts == (32, 0) && seen.gone() == 48 && 1 <= last,
-                    "{last}"
-                );
-                return;
+                assert!(rt; counts == (0, 2));
+                return refused;
             }
-            Err(NotStarted(worker)) => {
-                assert_eq!(rt; seen.gone(), 0);
-                last = last.max(worker);
-            }
-            Err(fault) => assert!(rt; fault == NoMemory, "{fault}"),
+            Err(fault) => assert!(rt; fault == NoMemory || fault == NotStarted(0), "{fault}"),
         }
         assert!(rt; memory.give_piece());
     }
@@ -85,24 +123,9 @@ fn nobody_makes_a_call_unless_all_threads_were_started(rt: HostRuntime) {
 /// Each request of the first thread is refused in turn. With memory again the same run has all calls.
 #[test]
 fn each_request_of_a_run_is_refused(rt: HostRuntime) {
-    let text = script_of(&rt, LOCK, &list_of(&rt, THREAD, 1, 1));
-    let script = read_script(rt.alloc(), text.as_bytes()).expect(&rt, "a script");
+    let script = script_for(&rt, 1);
     assert!(rt; ended(&rt, &script, &OpenGate) == Ok((2, 0)));
-    let mut memory = Memory::take_all(rt.alloc(), FINE).expect(&rt, "memory");
-    for refused in 0..MOST {
-        match ended(&rt, &script, &OpenGate) {
-            Ok(counts) => {
-                assert!(rt;
-                    counts == (0, 2) && 20 <= refused,
-                    "refused {refused} times"
-                );
-                drop(memory);
-                assert!(rt; ended(&rt, &script, &OpenGate) == Ok((2, 0)));
-                return;
-            }
-            Err(fault) => assert!(rt; fault == NoMemory || fault == NotStarted(0), "{fault}"),
-        }
-        assert!(rt; memory.give_piece());
-    }
-    panic!(rt; "never run")
+    let refused = refusals_of(&rt, &script);
+    assert!(rt; 20 <= refused, "refused {refused} times");
+    assert!(rt; ended(&rt, &script, &OpenGate) == Ok((2, 0)));
 }
