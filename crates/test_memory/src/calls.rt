@@ -47,27 +47,27 @@ fn a_node_stands_until_it_comes_to_the_head(rt: HostRuntime) -> Result<(), Fail>
     Ok(())
 }
 
-/// Puts seats to sleep on a condition; whether all of them were awake.
-fn put_to_sleep(waiters: &mut Waiters) -> bool
+/// Puts a seat to sleep on a condition, if it is awake.
+fn put_to_sleep(waiters: &mut Waiters, seat: u16) -> bool
     requires seats { waiters.old.seats ≡ 8 }
     requires conditions { waiters.old.conditions ≡ 3 }
+    ensures seats { waiters.new.seats ≡ 8 }
+    ensures conditions { waiters.new.conditions ≡ 3 }
 {
-    let mut all = true;
-    for seat in [4, 5, 6] {
-        if waiters.sleeper_of(seat).is_none() {
-            waiters.join(2, seat, 7);
-        } else {
-            all = false;
-        }
+    if 8 <= seat || waiters.sleeper_of(seat).is_some() {
+        return false;
     }
-    all
+    waiters.join(2, seat, 7);
+    true
 }
 
 #[test]
 fn sleepers_sleep_until_they_leave(rt: HostRuntime) -> Result<(), Fail> {
     let mut waiters = Waiters::open(rt.alloc(), 3, 8)?;
-    let are_asleep = put_to_sleep(&mut waiters);
-    assert!(rt; are_asleep && waiters.len(2) == 3 && waiters.leave(6) && waiters.len(2) == 2);
+    let is_first = put_to_sleep(&mut waiters, 5);
+    let is_second = put_to_sleep(&mut waiters, 6);
+    assert!(rt; is_first && is_second && waiters.len(2) == 2);
+    assert!(rt; waiters.leave(6) && waiters.len(2) == 1);
     assert!(rt; waiters.sleeper_of(5).map(|sleeper| sleeper.holds) == Some(7));
     Ok(())
 }

@@ -132,23 +132,43 @@ const OPENED: [Play; 14] = [
     Play::Bars,
 ];
 
-/// Trims, bases, histories that aren't legal, and openings.
+/// Texts with trims, and histories on a base or not legal.
+fn texts_keep_none(
+    rt: &(impl Abort + AllocGlobal + Clock),
+    memory: &mut Memory,
+    out: &mut Vec<u8>,
+) {
+    for text in TRIMMED {
+        let replayed = Play::Through(Stream::Replay, text);
+        keeps_none(rt, memory, replayed, true, out, "a replay with trims");
+        let recorded = Play::Through(Stream::History, text);
+        keeps_none(rt, memory, recorded, true, out, "a history with trims");
+    }
+    for (text, legal) in BASED {
+        keeps_none(
+            rt,
+            memory,
+            Play::Through(Stream::Audit, text),
+            legal,
+            out,
+            "an audit",
+        );
+        keeps_none(
+            rt,
+            memory,
+            Play::Through(Stream::Draw, text),
+            legal,
+            out,
+            "a drawing",
+        );
+    }
+}
+
 #[test]
 fn trims_and_bases_and_openings_keep_no_memory(rt: HostRuntime) -> Result<(), Fail> {
     let mut out = Vec::with_capacity(rt.alloc(), AMPLE)?;
     let mut memory = Memory::take_all(rt.alloc(), PIECE)?;
-    for text in &TRIMMED {
-        for stream in [Stream::Replay, Stream::History] {
-            let what = Play::Through(stream, text);
-            keeps_none(&rt, &mut memory, what, true, &mut out, "trims");
-        }
-    }
-    for (text, legal) in BASED {
-        for stream in [Stream::Audit, Stream::Draw] {
-            let what = Play::Through(stream, text);
-            keeps_none(&rt, &mut memory, what, legal, &mut out, "bases");
-        }
-    }
+    texts_keep_none(&rt, &mut memory, &mut out);
     for what in OPENED {
         keeps_none(&rt, &mut memory, what, true, &mut out, "lists and openings");
     }
