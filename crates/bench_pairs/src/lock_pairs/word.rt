@@ -66,7 +66,7 @@ fn work_all<R: Threads + Wait + Sync>(
     tokens: Vec<Token>,
     pairs: u64,
 ) -> Result<(), AllocError>
-    requires { All (λ t. IsReady lock.now (first_seat t.logs) t) tokens.items }
+    requires ready { All (λ t. IsReady lock.now (first_seat t.logs) t) tokens.items }
 {
     let workers = make_workers(alloc, lock, tokens)?;
     thread::map_vec(rt, workers, &|worker| work(rt, worker, pairs))?;
