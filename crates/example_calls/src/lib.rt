@@ -1,9 +1,7 @@
-//! The proved callers of the pages CALLING.md: one module for each page.
+//! The proved callers of the pages CALLING.md: one module for each page. `example_locks` calls each of them.
 #![tactic(auto)]
 
 pub mod audits;
 pub mod cores;
 pub mod histories;
 pub mod replays;
-#[cfg(test)]
-mod tests;
