@@ -1,7 +1,7 @@
 //! The callers of the pages `CALLING.md`, each called once.
 //!
-//! They are functions of `example_calls`: of a history, of a core, of an audit, and of both streams in memory.
-//! Prints what each of them gives.
+//! They are functions of `example_calls`: of a history, of a core, of an audit, and of both streams in
+//! memory. Prints what each of them gives.
 
 use audit::verdict::Verdict;
 use example_calls::audits::totals_if_legal;
