@@ -6,6 +6,8 @@
 mod mutex;
 mod word;
 
+ghost use Rattle.std.specs.Prelude.{◌<◌};
+
 use std::io;
 use std::sync::Wait;
 use std::thread::Threads;
@@ -17,6 +19,65 @@ const FEW_PAIRS: u64 = 1000;
 
 const MANY_PAIRS: u64 = 1_000_000;
 
+/// How many pairs were made, and how long it took.
+#[derive(Clone, Copy)]
+struct Counted {
+    pairs: u64,
+    time: Duration,
+}
+
+impl Counted {
+    fn thousands_a_second(&self) -> u128 {
+        u128::from(self.pairs) / self.time.as_millis().max(1)
+    }
+}
+
+/// The pairs of so many threads under the word lock.
+fn under_word_lock<R: AllocGlobal + Threads + Wait + Clock + Sync>(
+    rt: &R,
+    threads: u16,
+    pairs: u64,
+) -> io::Result<Counted>
+    requires { threads < 256 }
+{
+    let start = Instant::now(rt)?;
+    let pairs = word::count_pairs(rt, rt.alloc(), threads, pairs)?;
+    let time = start.elapsed(rt)?;
+    Ok(Counted { pairs, time })
+}
+
+/// The pairs of so many threads under std's mutex.
+fn under_mutex<R: AllocGlobal + Threads + Wait + Clock + Sync>(
+    rt: &R,
+    threads: u16,
+    pairs: u64,
+) -> io::Result<Counted> {
+    let start = Instant::now(rt)?;
+    let pairs = mutex::count_pairs(rt, rt.alloc(), threads, pairs)?;
+    let time = start.elapsed(rt)?;
+    Ok(Counted { pairs, time })
+}
+
+fn print_line<R: Print>(
+    rt: &R,
+    threads: u16,
+    measure: bool,
+    word_lock: Counted,
+    mutex: Counted,
+) -> io::Result<()> {
+    if measure {
+        let word_lock = word_lock.thousands_a_second();
+        let mutex = mutex.thousands_a_second();
+        return println!(rt;
+            "threads {threads}: word lock {word_lock}, mutex {mutex} thousand pairs a second"
+        );
+    }
+    println!(rt;
+        "threads {threads}: word lock {}, mutex {} pairs",
+        word_lock.pairs, mutex.pairs
+    )
+}
+
 /// Makes the pairs, and prints a line for each number of threads.
 pub fn run<R: Print + AllocGlobal + Threads + Wait + Clock + Sync>(
     rt: &R,
@@ -24,26 +85,9 @@ pub fn run<R: Print + AllocGlobal + Threads + Wait + Clock + Sync>(
 ) -> io::Result<()> {
     let pairs = if measure { MANY_PAIRS } else { FEW_PAIRS };
     for threads in THREADS {
-        let start = Instant::now(rt)?;
-        let under_word_lock = word::count_pairs(rt, rt.alloc(), threads, pairs)?;
-        let middle = Instant::now(rt)?;
-        let under_mutex = mutex::count_pairs(rt, rt.alloc(), threads, pairs)?;
-        let end = Instant::now(rt)?;
-        if measure {
-            let word_lock = thousands_a_second(under_word_lock, middle.duration_since(start));
-            let mutex = thousands_a_second(under_mutex, end.duration_since(middle));
-            println!(rt;
-                "threads {threads}: word lock {word_lock}, mutex {mutex} thousand pairs a second"
-            )?;
-        } else {
-            println!(rt;
-                "threads {threads}: word lock {under_word_lock}, mutex {under_mutex} pairs"
-            )?;
-        }
+        let word_lock = under_word_lock(rt, threads, pairs)?;
+        let mutex = under_mutex(rt, threads, pairs)?;
+        print_line(rt, threads, measure, word_lock, mutex)?;
     }
     Ok(())
-}
-
-fn thousands_a_second(pairs: u64, time: Duration) -> u128 {
-    u128::from(pairs) / time.as_millis().max(1)
 }

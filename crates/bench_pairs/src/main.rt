@@ -10,6 +10,9 @@
 mod lock_pairs;
 mod monitor_pairs;
 
+use std::sync::Wait;
+use std::thread::Threads;
+use std::time::Clock;
 use std::{env, io};
 
 /// The word at a place, if there are so many.
@@ -17,17 +20,25 @@ fn word_at(words: &[String], place: usize) -> Option<&str> {
     words.get(place).map(|word| word.as_str())
 }
 
-fn main(rt: HostRuntime) -> io::Result<()> {
-    let words = env::args(&rt)?.skip(1).collect::<Vec<String>>(rt.alloc())?;
-    let measure = word_at(&words, 1) == Some("measure");
-    let milliseconds = word_at(&words, 2).and_then(|word| word.parse::<u64>().ok());
-    match word_at(&words, 0) {
+/// Makes the pairs that the words ask for.
+fn run<R: Print + Eprint + AllocGlobal + Threads + Wait + Clock + Sync>(
+    rt: &R,
+    words: &[String],
+) -> io::Result<()> {
+    let measure = word_at(words, 1) == Some("measure");
+    let milliseconds = word_at(words, 2).and_then(|word| word.parse::<u64>().ok());
+    match word_at(words, 0) {
         None => {
-            lock_pairs::run(&rt, false)?;
-            monitor_pairs::run(&rt, false, None)
+            lock_pairs::run(rt, false)?;
+            monitor_pairs::run(rt, false, None)
         }
-        Some("lock_pairs") => lock_pairs::run(&rt, measure),
-        Some("monitor_pairs") => monitor_pairs::run(&rt, measure, milliseconds),
+        Some("lock_pairs") => lock_pairs::run(rt, measure),
+        Some("monitor_pairs") => monitor_pairs::run(rt, measure, milliseconds),
         Some(other) => eprintln!(rt; "bench_pairs: no pairs {other}"),
     }
+}
+
+fn main(rt: HostRuntime) -> io::Result<()> {
+    let words = env::args(&rt)?.skip(1).collect::<Vec<String>>(rt.alloc())?;
+    run(&rt, &words)
 }

@@ -113,7 +113,8 @@ fn exchange<R: Threads + Wait + Clock + Sync>(
     )
 }
 
-/// Both threads with the passes of a lock as it is opened. Gives the passes back, and the sum of what was taken.
+/// Both threads with the passes of a lock as it is opened. Gives the passes back, and the sum of what was
+/// taken.
 fn exchange_all<R: Threads + Wait + Clock + Sync>(
     rt: &R,
     parking: &ThreadParking,

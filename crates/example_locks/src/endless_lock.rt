@@ -46,9 +46,9 @@ fn asked(words: &[String]) -> (u64, u64)
 }
 
 /// Runs the lock as the words say. The first word is the name of the example.
-pub fn run(rt: &HostRuntime, words: &[String]) -> io::Result<()> {
+pub fn run<R: Print + Eprint + AllocGlobal>(rt: &R, words: &[String]) -> io::Result<()> {
     let (rounds, entries) = asked(words);
-    let mut out = rt.stdout();
+    let mut out = io::writer(rt);
     match play(rt.alloc(), rounds, entries, &mut out) {
         Ok(()) => Ok(()),
         Err(failure) => eprintln!(rt; "endless_lock: {failure}"),

@@ -15,23 +15,34 @@ mod first_lock;
 mod read_mostly_table;
 mod small_calls;
 
+use std::sync::Wait;
+use std::thread::Threads;
+use std::time::Clock;
 use std::{env, io};
+
+/// Runs the example that the first word names, or all if there is no word.
+fn run<R: Print + Eprint + AllocGlobal + Threads + Wait + Clock + Sync>(
+    rt: &R,
+    words: &[String],
+) -> io::Result<()> {
+    match words.first().map(|word| word.as_str()) {
+        None => {
+            first_lock::run(rt)?;
+            bounded_buffer::run(rt)?;
+            read_mostly_table::run(rt)?;
+            endless_lock::run(rt, words)?;
+            small_calls::run(rt)
+        }
+        Some("first_lock") => first_lock::run(rt),
+        Some("bounded_buffer") => bounded_buffer::run(rt),
+        Some("read_mostly_table") => read_mostly_table::run(rt),
+        Some("endless_lock") => endless_lock::run(rt, words),
+        Some("small_calls") => small_calls::run(rt),
+        Some(other) => eprintln!(rt; "example_locks: no example {other}"),
+    }
+}
 
 fn main(rt: HostRuntime) -> io::Result<()> {
     let words = env::args(&rt)?.skip(1).collect::<Vec<String>>(rt.alloc())?;
-    match words.first().map(|word| word.as_str()) {
-        None => {
-            first_lock::run(&rt)?;
-            bounded_buffer::run(&rt)?;
-            read_mostly_table::run(&rt)?;
-            endless_lock::run(&rt, &words)?;
-            small_calls::run(&rt)
-        }
-        Some("first_lock") => first_lock::run(&rt),
-        Some("bounded_buffer") => bounded_buffer::run(&rt),
-        Some("read_mostly_table") => read_mostly_table::run(&rt),
-        Some("endless_lock") => endless_lock::run(&rt, &words),
-        Some("small_calls") => small_calls::run(&rt),
-        Some(other) => eprintln!(rt; "example_locks: no example {other}"),
-    }
+    run(&rt, &words)
 }

@@ -52,9 +52,25 @@ pub fn count_pairs<R: Threads + Wait + Sync>(
     let Some(last) = tokens.pop() else {
         unreachable!()
     };
-    let workers = make_workers(alloc, &lock, tokens)?;
+    match work_all(rt, alloc, &lock, tokens, pairs) {
+        Ok(()) => Ok(lock.close(rt, last).pairs),
+        Err(error) => Err(error),
+    }
+}
+
+/// Each token works in a thread of its own.
+fn work_all<R: Threads + Wait + Sync>(
+    rt: &R,
+    alloc: Global,
+    lock: &WordLock<Count>,
+    tokens: Vec<Token>,
+    pairs: u64,
+) -> Result<(), AllocError>
+    requires ready { All (λ t. IsReady lock.now (first_seat t.logs) t) tokens.items }
+{
+    let workers = make_workers(alloc, lock, tokens)?;
     thread::map_vec(rt, workers, &|worker| work(rt, worker, pairs))?;
-    Ok(lock.close(rt, last).pairs)
+    Ok(())
 }
 
 fn make_workers<'l>(

@@ -118,6 +118,20 @@ fn make_in_time<H: Hooks + Drop + Send, R: Threads + Wait + Clock + Sync>(
     )
 }
 
+/// Closes a monitor, and says how many calls its history has.
+fn close<H: Hooks + Drop, R: Wait>(
+    rt: &R,
+    monitor: Monitor<H>,
+    passes: Vec<Pass>,
+) -> Result<u64, Fault>
+    requires own { All (λ p. p.lock ≡ monitor) passes.items }
+{
+    match monitor.close(rt, passes) {
+        Ok(closed) => Ok(closed.history.calls()),
+        Err(_) => Err(Fault::OutOfPhase),
+    }
+}
+
 /// The pairs of so many threads at a new monitor with these hooks.
 pub fn count<H: Hooks + Drop + Send, R: Threads + Wait + Clock + Sync>(
     rt: &R,
@@ -134,13 +148,7 @@ pub fn count<H: Hooks + Drop + Send, R: Threads + Wait + Clock + Sync>(
     let (monitor, passes) = Monitor::open(alloc, hooks, threads, 0, CAP)?;
     let race = Race::new(threads, limit);
     let (passes, time) = make_in_time(rt, &parking, &monitor, &race, passes, mode);
-    let passes = passes?;
-    let Ok(closed) = monitor.close(rt, passes) else {
-        return Err(Fault::OutOfPhase);
-    };
-    Ok(Counted {
-        pairs: race.pairs(),
-        calls: closed.history.calls(),
-        time,
-    })
+    let pairs = race.pairs();
+    let calls = close(rt, monitor, passes?)?;
+    Ok(Counted { pairs, calls, time })
 }

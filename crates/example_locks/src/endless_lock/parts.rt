@@ -1,11 +1,12 @@
 //! A lock that is played on, and printed in parts.
 
-ghost use Rattle.std.specs.Prelude.{◌≡◌, ◌+◌, ◌<◌, ◌≤◌, length, All, OnOk};
+ghost use Rattle.std.specs.Prelude.{◌≡◌, [], ◌+◌, ◌<◌, ◌≤◌, length, All, OnOk};
 ghost use Rattle.std.specs.Io.KnownBytes.{Appends};
 ghost use Rattle.example_locks.specs.Parts.{Plays, Prints, made};
 ghost use Rattle.frame.specs.Core.{header_of, trimmed};
 ghost use Rattle.history.specs.declared.header.Object.TheVariants.{Lock};
 ghost use Rattle.history.specs.declared.header.Policy.TheVariants.{Fair};
+ghost use Rattle.history.specs.Base.{opening_base};
 ghost use Rattle.history.specs.Point.{CanFold};
 ghost use Rattle.history_text.specs.HistoryText.{history_text};
 
@@ -43,10 +44,28 @@ pub fn play<W: Write>(alloc: Global, rounds: u64, entries: u64, out: &mut W) -> 
 {
     let cap = (entries + MORE) as u32;
     let mut core = Core::open(alloc, LockHooks::open(Policy::Fair), SEATS, 0, cap)?;
+    play_rounds(alloc, &mut core, rounds, entries, out)
+}
+
+/// Plays so many rounds at a new core, and prints them in parts of so many entries.
+fn play_rounds<W: Write>(
+    alloc: Global,
+    core: &mut Core<LockHooks>,
+    rounds: u64,
+    entries: u64,
+    out: &mut W,
+) -> Result<(), Failure>
+    requires header { core.old.header ≡ header_of (Lock Fair) 2 0 (entries + 8) }
+    requires base { core.old.base ≡ opening_base core.old.header }
+    requires empty { core.old.entries ≡ [] }
+    ensures { OnOk result
+        (Plays (header_of (Lock Fair) 2 0 (entries + 8)) rounds
+        (W.contents out.old) (W.contents out.new)) }
+{
     for _ in 0..rounds {
-        play_round(alloc, &mut core, entries, out, &ROUND)?;
+        play_round(alloc, core, entries, out, &ROUND)?;
     }
-    print_part(alloc, &mut core, out)?;
+    print_part(alloc, core, out)?;
     Ok(())
 }
 

@@ -17,8 +17,8 @@ front_and_last P (y ∷ ys) x a =
     let t = front_and_last P ys x (All-tail P y (ys ++ x ∷ []) a) in
     (All-cons P y ys (All-head P y (ys ++ x ∷ []) a) t.0, t.1)
 
-pub make_workers-requires : goal.make_workers-requires
-make_workers-requires g c = let lock : LockId = c.in-Ok.lock in let ready = IsReadyOf lock in
+pub work_all-requires-clause-ready : goal.work_all-requires-clause-ready
+work_all-requires-clause-ready g c κs within = let lock : LockId = c.in-Ok.lock in let ready = IsReadyOf lock in
     (front_and_last ready c.pop.new.self.items c.in-Some.last
     (subst (All ready) (sym c.in-Ok.ensures.tokens ∙ c.in-Some.ensures.items)
     (opening_tickets_ready lock blank_point 0 (c.args.threads + 1)))).0

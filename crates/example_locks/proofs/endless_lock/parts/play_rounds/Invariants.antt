@@ -4,7 +4,7 @@ use Rattle.history.specs.Base.{opening_base}
 use Rattle.history.specs.declared.header.Object.TheVariants.{Lock}
 use Rattle.history.specs.declared.header.Policy.TheVariants.{Fair}
 use Rattle.example_locks.specs.Parts.{Prints, made}
-use Rattle.example_locks.proofs.endless_lock.parts.play.Given as goal
+use Rattle.example_locks.proofs.endless_lock.parts.play_rounds.Given as goal
 
 -- the rounds so far have made five entries each
 abbrev pub invariant-loop : goal.invariant-loop
