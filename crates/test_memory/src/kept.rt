@@ -14,16 +14,16 @@ use test_support::memory::Memory;
 const AMPLE: usize = 65_536;
 
 /// Whatever is kept takes up such a piece once it is kept often enough.
-const PIECE: usize = 2048;
+const PIECE: usize = 4096;
 
 /// As many pieces are enough for each play.
-const ENOUGH: usize = 400;
+const ENOUGH: usize = 256;
 
 /// After so many times a heap has kept all blocks back that it will.
 const FIRST_TIMES: u32 = 16;
 
 /// If the smallest block were kept each time, four pieces and more would be missed.
-const MORE_TIMES: u32 = 300;
+const MORE_TIMES: u32 = 600;
 
 /// Blocks that the heap keeps back are cut from other pieces at times.
 const CUT: usize = 2;

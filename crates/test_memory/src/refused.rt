@@ -154,8 +154,8 @@ fn cores_and_what_they_stand_on_are_opened_whole_or_not_at_all(
             Row::of(Play::Line, COARSE, 145, 158),
             Row::of(Play::Sleepers, COARSE, 50, 64),
             Row::of(Play::Nodes, COARSE, 34, 44),
-            Row::of(Play::Run, COARSE, 60, 100),
-            Row::of(Play::RunActs, COARSE, 60, 100),
+            Row::of(Play::Run, COARSE, 40, 90),
+            Row::of(Play::RunActs, COARSE, 60, 120),
         ],
     )?;
     Ok(())
@@ -210,17 +210,20 @@ fn a_stream_that_lacks_memory_writes_nothing(rt: HostRuntime) -> Result<(), Fail
 #[test]
 fn a_replay_of_many_seats_takes_hardly_more_than_its_tables(rt: HostRuntime) -> Result<(), Fail> {
     for (number, text) in WIDE.iter().enumerate() {
-        let most: u32 = if number < 2 || number == 4 { 740 } else { 620 };
+        let most: u32 = if number < 2 || number == 4 { 760 } else { 640 };
         for stream in [Stream::Replay, Stream::History] {
             let what = Play::Through(stream, text);
-            try_rows(&rt, &[Row::of(what, COARSE, most.saturating_sub(60), most)])?;
+            try_rows(
+                &rt,
+                &[Row::of(what, COARSE, most.saturating_sub(120), most)],
+            )?;
         }
     }
     for text in &TRIMMED {
         for stream in [Stream::Replay, Stream::History] {
             try_rows(
                 &rt,
-                &[Row::of(Play::Through(stream, text), COARSE, 320, 360)],
+                &[Row::of(Play::Through(stream, text), COARSE, 280, 400)],
             )?;
         }
     }
