@@ -1,5 +1,4 @@
-//! Tests of scripts that threads run: what gates see and stop, as many threads and objects as there may be,
-//! runs that lack memory, and devices that fail.
+//! Tests of scripts that threads run: what gates see and stop, runs that lack memory, and devices that fail.
 #![tactic(auto)]
 
 #[cfg(test)]

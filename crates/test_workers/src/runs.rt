@@ -9,7 +9,7 @@ use std::sync::Wait;
 use std::thread::Threads;
 use std::time::Clock;
 use streams::device::Device;
-use workers::{Gate, OpenGate, RunFault, run_threads};
+use workers::{Gate, RunFault, run_threads};
 
 /// Runs the script of a text, and writes the run text in place of what was there. Says why there is none.
 pub fn run<G: Gate + Sync, R: Abort + Threads + Wait + Clock + AllocGlobal + Sync>(
@@ -57,23 +57,4 @@ pub fn script_of<R: Abort + AllocGlobal>(rt: &R, objects: &str, threads: &str) -
     format!(in rt.alloc(); "{{\"objects\":[{objects}],\"threads\":[{threads}]}}").expect(
         rt, "memory",
     )
-}
-
-/// 256 threads that each try one of 64 semaphores of two permits: as many as there may be.
-#[test]
-fn as_many_threads_and_objects_as_there_may_be(rt: HostRuntime) {
-    let semaphore = (
-        "[\"",
-        "\",\"semaphore nonfair seats 256 permits 2 cap 64\"]",
-    );
-    let objects = list_of(&rt, semaphore, 64, 64);
-    let tries = ("{\"repeat\":1,\"calls\":[\"", " try s 1\"]}");
-    let threads = list_of(&rt, tries, 256, 64);
-    let text = script_of(&rt, &objects, &threads);
-    let mut written = Vec::new(rt.alloc());
-    assert!(rt; run(&rt, &text, &OpenGate, &mut written).is_none());
-    let part = "legal\nentries 4\ncalls 4\nheld 2 free 0 created 2 unheld 0 line 0\nshares 4\n";
-    assert_eq!(rt; count_of(&written, part), 64);
-    assert_eq!(rt; count_of(&written, "object "), 64);
-    assert!(rt; written.ends_with(b"unrecorded 0\n"));
 }

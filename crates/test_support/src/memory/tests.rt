@@ -4,16 +4,6 @@ use super::*;
 use std::test::Fail;
 
 #[test]
-fn no_request_is_granted_until_memory_is_back(rt: HostRuntime) -> Result<(), Fail> {
-    let taken = all_memory(rt.alloc(), 64)?;
-    let refused: Result<Vec<u8>, AllocError> = Vec::with_capacity(rt.alloc(), 4096);
-    assert!(rt; refused.is_err());
-    drop(taken);
-    let _granted: Vec<u8> = Vec::with_capacity(rt.alloc(), 4096)?;
-    Ok(())
-}
-
-#[test]
 fn a_piece_that_is_given_back_can_be_taken(rt: HostRuntime) -> Result<(), Fail> {
     let mut memory = Memory::take_all(rt.alloc(), 256)?;
     let refused: Result<Vec<u8>, AllocError> = Vec::with_capacity(rt.alloc(), 256);
