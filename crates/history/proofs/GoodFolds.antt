@@ -103,7 +103,7 @@ latch_holds s (e ∷ h) t v legal none i m =
     by false z = z
 
 -- Who stands in line to acquire owns nothing, and asks for what the object has.
-abbrev Queues : Start → List Entry → Arrival → Type 0
+abbrev pub Queues : Start → List Entry → Arrival → Type 0
 Queues s h a =
     a.back ≡ false →
     (lacks_mode s.header.object a.mode ≡ false) × (is_bad_number s.header.object a.n ≡ false)
@@ -202,7 +202,7 @@ module _ (b : Base) (good : IsGood b) where
     queues_at_first q all.1,
   )
 
-  queues : (h : List Entry) → IsLegal (based b) h → AreSeated (based b) h →
+  pub queues : (h : List Entry) → IsLegal (based b) h → AreSeated (based b) h →
       AllByRecursion (Queues (based b) h) (line (based b) h)
   queues [] legal s =
       subst (AllByRecursion (Queues (based b) [])) (sym (line_at_first (based b)))

@@ -46,3 +46,4 @@ pub mod SmallHolds
 pub mod FoldRoom
 pub mod FoldSteps
 pub mod WideNumbers
+pub mod IdleOwners

@@ -6,11 +6,13 @@ use Rattle.std.proofs.lemmas.List.Elements.{filter-append}
 use Rattle.std.proofs.lemmas.List.{append_assoc, get_or_past}
 use Rattle.history.specs.declared.base.SeatBase.{SeatBase}
 use Rattle.history.specs.declared.entry.Entry.{Entry}
+use Rattle.history.specs.declared.entry.Mode.{Mode}
 use Rattle.history.specs.declared.header.Header.{Header}
 use Rattle.history.specs.declared.point.Point.{Point}
 use Rattle.history.specs.Base.{Base, based, calls_of, each_below, folded, nothing, opening_base, seat_after, seat_of}
+use Rattle.history.specs.Counts.{held, holds_after}
 use Rattle.history.specs.Entries.{ended_calls}
-use Rattle.history.specs.Entry.{ends_call}
+use Rattle.history.specs.Entry.{ends_call, same_mode}
 use Rattle.history.specs.Legal.{AreSeated, IsLegal}
 use Rattle.history.specs.Ownership.{is_away}
 use Rattle.history.specs.Phase.{phase}
@@ -144,6 +146,54 @@ calls_folded b g i can = ⊎_elim within beyond (cases_below i b.header.seats)
         let none = ap ended_calls (none_of (based b) g i can.seated l) in
         omega (arith, new, old, none)
 
+-- Entries in front change what a seat holds by its own entries alone.
+holds_more : (s t : Start) → s.header.object ≡ t.header.object → (g h all : List Entry) (i : ℕ) (m : Mode) →
+    held s h i m ≡ held t all i m → held s (g ++ h) i m ≡ held t (entries_of i g ++ all) i m
+holds_more s t object [] h all i m same = same
+holds_more s t object (e ∷ g) h all i m same = by (eqb e.seat i) refl (holds_more s t object g h all i m same)
+  where
+    by : (own : Bool) → eqb e.seat i ≡ own →
+        held s (g ++ h) i m ≡ held t (entries_of i g ++ all) i m →
+        cond (own && same_mode e.mode m) (holds_after s.header.object e.word e.n (held s (g ++ h) i m))
+        (held s (g ++ h) i m)
+        ≡ held t (cond own (e ∷ entries_of i g) (entries_of i g) ++ all) i m
+    by true is before =
+        (λ d. cond (same_mode e.mode m) (holds_after (object d) e.word e.n (before d)) (before d))
+        ∙ sym (ap (λ own. cond (own && same_mode e.mode m)
+        (holds_after t.header.object e.word e.n (held t (entries_of i g ++ all) i m))
+        (held t (entries_of i g ++ all) i m)) is)
+    by false is before = before
+
+holds_opened : (k : Header) (p : Point) (i : ℕ) → p.base ≡ opening_base k → p.entries ≡ [] → (m : Mode) →
+    held (based p.base) p.entries i m ≡ held (opening p.base.header) [] i m
+holds_opened k p i base none m =
+    ap (λ l. held (based p.base) l i m) none
+    ∙ ap (λ b. held (based b) [] i m) base
+    ∙ ap (λ (s : Start). held s [] i m) (based_opening k)
+
+holds_grown : (p q : Point) (i : ℕ) (added mine all : List Entry) → q.base ≡ p.base →
+    q.entries ≡ added ++ p.entries → entries_of i added ≡ mine → Agrees p i all → (m : Mode) →
+    held (based q.base) q.entries i m ≡ held (opening q.base.header) (mine ++ all) i m
+holds_grown p q i added mine all base entries own a m =
+    ap (λ b. held (based b) q.entries i m) base
+    ∙ ap (λ l. held (based p.base) l i m) entries
+    ∙ holds_more (based p.base) (opening p.base.header) refl added p.entries all i m (a.holds m)
+    ∙ ap (λ l. held (opening p.base.header) (l ++ all) i m) own
+    ∙ ap (λ (b : Base). held (opening b.header) (mine ++ all) i m) (sym base)
+
+holds_folded : (p q : Point) (i : ℕ) (all : List Entry) → CanFold p.base p.entries →
+    q.base ≡ folded p.base p.entries → q.entries ≡ [] → Agrees p i all → (m : Mode) →
+    held (based q.base) q.entries i m ≡ held (opening q.base.header) all i m
+holds_folded p q i all can base none a m =
+    ap (λ b. held (based b) q.entries i m) base
+    ∙ ap (λ l. held (based (folded p.base p.entries)) l i m) none
+    ∙ sym (ap (λ f. f i m) same.holds)
+    ∙ a.holds m
+    ∙ ap (λ (b : Base). held (opening b.header) all i m) (sym base)
+  where
+    same : Alike p.base.header (based p.base) (based (folded p.base p.entries)) p.entries []
+    same = fold_alike p.base p.entries can.good can.legal can.seated
+
 pub agrees_opened : (k : Header) (p : Point) (i : ℕ) → p.base ≡ opening_base k → p.entries ≡ [] →
     Agrees p i []
 agrees_opened k p i base none =
@@ -154,6 +204,7 @@ agrees_opened k p i base none =
           let z = ap (λ (x : SeatBase). x.calls) (ap (λ b. seat_of b i) base ∙ no_seat k i) in
           let e = ap (λ l. ended_calls (entries_of i l)) none in
           omega (arith, z, e);
+      holds = λ m. holds_opened k p i base none m;
       sleep = λ can t.
           ap (λ l. last_sleep (based p.base) l i) none ∙ ap (λ b. (based b).last_sleep i) base
           ∙ ap (λ (s : Start). s.last_sleep i) (based_opening k);
@@ -223,6 +274,7 @@ agrees_grown p q i added mine all base entries own a =
           let m = ended_append mine all in
           let c = a.calls in
           omega (arith, b, n, m, c);
+      holds = λ m. holds_grown p q i added mine all base entries own a m;
       sleep = λ can t. sleep_grown p q i added mine all base entries own a can t;
     }
   where
@@ -243,6 +295,7 @@ agrees_folded p q i all can base empty a =
           let n = ap ended_calls none in
           let c = a.calls in
           omega (arith, b, n, c);
+      holds = λ m. holds_folded p q i all can base empty a m;
       sleep = λ _ t. sleep_folded p q i all can base empty a t;
     }
   where

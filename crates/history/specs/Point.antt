@@ -1,8 +1,10 @@
 -- What is seen of a history that may be folded: a base, and the entries behind it.
 use Rattle.std.specs.Prelude.{◌≡◌, ◌⊎◌, ℕ, ◌+◌, ◌==◌, true, List, [], ◌++◌, filter}
 use Rattle.history.specs.declared.entry.Entry.{Entry}
+use Rattle.history.specs.declared.entry.Mode.{Mode}
 use Rattle.history.specs.declared.point.Point.{Point}
 use Rattle.history.specs.Base.{Base, based, folded, seat_of}
+use Rattle.history.specs.Counts.{held}
 use Rattle.history.specs.Entries.{ended_calls}
 use Rattle.history.specs.GoodBase.{IsGood}
 use Rattle.history.specs.Legal.{AreSeated, IsLegal}
@@ -36,12 +38,13 @@ abbrev pub entries_of : ℕ → List Entry → List Entry
 entries_of i h = filter (λ e. e.seat == i) h
 
 -- What a point has of all entries of a seat: the newest of them, and in its base the calls that the others
--- ended. Where the entries can be folded and the seat sleeps or comes back, its last sleep is the one of
--- which all say.
+-- ended. The seat holds there what all its entries come to, those that were folded among them. Where the
+-- entries can be folded and the seat sleeps or comes back, its last sleep is the one of which all say.
 pub record Agrees (p : Point) (i : ℕ) (all : List Entry) : Type 0 where
   pub older : List Entry
   pub newest : all ≡ entries_of i p.entries ++ older
   pub calls : (seat_of p.base i).calls + ended_calls (entries_of i p.entries) ≡ ended_calls all
+  pub holds : (m : Mode) → held (based p.base) p.entries i m ≡ held (opening p.base.header) all i m
   pub sleep :
       CanFold p.base p.entries → is_away (phase (based p.base) p.entries i) ≡ true →
       last_sleep (based p.base) p.entries i ≡ last_sleep (opening p.base.header) all i

@@ -1,8 +1,9 @@
 //! Bases: the numbers and lists that entries leave stand for these entries.
 
-ghost use Rattle.std.specs.Prelude.{◌≡◌, ◌≢◌, ◌↔◌, ◌+◌, ◌≤◌, ℕ, List, [], ◌∷◌, ◌++◌, length, true};
+ghost use Rattle.std.specs.Prelude.{◌≡◌, ◌≢◌, ◌↔◌, ◌+◌, ◌<◌, ◌≤◌, ℕ, List, [], ◌∷◌, ◌++◌, length, true};
 ghost use Rattle.std.specs.List.{AllByRecursion};
 ghost use Rattle.history.specs.declared.entry.Entry.{Entry};
+ghost use Rattle.history.specs.declared.entry.Mode.TheVariants.{X};
 ghost use Rattle.history.specs.declared.header.Header.{Header};
 ghost use Rattle.history.specs.declared.point.Point.{Point};
 ghost use Rattle.history.specs.declared.step.Step.{Step};
@@ -18,7 +19,7 @@ ghost use Rattle.history.specs.NextBase.{next_base};
 ghost use Rattle.history.specs.Object.{is_lock, is_semaphore};
 ghost use Rattle.history.specs.Order.{IsFairOrder, IsInOrder};
 ghost use Rattle.history.specs.Ownership.{IsOwned, is_away};
-ghost use Rattle.history.specs.Phase.{phase};
+ghost use Rattle.history.specs.Phase.{Idle, phase};
 ghost use Rattle.history.specs.Point.{Agrees, CanFold, ComesBefore, FollowsBy};
 ghost use Rattle.history.specs.Room.{owed};
 ghost use Rattle.history.specs.Sleepers.{last_sleep, sleepers};
@@ -134,6 +135,13 @@ pub fn what_holds_of_a_history_holds_on_a_base()
     ensures owner { (b : Base) (h : List Entry) → is_lock b.header.object ≡ true → CanFold b h →
         IsOwned (based b) h }
     ensures once { (b : Base) (h : List Entry) → IsGood b → IsLegal (based b) h → IsOneWait (based b) h }
+{}
+
+/// Whoever has an exclusive hold is idle: it neither stands in line nor sleeps. So it may call, and its release
+/// isn't refused.
+pub fn whoever_owns_is_idle()
+    ensures { (b : Base) (h : List Entry) → CanFold b h →
+        (seat : ℕ) → 0 < held (based b) h seat X → phase (based b) h seat ≡ Idle }
 {}
 
 /// A base that forgets a sleeper is not the fold: a signal that moved it no longer does.

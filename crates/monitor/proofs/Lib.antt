@@ -7,3 +7,4 @@ pub mod Opening
 pub mod Merging
 pub mod Looking
 pub mod Trims
+pub mod Loads

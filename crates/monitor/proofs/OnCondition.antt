@@ -8,16 +8,19 @@ use Rattle.history.specs.Steps.{entry_for, awaits, plain}
 use Rattle.history.specs.declared.entry.End.{End}
 use Rattle.history.specs.declared.entry.End.TheVariants as end
 use Rattle.history.specs.declared.entry.Entry.{Entry}
+use Rattle.history.specs.declared.entry.Mode.{Mode}
 use Rattle.history.specs.declared.entry.Mode.TheVariants.{X, S}
 use Rattle.history.specs.declared.entry.Word.TheVariants as word
 use Rattle.history.specs.declared.fault.Fault.{Fault}
 use Rattle.history.specs.declared.fault.Fault.TheVariants as fault
 use Rattle.history.specs.declared.step.Answer.TheVariants.{Recorded}
 use Rattle.history.specs.declared.step.Step.TheVariants.{Await, EntryInterrupt}
-use Rattle.word_lock.specs.Point.{Before}
+use Rattle.word_lock.specs.Point.{header_of, Before}
+use Rattle.word_lock.specs.Ticket.{LockId}
 use Rattle.history.specs.Awaiting.{SleepsAs, signalled, lapsed, back_from, lapse_from}
 use Rattle.monitor.specs.Lawful.{start_at, view_of}
-use Rattle.monitor.specs.Shown.{Shown}
+use Rattle.monitor.specs.Load.{holds_of}
+use Rattle.monitor.specs.Shown.{Shown, IsTrue}
 use Rattle.monitor.specs.Stepping.{IsSame, IsStep, IsEntered}
 use Rattle.monitor.specs.declared.how.How.{How}
 use Rattle.monitor.specs.declared.how.How.TheVariants.{Plain, Interruptible, Timed}
@@ -28,6 +31,7 @@ use Rattle.monitor.specs.Waits.{IsMade, IsWait, IsWaited, WaitsAs, on_condition,
 use Rattle.history.proofs.Awaiting.{falls_asleep}
 use Rattle.monitor.proofs.Acquiring.{idle_made, at_once, made_later, refused_at_once}
 use Rattle.monitor.proofs.InLine.{records}
+use Rattle.monitor.proofs.Loads.{own_holds}
 use Rattle.monitor.proofs.Turns.{there_later}
 
 -- what an await records first: it sleeps, or is refused
@@ -47,6 +51,19 @@ await_words k i c = by (not (is_seat (owner k) i)) (nat_lt 0 (k.held i S))
     by true d = record { seat = refl; word = inr (inl refl) }
     by false true = record { seat = refl; word = inr (inr refl) }
     by false false = record { seat = refl; word = inl refl }
+
+-- an await that sleeps gives up all holds
+await_gives : (k : Counts) (i c : ℕ) (e : Entry) → e ≡ awaits k i c → e.word ≡ word.Await → e.n ≡ k.held i X
+await_gives k i c e q w = by (not (is_seat (owner k) i)) (nat_lt 0 (k.held i S)) q
+  where
+    by : (b d : Bool) →
+        e ≡ cond b (plain i (word.Refused fault.NotOwner) X 1)
+        (cond d (plain i (word.Refused fault.HoldsRead) X 1)
+        (record { seat = i; word = word.Await; mode = X; n = k.held i X; at = c; end = end.None })) →
+        e.n ≡ k.held i X
+    by true d u = let v = sym (ap (λ (z : Entry). z.word) u) ∙ w in cc
+    by false true u = let v = sym (ap (λ (z : Entry). z.word) u) ∙ w in cc
+    by false false u = ap (λ (z : Entry). z.n) u
 
 pub due_for : (how : How) (l : Limits) → LimitsFor how l → IsDue l (due_first how)
 due_for Plain l for = tt
@@ -103,11 +120,24 @@ module _ (old mid : Shown) (c : ℕ) (how : How) (e : Entry) (name : Option ℕ)
       (subst (λ (l : List Entry). SleepsAs (start_at s.found) l mid.seat (signalled e.at e.n))
       (sym r.entries) here))
 
+  gave : e.word ≡ word.Await → IsSame old mid → IsTrue mid → e.n ≡ holds_of old X
+  unfolding header_of
+  gave w same shows =
+      let r = records (view_of s.found s.beside) (view_of mid.seen s.beside_left) old.seat (Await c) e
+      name s.answered in
+      let x = idle_made (start_at s.found) s.found.entries old.seat (Await c) e refl rec in
+      let header : s.found.base.header ≡ old.lock.header =
+      ap (λ (b : Base). b.header) (sym r.base)
+      ∙ (shows.header ∙ ap (λ (l : LockId). l.header) same.lock) in
+      await_gives (counts (start_at s.found) s.found.entries) old.seat c e x.is w
+      ∙ sym (ap (λ (f : Mode → ℕ). f X)
+      (own_holds s.found old.lock.header old.seat old.mine s.agrees header))
+
   -- and the end of the wait behind it
-  pub ends_await : e.word ≡ word.Await → IsSame old mid → (new : Shown) (l : Limits) (last : Entry) →
+  pub ends_await : e.word ≡ word.Await → IsSame old mid → IsTrue mid → (new : Shown) (l : Limits) (last : Entry) →
       LimitsFor how l →
       Before mid.seen new.seen → IsWaited mid l last new → IsAwait old c how (Ok last) new
-  ends_await w same new l last for after waited =
+  ends_await w same shows new l last for after waited =
       by (waited (on_condition (signalled e.at e.n)) (sleeps w same))
     where
       v : Sleep
@@ -117,6 +147,7 @@ module _ (old mid : Shown) (c : ℕ) (how : How) (e : Entry) (name : Option ℕ)
       by x = inr record {
         slept = e;
         await = w;
+        gave_up = gave w same shows;
         sleeps = there_later old.seen mid.seen new.seen old.seat (Await c) e
             (at_once old mid (Await c) e name s).made after;
         step = x.step;

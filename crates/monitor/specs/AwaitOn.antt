@@ -12,6 +12,7 @@ use Rattle.history.specs.declared.step.Step.{Step}
 use Rattle.history.specs.declared.step.Step.TheVariants.{Await, EntryInterrupt, Expire}
 use Rattle.history.specs.Awaiting.{signalled, lapsed, back_from, lapse_from}
 use Rattle.monitor.specs.Acquire.{EndsAtOnce, EndsUnrecorded, is_interruptible, is_timed}
+use Rattle.monitor.specs.Load.{holds_of}
 use Rattle.monitor.specs.Shown.{Shown}
 use Rattle.monitor.specs.Waits.{IsMade, IsLast}
 use Rattle.monitor.specs.declared.how.How.{How}
@@ -47,10 +48,11 @@ pub record LapsesAndReturns (old : Shown) (how : How) (slept : Entry) (e : Entry
   pub back : e ≡ back_from old.seat (lapsed (signalled slept.at slept.n) end)
   pub mine : new.mine ≡ e ∷ lapse_from old.seat (signalled slept.at slept.n) end ∷ slept ∷ old.mine
 
--- an await that slept, and came back as it was signalled or behind its lapse
+-- an await that slept, and came back as it was signalled or behind its lapse. It gave up all that the pass held
 pub record EndsAwait (old : Shown) (c : ℕ) (how : How) (e : Entry) (new : Shown) : Type 0 where
   pub slept : Entry
   pub await : slept.word ≡ word.Await
+  pub gave_up : slept.n ≡ holds_of old X
   pub sleeps : IsMade old.seen old.seat (Await c) slept new.seen
   pub step : Step
   pub made : IsMade old.seen old.seat step e new.seen

@@ -2,11 +2,13 @@
 ghost use Rattle.std.specs.Prelude.{◌≡◌, ◌≤◌};
 ghost use Rattle.word_lock.specs.Point.{Before};
 ghost use Rattle.history.specs.declared.step.Step.TheVariants.{EntryInterrupt};
+ghost use Rattle.monitor.specs.Load.{holds_of};
 ghost use Rattle.monitor.specs.Shown.{IsTrue};
 ghost use Rattle.monitor.specs.Stepping.{IsSame, IsEntered};
 ghost use Rattle.monitor.specs.Acquire.{IsAcquire, first_step};
 
 use crate::how::{How, limits, takes_interrupt};
+use crate::load::{Empty, Load};
 use crate::monitor::Monitor;
 use crate::pass::Pass;
 use frame::hooks::Hooks;
@@ -62,15 +64,41 @@ impl<H: Hooks + Drop> Monitor<H> {
         ensures shows { IsTrue pass.new }
         ensures acquired { IsAcquire pass.old mode n how result pass.new }
     {
+        self.acquire_with(rt, parking, pass, &mut Empty {}, mode, n, how)
+    }
+}
+
+impl<H: Hooks + Drop, L: Load> Monitor<H, L> {
+    /// [`acquire`](Monitor::acquire) with a load: before and after, the caller carries
+    /// what belongs to the holds of its pass.
+    pub fn acquire_with<P: Parking, R: Wait + Clock>(
+        &self,
+        rt: &R,
+        parking: &P,
+        pass: &mut Pass,
+        load: &mut L,
+        mode: Mode,
+        n: u32,
+        how: How,
+    ) -> Result<Entry, Fault>
+        requires is_of { pass.old.lock ≡ self.now }
+        requires places { self.now.header.seats ≤ P.seats parking.now }
+        requires carries { L.carries load.old (holds_of pass.old) }
+        ensures same { IsSame pass.old pass.new }
+        ensures begins { Before pass.old.seen pass.new.seen }
+        ensures shows { IsTrue pass.new }
+        ensures acquired { IsAcquire pass.old mode n how result pass.new }
+        ensures carries { L.carries load.new (holds_of pass.new) }
+    {
         if takes_interrupt(parking, pass, how) {
-            return self.refuse(rt, parking, pass, mode, n);
+            return self.refuse(rt, parking, pass, load, mode, n);
         }
         let limits = limits(rt, parking, how);
-        match self.enter(rt, parking, pass, first_step(how, mode, n)) {
+        match self.enter(rt, parking, pass, load, first_step(how, mode, n)) {
             Err(fault) => Err(fault),
             Ok(entry) => match entry.word {
                 Word::Queued => {
-                    let last = self.wait(rt, parking, pass, None, limits);
+                    let last = self.wait(rt, parking, pass, load, None, limits);
                     Ok(last)
                 }
                 _ => Ok(entry),
@@ -84,18 +112,21 @@ impl<H: Hooks + Drop> Monitor<H> {
         rt: &R,
         parking: &P,
         pass: &mut Pass,
+        load: &mut L,
         mode: Mode,
         n: u32,
     ) -> Result<Entry, Fault>
         requires is_of { pass.old.lock ≡ self.now }
         requires places { self.now.header.seats ≤ P.seats parking.now }
+        requires carries { L.carries load.old (holds_of pass.old) }
         ensures same { IsSame pass.old pass.new }
         ensures entered { IsEntered pass.old (EntryInterrupt mode n) result pass.new }
         ensures shows { IsTrue pass.new }
+        ensures carries { L.carries load.new (holds_of pass.new) }
     {
         pass.is_true();
         let seat = pass.seat();
-        let refused = self.enter(rt, parking, pass, Step::EntryInterrupt(mode, n));
+        let refused = self.enter(rt, parking, pass, load, Step::EntryInterrupt(mode, n));
         if refused.is_err() {
             parking.interrupt(seat);
         }

@@ -1,11 +1,13 @@
 //! An await on a condition.
 ghost use Rattle.std.specs.Prelude.{◌≡◌, ◌≤◌};
 ghost use Rattle.word_lock.specs.Point.{Before};
+ghost use Rattle.monitor.specs.Load.{holds_of};
 ghost use Rattle.monitor.specs.Shown.{IsTrue};
 ghost use Rattle.monitor.specs.Stepping.{IsSame};
 ghost use Rattle.monitor.specs.AwaitOn.{IsAwait, due_first};
 
 use crate::how::{How, limits, takes_interrupt};
+use crate::load::{Empty, Load};
 use crate::monitor::Monitor;
 use crate::pass::Pass;
 use frame::hooks::Hooks;
@@ -55,15 +57,40 @@ impl<H: Hooks + Drop> Monitor<H> {
         ensures shows { IsTrue pass.new }
         ensures awaited { IsAwait pass.old condition how result pass.new }
     {
+        self.await_on_with(rt, parking, pass, &mut Empty {}, condition, how)
+    }
+}
+
+impl<H: Hooks + Drop, L: Load> Monitor<H, L> {
+    /// [`await_on`](Monitor::await_on) with a load: before and after, the caller carries
+    /// what belongs to the holds of its pass.
+    pub fn await_on_with<P: Parking, R: Wait + Clock>(
+        &self,
+        rt: &R,
+        parking: &P,
+        pass: &mut Pass,
+        load: &mut L,
+        condition: u8,
+        how: How,
+    ) -> Result<Entry, Fault>
+        requires is_of { pass.old.lock ≡ self.now }
+        requires places { self.now.header.seats ≤ P.seats parking.now }
+        requires carries { L.carries load.old (holds_of pass.old) }
+        ensures same { IsSame pass.old pass.new }
+        ensures begins { Before pass.old.seen pass.new.seen }
+        ensures shows { IsTrue pass.new }
+        ensures awaited { IsAwait pass.old condition how result pass.new }
+        ensures carries { L.carries load.new (holds_of pass.new) }
+    {
         if takes_interrupt(parking, pass, how) {
-            return self.refuse(rt, parking, pass, Mode::X, 1);
+            return self.refuse(rt, parking, pass, load, Mode::X, 1);
         }
         let limits = limits(rt, parking, how);
-        match self.enter(rt, parking, pass, Step::Await(condition)) {
+        match self.enter(rt, parking, pass, load, Step::Await(condition)) {
             Err(fault) => Err(fault),
             Ok(entry) => match entry.word {
                 Word::Await => {
-                    let last = self.wait(rt, parking, pass, due_first(how), limits);
+                    let last = self.wait(rt, parking, pass, load, due_first(how), limits);
                     Ok(last)
                 }
                 _ => Ok(entry),

@@ -5,6 +5,7 @@ ghost use Rattle.history.specs.declared.step.Step.TheVariants.{Try, Give, Signal
 ghost use Rattle.monitor.specs.Shown.{IsTrue};
 ghost use Rattle.monitor.specs.Stepping.{IsSame, IsEntered};
 
+use crate::load::{Empty, Load};
 use crate::monitor::Monitor;
 use crate::pass::Pass;
 use frame::hooks::Hooks;
@@ -35,7 +36,7 @@ impl<H: Hooks + Drop> Monitor<H> {
         ensures shows { IsTrue pass.new }
     {
         pass.is_true();
-        self.enter(rt, parking, pass, Step::Try(mode, n))
+        self.enter(rt, parking, pass, &mut Empty {}, Step::Try(mode, n))
     }
 
     /// Gives a hold or permits back: `Gave`. `Refused` if the seat doesn't own what it gives back.
@@ -54,7 +55,7 @@ impl<H: Hooks + Drop> Monitor<H> {
         ensures shows { IsTrue pass.new }
     {
         pass.is_true();
-        self.enter(rt, parking, pass, Step::Give(mode, n))
+        self.enter(rt, parking, pass, &mut Empty {}, Step::Give(mode, n))
     }
 
     /// Counts a latch down by one: `Counted`.
@@ -71,9 +72,29 @@ impl<H: Hooks + Drop> Monitor<H> {
         ensures shows { IsTrue pass.new }
     {
         pass.is_true();
-        self.enter(rt, parking, pass, Step::Give(Mode::S, 1))
+        self.enter(rt, parking, pass, &mut Empty {}, Step::Give(Mode::S, 1))
     }
 
+    /// Takes all free permits of a semaphore: `Drained`, with their number.
+    pub fn drain<P: Parking, R: Wait + Clock>(
+        &self,
+        rt: &R,
+        parking: &P,
+        pass: &mut Pass,
+    ) -> Result<Entry, Fault>
+        requires is_of { pass.old.lock ≡ self.now }
+        requires places { self.now.header.seats ≤ P.seats parking.now }
+        ensures same { IsSame pass.old pass.new }
+        ensures drained { IsEntered pass.old (Drain) result pass.new }
+        ensures shows { IsTrue pass.new }
+    {
+        pass.is_true();
+        self.enter(rt, parking, pass, &mut Empty {}, Step::Drain)
+    }
+}
+
+/// A signal changes nobody's holds, so a load stays where it is.
+impl<H: Hooks + Drop, L: Load> Monitor<H, L> {
     /// Moves the longest sleeper of a condition into the line. `Refused` if the seat isn't the owner.
     pub fn signal<P: Parking, R: Wait + Clock>(
         &self,
@@ -89,7 +110,7 @@ impl<H: Hooks + Drop> Monitor<H> {
         ensures shows { IsTrue pass.new }
     {
         pass.is_true();
-        self.enter(rt, parking, pass, Step::Signal(condition))
+        self.tell(rt, parking, pass, Step::Signal(condition))
     }
 
     /// Moves all sleepers of a condition into the line, in order. `Refused` if the seat isn't the owner.
@@ -107,23 +128,6 @@ impl<H: Hooks + Drop> Monitor<H> {
         ensures shows { IsTrue pass.new }
     {
         pass.is_true();
-        self.enter(rt, parking, pass, Step::SignalAll(condition))
-    }
-
-    /// Takes all free permits of a semaphore: `Drained`, with their number.
-    pub fn drain<P: Parking, R: Wait + Clock>(
-        &self,
-        rt: &R,
-        parking: &P,
-        pass: &mut Pass,
-    ) -> Result<Entry, Fault>
-        requires is_of { pass.old.lock ≡ self.now }
-        requires places { self.now.header.seats ≤ P.seats parking.now }
-        ensures same { IsSame pass.old pass.new }
-        ensures drained { IsEntered pass.old (Drain) result pass.new }
-        ensures shows { IsTrue pass.new }
-    {
-        pass.is_true();
-        self.enter(rt, parking, pass, Step::Drain)
+        self.tell(rt, parking, pass, Step::SignalAll(condition))
     }
 }

@@ -4,12 +4,14 @@ ghost use Rattle.history.specs.Entries.{IsBasedWell, start_on};
 ghost use Rattle.history.specs.Legal.{AreSeated, calls};
 ghost use Rattle.deciding.specs.Balance.{balance};
 ghost use Rattle.monitor.specs.Closing.{IsBased, IsWithin, left_by, shares, passes_of, IsMissing};
+ghost use Rattle.history.specs.Counts.{counts};
 ghost use Rattle.monitor.specs.Lawful.{IsLawful};
 ghost use Rattle.word_lock.specs.Point.{Before};
 ghost use Rattle.monitor.specs.Shown.{IsTrue};
 ghost use Rattle.monitor.specs.Stepping.{IsSame};
 ghost use Rattle.monitor.specs.declared.closing.CloseFault.TheVariants.{MissingPass};
 
+use crate::load::{Empty, Load};
 use crate::monitor::Monitor;
 use crate::pass::Pass;
 use frame::Balance;
@@ -35,7 +37,7 @@ pub enum CloseFault {
     MissingPass,
 }
 
-impl<H: Hooks + Drop> Monitor<H> {
+impl<H: Hooks + Drop, L: Load> Monitor<H, L> {
     /// Ties what two passes have seen. It takes no memory and waits for nobody.
     pub fn meet(&self, one: Pass, two: Pass) -> (Pass, Pass)
         requires is_of { (one.lock ≡ self.now) × (two.lock ≡ self.now) }
@@ -70,6 +72,64 @@ impl<H: Hooks + Drop> Monitor<H> {
         (one, two)
     }
 
+    /// [`close`](Monitor::close) with a load: what lay under the lock comes with the history. What somebody still
+    /// holds is with whoever holds it.
+    pub fn close_with<R: Wait>(
+        self,
+        rt: &R,
+        passes: Vec<Pass>,
+    ) -> Result<(Closed, L), (Monitor<H, L>, Vec<Pass>, CloseFault)>
+        requires is_of { All (λ p. p.lock ≡ self) passes.items }
+        ensures lawful { IfOk result (λ r. IsLawful (left_by self r.0.history)) }
+        ensures within { IfOk result (λ r. All (λ p. IsWithin (left_by self r.0.history) p) passes.items) }
+        ensures base { IfOk result (λ r. IsBased self r.0.history) }
+        ensures good { IfOk result (λ r. IsBasedWell self.header r.0.history.base) }
+        ensures seated { IfOk result (λ r.
+            AreSeated (start_on self.header r.0.history) r.0.history.entries) }
+        ensures cap { IfOk result (λ r. r.0.history.cap ≡ self.header.cap) }
+        ensures each { IfOk result (λ _. (seat : _)
+            → seat < self.header.seats → passes_of seat passes.items ≡ 1) }
+        ensures share { IfOk result (λ r. r.0.share ≡ shares passes.items) }
+        ensures calls { IfOk result (λ r.
+            r.0.share ≡ calls (start_on self.header r.0.history) r.0.history.entries) }
+        ensures balance { IfOk result (λ r.
+            r.0.balance ≡ balance (start_on self.header r.0.history) r.0.history.entries) }
+        ensures exclusive { IfOk result (λ r. r.0.balance.exclusive < 2 ^ 126) }
+        ensures shared { IfOk result (λ r. r.0.balance.shared < 2 ^ 126) }
+        ensures rests { IfOk result (λ r.
+            L.rests r.1 (counts (start_on self.header r.0.history) r.0.history.entries)) }
+        ensures missing { IfErr result (λ r. (r.2 ≡ MissingPass) × IsMissing self.header.seats passes.items) }
+        ensures back { IfErr result (λ r. (r.0 ≡ self) × (r.1 ≡ passes)) }
+    {
+        let share = merge_shares(&passes);
+        if passes.len() < self.seats as usize {
+            return Err((self, passes, CloseFault::MissingPass));
+        }
+        let mut passes = passes;
+        let Some(last) = passes.pop() else {
+            unreachable!()
+        };
+        let Monitor { lock, seats: _ } = self;
+        let mut joined = last.into_token();
+        while let Some(pass) = passes.pop() {
+            joined = lock.join(pass.into_token(), joined);
+        }
+        drop(passes);
+        let kept = lock.close(rt, joined);
+        let (core, load) = kept.into_parts();
+        let balance = core.balance();
+        let history = core.into_history();
+        let _few = history.len();
+        let closed = Closed {
+            history,
+            share: share as u64,
+            balance,
+        };
+        Ok((closed, load))
+    }
+}
+
+impl<H: Hooks + Drop> Monitor<H> {
     /// Takes the object for good, and waits until nobody has it. It takes no memory.
     ///
     /// The passes of all seats are needed, in any order, since only all of them together know what
@@ -99,30 +159,10 @@ impl<H: Hooks + Drop> Monitor<H> {
         ensures missing { IfErr result (λ r. (r.2 ≡ MissingPass) × IsMissing self.header.seats passes.items) }
         ensures back { IfErr result (λ r. (r.0 ≡ self) × (r.1 ≡ passes)) }
     {
-        let share = merge_shares(&passes);
-        if passes.len() < self.seats as usize {
-            return Err((self, passes, CloseFault::MissingPass));
+        match self.close_with(rt, passes) {
+            Ok((closed, _none)) => Ok(closed),
+            Err(refused) => Err(refused),
         }
-        let mut passes = passes;
-        let Some(last) = passes.pop() else {
-            unreachable!()
-        };
-        let Monitor { lock, seats: _ } = self;
-        let mut joined = last.into_token();
-        while let Some(pass) = passes.pop() {
-            joined = lock.join(pass.into_token(), joined);
-        }
-        drop(passes);
-        let kept = lock.close(rt, joined);
-        let core = kept.into_core();
-        let balance = core.balance();
-        let history = core.into_history();
-        let _few = history.len();
-        Ok(Closed {
-            history,
-            share: share as u64,
-            balance,
-        })
     }
 }
 

@@ -45,6 +45,7 @@ mod calls;
 mod closing;
 mod how;
 mod kept;
+mod load;
 mod monitor;
 mod observing;
 mod pass;
@@ -54,6 +55,7 @@ mod waiting;
 
 pub use closing::{CloseFault, Closed};
 pub use how::How;
+pub use load::{Empty, Holds, Load};
 pub use monitor::Monitor;
 pub use pass::Pass;
 pub use step::Now;

@@ -5,9 +5,11 @@ ghost use Rattle.monitor.specs.Lawful.{blank, IsLawful};
 ghost use Rattle.history.specs.Header.{IsInRange};
 ghost use Rattle.history.specs.declared.fault.Fault.TheVariants.{OutOfMemory};
 ghost use Rattle.frame.specs.Core.{header_of};
+ghost use Rattle.monitor.specs.Load.{opened_counts};
 ghost use Rattle.monitor.specs.Shown.{opening_passes};
 
 use crate::kept::Kept;
+use crate::load::{Empty, Load};
 use crate::pass::Pass;
 use frame::hooks::Hooks;
 use history::fault::Fault;
@@ -15,14 +17,15 @@ use std::alloc::Global;
 use std::marker::Model;
 use word_lock::{Token, WordLock};
 
-/// An object that threads step by passes.
+/// An object that threads step by passes, and what lies beside it: nothing, or a load that changes hands as
+/// the object's holds do.
 #[derive(Drop)]
-pub struct Monitor<H: Hooks + Drop> {
-    pub(crate) lock: WordLock<Kept<H>>,
+pub struct Monitor<H: Hooks + Drop, L: Load = Empty> {
+    pub(crate) lock: WordLock<Kept<H, L>>,
     pub(crate) seats: u16,
 }
 
-impl<H: Hooks + Drop> Model for Monitor<H> {
+impl<H: Hooks + Drop, L: Load> Model for Monitor<H, L> {
     ghost use Rattle.std.specs.Prelude.{◌≡◌, ◌<◌};
     ghost use Rattle.word_lock.specs.Ticket.{LockId};
 
@@ -34,8 +37,8 @@ impl<H: Hooks + Drop> Model for Monitor<H> {
 }
 
 // A pass for each token of an opening, in order.
-fn give_passes<H: Hooks + Drop>(
-    lock: &WordLock<Kept<H>>,
+fn give_passes<H: Hooks + Drop, L: Load>(
+    lock: &WordLock<Kept<H, L>>,
     tokens: Vec<Token>,
     passes: &mut Vec<Pass>,
     seats: u16,
@@ -73,10 +76,44 @@ impl<H: Hooks + Drop> Monitor<H> {
         ensures room { IfOk result (λ r. vec_capacity r.1 ≡ seats) }
         ensures err { IfErr result (λ fault. fault ≡ OutOfMemory) }
     {
-        let mut passes = Vec::with_capacity(alloc, seats as usize)?;
-        let kept = Kept::open(alloc, hooks, seats, conditions, cap)?;
+        match Monitor::open_with(alloc, hooks, Empty {}, seats, conditions, cap) {
+            Ok(opened) => Ok(opened),
+            Err((_none, fault)) => Err(fault),
+        }
+    }
+}
+
+impl<H: Hooks + Drop, L: Load> Monitor<H, L> {
+    /// The same with a load. Nobody holds anything yet, so all of it lies under the lock. Where memory is
+    /// refused, the load comes back.
+    pub fn open_with(
+        alloc: Global,
+        hooks: H,
+        load: L,
+        seats: u16,
+        conditions: u8,
+        cap: u32,
+    ) -> Result<(Monitor<H, L>, Vec<Pass>), (L, Fault)>
+        requires opened { H.is_opened hooks seats }
+        requires range { IsInRange (header_of (H.object_of hooks) seats conditions cap) }
+        requires rests { L.rests load (opened_counts (header_of (H.object_of hooks) seats conditions cap)) }
+        ensures header { IfOk result (λ r.
+            r.0.header ≡ header_of (H.object_of hooks) seats conditions cap) }
+        ensures passes { IfOk result (λ r. r.1.items ≡ opening_passes r.0 (blank r.0.header) 0 seats) }
+        ensures own { IfOk result (λ r. All (λ p. p.lock ≡ r.0) r.1.items) }
+        ensures room { IfOk result (λ r. vec_capacity r.1 ≡ seats) }
+        ensures back { IfErr result (λ e. (e.0 ≡ load) × (e.1 ≡ OutOfMemory)) }
+    {
+        let Ok(mut passes) = Vec::with_capacity(alloc, seats as usize) else {
+            return Err((load, Fault::OutOfMemory));
+        };
+        let kept = Kept::open(alloc, hooks, load, seats, conditions, cap)?;
         match WordLock::open(alloc, kept, seats) {
-            Err((_, fault)) => Err(fault),
+            Err((kept, fault)) => {
+                let (core, load) = kept.into_parts();
+                drop(core);
+                Err((load, fault))
+            }
             Ok((lock, tokens)) => {
                 give_passes(&lock, tokens, &mut passes, seats);
                 Ok((Monitor { lock, seats }, passes))

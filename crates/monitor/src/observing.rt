@@ -1,5 +1,6 @@
 //! What a monitor tells of its object.
 ghost use Rattle.std.specs.Prelude.{◌≡◌, ◌<◌, true, length, is_some, Some};
+ghost use Rattle.std.specs.Fn.{FnOnceReturnsAt};
 ghost use Rattle.deciding.specs.Balance.{available};
 ghost use Rattle.history.specs.Counts.{count, counts, held, owner};
 ghost use Rattle.history.specs.Line.{line, place_of};
@@ -10,6 +11,7 @@ ghost use Rattle.monitor.specs.Lawful.{start_at};
 ghost use Rattle.monitor.specs.Observing.{IsLook};
 ghost use Rattle.monitor.specs.Shown.{IsTrue};
 
+use crate::load::Load;
 use crate::monitor::Monitor;
 use crate::pass::Pass;
 use frame::hooks::Hooks;
@@ -18,7 +20,7 @@ use std::sync::Wait;
 
 /// What each observer answers is true of the history that its pass has then seen. Others may have stepped
 /// before the caller reads it.
-impl<H: Hooks + Drop> Monitor<H> {
+impl<H: Hooks + Drop, L: Load> Monitor<H, L> {
     /// The holds of a seat in a mode.
     pub fn holds<R: Wait>(&self, rt: &R, pass: &mut Pass, seat: u16, mode: Mode) -> u128
         requires is_of { pass.old.lock ≡ self.now }
@@ -116,5 +118,21 @@ impl<H: Hooks + Drop> Monitor<H> {
         let count = held.value.core().count();
         self.lock.unlock(&mut pass.token, held);
         count
+    }
+
+    /// Shows the load that lies under the lock to `look`, within one turn: nobody steps meanwhile, so let it be
+    /// short.
+    pub fn look_with<R: Wait, A, F: FnOnce(&L) -> A>(&self, rt: &R, pass: &mut Pass, look: F) -> A
+        requires is_of { pass.old.lock ≡ self.now }
+        requires callable { F.IsAlwaysCallable look }
+        ensures looked { IsLook pass.old pass.new }
+        ensures shows { IsTrue pass.new }
+        ensures saw { (load : L) × L.rests load (counts (start_at pass.new.seen) pass.new.seen.entries)
+            × FnOnceReturnsAt F.FnOnce look load result }
+    {
+        let held = self.lock.lock(rt, &mut pass.token);
+        let seen = look(held.value.load());
+        self.lock.unlock(&mut pass.token, held);
+        seen
     }
 }

@@ -1,9 +1,11 @@
 //! One step of a seat.
-ghost use Rattle.std.specs.Prelude.{◌≡◌, ◌≤◌, false};
+ghost use Rattle.std.specs.Prelude.{◌≡◌, ◌≤◌, false, true};
 ghost use Rattle.history.specs.Phase.{waits};
+ghost use Rattle.monitor.specs.Load.{holds_of, is_signal};
 ghost use Rattle.monitor.specs.Shown.{IsTrue};
 ghost use Rattle.monitor.specs.Stepping.{IsSame, IsStep, IsStepNow, IsEntered, now_of};
 
+use crate::load::{Empty, Load};
 use crate::monitor::Monitor;
 use crate::pass::{Pass, share_behind};
 use frame::hooks::Hooks;
@@ -29,11 +31,7 @@ impl<H: Hooks + Drop> Monitor<H> {
         ensures stepped { IsStep pass.old step result pass.new }
         ensures shows { IsTrue pass.new }
     {
-        let mut held = self.lock.lock(rt, &mut pass.token);
-        let answer = held.value.step(pass.seat, step);
-        self.lock.unlock(&mut pass.token, held);
-        pass.share = share_behind(pass.share, &answer);
-        answer
+        self.step_with(rt, pass, &mut Empty {}, step)
     }
 
     /// One step of the pass's seat, if nobody has the object. It waits for nobody.
@@ -43,10 +41,47 @@ impl<H: Hooks + Drop> Monitor<H> {
         ensures stepped { IsStepNow pass.old step result pass.new }
         ensures shows { IsTrue pass.new }
     {
+        self.step_now_with(pass, &mut Empty {}, step)
+    }
+}
+
+/// The same with a load. The caller carries what belongs to the holds of its pass, before and after.
+impl<H: Hooks + Drop, L: Load> Monitor<H, L> {
+    /// One step of the pass's seat. It waits for the object.
+    pub fn step_with<R: Wait>(
+        &self,
+        rt: &R,
+        pass: &mut Pass,
+        load: &mut L,
+        step: Step,
+    ) -> Result<Answer, Fault>
+        requires is_of { pass.old.lock ≡ self.now }
+        requires carries { L.carries load.old (holds_of pass.old) }
+        ensures same { IsSame pass.old pass.new }
+        ensures stepped { IsStep pass.old step result pass.new }
+        ensures shows { IsTrue pass.new }
+        ensures carries { L.carries load.new (holds_of pass.new) }
+    {
+        let mut held = self.lock.lock(rt, &mut pass.token);
+        let answer = held.value.step(pass.seat, step, load);
+        self.lock.unlock(&mut pass.token, held);
+        pass.share = share_behind(pass.share, &answer);
+        answer
+    }
+
+    /// One step of the pass's seat, if nobody has the object. It waits for nobody.
+    pub fn step_now_with(&self, pass: &mut Pass, load: &mut L, step: Step) -> Result<Now, Fault>
+        requires is_of { pass.old.lock ≡ self.now }
+        requires carries { L.carries load.old (holds_of pass.old) }
+        ensures same { IsSame pass.old pass.new }
+        ensures stepped { IsStepNow pass.old step result pass.new }
+        ensures shows { IsTrue pass.new }
+        ensures carries { L.carries load.new (holds_of pass.new) }
+    {
         let Some(mut held) = self.lock.lock_now(&mut pass.token) else {
             return Ok(Now::Busy);
         };
-        let answer = held.value.step(pass.seat, step);
+        let answer = held.value.step(pass.seat, step, load);
         self.lock.unlock(&mut pass.token, held);
         pass.share = share_behind(pass.share, &answer);
         done(answer)
@@ -58,23 +93,89 @@ impl<H: Hooks + Drop> Monitor<H> {
         rt: &R,
         parking: &P,
         pass: &mut Pass,
+        load: &mut L,
         step: Step,
     ) -> Result<Answer, Fault>
         requires is_of { pass.old.lock ≡ self.now }
         requires places { self.now.header.seats ≤ P.seats parking.now }
+        requires carries { L.carries load.old (holds_of pass.old) }
         ensures same { IsSame pass.old pass.new }
         ensures stepped { IsStep pass.old step result pass.new }
         ensures shows { IsTrue pass.new }
+        ensures carries { L.carries load.new (holds_of pass.new) }
     {
-        let answer = self.step(rt, pass, step);
+        let answer = self.step_with(rt, pass, load, step);
         if let Ok(Answer::Recorded(_, Some(seat))) = answer {
             parking.unpark(seat);
         }
         answer
     }
 
-    // A step of an idle seat, which is answered with its entry or a fault.
-    pub(crate) fn enter<P: Parking, R: Wait + Clock>(
+    /// A step of an idle seat, which is answered with its entry or a fault, and an unpark of the seat that it
+    /// names.
+    pub fn enter<P: Parking, R: Wait + Clock>(
+        &self,
+        rt: &R,
+        parking: &P,
+        pass: &mut Pass,
+        load: &mut L,
+        step: Step,
+    ) -> Result<Entry, Fault>
+        requires is_of { pass.old.lock ≡ self.now }
+        requires places { self.now.header.seats ≤ P.seats parking.now }
+        requires idle { waits step ≡ false }
+        requires carries { L.carries load.old (holds_of pass.old) }
+        ensures same { IsSame pass.old pass.new }
+        ensures entered { IsEntered pass.old step result pass.new }
+        ensures shows { IsTrue pass.new }
+        ensures carries { L.carries load.new (holds_of pass.new) }
+    {
+        match self.call(rt, parking, pass, load, step) {
+            Ok(Answer::Recorded(entry, _)) => Ok(entry),
+            Ok(Answer::Sleep) => unreachable!(),
+            Err(fault) => Err(fault),
+        }
+    }
+
+    // A signal of the pass's seat. It waits for the object.
+    fn signal_step<R: Wait>(&self, rt: &R, pass: &mut Pass, step: Step) -> Result<Answer, Fault>
+        requires is_of { pass.old.lock ≡ self.now }
+        requires signals { is_signal step ≡ true }
+        ensures same { IsSame pass.old pass.new }
+        ensures stepped { IsStep pass.old step result pass.new }
+        ensures shows { IsTrue pass.new }
+    {
+        let mut held = self.lock.lock(rt, &mut pass.token);
+        let answer = held.value.signal(pass.seat, step);
+        self.lock.unlock(&mut pass.token, held);
+        pass.share = share_behind(pass.share, &answer);
+        answer
+    }
+
+    // A signal, and an unpark of the seat that it names.
+    fn signal_call<P: Parking, R: Wait + Clock>(
+        &self,
+        rt: &R,
+        parking: &P,
+        pass: &mut Pass,
+        step: Step,
+    ) -> Result<Answer, Fault>
+        requires is_of { pass.old.lock ≡ self.now }
+        requires places { self.now.header.seats ≤ P.seats parking.now }
+        requires signals { is_signal step ≡ true }
+        ensures same { IsSame pass.old pass.new }
+        ensures stepped { IsStep pass.old step result pass.new }
+        ensures shows { IsTrue pass.new }
+    {
+        let answer = self.signal_step(rt, pass, step);
+        if let Ok(Answer::Recorded(_, Some(seat))) = answer {
+            parking.unpark(seat);
+        }
+        answer
+    }
+
+    // A signal of an idle seat, which is answered with its entry or a fault.
+    pub(crate) fn tell<P: Parking, R: Wait + Clock>(
         &self,
         rt: &R,
         parking: &P,
@@ -83,12 +184,12 @@ impl<H: Hooks + Drop> Monitor<H> {
     ) -> Result<Entry, Fault>
         requires is_of { pass.old.lock ≡ self.now }
         requires places { self.now.header.seats ≤ P.seats parking.now }
-        requires idle { waits step ≡ false }
+        requires signals { is_signal step ≡ true }
         ensures same { IsSame pass.old pass.new }
         ensures entered { IsEntered pass.old step result pass.new }
         ensures shows { IsTrue pass.new }
     {
-        match self.call(rt, parking, pass, step) {
+        match self.signal_call(rt, parking, pass, step) {
             Ok(Answer::Recorded(entry, _)) => Ok(entry),
             Ok(Answer::Sleep) => unreachable!(),
             Err(fault) => Err(fault),

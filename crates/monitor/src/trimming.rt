@@ -3,13 +3,14 @@ ghost use Rattle.std.specs.Prelude.{◌≡◌};
 ghost use Rattle.monitor.specs.Shown.{IsTrue};
 ghost use Rattle.monitor.specs.Stepping.{IsSame, IsTrim};
 
+use crate::load::Load;
 use crate::monitor::Monitor;
 use crate::pass::Pass;
 use frame::hooks::Hooks;
 use history::fault::Fault;
 use std::sync::Wait;
 
-impl<H: Hooks + Drop> Monitor<H> {
+impl<H: Hooks + Drop, L: Load> Monitor<H, L> {
     /// Folds all entries into the base, and answers how many: their room comes back. It waits for the object,
     /// and takes no memory. Nothing else changes, for this pass nor for any other.
     ///

@@ -1,10 +1,12 @@
 //! The one loop in which every call waits.
 ghost use Rattle.std.specs.Prelude.{◌≡◌, ◌≤◌, ◌<◌, IsOk};
 ghost use Rattle.word_lock.specs.Point.{Before};
+ghost use Rattle.monitor.specs.Load.{holds_of};
 ghost use Rattle.monitor.specs.Shown.{IsTrue};
 ghost use Rattle.monitor.specs.Stepping.{IsSame};
 ghost use Rattle.monitor.specs.Waits.{IsWaited, Waits, IsAllowed, IsDue, IsNarrower, step_of, ending_of};
 
+use crate::load::Load;
 use crate::monitor::Monitor;
 use crate::pass::Pass;
 use frame::hooks::Hooks;
@@ -107,7 +109,7 @@ fn set_again<P: Parking>(parking: &P, seat: u16, interrupted: bool, end: End)
     }
 }
 
-impl<H: Hooks + Drop> Monitor<H> {
+impl<H: Hooks + Drop, L: Load> Monitor<H, L> {
     // Waits until the seat's turn comes or its wait is given up. `due` is a step to take before the first
     // park.
     pub(crate) fn wait<P: Parking, R: Wait + Clock>(
@@ -115,6 +117,7 @@ impl<H: Hooks + Drop> Monitor<H> {
         rt: &R,
         parking: &P,
         pass: &mut Pass,
+        load: &mut L,
         due: Option<Step>,
         limits: Limits,
     ) -> Entry
@@ -122,10 +125,12 @@ impl<H: Hooks + Drop> Monitor<H> {
         requires places { self.now.header.seats ≤ P.seats parking.now }
         requires waits { Waits pass.old.seen pass.old.seat }
         requires due { IsDue limits due }
+        requires carries { L.carries load.old (holds_of pass.old) }
         ensures same { IsSame pass.old pass.new }
         ensures begins { Before pass.old.seen pass.new.seen }
         ensures shows { IsTrue pass.new }
         ensures waited { IsWaited pass.old limits result pass.new }
+        ensures carries { L.carries load.new (holds_of pass.new) }
     {
         pass.is_true();
         let seat = pass.seat();
@@ -136,7 +141,7 @@ impl<H: Hooks + Drop> Monitor<H> {
             let step = next_step(rt, parking, seat, due, narrowed);
             interrupted = interrupted | is_interrupt(step);
             narrowed = limits_behind(step, narrowed);
-            let answer = self.call(rt, parking, pass, step);
+            let answer = self.call(rt, parking, pass, load, step);
             if let Some(entry) = ending(answer) {
                 set_again(parking, seat, interrupted, entry.end);
                 return entry;

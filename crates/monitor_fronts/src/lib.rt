@@ -14,3 +14,4 @@ pub use lock::ReentrantLock;
 pub use openings::{open_latch, open_lock, open_read_write_lock, open_semaphore};
 pub use read_write_lock::ReadWriteLock;
 pub use semaphore::Semaphore;
+pub use told::{done, whether};

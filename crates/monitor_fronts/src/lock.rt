@@ -1,5 +1,6 @@
 //! A lock whose owner may take it again.
-ghost use Rattle.std.specs.Prelude.{◌≡◌, ◌≤◌};
+ghost use Rattle.std.specs.Prelude.{◌≡◌, ◌<◌, ◌≤◌, true, IsOk};
+ghost use Rattle.history.specs.Object.{is_lock};
 ghost use Rattle.history.specs.declared.entry.Mode.TheVariants.{X};
 ghost use Rattle.history.specs.declared.step.Step.TheVariants.{Try, Give, Signal, SignalAll};
 ghost use Rattle.monitor.specs.Acquire.{IsAcquire};
@@ -7,6 +8,7 @@ ghost use Rattle.monitor.specs.AwaitOn.{IsAwait};
 ghost use Rattle.monitor.specs.Shown.{IsTrue};
 ghost use Rattle.monitor.specs.Stepping.{IsSame, IsEntered};
 ghost use Rattle.monitor.specs.declared.how.How.TheVariants.{Plain, Interruptible, Timed};
+ghost use Rattle.monitor_fronts.specs.Holding.{holds};
 ghost use Rattle.monitor_fronts.specs.Told.{Tells, done_of, whether_of};
 ghost use Rattle.word_lock.specs.Point.{Before};
 
@@ -119,7 +121,8 @@ impl<'m> ReentrantLock<'m> {
         )
     }
 
-    /// `ReentrantLock.unlock()`: `Err(NotOwner)` where Java throws `IllegalMonitorStateException`.
+    /// `ReentrantLock.unlock()`: `Err(NotOwner)` where Java throws `IllegalMonitorStateException`. It can't fail
+    /// where the pass holds: room and memory for it were reserved when the hold was recorded.
     pub fn unlock<P: Parking, R: Wait + Clock>(
         &self,
         rt: &R,
@@ -132,7 +135,9 @@ impl<'m> ReentrantLock<'m> {
         ensures shows { IsTrue pass.new }
         ensures entered { Tells done_of
             (λ reply. IsEntered pass.old (Give X 1) reply pass.new) result }
+        ensures owner { is_lock self.now.monitor.now.header.object ≡ true → 0 < holds pass.old → IsOk result }
     {
+        pass.is_true();
         done(self.monitor.release(rt, parking, pass, Mode::X, 1))
     }
 

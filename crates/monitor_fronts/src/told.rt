@@ -6,7 +6,7 @@ use history::entry::{End, Entry, Word};
 use history::fault::Fault;
 
 /// Whether the call got what it asked for. A refusal is its fault, and an interrupt is `Interrupted`.
-pub(crate) fn whether(reply: Result<Entry, Fault>) -> Result<bool, Fault>
+pub fn whether(reply: Result<Entry, Fault>) -> Result<bool, Fault>
     ensures { result ≡ whether_of reply }
 {
     match reply {
@@ -24,7 +24,7 @@ pub(crate) fn whether(reply: Result<Entry, Fault>) -> Result<bool, Fault>
 }
 
 /// The same without an answer.
-pub(crate) fn done(reply: Result<Entry, Fault>) -> Result<(), Fault>
+pub fn done(reply: Result<Entry, Fault>) -> Result<(), Fault>
     ensures { result ≡ done_of reply }
 {
     match whether(reply) {

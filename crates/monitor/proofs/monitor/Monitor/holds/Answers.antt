@@ -11,8 +11,8 @@ use Rattle.monitor.proofs.monitor.Monitor.holds.Goals as goal
 pub holds-holds-requires : goal.holds-holds-requires
 holds-holds-requires g c =
     subst (λ (v : CoreView). c.args.seat < v.header.seats) (sym c.core.ensures)
-    (subst (λ (k : Header). c.args.seat < k.seats) c.lock-held.ensures.fact.header
-    (seat_below (point_of c.lock-held.result.value.core.value) _ c.args.self.now.header c.args.seat
+    (subst (λ (k : Header). c.args.seat < k.seats) c.lock-held.ensures.fact.0.header
+    (seat_below (point_of c.lock-held.result.value.laden.value.core) _ c.args.self.now.header c.args.seat
     c.lock-held.ensures.header (ap (λ (l : LockId). l.header) c.self.view_is) c.requires.seat))
 
 pub unlock-requires-clause-follows : goal.unlock-requires-clause-follows
@@ -20,10 +20,10 @@ unlock-requires-clause-follows g c =
     may_give_back _ c.pass.inside.token _ _ c.pass.inside.share c.lock-held.ensures.taken.1 c.pass.invariant
 
 looked : (g : _) (c : goal.After-unlock g) → Looked c.pass.inside.token c.unlock.new.token
-    (point_of c.lock-held.result.value.core.value) c.pass.inside.seat c.pass.inside.share
+    (point_of c.lock-held.result.value.laden.value.core) c.pass.inside.seat c.pass.inside.share
 looked g c =
     look _ (held_ticket c.lock-held.result) _ _ _ _ c.lock-held.ensures.taken.1 c.unlock.ensures
-    c.pass.invariant c.lock-held.ensures.begins c.lock-held.ensures.entries c.lock-held.ensures.fact.lawful
+    c.pass.invariant c.lock-held.ensures.begins c.lock-held.ensures.entries c.lock-held.ensures.fact.0.lawful
 
 pub invariant_of-pass : goal.invariant_of-pass
 invariant_of-pass g c = (looked g c).pass

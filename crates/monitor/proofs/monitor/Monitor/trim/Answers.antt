@@ -6,31 +6,31 @@ use Rattle.monitor.proofs.monitor.Monitor.trim.Goals as goal
 
 pub unlock-requires-clause-follows : goal.unlock-requires-clause-follows
 unlock-requires-clause-follows g c =
-    let old = c.lock-held.result.value.core.value in
-    let new = c.trim-count.new.self.core.value in
+    let old = c.lock-held.result.value.laden.value.core in
+    let new = c.trim-count.new.self.laden.value.core in
     follows_taken _ c.pass.inside.token (point_of old) (point_of new) c.pass.inside.seat
     c.lock-held.ensures.taken.1 c.pass.invariant.seat_is
     (follows_trim c.pass.inside.seat (point_of old) (point_of new) (beside_of old) (beside_of new)
     c.trim-count.result
-    c.lock-held.ensures.fact.lawful
-    (trimmed_shown old new c.trim-count.result c.lock-held.ensures.fact c.trim-count.ensures.kept
+    c.lock-held.ensures.fact.0.lawful
+    (trimmed_shown old new c.trim-count.result c.lock-held.ensures.fact.0 c.trim-count.ensures.kept
     c.trim-count.ensures.trimmed)).0
 
 trims : (g : _) (c : goal.After-unlock g) → Trim c.pass.inside.token (held_ticket c.lock-held.result)
-    c.unlock.new.token (point_of c.lock-held.result.value.core.value)
-    (point_of c.trim-count.new.self.core.value) c.pass.inside.seat c.pass.inside.share c.trim-count.result
+    c.unlock.new.token (point_of c.lock-held.result.value.laden.value.core)
+    (point_of c.trim-count.new.self.laden.value.core) c.pass.inside.seat c.pass.inside.share c.trim-count.result
 trims g c = record {
   taken = c.lock-held.ensures.taken.1;
   given = c.unlock.ensures;
   was = c.pass.invariant;
   begins = c.lock-held.ensures.begins;
   entries = c.lock-held.ensures.entries;
-  beside = beside_of c.lock-held.result.value.core.value;
-  beside_left = beside_of c.trim-count.new.self.core.value;
-  trimmed = trimmed_shown c.lock-held.result.value.core.value c.trim-count.new.self.core.value
+  beside = beside_of c.lock-held.result.value.laden.value.core;
+  beside_left = beside_of c.trim-count.new.self.laden.value.core;
+  trimmed = trimmed_shown c.lock-held.result.value.laden.value.core c.trim-count.new.self.laden.value.core
       c.trim-count.result
-      c.lock-held.ensures.fact c.trim-count.ensures.kept c.trim-count.ensures.trimmed;
-  found = c.lock-held.ensures.fact.lawful;
+      c.lock-held.ensures.fact.0 c.trim-count.ensures.kept c.trim-count.ensures.trimmed;
+  found = c.lock-held.ensures.fact.0.lawful;
   lawful = c.trim-count.ensures.kept.lawful;
 }
 

@@ -5,8 +5,14 @@ use Rattle.monitor.proofs.Turns.{waits_first, allowed_wide, narrower, never_faul
 use Rattle.monitor.proofs.monitor.Monitor.wait.Goals as goal
 
 pub loop-init : goal.loop-init
-loop-init g c =
-    (tt, tt, waits_first c.args.pass.now c.args.limits c.is_true.ensures, inl refl, c.requires.due)
+loop-init g c = (
+  tt,
+  tt,
+  waits_first c.args.pass.now c.args.limits c.is_true.ensures,
+  inl refl,
+  c.requires.due,
+  c.requires.carries,
+)
 
 pub ending-requires : goal.ending-requires
 ending-requires g c =
@@ -43,4 +49,5 @@ loop-preserved g c =
       narrower c.limits_behind-narrowed.result c.loop.narrowed c.args.limits c.limits_behind-narrowed.ensures
           c.loop.invariant.3,
       c.due_behind-due.ensures,
+      c.call-answer.ensures.carries,
     )

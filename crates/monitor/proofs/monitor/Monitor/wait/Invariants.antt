@@ -1,3 +1,4 @@
+use Rattle.monitor.specs.Load.{holds_of}
 use Rattle.monitor.specs.Waits.{AllStillWait, IsDue, IsNarrower}
 use Rattle.monitor.proofs.monitor.Monitor.wait.Given as goal
 
@@ -7,3 +8,4 @@ invariant-loop g l =
     × AllStillWait l.fn.pass l.fn.limits l.pass
     × IsNarrower l.narrowed l.fn.limits
     × IsDue l.narrowed l.due
+    × g.L.Load.carries l.load (holds_of l.pass)

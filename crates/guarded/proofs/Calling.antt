@@ -1,0 +1,55 @@
+-- What the calls of a lock leave of a pass's holds, and of the value that it has.
+use Rattle.std.proofs.Common.{◌≡◌, ⊥, ℕ, ◌+◌, ◌<◌, Bool, true, false, Result, Ok, Err, refl, sym, ap, ◌∙◌, subst, arith}
+use Rattle.history.specs.declared.entry.Entry.{Entry}
+use Rattle.history.specs.declared.fault.Fault.{Fault}
+use Rattle.history.specs.Object.{is_lock}
+use Rattle.word_lock.specs.Ticket.{LockId}
+use Rattle.monitor.specs.Shown.{Shown}
+use Rattle.monitor.specs.Stepping.{IsSame}
+use Rattle.monitor_fronts.specs.Holding.{gained, holds}
+use Rattle.monitor_fronts.specs.Told.{whether_of}
+use Rattle.monitor_fronts.proofs.Counting.{await_holds}
+use Rattle.monitor_fronts.proofs.Exactly.{acquire_gains, try_gains}
+use Rattle.guarded.specs.declared.asking.Asked.{Asked}
+use Rattle.guarded.specs.declared.asking.Asked.TheVariants as asked
+use Rattle.guarded.specs.declared.full.WhenFull.{WhenFull}
+use Rattle.guarded.specs.Asking.{IsTake, call_of, gained_by}
+use Rattle.guarded.specs.declared.slot.Slot.{Slot}
+use Rattle.guarded.specs.declared.slot.Slot.TheVariants.{Empty, Full}
+use Rattle.guarded.specs.Stowed.{Carries, IsFull, IsOfLock, MutexView, mutex_view}
+
+-- a call adds the holds that it tells of
+pub call_gains : (a : Asked) (old new : Shown) (r : Result Entry Fault) →
+    is_lock old.lock.header.object ≡ true → IsSame old new → call_of a old r new →
+    holds new ≡ holds old + gained_by a r
+call_gains (asked.Acquire how) old new r lock same made = acquire_gains old new how r lock same made
+call_gains (asked.Try) old new r lock same made = try_gains old new r lock same made
+call_gains (asked.Await condition how) old new r lock same made =
+    let keeps = await_holds old new condition how r same made in omega (arith, keeps)
+
+-- a pass of such a lock is of a lock
+pub is_of_lock : (monitor : LockId) (when_full : WhenFull) (m : MutexView) (p : Shown) →
+    mutex_view monitor when_full ≡ m → IsOfLock monitor → p.lock ≡ m.lock →
+    is_lock p.lock.header.object ≡ true
+is_of_lock monitor when_full m p view lock of =
+    ap (λ (l : LockId). is_lock l.header.object) of
+    ∙ (ap (λ (v : MutexView). is_lock v.lock.header.object) (sym view) ∙ lock)
+
+-- a take gains just what it tells of
+pub takes_gain : (a : Asked) (r : Result Entry Fault) → IsTake a → gained_by a r ≡ gained (whether_of r)
+takes_gain (asked.Acquire how) r takes = refl
+takes_gain (asked.Try) r takes = refl
+takes_gain (asked.Await condition how) r takes = absurd takes
+
+-- who holds has the value, and who has it holds
+pub has_value : {T : Type 0} (n : ℕ) (value : Slot T) → Carries n value → 0 < n → IsFull value
+has_value n Empty carries some = absurd (omega (arith, carries, some))
+has_value n (Full x) carries some = tt
+
+pub has_holds : {T : Type 0} (n : ℕ) (value : Slot T) → Carries n value → IsFull value → 0 < n
+has_holds n Empty carries there = absurd there
+has_holds n (Full x) carries there = carries
+
+pub carries_some : {T : Type 0} (n : ℕ) (value : Slot T) → IsFull value → 0 < n → Carries n value
+carries_some n Empty there some = absurd there
+carries_some n (Full x) there some = some

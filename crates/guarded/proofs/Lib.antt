@@ -1,0 +1,3 @@
+pub mod Stowing
+pub mod Room
+pub mod Calling

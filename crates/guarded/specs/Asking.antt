@@ -1,0 +1,81 @@
+-- What the calls of a lock ask of its monitor, and what is told of it.
+use Rattle.std.specs.Prelude.{◌≡◌, ⊥, ℕ, Bool, true, false, Option, Some, None, Result, Ok, Err}
+use Rattle.history.specs.declared.entry.Entry.{Entry}
+use Rattle.history.specs.declared.entry.Mode.TheVariants.{X}
+use Rattle.history.specs.declared.fault.Fault.{Fault}
+use Rattle.history.specs.declared.step.Step.{Step}
+use Rattle.history.specs.declared.step.Step.TheVariants.{Try, Signal, SignalAll}
+use Rattle.monitor.specs.Acquire.{IsAcquire}
+use Rattle.monitor.specs.AwaitOn.{IsAwait}
+use Rattle.monitor.specs.Shown.{Shown}
+use Rattle.monitor.specs.Stepping.{IsEntered}
+use Rattle.monitor.specs.declared.how.How.{How}
+use Rattle.monitor_fronts.specs.Holding.{gained}
+use Rattle.monitor_fronts.specs.Told.{done_of, whether_of}
+use Rattle.guarded.specs.declared.asking.Asked.{Asked}
+use Rattle.guarded.specs.declared.asking.Asked.TheVariants as asked
+use Rattle.guarded.specs.declared.full.WhenFull.{WhenFull}
+use Rattle.guarded.specs.Full.{Call, WithRoom}
+
+-- the calls of the monitor
+abbrev pub acquires : How → Call
+acquires how old reply new = IsAcquire old X 1 how reply new
+
+abbrev pub tries : Call
+tries old reply new = IsEntered old (Try X 1) reply new
+
+abbrev pub awaits : ℕ → How → Call
+awaits condition how old reply new = IsAwait old condition how reply new
+
+-- to one sleeper, or to all
+abbrev pub signal_step : Bool → ℕ → Step
+signal_step true condition = SignalAll condition
+signal_step false condition = Signal condition
+
+abbrev pub signals : Bool → ℕ → Call
+signals all condition old reply new = IsEntered old (signal_step all condition) reply new
+
+abbrev pub call_of : Asked → Call
+call_of (asked.Acquire how) = acquires how
+call_of (asked.Try) = tries
+call_of (asked.Await condition how) = awaits condition how
+
+-- the calls of one who doesn't hold yet
+abbrev pub IsTake : Asked → Type 0
+IsTake (asked.Await condition how) = ⊥
+IsTake _ = Unit {0}
+
+-- the holds that such a call adds
+abbrev pub gained_by : Asked → Result Entry Fault → ℕ
+gained_by (asked.Acquire how) reply = gained (whether_of reply)
+gained_by (asked.Try) reply = gained (whether_of reply)
+gained_by (asked.Await condition how) reply = 0
+
+-- the call had a reply, and this is what is told of it
+abbrev pub Tells : WhenFull → Call → Shown → Shown → Result Bool Fault → Type 0
+Tells w call old new told =
+    (reply : Result Entry Fault) × WithRoom w call old reply new × (told ≡ whether_of reply)
+
+-- the same of a call that is told of without a yes or no
+abbrev pub TellsDone : WhenFull → Call → Shown → Shown → Result (Unit {0}) Fault → Type 0
+TellsDone w call old new done =
+    (reply : Result Entry Fault) × WithRoom w call old reply new × (done ≡ done_of reply)
+
+-- an answer without a yes or no as one with a yes
+abbrev pub with_yes : Result (Unit {0}) Fault → Result Bool Fault
+with_yes (Ok u) = Ok true
+with_yes (Err f) = Err f
+
+-- the step was recorded
+abbrev pub IsRecorded : Shown → Step → Shown → Type 0
+IsRecorded old step new = (e : Entry) × IsEntered old step (Ok e) new
+
+-- whether there is something
+abbrev pub is_there : {T : Type 0} → Option T → Bool
+is_there None = false
+is_there (Some x) = true
+
+-- what is told by an answer with the value, or without it
+abbrev pub told_of : {T : Type 0} → Result (Option T) Fault → Result Bool Fault
+told_of (Ok value) = Ok (is_there value)
+told_of (Err f) = Err f

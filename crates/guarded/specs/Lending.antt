@@ -1,0 +1,8 @@
+-- What a slot ends with, by what the caller leaves behind the value that it was lent.
+use Rattle.std.specs.Borrow.{Lends, MutBor, Fml, RattleType}
+use Rattle.guarded.specs.declared.slot.Slot.{Slot}
+use Rattle.guarded.specs.declared.slot.Slot.TheVariants.{Full}
+use Rattle.guarded.specs.contracts.slot.Slot.{the_row}
+
+abbrev pub LendsSlot : (T : RattleType) → MutBor (Slot T.Denot) → MutBor T.Denot → Fml
+LendsSlot T s r = Lends (the_row T) T s r (λ w. Full w)

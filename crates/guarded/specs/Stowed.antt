@@ -1,0 +1,68 @@
+-- Where the value of a guarded lock is: under the lock, or with the one owner.
+use Rattle.std.specs.Prelude.{◌≡◌, ◌<◌, ◌==◌, ℕ, Bool, true, false, not, Option, Some, None}
+use Rattle.std.proofs.Common.{◌∙◌, sym, subst}
+use Rattle.history.specs.declared.entry.Mode.TheVariants.{X}
+use Rattle.history.specs.Counts.{Counts}
+use Rattle.history.specs.Object.{is_lock}
+use Rattle.frame.specs.Hooks.{AreAlike}
+use Rattle.word_lock.specs.Ticket.{LockId}
+use Rattle.guarded.specs.declared.full.WhenFull.{WhenFull}
+use Rattle.guarded.specs.declared.slot.Slot.{Slot}
+use Rattle.guarded.specs.declared.slot.Slot.TheVariants.{Empty, Full}
+
+-- the value is away exactly where some seat holds
+abbrev pub IsStowed : {T : Type 0} → (ℕ → ℕ) → Slot T → Type 0
+IsStowed f Empty = (i : ℕ) × (0 < f i)
+IsStowed f (Full x) = (i : ℕ) → f i ≡ 0
+
+-- what holds whenever the lock is free
+pub record Rests {T : Type 0} (value : Slot T) (k : Counts) : Type 0 where
+  pub lock : is_lock k.object ≡ true
+  pub stowed : IsStowed (λ i. k.held i X) value
+
+-- one with so many holds has the value exactly where it holds
+abbrev pub Carries : {T : Type 0} → ℕ → Slot T → Type 0
+Carries n Empty = n ≡ 0
+Carries n (Full x) = 0 < n
+
+-- whether just one of the two is so
+abbrev pub differ : Bool → Bool → Bool
+differ true y = not y
+differ false y = y
+
+-- the first hold came, or the last one went
+abbrev pub crosses : ℕ → ℕ → Bool
+crosses before after = differ (before == 0) (after == 0)
+
+stowed_alike : {T : Type 0} (v : Slot T) (f g : ℕ → ℕ) → ((i : ℕ) → g i ≡ f i) → IsStowed f v → IsStowed g v
+stowed_alike Empty f g same s = (s.0, subst (λ (n : ℕ). 0 < n) (sym (same s.0)) s.1)
+stowed_alike (Full x) f g same s = λ i. same i ∙ s i
+
+pub alike_so : {T : Type 0} (v : Slot T) (k l : Counts) → AreAlike k l → Rests v k → Rests v l
+alike_so v k l same r =
+    record {
+      lock = subst (λ o. is_lock o ≡ true) (sym same.object) r.lock;
+      stowed = stowed_alike v (λ i. k.held i X) (λ i. l.held i X) (λ i. same.held i X) r.stowed;
+    }
+
+-- whether the value is there
+abbrev pub IsFull : {T : Type 0} → Slot T → Type 0
+IsFull Empty = ⊥
+IsFull (Full x) = Unit {0}
+
+-- the slot of a value that may be there
+abbrev pub slot_of : {T : Type 0} → Option T → Slot T
+slot_of None = Empty
+slot_of (Some x) = Full x
+
+-- the object is a lock, which has one owner
+abbrev pub IsOfLock : LockId → Type 0
+IsOfLock l = is_lock l.header.object ≡ true
+
+-- What is seen of such a lock: which it is, and what it does where its history is full.
+pub record MutexView : Type 0 where
+  pub lock : LockId
+  pub when_full : WhenFull
+
+abbrev pub mutex_view : LockId → WhenFull → MutexView
+mutex_view lock when_full = record { lock = lock; when_full = when_full }

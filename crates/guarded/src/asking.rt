@@ -1,0 +1,13 @@
+//! What the calls of a lock ask of its monitor.
+use monitor::How;
+
+/// A call by which a pass may come to hold the lock.
+#[derive(Clone, Copy)]
+pub(crate) enum Asked {
+    /// Waits in line for the lock.
+    Acquire(How),
+    /// Takes the lock past those in line.
+    Try,
+    /// Gives the lock up, sleeps on the condition, and has the lock again.
+    Await(u8, How),
+}

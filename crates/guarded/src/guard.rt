@@ -1,0 +1,224 @@
+//! The owner's side of a lock that guards a value.
+ghost use Rattle.std.specs.Prelude.{◌≡◌, ◌+◌, ◌<◌, ℕ, true, false};
+ghost use Rattle.std.specs.Borrow.{sem};
+ghost use Rattle.history.specs.declared.entry.Mode.TheVariants.{X};
+ghost use Rattle.history.specs.declared.step.Step.TheVariants.{Give};
+ghost use Rattle.monitor.specs.Shown.{IsTrue};
+ghost use Rattle.monitor.specs.Stepping.{IsSame};
+ghost use Rattle.monitor.specs.declared.how.How.TheVariants.{Plain, Interruptible, Timed};
+ghost use Rattle.monitor_fronts.specs.Holding.{gained, holds};
+ghost use Rattle.guarded.specs.Asking.{IsRecorded, Tells, TellsDone, acquires, awaits, signals};
+ghost use Rattle.guarded.specs.Guarding.{Guards};
+ghost use Rattle.guarded.specs.Stowed.{IsFull};
+ghost use Rattle.guarded.specs.declared.slot.Slot.TheVariants.{Full};
+
+use crate::asking::Asked;
+use crate::mutex::Mutex;
+use crate::slot::Slot;
+use frame::hooks::Hooks;
+use history::fault::Fault;
+use monitor::{How, Pass};
+use monitor_fronts::{done, whether};
+use permit::Parking;
+use reentrant::lock::LockHooks;
+use std::sync::Wait;
+use std::time::Clock;
+
+/// The value of a lock, with its owner. Dropping it unlocks the lock, so a `?` may leave a section. That can't
+/// fail: room and memory for the entry were reserved when the hold was recorded.
+///
+/// It borrows its pass, which makes no other call meanwhile, and knows that the pass holds the lock. To drop it
+/// asks for just one hold, so whoever took the lock [`again`](Guard::again) must [`leave`](Guard::leave) first.
+///
+/// A fault of its calls is the monitor's. Behind it nothing was recorded, and the pass holds as before, with the
+/// value: `HistoryFull` where the history has no room, `OutOfMemory` where memory for it is refused,
+/// `NoSuchCondition`, and `Interrupted` where that is said.
+pub struct Guard<'a, T: Drop, P: Parking, R: Wait + Clock, H: Hooks + Drop = LockHooks> {
+    pub(crate) pass: &'a mut Pass,
+    pub(crate) slot: Slot<T>,
+    pub(crate) lock: &'a Mutex<T, H>,
+    pub(crate) rt: &'a R,
+    pub(crate) parking: &'a P,
+}
+
+impl<'a, T: Drop, P: Parking, R: Wait + Clock, H: Hooks + Drop> Guard<'a, T, P, R, H> {
+    ghost use Rattle.guarded.specs.GuardLending.{LendsValue};
+
+    /// The value.
+    pub fn value(&self) -> &T
+        requires there { IsFull self.now.slot }
+        ensures value { Full result.now ≡ self.now.slot }
+    {
+        self.slot.value()
+    }
+
+    /// The value, to be changed.
+    pub fn value_mut(&mut self) -> &mut T
+        requires there { IsFull self.old.slot }
+        ensures* lends { sem 𝓛 (LendsValue T.row P.row R.row H.row self.entry result) }
+        ensures value { Full result.now ≡ self.old.slot }
+    {
+        self.slot.value_mut()
+    }
+
+    /// Sleeps on the condition until it is signalled, or interrupted: `Err(Interrupted)`, and the interrupt is taken.
+    /// Meanwhile it has given up the lock and the value, and it has both again before it answers, whatever ended the
+    /// sleep. Others may have changed the value, so test again what was waited for. This is `Condition.await()` of
+    /// Java SE 8.
+    pub fn wait(&mut self, condition: u8) -> Result<bool, Fault>
+        requires guards { Guards self.old.lock.now (P.seats self.old.parking.now) self.old.pass.now self.old.slot }
+        ensures same_reference { self.new.pass.ghost_name ≡ self.old.pass.ghost_name }
+        ensures same { IsSame self.old.pass.now self.new.pass.now }
+        ensures guards { Guards self.new.lock.now (P.seats self.new.parking.now) self.new.pass.now self.new.slot }
+        ensures keeps { holds self.new.pass.now ≡ holds self.old.pass.now }
+        ensures awaited { Tells self.old.lock.now.when_full (awaits condition Interruptible) self.old.pass.now
+            self.new.pass.now result }
+    {
+        let pass = &mut *self.pass;
+        self.lock.sleep(
+            self.rt,
+            self.parking,
+            pass,
+            &mut self.slot,
+            condition,
+            How::Interruptible,
+        )
+    }
+
+    /// The same, for `ms` milliseconds at most: whether it was signalled. This is `Condition.await(time, unit)`.
+    pub fn wait_for(&mut self, condition: u8, ms: u32) -> Result<bool, Fault>
+        requires guards { Guards self.old.lock.now (P.seats self.old.parking.now) self.old.pass.now self.old.slot }
+        ensures same_reference { self.new.pass.ghost_name ≡ self.old.pass.ghost_name }
+        ensures same { IsSame self.old.pass.now self.new.pass.now }
+        ensures guards { Guards self.new.lock.now (P.seats self.new.parking.now) self.new.pass.now self.new.slot }
+        ensures keeps { holds self.new.pass.now ≡ holds self.old.pass.now }
+        ensures awaited { Tells self.old.lock.now.when_full (awaits condition (Timed ms)) self.old.pass.now
+            self.new.pass.now result }
+    {
+        let pass = &mut *self.pass;
+        self.lock.sleep(
+            self.rt,
+            self.parking,
+            pass,
+            &mut self.slot,
+            condition,
+            How::Timed(ms),
+        )
+    }
+
+    /// The same, but an interrupt doesn't end the sleep, and stays pending. This is
+    /// `Condition.awaitUninterruptibly()`.
+    pub fn wait_uninterruptibly(&mut self, condition: u8) -> Result<bool, Fault>
+        requires guards { Guards self.old.lock.now (P.seats self.old.parking.now) self.old.pass.now self.old.slot }
+        ensures same_reference { self.new.pass.ghost_name ≡ self.old.pass.ghost_name }
+        ensures same { IsSame self.old.pass.now self.new.pass.now }
+        ensures guards { Guards self.new.lock.now (P.seats self.new.parking.now) self.new.pass.now self.new.slot }
+        ensures keeps { holds self.new.pass.now ≡ holds self.old.pass.now }
+        ensures awaited { Tells self.old.lock.now.when_full (awaits condition Plain) self.old.pass.now
+            self.new.pass.now result }
+    {
+        let pass = &mut *self.pass;
+        self.lock.sleep(
+            self.rt,
+            self.parking,
+            pass,
+            &mut self.slot,
+            condition,
+            How::Plain,
+        )
+    }
+
+    /// Moves the longest sleeper of the condition into the line, if any sleeps. The value stays where it is. This is
+    /// `Condition.signal()`.
+    pub fn signal(&mut self, condition: u8) -> Result<(), Fault>
+        requires guards { Guards self.old.lock.now (P.seats self.old.parking.now) self.old.pass.now self.old.slot }
+        ensures same_reference { self.new.pass.ghost_name ≡ self.old.pass.ghost_name }
+        ensures same { IsSame self.old.pass.now self.new.pass.now }
+        ensures guards { Guards self.new.lock.now (P.seats self.new.parking.now) self.new.pass.now self.new.slot }
+        ensures keeps { holds self.new.pass.now ≡ holds self.old.pass.now }
+        ensures signalled { TellsDone self.old.lock.now.when_full (signals false condition) self.old.pass.now
+            self.new.pass.now result }
+        ensures value { self.new.slot ≡ self.old.slot }
+    {
+        let pass = &mut *self.pass;
+        done(
+            self.lock
+                .tell(self.rt, self.parking, pass, condition, false),
+        )
+    }
+
+    /// Moves all sleepers of the condition into the line, in order. The value stays where it is. This is
+    /// `Condition.signalAll()`.
+    pub fn signal_all(&mut self, condition: u8) -> Result<(), Fault>
+        requires guards { Guards self.old.lock.now (P.seats self.old.parking.now) self.old.pass.now self.old.slot }
+        ensures same_reference { self.new.pass.ghost_name ≡ self.old.pass.ghost_name }
+        ensures same { IsSame self.old.pass.now self.new.pass.now }
+        ensures guards { Guards self.new.lock.now (P.seats self.new.parking.now) self.new.pass.now self.new.slot }
+        ensures keeps { holds self.new.pass.now ≡ holds self.old.pass.now }
+        ensures signalled { TellsDone self.old.lock.now.when_full (signals true condition) self.old.pass.now
+            self.new.pass.now result }
+        ensures value { self.new.slot ≡ self.old.slot }
+    {
+        let pass = &mut *self.pass;
+        done(self.lock.tell(self.rt, self.parking, pass, condition, true))
+    }
+
+    /// Takes the lock once more: whether it did. `Err(TooManyHolds)` with 2147483647 holds. This is
+    /// `ReentrantLock.lock()` by its owner.
+    pub fn again(&mut self) -> Result<bool, Fault>
+        requires guards { Guards self.old.lock.now (P.seats self.old.parking.now) self.old.pass.now self.old.slot }
+        ensures same_reference { self.new.pass.ghost_name ≡ self.old.pass.ghost_name }
+        ensures same { IsSame self.old.pass.now self.new.pass.now }
+        ensures guards { Guards self.new.lock.now (P.seats self.new.parking.now) self.new.pass.now self.new.slot }
+        ensures gains { holds self.new.pass.now ≡ holds self.old.pass.now + gained result }
+        ensures acquired { Tells self.old.lock.now.when_full (acquires Plain) self.old.pass.now
+            self.new.pass.now result }
+    {
+        let pass = &mut *self.pass;
+        self.lock.again(self.rt, self.parking, pass, &mut self.slot)
+    }
+
+    /// Gives one of several holds back. It can't fail.
+    pub fn leave(&mut self)
+        requires guards { Guards self.old.lock.now (P.seats self.old.parking.now) self.old.pass.now self.old.slot }
+        requires several { 1 < holds self.old.pass.now }
+        ensures same_reference { self.new.pass.ghost_name ≡ self.old.pass.ghost_name }
+        ensures same { IsSame self.old.pass.now self.new.pass.now }
+        ensures guards { Guards self.new.lock.now (P.seats self.new.parking.now) self.new.pass.now self.new.slot }
+        ensures loses { holds self.new.pass.now + 1 ≡ holds self.old.pass.now }
+        ensures recorded { IsRecorded self.old.pass.now (Give X 1) self.new.pass.now }
+    {
+        let pass = &mut *self.pass;
+        self.lock.leave(self.rt, self.parking, pass, &mut self.slot);
+    }
+
+    /// Unlocks now. It can't fail. This is `ReentrantLock.unlock()`.
+    pub fn unlock(self)
+        requires guards { Guards self.lock.now (P.seats self.parking.now) self.pass.now self.slot }
+        requires last { holds self.pass.now ≡ 1 }
+        ensures free { holds self.exit.0.now ≡ 0 }
+        ensures same { IsSame self.entry.pass.now self.exit.0.now }
+        ensures shows { IsTrue self.exit.0.now }
+        ensures recorded { IsRecorded self.entry.pass.now (Give X 1) self.exit.0.now }
+    {}
+}
+
+impl<T: Drop, P: Parking, R: Wait + Clock, H: Hooks + Drop> Drop for Guard<'_, T, P, R, H> {
+    fn drop(self)
+        requires guards { Guards self.lock.now (P.seats self.parking.now) self.pass.now self.slot }
+        requires last { holds self.pass.now ≡ 1 }
+        ensures free { holds self.exit.0.now ≡ 0 }
+        ensures same { IsSame self.entry.pass.now self.exit.0.now }
+        ensures shows { IsTrue self.exit.0.now }
+        ensures recorded { IsRecorded self.entry.pass.now (Give X 1) self.exit.0.now }
+    {
+        let Guard {
+            pass,
+            slot,
+            lock,
+            rt,
+            parking,
+        } = self;
+        lock.put_back(rt, parking, pass, slot);
+    }
+}

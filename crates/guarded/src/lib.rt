@@ -1,0 +1,29 @@
+//! Locks that guard data: who owns the lock has the value, and nobody else has it.
+//!
+//! A [`Mutex`] is a reentrant lock with conditions over a monitor with a load ([`Slot`]). The value lies under
+//! the monitor's lock while nobody holds, and is with the owner while somebody does. It changes hands in the
+//! very turn in which the first hold comes or the last one goes, so the value is never in two places and never
+//! in none.
+//!
+//! A [`Guard`] has the value between `lock` and the end of its scope, where it unlocks. It borrows its pass, so a
+//! pass that holds makes no other call. An invariant of the value is what a ghost field of its type says: whoever
+//! has the value may use it, and whoever changed it has proved it.
+//!
+//! Each call records its steps in the history of the lock. Where the history is full, a lock that was opened with
+//! [`WhenFull::Trim`] folds all entries and makes the step again; one with [`WhenFull::Refuse`] answers
+//! `Err(HistoryFull)`. An `unlock` always has room.
+#![tactic(auto)]
+
+mod asking;
+mod full;
+mod guard;
+mod locking;
+mod mutex;
+mod slot;
+mod try_lock;
+
+pub use full::WhenFull;
+pub use guard::Guard;
+pub use mutex::Mutex;
+pub use slot::Slot;
+pub use try_lock::TryLockFault;

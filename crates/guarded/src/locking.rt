@@ -1,0 +1,144 @@
+//! How a pass comes to hold a lock that guards a value.
+ghost use Rattle.std.specs.Prelude.{◌≡◌, ◌≤◌, IfOk};
+ghost use Rattle.std.specs.Borrow.{sem, RestsIfErr};
+ghost use Rattle.monitor.specs.contracts.pass.Pass.{the_row};
+ghost use Rattle.monitor.specs.declared.how.How.TheVariants.{Plain, Interruptible, Timed};
+ghost use Rattle.monitor_fronts.specs.Holding.{holds};
+ghost use Rattle.guarded.specs.Asking.{acquires, tries};
+ghost use Rattle.guarded.specs.Guarding.{Guards, Locked, NotLocked, told_by, told_if};
+
+use crate::asking::Asked;
+use crate::guard::Guard;
+use crate::mutex::Mutex;
+use crate::try_lock::TryLockFault;
+use frame::hooks::Hooks;
+use history::fault::Fault;
+use monitor::{How, Pass};
+use permit::Parking;
+use std::sync::Wait;
+use std::time::Clock;
+
+/// Each of these is called by a pass that doesn't hold the lock, and answers a guard, which has the value. Behind an
+/// `Err` the pass holds nothing, and nobody has lost the value. A fault is the monitor's: `HistoryFull` where the
+/// history has no room, `OutOfMemory` where memory for it is refused, and `Interrupted` where that is said.
+///
+/// The pass is the first argument, as in `Mutex::lock(pass, &lock, rt, parking)`, since the guard borrows it.
+impl<T: Drop, H: Hooks + Drop> Mutex<T, H> {
+    /// Waits until it has the lock. An interrupt doesn't end the wait, and stays pending. This is
+    /// `ReentrantLock.lock()` of Java SE 8.
+    pub fn lock<'a, P: Parking, R: Wait + Clock>(
+        pass: &'a mut Pass,
+        lock: &'a Mutex<T, H>,
+        rt: &'a R,
+        parking: &'a P,
+    ) -> Result<Guard<'a, T, P, R, H>, Fault>
+        requires is_of { pass.old.lock ≡ lock.now.lock }
+        requires places { lock.now.lock.header.seats ≤ P.seats parking.now }
+        requires free { holds pass.old ≡ 0 }
+        ensures* not_locked { sem 𝓛 (RestsIfErr the_row pass.entry (λ guard. guard.pass.ghost_name) result
+            (λ last. NotLocked lock.now.when_full (acquires Plain) pass.old (told_by result) last)) }
+        ensures same_reference { IfOk result (λ guard. guard.pass.ghost_name ≡ pass.entry.ghost_name) }
+        ensures guards { IfOk result (λ guard.
+            Guards guard.lock.now (P.seats guard.parking.now) guard.pass.now guard.slot) }
+        ensures locked { IfOk result (λ guard.
+            Locked lock.now.when_full (acquires Plain) pass.old guard.slot guard.pass.now) }
+    {
+        let slot = lock.take(rt, parking, pass, How::Plain)?;
+        Ok(Guard {
+            pass,
+            slot,
+            lock,
+            rt,
+            parking,
+        })
+    }
+
+    /// Waits until it has the lock, or is interrupted: `Err(Interrupted)`, also where an interrupt was pending. The
+    /// interrupt is taken. This is `ReentrantLock.lockInterruptibly()`.
+    pub fn lock_interruptibly<'a, P: Parking, R: Wait + Clock>(
+        pass: &'a mut Pass,
+        lock: &'a Mutex<T, H>,
+        rt: &'a R,
+        parking: &'a P,
+    ) -> Result<Guard<'a, T, P, R, H>, Fault>
+        requires is_of { pass.old.lock ≡ lock.now.lock }
+        requires places { lock.now.lock.header.seats ≤ P.seats parking.now }
+        requires free { holds pass.old ≡ 0 }
+        ensures* not_locked { sem 𝓛 (RestsIfErr the_row pass.entry (λ guard. guard.pass.ghost_name) result
+            (λ last. NotLocked lock.now.when_full (acquires Interruptible) pass.old (told_by result) last)) }
+        ensures same_reference { IfOk result (λ guard. guard.pass.ghost_name ≡ pass.entry.ghost_name) }
+        ensures guards { IfOk result (λ guard.
+            Guards guard.lock.now (P.seats guard.parking.now) guard.pass.now guard.slot) }
+        ensures locked { IfOk result (λ guard.
+            Locked lock.now.when_full (acquires Interruptible) pass.old guard.slot guard.pass.now) }
+    {
+        let slot = lock.take(rt, parking, pass, How::Interruptible)?;
+        Ok(Guard {
+            pass,
+            slot,
+            lock,
+            rt,
+            parking,
+        })
+    }
+
+    /// Takes the lock if nobody holds it now. It goes past those in line, under a fair policy too, but not under a
+    /// strict one. This is `ReentrantLock.tryLock()`.
+    pub fn try_lock<'a, P: Parking, R: Wait + Clock>(
+        pass: &'a mut Pass,
+        lock: &'a Mutex<T, H>,
+        rt: &'a R,
+        parking: &'a P,
+    ) -> Result<Guard<'a, T, P, R, H>, TryLockFault>
+        requires is_of { pass.old.lock ≡ lock.now.lock }
+        requires places { lock.now.lock.header.seats ≤ P.seats parking.now }
+        requires free { holds pass.old ≡ 0 }
+        ensures* not_locked { sem 𝓛 (RestsIfErr the_row pass.entry (λ guard. guard.pass.ghost_name) result
+            (λ last. NotLocked lock.now.when_full tries pass.old (told_if result) last)) }
+        ensures same_reference { IfOk result (λ guard. guard.pass.ghost_name ≡ pass.entry.ghost_name) }
+        ensures guards { IfOk result (λ guard.
+            Guards guard.lock.now (P.seats guard.parking.now) guard.pass.now guard.slot) }
+        ensures locked { IfOk result (λ guard.
+            Locked lock.now.when_full tries pass.old guard.slot guard.pass.now) }
+    {
+        let slot = lock.try_take(rt, parking, pass, Asked::Try)?;
+        Ok(Guard {
+            pass,
+            slot,
+            lock,
+            rt,
+            parking,
+        })
+    }
+
+    /// Waits for the lock, for `ms` milliseconds at most, or until it is interrupted: `Err(Failed(Interrupted))`. With 0
+    /// it doesn't wait, and under a fair or strict policy it doesn't go past those in line. This is
+    /// `ReentrantLock.tryLock(time, unit)`.
+    pub fn try_lock_for<'a, P: Parking, R: Wait + Clock>(
+        pass: &'a mut Pass,
+        lock: &'a Mutex<T, H>,
+        rt: &'a R,
+        parking: &'a P,
+        ms: u32,
+    ) -> Result<Guard<'a, T, P, R, H>, TryLockFault>
+        requires is_of { pass.old.lock ≡ lock.now.lock }
+        requires places { lock.now.lock.header.seats ≤ P.seats parking.now }
+        requires free { holds pass.old ≡ 0 }
+        ensures* not_locked { sem 𝓛 (RestsIfErr the_row pass.entry (λ guard. guard.pass.ghost_name) result
+            (λ last. NotLocked lock.now.when_full (acquires (Timed ms)) pass.old (told_if result) last)) }
+        ensures same_reference { IfOk result (λ guard. guard.pass.ghost_name ≡ pass.entry.ghost_name) }
+        ensures guards { IfOk result (λ guard.
+            Guards guard.lock.now (P.seats guard.parking.now) guard.pass.now guard.slot) }
+        ensures locked { IfOk result (λ guard.
+            Locked lock.now.when_full (acquires (Timed ms)) pass.old guard.slot guard.pass.now) }
+    {
+        let slot = lock.try_take(rt, parking, pass, Asked::Acquire(How::Timed(ms)))?;
+        Ok(Guard {
+            pass,
+            slot,
+            lock,
+            rt,
+            parking,
+        })
+    }
+}

@@ -1,0 +1,414 @@
+//! A reentrant lock that guards a value.
+ghost use Rattle.std.specs.Prelude.{◌≡◌, ⊥, ◌<◌, ◌≤◌, ◌+◌, All, IfOk, IfErr, Err};
+ghost use Rattle.frame.specs.Core.{header_of};
+ghost use Rattle.history.specs.Counts.{counts};
+ghost use Rattle.history.specs.Entries.{IsBasedWell, start_on};
+ghost use Rattle.history.specs.Header.{IsInRange};
+ghost use Rattle.history.specs.Legal.{AreSeated, calls};
+ghost use Rattle.history.specs.declared.entry.Mode.TheVariants.{X};
+ghost use Rattle.history.specs.declared.fault.Fault.TheVariants.{OutOfMemory};
+ghost use Rattle.history.specs.declared.header.Object.TheVariants.{Lock};
+ghost use Rattle.history.specs.declared.step.Step.TheVariants.{Give};
+ghost use Rattle.monitor.specs.Acquire.{is_timed};
+ghost use Rattle.monitor.specs.declared.how.How.TheVariants.{Plain};
+ghost use Rattle.monitor.specs.Lawful.{blank};
+ghost use Rattle.monitor.specs.Shown.{IsTrue, opening_passes};
+ghost use Rattle.monitor.specs.Stepping.{IsEntered, IsSame};
+ghost use Rattle.monitor_fronts.specs.Holding.{gained, holds};
+ghost use Rattle.guarded.specs.Asking.{IsRecorded, IsTake, Tells, acquires, awaits, call_of, gained_by, signal_step, signals};
+ghost use Rattle.guarded.specs.Full.{MakesRoom, WithRoom};
+ghost use Rattle.guarded.specs.Guarding.{Guards, Locked, NotLocked, told_try};
+ghost use Rattle.guarded.specs.Stowed.{Carries, Rests, slot_of};
+ghost use Rattle.word_lock.specs.Point.{Before};
+
+use crate::asking::Asked;
+use crate::full::{WhenFull, lacks_room};
+use crate::slot::Slot;
+use crate::try_lock::TryLockFault;
+use frame::hooks::Hooks;
+use history::entry::{Entry, Mode};
+use history::fault::Fault;
+use history::header::Policy;
+use history::step::Step;
+use monitor::{CloseFault, Closed, How, Monitor, Pass};
+use monitor_fronts::whether;
+use permit::Parking;
+use reentrant::lock::LockHooks;
+use std::alloc::Global;
+use std::marker::Model;
+use std::sync::Wait;
+use std::time::Clock;
+
+/// A lock that guards a value: `java.util.concurrent.locks.ReentrantLock` of Java SE 8 with its conditions, and
+/// `std::sync::Mutex` of Rust in what it guards. The thread is the pass. A contract sees which lock it is, with
+/// its header, and what it does where its history is full.
+#[derive(Drop)]
+pub struct Mutex<T: Drop, H: Hooks + Drop = LockHooks> {
+    pub(crate) monitor: Monitor<H, Slot<T>>,
+    pub(crate) when_full: WhenFull,
+}
+
+impl<T: Drop, H: Hooks + Drop> Model for Mutex<T, H> {
+    ghost use Rattle.guarded.specs.Stowed.{IsOfLock, MutexView, mutex_view};
+
+    ghost Value = { MutexView };
+
+    ghost view = { λ m. mutex_view m.monitor m.when_full };
+
+    ghost invariant = { λ m. IsOfLock m.monitor };
+}
+
+impl<T: Drop> Mutex<T> {
+    /// A lock with conditions 0 to `conditions - 1` that guards the value, and a pass for each seat, in order.
+    /// `cap` is the greatest number of entries of its history, those among them that are owed. Where memory is
+    /// refused, the value comes back.
+    pub fn open(
+        alloc: Global,
+        value: T,
+        policy: Policy,
+        when_full: WhenFull,
+        seats: u16,
+        conditions: u8,
+        cap: u32,
+    ) -> Result<(Mutex<T>, Vec<Pass>), (T, Fault)>
+        requires { IsInRange (header_of (Lock policy) seats conditions cap) }
+        ensures header { IfOk result (λ r. r.0.lock.header ≡ header_of (Lock policy) seats conditions cap) }
+        ensures when_full { IfOk result (λ r. r.0.when_full ≡ when_full) }
+        ensures passes { IfOk result (λ r.
+            r.1.items ≡ opening_passes r.0.lock (blank r.0.lock.header) 0 seats) }
+        ensures own { IfOk result (λ r. All (λ p. p.lock ≡ r.0.lock) r.1.items) }
+        ensures free { IfOk result (λ r. All (λ p. holds p ≡ 0) r.1.items) }
+        ensures back { IfErr result (λ e. (e.0 ≡ value) × (e.1 ≡ OutOfMemory)) }
+    {
+        let hooks = LockHooks::open(policy);
+        let slot = Slot::Full(value);
+        match Monitor::open_with(alloc, hooks, slot, seats, conditions, cap) {
+            Ok((monitor, passes)) => Ok((Mutex { monitor, when_full }, passes)),
+            Err((slot, fault)) => match slot {
+                Slot::Full(value) => Err((value, fault)),
+                Slot::Empty => unreachable!(),
+            },
+        }
+    }
+}
+
+impl<T: Drop, H: Hooks + Drop> Mutex<T, H> {
+    /// Takes the lock for good, and waits until nobody is in a call. It gives back the history, and the value
+    /// unless some seat still holds: then whoever holds has the value.
+    ///
+    /// The passes of all seats are needed, in any order. Where one is missing, all comes back as it was.
+    pub fn close<R: Wait>(
+        self,
+        rt: &R,
+        passes: Vec<Pass>,
+    ) -> Result<(Closed, Option<T>), (Mutex<T, H>, Vec<Pass>, CloseFault)>
+        requires is_of { All (λ p. p.lock ≡ self.lock) passes.items }
+        ensures value { IfOk result (λ r.
+            Rests (slot_of r.1) (counts (start_on self.lock.header r.0.history) r.0.history.entries)) }
+        ensures good { IfOk result (λ r. IsBasedWell self.lock.header r.0.history.base) }
+        ensures seated { IfOk result (λ r.
+            AreSeated (start_on self.lock.header r.0.history) r.0.history.entries) }
+        ensures calls { IfOk result (λ r.
+            r.0.share ≡ calls (start_on self.lock.header r.0.history) r.0.history.entries) }
+        ensures back { IfErr result (λ r. (r.0 ≡ self) × (r.1 ≡ passes)) }
+    {
+        let Mutex { monitor, when_full } = self;
+        match monitor.close_with(rt, passes) {
+            Ok((closed, slot)) => Ok((closed, slot.into_value())),
+            Err((monitor, passes, fault)) => Err((Mutex { monitor, when_full }, passes, fault)),
+        }
+    }
+
+    /// The monitor, for what it tells of the lock, and for `trim` and `meet`.
+    pub fn monitor(&self) -> &Monitor<H, Slot<T>>
+        ensures { result.now ≡ self.now.lock }
+    {
+        &self.monitor
+    }
+}
+
+/// What all calls are made of.
+impl<T: Drop, H: Hooks + Drop> Mutex<T, H> {
+    // Folds a full history, where the lock is one that does so: whether it did.
+    pub(crate) fn makes_room<R: Wait>(
+        &self,
+        rt: &R,
+        pass: &mut Pass,
+        reply: Result<Entry, Fault>,
+    ) -> Result<bool, Fault>
+        requires is_of { pass.old.lock ≡ self.now.lock }
+        requires shows { IsTrue pass.old }
+        ensures same { IsSame pass.old pass.new }
+        ensures begins { Before pass.old.seen pass.new.seen }
+        ensures shows { IsTrue pass.new }
+        ensures makes { MakesRoom self.now.when_full reply pass.old result pass.new }
+        ensures keeps { holds pass.new ≡ holds pass.old }
+    {
+        if !lacks_room(self.when_full, reply) {
+            return Ok(false);
+        }
+        match self.monitor.trim(rt, pass) {
+            Ok(_) => Ok(true),
+            Err(fault) => Err(fault),
+        }
+    }
+
+    // A call of the monitor.
+    pub(crate) fn once<P: Parking, R: Wait + Clock>(
+        &self,
+        rt: &R,
+        parking: &P,
+        pass: &mut Pass,
+        slot: &mut Slot<T>,
+        asked: Asked,
+    ) -> Result<Entry, Fault>
+        requires is_of { pass.old.lock ≡ self.now.lock }
+        requires places { self.now.lock.header.seats ≤ P.seats parking.now }
+        requires carries { Carries (holds pass.old) slot.old }
+        ensures same { IsSame pass.old pass.new }
+        ensures begins { Before pass.old.seen pass.new.seen }
+        ensures shows { IsTrue pass.new }
+        ensures called { call_of asked pass.old result pass.new }
+        ensures gains { holds pass.new ≡ holds pass.old + gained_by asked result }
+        ensures carries { Carries (holds pass.new) slot.new }
+    {
+        match asked {
+            Asked::Acquire(how) => {
+                self.monitor
+                    .acquire_with(rt, parking, pass, slot, Mode::X, 1, how)
+            }
+            Asked::Try => self
+                .monitor
+                .enter(rt, parking, pass, slot, Step::Try(Mode::X, 1)),
+            Asked::Await(condition, how) => {
+                self.monitor
+                    .await_on_with(rt, parking, pass, slot, condition, how)
+            }
+        }
+    }
+
+    // A call that makes room where there is none.
+    pub(crate) fn call<P: Parking, R: Wait + Clock>(
+        &self,
+        rt: &R,
+        parking: &P,
+        pass: &mut Pass,
+        slot: &mut Slot<T>,
+        asked: Asked,
+    ) -> Result<Entry, Fault>
+        requires is_of { pass.old.lock ≡ self.now.lock }
+        requires places { self.now.lock.header.seats ≤ P.seats parking.now }
+        requires carries { Carries (holds pass.old) slot.old }
+        ensures same { IsSame pass.old pass.new }
+        ensures begins { Before pass.old.seen pass.new.seen }
+        ensures shows { IsTrue pass.new }
+        ensures called { WithRoom self.now.when_full (call_of asked) pass.old result pass.new }
+        ensures gains { holds pass.new ≡ holds pass.old + gained_by asked result }
+        ensures carries { Carries (holds pass.new) slot.new }
+    {
+        let reply = self.once(rt, parking, pass, slot, asked);
+        match self.makes_room(rt, pass, reply) {
+            Ok(false) => reply,
+            Ok(true) => self.once(rt, parking, pass, slot, asked),
+            Err(fault) => Err(fault),
+        }
+    }
+
+    // A call by one who doesn't hold yet: a slot with the value, if it has the lock then.
+    pub(crate) fn try_take<P: Parking, R: Wait + Clock>(
+        &self,
+        rt: &R,
+        parking: &P,
+        pass: &mut Pass,
+        asked: Asked,
+    ) -> Result<Slot<T>, TryLockFault>
+        requires is_of { pass.old.lock ≡ self.now.lock }
+        requires places { self.now.lock.header.seats ≤ P.seats parking.now }
+        requires takes { IsTake asked }
+        requires free { holds pass.old ≡ 0 }
+        ensures locked { IfOk result (λ slot.
+            Locked self.now.when_full (call_of asked) pass.old slot pass.new) }
+        ensures not_locked { IfErr result (λ fault.
+            NotLocked self.now.when_full (call_of asked) pass.old (told_try fault) pass.new) }
+    {
+        let mut slot = Slot::Empty;
+        let reply = self.call(rt, parking, pass, &mut slot, asked);
+        match whether(reply) {
+            Ok(true) => Ok(slot),
+            Ok(false) => Err(TryLockFault::Missed),
+            Err(fault) => Err(TryLockFault::Failed(fault)),
+        }
+    }
+
+    // The same of an acquire that waits as long as it must.
+    pub(crate) fn take<P: Parking, R: Wait + Clock>(
+        &self,
+        rt: &R,
+        parking: &P,
+        pass: &mut Pass,
+        how: How,
+    ) -> Result<Slot<T>, Fault>
+        requires is_of { pass.old.lock ≡ self.now.lock }
+        requires places { self.now.lock.header.seats ≤ P.seats parking.now }
+        requires untimed { is_timed how → ⊥ }
+        requires free { holds pass.old ≡ 0 }
+        ensures locked { IfOk result (λ slot.
+            Locked self.now.when_full (acquires how) pass.old slot pass.new) }
+        ensures not_locked { IfErr result (λ fault.
+            NotLocked self.now.when_full (acquires how) pass.old (Err fault) pass.new) }
+    {
+        match self.try_take(rt, parking, pass, Asked::Acquire(how)) {
+            Ok(slot) => Ok(slot),
+            Err(TryLockFault::Failed(fault)) => Err(fault),
+            Err(TryLockFault::Missed) => unreachable!(),
+        }
+    }
+
+    // Gives a hold back: with the last one the value goes.
+    pub(crate) fn give<P: Parking, R: Wait + Clock>(
+        &self,
+        rt: &R,
+        parking: &P,
+        pass: &mut Pass,
+        slot: &mut Slot<T>,
+    )
+        requires is_of { pass.old.lock ≡ self.now.lock }
+        requires places { self.now.lock.header.seats ≤ P.seats parking.now }
+        requires has { 0 < holds pass.old }
+        requires carries { Carries (holds pass.old) slot.old }
+        ensures same { IsSame pass.old pass.new }
+        ensures shows { IsTrue pass.new }
+        ensures recorded { IsRecorded pass.old (Give X 1) pass.new }
+        ensures loses { holds pass.new + 1 ≡ holds pass.old }
+        ensures carries { Carries (holds pass.new) slot.new }
+    {
+        pass.is_true();
+        match self
+            .monitor
+            .enter(rt, parking, pass, slot, Step::Give(Mode::X, 1))
+        {
+            Ok(_) => {}
+            Err(_) => unreachable!(),
+        }
+    }
+
+    // The same with the last hold.
+    pub(crate) fn put_back<P: Parking, R: Wait + Clock>(
+        &self,
+        rt: &R,
+        parking: &P,
+        pass: &mut Pass,
+        slot: Slot<T>,
+    )
+        requires guards { Guards self.now (P.seats parking.now) pass.old slot }
+        requires last { holds pass.old ≡ 1 }
+        ensures same { IsSame pass.old pass.new }
+        ensures shows { IsTrue pass.new }
+        ensures recorded { IsRecorded pass.old (Give X 1) pass.new }
+        ensures free { holds pass.new ≡ 0 }
+    {
+        let mut slot = slot;
+        self.give(rt, parking, pass, &mut slot);
+    }
+
+    // A wait by one who holds: it has the value again then.
+    pub(crate) fn sleep<P: Parking, R: Wait + Clock>(
+        &self,
+        rt: &R,
+        parking: &P,
+        pass: &mut Pass,
+        slot: &mut Slot<T>,
+        condition: u8,
+        how: How,
+    ) -> Result<bool, Fault>
+        requires guards { Guards self.now (P.seats parking.now) pass.old slot.old }
+        ensures same { IsSame pass.old pass.new }
+        ensures guards { Guards self.now (P.seats parking.now) pass.new slot.new }
+        ensures awaited { Tells self.now.when_full (awaits condition how) pass.old pass.new result }
+        ensures keeps { holds pass.new ≡ holds pass.old }
+    {
+        whether(self.call(rt, parking, pass, slot, Asked::Await(condition, how)))
+    }
+
+    // One hold more for one who holds.
+    pub(crate) fn again<P: Parking, R: Wait + Clock>(
+        &self,
+        rt: &R,
+        parking: &P,
+        pass: &mut Pass,
+        slot: &mut Slot<T>,
+    ) -> Result<bool, Fault>
+        requires guards { Guards self.now (P.seats parking.now) pass.old slot.old }
+        ensures same { IsSame pass.old pass.new }
+        ensures guards { Guards self.now (P.seats parking.now) pass.new slot.new }
+        ensures acquired { Tells self.now.when_full (acquires Plain) pass.old pass.new result }
+        ensures gains { holds pass.new ≡ holds pass.old + gained result }
+    {
+        whether(self.call(rt, parking, pass, slot, Asked::Acquire(How::Plain)))
+    }
+
+    // One hold less for one who has several.
+    pub(crate) fn leave<P: Parking, R: Wait + Clock>(
+        &self,
+        rt: &R,
+        parking: &P,
+        pass: &mut Pass,
+        slot: &mut Slot<T>,
+    )
+        requires guards { Guards self.now (P.seats parking.now) pass.old slot.old }
+        requires several { 1 < holds pass.old }
+        ensures same { IsSame pass.old pass.new }
+        ensures guards { Guards self.now (P.seats parking.now) pass.new slot.new }
+        ensures recorded { IsRecorded pass.old (Give X 1) pass.new }
+        ensures loses { holds pass.new + 1 ≡ holds pass.old }
+    {
+        self.give(rt, parking, pass, slot);
+    }
+
+    // A signal, to one sleeper or to all.
+    fn signal_once<P: Parking, R: Wait + Clock>(
+        &self,
+        rt: &R,
+        parking: &P,
+        pass: &mut Pass,
+        condition: u8,
+        all: bool,
+    ) -> Result<Entry, Fault>
+        requires is_of { pass.old.lock ≡ self.now.lock }
+        requires places { self.now.lock.header.seats ≤ P.seats parking.now }
+        ensures same { IsSame pass.old pass.new }
+        ensures shows { IsTrue pass.new }
+        ensures signalled { IsEntered pass.old (signal_step all condition) result pass.new }
+        ensures keeps { holds pass.new ≡ holds pass.old }
+    {
+        if all {
+            self.monitor.signal_all(rt, parking, pass, condition)
+        } else {
+            self.monitor.signal(rt, parking, pass, condition)
+        }
+    }
+
+    // The same, with room made where there is none.
+    pub(crate) fn tell<P: Parking, R: Wait + Clock>(
+        &self,
+        rt: &R,
+        parking: &P,
+        pass: &mut Pass,
+        condition: u8,
+        all: bool,
+    ) -> Result<Entry, Fault>
+        requires is_of { pass.old.lock ≡ self.now.lock }
+        requires places { self.now.lock.header.seats ≤ P.seats parking.now }
+        ensures same { IsSame pass.old pass.new }
+        ensures shows { IsTrue pass.new }
+        ensures signalled { WithRoom self.now.when_full (signals all condition) pass.old result pass.new }
+        ensures keeps { holds pass.new ≡ holds pass.old }
+    {
+        let reply = self.signal_once(rt, parking, pass, condition, all);
+        match self.makes_room(rt, pass, reply) {
+            Ok(false) => reply,
+            Ok(true) => self.signal_once(rt, parking, pass, condition, all),
+            Err(fault) => Err(fault),
+        }
+    }
+}

@@ -1,0 +1,80 @@
+//! A value that lies under a lock while nobody holds it, and is with the owner while somebody does.
+ghost use Rattle.std.specs.Prelude.{◌≡◌, if◌then◌else◌};
+ghost use Rattle.std.specs.Borrow.{sem};
+ghost use Rattle.guarded.specs.Stowed.{IsFull, crosses, slot_of};
+ghost use Rattle.guarded.specs.declared.slot.Slot.TheVariants.{Full};
+
+use monitor::{Holds, Load};
+use std::mem;
+
+/// A place for the value: under the lock, or with the owner.
+#[derive(Drop)]
+pub enum Slot<T> {
+    /// The value is elsewhere.
+    Empty,
+    /// The value is here.
+    Full(T),
+}
+
+impl<T: Drop> Slot<T> {
+    ghost use Rattle.guarded.specs.Lending.{LendsSlot};
+
+    pub(crate) fn value(&self) -> &T
+        requires { IsFull self.now }
+        ensures { Full result.now ≡ self.now }
+    {
+        match self {
+            Slot::Full(value) => value,
+            Slot::Empty => unreachable!(),
+        }
+    }
+
+    pub(crate) fn value_mut(&mut self) -> &mut T
+        requires { IsFull self.old }
+        ensures* lends { sem 𝓛 (LendsSlot T.row self.entry result) }
+        ensures value { Full result.now ≡ self.old }
+    {
+        match self {
+            Slot::Full(value) => value,
+            Slot::Empty => unreachable!(),
+        }
+    }
+
+    pub(crate) fn into_value(self) -> Option<T>
+        ensures { slot_of result ≡ self }
+    {
+        match self {
+            Slot::Full(value) => Some(value),
+            Slot::Empty => None,
+        }
+    }
+}
+
+// The value changes hands where the first hold came or the last one went.
+#[inline(always)]
+fn trade<T>(here: &mut Slot<T>, there: &mut Slot<T>, before: u128, after: u128)
+    ensures here { here.new ≡ (if crosses before after then there.old else here.old) }
+    ensures there { there.new ≡ (if crosses before after then here.old else there.old) }
+{
+    let was_free = before == 0;
+    let is_free = after == 0;
+    if was_free != is_free {
+        mem::swap(here, there);
+    }
+}
+
+impl<T: Drop> Load for Slot<T> {
+    ghost use Rattle.history.specs.declared.entry.Mode.TheVariants.{X};
+    ghost use Rattle.guarded.specs.Stowed.{Carries, Rests, alike_so};
+
+    ghost rests = { λ s k. Rests s k };
+
+    ghost carries = { λ s h. Carries (h X) s };
+
+    ghost alike = { λ s k l same r. alike_so s k l same r };
+
+    #[inline(always)]
+    fn trade(&mut self, there: &mut Self, before: Holds, after: Holds) {
+        trade(self, there, before.exclusive, after.exclusive);
+    }
+}

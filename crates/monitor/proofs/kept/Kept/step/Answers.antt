@@ -1,8 +1,0 @@
-use Rattle.std.proofs.Common.{subst}
-use Rattle.frame.specs.Core.{CoreView, IsTold}
-use Rattle.monitor.proofs.kept.Kept.step.Goals as goal
-
-pub returns-clause-told : goal.returns-clause-told
-returns-clause-told g c =
-    subst (λ (v : CoreView). IsTold v c.args.seat c.step_core.result c.step_core.new.core)
-    c.deref_mut.ensures.value c.step_core.ensures.told

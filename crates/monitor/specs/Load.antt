@@ -1,0 +1,57 @@
+-- What a load knows of a turn of the lock.
+use Rattle.std.specs.Prelude.{◌≡◌, ◌≢◌, ◌<◌, ℕ, Bool, true, false, List, []}
+use Rattle.history.specs.declared.entry.Mode.{Mode}
+use Rattle.history.specs.declared.entry.Mode.TheVariants.{X, S}
+use Rattle.history.specs.declared.header.Header.{Header}
+use Rattle.history.specs.declared.step.Step.{Step}
+use Rattle.history.specs.declared.step.Step.TheVariants.{Signal, SignalAll}
+use Rattle.history.specs.Counts.{Counts, counts, held}
+use Rattle.history.specs.Object.{is_lock}
+use Rattle.history.specs.Start.{opening}
+use Rattle.frame.specs.Core.{CoreView, start_of}
+use Rattle.history.specs.declared.entry.Entry.{Entry}
+use Rattle.history.specs.declared.point.Point.{Point}
+use Rattle.monitor.specs.Lawful.{start_at}
+use Rattle.monitor.specs.Shown.{Shown}
+use Rattle.monitor.specs.declared.load.Holds.{Holds}
+
+-- the holds of a pass, by its own entries alone
+abbrev pub holds_of : Shown → Mode → ℕ
+holds_of p m = held (opening p.lock.header) p.mine p.seat m
+
+-- the holds of a seat by these entries of its own, and at a point
+abbrev pub holds_by : Header → ℕ → List Entry → Mode → ℕ
+holds_by k i es m = held (opening k) es i m
+
+abbrev pub holds_at : Point → ℕ → Mode → ℕ
+holds_at p i m = held (start_at p) p.entries i m
+
+-- the holds of a seat of a core
+abbrev pub holds_in : CoreView → ℕ → Mode → ℕ
+holds_in v i m = held (start_of v) v.entries i m
+
+abbrev pub AreOf : Holds → (Mode → ℕ) → Type 0
+AreOf h f = (h.exclusive ≡ f X) × (h.shared ≡ f S)
+
+-- the counts of an object as it is opened
+abbrev pub opened_counts : Header → Counts
+opened_counts k = counts (opening k) []
+
+-- one seat at most has exclusive holds, and nobody else reads beside it
+pub record IsOneOwner (k : Counts) : Type 0 where
+  pub one : (a b : ℕ) → 0 < k.held a X → 0 < k.held b X → a ≡ b
+  pub alone : (a b : ℕ) → 0 < k.held a X → 0 < k.held b S → a ≡ b
+
+-- one step of a seat
+pub record IsTurn (i : ℕ) (k l : Counts) : Type 0 where
+  pub object : l.object ≡ k.object
+  pub seats : l.seats ≡ k.seats
+  pub others : (j : ℕ) (m : Mode) → j ≢ i → l.held j m ≡ k.held j m
+  pub before : is_lock k.object ≡ true → IsOneOwner k
+  pub after : is_lock k.object ≡ true → IsOneOwner l
+
+-- the steps that change nobody's holds
+abbrev pub is_signal : Step → Bool
+is_signal (Signal c) = true
+is_signal (SignalAll c) = true
+is_signal _ = false

@@ -1,0 +1,221 @@
+-- What the calls of a lock leave of a pass's holds.
+use Rattle.std.proofs.Common.{◌≡◌, ◌⊎◌, inl, inr, ⊎_elim, ℕ, zero, suc, ◌+◌, ◌-◌, ◌<◌, ◌≤◌, ◌==◌, nat_lt, Bool, true, false, ◌&&◌, not, cond, List, [], ◌∷◌, length, Option, Some, Result, Ok, Err, refl, sym, ap, ◌∙◌, subst, arith}
+use Rattle.std.specs.List.{All}
+use Rattle.std.proofs.lemmas.Bool.{cond_both}
+use Rattle.std.proofs.lemmas.List.Elements.{All-nil, All-cons}
+use Rattle.history.specs.declared.entry.End.{End}
+use Rattle.history.specs.declared.entry.End.TheVariants as end
+use Rattle.history.specs.declared.entry.Entry.{Entry}
+use Rattle.history.specs.declared.entry.Mode.{Mode}
+use Rattle.history.specs.declared.entry.Mode.TheVariants.{X, S}
+use Rattle.history.specs.declared.entry.Word.{Word}
+use Rattle.history.specs.declared.entry.Word.TheVariants as word
+use Rattle.history.specs.declared.fault.Fault.{Fault}
+use Rattle.history.specs.declared.fault.Fault.TheVariants as fault
+use Rattle.history.specs.declared.header.Header.{Header}
+use Rattle.history.specs.declared.header.Object.{Object}
+use Rattle.history.specs.declared.header.Object.TheVariants.{Lock, ReadWrite, Semaphore, Latch}
+use Rattle.history.specs.declared.step.Answer.TheVariants.{Recorded}
+use Rattle.history.specs.declared.step.Step.{Step}
+use Rattle.history.specs.declared.step.Step.TheVariants.{Acquire, Await, EntryInterrupt, Give, Signal, SignalAll}
+use Rattle.history.specs.Base.{Base}
+use Rattle.history.specs.Could.{is_seat}
+use Rattle.history.specs.Awaiting.{back_from, signalled, lapsed, lapse_from}
+use Rattle.history.specs.Start.{Sleep}
+use Rattle.std.proofs.lemmas.Bool.{eq-eqb}
+use Rattle.word_lock.specs.Point.{header_of}
+use Rattle.word_lock.specs.Ticket.{LockId}
+use Rattle.monitor.specs.AwaitOn.{EndsAwait, IsAwait, IsAwaitRefused, LapsesAndReturns}
+use Rattle.history.specs.Counts.{Counts, counts, held, holds_after, owner}
+use Rattle.history.specs.Entry.{same_mode}
+use Rattle.history.specs.Object.{in_holds, is_lock}
+use Rattle.history.specs.Start.{opening}
+use Rattle.history.specs.Steps.{at_most_one, awaits, ended, entry_for, gave, idle_entry, plain, signals}
+use Rattle.history.specs.Sleepers.{sleepers}
+use Rattle.monitor.specs.Acquire.{AtOnce, EndsAtOnce, EndsInLine, IsAcquire, IsAtOnce, IsEndFor}
+use Rattle.monitor.specs.Lawful.{start_at, view_of}
+use Rattle.history.specs.declared.point.Point.{Point}
+use Rattle.monitor.specs.Shown.{Shown, IsTrue, opening_pass, opening_passes}
+use Rattle.monitor.specs.Load.{is_signal}
+use Rattle.monitor.specs.Stepping.{IsEntered, IsSame, IsStep, IsTrim}
+use Rattle.monitor.specs.Waits.{asking}
+use Rattle.monitor.specs.declared.how.How.{How}
+use Rattle.monitor.proofs.Acquiring.{idle_made}
+use Rattle.monitor.proofs.InLine.{records}
+use Rattle.monitor_fronts.specs.Holding.{holds}
+
+-- the holds of a pass, with an entry in front
+abbrev pub after : Header → ℕ → Entry → ℕ → ℕ
+after k i e had = cond ((e.seat == i) && same_mode e.mode X) (holds_after k.object e.word e.n had) had
+
+pub of_own : (old new : Shown) → IsSame old new → holds new ≡ held (opening old.lock.header) new.mine old.seat X
+of_own old new same = λ d. held (opening (same.lock d).header) new.mine (same.seat d) X
+
+pub one_hold : (o : Object) (n : ℕ) → is_lock o ≡ true → in_holds o n ≡ 1
+one_hold (Lock p) n q = refl
+one_hold (ReadWrite p) n q = refl
+one_hold (Semaphore p c) n q = cc
+one_hold (Latch c) n q = cc
+
+pub queued_adds_none : (k : Header) (i : ℕ) (e : Entry) (had : ℕ) → e.word ≡ word.Queued → after k i e had ≡ had
+queued_adds_none k i e had w =
+    ap (λ (z : Word). cond ((e.seat == i) && same_mode e.mode X) (holds_after k.object z e.n had) had) w
+    ∙ same ((e.seat == i) && same_mode e.mode X)
+  where
+    same : (b : Bool) → cond b had had ≡ had
+    same true = refl
+    same false = refl
+
+-- the object of a history that a step found is that of the lock
+pub found_lock : (old new : Shown) (step : Step) (e : Entry) (name : Option ℕ) →
+    is_lock old.lock.header.object ≡ true → IsSame old new → IsTrue new →
+    (s : IsStep old step (Ok (Recorded e name)) new) → is_lock s.found.base.header.object ≡ true
+unfolding header_of
+found_lock old new step e name lock same shows s =
+    let r = records (view_of s.found s.beside) (view_of new.seen s.beside_left) old.seat step e name s.answered in
+    ap (λ (b : Base). is_lock b.header.object) (sym r.base)
+    ∙ (ap (λ (k : Header). is_lock k.object) shows.header
+    ∙ (ap (λ (l : LockId). is_lock l.header.object) same.lock ∙ lock))
+
+-- an await that sleeps leaves nothing
+await_leaves : (k : Header) (l : Counts) (i c : ℕ) (e : Entry) (had : ℕ) → e ≡ awaits l i c → e.word ≡ word.Await →
+    after k i e had ≡ 0
+await_leaves k l i c e had q w = by (not (is_seat (owner l) i)) (nat_lt 0 (l.held i S)) q
+  where
+    sleeps : (n : ℕ) →
+        after k i (record { seat = i; word = word.Await; mode = X; n = n; at = c; end = end.None }) had ≡ 0
+    sleeps n = subst (λ (b : Bool). cond (b && true) 0 had ≡ 0) (sym (eq-eqb i i refl)) refl
+
+    by : (b d : Bool) →
+        e ≡ cond b (plain i (word.Refused fault.NotOwner) X 1)
+        (cond d (plain i (word.Refused fault.HoldsRead) X 1)
+        (record { seat = i; word = word.Await; mode = X; n = l.held i X; at = c; end = end.None })) →
+        after k i e had ≡ 0
+    by true d u = let v = sym (ap (λ (z : Entry). z.word) u) ∙ w in cc
+    by false true u = let v = sym (ap (λ (z : Entry). z.word) u) ∙ w in cc
+    by false false u = subst (λ (z : Entry). after k i z had ≡ 0) (sym u) (sleeps (l.held i X))
+
+-- who comes back holds what it gave up
+back_adds : (k : Header) (i : ℕ) (w : Sleep) (had : ℕ) → after k i (back_from i w) had ≡ had + w.holds
+back_adds k i w had =
+    subst (λ (b : Bool). cond (b && true) (had + w.holds) had ≡ had + w.holds) (sym (eq-eqb i i refl)) refl
+
+lapse_adds_none : (k : Header) (i : ℕ) (w : Sleep) (how : End) (had : ℕ) →
+    after k i (lapse_from i w how) had ≡ had
+lapse_adds_none k i w how had =
+    subst (λ (b : Bool). cond (b && true) had had ≡ had) (sym (eq-eqb i i refl)) refl
+
+refused_adds_none : (k : Header) (i : ℕ) (e : Entry) (had : ℕ) (f : Fault) → e.word ≡ word.Refused f →
+    after k i e had ≡ had
+refused_adds_none k i e had f w =
+    ap (λ (z : Word). cond ((e.seat == i) && same_mode e.mode X) (holds_after k.object z e.n had) had) w
+    ∙ same ((e.seat == i) && same_mode e.mode X)
+  where
+    same : (b : Bool) → cond b had had ≡ had
+    same true = refl
+    same false = refl
+
+refused_word : (how : How) (c : ℕ) (step : Step) (w : Word) → IsAwaitRefused how c step w →
+    (f : Fault) × (w ≡ word.Refused f)
+refused_word how c step w (inl (q, inl x)) = (fault.NotOwner, x)
+refused_word how c step w (inl (q, inr x)) = (fault.HoldsRead, x)
+refused_word how c step w (inr x) = (fault.Interrupted, x.2)
+
+-- who awaited holds as much as before
+pub await_holds : (old new : Shown) (c : ℕ) (how : How) (r : Result Entry Fault) → IsSame old new →
+    IsAwait old c how r new → holds new ≡ holds old
+await_holds old new c how (Ok e) same (inl a) =
+    let k = old.lock.header in
+    let f = refused_word how c a.0 e.word a.1 in
+    of_own old new same ∙ (ap (λ (l : List Entry). held (opening k) l old.seat X) a.2.mine
+    ∙ refused_adds_none k old.seat e (holds old) f.0 f.1)
+await_holds old new c how (Ok e) same (inr x) = by x.end
+  where
+    k : Header
+    k = old.lock.header
+
+    none : held (opening k) (x.slept ∷ old.mine) old.seat X ≡ 0
+    none =
+        let m = x.sleeps in
+        let i = idle_made (start_at m.front) m.front.entries old.seat (Await c) x.slept refl m.made in
+        await_leaves k (counts (start_at m.front) m.front.entries) old.seat c x.slept (holds old) i.is x.await
+
+    holds_back : (w : Sleep) (rest : List Entry) → w.holds ≡ x.slept.n →
+        held (opening k) rest old.seat X ≡ 0 → e ≡ back_from old.seat w →
+        new.mine ≡ e ∷ rest → holds new ≡ holds old
+    holds_back w rest n nothing q mine =
+        let had : ℕ = held (opening k) rest old.seat X in
+        let is : holds new ≡ held (opening k) (back_from old.seat w ∷ rest) old.seat X =
+        of_own old new same ∙ (ap (λ (l : List Entry). held (opening k) l old.seat X) mine
+        ∙ ap (λ (z : Entry). held (opening k) (z ∷ rest) old.seat X) q) in
+        let adds = back_adds k old.seat w had in
+        let gave = x.gave_up in
+        omega (arith, is, adds, n, nothing, gave)
+
+    by : ((e ≡ back_from old.seat (signalled x.slept.at x.slept.n)) × (new.mine ≡ e ∷ x.slept ∷ old.mine))
+        ⊎ LapsesAndReturns old how x.slept e new → holds new ≡ holds old
+    by (inl z) = holds_back (signalled x.slept.at x.slept.n) (x.slept ∷ old.mine) refl none z.0 z.1
+    by (inr z) =
+        let v = signalled x.slept.at x.slept.n in
+        holds_back (lapsed v z.end) (lapse_from old.seat v z.end ∷ x.slept ∷ old.mine) refl
+        (lapse_adds_none k old.seat v z.end (held (opening k) (x.slept ∷ old.mine) old.seat X) ∙ none)
+        z.back z.mine
+await_holds old new c how (Err f) same x =
+    of_own old new same ∙ ap (λ (l : List Entry). held (opening old.lock.header) l old.seat X) x.stepped.mine
+
+same_either : (b : Bool) (n : ℕ) → cond b n n ≡ n
+same_either true n = refl
+same_either false n = refl
+
+-- a signal changes no holds
+signal_adds_none : (k : Header) (l : Counts) (w : Word) (n i c : ℕ) (had : ℕ) →
+    ((m : ℕ) → holds_after k.object w m had ≡ had) → after k i (signals l w n i c) had ≡ had
+signal_adds_none k l w n i c had none = by (not (is_seat (owner l) i))
+  where
+    by : (b : Bool) → after k i (cond b (plain i (word.Refused fault.NotOwner) X 1)
+        (record { seat = i; word = w; mode = X; n = n; at = c; end = end.None })) had ≡ had
+    by true = same_either ((i == i) && true) had
+    by false =
+        ap (λ (m : ℕ). cond ((i == i) && true) m had) (none n) ∙ same_either ((i == i) && true) had
+
+told_keeps : (old new : Shown) (step : Step) (e : Entry) (name : Option ℕ) → is_signal step ≡ true →
+    (s : IsStep old step (Ok (Recorded e name)) new) →
+    after old.lock.header old.seat e (holds old) ≡ holds old
+told_keeps old new (Signal c) e name signal s =
+    let k = old.lock.header in
+    let r = records (view_of s.found s.beside) (view_of new.seen s.beside_left) old.seat (Signal c) e name
+    s.answered in
+    let i = idle_made (start_at s.found) s.found.entries old.seat (Signal c) e refl r.made in
+    ap (λ (z : Entry). after k old.seat z (holds old)) i.is
+    ∙ signal_adds_none k (counts (start_at s.found) s.found.entries) word.Signal
+    (at_most_one (length (sleepers (start_at s.found) s.found.entries c))) old.seat c (holds old) (λ m. refl)
+told_keeps old new (SignalAll c) e name signal s =
+    let k = old.lock.header in
+    let r = records (view_of s.found s.beside) (view_of new.seen s.beside_left) old.seat (SignalAll c) e name
+    s.answered in
+    let i = idle_made (start_at s.found) s.found.entries old.seat (SignalAll c) e refl r.made in
+    ap (λ (z : Entry). after k old.seat z (holds old)) i.is
+    ∙ signal_adds_none k (counts (start_at s.found) s.found.entries) word.SignalAll
+    (length (sleepers (start_at s.found) s.found.entries c)) old.seat c (holds old) (λ m. refl)
+told_keeps old new _ e name signal s = cc
+
+pub signal_keeps : (old new : Shown) (step : Step) (r : Result Entry Fault) → is_signal step ≡ true →
+    IsSame old new → IsEntered old step r new → holds new ≡ holds old
+signal_keeps old new step (Ok e) signal same s =
+    of_own old new same ∙ (ap (λ (l : List Entry). held (opening old.lock.header) l old.seat X) s.1.mine
+    ∙ told_keeps old new step e s.0 signal s.1)
+signal_keeps old new step (Err f) signal same s =
+    of_own old new same ∙ ap (λ (l : List Entry). held (opening old.lock.header) l old.seat X) s.mine
+
+-- a fold changes no holds
+pub trim_keeps : (old new : Shown) (r : Result ℕ Fault) → IsSame old new → IsTrim old r new →
+    holds new ≡ holds old
+trim_keeps old new r same t =
+    of_own old new same ∙ ap (λ (l : List Entry). held (opening old.lock.header) l old.seat X) t.mine
+
+-- nobody holds anything yet
+pub none_yet : (lock : LockId) (p : Point) (k n : ℕ) → All (λ (s : Shown). holds s ≡ 0) (opening_passes lock p k n)
+none_yet lock p k zero = All-nil (λ (s : Shown). holds s ≡ 0)
+none_yet lock p k (suc n) =
+    All-cons (λ (s : Shown). holds s ≡ 0) (opening_pass lock p k) (opening_passes lock p (suc k) n) refl
+    (none_yet lock p (suc k) n)

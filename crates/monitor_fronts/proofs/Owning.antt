@@ -1,0 +1,86 @@
+-- The release of a hold is recorded: whoever owns is idle, and its release was owed room and memory.
+use Rattle.std.proofs.Common.{◌≡◌, ℕ, ◌<◌, Bool, true, false, not, cond, List, Option, Some, Result, Ok, Err, IsOk, refl, ap, ◌∙◌, sym, subst}
+use Rattle.history.specs.declared.entry.Entry.{Entry}
+use Rattle.history.specs.declared.entry.Mode.{Mode}
+use Rattle.history.specs.declared.entry.Mode.TheVariants.{X}
+use Rattle.history.specs.declared.entry.Word.{Word}
+use Rattle.history.specs.declared.entry.Word.TheVariants as word
+use Rattle.history.specs.declared.fault.Fault.{Fault}
+use Rattle.history.specs.declared.fault.Fault.TheVariants as fault
+use Rattle.history.specs.declared.header.Header.{Header}
+use Rattle.history.specs.declared.header.Object.{Object}
+use Rattle.history.specs.declared.header.Object.TheVariants.{Lock, ReadWrite, Semaphore, Latch}
+use Rattle.history.specs.declared.point.Point.{Point}
+use Rattle.history.specs.declared.step.Step.TheVariants.{Give}
+use Rattle.history.specs.Counts.{counts, held}
+use Rattle.history.specs.Faults.{is_bad_number, lacks_mode}
+use Rattle.history.specs.Object.{is_lock}
+use Rattle.history.specs.Phase.{Phase, Idle, phase, suits}
+use Rattle.history.specs.Start.{Start}
+use Rattle.history.specs.Steps.{entry_for, phase_entry, plain}
+use Rattle.history.proofs.IdleOwners.{owner_idle}
+use Rattle.word_lock.specs.Point.{header_of}
+use Rattle.word_lock.proofs.PointLaws.{before_header}
+use Rattle.monitor.specs.Lawful.{IsLawful, start_at}
+use Rattle.monitor.specs.Shown.{Shown, IsTrue}
+use Rattle.monitor.specs.Stepping.{IsEntered, IsSame}
+use Rattle.monitor.proofs.Loads.{own_holds}
+use Rattle.monitor.proofs.Opening.{header_shown}
+use Rattle.monitor_fronts.specs.Holding.{holds}
+use Rattle.monitor_fronts.specs.Told.{whether_of}
+use Rattle.monitor_fronts.proofs.Exactly.{gave_is, gave_own}
+
+-- an owner's give makes one entry
+has_mode : (o : Object) → is_lock o ≡ true → lacks_mode o X ≡ false
+has_mode (Lock p) q = refl
+has_mode (ReadWrite p) q = refl
+has_mode (Semaphore p c) q = cc
+has_mode (Latch c) q = cc
+
+has_amount : (o : Object) → is_lock o ≡ true → is_bad_number o 1 ≡ false
+has_amount (Lock p) q = refl
+has_amount (ReadWrite p) q = refl
+has_amount (Semaphore p c) q = cc
+has_amount (Latch c) q = cc
+
+give_made : (s : Start) (h : List Entry) (i : ℕ) → is_lock s.header.object ≡ true → 0 < held s h i X →
+    phase s h i ≡ Idle → entry_for s h i (Give X 1) ≡ Ok (Some (plain i word.Gave X 1))
+give_made s h i lock some idle =
+    let rest : Phase → Result (Option Entry) Fault = λ ph.
+    cond (not (suits ph (Give X 1))) (Err fault.OutOfPhase) (Ok (phase_entry s h i (Give X 1) ph)) in
+    let amount : Bool → Result (Option Entry) Fault = λ t.
+    cond t (Err fault.BadAmount) (rest (phase s h i)) in
+    ap (λ (t : Bool). cond t (Err fault.WrongMode) (amount (is_bad_number s.header.object 1)))
+    (has_mode s.header.object lock)
+    ∙ (ap amount (has_amount s.header.object lock)
+    ∙ (ap rest idle
+    ∙ ap (λ (w : Word). Ok (Some (plain i w X 1))) (gave_own s.header.object (counts s h) i lock some)))
+
+pub point_gives : (p : Point) (i : ℕ) → IsLawful p → is_lock p.base.header.object ≡ true →
+    0 < held (start_at p) p.entries i X →
+    entry_for (start_at p) p.entries i (Give X 1) ≡ Ok (Some (plain i word.Gave X 1))
+point_gives p i l lock some =
+    give_made (start_at p) p.entries i lock some
+    (owner_idle p.base p.entries l.may_fold.can i some)
+
+-- An owner's give is recorded: it finds room and memory, since it was owed.
+pub give_recorded : (old new : Shown) (r : Result Entry Fault) → is_lock old.lock.header.object ≡ true →
+    IsSame old new → IsTrue old → IsEntered old (Give X 1) r new → 0 < holds old → IsOk r
+give_recorded old new (Ok e) lock same shows s some = refl
+give_recorded old new (Err f) lock same shows s some =
+    let header : header_of s.found ≡ old.lock.header = sym (before_header old.seen s.found s.begins) ∙ shows.header in
+    let is : is_lock s.found.base.header.object ≡ true =
+    ap (λ (k : Header). is_lock k.object) (sym (header_shown s.found) ∙ header) ∙ lock in
+    let own = own_holds s.found old.lock.header old.seat old.mine s.agrees header in
+    let there : 0 < held (start_at s.found) s.found.entries old.seat X =
+    subst (λ (f : Mode → ℕ). 0 < f X) own some in
+    s.owed (plain old.seat word.Gave X 1, point_gives s.found old.seat s.lawful is there, is)
+
+-- and that is what is told of it
+pub give_told : (old new : Shown) (r : Result Entry Fault) → is_lock old.lock.header.object ≡ true →
+    IsSame old new → IsTrue old → IsTrue new → IsEntered old (Give X 1) r new → 0 < holds old →
+    whether_of r ≡ Ok true
+give_told old new (Ok e) lock same was shows s some =
+    ap (λ (z : Entry). whether_of (Ok z)) (gave_is old new e lock same shows s some)
+give_told old new (Err f) lock same was shows s some =
+    absurd (let ok = give_recorded old new (Err f) lock same was s some in cc)
