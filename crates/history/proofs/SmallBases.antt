@@ -4,7 +4,7 @@ use Rattle.history.specs.declared.entry.Mode.TheVariants.{X, S}
 use Rattle.history.specs.declared.header.Object.{Object}
 use Rattle.history.specs.declared.header.Object.TheVariants.{Lock, ReadWrite, Semaphore, Latch}
 use Rattle.history.specs.Base.{Base, seat_of}
-use Rattle.history.specs.Counts.{held, total}
+use Rattle.history.specs.Counts.{total}
 use Rattle.history.specs.GoodBase.{AreCounted, AreHeld, IsGood, most_permits}
 use Rattle.history.specs.Ownership.{most_exclusive, most_shared}
 use Rattle.history.proofs.Times.{total_part}

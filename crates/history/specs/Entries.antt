@@ -1,10 +1,11 @@
 -- What a history's list is to its callers.
-use Rattle.std.specs.Prelude.{◌≡◌, ℕ, ◌+◌, if◌then◌else◌, List, [], ◌∷◌, Option, Some, None}
+use Rattle.std.specs.Prelude.{◌≡◌, ℕ, ◌+◌, ◌^◌, ◌<◌, ◌≤◌, if◌then◌else◌, List, [], ◌∷◌, length, reverse, Option, Some, None}
 use Rattle.history.specs.declared.entry.Entry.{Entry}
 use Rattle.history.specs.declared.header.Header.{Header}
 use Rattle.history.specs.Base.{Base, based, opening_base}
 use Rattle.history.specs.Entry.{ends_call}
 use Rattle.history.specs.GoodBase.{IsGood}
+use Rattle.history.specs.Pages.{PagesView}
 use Rattle.history.specs.Start.{Start}
 
 pub record HistoryView : Type 0 where
@@ -19,6 +20,14 @@ abbrev pub ended_calls : List Entry → ℕ
 ended_calls [] = 0
 ended_calls (e ∷ h) = ended_calls h + (if ends_call e.word then 1 else 0)
 
+-- the calls that ended before a base, and in all: before the base of a history and in its entries
+abbrev pub calls_before : Option Base → ℕ
+calls_before None = 0
+calls_before (Some b) = (based b).calls
+
+abbrev pub all_calls : HistoryView → ℕ
+all_calls v = calls_before v.base + ended_calls v.entries
+
 -- what a history begins from: its base, or that of the object as it is opened
 abbrev pub or_opening : Header → Option Base → Base
 or_opening k None = opening_base k
@@ -29,6 +38,14 @@ base_on k v = or_opening k v.base
 
 abbrev pub start_on : Header → HistoryView → Start
 start_on k v = based (base_on k v)
+
+-- What a history keeps beside its pages is so.
+pub record IsKept (pages : PagesView) (cap owed calls : ℕ) : Type 0 where
+  pub reserved : length pages.entries + owed ≤ pages.places
+  pub within_cap : length pages.entries + owed ≤ cap
+  pub short : cap < 2 ^ 32
+  pub bounded : pages.places < cap + 1024
+  pub counted : calls ≡ ended_calls (reverse pages.entries)
 
 -- it has no base, or a good one of this header
 abbrev pub IsBasedWell : Header → Option Base → Type 0

@@ -1,7 +1,11 @@
 -- How the entries of a history stand in pages. A page has 1,024 places, and is full before the next begins.
-use Rattle.std.specs.Prelude.{◌≡◌, ℕ, ◌+◌, ◌-◌, ◌*◌, ◌/◌, ◌<◌, ◌≤◌, ◌^◌, min, List, [], ◌∷◌, ◌++◌, length, reverse}
+use Rattle.std.specs.Prelude.{◌≡◌, ◌⊎◌, ℕ, zero, suc, ◌+◌, ◌*◌, ◌/◌, ◌<◌, ◌≤◌, ◌^◌, List, [], ◌∷◌, ◌++◌, length}
 use Rattle.history.specs.declared.entry.Entry.{Entry}
-use Rattle.history.specs.Entries.{ended_calls}
+
+-- the entries, the oldest first, and how many the reserved pages hold
+pub record PagesView : Type 0 where
+  pub entries : List Entry
+  pub places : ℕ
 
 -- the least multiple of 1,024 that is at least n: the places of the pages that n entries take
 abbrev pub whole_pages : ℕ → ℕ
@@ -12,16 +16,16 @@ abbrev pub in_pages : List (List Entry) → List Entry
 in_pages [] = []
 in_pages (page ∷ pages) = page ++ in_pages pages
 
--- n entries stand in these pages, and none behind a page that isn't full
-abbrev pub AreFilled : ℕ → List (List Entry) → Type 0
-AreFilled n [] = n ≡ 0
-AreFilled n (page ∷ pages) = (length page ≡ min n 1024) × AreFilled (n - 1024) pages
+-- n of these pages are full, and then all are empty
+abbrev pub AreFull : ℕ → List (List Entry) → Type 0
+AreFull zero [] = Unit {0}
+AreFull zero (page ∷ pages) = (page ≡ []) × AreFull zero pages
+AreFull (suc n) [] = ⊥
+AreFull (suc n) (page ∷ pages) = (length page ≡ 1024) × AreFull n pages
 
--- what a history keeps beside its pages is so
-pub record AreKept (pages : List (List Entry)) (len cap owed calls : ℕ) : Type 0 where
-  pub filled : AreFilled len pages
-  pub reserved : len + owed ≤ 1024 * length pages
-  pub within_cap : len + owed ≤ cap
-  pub short : cap < 2 ^ 32
-  pub bounded : 1024 * length pages < cap + 1024
-  pub counted : calls ≡ ended_calls (reverse (in_pages pages))
+-- What stands in the pages is so. Without a page at hand there is none.
+pub record AreKept (others : List (List Entry)) (full : ℕ) (hand : List Entry) (room : ℕ) : Type 0 where
+  pub full_first : AreFull full others
+  pub fits : length hand ≤ room
+  pub page : (room ≡ 1024) ⊎ ((room ≡ 0) × (others ≡ []))
+  pub few : 1024 * length others + room < 2 ^ 33

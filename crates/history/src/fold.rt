@@ -1,6 +1,6 @@
 //! Entries, folded into a base.
 
-ghost use Rattle.std.specs.Prelude.{◌≡◌, ◌+◌, ◌<◌, ◌≤◌, ◌↔◌, length, reverse, IsSomeAnd, IsTrue, IsFalse};
+ghost use Rattle.std.specs.Prelude.{◌≡◌, ◌+◌, ◌<◌, ◌≤◌, ◌↔◌, ◌++◌, length, reverse, IsSomeAnd, IsTrue, IsFalse};
 ghost use Rattle.std.specs.Option.{option_map};
 ghost use Rattle.history.specs.Base.{folded};
 ghost use Rattle.history.specs.Fold.{MayFold};
@@ -10,14 +10,15 @@ ghost use Rattle.history.specs.Pages.{in_pages};
 use crate::base::Base;
 use crate::entry::Entry;
 use crate::page::Page;
+use crate::pages::Pages;
 
-/// Folds the entries of these pages, of which there are so many, into the base, if there is one and it may
-/// have folded as many more. Else nothing changes.
-pub(crate) fn fold_onto(base: &mut Option<Base>, pages: &[Page], count: u64) -> bool
-    requires may { IsSomeAnd base.old (λ base. MayFold base (reverse (in_pages pages.now))) }
-    requires count { count ≡ length (reverse (in_pages pages.now)) }
+/// Folds all these entries, `count` of them, into the base. Returns false, and changes nothing, if there is no
+/// base or more would be folded than may be.
+pub(crate) fn fold_onto(base: &mut Option<Base>, entries: &Pages, count: u64) -> bool
+    requires may { IsSomeAnd base.old (λ base. MayFold base (reverse entries.now.entries)) }
+    requires count { count ≡ length (reverse entries.now.entries) }
     ensures folded { IsTrue result →
-        base.new ≡ option_map (λ base. folded base (reverse (in_pages pages.now))) base.old }
+        base.new ≡ option_map (λ base. folded base (reverse entries.now.entries)) base.old }
     ensures full { IsFalse result ↔ IsSomeAnd base.old (λ base. most_folded < base.entries + count) }
     ensures stays { IsFalse result → base.new ≡ base.old }
 {
@@ -25,12 +26,23 @@ pub(crate) fn fold_onto(base: &mut Option<Base>, pages: &[Page], count: u64) -> 
         Some(base) => {
             let fits = base.may_fold(count);
             if fits {
-                fold_pages(base, pages);
+                let (pages, hand) = entries.parts();
+                fold_parts(base, pages, hand);
             }
             fits
         }
         None => false,
     }
+}
+
+/// Folds the entries of pages into a base, and then those at hand.
+fn fold_parts(base: &mut Base, pages: &[Page], hand: &[Entry])
+    requires may { MayFold base.old (reverse (in_pages pages.now ++ hand.now)) }
+    requires few { base.old.entries + length (reverse (in_pages pages.now ++ hand.now)) ≤ most_folded }
+    ensures { base.new ≡ folded base.old (reverse (in_pages pages.now ++ hand.now)) }
+{
+    fold_pages(base, pages);
+    fold_entries(base, hand);
 }
 
 /// Folds the entries of pages into a base, page by page.

@@ -19,6 +19,7 @@ pub mod holds;
 pub mod laws;
 pub mod number;
 mod page;
+mod pages;
 pub mod pieces;
 pub mod point;
 pub mod step;
