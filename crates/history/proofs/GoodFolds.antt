@@ -40,7 +40,7 @@ use Rattle.history.proofs.LineLemmas.{line_after, line_at_first}
 use Rattle.history.proofs.Lists.{calls-ended, ended_calls_le}
 use Rattle.history.proofs.OneOwner.{Owned, cases_below, is_owned, owned_on, same_limit}
 use Rattle.history.proofs.OneWait.{Saved, SavedIfBack, Sleeps, Waits, acts, line_stays, placed, waits_from}
-use Rattle.history.proofs.Permits.{IsLow, created_fits, free_fits_on, held_grows, low_on, no_exclusive, unheld_grows, unheld_none}
+use Rattle.history.proofs.Permits.{IsLow, created_fits, free_fits_on, held_grows, low_on, no_exclusive, unheld_grows, unheld_none, fits_at_most}
 use Rattle.history.proofs.Queueing.{joining_owns_nothing}
 use Rattle.history.proofs.SleepLemmas.{held_other}
 use Rattle.history.proofs.Times.{each-append}
@@ -300,13 +300,10 @@ module _ (b : Base) (g : List Entry) (range : IsInRange b.header) (can : CanFold
         shared = λ i. (let l = shared_few t i in omega (arith, l, few));
         lowest = subst (IsLow c) (same.permits t)
             (low_on (based b) c g t (good_waits b can.good) v.lowest can.legal);
-        highest = high (free (based (folded b g)) [])
+        highest = fits_at_most (free (based (folded b g)) [])
             (subst (FitsSigned w32) (same.permits t)
             (free_fits_on (based b) g t (good_waits b can.good) (fits_first t) can.legal));
       }
-    where
-      high : (f : ℤ) → FitsSigned w32 f → f ≤ℤ pos 2147483647
-      high f p = omega (arith, ints)
 
   held_fold : (o : Object) → b.header.object ≡ o → AreHeld o b → AreHeld o (folded b g)
   held_fold (Lock p) q v = owned_fold (ap is_lock q)

@@ -1,5 +1,6 @@
 -- The fold of one entry, part by part.
 use Rattle.std.proofs.Common.{◌≡◌, ◌≢◌, ◌⊎◌, ⊎_elim, inl, inr, ℕ, zero, suc, ◌+◌, ◌-◌, ◌<◌, ◌≤◌, Bool, true, false, not, ◌&&◌, cond, eqb, List, [], ◌∷◌, ◌++◌, map, take, drop, length, get_or, set, Some, refl, ap, ◌∙◌, sym, subst, arith}
+use Rattle.std.proofs.Math.Nat.{add-zero}
 use Rattle.std.specs.List.{filter, AllByRecursion}
 use Rattle.std.proofs.lemmas.Bool.{cases_eq, eq-eqb, ne_eqb}
 use Rattle.std.proofs.lemmas.List.{ext_get_or, get_or-set_other, get_or-set_same, length-set, map-append}
@@ -59,13 +60,10 @@ module _ (b : Base) (e : Entry) where
       })
       (ne_eqb e.seat i ne)
       ∙ λ j. record {
-        calls = nothing_more (seat_of b i).calls j;
+        calls = add-zero (seat_of b i).calls j;
         exclusive = (seat_of b i).exclusive;
         shared = (seat_of b i).shared;
       }
-    where
-      nothing_more : (n : ℕ) → n + 0 ≡ n
-      nothing_more n = omega arith
 
   next_seats : length b.seats ≡ b.header.seats → e.seat < b.header.seats →
       each_below b.header.seats (seat_after b (e ∷ []))

@@ -346,31 +346,29 @@ owned k h lock legal seats =
     is_owned (opening k) h lock (waits k h legal) (owned_from k h lock legal seats)
 
 -- who is away saved its holds
-pub saved_away : (k : Header) (h : List Entry) → IsLegal (opening k) h → (i : ℕ) →
-    is_away (phase (opening k) h i) ≡ true → IsSaved (opening k) h i
-saved_away k h legal i t =
-    by (place_of i (line s h)) (sleeps_below k.conditions s h i) refl refl t
+pub saved_from : (s : Start) (h : List Entry) → Waits s h → (i : ℕ) → is_away (phase s h i) ≡ true →
+    IsSaved s h i
+saved_from s h v i t =
+    by (place_of i (line s h)) (sleeps_below s.header.conditions s h i) refl refl t
   where
-    s : Start
-    s = opening k
-
-    v : Waits s h
-    v = waits k h legal
-
     as_saved : Saved s h i → IsSaved s h i
     as_saved r =
         record {
           nothing = r.nothing;
           some = r.some;
-          most = subst (λ n. (last_sleep s h i).holds ≤ n) (same_limit k.object) r.most;
+          most = subst (λ n. (last_sleep s h i).holds ≤ n) (same_limit s.header.object) r.most;
         }
 
     by : (o : Option Arrival) (b : Bool) → place_of i (line s h) ≡ o →
-        sleeps_below k.conditions s h i ≡ b → is_away (phase_by o b) ≡ true → IsSaved s h i
+        sleeps_below s.header.conditions s h i ≡ b → is_away (phase_by o b) ≡ true → IsSaved s h i
     by (Some a) b p q u =
         let r = placed (SavedIfBack s h) i (line s h) a v.line p u in
         as_saved (subst (Saved s h) (place_once i (line s h) a p).0 r.saved)
     by None true p q u =
-        let at = sleeps_at k.conditions s h i q in
+        let at = sleeps_at s.header.conditions s h i q in
         as_saved (v.sleepers at.0 i at.2).saved
     by None false p q u = absurd (cc)
+
+pub saved_away : (k : Header) (h : List Entry) → IsLegal (opening k) h → (i : ℕ) →
+    is_away (phase (opening k) h i) ≡ true → IsSaved (opening k) h i
+saved_away k h legal i t = saved_from (opening k) h (waits k h legal) i t

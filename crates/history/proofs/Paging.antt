@@ -2,7 +2,7 @@
 use Rattle.std.proofs.Common.{◌≡◌, inl, inr, ℕ, zero, suc, ◌+◌, ◌*◌, ◌/◌, ◌%◌, ◌<◌, ◌≤◌, ◌^◌, List, [], ◌∷◌, ◌++◌, map, length, get_or, set, take, replicate, Option, Some, None, refl, ap, ◌∙◌, sym, subst, ⊎_elim, arith}
 use Rattle.std.specs.Prelude.{slice_get}
 use Rattle.std.proofs.lemmas.Bool.{cases_lt}
-use Rattle.std.proofs.lemmas.List.{length-append, length-map, append_assoc, append-nil, length-set, length-replicate}
+use Rattle.std.proofs.lemmas.List.{length-append, length-map, append_assoc, append-nil, length-set, length-replicate, nil_from_length}
 use Rattle.std.proofs.lemmas.Option.{slice_get_past}
 use Rattle.std.proofs.Math.Seq.{take-append_seam}
 use Rattle.history.specs.declared.entry.Entry.{Entry}
@@ -241,16 +241,12 @@ module _ (others : List (List Entry)) (full : ℕ) (hand : List Entry) (room : �
   pub none_kept : room ≡ 0 → AreFull zero others × (in_pages others ++ hand ≡ []) × (full ≡ 0)
   none_kept none = ⊎_elim (λ (q : room ≡ 1024). absurd (omega (arith, q, none))) by kept.page
     where
-      nothing : (xs : List Entry) → length xs ≡ 0 → xs ≡ []
-      nothing [] z = refl
-      nothing (x ∷ xs) z = absurd (omega (arith, z))
-
       by : (room ≡ 0) × (others ≡ []) → AreFull zero others × (in_pages others ++ hand ≡ []) × (full ≡ 0)
       by q =
           let zero_full : full ≡ 0 = let n = kept_full in let l = ap length q.1 in omega (arith, n, l) in (
             subst (λ n. AreFull n others) zero_full kept.full_first,
             ap (λ ps. in_pages ps ++ hand) q.1
-                ∙ nothing hand (let f = kept.fits in omega (arith, f, none)),
+                ∙ nil_from_length hand (let f = kept.fits in omega (arith, f, none)),
             zero_full,
           )
 

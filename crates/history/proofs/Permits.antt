@@ -318,12 +318,12 @@ pub free_fits : (k : Header) (h : List Entry) → IsInRange k → is_semaphore k
     IsLegal (opening k) h → FitsSigned w32 (free (opening k) h)
 free_fits k h range t legal = free_fits_on (opening k) h t (opening_waits k) (created_fits k range t) legal
 
+pub fits_at_most : (f : ℤ) → FitsSigned w32 f → f ≤ℤ pos 2147483647
+fits_at_most f p = omega (arith, ints)
+
 pub free_at_most : (k : Header) (h : List Entry) → IsInRange k → is_semaphore k.object ≡ true →
     IsLegal (opening k) h → free (opening k) h ≤ℤ pos 2147483647
-free_at_most k h range t legal = bound (free (opening k) h) (free_fits k h range t legal)
-  where
-    bound : (f : ℤ) → FitsSigned w32 f → f ≤ℤ pos 2147483647
-    bound f p = omega (arith, ints)
+free_at_most k h range t legal = fits_at_most (free (opening k) h) (free_fits k h range t legal)
 
 -- no seat holds more permits than its entries can have taken
 few_taken : (s : Start) (e : Entry) (h : List Entry) → Moves s e h → FitsSigned w32 (free s h) → (x : ℕ) →

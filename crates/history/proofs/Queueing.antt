@@ -32,6 +32,12 @@ abbrev Joins : Start → List Entry → ℕ → Step → Type 0
 Joins s h i (step.Acquire m n) = acquired (counts s h) (first_mode s h) i m n ≡ word.Queued
 Joins s h i _ = ⊥
 
+pub signal_apart : word.Signal ≡ word.Queued → ⊥
+signal_apart q = cc
+
+pub all_apart : word.SignalAll ≡ word.Queued → ⊥
+all_apart q = cc
+
 module _ (s : Start) (h : List Entry) (i : ℕ) where
   -- a try, in fair order or not, that takes by a word
   not_tried : (w : Word) → (w ≡ word.Queued → ⊥) → (b c d : Bool) →
@@ -62,12 +68,6 @@ module _ (s : Start) (h : List Entry) (i : ℕ) where
       (record { seat = i; word = w; mode = X; n = n; at = at; end = end.None })).word ≡ word.Queued → ⊥
   not_signals true w n at apart q = cc
   not_signals false w n at apart q = apart q
-
-  signal_apart : word.Signal ≡ word.Queued → ⊥
-  signal_apart q = cc
-
-  all_apart : word.SignalAll ≡ word.Queued → ⊥
-  all_apart q = cc
 
   joins : (x : Step) → (idle_entry s h i x).word ≡ word.Queued → Joins s h i x
   joins (step.Acquire m n) q = q

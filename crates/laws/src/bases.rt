@@ -18,7 +18,7 @@ ghost use Rattle.history.specs.Naming.{named};
 ghost use Rattle.history.specs.NextBase.{next_base};
 ghost use Rattle.history.specs.Object.{is_lock, is_semaphore};
 ghost use Rattle.history.specs.Order.{IsFairOrder, IsInOrder};
-ghost use Rattle.history.specs.Ownership.{IsOwned, is_away};
+ghost use Rattle.history.specs.Ownership.{IsOwned, IsSaved, is_away};
 ghost use Rattle.history.specs.Phase.{Idle, phase};
 ghost use Rattle.history.specs.Point.{Agrees, CanFold, ComesBefore, FollowsBy};
 ghost use Rattle.history.specs.Room.{owed};
@@ -27,6 +27,7 @@ ghost use Rattle.history.specs.Start.{opening};
 ghost use Rattle.history.specs.Steps.{entry_for};
 ghost use Rattle.history.specs.Waiting.{IsOneWait};
 ghost use Rattle.laws.specs.Forgetful.{counted_out, forgets_a_permit, forgets_a_read, forgets_a_sleeper, forgets_the_count, gave_a_read, granted_first, moved, opened_for_one, opened_latch, opened_lock, opened_read_write, opened_semaphore, passes, read_held, released_unheld, reverses_its_line, slept, taken_by_nobody, took_a_permit, two_in_line};
+ghost use Rattle.laws.specs.OutOfTurn.{gave_first, taken};
 
 /// An object as it is opened is a base of no entries.
 pub fn an_opening_is_a_base()
@@ -128,12 +129,15 @@ pub fn nobody_is_passed_on_a_base()
     ensures fair { (b : Base) (h : List Entry) → IsLegal (based b) h → IsFairOrder (based b) h }
 {}
 
-/// On a good base permits are conserved, a lock has one owner, and a seat waits once.
+/// On a good base permits are conserved, a lock has one owner, one who is away saved its holds, and a seat
+/// waits once.
 pub fn what_holds_of_a_history_holds_on_a_base()
     ensures permits { (b : Base) (h : List Entry) → is_semaphore b.header.object ≡ true → CanFold b h →
         IsConserved (based b) h }
     ensures owner { (b : Base) (h : List Entry) → is_lock b.header.object ≡ true → CanFold b h →
         IsOwned (based b) h }
+    ensures saved { (b : Base) (h : List Entry) (i : ℕ) → IsGood b → IsLegal (based b) h →
+        is_away (phase (based b) h i) ≡ true → IsSaved (based b) h i }
     ensures once { (b : Base) (h : List Entry) → IsGood b → IsLegal (based b) h → IsOneWait (based b) h }
 {}
 
@@ -144,7 +148,13 @@ pub fn whoever_owns_is_idle()
         (seat : ℕ) → 0 < held (based b) h seat X → phase (based b) h seat ≡ Idle }
 {}
 
-/// A base that forgets a sleeper is not the fold: a signal that moved it no longer does.
+/// A base that forgets a hold is not the fold: its release is no longer legal.
+pub fn a_base_that_forgets_a_hold_is_no_fold()
+    ensures legal { IsLegal (based (folded opened_lock taken)) gave_first }
+    ensures illegal { IsLegal (based opened_lock) gave_first → ⊥ }
+{}
+
+/// Nor is one that forgets a sleeper: a signal that moved it no longer does.
 pub fn a_base_that_forgets_a_sleeper_is_no_fold()
     ensures legal { IsLegal (based (folded opened_lock slept)) moved }
     ensures illegal { IsLegal (based forgets_a_sleeper) moved → ⊥ }
