@@ -5,6 +5,7 @@ use Rattle.std.proofs.Common.{◌≡◌, ℕ, zero, suc, ◌+◌, ◌-◌, ◌==
 use Rattle.std.specs.List.{filter, AllByRecursion}
 use Rattle.std.specs.Prelude.{ℤ, pos, ◌-ℤ◌, ◌+ℤ◌, int_le, int_lt}
 use Rattle.std.proofs.lemmas.Bool.{eq-eqb, or_right}
+use Rattle.history.specs.declared.limits.TheConstants.{MOST_AMOUNT}
 use Rattle.history.specs.declared.arrival.Arrival.{Arrival}
 use Rattle.history.specs.declared.entry.End.TheVariants as end
 use Rattle.history.specs.declared.entry.Entry.{Entry}
@@ -98,7 +99,7 @@ module _ (n : ℕ) (had : ℕ → Mode → ℕ) (c : ℕ) (f f' : ℤ) (first : 
   gave_alike (Lock p) same m x = refl
   gave_alike (ReadWrite p) same m x = refl
   gave_alike (Semaphore p q) same m x =
-      ap (λ z. cond (int_lt (pos 2147483647) (z +ℤ pos x)) (word.Refused fault.TooManyPermits) word.Gave)
+      ap (λ z. cond (int_lt (pos MOST_AMOUNT) (z +ℤ pos x)) (word.Refused fault.TooManyPermits) word.Gave)
       (same refl)
   gave_alike (Latch q) same m x = refl
 

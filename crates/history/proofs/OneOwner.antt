@@ -1,6 +1,7 @@
 -- A lock or read-write lock has one owner.
 use Rattle.std.proofs.Common.{◌≡◌, ◌≢◌, ◌⊎◌, inl, inr, ⊎_elim, ℕ, zero, suc, ◌+◌, ◌<◌, ◌≤◌, Bool, true, false, ◌&&◌, cond, eqb, ltb, List, [], ◌∷◌, Option, Some, None, refl, ap, ◌∙◌, sym, subst, arith}
 use Rattle.std.proofs.lemmas.Bool.{cases_eq, cases_Bool, eq-eqb, eqb-true, ltb-true, ltb-false, and_parts}
+use Rattle.history.specs.declared.limits.TheConstants.{MOST_HOLDS, MOST_READ_WRITE_HOLDS}
 use Rattle.history.specs.declared.arrival.Arrival.{Arrival}
 use Rattle.history.specs.declared.entry.Entry.{Entry}
 use Rattle.history.specs.declared.entry.Mode.{Mode}
@@ -10,7 +11,7 @@ use Rattle.history.specs.declared.entry.Word.TheVariants as word
 use Rattle.history.specs.declared.header.Header.{Header}
 use Rattle.history.specs.declared.header.Object.{Object}
 use Rattle.history.specs.declared.header.Object.TheVariants.{Lock, ReadWrite, Semaphore, Latch}
-use Rattle.history.specs.Could.{could, could_of, is_none_or, is_seat, max_holds, max_shared}
+use Rattle.history.specs.Could.{could, could_of, is_none_or, is_seat}
 use Rattle.history.specs.Counts.{Counts, counts, held, holds_after, owner, readers, total}
 use Rattle.history.specs.Entry.{same_mode}
 use Rattle.history.specs.Legal.{AreSeated, IsLegal}
@@ -92,7 +93,7 @@ could_write s h i n v t lock = by s.header.object t lock v.shared
     k = counts s h
 
     writes : (b : Bool) → is_seat (owner k) i ≡ b →
-        cond b (ltb (k.held i X) max_shared) (is_none_or (owner k) i && eqb (readers k) 0) ≡ true →
+        cond b (ltb (k.held i X) MOST_READ_WRITE_HOLDS) (is_none_or (owner k) i && eqb (readers k) 0) ≡ true →
         (j : ℕ) (m : Mode) → j ≢ i → held s h j m ≡ 0
     writes true q u =
         let holds : 0 < held s h i X = (owner_holds (counts s h) i (seat_is (owner (counts s h)) i q)).1 in
@@ -110,7 +111,7 @@ could_write s h i n v t lock = by s.header.object t lock v.shared
         total s.header.seats (λ j. held s h j S) ≤ most_shared o → (j : ℕ) (m : Mode) → j ≢ i →
         held s h j m ≡ 0
     by (Lock policy) u l few =
-        let parts = and_parts (is_none_or (owner (counts s h)) i) (ltb (held s h i X) max_holds) u in
+        let parts = and_parts (is_none_or (owner (counts s h)) i) (ltb (held s h i X) MOST_HOLDS) u in
         both s h i (others_own_nothing s h i v parts.0) (λ j ne. nobody_reads s h v (omega (arith, few)) j)
     by (ReadWrite policy) u l few = writes (is_seat (owner (counts s h)) i) refl u
     by (Semaphore policy permits) u l few = absurd (cc)
@@ -127,8 +128,8 @@ could_read s h i n v t lock = by s.header.object t lock
     by (Lock policy) u l = absurd (cc)
     by (ReadWrite policy) u l =
         let parts = and_parts (is_none_or (owner (counts s h)) i)
-        (ltb (readers (counts s h)) max_shared) u in
-        (others_own_nothing s h i v parts.0, ltb-true _ max_shared parts.1)
+        (ltb (readers (counts s h)) MOST_READ_WRITE_HOLDS) u in
+        (others_own_nothing s h i v parts.0, ltb-true _ MOST_READ_WRITE_HOLDS parts.1)
     by (Semaphore policy permits) u l = absurd (cc)
     by (Latch opening) u l = absurd (cc)
 

@@ -4,6 +4,7 @@ use Rattle.std.specs.List.{AllByRecursion}
 use Rattle.std.specs.Prelude.{ℤ, pos, ◌+ℤ◌, ◌-ℤ◌, ◌≤ℤ◌}
 use Rattle.std.proofs.lemmas.Int.{ints}
 use Rattle.std.proofs.lemmas.List.{get_or_past}
+use Rattle.history.specs.declared.limits.TheConstants.{MOST_AMOUNT}
 use Rattle.history.specs.declared.base.SeatBase.{SeatBase}
 use Rattle.history.specs.declared.base.Sleeper.{Sleeper}
 use Rattle.history.specs.declared.entry.Mode.{Mode}
@@ -92,7 +93,7 @@ module _ (k : Header) where
         shared = λ i. (let z = nothing_held i S in omega (arith, z));
         lowest = inr (at_least c (free (based (opening_base k)) [])
             (ap (λ (s : Start). s.free) based_opening ∙ ap created q));
-        highest = subst (λ (s : Start). s.free ≤ℤ pos 2147483647) (sym based_opening)
+        highest = subst (λ (s : Start). s.free ≤ℤ pos MOST_AMOUNT) (sym based_opening)
             (free_at_most k [] range (ap is_semaphore q) tt);
       }
     where

@@ -5,6 +5,7 @@ use Rattle.std.specs.Int.{w32}
 use Rattle.std.specs.Fmt.{signed_decimal}
 use Rattle.std.proofs.lemmas.Bool.{le-leb, ne_eqb}
 use Rattle.std.proofs.lemmas.Fmt.{decimal_nonempty}
+use Rattle.history.specs.declared.limits.TheConstants.{MOST_AMOUNT}
 use Rattle.history.specs.declared.header.Header.{Header}
 use Rattle.history.specs.declared.header.Object.{Object}
 use Rattle.history.specs.declared.header.Object.TheVariants.{Lock, ReadWrite, Semaphore, Latch}
@@ -26,7 +27,7 @@ unsigned_again (b ∷ bs) n lt e =
       ne_eqb b 45 (λ same. omega (arith, digit)),
       e,
       number_again n (omega arith),
-      le-leb n 2147483647 (omega arith),
+      le-leb n MOST_AMOUNT (omega arith),
     ) refl
 
 pub permits_again : (z : ℤ) → FitsSigned w32 z → permits_from (signed_decimal z) ≡ Some z
@@ -70,14 +71,14 @@ semaphore_again p z n k fits n1 n2 k1 k2 =
       number_at_again 16 4294967295 k [] (omega arith) k1 (omega arith),
     ) refl
 
-latch_again : (q n k : ℕ) → q ≤ 2147483647 → 1 ≤ n → n ≤ 256 → 16 ≤ k → k < 2 ^ 32
+latch_again : (q n k : ℕ) → q ≤ MOST_AMOUNT → 1 ≤ n → n ≤ 256 → 16 ≤ k → k < 2 ^ 32
     → latch_at (codes "seats" ∷ decimal n ∷ codes "count" ∷ decimal q ∷ codes "cap" ∷ decimal k ∷ [])
     ≡ Some (record { object = Latch q; seats = n; conditions = 0; cap = k }, [])
 unfolding latch_at
 latch_again q n k q2 n1 n2 k1 k2 =
     rw (
       number_at_again 1 256 n _ (omega arith) n1 n2,
-      number_at_again 0 2147483647 q _ (omega arith) (omega arith) q2,
+      number_at_again 0 MOST_AMOUNT q _ (omega arith) (omega arith) q2,
       number_at_again 16 4294967295 k [] (omega arith) k1 (omega arith),
     ) refl
 

@@ -2,6 +2,7 @@
 use Rattle.std.specs.Prelude.{ℕ, ◌^◌, List, [], ◌∷◌, Option, None, Some, codes, decimal, bytes_eq, nat_lt, nat_le, ◌==◌, ◌&&◌, if◌then◌else◌, ℤ, pos}
 use Rattle.std.specs.Str.Parse.{digits_value}
 use Rattle.std.specs.Prelude.{neg_ℤ}
+use Rattle.history.specs.declared.limits.TheConstants.{LEAST_CAP, MOST_AMOUNT, MOST_CONDITIONS, MOST_SEATS}
 use Rattle.history.specs.declared.entry.Mode.{Mode}
 use Rattle.history.specs.declared.entry.Mode.TheVariants.{X, S}
 use Rattle.history.specs.declared.header.Header.{Header}
@@ -78,7 +79,7 @@ unfoldable pub permits_from : List ℕ → Option ℤ
 permits_from [] = None
 permits_from (b ∷ bs) = if b == 45
     then (number_from bs >>= λ n. if nat_le 1 n && nat_le n 2147483648 then Some (neg_ℤ (pos n)) else None)
-    else (number_from (b ∷ bs) >>= λ n. if nat_le n 2147483647 then Some (pos n) else None)
+    else (number_from (b ∷ bs) >>= λ n. if nat_le n MOST_AMOUNT then Some (pos n) else None)
 
 abbrev pub permits_at : Words → Option (ℤ × Words)
 permits_at words = do
@@ -90,25 +91,25 @@ permits_at words = do
 unfoldable pub lock_at : (Policy → Object) → Words → Option (Header × Words)
 lock_at object words = do
   policy ← policy_at words
-  seats ← named_at (codes "seats") 1 256 policy.1
-  conditions ← named_at (codes "conditions") 0 16 seats.1
-  cap ← named_at (codes "cap") 16 4294967295 conditions.1
+  seats ← named_at (codes "seats") 1 MOST_SEATS policy.1
+  conditions ← named_at (codes "conditions") 0 MOST_CONDITIONS seats.1
+  cap ← named_at (codes "cap") LEAST_CAP 4294967295 conditions.1
   Some (record { object = object policy.0; seats = seats.0; conditions = conditions.0; cap = cap.0 }, cap.1)
 
 unfoldable pub semaphore_at : Words → Option (Header × Words)
 semaphore_at words = do
   policy ← policy_at words
-  seats ← named_at (codes "seats") 1 256 policy.1
+  seats ← named_at (codes "seats") 1 MOST_SEATS policy.1
   name ← keyword_at (codes "permits") seats.1
   permits ← permits_at name.1
-  cap ← named_at (codes "cap") 16 4294967295 permits.1
+  cap ← named_at (codes "cap") LEAST_CAP 4294967295 permits.1
   Some (record { object = Semaphore policy.0 permits.0; seats = seats.0; conditions = 0; cap = cap.0 }, cap.1)
 
 unfoldable pub latch_at : Words → Option (Header × Words)
 latch_at words = do
-  seats ← named_at (codes "seats") 1 256 words
-  count ← named_at (codes "count") 0 2147483647 seats.1
-  cap ← named_at (codes "cap") 16 4294967295 count.1
+  seats ← named_at (codes "seats") 1 MOST_SEATS words
+  count ← named_at (codes "count") 0 MOST_AMOUNT seats.1
+  cap ← named_at (codes "cap") LEAST_CAP 4294967295 count.1
   Some (record { object = Latch count.0; seats = seats.0; conditions = 0; cap = cap.0 }, cap.1)
 
 unfoldable pub header_at : Words → Option (Header × Words)

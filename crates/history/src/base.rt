@@ -1,12 +1,12 @@
 //! The base of a history: what is left of entries that were folded.
 
 ghost use Rattle.std.specs.Prelude.{◌≡◌, ◌+◌, ◌≤◌, ◌↔◌, [], get_or, length, map, min, All, IfOk, IfErr, IsTrue, vec_capacity};
+ghost use Rattle.history.specs.declared.limits.TheConstants.{MOST_FOLDED};
 ghost use Rattle.history.specs.declared.fault.Fault.TheVariants.{OutOfMemory};
 ghost use Rattle.history.specs.Base.{based, each_below, nothing, opening_base, sleepers_of};
 ghost use Rattle.history.specs.BasePlaces.{HasPlaces};
 ghost use Rattle.history.specs.Counts.{total};
 ghost use Rattle.history.specs.Fold.{MayFold};
-ghost use Rattle.history.specs.GoodBase.{most_folded};
 ghost use Rattle.history.specs.Header.{IsInRange};
 ghost use Rattle.history.specs.NextBase.{next_base};
 ghost use Rattle.history.specs.Object.{opening_count};
@@ -18,6 +18,7 @@ use crate::base_parts::{
 use crate::entry::{End, Entry};
 use crate::fault::Fault;
 use crate::header::{Header, Object};
+use crate::limits::MOST_FOLDED;
 use std::alloc::Global;
 use std::marker::Model;
 
@@ -87,9 +88,6 @@ impl Model for Base {
         × All (λ list. vec_capacity list ≡ a.header.seats) a.sleepers.items };
 }
 
-/// The greatest number of entries that may be folded.
-const MOST_FOLDED: u128 = 1_000_000_000_000_000;
-
 /// What a seat has that did nothing yet.
 const NOTHING: SeatBase = SeatBase {
     calls: 0,
@@ -134,8 +132,8 @@ impl Base {
 
     /// Whether so many entries more may be folded.
     pub(crate) fn may_fold(&self, more: u64) -> bool
-        requires { self.now.entries ≤ most_folded }
-        ensures { IsTrue result ↔ (self.now.entries + more ≤ most_folded) }
+        requires { self.now.entries ≤ MOST_FOLDED }
+        ensures { IsTrue result ↔ (self.now.entries + more ≤ MOST_FOLDED) }
     {
         u128::from(more) <= MOST_FOLDED - self.entries
     }

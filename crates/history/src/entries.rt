@@ -2,12 +2,12 @@
 
 ghost use Rattle.std.specs.Prelude.{◌≡◌, ◌+◌, ◌*◌, ◌^◌, ◌<◌, ◌≤◌, ◌↔◌, ◌⊎◌, max, min, [], ◌∷◌, length, reverse, slice_get, Some, None, IsTrue, IsOk, IsErrOf, OnOk, OnErr, IfOk, IfErr, IsSomeAnd};
 ghost use Rattle.std.specs.Option.{option_copied, option_map};
+ghost use Rattle.history.specs.declared.limits.TheConstants.{MOST_FOLDED};
 ghost use Rattle.history.specs.declared.fault.Fault.TheVariants.{HistoryFull, OutOfMemory, TrimFull};
 ghost use Rattle.history.specs.Base.{folded};
 ghost use Rattle.history.specs.Entry.{ends_call};
 ghost use Rattle.history.specs.Entries.{all_calls};
 ghost use Rattle.history.specs.Fold.{MayFold};
-ghost use Rattle.history.specs.GoodBase.{most_folded};
 ghost use Rattle.history.specs.Pages.{whole_pages};
 
 use crate::base::Base;
@@ -224,7 +224,7 @@ impl History {
         // The base may fold what comes next.
         ensures goes_on { OnOk result (IsSomeAnd self.new.base (λ base. MayFold base [])) }
         ensures full { IsErrOf result TrimFull
-            ↔ IsSomeAnd self.old.base (λ base. most_folded < base.entries + length self.old.entries) }
+            ↔ IsSomeAnd self.old.base (λ base. MOST_FOLDED < base.entries + length self.old.entries) }
         ensures err { IfErr result (λ fault. (fault ≡ TrimFull) × (self.new ≡ self.old)) }
     {
         let count = self.pages.len();

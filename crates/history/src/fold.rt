@@ -2,9 +2,9 @@
 
 ghost use Rattle.std.specs.Prelude.{◌≡◌, ◌+◌, ◌<◌, ◌≤◌, ◌↔◌, ◌++◌, length, reverse, IsSomeAnd, IsTrue, IsFalse};
 ghost use Rattle.std.specs.Option.{option_map};
+ghost use Rattle.history.specs.declared.limits.TheConstants.{MOST_FOLDED};
 ghost use Rattle.history.specs.Base.{folded};
 ghost use Rattle.history.specs.Fold.{MayFold};
-ghost use Rattle.history.specs.GoodBase.{most_folded};
 ghost use Rattle.history.specs.Pages.{in_pages};
 
 use crate::base::Base;
@@ -19,7 +19,7 @@ pub(crate) fn fold_onto(base: &mut Option<Base>, entries: &Pages, count: u64) ->
     requires count { count ≡ length (reverse entries.now.entries) }
     ensures folded { IsTrue result →
         base.new ≡ option_map (λ base. folded base (reverse entries.now.entries)) base.old }
-    ensures full { IsFalse result ↔ IsSomeAnd base.old (λ base. most_folded < base.entries + count) }
+    ensures full { IsFalse result ↔ IsSomeAnd base.old (λ base. MOST_FOLDED < base.entries + count) }
     ensures stays { IsFalse result → base.new ≡ base.old }
 {
     match base {
@@ -38,7 +38,7 @@ pub(crate) fn fold_onto(base: &mut Option<Base>, entries: &Pages, count: u64) ->
 /// Folds the entries of pages into a base, and then those at hand.
 fn fold_parts(base: &mut Base, pages: &[Page], hand: &[Entry])
     requires may { MayFold base.old (reverse (in_pages pages.now ++ hand.now)) }
-    requires few { base.old.entries + length (reverse (in_pages pages.now ++ hand.now)) ≤ most_folded }
+    requires few { base.old.entries + length (reverse (in_pages pages.now ++ hand.now)) ≤ MOST_FOLDED }
     ensures { base.new ≡ folded base.old (reverse (in_pages pages.now ++ hand.now)) }
 {
     fold_pages(base, pages);
@@ -48,7 +48,7 @@ fn fold_parts(base: &mut Base, pages: &[Page], hand: &[Entry])
 /// Folds the entries of pages into a base, page by page.
 fn fold_pages(base: &mut Base, pages: &[Page])
     requires may { MayFold base.old (reverse (in_pages pages.now)) }
-    requires few { base.old.entries + length (reverse (in_pages pages.now)) ≤ most_folded }
+    requires few { base.old.entries + length (reverse (in_pages pages.now)) ≤ MOST_FOLDED }
     ensures { base.new ≡ folded base.old (reverse (in_pages pages.now)) }
 {
     for page in pages {
@@ -59,7 +59,7 @@ fn fold_pages(base: &mut Base, pages: &[Page])
 /// Folds entries into a base, the oldest first.
 fn fold_entries(base: &mut Base, entries: &[Entry])
     requires may { MayFold base.old (reverse entries.now) }
-    requires few { base.old.entries + length (reverse entries.now) ≤ most_folded }
+    requires few { base.old.entries + length (reverse entries.now) ≤ MOST_FOLDED }
     ensures { base.new ≡ folded base.old (reverse entries.now) }
 {
     for entry in entries {

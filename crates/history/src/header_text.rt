@@ -11,6 +11,7 @@ ghost use Rattle.history.specs.declared.header.Object.TheVariants.{Lock, ReadWri
 
 use crate::fault::Fault;
 use crate::header::{Header, Object, Policy};
+use crate::limits::{LEAST_CAP, MOST_AMOUNT, MOST_CONDITIONS, MOST_SEATS};
 use crate::number::{put_number, put_permits};
 use crate::words::Words;
 use std::alloc::AllocError;
@@ -25,9 +26,9 @@ fn lock(words: &mut Words<'_>, read_write: bool) -> Option<Header>
         × ((if read_write then codes "rw" else codes "lock") ∷ words.old ≡ part_words h ++ words.new)) }
 {
     let policy = words.policy()?;
-    let seats = words.named(b"seats", 1, 256)?;
-    let conditions = words.named(b"conditions", 0, 16)?;
-    let cap = words.named(b"cap", 16, LARGEST_CAP)?;
+    let seats = words.named(b"seats", 1, MOST_SEATS as u64)?;
+    let conditions = words.named(b"conditions", 0, MOST_CONDITIONS as u64)?;
+    let cap = words.named(b"cap", LEAST_CAP as u64, LARGEST_CAP)?;
     let object = if read_write {
         Object::ReadWrite(policy)
     } else {
@@ -48,10 +49,10 @@ fn semaphore(words: &mut Words<'_>) -> Option<Header>
         × (codes "semaphore" ∷ words.old ≡ part_words h ++ words.new)) }
 {
     let policy = words.policy()?;
-    let seats = words.named(b"seats", 1, 256)?;
+    let seats = words.named(b"seats", 1, MOST_SEATS as u64)?;
     words.expect(b"permits")?;
     let permits = words.permits()?;
-    let cap = words.named(b"cap", 16, LARGEST_CAP)?;
+    let cap = words.named(b"cap", LEAST_CAP as u64, LARGEST_CAP)?;
     Some(Header {
         object: Object::Semaphore(policy, permits),
         seats: seats as u16,
@@ -66,9 +67,9 @@ fn latch(words: &mut Words<'_>) -> Option<Header>
     ensures found { IfSome result (λ h. IsInRange h ×
         (codes "latch" ∷ words.old ≡ part_words h ++ words.new)) }
 {
-    let seats = words.named(b"seats", 1, 256)?;
-    let count = words.named(b"count", 0, 2_147_483_647)?;
-    let cap = words.named(b"cap", 16, LARGEST_CAP)?;
+    let seats = words.named(b"seats", 1, MOST_SEATS as u64)?;
+    let count = words.named(b"count", 0, MOST_AMOUNT as u64)?;
+    let cap = words.named(b"cap", LEAST_CAP as u64, LARGEST_CAP)?;
     Some(Header {
         object: Object::Latch(count as u32),
         seats: seats as u16,

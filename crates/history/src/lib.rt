@@ -17,6 +17,7 @@ pub mod header;
 pub mod header_text;
 pub mod holds;
 pub mod laws;
+pub mod limits;
 pub mod number;
 mod page;
 mod pages;

@@ -6,6 +6,7 @@ ghost use Rattle.std.specs.Fmt.{signed_decimal};
 ghost use Rattle.std.specs.Prelude.{FitsSigned, drop};
 ghost use Rattle.std.specs.Prelude.{◌≡◌, ◌≢◌, ℕ, ◌+◌, ◌<◌, ◌≤◌, ◌^◌, ◌++◌, IfSome, IfNone, OnOk, OnErr, decimal, length, take};
 
+use crate::limits::MOST_AMOUNT;
 use crate::pieces::{put_byte, put_bytes};
 use itoa::Buffer;
 use std::alloc::AllocError;
@@ -67,7 +68,7 @@ pub(crate) fn permits_of(bytes: &[u8]) -> Option<i32>
         }
         _ => {
             let number = number_of(bytes)?;
-            if number <= 2_147_483_647 {
+            if number <= MOST_AMOUNT as u64 {
                 Some(number as i32)
             } else {
                 None

@@ -3,6 +3,7 @@ use Rattle.std.proofs.Common.{◌≡◌, ◌≢◌, ℕ, ◌+◌, ◌*◌, ◌�
 use Rattle.std.proofs.lemmas.Bool.{false≢true}
 use Rattle.std.specs.Prelude.{pos, ◌≤ℤ◌}
 use Rattle.std.proofs.lemmas.Int.{ints}
+use Rattle.history.specs.declared.limits.TheConstants.{MOST_AMOUNT}
 use Rattle.history.specs.declared.arrival.Arrival.{Arrival}
 use Rattle.history.specs.declared.entry.Entry.{Entry}
 use Rattle.history.specs.declared.entry.Mode.TheVariants.{X, S}
@@ -78,19 +79,19 @@ slept_away_illegal legal =
     (plain 0 word.Await S 1) legal.0.1 in
     false≢true k.0.lock
 
-pub released_past : free (opening semaphore) released_too_many ≤ℤ pos 2147483647 → ⊥
+pub released_past : free (opening semaphore) released_too_many ≤ℤ pos MOST_AMOUNT → ⊥
 released_past l = absurd (omega (arith, ints, l))
 
 pub released_illegal : IsLegal (opening semaphore) released_too_many → ⊥
 released_illegal legal =
-    let k : Known (opening semaphore) [] (plain 0 word.Gave S 2147483647) =
-    known (opening semaphore) [] legal.0.0 (plain 0 word.Gave S 2147483647) legal.0.1 in
+    let k : Known (opening semaphore) [] (plain 0 word.Gave S MOST_AMOUNT) =
+    known (opening semaphore) [] legal.0.0 (plain 0 word.Gave S MOST_AMOUNT) legal.0.1 in
     not_gave k.1
   where
     not_gave : word.Refused fault.TooManyPermits ≡ word.Gave → ⊥
     not_gave q = cc
 
-pub drained_past : held (opening semaphore) drained_too_many 0 S ≤ 2147483647 * length drained_too_many → ⊥
+pub drained_past : held (opening semaphore) drained_too_many 0 S ≤ MOST_AMOUNT * length drained_too_many → ⊥
 drained_past l = absurd (omega (arith, l))
 
 pub drained_illegal : IsLegal (opening semaphore) drained_too_many → ⊥

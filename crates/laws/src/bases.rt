@@ -2,6 +2,7 @@
 
 ghost use Rattle.std.specs.Prelude.{◌≡◌, ◌≢◌, ◌↔◌, ◌+◌, ◌<◌, ◌≤◌, ℕ, List, [], ◌∷◌, ◌++◌, length, true};
 ghost use Rattle.std.specs.List.{AllByRecursion};
+ghost use Rattle.history.specs.declared.limits.TheConstants.{MOST_FOLDED};
 ghost use Rattle.history.specs.declared.entry.Entry.{Entry};
 ghost use Rattle.history.specs.declared.entry.Mode.TheVariants.{X};
 ghost use Rattle.history.specs.declared.header.Header.{Header};
@@ -10,7 +11,7 @@ ghost use Rattle.history.specs.declared.step.Step.{Step};
 ghost use Rattle.history.specs.Base.{Base, based, folded, opening_base};
 ghost use Rattle.history.specs.Conservation.{IsConserved};
 ghost use Rattle.history.specs.Counts.{count, free, held, unheld};
-ghost use Rattle.history.specs.GoodBase.{IsGood, IsModest, most_folded};
+ghost use Rattle.history.specs.GoodBase.{IsGood, IsModest};
 ghost use Rattle.history.specs.Header.{IsInRange};
 ghost use Rattle.history.specs.Legal.{AreSeated, IsLegal, calls};
 ghost use Rattle.history.specs.Line.{line};
@@ -87,7 +88,7 @@ pub fn a_base_can_be_folded()
 pub fn a_fold_goes_on_entry_by_entry()
     ensures one { (b : Base) (e : Entry) → CanFold b (e ∷ []) → folded b (e ∷ []) ≡ next_base b e }
     ensures more { (b : Base) (g : List Entry) (e : Entry) → IsInRange b.header → IsModest b →
-        b.entries + length g ≤ most_folded → CanFold b (e ∷ g) →
+        b.entries + length g ≤ MOST_FOLDED → CanFold b (e ∷ g) →
         folded b (e ∷ g) ≡ next_base (folded b g) e }
 {}
 
@@ -95,9 +96,9 @@ pub fn a_fold_goes_on_entry_by_entry()
 /// stay few where each entry folded moved no more than a request may be for, as from an opening on.
 pub fn the_fold_of_legal_entries_is_good()
     ensures good { (b : Base) (g : List Entry) → IsInRange b.header → CanFold b g →
-        b.entries + length g ≤ most_folded → IsModest b → IsGood (folded b g) }
+        b.entries + length g ≤ MOST_FOLDED → IsModest b → IsGood (folded b g) }
     ensures modest { (b : Base) (g : List Entry) → IsInRange b.header → CanFold b g →
-        b.entries + length g ≤ most_folded → IsModest b → IsModest (folded b g) }
+        b.entries + length g ≤ MOST_FOLDED → IsModest b → IsModest (folded b g) }
     ensures opening { (k : Header) → IsModest (opening_base k) }
 {}
 

@@ -1,8 +1,8 @@
 use Rattle.std.proofs.Common.{◌+◌, ◌≤◌, length, reverse, ap, subst, sym, ◌∙◌}
 use Rattle.std.proofs.lemmas.List.{reverse-append}
+use Rattle.history.specs.declared.limits.TheConstants.{MOST_FOLDED}
 use Rattle.history.specs.Base.{Base, folded}
 use Rattle.history.specs.Fold.{MayFold}
-use Rattle.history.specs.GoodBase.{most_folded}
 use Rattle.history.specs.Pages.{in_pages}
 use Rattle.history.proofs.FoldSteps.{folds_more, may_begin, may_go_on}
 use Rattle.history.proofs.fold.fold_parts.Goals as goal
@@ -13,7 +13,7 @@ fold_pages-requires-clause-may c =
     let parts = reverse-append (in_pages c.args.pages.now) c.args.hand.now in
     may_begin b (reverse c.args.hand.now) (reverse (in_pages c.args.pages.now))
     (subst (MayFold b) parts c.requires.may)
-    (subst (λ h. b.entries + length h ≤ most_folded) parts c.requires.few)
+    (subst (λ h. b.entries + length h ≤ MOST_FOLDED) parts c.requires.few)
 
 pub fold_entries-requires-clause-may : goal.fold_entries-requires-clause-may
 fold_entries-requires-clause-may c =
@@ -22,7 +22,7 @@ fold_entries-requires-clause-may c =
     subst (λ (now : Base). MayFold now (reverse c.args.hand.now)) (sym c.fold_pages.ensures)
     (may_go_on b (reverse c.args.hand.now) (reverse (in_pages c.args.pages.now))
     (subst (MayFold b) parts c.requires.may)
-    (subst (λ h. b.entries + length h ≤ most_folded) parts c.requires.few))
+    (subst (λ h. b.entries + length h ≤ MOST_FOLDED) parts c.requires.few))
 
 pub returns : goal.returns
 returns c =
@@ -32,5 +32,5 @@ returns c =
     ∙ ap (λ (now : Base). folded now (reverse c.args.hand.now)) c.fold_pages.ensures
     ∙ folds_more b (reverse c.args.hand.now) (reverse (in_pages c.args.pages.now))
     (subst (MayFold b) parts c.requires.may)
-    (subst (λ h. b.entries + length h ≤ most_folded) parts c.requires.few)
+    (subst (λ h. b.entries + length h ≤ MOST_FOLDED) parts c.requires.few)
     ∙ ap (folded b) (sym parts)

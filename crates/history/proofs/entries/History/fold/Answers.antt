@@ -1,10 +1,10 @@
 use Rattle.std.proofs.Common.{true, false, ◌≡◌, ◌+◌, ◌<◌, [], reverse, subst, sym, ◌∙◌, refl}
 use Rattle.std.proofs.lemmas.List.{length-reverse}
 use Rattle.std.specs.Prelude.{IsSomeAnd, Option}
+use Rattle.history.specs.declared.limits.TheConstants.{MOST_FOLDED}
 use Rattle.history.specs.Base.{Base}
 use Rattle.history.specs.Entries.{HistoryView}
 use Rattle.history.specs.Fold.{MayFold}
-use Rattle.history.specs.GoodBase.{most_folded}
 use Rattle.history.proofs.FoldSteps.{may_next}
 use Rattle.history.proofs.entries.History.fold.Goals as goal
 
@@ -14,7 +14,7 @@ returns-clause-goes_on c =
     let h = reverse a.pages.entries in
     let may = subst (λ (v : HistoryView). IsSomeAnd v.base (λ b. MayFold b v.entries)) (sym c.self.view_is)
     c.requires in
-    let room : IsSomeAnd a.base (λ (b : Base). most_folded < b.entries + c.len-count.result) → ⊥ =
+    let room : IsSomeAnd a.base (λ (b : Base). MOST_FOLDED < b.entries + c.len-count.result) → ⊥ =
     λ t. (let q : true ≡ false = c.if-not-fold_onto.ensures.full.1 t in cc) in
     subst (λ (o : Option Base). IsSomeAnd o (λ b. MayFold b [])) (sym (c.if-not-fold_onto.ensures.folded refl))
     (may_next a.base h c.len-count.result may (c.len-count.ensures.value ∙ sym (length-reverse a.pages.entries))
