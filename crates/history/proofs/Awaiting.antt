@@ -37,7 +37,7 @@ comes i (x ∷ xs) t = by (eqb x i) refl t (λ u. comes i xs u)
     by true q u ih = ap (λ k. Some (coming_back k)) (eqb-true x i q)
     by false q u ih = ih u
 
-comes_not : (i : ℕ) (xs : List ℕ) → has i xs ≡ false → place_of i (map coming_back xs) ≡ None
+pub comes_not : (i : ℕ) (xs : List ℕ) → has i xs ≡ false → place_of i (map coming_back xs) ≡ None
 comes_not i [] t = refl
 comes_not i (x ∷ xs) t = by (eqb x i) t (λ u. comes_not i xs u)
   where

@@ -122,7 +122,7 @@ words_are_read seat word.Counted m n at e has le c15 =
     rw (has.0, has.1, has.2, has.3, counted_again seat) refl
 words_are_read seat word.Drained m n at e has le c15 = rw (has.0, has.1, has.2, drained_again seat n le) refl
 
-mode_plain : (m : Mode) → is_plain (mode_word m) ≡ true
+pub mode_plain : (m : Mode) → is_plain (mode_word m) ≡ true
 mode_plain X = refl
 mode_plain S = refl
 

@@ -50,7 +50,7 @@ sum_of_split f (suc n) (x ∷ xs) =
 
 -- A list without a seat that it lacks is that list. The sum over one without a seat that stands in it once
 -- lacks that seat's term.
-without_none : (i : ℕ) (seats : List ℕ) → has i seats ≡ false → without i seats ≡ seats
+pub without_none : (i : ℕ) (seats : List ℕ) → has i seats ≡ false → without i seats ≡ seats
 without_none i [] none = refl
 without_none i (j ∷ seats) none = by (eqb j i) none (λ n. without_none i seats n)
   where

@@ -153,7 +153,7 @@ lessens_by o word.Await n x t = omega arith
 lessens_by o _ n x t = omega arith
 
 -- a lock is held once by each take
-lock_holds : (o : Object) (n : ℕ) → is_lock o ≡ true → in_holds o n ≡ 1
+pub lock_holds : (o : Object) (n : ℕ) → is_lock o ≡ true → in_holds o n ≡ 1
 lock_holds (Lock p) n t = refl
 lock_holds (ReadWrite p) n t = refl
 lock_holds (Semaphore p c) n t = cc
@@ -227,7 +227,7 @@ other_mode s e h i m n p t = by (eqb e.seat i) _ (ap (λ x. same_mode x n) p ∙
     by true c q = rw q refl
     by false c q = refl
 
-total_less : (n : ℕ) (f g : ℕ → ℕ) → ((i : ℕ) → f i ≤ g i) → total n f ≤ total n g
+pub total_less : (n : ℕ) (f g : ℕ → ℕ) → ((i : ℕ) → f i ≤ g i) → total n f ≤ total n g
 total_less zero f g less = omega arith
 total_less (suc n) f g less = let ih = total_less n f g less in let l = less n in omega (arith, ih, l)
 

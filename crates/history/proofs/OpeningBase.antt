@@ -40,7 +40,7 @@ module _ (k : Header) where
   no_sleepers : (c : ℕ) → sleepers_of (opening_base k) c ≡ []
   no_sleepers c = get_or-same k.conditions [] c
 
-  nothing_summed : (f : SeatBase → ℕ) → f nothing ≡ 0 →
+  pub nothing_summed : (f : SeatBase → ℕ) → f nothing ≡ 0 →
       total k.seats (λ i. f (seat_of (opening_base k) i)) ≡ 0
   nothing_summed f z =
       total_same k.seats (λ i. f (seat_of (opening_base k) i)) (λ i. 0) (λ i. ap f (no_seat i) ∙ z)

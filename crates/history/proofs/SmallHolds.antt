@@ -1,7 +1,7 @@
 -- What is held behind legal entries on a good base, and asked for in its line, is small.
 use Rattle.std.proofs.Common.{◌≡◌, ⊎_elim, ℕ, ◌+◌, ◌*◌, ◌<◌, ◌≤◌, List, [], ◌∷◌, length, map, refl, ap, arith}
 use Rattle.std.specs.List.{AllByRecursion}
-use Rattle.history.specs.declared.limits.TheConstants.{MOST_HOLDS, MOST_BASE_PERMITS}
+use Rattle.history.specs.declared.limits.TheConstants.{MOST_AMOUNT, MOST_BASE_PERMITS, MOST_HOLDS}
 use Rattle.history.specs.declared.arrival.Arrival.{Arrival}
 use Rattle.history.specs.declared.base.Standing.{Standing}
 use Rattle.history.specs.declared.entry.Entry.{Entry}
@@ -46,7 +46,7 @@ module _ (b : Base) (h : List Entry) (can : CanFold b h) where
   exclusive_small i = exclusive_of b.header.object refl can.good.held i
 
   shared_of : IsInRange b.header → (o : Object) → b.header.object ≡ o → AreHeld o b → (i : ℕ) →
-      i < b.header.seats → held (based b) h i S ≤ MOST_BASE_PERMITS + 2147483647 * length h
+      i < b.header.seats → held (based b) h i S ≤ MOST_BASE_PERMITS + MOST_AMOUNT * length h
   shared_of range (Lock p) q v i l =
       let all = (owned_behind b can.good h (ap is_lock q) can.legal can.seated).shared in
       let part = total_part b.header.seats (λ j. held (based b) h j S) i l in
@@ -68,10 +68,10 @@ module _ (b : Base) (h : List Entry) (can : CanFold b h) where
       omega (arith, none)
 
   pub shared_small : IsInRange b.header → (i : ℕ) → i < b.header.seats →
-      held (based b) h i S ≤ MOST_BASE_PERMITS + 2147483647 * length h
+      held (based b) h i S ≤ MOST_BASE_PERMITS + MOST_AMOUNT * length h
   shared_small range i l = shared_of range b.header.object refl can.good.held i l
 
-stand_few : (b : Base) (q : List Standing) → AllByRecursion (StandsWell b) q →
+pub stand_few : (b : Base) (q : List Standing) → AllByRecursion (StandsWell b) q →
     AllByRecursion AsksFew (map (λ p. p.who) q)
 stand_few b [] all = tt
 stand_few b (p ∷ q) all = (

@@ -1,11 +1,10 @@
 -- What a history's list is to its callers.
-use Rattle.std.specs.Prelude.{◌≡◌, ℕ, ◌+◌, ◌^◌, ◌<◌, ◌≤◌, if◌then◌else◌, List, [], ◌∷◌, length, reverse, Option, Some, None}
+use Rattle.std.specs.Prelude.{◌≡◌, ℕ, ◌+◌, if◌then◌else◌, List, [], ◌∷◌, Option, Some, None}
 use Rattle.history.specs.declared.entry.Entry.{Entry}
 use Rattle.history.specs.declared.header.Header.{Header}
 use Rattle.history.specs.Base.{Base, based, opening_base}
 use Rattle.history.specs.Entry.{ends_call}
 use Rattle.history.specs.GoodBase.{IsGood}
-use Rattle.history.specs.Pages.{PagesView}
 use Rattle.history.specs.Start.{Start}
 
 pub record HistoryView : Type 0 where
@@ -38,14 +37,6 @@ base_on k v = or_opening k v.base
 
 abbrev pub start_on : Header → HistoryView → Start
 start_on k v = based (base_on k v)
-
--- What a history keeps beside its pages is so.
-pub record IsKept (pages : PagesView) (cap owed calls : ℕ) : Type 0 where
-  pub reserved : length pages.entries + owed ≤ pages.places
-  pub within_cap : length pages.entries + owed ≤ cap
-  pub short : cap < 2 ^ 32
-  pub bounded : pages.places < cap + 1024
-  pub counted : calls ≡ ended_calls (reverse pages.entries)
 
 -- it has no base, or a good one of this header
 abbrev pub IsBasedWell : Header → Option Base → Type 0

@@ -1,31 +1,6 @@
--- How the entries of a history stand in pages. A page has 1,024 places, and is full before the next begins.
-use Rattle.std.specs.Prelude.{◌≡◌, ◌⊎◌, ℕ, zero, suc, ◌+◌, ◌*◌, ◌/◌, ◌<◌, ◌≤◌, ◌^◌, List, [], ◌∷◌, ◌++◌, length}
-use Rattle.history.specs.declared.entry.Entry.{Entry}
-
--- the entries, the oldest first, and how many the reserved pages hold
-pub record PagesView : Type 0 where
-  pub entries : List Entry
-  pub places : ℕ
+-- The pages of a history. A page has 1,024 places.
+use Rattle.std.specs.Prelude.{ℕ, ◌+◌, ◌*◌, ◌/◌}
 
 -- the least multiple of 1,024 that is at least n: the places of the pages that n entries take
 abbrev pub whole_pages : ℕ → ℕ
 whole_pages n = (n + 1023) / 1024 * 1024
-
--- the entries of all pages, the oldest first
-abbrev pub in_pages : List (List Entry) → List Entry
-in_pages [] = []
-in_pages (page ∷ pages) = page ++ in_pages pages
-
--- n of these pages are full, and then all are empty
-abbrev pub AreFull : ℕ → List (List Entry) → Type 0
-AreFull zero [] = Unit {0}
-AreFull zero (page ∷ pages) = (page ≡ []) × AreFull zero pages
-AreFull (suc n) [] = ⊥
-AreFull (suc n) (page ∷ pages) = (length page ≡ 1024) × AreFull n pages
-
--- What stands in the pages is so. Without a page at hand there is none.
-pub record AreKept (others : List (List Entry)) (full : ℕ) (hand : List Entry) (room : ℕ) : Type 0 where
-  pub full_first : AreFull full others
-  pub fits : length hand ≤ room
-  pub page : (room ≡ 1024) ⊎ ((room ≡ 0) × (others ≡ []))
-  pub few : 1024 * length others + room < 2 ^ 33

@@ -41,7 +41,8 @@ pub struct History {
 
 impl Model for History {
     ghost use Rattle.std.specs.Prelude.{reverse};
-    ghost use Rattle.history.specs.Entries.{HistoryView, IsKept};
+    ghost use Rattle.history.specs.Entries.{HistoryView};
+    ghost use Rattle.history.specs.Paged.{IsKept};
 
     ghost Value = { HistoryView };
 

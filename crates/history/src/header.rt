@@ -57,11 +57,11 @@ pub enum Object {
 #[derive(Clone, Copy, Debug, PartialEq, Eq)]
 pub struct Header {
     pub object: Object,
-    /// 1 to 256.
+    /// 1 to `MOST_SEATS`.
     pub seats: u16,
-    /// 0 to 16 for a lock or read-write lock, 0 for the others.
+    /// 0 to `MOST_CONDITIONS` for a lock or read-write lock, 0 for the others.
     pub conditions: u8,
-    /// 16 to 4294967295.
+    /// `LEAST_CAP` or more.
     pub cap: u32,
 }
 

@@ -1,7 +1,8 @@
 //! Entries in pages, one of them at hand.
 
 ghost use Rattle.std.specs.Prelude.{◌≡◌, ◌+◌, ◌*◌, ◌^◌, ◌<◌, ◌≤◌, ◌++◌, max, [], ◌∷◌, length, set, get_or, slice_get, IsOk, OnOk, OnErr, vec_capacity};
-ghost use Rattle.history.specs.Pages.{in_pages, whole_pages};
+ghost use Rattle.history.specs.Pages.{whole_pages};
+ghost use Rattle.history.specs.Paged.{in_pages};
 
 use crate::entry::Entry;
 use crate::page::{PLACES, Page, clear_pages, reserve_pages};
@@ -24,7 +25,7 @@ pub(crate) struct Pages {
 
 impl Model for Pages {
     ghost use Rattle.std.specs.Prelude.{◌+◌, ◌*◌, ◌++◌, length, vec_capacity};
-    ghost use Rattle.history.specs.Pages.{AreKept, PagesView, in_pages};
+    ghost use Rattle.history.specs.Paged.{AreKept, PagesView, in_pages};
 
     ghost Value = { PagesView };
 

@@ -2,7 +2,7 @@ use Rattle.std.proofs.Common.{arith, ◌≡◌, ◌+◌, ◌*◌, ◌<◌, List,
 use Rattle.std.proofs.lemmas.List.{length-set}
 use Rattle.std.specs.Prelude.{vec_capacity}
 use Rattle.history.specs.declared.entry.Entry.{Entry}
-use Rattle.history.specs.Pages.{AreKept, PagesView, in_pages}
+use Rattle.history.specs.Paged.{AreKept, PagesView, in_pages}
 use Rattle.history.proofs.Paging.{all_written, at_hand, entries_begin, hand_small, kept_begin, kept_full, next_empty, next_within}
 use Rattle.history.proofs.pages.Pages.add.Goals as goal
 
