@@ -1,11 +1,9 @@
--- Entries are kept one by one, and counted.
-use Rattle.std.proofs.Common.{◌≡◌, ℕ, ◌+◌, ◌<◌, List, [], ◌∷◌, ◌++◌, length, take, get_or, None, Some, sym, ap, ◌∙◌, append_assoc}
+-- Entries are kept one by one.
+use Rattle.std.proofs.Common.{◌≡◌, ℕ, ◌+◌, List, [], ◌∷◌, ◌++◌, take, None, Some, sym, ap, ◌∙◌, append_assoc}
 use Rattle.std.specs.List.{slice_get}
 use Rattle.std.proofs.lemmas.List.{take_more}
 use Rattle.std.proofs.lemmas.Option.{get_or_from_slice_get, slice_get_within}
 use Rattle.history.specs.declared.entry.Entry.{Entry}
-use Rattle.history.specs.Entries.{ended_calls}
-use Rattle.history.proofs.Lists.{ended_append}
 use Rattle.history_text.proofs.HistoryWriting.{past}
 
 pub one_kept : (old mid new xs : List Entry) (i : ℕ) (e : Entry) → slice_get xs i ≡ Some e →
@@ -20,8 +18,3 @@ one_kept old mid new xs i e at was is =
 pub all_kept : (old new xs : List Entry) (i : ℕ) → slice_get xs i ≡ None → new ≡ old ++ take i xs →
     new ≡ old ++ xs
 all_kept old new xs i none is = is ∙ ap (λ (es : List Entry). old ++ es) (past xs i none)
-
--- one more is counted
-pub one_counted : (xs : List Entry) (i : ℕ) (d : Entry) → i < length xs →
-    ended_calls (take (i + 1) xs) ≡ ended_calls (take i xs) + ended_calls (get_or xs i d ∷ [])
-one_counted xs i d lt = ap ended_calls (take_more xs i d lt) ∙ ended_append (take i xs) (get_or xs i d ∷ [])

@@ -3,9 +3,10 @@ use Rattle.std.specs.Prelude.{◌≡◌, ℕ, List, [], ◌++◌, Option, Result
 use Rattle.std.specs.Io.KnownBytes.{Appends, Keeps}
 use Rattle.history.specs.declared.entry.Entry.{Entry}
 use Rattle.history.specs.declared.header.Header.{Header}
-use Rattle.history.specs.Base.{Base}
+use Rattle.history.specs.Base.{Base, based}
 use Rattle.history.specs.Entries.{ended_calls}
 use Rattle.history.specs.GoodBase.{IsGood}
+use Rattle.history.specs.Legal.{calls}
 use Rattle.history.specs.Spelling.{part_of}
 use Rattle.history.specs.Text.{ended}
 use Rattle.history_text.specs.EntryLines.{counts_line}
@@ -33,10 +34,11 @@ pub record AllAnswers : Type 0 where
 abbrev pub all_of : AllAnswers → List Entry
 all_of a = a.past ++ reverse a.entries
 
--- These entries were folded into the base, which is good.
+-- These entries were folded into the base, which is good, and the base has their calls.
 pub record AreFolded (k : Header) (past : List Entry) (b : Base) : Type 0 where
   pub header : b.header ≡ k
   pub entries : b.entries ≡ length past
+  pub ended : calls (based b) [] ≡ ended_calls past
   pub good : IsGood b
 
 -- the first line of the lines of all entries

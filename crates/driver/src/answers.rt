@@ -19,7 +19,7 @@ use crate::form::Form;
 use crate::line_writer::LineWriter;
 use crate::remark::{Remark, Said};
 use crate::replay::Log;
-use history::entries::{History, ends_call};
+use history::entries::History;
 use history::entry::Entry;
 use history::step::Answer;
 use history_text::history_text::write_text;
@@ -176,7 +176,7 @@ impl Answers {
         ensures { result ≡ ended_calls (all_of self.now) }
     {
         let _few = self.history.len();
-        calls_in(&self.past) + self.history.calls()
+        self.history.calls()
     }
 
     /// Writes what was gathered, and all that follows the first line. No memory is taken.
@@ -199,18 +199,6 @@ impl Answers {
         lines.put_counts(writer, self.count(), self.calls())?;
         lines.flush(writer)
     }
-}
-
-/// How many of these entries end a call.
-fn calls_in(entries: &[Entry]) -> u64
-    ensures calls { result ≡ ended_calls entries.now }
-    ensures few { result ≤ length entries.now }
-{
-    let mut calls = 0;
-    for entry in entries {
-        calls += u64::from(ends_call(entry.word));
-    }
-    calls
 }
 
 /// What the first line of a replay text begins with.

@@ -4,7 +4,8 @@
 use Rattle.std.proofs.Common.{◌≡◌, ℕ, zero, suc, ◌+◌, ◌-◌, ◌==◌, Bool, true, false, ◌&&◌, ◌||◌, not, cond, eqb, List, [], ◌∷◌, ◌++◌, map, take, length, Option, Some, None, Result, Ok, Err, refl, ap, ◌∙◌, sym, subst, ⊎_elim, arith}
 use Rattle.std.specs.List.{filter, AllByRecursion}
 use Rattle.std.specs.Prelude.{ℤ, pos, ◌-ℤ◌, ◌+ℤ◌, int_le, int_lt}
-use Rattle.std.proofs.lemmas.Bool.{eq-eqb, or_right}
+use Rattle.std.proofs.lemmas.Bool.{eq-eqb, or_right, not-false}
+use Rattle.history.specs.declared.limits.TheConstants.{MOST_AMOUNT}
 use Rattle.history.specs.declared.arrival.Arrival.{Arrival}
 use Rattle.history.specs.declared.entry.End.TheVariants as end
 use Rattle.history.specs.declared.entry.Entry.{Entry}
@@ -98,7 +99,7 @@ module _ (n : ℕ) (had : ℕ → Mode → ℕ) (c : ℕ) (f f' : ℤ) (first : 
   gave_alike (Lock p) same m x = refl
   gave_alike (ReadWrite p) same m x = refl
   gave_alike (Semaphore p q) same m x =
-      ap (λ z. cond (int_lt (pos 2147483647) (z +ℤ pos x)) (word.Refused fault.TooManyPermits) word.Gave)
+      ap (λ z. cond (int_lt (pos MOST_AMOUNT) (z +ℤ pos x)) (word.Refused fault.TooManyPermits) word.Gave)
       (same refl)
   gave_alike (Latch q) same m x = refl
 
@@ -168,11 +169,7 @@ module _ (o : Object) (n : ℕ) (had : ℕ → Mode → ℕ) (c : ℕ) (f f' : �
   made_alike step.Drain right = ap (λ z. plain i word.Drained S (at_least_none z)) (same (drains right))
     where
       drains : not (is_semaphore o) ≡ false → is_semaphore o ≡ true
-      drains q = by (is_semaphore o) q
-        where
-          by : (b : Bool) → not b ≡ false → b ≡ true
-          by true r = refl
-          by false r = cc
+      drains q = not-false (is_semaphore o) q
   made_alike step.Look right = refl
   made_alike step.Expire right = refl
   made_alike step.Interrupt right = refl

@@ -2,12 +2,13 @@
 use Rattle.std.proofs.Common.{◌≡◌, ℕ, ◌≤◌, false, not, ◌&&◌, eqb, ltb, ltb-false, List, [], ◌∷◌, map, take, subst, sym, arith}
 use Rattle.std.specs.List.{AllByRecursion}
 use Rattle.std.proofs.lemmas.Bool.{or_parts}
+use Rattle.history.specs.declared.limits.TheConstants.{MOST_AMOUNT}
 use Rattle.history.specs.declared.arrival.Arrival.{Arrival}
 use Rattle.history.specs.declared.entry.Entry.{Entry}
 use Rattle.history.specs.declared.entry.Word.{Word}
 use Rattle.history.specs.declared.entry.Word.TheVariants as word
 use Rattle.history.specs.declared.header.Object.{Object}
-use Rattle.history.specs.Faults.{is_bad_number, max_amount}
+use Rattle.history.specs.Faults.{is_bad_number}
 use Rattle.history.specs.Legal.{IsLegal}
 use Rattle.history.specs.Line.{line, arrivals_by, coming_back}
 use Rattle.history.specs.Object.{is_semaphore}
@@ -18,13 +19,13 @@ use Rattle.history.proofs.LineLemmas.{line_after, line_at_first, stays}
 use Rattle.history.proofs.Times.{each-append, each-filter}
 
 -- what is asked for
-pub asked_few : (o : Object) (n : ℕ) → is_bad_number o n ≡ false → n ≤ max_amount
+pub asked_few : (o : Object) (n : ℕ) → is_bad_number o n ≡ false → n ≤ MOST_AMOUNT
 asked_few o n q =
-    ltb-false max_amount n (or_parts (ltb max_amount n) (not (is_semaphore o) && not (eqb n 1)) q).0
+    ltb-false MOST_AMOUNT n (or_parts (ltb MOST_AMOUNT n) (not (is_semaphore o) && not (eqb n 1)) q).0
 
 -- what those in line ask for
 abbrev pub AsksFew : Arrival → Type 0
-AsksFew a = a.n ≤ max_amount
+AsksFew a = a.n ≤ MOST_AMOUNT
 
 back_few : (xs : List ℕ) → AllByRecursion AsksFew (map coming_back xs)
 back_few [] = tt

@@ -1,5 +1,6 @@
 -- One who awaits sleeps on or is on its way back while others' entries come, and what its steps make.
 use Rattle.std.proofs.Common.{◌≡◌, ◌≢◌, ◌⊎◌, inl, inr, ⊎_elim, ℕ, Bool, true, false, ◌||◌, cond, eqb, List, [], ◌∷◌, ◌++◌, map, take, drop, Option, Some, None, Result, Ok, refl, ap, ◌∙◌, sym, subst, arith}
+use Rattle.history.proofs.OneWait.{last_sleep_own}
 use Rattle.std.proofs.lemmas.Bool.{cases_eq, eqb-true, eq-eqb, ne_eqb}
 use Rattle.history.specs.declared.arrival.Arrival.{Arrival}
 use Rattle.history.specs.declared.entry.End.{End}
@@ -36,7 +37,7 @@ comes i (x ∷ xs) t = by (eqb x i) refl t (λ u. comes i xs u)
     by true q u ih = ap (λ k. Some (coming_back k)) (eqb-true x i q)
     by false q u ih = ih u
 
-comes_not : (i : ℕ) (xs : List ℕ) → has i xs ≡ false → place_of i (map coming_back xs) ≡ None
+pub comes_not : (i : ℕ) (xs : List ℕ) → has i xs ≡ false → place_of i (map coming_back xs) ≡ None
 comes_not i [] t = refl
 comes_not i (x ∷ xs) t = by (eqb x i) t (λ u. comes_not i xs u)
   where
@@ -140,10 +141,6 @@ awaits_other s e h i w ne (inl r) = sleeps_other s e h i w ne r
 awaits_other s e h i w ne (inr r) = inr (returns_other s e h i w ne r)
 
 -- behind its await a seat sleeps
-own_sleep : (s : Start) (e : Entry) (h : List Entry) →
-    last_sleep s (e ∷ h) e.seat ≡ sleep_after e.word e (last_sleep s h e.seat)
-own_sleep s e h = rw (eq-eqb e.seat e.seat refl) refl
-
 pub falls_asleep : (s : Start) (h : List Entry) (step : Step) (e : Entry) →
     entry_for s h e.seat step ≡ Ok (Some e) →
     e.word ≡ word.Await → SleepsAs s (e ∷ h) e.seat (signalled e.at e.n)
@@ -162,7 +159,7 @@ falls_asleep s h step e made q =
       asleep = ap (has e.seat) list
           ∙ once_has e.seat (sleepers s h e.at ++ e.seat ∷ []) (omega (arith, p, one));
       condition = on.condition;
-      saved = own_sleep s e h ∙ ap (λ x. sleep_after x e (last_sleep s h e.seat)) q;
+      saved = last_sleep_own s e h ∙ ap (λ x. sleep_after x e (last_sleep s h e.seat)) q;
     }
 
 -- behind its lapse a sleeper is on its way back
@@ -172,7 +169,7 @@ lapse_returns s h i w how r =
     let e = lapse_from i w how in
     record {
       place = arrives_itself s e h i refl r.place ∙ rw (eq-eqb i i refl) refl;
-      saved = own_sleep s e h ∙ ap (λ (x : Sleep). lapsed x how) r.saved;
+      saved = last_sleep_own s e h ∙ ap (λ (x : Sleep). lapsed x how) r.saved;
     }
 
 -- what one who awaits makes of its steps

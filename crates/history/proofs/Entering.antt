@@ -1,5 +1,6 @@
 -- What is known of an entry of a legal history by its word.
 use Rattle.std.proofs.Common.{◌≡◌, ◌⊎◌, inl, inr, ℕ, Bool, true, false, not, cond, ltb, List, Option, Some, None, Result, Ok, Err, refl, ap, subst, ◌<◌, ◌≤◌, length, arith}
+use Rattle.std.proofs.lemmas.Option.{same_Some}
 use Rattle.std.proofs.lemmas.Bool.{cond_both, eqb-true, ltb-false, leb-false, or_parts, not-false}
 use Rattle.history.specs.declared.arrival.Arrival.{Arrival}
 use Rattle.history.specs.declared.entry.End.TheVariants as end
@@ -33,9 +34,6 @@ passed false f r x q = (refl, q)
 
 ok_same : {A : Type 0} {x y : A} → ◌≡◌ {A = Result A Fault} (Ok x) (Ok y) → x ≡ y
 ok_same q = cc
-
-some_same : {A : Type 0} {x y : A} → Some x ≡ Some y → x ≡ y
-some_same q = cc
 
 -- What lets a step of a seat through to its entry.
 pub record Admitted (s : Start) (h : List Entry) (i : ℕ) (step : Step) (e : Entry) : Type 0 where
@@ -279,7 +277,7 @@ idle_known s h i Interrupt idle mode condition amount suit = cc
 
 -- the entries of one who waits
 at_entry : (s : Start) (h : List Entry) (x e : Entry) → Some x ≡ Some e → Known s h x → Known s h e
-at_entry s h x e q p = subst (Known s h) (some_same q) p
+at_entry s h x e q p = subst (Known s h) (same_Some _ _ q) p
 
 granted_known : (s : Start) (h : List Entry) (i : ℕ) (a : Arrival) → a.back ≡ false →
     place_of i (line s h) ≡ Some a → is_seat (ready s h) i ≡ true →

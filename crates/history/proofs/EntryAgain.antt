@@ -1,6 +1,7 @@
 -- What an entry's words spell is read again.
 use Rattle.std.proofs.Common.{◌≡◌, ◌≢◌, ℕ, ◌^◌, ◌<◌, ◌≤◌, true, [], ◌∷◌, Some, refl, sym, ap, ◌∙◌, arith, decimal}
 use Rattle.std.specs.Prelude.{codes}
+use Rattle.history.specs.declared.limits.TheConstants.{MOST_AMOUNT}
 use Rattle.history.specs.declared.entry.Entry.{Entry}
 use Rattle.history.specs.declared.entry.End.{End}
 use Rattle.history.specs.declared.entry.End.TheVariants as end
@@ -18,23 +19,23 @@ use Rattle.history.specs.Reading.{Words}
 use Rattle.history.proofs.Numbers.{number_at_again}
 use Rattle.history.proofs.Plain.{is_plain, ArePlain, words_again, decimal_plain}
 
-asked_again : (m : Mode) (n : ℕ) (ws : Words) → n ≤ 2147483647 →
+asked_again : (m : Mode) (n : ℕ) (ws : Words) → n ≤ MOST_AMOUNT →
     asked_at (mode_word m ∷ decimal n ∷ ws) ≡ Some ((m, n), ws)
 unfolding asked_at
-asked_again X n ws le = rw (number_at_again 0 2147483647 n ws (omega arith) (omega arith) le) refl
-asked_again S n ws le = rw (number_at_again 0 2147483647 n ws (omega arith) (omega arith) le) refl
+asked_again X n ws le = rw (number_at_again 0 MOST_AMOUNT n ws (omega arith) (omega arith) le) refl
+asked_again S n ws le = rw (number_at_again 0 MOST_AMOUNT n ws (omega arith) (omega arith) le) refl
 
 condition_again : (c : ℕ) (ws : Words) → c ≤ 15 → condition_at (decimal c ∷ ws) ≡ Some (c, ws)
 unfolding condition_at
 condition_again c ws le = number_at_again 0 15 c ws (omega arith) (omega arith) le
 
-sleepers_again : (c n : ℕ) (ws : Words) → c ≤ 15 → n ≤ 2147483647 →
+sleepers_again : (c n : ℕ) (ws : Words) → c ≤ 15 → n ≤ MOST_AMOUNT →
     sleepers_at (decimal c ∷ decimal n ∷ ws) ≡ Some ((c, n), ws)
 unfolding sleepers_at
 sleepers_again c n ws c15 le =
     rw (
       condition_again c (decimal n ∷ ws) c15,
-      number_at_again 0 2147483647 n ws (omega arith) (omega arith) le,
+      number_at_again 0 MOST_AMOUNT n ws (omega arith) (omega arith) le,
     ) refl
 
 given_up_again : (e : End) → GaveUp e → given_up_at (end_word e ∷ []) ≡ Some (e, [])
@@ -66,12 +67,12 @@ recorded_again fault.TrimFull low = absurd (omega (arith, low))
 abbrev made : ℕ → Word → Mode → ℕ → ℕ → End → Entry
 made seat w m n at e = record { seat = seat; word = w; mode = m; n = n; at = at; end = e }
 
-left_again : (seat : ℕ) (m : Mode) (n : ℕ) (e : End) → n ≤ 2147483647 → GaveUp e →
+left_again : (seat : ℕ) (m : Mode) (n : ℕ) (e : End) → n ≤ MOST_AMOUNT → GaveUp e →
     left_at seat (mode_word m ∷ decimal n ∷ end_word e ∷ []) ≡ Some (made seat word.Left m n 0 e, [])
 unfolding left_at
 left_again seat m n e le gave = rw (asked_again m n (end_word e ∷ []) le, given_up_again e gave) refl
 
-refused_again : (seat : ℕ) (f : Fault) (m : Mode) (n : ℕ) → n ≤ 2147483647 → IsRecorded f →
+refused_again : (seat : ℕ) (f : Fault) (m : Mode) (n : ℕ) → n ≤ MOST_AMOUNT → IsRecorded f →
     refused_at seat (mode_word m ∷ decimal n ∷ fault_name f ∷ [])
     ≡ Some (made seat (word.Refused f) m n 0 end.None, [])
 unfolding refused_at
@@ -82,7 +83,7 @@ lapse_again : (seat c : ℕ) (e : End) → c ≤ 15 → GaveUp e →
 unfolding lapse_at
 lapse_again seat c e le gave = rw (condition_again c (end_word e ∷ []) le, given_up_again e gave) refl
 
-back_again : (seat c n : ℕ) (e : End) → c ≤ 15 → n ≤ 2147483647 → CameBack e →
+back_again : (seat c n : ℕ) (e : End) → c ≤ 15 → n ≤ MOST_AMOUNT → CameBack e →
     back_at seat (decimal c ∷ decimal n ∷ end_word e ∷ []) ≡ Some (made seat word.Back X n c e, [])
 unfolding back_at
 back_again seat c n e c15 le came =
@@ -93,15 +94,15 @@ counted_again : (seat : ℕ) → shared_at seat word.Counted 1 1 (codes "s" ∷ 
 unfolding shared_at
 counted_again seat = rw (number_at_again 1 1 1 [] (omega arith) (omega arith) (omega arith)) refl
 
-drained_again : (seat n : ℕ) → n ≤ 2147483647 →
-    shared_at seat word.Drained 0 2147483647 (codes "s" ∷ decimal n ∷ [])
+drained_again : (seat n : ℕ) → n ≤ MOST_AMOUNT →
+    shared_at seat word.Drained 0 MOST_AMOUNT (codes "s" ∷ decimal n ∷ [])
     ≡ Some (made seat word.Drained S n 0 end.None, [])
 unfolding shared_at
-drained_again seat n le = rw (number_at_again 0 2147483647 n [] (omega arith) (omega arith) le) refl
+drained_again seat n le = rw (number_at_again 0 MOST_AMOUNT n [] (omega arith) (omega arith) le) refl
 
 -- the words of each entry
 words_are_read : (seat : ℕ) (w : Word) (m : Mode) (n at : ℕ) (e : End) → HasWords w m n at e →
-    n ≤ 2147483647 → at ≤ 15 → entry_at seat (spelt w m n at e) ≡ Some (made seat w m n at e, [])
+    n ≤ MOST_AMOUNT → at ≤ 15 → entry_at seat (spelt w m n at e) ≡ Some (made seat w m n at e, [])
 unfolding entry_at named_entry_at
 words_are_read seat word.Got m n at e has le c15 = rw (has.0, has.1, asked_again m n [] le) refl
 words_are_read seat word.TryGot m n at e has le c15 = rw (has.0, has.1, asked_again m n [] le) refl
@@ -121,7 +122,7 @@ words_are_read seat word.Counted m n at e has le c15 =
     rw (has.0, has.1, has.2, has.3, counted_again seat) refl
 words_are_read seat word.Drained m n at e has le c15 = rw (has.0, has.1, has.2, drained_again seat n le) refl
 
-mode_plain : (m : Mode) → is_plain (mode_word m) ≡ true
+pub mode_plain : (m : Mode) → is_plain (mode_word m) ≡ true
 mode_plain X = refl
 mode_plain S = refl
 

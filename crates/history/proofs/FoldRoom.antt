@@ -2,12 +2,13 @@
 use Rattle.std.proofs.Common.{◌≡◌, ◌≢◌, ⊎_elim, ℕ, zero, suc, ◌+◌, ◌<◌, ◌≤◌, ◌^◌, [], ◌∷◌, ◌++◌, length, refl, ap, subst, ◌∙◌, arith}
 use Rattle.std.proofs.lemmas.Bool.{cases_eq}
 use Rattle.std.proofs.lemmas.List.{length-append, length-map}
+use Rattle.history.specs.declared.limits.TheConstants.{MOST_FOLDED}
 use Rattle.history.specs.declared.base.SeatBase.{SeatBase}
 use Rattle.history.specs.declared.entry.Entry.{Entry}
 use Rattle.history.specs.declared.entry.Word.TheVariants as word
 use Rattle.history.specs.Base.{Base, based, folded, seat_of, sleepers_of, standing_after}
 use Rattle.history.specs.BasePlaces.{HasPlaces}
-use Rattle.history.specs.GoodBase.{IsGood, IsModest, most_folded}
+use Rattle.history.specs.GoodBase.{IsGood, IsModest}
 use Rattle.history.specs.Header.{IsInRange}
 use Rattle.history.specs.Line.{line}
 use Rattle.history.specs.NextBase.{next_base, seat_then}
@@ -42,7 +43,7 @@ part_asleep (suc n) s c l =
     before ne ih = let i = ih (omega (arith, l, ne)) in omega (arith, both, i)
 
 module _ (b : Base) (e : Entry) (range : IsInRange b.header) (modest : IsModest b)
-    (few : b.entries + 1 ≤ most_folded) (can : CanFold b (e ∷ [])) where
+    (few : b.entries + 1 ≤ MOST_FOLDED) (can : CanFold b (e ∷ [])) where
   good : IsGood (folded b (e ∷ []))
   good = fold_good b (e ∷ []) range can (omega (arith, few)) modest
 

@@ -3,16 +3,16 @@ use Rattle.std.proofs.Common.{◌≡◌, ℕ, ◌+◌, ◌<◌, ◌≤◌, List,
 use Rattle.std.proofs.lemmas.List.{append-nil, append_assoc, length-append, reverse-append, take-append-drop, take_more}
 use Rattle.std.specs.Option.{option_map}
 use Rattle.std.specs.Prelude.{IsSomeAnd, Option, None, Some}
+use Rattle.history.specs.declared.limits.TheConstants.{MOST_FOLDED}
 use Rattle.history.specs.declared.entry.Entry.{Entry}
 use Rattle.history.specs.declared.header.Header.{Header}
 use Rattle.history.specs.Base.{Base, based, folded, opening_base}
 use Rattle.history.specs.BasePlaces.{HasPlaces}
 use Rattle.history.specs.Fold.{MayFold}
-use Rattle.history.specs.GoodBase.{most_folded}
 use Rattle.history.specs.Header.{IsInRange}
 use Rattle.history.specs.Legal.{AreSeated}
 use Rattle.history.specs.NextBase.{next_base}
-use Rattle.history.specs.Pages.{in_pages}
+use Rattle.history.specs.Paged.{in_pages}
 use Rattle.history.proofs.FoldRoom.{fold_places}
 use Rattle.history.proofs.Folding.{folds_on, legal_goes_on}
 use Rattle.history.proofs.GoodFolds.{fold_modest}
@@ -32,7 +32,7 @@ may_open k range =
 
 -- entries that may be folded, in two parts: first g, and then h
 module _ (b : Base) (h g : List Entry) (may : MayFold b (h ++ g))
-    (few : b.entries + length (h ++ g) ≤ most_folded) where
+    (few : b.entries + length (h ++ g) ≤ MOST_FOLDED) where
   seated : AreSeated (based b) g
   seated = seated_behind (based b) h g may.can.seated
 
@@ -48,7 +48,7 @@ module _ (b : Base) (h g : List Entry) (may : MayFold b (h ++ g))
         };
       }
 
-  pub few_begin : b.entries + length g ≤ most_folded
+  pub few_begin : b.entries + length g ≤ MOST_FOLDED
   few_begin = let l = length-append h g in omega (arith, few, l)
 
   pub may_go_on : MayFold (folded b g) h
@@ -59,7 +59,7 @@ module _ (b : Base) (h g : List Entry) (may : MayFold b (h ++ g))
         can = can_go_on b g h may.range may.modest few_begin may.can;
       }
 
-  pub few_go_on : b.entries + length g + length h ≤ most_folded
+  pub few_go_on : b.entries + length g + length h ≤ MOST_FOLDED
   few_go_on = let l = length-append h g in omega (arith, few, l)
 
   pub folds_more : folded (folded b g) h ≡ folded b (h ++ g)
@@ -67,7 +67,7 @@ module _ (b : Base) (h g : List Entry) (may : MayFold b (h ++ g))
 
 -- the fold of a history that has a base and not too many entries may fold what comes next
 pub may_next : (base : Option Base) (h : List Entry) (n : ℕ) → IsSomeAnd base (λ b. MayFold b h) →
-    n ≡ length h → (IsSomeAnd base (λ b. most_folded < b.entries + n) → ⊥) →
+    n ≡ length h → (IsSomeAnd base (λ b. MOST_FOLDED < b.entries + n) → ⊥) →
     IsSomeAnd (option_map (λ b. folded b h) base) (λ b. MayFold b [])
 may_next None h n may q room = absurd may
 may_next (Some b) h n may q room = may_go_on b [] h may (omega (arith, room, q))
@@ -85,7 +85,7 @@ split_reversed xs n =
     ap reverse (sym (take-append-drop n xs)) ∙ reverse-append (take n xs) (drop n xs)
 
 module _ (b : Base) (xs : List Entry) (may : MayFold b (reverse xs))
-    (few : b.entries + length (reverse xs) ≤ most_folded) (i : ℕ) (e d : Entry) (l : i < length xs)
+    (few : b.entries + length (reverse xs) ≤ MOST_FOLDED) (i : ℕ) (e d : Entry) (l : i < length xs)
     (is : e ≡ get_or xs i d) where
   abbrev pub g : List Entry
   g = reverse (take i xs)
@@ -96,13 +96,13 @@ module _ (b : Base) (xs : List Entry) (may : MayFold b (reverse xs))
   parts : reverse xs ≡ rest ++ (e ∷ g)
   parts = split_reversed xs (i + 1) ∙ ap (λ front. rest ++ front) (more_reversed xs i e d l is)
 
-  few_parts : b.entries + length (rest ++ (e ∷ g)) ≤ most_folded
-  few_parts = subst (λ h. b.entries + length h ≤ most_folded) parts few
+  few_parts : b.entries + length (rest ++ (e ∷ g)) ≤ MOST_FOLDED
+  few_parts = subst (λ h. b.entries + length h ≤ MOST_FOLDED) parts few
 
   may_here : MayFold b (e ∷ g)
   may_here = may_begin b rest (e ∷ g) (subst (MayFold b) parts may) few_parts
 
-  few_here : b.entries + length (e ∷ g) ≤ most_folded
+  few_here : b.entries + length (e ∷ g) ≤ MOST_FOLDED
   few_here = few_begin b rest (e ∷ g) (subst (MayFold b) parts may) few_parts
 
   pub entry_places : HasPlaces (folded b g) e
@@ -137,7 +137,7 @@ split_pages ps n =
     ∙ reverse-append (in_pages (take n ps)) (in_pages (drop n ps))
 
 module _ (b : Base) (ps : List (List Entry)) (may : MayFold b (reverse (in_pages ps)))
-    (few : b.entries + length (reverse (in_pages ps)) ≤ most_folded) (i : ℕ) (p d : List Entry)
+    (few : b.entries + length (reverse (in_pages ps)) ≤ MOST_FOLDED) (i : ℕ) (p d : List Entry)
     (l : i < length ps) (is : p ≡ get_or ps i d) where
   abbrev pub before : List Entry
   before = reverse (in_pages (take i ps))
@@ -148,19 +148,19 @@ module _ (b : Base) (ps : List (List Entry)) (may : MayFold b (reverse (in_pages
   pages_parts : reverse (in_pages ps) ≡ behind ++ (reverse p ++ before)
   pages_parts = split_pages ps (i + 1) ∙ ap (λ front. behind ++ front) (more_pages ps i p d l is)
 
-  few_pages : b.entries + length (behind ++ (reverse p ++ before)) ≤ most_folded
-  few_pages = subst (λ h. b.entries + length h ≤ most_folded) pages_parts few
+  few_pages : b.entries + length (behind ++ (reverse p ++ before)) ≤ MOST_FOLDED
+  few_pages = subst (λ h. b.entries + length h ≤ MOST_FOLDED) pages_parts few
 
   may_page : MayFold b (reverse p ++ before)
   may_page = may_begin b behind (reverse p ++ before) (subst (MayFold b) pages_parts may) few_pages
 
-  few_page : b.entries + length (reverse p ++ before) ≤ most_folded
+  few_page : b.entries + length (reverse p ++ before) ≤ MOST_FOLDED
   few_page = few_begin b behind (reverse p ++ before) (subst (MayFold b) pages_parts may) few_pages
 
   pub page_may : MayFold (folded b before) (reverse p)
   page_may = may_go_on b (reverse p) before may_page few_page
 
-  pub page_few : (folded b before).entries + length (reverse p) ≤ most_folded
+  pub page_few : (folded b before).entries + length (reverse p) ≤ MOST_FOLDED
   page_few = few_go_on b (reverse p) before may_page few_page
 
   pub page_folded : folded (folded b before) (reverse p) ≡ folded b (reverse (in_pages (take (i + 1) ps)))

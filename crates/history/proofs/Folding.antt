@@ -30,12 +30,11 @@ use Rattle.history.proofs.Alike.{Alike, ReturnAlike, alike_next, entry_alike}
 use Rattle.history.proofs.Entering.{known}
 use Rattle.history.proofs.GoodBases.{good_waits, sleep_of, slept_there, waits_once}
 use Rattle.history.proofs.LineLemmas.{line_at_first}
-use Rattle.history.proofs.ListSums.{total_agree}
 use Rattle.history.proofs.OneOwner.{cases_below}
 use Rattle.history.proofs.OneWait.{Sleeps, Waits, waits_from}
 use Rattle.history.proofs.Permits.{conserved_from}
 use Rattle.history.proofs.SleepLemmas.{held_other}
-use Rattle.history.proofs.Sums.{total_change}
+use Rattle.history.proofs.Sums.{total_change, total_agree}
 use Rattle.history.proofs.Times.{once_same, total_part}
 use Rattle.history.proofs.WhoWaits.{no_sleepers_above}
 

@@ -6,6 +6,7 @@ use Rattle.std.specs.Int.{w32}
 use Rattle.std.proofs.lemmas.Bool.{eq-eqb, or_right}
 use Rattle.std.proofs.lemmas.Int.{ints}
 use Rattle.std.proofs.lemmas.List.{get_or_past}
+use Rattle.history.specs.declared.limits.TheConstants.{MOST_AMOUNT, MOST_FOLDED}
 use Rattle.history.specs.declared.arrival.Arrival.{Arrival}
 use Rattle.history.specs.declared.base.Sleeper.{Sleeper}
 use Rattle.history.specs.declared.base.Standing.{Standing}
@@ -21,7 +22,7 @@ use Rattle.history.specs.Base.{Base, based, each_below, folded, seat_after, slee
 use Rattle.history.specs.Counts.{count, free, held, holds_after, total, unheld}
 use Rattle.history.specs.Entry.{same_mode}
 use Rattle.history.specs.Faults.{is_bad_number, lacks_mode}
-use Rattle.history.specs.GoodBase.{AreCounted, AreHeld, ArePermits, GaveUp, IsGood, IsModest, SleepsWell, StandsWell, most_folded}
+use Rattle.history.specs.GoodBase.{AreCounted, AreHeld, ArePermits, GaveUp, IsGood, IsModest, SleepsWell, StandsWell}
 use Rattle.history.specs.Header.{IsInRange}
 use Rattle.history.specs.Legal.{AreSeated, IsLegal, calls}
 use Rattle.history.specs.Line.{arrivals_by, coming_back, line}
@@ -40,7 +41,7 @@ use Rattle.history.proofs.LineLemmas.{line_after, line_at_first}
 use Rattle.history.proofs.Lists.{calls-ended, ended_calls_le}
 use Rattle.history.proofs.OneOwner.{Owned, cases_below, is_owned, owned_on, same_limit}
 use Rattle.history.proofs.OneWait.{Saved, SavedIfBack, Sleeps, Waits, acts, line_stays, placed, waits_from}
-use Rattle.history.proofs.Permits.{IsLow, created_fits, free_fits_on, held_grows, low_on, no_exclusive, unheld_grows, unheld_none}
+use Rattle.history.proofs.Permits.{IsLow, created_fits, free_fits_on, held_grows, low_on, no_exclusive, unheld_grows, unheld_none, fits_at_most}
 use Rattle.history.proofs.Queueing.{joining_owns_nothing}
 use Rattle.history.proofs.SleepLemmas.{held_other}
 use Rattle.history.proofs.Times.{each-append}
@@ -235,7 +236,7 @@ first_fits b range (Semaphore p c) q v t =
     by c (free (based b) []) (subst (FitsSigned w32) (ap created q) (created_fits b.header range
     (ap is_semaphore q))) v.lowest v.highest
   where
-    by : (c f : ℤ) → FitsSigned w32 c → IsLow c f → f ≤ℤ pos 2147483647 → FitsSigned w32 f
+    by : (c f : ℤ) → FitsSigned w32 c → IsLow c f → f ≤ℤ pos MOST_AMOUNT → FitsSigned w32 f
     by c f fits (inl low) high = omega (arith, ints)
     by c f fits (inr low) high = omega (arith, ints)
 first_fits b range (Lock p) q v t = absurd (cc)
@@ -251,7 +252,7 @@ free_fits_base b h range can t =
 
 -- the fold, rule by rule
 module _ (b : Base) (g : List Entry) (range : IsInRange b.header) (can : CanFold b g)
-    (few : b.entries + length g ≤ most_folded) (modest : IsModest b) where
+    (few : b.entries + length g ≤ MOST_FOLDED) (modest : IsModest b) where
   waits : Waits (based b) g
   waits = waits_from (based b) g (good_waits b can.good) can.legal
 
@@ -278,7 +279,7 @@ module _ (b : Base) (g : List Entry) (range : IsInRange b.header) (can : CanFold
   fits_first t = first_fits b range b.header.object refl can.good.held t
 
   shared_few : is_semaphore b.header.object ≡ true → (i : ℕ) →
-      held (based (folded b g)) [] i S ≤ 2147483647 * (b.entries + length g)
+      held (based (folded b g)) [] i S ≤ MOST_AMOUNT * (b.entries + length g)
   shared_few t i =
       let l = held_grows (based b) g t (good_waits b can.good) (fits_first t) can.legal i S in
       let m = (modest t).1 i in
@@ -286,7 +287,7 @@ module _ (b : Base) (g : List Entry) (range : IsInRange b.header) (can : CanFold
       omega (arith, l, m, e)
 
   unheld_few : is_semaphore b.header.object ≡ true →
-      unheld (based b) g ≤ 2147483647 * (b.entries + length g)
+      unheld (based b) g ≤ MOST_AMOUNT * (b.entries + length g)
   unheld_few t =
       let l = unheld_grows (based b) g can.legal in
       let m = (modest t).0 in
@@ -300,13 +301,10 @@ module _ (b : Base) (g : List Entry) (range : IsInRange b.header) (can : CanFold
         shared = λ i. (let l = shared_few t i in omega (arith, l, few));
         lowest = subst (IsLow c) (same.permits t)
             (low_on (based b) c g t (good_waits b can.good) v.lowest can.legal);
-        highest = high (free (based (folded b g)) [])
+        highest = fits_at_most (free (based (folded b g)) [])
             (subst (FitsSigned w32) (same.permits t)
             (free_fits_on (based b) g t (good_waits b can.good) (fits_first t) can.legal));
       }
-    where
-      high : (f : ℤ) → FitsSigned w32 f → f ≤ℤ pos 2147483647
-      high f p = omega (arith, ints)
 
   held_fold : (o : Object) → b.header.object ≡ o → AreHeld o b → AreHeld o (folded b g)
   held_fold (Lock p) q v = owned_fold (ap is_lock q)

@@ -47,3 +47,4 @@ pub mod FoldRoom
 pub mod FoldSteps
 pub mod WideNumbers
 pub mod IdleOwners
+pub mod AllCalls

@@ -1,5 +1,6 @@
 -- What an entry makes of the line.
 use Rattle.std.proofs.Common.{◌≡◌, ℕ, ◌+◌, ◌≤◌, Bool, true, false, not, ◌&&◌, cond, eqb, leb, List, [], ◌∷◌, ◌++◌, length, map, Option, Some, None, refl, ap, ◌∙◌, sym, subst, arith}
+use Rattle.std.proofs.Math.Bool.{and-true}
 use Rattle.std.specs.List.{filter, AllByRecursion}
 use Rattle.std.proofs.lemmas.List.Elements.{filter-append}
 use Rattle.std.proofs.lemmas.List.{map-append}
@@ -47,10 +48,6 @@ open_then None true y = refl
 open_then None false y = refl
 open_then (Some x) b y = refl
 
-and_true : (b : Bool) → (b && true) ≡ b
-and_true true = refl
-and_true false = refl
-
 stands_more : (e : Entry) (h : List Entry) (a : Arrived) → a.place ≤ length h →
     stands (e ∷ h) a ≡ (stands h a && keeps e.word e.seat a)
 stands_more e h a p =
@@ -58,7 +55,7 @@ stands_more e h a p =
     let b = ends_arrival e.word && eqb e.seat a.who.seat in
     open_then (ending h a.who.seat a.place) (b && leb a.place (length h)) _
     ∙ ap (λ x. stands h a && not (b && x)) t
-    ∙ ap (λ x. stands h a && not x) (and_true b)
+    ∙ ap (λ x. stands h a && not x) (and-true b)
 
 filter_two : (p q r : Arrived → Bool) (n : ℕ) (xs : List Arrived) → AllByRecursion (λ a. a.place ≤ n) xs →
     ((a : Arrived) → a.place ≤ n → p a ≡ (q a && r a)) → filter p xs ≡ filter r (filter q xs)

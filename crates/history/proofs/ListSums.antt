@@ -50,7 +50,7 @@ sum_of_split f (suc n) (x ∷ xs) =
 
 -- A list without a seat that it lacks is that list. The sum over one without a seat that stands in it once
 -- lacks that seat's term.
-without_none : (i : ℕ) (seats : List ℕ) → has i seats ≡ false → without i seats ≡ seats
+pub without_none : (i : ℕ) (seats : List ℕ) → has i seats ≡ false → without i seats ≡ seats
 without_none i [] none = refl
 without_none i (j ∷ seats) none = by (eqb j i) none (λ n. without_none i seats n)
   where
@@ -175,33 +175,3 @@ sum_of_line_others f g i (a ∷ q) same none =
         let w : sum_of f q ≡ sum_of g q = ih n in
         let x : f a ≡ g a = same a ne in
         omega (arith, w, x)
-
--- totals of functions that agree below
-pub total_agree : (n : ℕ) (f g : ℕ → ℕ) → ((i : ℕ) → i < n → f i ≡ g i) → total n f ≡ total n g
-total_agree zero f g same = refl
-total_agree (suc n) f g same =
-    let ih : total n f ≡ total n g = total_agree n f g (λ i l. same i (omega (arith, l))) in
-    let e : f n ≡ g n = same n (omega arith) in
-    omega (arith, ih, e)
-
-pub total_change_below : (n : ℕ) (f g : ℕ → ℕ) (j : ℕ) → j < n → ((i : ℕ) → i < n → i ≢ j → f i ≡ g i) →
-    total n f + g j ≡ total n g + f j
-total_change_below zero f g j l same = absurd (omega arith)
-total_change_below (suc n) f g j l same =
-    ⊎_elim last (λ ne. other ne (λ l'. total_change_below n f g j l' (λ i b. same i (omega (arith, b)))))
-    (cases_eq n j)
-  where
-    last : n ≡ j → total (suc n) f + g j ≡ total (suc n) g + f j
-    last e =
-        let b : total n f ≡ total n g =
-        total_agree n f g (λ i b. same i (omega (arith, b)) (λ q. absurd (omega (arith, b, q, e)))) in
-        let x : f n ≡ f j = ap f e in
-        let y : g n ≡ g j = ap g e in
-        omega (arith, b, x, y)
-
-    other : (n ≡ j → ⊥) → (j < n → total n f + g j ≡ total n g + f j) →
-        total (suc n) f + g j ≡ total (suc n) g + f j
-    other ne ih =
-        let r : total n f + g j ≡ total n g + f j = ih (omega (arith, ne, l)) in
-        let d : f n ≡ g n = same n (omega arith) ne in
-        omega (arith, r, d)

@@ -1,5 +1,5 @@
 -- Lists of entries, the newest first.
-use Rattle.std.proofs.Common.{◌≡◌, ◌+◌, ◌≤◌, Bool, true, false, cond, List, [], ◌∷◌, ◌++◌, length, reverse, arith}
+use Rattle.std.proofs.Common.{◌≡◌, ◌+◌, ◌≤◌, Bool, true, false, cond, List, [], ◌∷◌, ◌++◌, length, reverse, refl, ap, ◌∙◌, arith}
 use Rattle.std.proofs.lemmas.List.{reverse-append}
 use Rattle.history.specs.declared.entry.Entry.{Entry}
 use Rattle.history.specs.Entry.{ends_call}
@@ -23,6 +23,12 @@ ended_calls_le (e ∷ h) = omega (arith, ended_calls_le h, one_at_most (ends_cal
 pub ended_append : (h g : List Entry) → ended_calls (h ++ g) ≡ ended_calls h + ended_calls g
 ended_append [] g = omega arith
 ended_append (e ∷ h) g = omega (arith, ended_append h g)
+
+pub ended_calls-reverse : (h : List Entry) → ended_calls (reverse h) ≡ ended_calls h
+ended_calls-reverse [] = refl
+ended_calls-reverse (e ∷ h) =
+    ap ended_calls (reverse-append (e ∷ []) h) ∙ ended_append (reverse h) (e ∷ [])
+    ∙ omega (arith, ended_calls-reverse h)
 
 -- the calls of a history are those that ended before its start and in its entries
 pub calls-ended : (s : Start) (h : List Entry) → calls s h ≡ s.calls + ended_calls h

@@ -1,7 +1,8 @@
 -- Whoever is first in line and could go was told.
 use Rattle.std.proofs.Common.{◌≡◌, ◌⊎◌, inl, inr, ℕ, ◌<◌, Bool, true, false, ◌&&◌, ◌||◌, not, cond, eqb, ltb, List, [], ◌∷◌, ◌++◌, map, take, length, Option, Some, None, Result, Ok, Err, refl, ap, ◌∙◌, sym, subst, arith}
+use Rattle.history.proofs.Queueing.{all_apart, signal_apart}
 use Rattle.std.specs.List.{filter}
-use Rattle.std.proofs.lemmas.Bool.{cases_eq, eq-eqb, ne_eqb}
+use Rattle.std.proofs.lemmas.Bool.{cases_eq, eq-eqb, ne_eqb, and_parts, and_right, true≢false}
 use Rattle.std.proofs.lemmas.List.{append-nil}
 use Rattle.history.specs.declared.arrival.Arrival.{Arrival}
 use Rattle.history.specs.declared.entry.Entry.{Entry}
@@ -100,12 +101,6 @@ refused_never f t = cc
 await_never : word.Await ≡ word.Queued → ⊥
 await_never t = cc
 
-signal_never : word.Signal ≡ word.Queued → ⊥
-signal_never t = cc
-
-signal_all_never : word.SignalAll ≡ word.Queued → ⊥
-signal_all_never t = cc
-
 never : (b : Bool) (x y : Word) → (x ≡ word.Queued → ⊥) → (y ≡ word.Queued → ⊥) →
     cond b x y ≡ word.Queued → ⊥
 never true x y p q t = p t
@@ -177,18 +172,15 @@ queued_why s h i (step.EntryInterrupt m n) t = cc
 queued_why s h i (step.Give m n) t = absurd (gave_never s.header.object (counts s h) i m n t)
 queued_why s h i (step.Await c) t = absurd (awaits_never (counts s h) i c t)
 queued_why s h i (step.Signal c) t =
-    absurd (signals_never (counts s h) word.Signal (at_most_one (length (sleepers s h c))) i c signal_never t)
+    absurd (signals_never (counts s h) word.Signal (at_most_one (length (sleepers s h c))) i c signal_apart t)
 queued_why s h i (step.SignalAll c) t =
-    absurd (signals_never (counts s h) word.SignalAll (length (sleepers s h c)) i c signal_all_never t)
+    absurd (signals_never (counts s h) word.SignalAll (length (sleepers s h c)) i c all_apart t)
 queued_why s h i step.Drain t = cc
 queued_why s h i step.Look t = cc
 queued_why s h i step.Expire t = cc
 queued_why s h i step.Interrupt t = cc
 
 -- One that is queued can't go at once.
-true_not_false : true ≡ false → ⊥
-true_not_false q = cc
-
 new_first : (q : List Arrival) (a : Arrival) (i : ℕ) → a.seat ≡ i → place_of i q ≡ None →
     (f : Arrival) → first_of (q ++ a ∷ []) ≡ Some f → f.seat ≡ i → q ≡ []
 new_first [] a i same none f first seat = refl
@@ -224,15 +216,11 @@ queued_waits s h e w none held r = by held
         subst (λ k. could k e.seat e.mode e.n ≡ true) same (ready_could s (e ∷ h) e.seat own r place)
 
     free : held_back (counts s h) (first_mode s h) e.seat e.mode ≡ false
-    free = ap (λ q. held_back (counts s h) (mode_of (first_of q)) e.seat e.mode) empty ∙ and_false _
-      where
-        and_false : (b : Bool) → (b && false) ≡ false
-        and_false true = refl
-        and_false false = refl
+    free = ap (λ q. held_back (counts s h) (mode_of (first_of q)) e.seat e.mode) empty ∙ and_right _ false refl
 
     by : IsHeld s h e → ⊥
-    by (inl b) = true_not_false (sym b ∙ free)
-    by (inr c) = true_not_false (sym takes ∙ c)
+    by (inl b) = true≢false (sym b ∙ free)
+    by (inr c) = true≢false (sym takes ∙ c)
 
 -- Who stands in line behind an entry of its own and could go lapsed by it.
 leaves : (w : Word) (i : ℕ) (q : List Arrival) → ends_arrival w ≡ true →
@@ -428,17 +416,13 @@ results_told s h m (first ∷ steps) told =
     results_told s now.1 (marks_after s h first.0 now.0 m) steps (told_after s h first.0 first.1 m told)
 
 -- Only who stands in line is marked.
-and_both : (b c : Bool) → (b && c) ≡ true → (b ≡ true) × (c ≡ true)
-and_both true c t = (refl, t)
-and_both false c t = cc
-
 recorded_stand : (s : Start) (h : List Entry) (i : ℕ) (m : ℕ → Bool) (e : Entry) (who : Option ℕ) →
     StandInLine s (e ∷ h) (marks_after s h i (Ok (Recorded e who)) m)
-recorded_stand s h i m e who j t = (and_both _ (is_placed (place_of j (line s (e ∷ h)))) t).1
+recorded_stand s h i m e who j t = (and_parts _ (is_placed (place_of j (line s (e ∷ h)))) t).1
 
 slept_stand : (s : Start) (h : List Entry) (i : ℕ) (m : ℕ → Bool) → StandInLine s h m →
     StandInLine s h (marks_after s h i (Ok Sleep) m)
-slept_stand s h i m stand j t = stand j (and_both (m j) (not (eqb j i)) t).0
+slept_stand s h i m stand j t = stand j (and_parts (m j) (not (eqb j i)) t).0
 
 pub stand_after : (s : Start) (h : List Entry) (i : ℕ) (x : Step) (m : ℕ → Bool) → StandInLine s h m →
     StandInLine s (answer s h i x).1 (marks_after s h i (answer s h i x).0 m)
@@ -490,14 +474,6 @@ as_it_was : (b l p : Bool) → (b ≡ true → p ≡ true) → l ≡ false → (
 as_it_was true l p stands none = stands refl
 as_it_was false l p stands none = rw none refl
 
-never_placed : (b p : Bool) → p ≡ false → (b && p) ≡ false
-never_placed true p none = none
-never_placed false p none = refl
-
-nothing_and : (b : Bool) → (b && false) ≡ false
-nothing_and true = refl
-nothing_and false = refl
-
 module _ (s : Start) (h : List Entry) (m : ℕ → Bool) (e : Entry) (stand : StandInLine s h m) where
   own_stands : ends_arrival e.word ≡ false → m e.seat ≡ true →
       is_placed (place_of e.seat (line s (e ∷ h))) ≡ true
@@ -528,7 +504,7 @@ module _ (s : Start) (h : List Entry) (m : ℕ → Bool) (e : Entry) (stand : St
       goes : (w : Word) → e.word ≡ w → ends_arrival w ≡ true →
           ((m e.seat || false || false) && placed) ≡ false
       goes w q t =
-          never_placed (m e.seat || false || false) placed
+          and_right (m e.seat || false || false) placed
           (ap is_placed (gone s e h (ap ends_arrival q ∙ t)))
 
       by : (w : Word) → e.word ≡ w → Is w
@@ -577,7 +553,7 @@ module _ (s : Start) (h : List Entry) (m : ℕ → Bool) (e : Entry) (stand : St
       by false t (inr other) =
           rw (t, ne_eqb e.seat j other)
           (as_it_was (m j) (is_lapse e.word && false) placed (other_stands j other)
-          (nothing_and (is_lapse e.word)))
+          (and_right (is_lapse e.word) false refl))
 
 ready_placed : (s : Start) (h : List Entry) (i : ℕ) → ready s h ≡ Some i →
     is_placed (place_of i (line s h)) ≡ true

@@ -1,8 +1,10 @@
 -- The fold of one entry, part by part.
 use Rattle.std.proofs.Common.{◌≡◌, ◌≢◌, ◌⊎◌, ⊎_elim, inl, inr, ℕ, zero, suc, ◌+◌, ◌-◌, ◌<◌, ◌≤◌, Bool, true, false, not, ◌&&◌, cond, eqb, List, [], ◌∷◌, ◌++◌, map, take, drop, length, get_or, set, Some, refl, ap, ◌∙◌, sym, subst, arith}
+use Rattle.std.proofs.Math.Nat.{add-zero}
 use Rattle.std.specs.List.{filter, AllByRecursion}
 use Rattle.std.proofs.lemmas.Bool.{cases_eq, eq-eqb, ne_eqb}
 use Rattle.std.proofs.lemmas.List.{ext_get_or, get_or-set_other, get_or-set_same, length-set, map-append}
+use Rattle.history.specs.declared.limits.TheConstants.{MOST_FOLDED}
 use Rattle.history.specs.declared.arrival.Arrival.{Arrival}
 use Rattle.history.specs.declared.base.SeatBase.{SeatBase}
 use Rattle.history.specs.declared.base.Sleeper.{Sleeper}
@@ -14,7 +16,7 @@ use Rattle.history.specs.declared.entry.Word.TheVariants as word
 use Rattle.history.specs.Base.{Base, based, each_below, folded, nothing, or_awake, seat_after, seat_of, sleep_on, sleeper_after, sleepers_of, standing_after, stands_from}
 use Rattle.history.specs.Counts.{counted_after, holds_after, unheld}
 use Rattle.history.specs.Entry.{ends_call, same_mode}
-use Rattle.history.specs.GoodBase.{IsGood, IsModest, most_folded}
+use Rattle.history.specs.GoodBase.{IsGood, IsModest}
 use Rattle.history.specs.Header.{IsInRange}
 use Rattle.history.specs.Legal.{AreSeated, IsLegal}
 use Rattle.history.specs.Line.{arrivals_by, coming_back, line}
@@ -59,13 +61,10 @@ module _ (b : Base) (e : Entry) where
       })
       (ne_eqb e.seat i ne)
       ∙ λ j. record {
-        calls = nothing_more (seat_of b i).calls j;
+        calls = add-zero (seat_of b i).calls j;
         exclusive = (seat_of b i).exclusive;
         shared = (seat_of b i).shared;
       }
-    where
-      nothing_more : (n : ℕ) → n + 0 ≡ n
-      nothing_more n = omega arith
 
   next_seats : length b.seats ≡ b.header.seats → e.seat < b.header.seats →
       each_below b.header.seats (seat_after b (e ∷ []))
@@ -385,7 +384,7 @@ seated_front b g [] a = tt
 seated_front b g (e ∷ h) a = (a.0, seated_front b g h a.1)
 
 pub can_go_on : (b : Base) (g h : List Entry) → IsInRange b.header → IsModest b →
-    b.entries + length g ≤ most_folded → CanFold b (h ++ g) → CanFold (folded b g) h
+    b.entries + length g ≤ MOST_FOLDED → CanFold b (h ++ g) → CanFold (folded b g) h
 can_go_on b g h range modest few can =
     record {
       good = fold_good b g range
@@ -402,7 +401,7 @@ can_go_on b g h range modest few can =
 
 -- A fold goes on from entry to entry.
 pub fold_next : (b : Base) (g : List Entry) (e : Entry) → IsInRange b.header → IsModest b →
-    b.entries + length g ≤ most_folded → CanFold b (e ∷ g) → folded b (e ∷ g) ≡ next_base (folded b g) e
+    b.entries + length g ≤ MOST_FOLDED → CanFold b (e ∷ g) → folded b (e ∷ g) ≡ next_base (folded b g) e
 fold_next b g e range modest few can =
     sym (folds_on b g (e ∷ []) can.good can.seated.1 can.legal)
     ∙ next_is (folded b g) e (can_go_on b g (e ∷ []) range modest few can)

@@ -1,6 +1,7 @@
 -- A lock or read-write lock has one owner.
 use Rattle.std.proofs.Common.{◌≡◌, ◌≢◌, ◌⊎◌, inl, inr, ⊎_elim, ℕ, zero, suc, ◌+◌, ◌<◌, ◌≤◌, Bool, true, false, ◌&&◌, cond, eqb, ltb, List, [], ◌∷◌, Option, Some, None, refl, ap, ◌∙◌, sym, subst, arith}
 use Rattle.std.proofs.lemmas.Bool.{cases_eq, cases_Bool, eq-eqb, eqb-true, ltb-true, ltb-false, and_parts}
+use Rattle.history.specs.declared.limits.TheConstants.{MOST_HOLDS, MOST_READ_WRITE_HOLDS}
 use Rattle.history.specs.declared.arrival.Arrival.{Arrival}
 use Rattle.history.specs.declared.entry.Entry.{Entry}
 use Rattle.history.specs.declared.entry.Mode.{Mode}
@@ -10,7 +11,7 @@ use Rattle.history.specs.declared.entry.Word.TheVariants as word
 use Rattle.history.specs.declared.header.Header.{Header}
 use Rattle.history.specs.declared.header.Object.{Object}
 use Rattle.history.specs.declared.header.Object.TheVariants.{Lock, ReadWrite, Semaphore, Latch}
-use Rattle.history.specs.Could.{could, could_of, is_none_or, is_seat, max_holds, max_shared}
+use Rattle.history.specs.Could.{could, could_of, is_none_or, is_seat}
 use Rattle.history.specs.Counts.{Counts, counts, held, holds_after, owner, readers, total}
 use Rattle.history.specs.Entry.{same_mode}
 use Rattle.history.specs.Legal.{AreSeated, IsLegal}
@@ -92,7 +93,7 @@ could_write s h i n v t lock = by s.header.object t lock v.shared
     k = counts s h
 
     writes : (b : Bool) → is_seat (owner k) i ≡ b →
-        cond b (ltb (k.held i X) max_shared) (is_none_or (owner k) i && eqb (readers k) 0) ≡ true →
+        cond b (ltb (k.held i X) MOST_READ_WRITE_HOLDS) (is_none_or (owner k) i && eqb (readers k) 0) ≡ true →
         (j : ℕ) (m : Mode) → j ≢ i → held s h j m ≡ 0
     writes true q u =
         let holds : 0 < held s h i X = (owner_holds (counts s h) i (seat_is (owner (counts s h)) i q)).1 in
@@ -110,7 +111,7 @@ could_write s h i n v t lock = by s.header.object t lock v.shared
         total s.header.seats (λ j. held s h j S) ≤ most_shared o → (j : ℕ) (m : Mode) → j ≢ i →
         held s h j m ≡ 0
     by (Lock policy) u l few =
-        let parts = and_parts (is_none_or (owner (counts s h)) i) (ltb (held s h i X) max_holds) u in
+        let parts = and_parts (is_none_or (owner (counts s h)) i) (ltb (held s h i X) MOST_HOLDS) u in
         both s h i (others_own_nothing s h i v parts.0) (λ j ne. nobody_reads s h v (omega (arith, few)) j)
     by (ReadWrite policy) u l few = writes (is_seat (owner (counts s h)) i) refl u
     by (Semaphore policy permits) u l few = absurd (cc)
@@ -127,8 +128,8 @@ could_read s h i n v t lock = by s.header.object t lock
     by (Lock policy) u l = absurd (cc)
     by (ReadWrite policy) u l =
         let parts = and_parts (is_none_or (owner (counts s h)) i)
-        (ltb (readers (counts s h)) max_shared) u in
-        (others_own_nothing s h i v parts.0, ltb-true _ max_shared parts.1)
+        (ltb (readers (counts s h)) MOST_READ_WRITE_HOLDS) u in
+        (others_own_nothing s h i v parts.0, ltb-true _ MOST_READ_WRITE_HOLDS parts.1)
     by (Semaphore policy permits) u l = absurd (cc)
     by (Latch opening) u l = absurd (cc)
 
@@ -152,7 +153,7 @@ lessens_by o word.Await n x t = omega arith
 lessens_by o _ n x t = omega arith
 
 -- a lock is held once by each take
-lock_holds : (o : Object) (n : ℕ) → is_lock o ≡ true → in_holds o n ≡ 1
+pub lock_holds : (o : Object) (n : ℕ) → is_lock o ≡ true → in_holds o n ≡ 1
 lock_holds (Lock p) n t = refl
 lock_holds (ReadWrite p) n t = refl
 lock_holds (Semaphore p c) n t = cc
@@ -226,7 +227,7 @@ other_mode s e h i m n p t = by (eqb e.seat i) _ (ap (λ x. same_mode x n) p ∙
     by true c q = rw q refl
     by false c q = refl
 
-total_less : (n : ℕ) (f g : ℕ → ℕ) → ((i : ℕ) → f i ≤ g i) → total n f ≤ total n g
+pub total_less : (n : ℕ) (f g : ℕ → ℕ) → ((i : ℕ) → f i ≤ g i) → total n f ≤ total n g
 total_less zero f g less = omega arith
 total_less (suc n) f g less = let ih = total_less n f g less in let l = less n in omega (arith, ih, l)
 
@@ -346,31 +347,29 @@ owned k h lock legal seats =
     is_owned (opening k) h lock (waits k h legal) (owned_from k h lock legal seats)
 
 -- who is away saved its holds
-pub saved_away : (k : Header) (h : List Entry) → IsLegal (opening k) h → (i : ℕ) →
-    is_away (phase (opening k) h i) ≡ true → IsSaved (opening k) h i
-saved_away k h legal i t =
-    by (place_of i (line s h)) (sleeps_below k.conditions s h i) refl refl t
+pub saved_from : (s : Start) (h : List Entry) → Waits s h → (i : ℕ) → is_away (phase s h i) ≡ true →
+    IsSaved s h i
+saved_from s h v i t =
+    by (place_of i (line s h)) (sleeps_below s.header.conditions s h i) refl refl t
   where
-    s : Start
-    s = opening k
-
-    v : Waits s h
-    v = waits k h legal
-
     as_saved : Saved s h i → IsSaved s h i
     as_saved r =
         record {
           nothing = r.nothing;
           some = r.some;
-          most = subst (λ n. (last_sleep s h i).holds ≤ n) (same_limit k.object) r.most;
+          most = subst (λ n. (last_sleep s h i).holds ≤ n) (same_limit s.header.object) r.most;
         }
 
     by : (o : Option Arrival) (b : Bool) → place_of i (line s h) ≡ o →
-        sleeps_below k.conditions s h i ≡ b → is_away (phase_by o b) ≡ true → IsSaved s h i
+        sleeps_below s.header.conditions s h i ≡ b → is_away (phase_by o b) ≡ true → IsSaved s h i
     by (Some a) b p q u =
         let r = placed (SavedIfBack s h) i (line s h) a v.line p u in
         as_saved (subst (Saved s h) (place_once i (line s h) a p).0 r.saved)
     by None true p q u =
-        let at = sleeps_at k.conditions s h i q in
+        let at = sleeps_at s.header.conditions s h i q in
         as_saved (v.sleepers at.0 i at.2).saved
     by None false p q u = absurd (cc)
+
+pub saved_away : (k : Header) (h : List Entry) → IsLegal (opening k) h → (i : ℕ) →
+    is_away (phase (opening k) h i) ≡ true → IsSaved (opening k) h i
+saved_away k h legal i t = saved_from (opening k) h (waits k h legal) i t

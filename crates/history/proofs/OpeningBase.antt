@@ -4,6 +4,7 @@ use Rattle.std.specs.List.{AllByRecursion}
 use Rattle.std.specs.Prelude.{ℤ, pos, ◌+ℤ◌, ◌-ℤ◌, ◌≤ℤ◌}
 use Rattle.std.proofs.lemmas.Int.{ints}
 use Rattle.std.proofs.lemmas.List.{get_or_past}
+use Rattle.history.specs.declared.limits.TheConstants.{MOST_AMOUNT}
 use Rattle.history.specs.declared.base.SeatBase.{SeatBase}
 use Rattle.history.specs.declared.base.Sleeper.{Sleeper}
 use Rattle.history.specs.declared.entry.Mode.{Mode}
@@ -39,7 +40,7 @@ module _ (k : Header) where
   no_sleepers : (c : ℕ) → sleepers_of (opening_base k) c ≡ []
   no_sleepers c = get_or-same k.conditions [] c
 
-  nothing_summed : (f : SeatBase → ℕ) → f nothing ≡ 0 →
+  pub nothing_summed : (f : SeatBase → ℕ) → f nothing ≡ 0 →
       total k.seats (λ i. f (seat_of (opening_base k) i)) ≡ 0
   nothing_summed f z =
       total_same k.seats (λ i. f (seat_of (opening_base k) i)) (λ i. 0) (λ i. ap f (no_seat i) ∙ z)
@@ -92,7 +93,7 @@ module _ (k : Header) where
         shared = λ i. (let z = nothing_held i S in omega (arith, z));
         lowest = inr (at_least c (free (based (opening_base k)) [])
             (ap (λ (s : Start). s.free) based_opening ∙ ap created q));
-        highest = subst (λ (s : Start). s.free ≤ℤ pos 2147483647) (sym based_opening)
+        highest = subst (λ (s : Start). s.free ≤ℤ pos MOST_AMOUNT) (sym based_opening)
             (free_at_most k [] range (ap is_semaphore q) tt);
       }
     where

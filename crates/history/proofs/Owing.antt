@@ -1,5 +1,6 @@
 -- How the room that stays reserved changes at one entry.
 use Rattle.std.proofs.Common.{◌≡◌, ◌≢◌, ⊎_elim, ℕ, zero, suc, ◌+◌, ◌-◌, ◌<◌, ◌≤◌, Bool, true, false, not, ◌&&◌, cond, eqb, ltb, List, [], ◌∷◌, ◌++◌, length, map, take, Some, refl, ap, ◌∙◌, sym, subst, arith}
+use Rattle.std.proofs.Math.Nat.{add-zero}
 use Rattle.std.specs.List.{filter}
 use Rattle.std.proofs.lemmas.Bool.{cases_Bool, eq-eqb, ne_eqb, ltb-true}
 use Rattle.std.proofs.lemmas.List.{append-nil}
@@ -27,11 +28,11 @@ use Rattle.history.specs.Steps.{gave, at_most_one, back, lapse}
 use Rattle.history.proofs.Changes.{all_stay}
 use Rattle.history.proofs.Entering.{Known, KnownBy, OnCondition, LeavesLine, known}
 use Rattle.history.proofs.LineLemmas.{line_after, stays, no_arrival}
-use Rattle.history.proofs.ListSums.{sum_of_append, sum_of_same, sum_of_more, sum_of_map, sum_of_split, sum_of_without, line_without, sum_of_line_without, sum_of_others, sum_of_line_others, total_change_below}
+use Rattle.history.proofs.ListSums.{sum_of_append, sum_of_same, sum_of_more, sum_of_map, sum_of_split, sum_of_without, line_without, sum_of_line_without, sum_of_others, sum_of_line_others}
 use Rattle.history.proofs.OneWait.{Waits, SavedIfBack, placed, waits}
 use Rattle.history.proofs.SleepLemmas.{awake_nowhere, idle_parts, last_sleep_other, sleeping_parts, sleeps_at, times-waiting}
 use Rattle.history.proofs.Times.{never_has, place_once, total_part}
-use Rattle.history.proofs.Sums.{total_same, total_change}
+use Rattle.history.proofs.Sums.{total_same, total_change, total_change_below}
 
 -- a seat is in line or on a condition once, and where it doesn't sleep on none
 in_line_once : (s : Start) (h : List Entry) → IsOneWait s h → (i : ℕ) → times i (seats_of (line s h)) ≤ 1
@@ -484,10 +485,7 @@ owed_signal_all : (s : Start) (e : Entry) (h : List Entry) → e.word ≡ word.S
     owed s (e ∷ h) + e.n ≡ owed s h + 0
 owed_signal_all s e h p seat condition n =
     owed_moved s e h word.SignalAll (sleepers s h e.at) e.n p refl refl seat condition refl refl
-    (plus_none _) (sym n)
-  where
-    plus_none : (x : ℕ) → x + 0 ≡ x
-    plus_none x = omega arith
+    (add-zero _) (sym n)
 
 owed_lapse : (s : Start) (e : Entry) (h : List Entry) → e.word ≡ word.Lapse → e.seat < s.header.seats →
     Waits s h → phase s h e.seat ≡ Sleeping → e ≡ lapse s h e.seat e.end → owed s (e ∷ h) + 1 ≡ owed s h + 0

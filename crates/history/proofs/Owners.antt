@@ -1,12 +1,13 @@
 -- Who owns, what it holds, and that nobody takes past the limit.
 use Rattle.std.proofs.Common.{◌≡◌, ⊎_elim, ℕ, zero, suc, ◌+◌, ◌<◌, ◌≤◌, Bool, true, false, ◌&&◌, cond, eqb, ltb, List, [], ◌∷◌, Option, Some, None, refl, ap, ◌∙◌, sym, subst, arith}
 use Rattle.std.proofs.lemmas.Bool.{cases_eq, eq-eqb, ltb-true, ltb-false, and_parts}
+use Rattle.history.specs.declared.limits.TheConstants.{MOST_HOLDS, MOST_READ_WRITE_HOLDS}
 use Rattle.history.specs.declared.arrival.Arrival.{Arrival}
 use Rattle.history.specs.declared.entry.Entry.{Entry}
 use Rattle.history.specs.declared.entry.Mode.TheVariants.{X}
 use Rattle.history.specs.declared.header.Object.{Object}
 use Rattle.history.specs.declared.header.Object.TheVariants.{Lock, ReadWrite, Semaphore, Latch}
-use Rattle.history.specs.Could.{could, could_of, is_seat, is_none_or, max_holds, max_shared}
+use Rattle.history.specs.Could.{could, could_of, is_seat, is_none_or}
 use Rattle.history.specs.Counts.{Counts, counts, owner, readers, seat_with}
 use Rattle.history.specs.Line.{line, first_of, place_of}
 use Rattle.history.specs.Naming.{ready, ready_by}
@@ -52,8 +53,8 @@ no_owner (Some j) i f t = cc
 
 -- the greatest number of exclusive holds of one seat
 abbrev pub most_holds : Object → ℕ
-most_holds (Lock policy) = max_holds
-most_holds (ReadWrite policy) = max_shared
+most_holds (Lock policy) = MOST_HOLDS
+most_holds (ReadWrite policy) = MOST_READ_WRITE_HOLDS
 most_holds (Semaphore policy permits) = 0
 most_holds (Latch opening) = 0
 
@@ -63,9 +64,9 @@ pub within_limit : (k : Counts) (i n : ℕ) → i < k.seats → could k i X n �
 within_limit k i n l t = by k.object t
   where
     writes : (b : Bool) → is_seat (owner k) i ≡ b →
-        cond b (ltb (k.held i X) max_shared) (is_none_or (owner k) i && eqb (readers k) 0) ≡ true →
-        k.held i X + 1 ≤ max_shared
-    writes true s u = let m = ltb-true (k.held i X) max_shared u in omega (arith, m)
+        cond b (ltb (k.held i X) MOST_READ_WRITE_HOLDS) (is_none_or (owner k) i && eqb (readers k) 0) ≡ true →
+        k.held i X + 1 ≤ MOST_READ_WRITE_HOLDS
+    writes true s u = let m = ltb-true (k.held i X) MOST_READ_WRITE_HOLDS u in omega (arith, m)
     writes false s u =
         let parts = and_parts (is_none_or (owner k) i) (eqb (readers k) 0) u in
         let z : k.held i X ≡ 0 = nobody_holds k i (no_owner (owner k) i s parts.0) l in
@@ -73,8 +74,8 @@ within_limit k i n l t = by k.object t
 
     by : (o : Object) → could_of o k i X n ≡ true → k.held i X + in_holds o n ≤ most_holds o
     by (Lock policy) u =
-        let parts = and_parts (is_none_or (owner k) i) (ltb (k.held i X) max_holds) u in
-        let m = ltb-true (k.held i X) max_holds parts.1 in
+        let parts = and_parts (is_none_or (owner k) i) (ltb (k.held i X) MOST_HOLDS) u in
+        let m = ltb-true (k.held i X) MOST_HOLDS parts.1 in
         omega (arith, m)
     by (ReadWrite policy) u = writes (is_seat (owner k) i) refl u
     by (Semaphore policy permits) u = cc
@@ -117,7 +118,7 @@ semaphore_no_lock (Semaphore p c) t u = cc
 semaphore_no_lock (Latch c) t u = cc
 
 -- the most exclusive holds fit 31 bits
-pub most_fits : (o : Object) → most_exclusive o ≤ 2147483647
+pub most_fits : (o : Object) → most_exclusive o ≤ MOST_HOLDS
 most_fits (Lock p) = omega arith
 most_fits (ReadWrite p) = omega arith
 most_fits (Semaphore p c) = omega arith

@@ -1,25 +1,38 @@
 -- Entries in pages.
-use Rattle.std.proofs.Common.{◌≡◌, ℕ, zero, suc, ◌+◌, ◌-◌, ◌*◌, ◌/◌, ◌%◌, ◌<◌, ◌≤◌, List, [], ◌∷◌, ◌++◌, map, length, reverse, get_or, set, replicate, Option, Some, None, refl, ap, ◌∙◌, sym, subst, ⊎_elim, arith}
+use Rattle.std.proofs.Common.{◌≡◌, inl, inr, ℕ, zero, suc, ◌+◌, ◌*◌, ◌/◌, ◌%◌, ◌<◌, ◌≤◌, ◌^◌, List, [], ◌∷◌, ◌++◌, map, length, get_or, set, take, replicate, Option, Some, None, refl, ap, ◌∙◌, sym, subst, ⊎_elim, arith}
 use Rattle.std.specs.Prelude.{slice_get}
 use Rattle.std.proofs.lemmas.Bool.{cases_lt}
-use Rattle.std.proofs.lemmas.List.{length-append, length-map, append_assoc, append-nil, length-reverse, reverse-reverse, length-set, length-replicate}
+use Rattle.std.proofs.lemmas.List.{length-append, length-map, append_assoc, append-nil, length-set, length-replicate, nil_from_length}
 use Rattle.std.proofs.lemmas.Option.{slice_get_past}
+use Rattle.std.proofs.Math.Seq.{take-append_seam}
 use Rattle.history.specs.declared.entry.Entry.{Entry}
-use Rattle.history.specs.Base.{Base}
-use Rattle.history.specs.Entries.{HistoryView, ended_calls}
-use Rattle.history.specs.Pages.{in_pages, AreFilled, AreKept}
-use Rattle.history.proofs.Lists.{reverse_push}
+use Rattle.history.specs.Paged.{AreFull, AreKept, in_pages}
 
--- as many entries stand in the pages as were put there, and they have places
-pub filled_length : (n : ℕ) (pages : List (List Entry)) → AreFilled n pages → length (in_pages pages) ≡ n
-filled_length n [] f = sym f
-filled_length n (p ∷ ps) f =
-    let ih = filled_length (n - 1024) ps f.1 in
+-- as many pages written over a list as it has
+pub all_written : {X : Type 0} (ys zs : List X) (n : ℕ) → n ≡ length ys → take n (ys ++ zs) ≡ ys
+all_written ys zs n q = ap (λ m. take m (ys ++ zs)) q ∙ take-append_seam ys zs
+
+-- the entries of full pages
+pub full_length : (n : ℕ) (pages : List (List Entry)) → AreFull n pages → length (in_pages pages) ≡ 1024 * n
+full_length zero [] f = refl
+full_length zero (p ∷ ps) f =
+    let ih = full_length zero ps f.1 in
+    let none = ap length f.0 in
+    omega (arith, length-append p (in_pages ps), none, ih)
+full_length (suc n) [] f = absurd f
+full_length (suc n) (p ∷ ps) f =
+    let ih = full_length n ps f.1 in
     omega (arith, length-append p (in_pages ps), f.0, ih)
 
-nothing : {X : Type 0} (xs : List X) → length xs ≡ 0 → xs ≡ []
-nothing [] q = refl
-nothing (x ∷ xs) q = absurd (omega (arith, q))
+pub few_full : (n : ℕ) (pages : List (List Entry)) → AreFull n pages → n ≤ length pages
+few_full zero pages f = omega arith
+few_full (suc n) [] f = absurd f
+few_full (suc n) (p ∷ ps) f = let ih = few_full n ps f.1 in omega (arith, ih)
+
+-- empty pages have no entries
+pub none_full : (pages : List (List Entry)) → AreFull zero pages → in_pages pages ≡ []
+none_full [] f = refl
+none_full (p ∷ ps) f = ap (λ q. q ++ in_pages ps) f.0 ∙ none_full ps f.1
 
 -- an element of two lists end to end
 get_left : {X : Type 0} (xs ys : List X) (i : ℕ) → i < length xs → slice_get (xs ++ ys) i ≡ slice_get xs i
@@ -38,73 +51,62 @@ abbrev pub at_place : Option (List Entry) → ℕ → Option Entry
 at_place None r = None
 at_place (Some page) r = slice_get page r
 
--- the entry of a number is at that place of that page
-pub in_page : (n : ℕ) (pages : List (List Entry)) → AreFilled n pages → (q r i : ℕ) → r < 1024 →
-    i ≡ 1024 * q + r → slice_get (in_pages pages) i ≡ at_place (slice_get pages q) r
-in_page n [] f q r i l is = refl
-in_page n (p ∷ ps) f zero r i l is =
+-- the entry of a number is at its place of a full page
+in_page : (n : ℕ) (pages : List (List Entry)) → AreFull n pages → (q r i : ℕ) → r < 1024 →
+    i ≡ 1024 * q + r → q < n → slice_get (in_pages pages) i ≡ at_place (slice_get pages q) r
+in_page zero pages f q r i l is m = absurd (omega (arith, m))
+in_page (suc n) [] f q r i l is m = absurd f
+in_page (suc n) (p ∷ ps) f zero r i l is m =
     let same : i ≡ r = omega (arith, is) in
-    let rest = filled_length (n - 1024) ps f.1 in
-    ⊎_elim
-    (λ (within : r < length p). ap (slice_get (p ++ in_pages ps)) same ∙ get_left p (in_pages ps) r within)
-    (λ (past : length p ≤ r).
-    slice_get_past (p ++ in_pages ps) i
-    (omega (arith, length-append p (in_pages ps), rest, f.0, past, same, l))
-    ∙ sym (slice_get_past p r past))
-    (cases_lt r (length p))
-in_page n (p ∷ ps) f (suc q) r i l is =
-    let rest = filled_length (n - 1024) ps f.1 in
-    let ih = in_page (n - 1024) ps f.1 q r (1024 * q + r) l refl in
-    ⊎_elim
-    (λ (short : n < 1024).
-    slice_get_past (p ++ in_pages ps) i (omega (arith, length-append p (in_pages ps), rest, f.0, short, is))
-    ∙ sym (slice_get_past (in_pages ps) (1024 * q + r) (omega (arith, rest, short))) ∙ ih)
-    (λ (full : 1024 ≤ n).
-    get_right p (in_pages ps) (1024 * q + r) i (omega (arith, f.0, full, is)) ∙ ih)
-    (cases_lt n 1024)
+    ap (slice_get (p ++ in_pages ps)) same ∙ get_left p (in_pages ps) r (omega (arith, f.0, l))
+in_page (suc n) (p ∷ ps) f (suc q) r i l is m =
+    get_right p (in_pages ps) (1024 * q + r) i (omega (arith, f.0, is))
+    ∙ in_page n ps f.1 q r (1024 * q + r) l refl (omega (arith, m))
 
--- the next place
-pub next_place : (n : ℕ) (pages : List (List Entry)) → AreFilled n pages → (q r : ℕ) (d : List Entry) →
-    n ≡ 1024 * q + r → r < 1024 → q < length pages → length (get_or pages q d) ≡ r
-next_place n [] f q r d is l within = absurd (omega (arith, within))
-next_place n (p ∷ ps) f zero r d is l within = omega (arith, f.0, is, l)
-next_place n (p ∷ ps) f (suc q) r d is l within =
-    next_place (n - 1024) ps f.1 q r d (omega (arith, is)) l (omega (arith, within))
+-- behind the full pages there is nothing
+at_none : (n : ℕ) (pages : List (List Entry)) → AreFull n pages → (q r : ℕ) → n ≤ q →
+    at_place (slice_get pages q) r ≡ None
+at_none zero [] f q r l = refl
+at_none zero (p ∷ ps) f zero r l = ap (λ page. slice_get page r) f.0
+at_none zero (p ∷ ps) f (suc q) r l = at_none zero ps f.1 q r (omega arith)
+at_none (suc n) [] f q r l = absurd f
+at_none (suc n) (p ∷ ps) f zero r l = absurd (omega (arith, l))
+at_none (suc n) (p ∷ ps) f (suc q) r l = at_none n ps f.1 q r (omega (arith, l))
 
--- one entry more at the next place
-pub filled_next : (n : ℕ) (pages : List (List Entry)) → AreFilled n pages → (q r : ℕ) (d : List Entry)
-    (e : Entry) → n ≡ 1024 * q + r → r < 1024 → q < length pages →
-    AreFilled (n + 1) (set pages q (get_or pages q d ++ e ∷ []))
-filled_next n [] f q r d e is l within = absurd (omega (arith, within))
-filled_next n (p ∷ ps) f zero r d e is l within =
-    let rest : n - 1024 ≡ n + 1 - 1024 = omega (arith, is, l) in
-    (omega (arith, length-append p (e ∷ []), f.0, is, l), subst (λ m. AreFilled m ps) rest f.1)
-filled_next n (p ∷ ps) f (suc q) r d e is l within =
-    let rest : n - 1024 + 1 ≡ n + 1 - 1024 = omega (arith, is) in
-    let ih = filled_next (n - 1024) ps f.1 q r d e (omega (arith, is)) l (omega (arith, within)) in
-    (omega (arith, f.0, is), subst (λ m. AreFilled m (set ps q (get_or ps q d ++ e ∷ []))) rest ih)
+-- a full page in place of the first that is empty
+pub full_next : (n : ℕ) (pages : List (List Entry)) (hand : List Entry) → AreFull n pages →
+    length hand ≡ 1024 → n < length pages → AreFull (suc n) (set pages n hand)
+full_next n [] hand f l m = absurd (omega (arith, m))
+full_next zero (p ∷ ps) hand f l m = (l, f.1)
+full_next (suc n) (p ∷ ps) hand f l m = (f.0, full_next n ps hand f.1 l (omega (arith, m)))
 
-pub in_pages_next : (n : ℕ) (pages : List (List Entry)) → AreFilled n pages → (q r : ℕ) (d : List Entry)
-    (e : Entry) → n ≡ 1024 * q + r → r < 1024 → q < length pages →
-    in_pages (set pages q (get_or pages q d ++ e ∷ [])) ≡ in_pages pages ++ e ∷ []
-in_pages_next n [] f q r d e is l within = absurd (omega (arith, within))
-in_pages_next n (p ∷ ps) f zero r d e is l within =
-    let none = nothing (in_pages ps) (omega (arith, filled_length (n - 1024) ps f.1, is, l)) in
-    ap (λ rest. (p ++ e ∷ []) ++ rest) none ∙ append-nil (p ++ e ∷ [])
-    ∙ sym (ap (λ rest. (p ++ rest) ++ e ∷ []) none ∙ ap (λ front. front ++ e ∷ []) (append-nil p))
-in_pages_next n (p ∷ ps) f (suc q) r d e is l within =
-    let ih = in_pages_next (n - 1024) ps f.1 q r d e (omega (arith, is)) l (omega (arith, within)) in
-    ap (λ rest. p ++ rest) ih ∙ sym (append_assoc p (in_pages ps) (e ∷ []))
+pub in_pages_next : (n : ℕ) (pages : List (List Entry)) (hand : List Entry) → AreFull n pages →
+    n < length pages → in_pages (set pages n hand) ≡ in_pages pages ++ hand
+in_pages_next n [] hand f m = absurd (omega (arith, m))
+in_pages_next zero (p ∷ ps) hand f m =
+    ap (λ rest. hand ++ rest) (none_full ps f.1) ∙ append-nil hand
+    ∙ sym (ap (λ front. front ++ hand) (none_full (p ∷ ps) f))
+in_pages_next (suc n) (p ∷ ps) hand f m =
+    ap (λ rest. p ++ rest) (in_pages_next n ps hand f.1 (omega (arith, m)))
+    ∙ sym (append_assoc p (in_pages ps) hand)
+
+pub next_empty : (n : ℕ) (pages : List (List Entry)) → AreFull n pages → get_or pages n [] ≡ []
+next_empty zero [] f = refl
+next_empty zero (p ∷ ps) f = f.0
+next_empty (suc n) [] f = absurd f
+next_empty (suc n) (p ∷ ps) f = next_empty n ps f.1
 
 -- pages more, with nothing in them
-empty_pages : (k : ℕ) (n : ℕ) → n ≡ 0 → AreFilled n (replicate k [])
-empty_pages zero n q = q
-empty_pages (suc k) n q = (omega (arith, q), empty_pages k (n - 1024) (omega (arith, q)))
+empty_pages : (k : ℕ) → AreFull zero (replicate k [])
+empty_pages zero = tt
+empty_pages (suc k) = (refl, empty_pages k)
 
-pub filled_more : (n : ℕ) (pages : List (List Entry)) → AreFilled n pages → (k : ℕ) →
-    AreFilled n (pages ++ replicate k [])
-filled_more n [] f k = empty_pages k n f
-filled_more n (p ∷ ps) f k = (f.0, filled_more (n - 1024) ps f.1 k)
+pub full_more : (n : ℕ) (pages : List (List Entry)) → AreFull n pages → (k : ℕ) →
+    AreFull n (pages ++ replicate k [])
+full_more zero [] f k = empty_pages k
+full_more zero (p ∷ ps) f k = (f.0, full_more zero ps f.1 k)
+full_more (suc n) [] f k = absurd f
+full_more (suc n) (p ∷ ps) f k = (f.0, full_more n ps f.1 k)
 
 nothing_there : (k : ℕ) → in_pages (replicate k []) ≡ []
 nothing_there zero = refl
@@ -114,120 +116,166 @@ pub in_pages_more : (pages : List (List Entry)) (k : ℕ) → in_pages (pages ++
 in_pages_more [] k = nothing_there k
 in_pages_more (p ∷ ps) k = ap (λ rest. p ++ rest) (in_pages_more ps k)
 
+-- the last of empty pages is empty, and so are the others
+last_empty : (pages : List (List Entry)) (page : List Entry) → AreFull zero (pages ++ page ∷ []) →
+    AreFull zero pages × (page ≡ [])
+last_empty [] page f = (tt, f.0)
+last_empty (p ∷ ps) page f = let ih = last_empty ps page f.1 in ((f.0, ih.0), ih.1)
+
 -- the same pages with nothing in them
 abbrev pub cleared : List (List Entry) → List (List Entry)
 cleared pages = map (λ page. []) pages
 
-cleared_empty : (pages : List (List Entry)) → cleared pages ≡ replicate (length pages) []
-cleared_empty [] = refl
-cleared_empty (p ∷ ps) = ap (λ rest. [] ∷ rest) (cleared_empty ps)
+full_cleared : (pages : List (List Entry)) → AreFull zero (cleared pages)
+full_cleared [] = tt
+full_cleared (p ∷ ps) = (refl, full_cleared ps)
 
-none_cleared : (pages : List (List Entry)) → in_pages (cleared pages) ≡ []
-none_cleared pages = ap in_pages (cleared_empty pages) ∙ nothing_there (length pages)
+pub none_cleared : (pages : List (List Entry)) → in_pages (cleared pages) ≡ []
+none_cleared pages = none_full (cleared pages) (full_cleared pages)
 
-length-cleared : (pages : List (List Entry)) → length (cleared pages) ≡ length pages
+pub length-cleared : (pages : List (List Entry)) → length (cleared pages) ≡ length pages
 length-cleared pages = length-map pages (λ page. [])
 
 -- the pages of a history
-module _ (pages : List (List Entry)) (len cap owed calls : ℕ) (kept : AreKept pages len cap owed calls) where
-  pub kept_length : length (reverse (in_pages pages)) ≡ len
-  kept_length = length-reverse (in_pages pages) ∙ filled_length len pages kept.filled
+module _ (others : List (List Entry)) (full : ℕ) (hand : List Entry) (room : ℕ)
+    (kept : AreKept others full hand room) where
+  pub kept_length : length (in_pages others ++ hand) ≡ 1024 * full + length hand
+  kept_length =
+      let l = length-append (in_pages others) hand in
+      let f = full_length full others kept.full_first in
+      omega (arith, l, f)
 
-  pub kept_get : (number : ℕ) →
-      slice_get (reverse (reverse (in_pages pages))) number
-      ≡ at_place (slice_get pages (number / 1024)) (number % 1024)
-  kept_get number =
-      ap (λ h. slice_get h number) (reverse-reverse (in_pages pages))
-      ∙ in_page len pages kept.filled (number / 1024) (number % 1024) number (omega arith) (omega arith)
+  pub kept_full : full ≤ length others
+  kept_full = few_full full others kept.full_first
 
-  -- the page of the next place
-  pub page_within : (owed' : ℕ) → len + 1 + owed' ≤ 1024 * length pages → len / 1024 < length pages
-  page_within owed' room = omega (arith, room)
+  -- at most a page is at hand, and without places nothing
+  pub hand_small : length hand ≤ 1024
+  hand_small =
+      let f = kept.fits in
+      ⊎_elim (λ (q : room ≡ 1024). omega (arith, f, q)) (λ none. omega (arith, f, none.0)) kept.page
 
-  pub page_short : (owed' : ℕ) (page : List Entry) → len + 1 + owed' ≤ 1024 * length pages →
-      page ≡ get_or pages (len / 1024) page → length page < 1024
-  page_short owed' page room is =
-      let there = next_place len pages kept.filled (len / 1024) (len % 1024) page (omega arith) (omega arith)
-      (page_within owed' room) in
-      omega (arith, ap length is, there)
+  pub kept_within : length (in_pages others ++ hand) ≤ 1024 * length others + room
+  kept_within = let n = kept_length in let m = kept_full in let f = kept.fits in omega (arith, n, m, f)
 
-  -- one entry more
-  module _ (owed' : ℕ) (e : Entry) (page page' : List Entry) (room : len + 1 + owed' ≤ 1024 * length pages)
-      (is : page ≡ get_or pages (len / 1024) page) (more : page' ≡ page ++ e ∷ []) where
-    grown : set pages (len / 1024) page' ≡ set pages (len / 1024) (get_or pages (len / 1024) page ++ e ∷ [])
-    grown = ap (set pages (len / 1024)) (more ∙ ap (λ p. p ++ e ∷ []) is)
+  pub get_hand : (number : ℕ) → number / 1024 ≡ full →
+      slice_get (in_pages others ++ hand) number ≡ slice_get hand (number % 1024)
+  get_hand number is =
+      let f = full_length full others kept.full_first in
+      get_right (in_pages others) hand (number % 1024) number (omega (arith, f, is))
 
-    pub entries_next : reverse (in_pages (set pages (len / 1024) page')) ≡ e ∷ reverse (in_pages pages)
-    entries_next =
-        ap (λ ps. reverse (in_pages ps)) grown
-        ∙ ap reverse (in_pages_next len pages kept.filled (len / 1024) (len % 1024) page e (omega arith)
-        (omega arith) (page_within owed' room))
-        ∙ reverse_push (in_pages pages) e
+  pub get_other : (number : ℕ) → (number / 1024 ≡ full → ⊥) →
+      slice_get (in_pages others ++ hand) number ≡ at_place (slice_get others (number / 1024)) (number % 1024)
+  get_other number ne = ⊎_elim before behind (cases_lt (number / 1024) full)
+    where
+      before : number / 1024 < full →
+          slice_get (in_pages others ++ hand) number
+          ≡ at_place (slice_get others (number / 1024)) (number % 1024)
+      before l =
+          let f = full_length full others kept.full_first in
+          get_left (in_pages others) hand number (omega (arith, f, l))
+          ∙ in_page full others kept.full_first (number / 1024) (number % 1024) number (omega arith)
+          (omega arith) l
 
-    pub view_next : (base : Option Base) → (let v : HistoryView = record {
-      cap = cap;
-      base = base;
-      entries = reverse (in_pages (set pages (len / 1024) page'));
-      owed = owed';
-      places = 1024 * length (set pages (len / 1024) page');
-    } in v) ≡ record {
-      cap = cap;
-      base = base;
-      entries = e ∷ reverse (in_pages pages);
-      owed = owed';
-      places = 1024 * length pages;
-    }
-    view_next base = rw (entries_next, length-set pages (len / 1024) page') refl
+      behind : full ≤ number / 1024 →
+          slice_get (in_pages others ++ hand) number
+          ≡ at_place (slice_get others (number / 1024)) (number % 1024)
+      behind l =
+          let n = kept_length in
+          let m = hand_small in
+          slice_get_past (in_pages others ++ hand) number (omega (arith, n, m, l, ne))
+          ∙ sym (at_none full others kept.full_first (number / 1024) (number % 1024) l)
 
-    pub kept_next : (calls' : ℕ) → len + 1 + owed' ≤ cap →
-        calls' ≡ ended_calls (e ∷ reverse (in_pages pages)) →
-        AreKept (set pages (len / 1024) page') (len + 1) cap owed' calls'
-    kept_next calls' fits counts =
-        let same = length-set pages (len / 1024) page' in
-        record {
-          filled = subst (AreFilled (len + 1)) (sym grown)
-              (filled_next len pages kept.filled (len / 1024) (len % 1024) page e (omega arith) (omega arith)
-              (page_within owed' room));
-          reserved = omega (arith, same, room);
-          within_cap = fits;
-          short = kept.short;
-          bounded = let b = kept.bounded in omega (arith, same, b);
-          counted = counts ∙ ap ended_calls (sym entries_next);
-        }
+  -- a page is at hand where an entry fits
+  pub at_hand : length (in_pages others ++ hand) < 1024 * length others + room → room ≡ 1024
+  at_hand fits =
+      ⊎_elim (λ (q : room ≡ 1024). q)
+      (λ none. (let l = ap length none.1 in absurd (omega (arith, fits, none.0, l)))) kept.page
+
+  pub next_within : length hand ≡ 1024 →
+      length (in_pages others ++ hand) < 1024 * length others + room → full < length others
+  next_within l fits =
+      let n = kept_length in
+      let r = at_hand fits in
+      omega (arith, l, fits, n, r)
+
+  -- one entry more at hand
+  pub kept_add : (e : Entry) → room ≡ 1024 → length hand < 1024 → AreKept others full (hand ++ e ∷ []) room
+  kept_add e page short =
+      record {
+        full_first = kept.full_first;
+        fits = let l = length-append hand (e ∷ []) in omega (arith, l, page, short);
+        page = kept.page;
+        few = kept.few;
+      }
+
+  -- the page at hand is full, and the next one is begun
+  pub kept_begin : (e : Entry) → length hand ≡ 1024 → full < length others → room ≡ 1024 →
+      AreKept (set others full hand) (full + 1) (e ∷ []) 1024
+  kept_begin e l within page =
+      record {
+        full_first = let more : suc full ≡ full + 1 = omega arith in
+            subst (λ n. AreFull n (set others full hand)) more
+            (full_next full others hand kept.full_first l within);
+        fits = omega arith;
+        page = inl refl;
+        few = let n = length-set others full hand in let f = kept.few in omega (arith, n, f, page);
+      }
+
+  pub entries_begin : (e : Entry) → full < length others →
+      in_pages (set others full hand) ++ e ∷ [] ≡ (in_pages others ++ hand) ++ e ∷ []
+  entries_begin e within = ap (λ h. h ++ e ∷ []) (in_pages_next full others hand kept.full_first within)
 
   -- pages more
-  pub kept_more : (k : ℕ) → 1024 * (length pages + k) < cap + 1024 →
-      AreKept (pages ++ replicate k []) len cap owed calls
-  kept_more k bounded =
-      let longer = length-append pages (replicate k [])
-      ∙ ap (λ n. length pages + n) (length-replicate k []) in
+  pub kept_more : (k : ℕ) → room ≡ 1024 → 1024 * (length others + k) + room < 2 ^ 33 →
+      AreKept (others ++ replicate k []) full hand room
+  kept_more k page few =
       record {
-        filled = filled_more len pages kept.filled k;
-        reserved = let r = kept.reserved in omega (arith, longer, r);
-        within_cap = kept.within_cap;
-        short = kept.short;
-        bounded = omega (arith, longer, bounded);
-        counted = kept.counted ∙ ap (λ h. ended_calls (reverse h)) (sym (in_pages_more pages k));
+        full_first = full_more full others kept.full_first k;
+        fits = kept.fits;
+        page = inl page;
+        few = let l = length-append others (replicate k [])
+            ∙ ap (λ n. length others + n) (length-replicate k []) in omega (arith, l, few);
       }
 
-  -- all entries fewer
-  pub view_none : (base : Option Base) → (let v : HistoryView = record {
-    cap = cap;
-    base = base;
-    entries = reverse (in_pages (cleared pages));
-    owed = owed;
-    places = 1024 * length (cleared pages);
-  } in v) ≡ record { cap = cap; base = base; entries = []; owed = owed; places = 1024 * length pages }
-  view_none base = rw (none_cleared pages, length-cleared pages) refl
+  -- the first page
+  pub none_kept : room ≡ 0 → AreFull zero others × (in_pages others ++ hand ≡ []) × (full ≡ 0)
+  none_kept none = ⊎_elim (λ (q : room ≡ 1024). absurd (omega (arith, q, none))) by kept.page
+    where
+      by : (room ≡ 0) × (others ≡ []) → AreFull zero others × (in_pages others ++ hand ≡ []) × (full ≡ 0)
+      by q =
+          let zero_full : full ≡ 0 = let n = kept_full in let l = ap length q.1 in omega (arith, n, l) in (
+            subst (λ n. AreFull n others) zero_full kept.full_first,
+            ap (λ ps. in_pages ps ++ hand) q.1
+                ∙ nil_from_length hand (let f = kept.fits in omega (arith, f, none)),
+            zero_full,
+          )
 
-  pub kept_none : AreKept (cleared pages) 0 cap owed 0
-  kept_none =
-      let same = length-cleared pages in
+-- the pages with their last one at hand, where all are empty
+module _ (pages others : List (List Entry)) (page : List Entry) (f : AreFull zero pages)
+    (is : pages ≡ others ++ page ∷ []) where
+  first_parts : AreFull zero others × (page ≡ [])
+  first_parts = last_empty others page (subst (AreFull zero) is f)
+
+  pub kept_first : 1024 * length pages < 2 ^ 33 → AreKept others 0 page 1024
+  kept_first few =
       record {
-        filled = subst (AreFilled 0) (sym (cleared_empty pages)) (empty_pages (length pages) 0 refl);
-        reserved = let r = kept.reserved in omega (arith, same, r);
-        within_cap = let w = kept.within_cap in omega (arith, w);
-        short = kept.short;
-        bounded = let b = kept.bounded in omega (arith, same, b);
-        counted = ap (λ h. ended_calls (reverse h)) (sym (none_cleared pages));
+        full_first = first_parts.0;
+        fits = let l = ap length first_parts.1 in omega (arith, l);
+        page = inl refl;
+        few = let l = ap length is ∙ length-append others (page ∷ []) in omega (arith, l, few);
       }
+
+  pub entries_first : in_pages others ++ page ≡ []
+  entries_first = ap (λ p. in_pages others ++ p) first_parts.1 ∙ append-nil (in_pages others)
+      ∙ none_full others first_parts.0
+
+-- all entries fewer
+pub kept_none : (others : List (List Entry)) (full : ℕ) (hand : List Entry) (room : ℕ) →
+    AreKept others full hand room → AreKept (cleared others) 0 [] room
+kept_none others full hand room kept =
+    record {
+      full_first = full_cleared others;
+      fits = omega arith;
+      page = ⊎_elim (λ (q : room ≡ 1024). inl q) (λ none. inr (none.0, ap cleared none.1)) kept.page;
+      few = let l = length-cleared others in let f = kept.few in omega (arith, l, f);
+    }

@@ -5,6 +5,7 @@ use Rattle.std.specs.Int.{w32}
 use Rattle.std.specs.Fmt.{signed_decimal}
 use Rattle.std.proofs.lemmas.Bool.{le-leb, ne_eqb}
 use Rattle.std.proofs.lemmas.Fmt.{decimal_nonempty}
+use Rattle.history.specs.declared.limits.TheConstants.{LEAST_CAP, MOST_AMOUNT, MOST_CONDITIONS, MOST_SEATS}
 use Rattle.history.specs.declared.header.Header.{Header}
 use Rattle.history.specs.declared.header.Object.{Object}
 use Rattle.history.specs.declared.header.Object.TheVariants.{Lock, ReadWrite, Semaphore, Latch}
@@ -13,7 +14,8 @@ use Rattle.history.specs.declared.header.Policy.TheVariants.{Fair, NonFair, Stri
 use Rattle.history.specs.Header.{IsInRange, IsOpening}
 use Rattle.history.specs.Text.{line_of, words_of}
 use Rattle.history.specs.Spelling.{policy_word, object_words, part_words, part_of}
-use Rattle.history.specs.Reading.{Words, policy_at, permits_from, lock_at, semaphore_at, latch_at, header_at}
+use Rattle.history.specs.HeaderReading.{policy_at, permits_from, lock_at, semaphore_at, latch_at, header_at}
+use Rattle.history.specs.Reading.{Words}
 use Rattle.history.proofs.Numbers.{number_again, number_at_again, digits_alone}
 use Rattle.history.proofs.Plain.{is_plain, ArePlain, words_again, decimal_plain, signed_plain}
 
@@ -26,7 +28,7 @@ unsigned_again (b ∷ bs) n lt e =
       ne_eqb b 45 (λ same. omega (arith, digit)),
       e,
       number_again n (omega arith),
-      le-leb n 2147483647 (omega arith),
+      le-leb n MOST_AMOUNT (omega arith),
     ) refl
 
 pub permits_again : (z : ℤ) → FitsSigned w32 z → permits_from (signed_decimal z) ≡ Some z
@@ -45,19 +47,19 @@ policy_again Fair ws = refl
 policy_again NonFair ws = refl
 policy_again Strict ws = refl
 
-lock_again : (o : Policy → Object) (p : Policy) (n c k : ℕ) → 1 ≤ n → n ≤ 256 → c ≤ 16 → 16 ≤ k → k < 2 ^ 32
+lock_again : (o : Policy → Object) (p : Policy) (n c k : ℕ) → 1 ≤ n → n ≤ MOST_SEATS → c ≤ MOST_CONDITIONS → LEAST_CAP ≤ k → k < 2 ^ 32
     → lock_at o (policy_word p ∷ codes "seats" ∷ decimal n ∷ codes "conditions" ∷ decimal c
     ∷ codes "cap" ∷ decimal k ∷ []) ≡ Some (record { object = o p; seats = n; conditions = c; cap = k }, [])
 unfolding lock_at
 lock_again o p n c k n1 n2 c2 k1 k2 =
     rw (
       policy_again p _,
-      number_at_again 1 256 n _ (omega arith) n1 n2,
-      number_at_again 0 16 c _ (omega arith) (omega arith) c2,
-      number_at_again 16 4294967295 k [] (omega arith) k1 (omega arith),
+      number_at_again 1 MOST_SEATS n _ (omega arith) n1 n2,
+      number_at_again 0 MOST_CONDITIONS c _ (omega arith) (omega arith) c2,
+      number_at_again LEAST_CAP 4294967295 k [] (omega arith) k1 (omega arith),
     ) refl
 
-semaphore_again : (p : Policy) (z : ℤ) (n k : ℕ) → FitsSigned w32 z → 1 ≤ n → n ≤ 256 → 16 ≤ k → k < 2 ^ 32
+semaphore_again : (p : Policy) (z : ℤ) (n k : ℕ) → FitsSigned w32 z → 1 ≤ n → n ≤ MOST_SEATS → LEAST_CAP ≤ k → k < 2 ^ 32
     → semaphore_at (policy_word p ∷ codes "seats" ∷ decimal n ∷ codes "permits" ∷ signed_decimal z
     ∷ codes "cap" ∷ decimal k ∷ [])
     ≡ Some (record { object = Semaphore p z; seats = n; conditions = 0; cap = k }, [])
@@ -65,23 +67,23 @@ unfolding semaphore_at
 semaphore_again p z n k fits n1 n2 k1 k2 =
     rw (
       policy_again p _,
-      number_at_again 1 256 n _ (omega arith) n1 n2,
+      number_at_again 1 MOST_SEATS n _ (omega arith) n1 n2,
       permits_again z fits,
-      number_at_again 16 4294967295 k [] (omega arith) k1 (omega arith),
+      number_at_again LEAST_CAP 4294967295 k [] (omega arith) k1 (omega arith),
     ) refl
 
-latch_again : (q n k : ℕ) → q ≤ 2147483647 → 1 ≤ n → n ≤ 256 → 16 ≤ k → k < 2 ^ 32
+latch_again : (q n k : ℕ) → q ≤ MOST_AMOUNT → 1 ≤ n → n ≤ MOST_SEATS → LEAST_CAP ≤ k → k < 2 ^ 32
     → latch_at (codes "seats" ∷ decimal n ∷ codes "count" ∷ decimal q ∷ codes "cap" ∷ decimal k ∷ [])
     ≡ Some (record { object = Latch q; seats = n; conditions = 0; cap = k }, [])
 unfolding latch_at
 latch_again q n k q2 n1 n2 k1 k2 =
     rw (
-      number_at_again 1 256 n _ (omega arith) n1 n2,
-      number_at_again 0 2147483647 q _ (omega arith) (omega arith) q2,
-      number_at_again 16 4294967295 k [] (omega arith) k1 (omega arith),
+      number_at_again 1 MOST_SEATS n _ (omega arith) n1 n2,
+      number_at_again 0 MOST_AMOUNT q _ (omega arith) (omega arith) q2,
+      number_at_again LEAST_CAP 4294967295 k [] (omega arith) k1 (omega arith),
     ) refl
 
-pub object_again : (o : Object) (n c k : ℕ) → IsOpening o c → 1 ≤ n → n ≤ 256 → 16 ≤ k → k < 2 ^ 32
+pub object_again : (o : Object) (n c k : ℕ) → IsOpening o c → 1 ≤ n → n ≤ MOST_SEATS → LEAST_CAP ≤ k → k < 2 ^ 32
     → header_at (object_words o n c k) ≡ Some (record { object = o; seats = n; conditions = c; cap = k }, [])
 unfolding header_at
 object_again (Lock p) n c k o n1 n2 k1 k2 = lock_again Lock p n c k n1 n2 o k1 k2
@@ -94,7 +96,7 @@ policy_plain Fair = refl
 policy_plain NonFair = refl
 policy_plain Strict = refl
 
-part_plain : (o : Object) (n c k : ℕ) → IsOpening o c → n ≤ 256 → k < 2 ^ 32 → ArePlain (object_words o n c k)
+part_plain : (o : Object) (n c k : ℕ) → IsOpening o c → n ≤ MOST_SEATS → k < 2 ^ 32 → ArePlain (object_words o n c k)
 part_plain (Lock p) n c k o n2 k2 = (
   refl,
   (

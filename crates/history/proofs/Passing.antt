@@ -1,9 +1,10 @@
 -- Nobody in line is passed in a legal history.
 use Rattle.std.proofs.Common.{◌≡◌, ◌⊎◌, inl, inr, ⊎_elim, ℕ, ◌<◌, Bool, true, false, ◌&&◌, cond, eqb, leb, List, [], ◌∷◌, ◌++◌, length, map, Option, Some, None, refl, ap, ◌∙◌, sym, subst, arith}
+use Rattle.std.proofs.lemmas.Option.{same_Some}
 use Rattle.std.specs.List.{filter, AllByRecursion}
 use Rattle.std.proofs.lemmas.List.Elements.{filter-append}
 use Rattle.std.proofs.lemmas.List.{map-append}
-use Rattle.std.proofs.lemmas.Bool.{and_parts, eqb-true, eq-eqb, or_left}
+use Rattle.std.proofs.lemmas.Bool.{and_parts, eqb-true, eq-eqb, or_left, true≢false}
 use Rattle.history.specs.declared.arrival.Arrival.{Arrival}
 use Rattle.history.specs.declared.entry.Entry.{Entry}
 use Rattle.history.specs.declared.entry.Mode.{Mode}
@@ -30,9 +31,6 @@ use Rattle.history.proofs.OneWait.{Waits, waits_from, opening_waits}
 use Rattle.history.proofs.Owners.{ready_first}
 use Rattle.history.proofs.WhoWaits.{stand_once}
 
-some_same : {A : Type 0} {x y : A} → Some x ≡ Some y → x ≡ y
-some_same q = cc
-
 some_none : {A : Type 0} {x : A} → Some x ≡ None → ⊥
 some_none q = cc
 
@@ -43,7 +41,7 @@ ends_it e i from n = (ends_arrival e.word && eqb e.seat i) && leb from n
 later_is : (o : Option Ending) (b : Bool) (y x : Ending) → first_ending o b y ≡ Some x → (o ≡ Some x)
     ⊎ ((o ≡ None) × (b ≡ true) × (y ≡ x))
 later_is (Some z) b y x q = inl q
-later_is None true y x q = inr (refl, refl, some_same q)
+later_is None true y x q = inr (refl, refl, same_Some _ _ q)
 later_is None false y x q = cc
 
 later_kept : (o : Option Ending) (b : Bool) (y x : Ending) → o ≡ Some x → first_ending o b y ≡ Some x
@@ -102,16 +100,13 @@ no_first : (q : List Arrival) → mode_of (first_of q) ≡ None → q ≡ []
 no_first [] e = refl
 no_first (a ∷ q) e = cc
 
-apart : true ≡ false → ⊥
-apart q = cc
-
 -- a fair object with somebody in line holds back what isn't reentrant
 not_blocked : (o : Object) (m : Mode) (first : Option Mode) → is_fair o ≡ true →
     line_blocks o m first ≡ false → first ≡ None
 not_blocked o m None f b = refl
-not_blocked (Lock p) m (Some x) f b = absurd (apart (sym f ∙ b))
-not_blocked (ReadWrite p) m (Some x) f b = absurd (apart (sym (or_left (is_fair_policy p) _ f) ∙ b))
-not_blocked (Semaphore p c) m (Some x) f b = absurd (apart (sym f ∙ b))
+not_blocked (Lock p) m (Some x) f b = absurd (true≢false (sym f ∙ b))
+not_blocked (ReadWrite p) m (Some x) f b = absurd (true≢false (sym (or_left (is_fair_policy p) _ f) ∙ b))
+not_blocked (Semaphore p c) m (Some x) f b = absurd (true≢false (sym f ∙ b))
 not_blocked (Latch c) m (Some x) f b = cc
 
 -- a strict policy holds back all that a fair one does
@@ -186,7 +181,7 @@ nobody_before s h before after b split st apart f first same =
     by (x ∷ xs) q p ap_ fi =
         let P : List Arrival → Type 0 = λ l. StandOnce l in
         let Q : List Arrival → Type 0 = λ l. first_of l ≡ Some f in
-        let g : x.who ≡ f = some_same (subst Q p fi) in
+        let g : x.who ≡ f = same_Some _ _ (subst Q p fi) in
         let s : b.who.seat ≡ x.who.seat = sym same ∙ sym (ap (λ (y : Arrival). y.seat) g) in
         absurd (found x.who.seat (map (λ a. a.who) xs) b.who (map (λ a. a.who) (filter (stands h) after)) s
         (subst P p ap_).0)

@@ -4,6 +4,7 @@ use Rattle.std.specs.Prelude.{ℤ, pos, negsuc, ◌+ℤ◌, ◌-ℤ◌, ◌≤�
 use Rattle.std.specs.Int.{w32}
 use Rattle.std.proofs.lemmas.Bool.{eq-eqb, ne_eqb}
 use Rattle.std.proofs.lemmas.Int.{ints}
+use Rattle.history.specs.declared.limits.TheConstants.{MOST_AMOUNT}
 use Rattle.history.specs.declared.entry.Entry.{Entry}
 use Rattle.history.specs.declared.entry.Mode.{Mode}
 use Rattle.history.specs.declared.entry.Mode.TheVariants.{X, S}
@@ -48,10 +49,10 @@ semaphore_could (Latch c) k i m n t u = absurd (cc)
 
 semaphore_gave : (o : Object) (k : Counts) (i : ℕ) (m : Mode) (n : ℕ) → is_semaphore o ≡ true →
     lacks_mode o m ≡ false → gave o k i m n ≡ word.Gave → (m ≡ S)
-    × (int_lt (pos 2147483647) (k.free +ℤ pos n) ≡ false)
-semaphore_gave (Semaphore p c) k i S n t u g = (refl, by (int_lt (pos 2147483647) (k.free +ℤ pos n)) refl g)
+    × (int_lt (pos MOST_AMOUNT) (k.free +ℤ pos n) ≡ false)
+semaphore_gave (Semaphore p c) k i S n t u g = (refl, by (int_lt (pos MOST_AMOUNT) (k.free +ℤ pos n)) refl g)
   where
-    by : (b : Bool) → int_lt (pos 2147483647) (k.free +ℤ pos n) ≡ b →
+    by : (b : Bool) → int_lt (pos MOST_AMOUNT) (k.free +ℤ pos n) ≡ b →
         cond b (word.Refused fault.TooManyPermits) word.Gave ≡ word.Gave → b ≡ false
     by true q r = cc
     by false q r = refl
@@ -66,7 +67,7 @@ data Moves (s : Start) (e : Entry) (h : List Entry) : Type 0 where
       (holds : (x : ℕ) → holds_after s.header.object e.word e.n x ≡ x + e.n) →
       (frees : free s (e ∷ h) ≡ free s h -ℤ pos e.n) → (own : (x : ℕ) → beyond e.word e.n x ≡ 0) →
       Moves s e h
-  Gives : (shared : e.mode ≡ S) → (below : int_lt (pos 2147483647) (free s h +ℤ pos e.n) ≡ false) →
+  Gives : (shared : e.mode ≡ S) → (below : int_lt (pos MOST_AMOUNT) (free s h +ℤ pos e.n) ≡ false) →
       (holds : (x : ℕ) → holds_after s.header.object e.word e.n x ≡ x - e.n) →
       (frees : free s (e ∷ h) ≡ free s h +ℤ pos e.n) → (own : (x : ℕ) → beyond e.word e.n x ≡ e.n - x) →
       Moves s e h
@@ -261,7 +262,7 @@ fits_taken : (f : ℤ) (n : ℕ) → FitsSigned w32 f → int_le (pos 0) (f -ℤ
     FitsSigned w32 (f -ℤ pos n)
 fits_taken f n p q = omega (arith, ints)
 
-fits_returned : (f : ℤ) (n : ℕ) → FitsSigned w32 f → int_lt (pos 2147483647) (f +ℤ pos n) ≡ false →
+fits_returned : (f : ℤ) (n : ℕ) → FitsSigned w32 f → int_lt (pos MOST_AMOUNT) (f +ℤ pos n) ≡ false →
     FitsSigned w32 (f +ℤ pos n)
 fits_returned f n p q = omega (arith, ints)
 
@@ -274,16 +275,16 @@ fits_drained f n p q = ⊎_elim (λ z. none (q ∙ z)) (λ all. rest (ap pos q �
     rest : pos n ≡ f → FitsSigned w32 (f -ℤ pos n)
     rest z = omega (arith, ints, p, z)
 
-few : (f : ℤ) (n : ℕ) → FitsSigned w32 f → int_le (pos 0) (f -ℤ pos n) ≡ true → n ≤ 2147483647
+few : (f : ℤ) (n : ℕ) → FitsSigned w32 f → int_le (pos 0) (f -ℤ pos n) ≡ true → n ≤ MOST_AMOUNT
 few f n p q = omega (arith, ints)
 
-few_drained : (f : ℤ) (n : ℕ) → FitsSigned w32 f → n ≡ at_least_none f → n ≤ 2147483647
+few_drained : (f : ℤ) (n : ℕ) → FitsSigned w32 f → n ≡ at_least_none f → n ≤ MOST_AMOUNT
 few_drained f n p q = ⊎_elim (λ z. none (q ∙ z)) (λ all. rest (ap pos q ∙ all)) (drained_is f)
   where
-    none : n ≡ 0 → n ≤ 2147483647
+    none : n ≡ 0 → n ≤ MOST_AMOUNT
     none z = omega (arith, z)
 
-    rest : pos n ≡ f → n ≤ 2147483647
+    rest : pos n ≡ f → n ≤ MOST_AMOUNT
     rest z = omega (arith, ints, p, z)
 
 fits_more : (s : Start) (e : Entry) (h : List Entry) → Moves s e h → FitsSigned w32 (free s h) →
@@ -318,22 +319,22 @@ pub free_fits : (k : Header) (h : List Entry) → IsInRange k → is_semaphore k
     IsLegal (opening k) h → FitsSigned w32 (free (opening k) h)
 free_fits k h range t legal = free_fits_on (opening k) h t (opening_waits k) (created_fits k range t) legal
 
+pub fits_at_most : (f : ℤ) → FitsSigned w32 f → f ≤ℤ pos MOST_AMOUNT
+fits_at_most f p = omega (arith, ints)
+
 pub free_at_most : (k : Header) (h : List Entry) → IsInRange k → is_semaphore k.object ≡ true →
-    IsLegal (opening k) h → free (opening k) h ≤ℤ pos 2147483647
-free_at_most k h range t legal = bound (free (opening k) h) (free_fits k h range t legal)
-  where
-    bound : (f : ℤ) → FitsSigned w32 f → f ≤ℤ pos 2147483647
-    bound f p = omega (arith, ints)
+    IsLegal (opening k) h → free (opening k) h ≤ℤ pos MOST_AMOUNT
+free_at_most k h range t legal = fits_at_most (free (opening k) h) (free_fits k h range t legal)
 
 -- no seat holds more permits than its entries can have taken
 few_taken : (s : Start) (e : Entry) (h : List Entry) → Moves s e h → FitsSigned w32 (free s h) → (x : ℕ) →
-    holds_after s.header.object e.word e.n x ≤ x + 2147483647
+    holds_after s.header.object e.word e.n x ≤ x + MOST_AMOUNT
 few_taken s e h (Takes shared there holds frees own) fits x =
-    let a : e.n ≤ 2147483647 = few (free s h) e.n fits there in
+    let a : e.n ≤ MOST_AMOUNT = few (free s h) e.n fits there in
     let b = holds x in
     omega (arith, a, b)
 few_taken s e h (Drains shared all holds frees own) fits x =
-    let a : e.n ≤ 2147483647 = few_drained (free s h) e.n fits all in
+    let a : e.n ≤ MOST_AMOUNT = few_drained (free s h) e.n fits all in
     let b = holds x in
     omega (arith, a, b)
 few_taken s e h (Gives shared below holds frees own) fits x = let b = holds x in omega (arith, b)
@@ -341,21 +342,21 @@ few_taken s e h (Keeps holds frees own) fits x = let b = holds x in omega (arith
 
 pub held_grows : (s : Start) (h : List Entry) → is_semaphore s.header.object ≡ true → Waits s [] →
     FitsSigned w32 (free s []) → IsLegal s h → (i : ℕ) (m : Mode) →
-    held s h i m ≤ held s [] i m + 2147483647 * length h
+    held s h i m ≤ held s [] i m + MOST_AMOUNT * length h
 held_grows s [] t v fits legal i m = omega arith
 held_grows s (e ∷ h) t v fits legal i m =
     by (eqb e.seat i && same_mode e.mode m) (held s h i m) (length h) (held_grows s h t v fits legal.1 i m)
     (few_taken s e h (moves s e h t (known s h legal.0.0 e legal.0.1) (waits_from s h v legal.1))
     (free_fits_on s h t v fits legal.1))
   where
-    by : (b : Bool) (x n : ℕ) → x ≤ held s [] i m + 2147483647 * n →
-        ((y : ℕ) → holds_after s.header.object e.word e.n y ≤ y + 2147483647) →
-        cond b (holds_after s.header.object e.word e.n x) x ≤ held s [] i m + 2147483647 * suc n
+    by : (b : Bool) (x n : ℕ) → x ≤ held s [] i m + MOST_AMOUNT * n →
+        ((y : ℕ) → holds_after s.header.object e.word e.n y ≤ y + MOST_AMOUNT) →
+        cond b (holds_after s.header.object e.word e.n x) x ≤ held s [] i m + MOST_AMOUNT * suc n
     by true x n l f = let g = f x in omega (arith, l, g)
     by false x n l f = omega (arith, l)
 
 pub held_at_most : (k : Header) (h : List Entry) → IsInRange k → is_semaphore k.object ≡ true →
-    IsLegal (opening k) h → (i : ℕ) (m : Mode) → held (opening k) h i m ≤ 2147483647 * length h
+    IsLegal (opening k) h → (i : ℕ) (m : Mode) → held (opening k) h i m ≤ MOST_AMOUNT * length h
 held_at_most k h range t legal i m =
     let l = held_grows (opening k) h t (opening_waits k) (created_fits k range t) legal i m in
     omega (arith, l)
@@ -428,23 +429,23 @@ low_on s c (e ∷ h) t v low legal =
 
 -- what is released unheld is no more than was asked for; only a semaphore counts it
 few_beyond : (s : Start) (e : Entry) (h : List Entry) (had : ℕ) → Known s h e →
-    beyond e.word e.n had ≤ 2147483647
+    beyond e.word e.n had ≤ MOST_AMOUNT
 few_beyond s e h had k = by e.word k
   where
-    by : (w : Word) → KnownBy s h e w → beyond w e.n had ≤ 2147483647
+    by : (w : Word) → KnownBy s h e w → beyond w e.n had ≤ MOST_AMOUNT
     by word.Gave k = let l = asked_few s.header.object e.n k.0.amount in omega (arith, l)
     by _ k = omega arith
 
-pub unheld_grows : (s : Start) (h : List Entry) → IsLegal s h → unheld s h ≤ s.unheld + 2147483647 * length h
+pub unheld_grows : (s : Start) (h : List Entry) → IsLegal s h → unheld s h ≤ s.unheld + MOST_AMOUNT * length h
 unheld_grows s [] legal = omega arith
 unheld_grows s (e ∷ h) legal =
     by (is_semaphore s.header.object)
     (few_beyond s e h (held s h e.seat e.mode) (known s h legal.0.0 e legal.0.1)) (unheld_grows s h legal.1)
   where
-    by : (b : Bool) → beyond e.word e.n (held s h e.seat e.mode) ≤ 2147483647 →
-        unheld s h ≤ s.unheld + 2147483647 * length h →
+    by : (b : Bool) → beyond e.word e.n (held s h e.seat e.mode) ≤ MOST_AMOUNT →
+        unheld s h ≤ s.unheld + MOST_AMOUNT * length h →
         unheld s h + cond b (beyond e.word e.n (held s h e.seat e.mode)) 0
-        ≤ s.unheld + 2147483647 * suc (length h)
+        ≤ s.unheld + MOST_AMOUNT * suc (length h)
     by true l m = omega (arith, l, m)
     by false l m = omega (arith, m)
 

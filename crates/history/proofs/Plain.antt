@@ -4,7 +4,7 @@ use Rattle.std.specs.Prelude.{ℤ, pos, negsuc, FitsSigned}
 use Rattle.std.specs.Int.{w32}
 use Rattle.std.specs.Fmt.{signed_decimal}
 use Rattle.std.specs.List.{list_all, AllByRecursion}
-use Rattle.std.proofs.lemmas.Bool.{lt-ltb, ltb-true, ne_eqb}
+use Rattle.std.proofs.lemmas.Bool.{lt-ltb, ltb-true, ne_eqb, and_parts}
 use Rattle.std.proofs.lemmas.Fmt.{decimal_by_steps}
 use Rattle.std.proofs.lemmas.List.Folds.{list_all-append}
 use Rattle.std.proofs.lemmas.List.Elements.{All-from_recursion}
@@ -18,15 +18,11 @@ is_plain = list_all (λ b. ltb 32 b)
 abbrev pub ArePlain : List (List ℕ) → Type 0
 ArePlain = AllByRecursion (λ w. is_plain w ≡ true)
 
-pub both : (a b : Bool) → (a && b) ≡ true → (a ≡ true) × (b ≡ true)
-both true b e = (refl, e)
-both false b e = absurd cc
-
 -- a plain word has no byte that is at most 32
 lacks : (c : ℕ) → c ≤ 32 → (w : List ℕ) → is_plain w ≡ true → AllByRecursion (λ b. eqb b c ≡ false) w
 lacks c le [] e = tt
 lacks c le (b ∷ bs) e =
-    let t = both (ltb 32 b) (is_plain bs) e in
+    let t = and_parts (ltb 32 b) (is_plain bs) e in
     (ne_eqb b c (λ same. omega (arith, ltb-true 32 b t.0)), lacks c le bs t.1)
 
 pub lacks_byte : (c : ℕ) → c ≤ 32 → (w : List ℕ) → is_plain w ≡ true → All (λ b. eqb b c ≡ false) w

@@ -2,6 +2,7 @@
 use Rattle.std.proofs.Common.{◌≡◌, ⊎_elim, ℕ, ◌<◌, ◌≤◌, Bool, true, false, not, ◌&&◌, ◌||◌, cond, eqb, ltb, List, Option, Some, None, Ok, refl, ap, ◌∙◌, sym, subst, arith}
 use Rattle.std.specs.Prelude.{ℤ}
 use Rattle.std.proofs.lemmas.Bool.{cases_eq, eq-eqb, lt-ltb}
+use Rattle.history.specs.declared.limits.TheConstants.{MOST_HOLDS, MOST_READ_WRITE_HOLDS}
 use Rattle.history.specs.declared.entry.End.TheVariants as end
 use Rattle.history.specs.declared.entry.Entry.{Entry}
 use Rattle.history.specs.declared.entry.Mode.{Mode}
@@ -13,7 +14,7 @@ use Rattle.history.specs.declared.header.Object.{Object}
 use Rattle.history.specs.declared.header.Object.TheVariants.{Lock, ReadWrite, Semaphore, Latch}
 use Rattle.history.specs.declared.step.Step.{Step}
 use Rattle.history.specs.declared.step.Step.TheVariants as step
-use Rattle.history.specs.Could.{is_none_or, is_seat, line_blocks, max_holds, max_shared}
+use Rattle.history.specs.Could.{is_none_or, is_seat, line_blocks}
 use Rattle.history.specs.Counts.{count, counts, free, held, owner, readers}
 use Rattle.history.specs.Faults.{is_wrong_mode, lacks_mode}
 use Rattle.history.specs.Line.{first_mode}
@@ -31,6 +32,12 @@ use Rattle.history.proofs.Owners.{nobody_holds, owner_holds}
 abbrev Joins : Start → List Entry → ℕ → Step → Type 0
 Joins s h i (step.Acquire m n) = acquired (counts s h) (first_mode s h) i m n ≡ word.Queued
 Joins s h i _ = ⊥
+
+pub signal_apart : word.Signal ≡ word.Queued → ⊥
+signal_apart q = cc
+
+pub all_apart : word.SignalAll ≡ word.Queued → ⊥
+all_apart q = cc
 
 module _ (s : Start) (h : List Entry) (i : ℕ) where
   -- a try, in fair order or not, that takes by a word
@@ -62,12 +69,6 @@ module _ (s : Start) (h : List Entry) (i : ℕ) where
       (record { seat = i; word = w; mode = X; n = n; at = at; end = end.None })).word ≡ word.Queued → ⊥
   not_signals true w n at apart q = cc
   not_signals false w n at apart q = apart q
-
-  signal_apart : word.Signal ≡ word.Queued → ⊥
-  signal_apart q = cc
-
-  all_apart : word.SignalAll ≡ word.Queued → ⊥
-  all_apart q = cc
 
   joins : (x : Step) → (idle_entry s h i x).word ≡ word.Queued → Joins s h i x
   joins (step.Acquire m n) q = q
@@ -142,21 +143,21 @@ module _ (n : ℕ) (had : ℕ → Mode → ℕ) (f : ℤ) (c : ℕ) (first : Opt
       acquired (numbers o n had f c) first i m x ≡ word.Queued → ⊥
   owner_takes (Lock p) X lock has owns most few q =
       let is = is_owner (owner (numbers (Lock p) n had f c)) i owns in
-      within (had i X) max_holds most
-      (owns_lock _ _ (line_blocks (Lock p) X first) (eqb (had i X) max_holds) (ltb (had i X) max_holds)
+      within (had i X) MOST_HOLDS most
+      (owns_lock _ _ (line_blocks (Lock p) X first) (eqb (had i X) MOST_HOLDS) (ltb (had i X) MOST_HOLDS)
       is.0 is.1 q)
   owner_takes (Lock p) S lock has owns most few q = cc
   owner_takes (ReadWrite p) X lock has owns most few q =
       let is = is_owner (owner (numbers (ReadWrite p) n had f c)) i owns in
-      within (had i X) max_shared most
-      (owns_write _ (line_blocks (ReadWrite p) X first) (eqb (had i X) max_shared) (ltb (had i X) max_shared)
+      within (had i X) MOST_READ_WRITE_HOLDS most
+      (owns_write _ (line_blocks (ReadWrite p) X first) (eqb (had i X) MOST_READ_WRITE_HOLDS) (ltb (had i X) MOST_READ_WRITE_HOLDS)
       _ is.0 q)
   owner_takes (ReadWrite p) S lock has owns most few q =
       let is = is_owner (owner (numbers (ReadWrite p) n had f c)) i owns in
       let reads = readers (numbers (ReadWrite p) n had f c) in
-      within reads max_shared few
-      (owns_read _ _ (ltb 0 (had i S)) (line_blocks (ReadWrite p) S first) (eqb reads max_shared)
-      (ltb reads max_shared) is.0 is.1 q)
+      within reads MOST_READ_WRITE_HOLDS few
+      (owns_read _ _ (ltb 0 (had i S)) (line_blocks (ReadWrite p) S first) (eqb reads MOST_READ_WRITE_HOLDS)
+      (ltb reads MOST_READ_WRITE_HOLDS) is.0 is.1 q)
   owner_takes (Semaphore p d) m lock has owns most few q = cc
   owner_takes (Latch d) m lock has owns most few q = cc
 

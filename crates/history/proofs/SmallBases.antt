@@ -1,16 +1,17 @@
 -- The numbers of a good base are small.
 use Rattle.std.proofs.Common.{◌≡◌, ℕ, zero, suc, ◌*◌, ◌<◌, ◌≤◌, refl, ap, arith}
+use Rattle.history.specs.declared.limits.TheConstants.{MOST_HOLDS, MOST_BASE_PERMITS}
 use Rattle.history.specs.declared.entry.Mode.TheVariants.{X, S}
 use Rattle.history.specs.declared.header.Object.{Object}
 use Rattle.history.specs.declared.header.Object.TheVariants.{Lock, ReadWrite, Semaphore, Latch}
 use Rattle.history.specs.Base.{Base, seat_of}
-use Rattle.history.specs.Counts.{held, total}
-use Rattle.history.specs.GoodBase.{AreCounted, AreHeld, IsGood, most_permits}
+use Rattle.history.specs.Counts.{total}
+use Rattle.history.specs.GoodBase.{AreCounted, AreHeld, IsGood}
 use Rattle.history.specs.Ownership.{most_exclusive, most_shared}
 use Rattle.history.proofs.Times.{total_part}
 
 pub few_exclusive : (b : Base) (o : Object) → b.header.object ≡ o → AreHeld o b → (i : ℕ) →
-    (seat_of b i).exclusive ≤ 2147483647
+    (seat_of b i).exclusive ≤ MOST_HOLDS
 few_exclusive b (Lock p) q v i =
     let l = v.exclusive i in
     let m = ap most_exclusive q in
@@ -23,7 +24,7 @@ few_exclusive b (Semaphore p c) q v i = let l = v.exclusive i in omega (arith, l
 few_exclusive b (Latch c) q v i = let l = v i X in omega (arith, l)
 
 pub few_shared : (b : Base) (o : Object) → b.header.object ≡ o → AreHeld o b → (i : ℕ) → i < b.header.seats →
-    (seat_of b i).shared ≤ most_permits
+    (seat_of b i).shared ≤ MOST_BASE_PERMITS
 few_shared b (Lock p) q v i l =
     let t = total_part b.header.seats (λ j. (seat_of b j).shared) i l in
     let a = v.shared in
@@ -37,7 +38,7 @@ few_shared b (ReadWrite p) q v i l =
 few_shared b (Semaphore p c) q v i l = v.shared i
 few_shared b (Latch c) q v i l = let n = v i S in omega (arith, n)
 
-pub few_unheld : (b : Base) (o : Object) → AreCounted o b → b.unheld ≤ most_permits
+pub few_unheld : (b : Base) (o : Object) → AreCounted o b → b.unheld ≤ MOST_BASE_PERMITS
 few_unheld b (Lock p) v = let n = v.0 in omega (arith, n)
 few_unheld b (ReadWrite p) v = let n = v.0 in omega (arith, n)
 few_unheld b (Semaphore p c) v = v.0
@@ -53,7 +54,7 @@ few_in_all (suc n) f most few =
 
 -- what all seats hold together
 pub few_held : (b : Base) → IsGood b →
-    total b.header.seats (λ i. (seat_of b i).shared) ≤ most_permits * b.header.seats
+    total b.header.seats (λ i. (seat_of b i).shared) ≤ MOST_BASE_PERMITS * b.header.seats
 few_held b good =
-    few_in_all b.header.seats (λ i. (seat_of b i).shared) most_permits
+    few_in_all b.header.seats (λ i. (seat_of b i).shared) MOST_BASE_PERMITS
     (few_shared b b.header.object refl good.held)

@@ -1,6 +1,7 @@
 -- What is held behind legal entries on a good base, and asked for in its line, is small.
 use Rattle.std.proofs.Common.{◌≡◌, ⊎_elim, ℕ, ◌+◌, ◌*◌, ◌<◌, ◌≤◌, List, [], ◌∷◌, length, map, refl, ap, arith}
 use Rattle.std.specs.List.{AllByRecursion}
+use Rattle.history.specs.declared.limits.TheConstants.{MOST_AMOUNT, MOST_BASE_PERMITS, MOST_HOLDS}
 use Rattle.history.specs.declared.arrival.Arrival.{Arrival}
 use Rattle.history.specs.declared.base.Standing.{Standing}
 use Rattle.history.specs.declared.entry.Entry.{Entry}
@@ -9,7 +10,7 @@ use Rattle.history.specs.declared.header.Object.{Object}
 use Rattle.history.specs.declared.header.Object.TheVariants.{Lock, ReadWrite, Semaphore, Latch}
 use Rattle.history.specs.Base.{Base, based}
 use Rattle.history.specs.Counts.{held}
-use Rattle.history.specs.GoodBase.{AreHeld, StandsWell, most_permits}
+use Rattle.history.specs.GoodBase.{AreHeld, StandsWell}
 use Rattle.history.specs.Header.{IsInRange}
 use Rattle.history.specs.Line.{line}
 use Rattle.history.specs.Object.{is_latch, is_lock, is_semaphore}
@@ -24,7 +25,7 @@ use Rattle.history.proofs.Times.{total_part}
 
 module _ (b : Base) (h : List Entry) (can : CanFold b h) where
   exclusive_of : (o : Object) → b.header.object ≡ o → AreHeld o b → (i : ℕ) →
-      held (based b) h i X ≤ 2147483647
+      held (based b) h i X ≤ MOST_HOLDS
   exclusive_of (Lock p) q v i =
       let l = (owned_behind b can.good h (ap is_lock q) can.legal can.seated).exclusive i in
       let m = most_fits b.header.object in
@@ -41,11 +42,11 @@ module _ (b : Base) (h : List Entry) (can : CanFold b h) where
       let none = latch_holds (based b) h (ap is_latch q) (good_waits b can.good) can.legal v i X in
       omega (arith, none)
 
-  pub exclusive_small : (i : ℕ) → held (based b) h i X ≤ 2147483647
+  pub exclusive_small : (i : ℕ) → held (based b) h i X ≤ MOST_HOLDS
   exclusive_small i = exclusive_of b.header.object refl can.good.held i
 
   shared_of : IsInRange b.header → (o : Object) → b.header.object ≡ o → AreHeld o b → (i : ℕ) →
-      i < b.header.seats → held (based b) h i S ≤ most_permits + 2147483647 * length h
+      i < b.header.seats → held (based b) h i S ≤ MOST_BASE_PERMITS + MOST_AMOUNT * length h
   shared_of range (Lock p) q v i l =
       let all = (owned_behind b can.good h (ap is_lock q) can.legal can.seated).shared in
       let part = total_part b.header.seats (λ j. held (based b) h j S) i l in
@@ -67,10 +68,10 @@ module _ (b : Base) (h : List Entry) (can : CanFold b h) where
       omega (arith, none)
 
   pub shared_small : IsInRange b.header → (i : ℕ) → i < b.header.seats →
-      held (based b) h i S ≤ most_permits + 2147483647 * length h
+      held (based b) h i S ≤ MOST_BASE_PERMITS + MOST_AMOUNT * length h
   shared_small range i l = shared_of range b.header.object refl can.good.held i l
 
-stand_few : (b : Base) (q : List Standing) → AllByRecursion (StandsWell b) q →
+pub stand_few : (b : Base) (q : List Standing) → AllByRecursion (StandsWell b) q →
     AllByRecursion AsksFew (map (λ p. p.who) q)
 stand_few b [] all = tt
 stand_few b (p ∷ q) all = (

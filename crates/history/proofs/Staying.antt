@@ -1,7 +1,7 @@
 -- One in line stays there while others' entries come.
 use Rattle.std.proofs.Common.{◌≡◌, ◌≢◌, ℕ, Bool, true, false, not, ◌&&◌, cond, eqb, List, [], ◌∷◌, ◌++◌, Some, None, refl, ap, ◌∙◌}
 use Rattle.std.specs.List.{filter}
-use Rattle.std.proofs.lemmas.Bool.{eqb-true, ne_eqb}
+use Rattle.std.proofs.lemmas.Bool.{eqb-true, ne_eqb, and_right}
 use Rattle.history.specs.declared.arrival.Arrival.{Arrival}
 use Rattle.history.specs.declared.entry.Entry.{Entry}
 use Rattle.history.specs.Entry.{ends_arrival}
@@ -47,13 +47,9 @@ place_behind i (b ∷ q) r p = by (eqb b.seat i) p (λ x. place_behind i q r x)
 kept : (b c : Bool) → (b && c) ≡ false → not (b && c) ≡ true
 kept b c e = ap not e
 
-nothing_and : (b c : Bool) → c ≡ false → (b && c) ≡ false
-nothing_and true c e = e
-nothing_and false c e = refl
-
 other_stays : (e : Entry) (i : ℕ) → e.seat ≢ i → (b : Arrival) → b.seat ≡ i → stays e.word e.seat b ≡ true
 other_stays e i ne b same = kept (ends_arrival e.word) (eqb e.seat b.seat)
-    (nothing_and (ends_arrival e.word) (eqb e.seat b.seat) (ne_eqb e.seat b.seat (λ q. ne (q ∙ same))))
+    (and_right (ends_arrival e.word) (eqb e.seat b.seat) (ne_eqb e.seat b.seat (λ q. ne (q ∙ same))))
 
 pub stays_in_line : (s : Start) (e : Entry) (h : List Entry) (i : ℕ) (a : Arrival) → e.seat ≢ i →
     place_of i (line s h) ≡ Some a → place_of i (line s (e ∷ h)) ≡ Some a

@@ -35,23 +35,25 @@ pub total_same : (n : ℕ) (f g : ℕ → ℕ) → ((i : ℕ) → f i ≡ g i) �
 total_same zero f g h = refl
 total_same (suc n) f g h = let e = total_same n f g h in let d = h n in omega (arith, e, d)
 
-pub total_change : (n : ℕ) (f g : ℕ → ℕ) (j : ℕ) → j < n → ((i : ℕ) → i ≢ j → f i ≡ g i) →
-    total n f + g j ≡ total n g + f j
-total_change zero f g j l h = absurd (omega arith)
-total_change (suc n) f g j l h =
-    ⊎_elim same (λ ne. other ne (λ l'. total_change n f g j l' h)) (cases_eq n j)
-  where
-    below : (m : ℕ) → m ≤ j → total m f ≡ total m g
-    below zero b = refl
-    below (suc m) b =
-        let ne : m ≢ j = omega arith in
-        let e : total m f ≡ total m g = below m (omega arith) in
-        let d : f m ≡ g m = h m ne in
-        omega (arith, e, d)
+-- totals of functions that agree below
+pub total_agree : (n : ℕ) (f g : ℕ → ℕ) → ((i : ℕ) → i < n → f i ≡ g i) → total n f ≡ total n g
+total_agree zero f g same = refl
+total_agree (suc n) f g same =
+    let ih : total n f ≡ total n g = total_agree n f g (λ i l. same i (omega (arith, l))) in
+    let e : f n ≡ g n = same n (omega arith) in
+    omega (arith, ih, e)
 
-    same : n ≡ j → total (suc n) f + g j ≡ total (suc n) g + f j
-    same e =
-        let b : total n f ≡ total n g = below n (omega (arith, e)) in
+pub total_change_below : (n : ℕ) (f g : ℕ → ℕ) (j : ℕ) → j < n → ((i : ℕ) → i < n → i ≢ j → f i ≡ g i) →
+    total n f + g j ≡ total n g + f j
+total_change_below zero f g j l same = absurd (omega arith)
+total_change_below (suc n) f g j l same =
+    ⊎_elim last (λ ne. other ne (λ l'. total_change_below n f g j l' (λ i b. same i (omega (arith, b)))))
+    (cases_eq n j)
+  where
+    last : n ≡ j → total (suc n) f + g j ≡ total (suc n) g + f j
+    last e =
+        let b : total n f ≡ total n g =
+        total_agree n f g (λ i b. same i (omega (arith, b)) (λ q. absurd (omega (arith, b, q, e)))) in
         let x : f n ≡ f j = ap f e in
         let y : g n ≡ g j = ap g e in
         omega (arith, b, x, y)
@@ -60,5 +62,9 @@ total_change (suc n) f g j l h =
         total (suc n) f + g j ≡ total (suc n) g + f j
     other ne ih =
         let r : total n f + g j ≡ total n g + f j = ih (omega (arith, ne, l)) in
-        let d : f n ≡ g n = h n ne in
+        let d : f n ≡ g n = same n (omega arith) ne in
         omega (arith, r, d)
+
+pub total_change : (n : ℕ) (f g : ℕ → ℕ) (j : ℕ) → j < n → ((i : ℕ) → i ≢ j → f i ≡ g i) →
+    total n f + g j ≡ total n g + f j
+total_change n f g j l h = total_change_below n f g j l (λ i b ne. h i ne)

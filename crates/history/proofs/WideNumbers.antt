@@ -2,13 +2,13 @@
 use Rattle.std.proofs.Common.{Bool, true, false, cond, ltb, ◌&&◌, Option, Some, None, bytes_eq, ◌≡◌, ℕ, ◌+◌, ◌^◌, ◌<◌, ◌≤◌, ◌%◌, List, [], ◌∷◌, decimal, refl, sym, ◌∙◌, arith}
 use Rattle.std.specs.Prelude.{IfSome, IfNone}
 use Rattle.std.specs.Str.Parse.{digits_value}
-use Rattle.std.proofs.lemmas.Bool.{lt-ltb, le-leb, ltb-true}
+use Rattle.std.proofs.lemmas.Bool.{lt-ltb, le-leb, ltb-true, and_parts}
 use Rattle.std.proofs.lemmas.Fmt.{decimal_is_IsNumeral_wide, decimal_by_steps_wide}
 use Rattle.std.proofs.lemmas.List.Folds.{list_all-append}
 use Rattle.std.proofs.lemmas.Slice.Eq.{bytes_eq-Decides}
 use Rattle.history.specs.Reading.{Words, wide_from, wide_at}
 use Rattle.history.proofs.Numbers.{equal_bytes}
-use Rattle.history.proofs.Plain.{both, is_plain}
+use Rattle.history.proofs.Plain.{is_plain}
 
 -- what is spelt is read again
 pub wide_again : (n : ℕ) → n < 2 ^ 128 → wide_from (decimal n) ≡ Some n
@@ -40,6 +40,6 @@ is_wide_from bs None found none =
     tested : (b : Bool) → (bytes_eq bs (decimal (digits_value 10 bs)) && ltb (digits_value 10 bs) (2 ^ 128))
         ≡ b → None ≡ cond b (Some (digits_value 10 bs)) None
     tested true e =
-        let t = both _ _ e in absurd (none (digits_value 10 bs) (ltb-true _ _ t.1)
+        let t = and_parts _ _ e in absurd (none (digits_value 10 bs) (ltb-true _ _ t.1)
         ((bytes_eq-Decides bs (decimal (digits_value 10 bs))).0 t.0))
     tested false e = refl

@@ -1,5 +1,6 @@
 -- What a seat could take, when it is at its limit, and who is held back by a line.
 use Rattle.std.specs.Prelude.{ℕ, ◌==◌, nat_lt, Bool, true, false, ◌&&◌, ◌||◌, not, if◌then◌else◌, Option, Some, None, pos, ◌-ℤ◌, int_le}
+use Rattle.history.specs.declared.limits.TheConstants.{MOST_HOLDS, MOST_READ_WRITE_HOLDS}
 use Rattle.history.specs.declared.entry.Mode.{Mode}
 use Rattle.history.specs.declared.entry.Mode.TheVariants.{X, S}
 use Rattle.history.specs.declared.header.Object.{Object}
@@ -8,12 +9,12 @@ use Rattle.history.specs.Counts.{Counts, owner, readers}
 use Rattle.history.specs.Entry.{is_exclusive}
 use Rattle.history.specs.Object.{is_fair_policy, is_strict}
 
--- the greatest number of holds of a lock by one seat, and of write holds, or of all read holds
+-- the limits of holds, under the names that other crates cite
 abbrev pub max_holds : ℕ
-max_holds = 2147483647
+max_holds = MOST_HOLDS
 
 abbrev pub max_shared : ℕ
-max_shared = 65535
+max_shared = MOST_READ_WRITE_HOLDS
 
 -- this seat, and no other
 abbrev pub is_seat : Option ℕ → ℕ → Bool
@@ -29,10 +30,11 @@ is_none_or (Some j) i = j == i
 -- own and nobody read, but for the owner itself; to read, nobody else may own. Permits must be free for
 -- all of the request, and a latch opens at 0. A mode that the object lacks is never taken.
 abbrev pub could_of : Object → Counts → ℕ → Mode → ℕ → Bool
-could_of (Lock policy) k i X n = is_none_or (owner k) i && nat_lt (k.held i X) max_holds
+could_of (Lock policy) k i X n = is_none_or (owner k) i && nat_lt (k.held i X) MOST_HOLDS
 could_of (ReadWrite policy) k i X n =
-    if is_seat (owner k) i then nat_lt (k.held i X) max_shared else is_none_or (owner k) i && (readers k == 0)
-could_of (ReadWrite policy) k i S n = is_none_or (owner k) i && nat_lt (readers k) max_shared
+    if is_seat (owner k) i then nat_lt (k.held i X) MOST_READ_WRITE_HOLDS
+    else is_none_or (owner k) i && (readers k == 0)
+could_of (ReadWrite policy) k i S n = is_none_or (owner k) i && nat_lt (readers k) MOST_READ_WRITE_HOLDS
 could_of (Semaphore policy permits) k i S n = int_le (pos 0) (k.free -ℤ pos n)
 could_of (Latch opening) k i S n = k.count == 0
 could_of _ k i m n = false
@@ -44,9 +46,9 @@ could k i m n = could_of k.object k i m n
 -- The limit is met by a seat with as many exclusive holds as may be, and for new reads, where nobody else
 -- owns, by as many read holds of all seats as may be.
 abbrev pub limit_of : Object → Counts → ℕ → Mode → Bool
-limit_of (Lock policy) k i X = k.held i X == max_holds
-limit_of (ReadWrite policy) k i X = k.held i X == max_shared
-limit_of (ReadWrite policy) k i S = is_none_or (owner k) i && (readers k == max_shared)
+limit_of (Lock policy) k i X = k.held i X == MOST_HOLDS
+limit_of (ReadWrite policy) k i X = k.held i X == MOST_READ_WRITE_HOLDS
+limit_of (ReadWrite policy) k i S = is_none_or (owner k) i && (readers k == MOST_READ_WRITE_HOLDS)
 limit_of _ k i m = false
 
 abbrev pub limit : Counts → ℕ → Mode → Bool

@@ -19,6 +19,14 @@ abbrev pub ended_calls : List Entry → ℕ
 ended_calls [] = 0
 ended_calls (e ∷ h) = ended_calls h + (if ends_call e.word then 1 else 0)
 
+-- the calls that ended before a base, and in all: before the base of a history and in its entries
+abbrev pub calls_before : Option Base → ℕ
+calls_before None = 0
+calls_before (Some b) = (based b).calls
+
+abbrev pub all_calls : HistoryView → ℕ
+all_calls v = calls_before v.base + ended_calls v.entries
+
 -- what a history begins from: its base, or that of the object as it is opened
 abbrev pub or_opening : Header → Option Base → Base
 or_opening k None = opening_base k

@@ -1,5 +1,6 @@
 -- What the readers of an entry answer, from the words that are left to the words after.
 use Rattle.std.specs.Prelude.{ℕ, List, [], ◌∷◌, Option, None, Some, codes, bytes_eq, if◌then◌else◌}
+use Rattle.history.specs.declared.limits.TheConstants.{LAST_CONDITION, MOST_AMOUNT}
 use Rattle.history.specs.Reading.{Words, ◌>>=◌, keyword_at, number_at, mode_at}
 use Rattle.history.specs.declared.entry.Entry.{Entry}
 use Rattle.history.specs.declared.entry.End.{End}
@@ -40,17 +41,17 @@ recorded_at (w ∷ ws) = if bytes_eq w (codes "NotOwner") then Some (fault.NotOw
 unfoldable pub asked_at : Words → Option ((Mode × ℕ) × Words)
 asked_at words = do
   m ← mode_at words
-  n ← number_at 0 2147483647 m.1
+  n ← number_at 0 MOST_AMOUNT m.1
   Some ((m.0, n.0), n.1)
 
 -- a condition, and one with an amount
 unfoldable pub condition_at : Words → Option (ℕ × Words)
-condition_at words = number_at 0 15 words
+condition_at words = number_at 0 LAST_CONDITION words
 
 unfoldable pub sleepers_at : Words → Option ((ℕ × ℕ) × Words)
 sleepers_at words = do
   c ← condition_at words
-  n ← number_at 0 2147483647 c.1
+  n ← number_at 0 MOST_AMOUNT c.1
   Some ((c.0, n.0), n.1)
 
 -- the entries that spell a mode and an amount, and those that spell a condition and an amount
@@ -109,7 +110,7 @@ named_entry_at seat w ws = if bytes_eq w (codes "left") then left_at seat ws
     else if bytes_eq w (codes "signalall") then waking seat word.SignalAll ws
     else if bytes_eq w (codes "back") then back_at seat ws
     else if bytes_eq w (codes "counted") then shared_at seat word.Counted 1 1 ws
-    else if bytes_eq w (codes "drained") then shared_at seat word.Drained 0 2147483647 ws
+    else if bytes_eq w (codes "drained") then shared_at seat word.Drained 0 MOST_AMOUNT ws
     else None
 
 -- an entry of a seat

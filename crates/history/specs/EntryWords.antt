@@ -1,5 +1,6 @@
 -- The words that spell an entry behind its seat.
 use Rattle.std.specs.Prelude.{◌≡◌, ◌≤◌, ℕ, List, [], ◌∷◌, codes, decimal}
+use Rattle.history.specs.declared.limits.TheConstants.{LAST_CONDITION, MOST_AMOUNT}
 use Rattle.history.specs.declared.entry.Entry.{Entry}
 use Rattle.history.specs.declared.entry.Mode.{Mode}
 use Rattle.history.specs.declared.entry.Mode.TheVariants.{X, S}
@@ -88,8 +89,8 @@ HasWords w m n at e = (at ≡ 0) × (e ≡ end.None)
 abbrev pub IsSpelt : Entry → Type 0
 IsSpelt e = HasWords e.word e.mode e.n e.at e.end
 
--- an entry as a history text may have it: amounts of 31 bits, and at most 16 conditions
+-- an entry as a history text may have it
 pub record IsWritten (e : Entry) : Type 0 where
   pub words : IsSpelt e
-  pub amount : e.n ≤ 2147483647
-  pub condition : e.at ≤ 15
+  pub amount : e.n ≤ MOST_AMOUNT
+  pub condition : e.at ≤ LAST_CONDITION

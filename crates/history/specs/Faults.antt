@@ -1,6 +1,7 @@
 -- The steps that are refused and not recorded, whatever the history says: a mode or step that the object
 -- lacks, a condition that it lacks, an amount that it doesn't count in.
 use Rattle.std.specs.Prelude.{ℕ, ◌==◌, nat_lt, nat_le, Bool, false, ◌&&◌, ◌||◌, not}
+use Rattle.history.specs.declared.limits.TheConstants.{MOST_AMOUNT}
 use Rattle.history.specs.declared.entry.Mode.{Mode}
 use Rattle.history.specs.declared.header.Header.{Header}
 use Rattle.history.specs.declared.header.Object.{Object}
@@ -35,13 +36,13 @@ is_no_condition k (Signal c) = nat_le k.conditions c
 is_no_condition k (SignalAll c) = nat_le k.conditions c
 is_no_condition k _ = false
 
--- the greatest amount of a request
+-- the greatest amount of a request, under the name that other crates cite
 abbrev pub max_amount : ℕ
-max_amount = 2147483647
+max_amount = MOST_AMOUNT
 
 -- only a semaphore counts in other amounts than 1
 abbrev pub is_bad_number : Object → ℕ → Bool
-is_bad_number o n = nat_lt max_amount n || (not (is_semaphore o) && not (n == 1))
+is_bad_number o n = nat_lt MOST_AMOUNT n || (not (is_semaphore o) && not (n == 1))
 
 abbrev pub is_bad_amount : Object → Step → Bool
 is_bad_amount o (Acquire m n) = is_bad_number o n

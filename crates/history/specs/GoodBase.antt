@@ -1,6 +1,7 @@
 -- The rules of a base: which numbers and lists a history may have left.
 use Rattle.std.specs.Prelude.{◌≡◌, ◌≢◌, ◌⊎◌, ◌<◌, ◌≤◌, ◌*◌, ℕ, true, false, [], length, ℤ, pos, ◌≤ℤ◌}
 use Rattle.std.specs.List.{AllByRecursion}
+use Rattle.history.specs.declared.limits.TheConstants.{MOST_AMOUNT, MOST_FOLDED, MOST_BASE_PERMITS}
 use Rattle.history.specs.declared.base.Sleeper.{Sleeper}
 use Rattle.history.specs.declared.base.Standing.{Standing}
 use Rattle.history.specs.declared.entry.End.TheVariants as end
@@ -18,27 +19,27 @@ use Rattle.history.specs.Object.{is_lock, is_semaphore}
 use Rattle.history.specs.Ownership.{IsOwned, most_exclusive}
 use Rattle.history.specs.Waiting.{IsOneWait}
 
--- the greatest number of entries folded, and of permits held by a seat or released unheld
+-- the limits of a base, under the names that other crates cite
 abbrev pub most_folded : ℕ
-most_folded = 1000000000000000
+most_folded = MOST_FOLDED
 
 abbrev pub most_permits : ℕ
-most_permits = 10000000000000000000000000
+most_permits = MOST_BASE_PERMITS
 
 -- Only a semaphore has permits released unheld, and only a latch a count, at most its opening one.
 abbrev pub AreCounted : Object → Base → Type 0
 AreCounted (Lock policy) b = (b.unheld ≡ 0) × (b.count ≡ 0)
 AreCounted (ReadWrite policy) b = (b.unheld ≡ 0) × (b.count ≡ 0)
-AreCounted (Semaphore policy permits) b = (b.unheld ≤ most_permits) × (b.count ≡ 0)
+AreCounted (Semaphore policy permits) b = (b.unheld ≤ MOST_BASE_PERMITS) × (b.count ≡ 0)
 AreCounted (Latch opening) b = (b.unheld ≡ 0) × (b.count ≤ opening)
 
 -- The permits of a semaphore: none is held exclusively, and the free ones are no fewer than none or than it
 -- was made with, and no more than there may be.
 pub record ArePermits (created : ℤ) (b : Base) : Type 0 where
   pub exclusive : (i : ℕ) → held (based b) [] i X ≡ 0
-  pub shared : (i : ℕ) → held (based b) [] i S ≤ most_permits
+  pub shared : (i : ℕ) → held (based b) [] i S ≤ MOST_BASE_PERMITS
   pub lowest : (pos 0 ≤ℤ free (based b) []) ⊎ (created ≤ℤ free (based b) [])
-  pub highest : free (based b) [] ≤ℤ pos 2147483647
+  pub highest : free (based b) [] ≤ℤ pos MOST_AMOUNT
 
 -- A lock has one owner, and nobody beside it. Nobody holds anything of a latch.
 abbrev pub AreHeld : Object → Base → Type 0
@@ -80,7 +81,7 @@ SleepsWell b c x = GaveUp b x.seat c x.holds
 
 -- A base that keeps all the rules.
 pub record IsGood (b : Base) : Type 0 where
-  pub entries : b.entries ≤ most_folded
+  pub entries : b.entries ≤ MOST_FOLDED
   pub seats : length b.seats ≡ b.header.seats
   pub conditions : length b.sleepers ≡ b.header.conditions
   pub calls : calls (based b) [] ≤ b.entries  -- each entry ends one call at most
@@ -90,12 +91,12 @@ pub record IsGood (b : Base) : Type 0 where
   pub line : AllByRecursion (StandsWell b) b.line
   pub sleepers : (c : ℕ) → AllByRecursion (SleepsWell b c) (sleepers_of b c)
 
--- A base whose permits its entries can have moved: no request is for more than 2147483647. The fold of an
+-- A base whose permits its entries can have moved: no request is for more than MOST_AMOUNT. The fold of an
 -- opening is such a base, whatever comes of it.
 abbrev pub IsModest : Base → Type 0
 IsModest b =
     is_semaphore b.header.object ≡ true →
-    (b.unheld ≤ 2147483647 * b.entries) × ((i : ℕ) → held (based b) [] i S ≤ 2147483647 * b.entries)
+    (b.unheld ≤ MOST_AMOUNT * b.entries) × ((i : ℕ) → held (based b) [] i S ≤ MOST_AMOUNT * b.entries)
 
 -- The base of an object's history: that of its opening, or a good one of some entries.
 abbrev pub IsBaseOf : Header → Base → Type 0

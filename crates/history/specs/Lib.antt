@@ -30,8 +30,11 @@ pub mod Waiting
 pub mod GoodBase
 pub mod Point
 pub mod NextBase
-pub mod BasePlaces
 pub mod Fold
 pub mod Numbering
 pub mod Awaiting
 pub mod Marks
+-- Private contracts alone cite these.
+pub mod HeaderReading
+pub mod Paged
+pub mod BasePlaces

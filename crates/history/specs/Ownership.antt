@@ -1,11 +1,11 @@
 -- That a lock or read-write lock has one owner, and nobody reads beside it.
 use Rattle.std.specs.Prelude.{◌≡◌, ◌<◌, ◌≤◌, ℕ, Bool, true, false, List}
+use Rattle.history.specs.declared.limits.TheConstants.{MOST_HOLDS, MOST_READ_WRITE_HOLDS}
 use Rattle.history.specs.declared.entry.Entry.{Entry}
 use Rattle.history.specs.declared.entry.Mode.{Mode}
 use Rattle.history.specs.declared.entry.Mode.TheVariants.{X, S}
 use Rattle.history.specs.declared.header.Object.{Object}
 use Rattle.history.specs.declared.header.Object.TheVariants.{Lock, ReadWrite, Semaphore, Latch}
-use Rattle.history.specs.Could.{max_holds, max_shared}
 use Rattle.history.specs.Counts.{held, total}
 use Rattle.history.specs.Phase.{Phase, Idle, InLine, Sleeping}
 use Rattle.history.specs.Sleepers.{last_sleep}
@@ -13,14 +13,14 @@ use Rattle.history.specs.Start.{Start}
 
 -- the greatest number of exclusive holds of one seat, and of shared holds of all seats
 abbrev pub most_exclusive : Object → ℕ
-most_exclusive (Lock policy) = max_holds
-most_exclusive (ReadWrite policy) = max_shared
+most_exclusive (Lock policy) = MOST_HOLDS
+most_exclusive (ReadWrite policy) = MOST_READ_WRITE_HOLDS
 most_exclusive (Semaphore policy permits) = 0
 most_exclusive (Latch opening) = 0
 
 abbrev pub most_shared : Object → ℕ
 most_shared (Lock policy) = 0
-most_shared (ReadWrite policy) = max_shared
+most_shared (ReadWrite policy) = MOST_READ_WRITE_HOLDS
 most_shared (Semaphore policy permits) = 0
 most_shared (Latch opening) = 0
 

@@ -1,14 +1,8 @@
 -- What the readers of words answer, from the words that are left to the words after.
-use Rattle.std.specs.Prelude.{ℕ, ◌^◌, List, [], ◌∷◌, Option, None, Some, codes, decimal, bytes_eq, nat_lt, nat_le, ◌==◌, ◌&&◌, if◌then◌else◌, ℤ, pos}
+use Rattle.std.specs.Prelude.{ℕ, ◌^◌, List, [], ◌∷◌, Option, None, Some, codes, decimal, bytes_eq, nat_lt, nat_le, ◌&&◌, if◌then◌else◌}
 use Rattle.std.specs.Str.Parse.{digits_value}
-use Rattle.std.specs.Prelude.{neg_ℤ}
 use Rattle.history.specs.declared.entry.Mode.{Mode}
 use Rattle.history.specs.declared.entry.Mode.TheVariants.{X, S}
-use Rattle.history.specs.declared.header.Header.{Header}
-use Rattle.history.specs.declared.header.Object.{Object}
-use Rattle.history.specs.declared.header.Object.TheVariants.{Lock, ReadWrite, Semaphore, Latch}
-use Rattle.history.specs.declared.header.Policy.{Policy}
-use Rattle.history.specs.declared.header.Policy.TheVariants.{Fair, NonFair, Strict}
 
 abbrev pub Words : Type 0
 Words = List (List ℕ)
@@ -56,12 +50,6 @@ wide_at least most words = do
   n ← wide_from w.0
   if nat_le least n && nat_le n most then Some (n, w.1) else None
 
-abbrev pub policy_at : Words → Option (Policy × Words)
-policy_at [] = None
-policy_at (w ∷ ws) = if bytes_eq w (codes "fair") then Some (Fair, ws)
-    else if bytes_eq w (codes "nonfair") then Some (NonFair, ws)
-    else if bytes_eq w (codes "strict") then Some (Strict, ws) else None
-
 abbrev pub mode_at : Words → Option (Mode × Words)
 mode_at [] = None
 mode_at (w ∷ ws) = if bytes_eq w (codes "x") then Some (X, ws)
@@ -72,49 +60,3 @@ abbrev pub named_at : List ℕ → ℕ → ℕ → Words → Option (ℕ × Word
 named_at name least most words = do
   k ← keyword_at name words
   number_at least most k.1
-
--- a number of 32 bits, signed
-unfoldable pub permits_from : List ℕ → Option ℤ
-permits_from [] = None
-permits_from (b ∷ bs) = if b == 45
-    then (number_from bs >>= λ n. if nat_le 1 n && nat_le n 2147483648 then Some (neg_ℤ (pos n)) else None)
-    else (number_from (b ∷ bs) >>= λ n. if nat_le n 2147483647 then Some (pos n) else None)
-
-abbrev pub permits_at : Words → Option (ℤ × Words)
-permits_at words = do
-  w ← word_at words
-  z ← permits_from w.0
-  Some (z, w.1)
-
--- the rest of a lock's header or a read-write lock's
-unfoldable pub lock_at : (Policy → Object) → Words → Option (Header × Words)
-lock_at object words = do
-  policy ← policy_at words
-  seats ← named_at (codes "seats") 1 256 policy.1
-  conditions ← named_at (codes "conditions") 0 16 seats.1
-  cap ← named_at (codes "cap") 16 4294967295 conditions.1
-  Some (record { object = object policy.0; seats = seats.0; conditions = conditions.0; cap = cap.0 }, cap.1)
-
-unfoldable pub semaphore_at : Words → Option (Header × Words)
-semaphore_at words = do
-  policy ← policy_at words
-  seats ← named_at (codes "seats") 1 256 policy.1
-  name ← keyword_at (codes "permits") seats.1
-  permits ← permits_at name.1
-  cap ← named_at (codes "cap") 16 4294967295 permits.1
-  Some (record { object = Semaphore policy.0 permits.0; seats = seats.0; conditions = 0; cap = cap.0 }, cap.1)
-
-unfoldable pub latch_at : Words → Option (Header × Words)
-latch_at words = do
-  seats ← named_at (codes "seats") 1 256 words
-  count ← named_at (codes "count") 0 2147483647 seats.1
-  cap ← named_at (codes "cap") 16 4294967295 count.1
-  Some (record { object = Latch count.0; seats = seats.0; conditions = 0; cap = cap.0 }, cap.1)
-
-unfoldable pub header_at : Words → Option (Header × Words)
-header_at [] = None
-header_at (w ∷ ws) = if bytes_eq w (codes "lock") then lock_at Lock ws
-    else if bytes_eq w (codes "rw") then lock_at ReadWrite ws
-    else if bytes_eq w (codes "semaphore") then semaphore_at ws
-    else if bytes_eq w (codes "latch") then latch_at ws
-    else None

@@ -1,5 +1,6 @@
 -- The one entry that a step of a seat makes, or sleep, or a fault that isn't recorded.
 use Rattle.std.specs.Prelude.{ℕ, ◌==◌, nat_lt, Bool, true, false, not, if◌then◌else◌, List, length, Option, Some, None, Result, Ok, Err, ℤ, pos, ◌+ℤ◌, int_lt, nat_abs}
+use Rattle.history.specs.declared.limits.TheConstants.{MOST_AMOUNT}
 use Rattle.history.specs.declared.arrival.Arrival.{Arrival}
 use Rattle.history.specs.declared.entry.Entry.{Entry}
 use Rattle.history.specs.declared.entry.End.{End}
@@ -16,7 +17,7 @@ use Rattle.history.specs.declared.step.Step.{Step}
 use Rattle.history.specs.declared.step.Step.TheVariants.{Acquire, Try, TryFair, EntryInterrupt, Give, Look, Expire, Interrupt, Await, Signal, SignalAll, Drain}
 use Rattle.history.specs.Could.{could, limit, held_back, is_seat, try_held_back}
 use Rattle.history.specs.Counts.{Counts, counts, owner}
-use Rattle.history.specs.Faults.{is_wrong_mode, is_no_condition, is_bad_amount, max_amount}
+use Rattle.history.specs.Faults.{is_wrong_mode, is_no_condition, is_bad_amount}
 use Rattle.history.specs.Line.{first_mode}
 use Rattle.history.specs.Naming.{ready}
 use Rattle.history.specs.Phase.{Phase, Idle, InLine, Sleeping, phase, suits}
@@ -54,7 +55,7 @@ abbrev pub gave : Object → Counts → ℕ → Mode → ℕ → Word
 gave (Lock policy) k i m n = if nat_lt 0 (k.held i m) then word.Gave else word.Refused fault.NotOwner
 gave (ReadWrite policy) k i m n = if nat_lt 0 (k.held i m) then word.Gave else word.Refused fault.NotOwner
 gave (Semaphore policy permits) k i m n =
-    if int_lt (pos max_amount) (k.free +ℤ pos n) then word.Refused fault.TooManyPermits else word.Gave
+    if int_lt (pos MOST_AMOUNT) (k.free +ℤ pos n) then word.Refused fault.TooManyPermits else word.Gave
 gave (Latch opening) k i m n = word.Counted
 
 -- An await is the owner's, without read holds, and gives up all its exclusive holds.

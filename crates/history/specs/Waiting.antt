@@ -1,9 +1,9 @@
 -- Who waits, in line or asleep, and that a seat waits in one place.
-use Rattle.std.specs.Prelude.{◌≡◌, ℕ, zero, suc, ◌+◌, ◌≤◌, ◌==◌, false, if◌then◌else◌, List, [], ◌∷◌, ◌++◌, map, None}
+use Rattle.std.specs.Prelude.{◌≡◌, ℕ, zero, suc, ◌+◌, ◌≤◌, ◌==◌, if◌then◌else◌, List, [], ◌∷◌, ◌++◌, map, None}
 use Rattle.history.specs.declared.arrival.Arrival.{Arrival}
 use Rattle.history.specs.declared.entry.Entry.{Entry}
 use Rattle.history.specs.Line.{line, place_of}
-use Rattle.history.specs.Sleepers.{sleepers, has}
+use Rattle.history.specs.Sleepers.{sleepers}
 use Rattle.history.specs.Start.{Start}
 
 -- how often a seat stands in a list
@@ -11,11 +11,7 @@ abbrev pub times : ℕ → List ℕ → ℕ
 times i [] = 0
 times i (j ∷ seats) = times i seats + (if j == i then 1 else 0)
 
--- each seat stands in a list, or in a line, at most once
-abbrev pub AreOnce : List ℕ → Type 0
-AreOnce [] = Unit {0}
-AreOnce (i ∷ seats) = (has i seats ≡ false) × AreOnce seats
-
+-- each seat stands in a line at most once
 abbrev pub StandOnce : List Arrival → Type 0
 StandOnce [] = Unit {0}
 StandOnce (a ∷ rest) = (place_of a.seat rest ≡ None) × StandOnce rest

@@ -1,11 +1,12 @@
 //! The base of a history: what is left of entries that were folded.
 
-ghost use Rattle.std.specs.Prelude.{◌≡◌, ◌+◌, ◌≤◌, ◌↔◌, [], length, map, All, IfOk, IfErr, IsTrue, vec_capacity};
+ghost use Rattle.std.specs.Prelude.{◌≡◌, ◌+◌, ◌≤◌, ◌↔◌, [], get_or, length, map, min, All, IfOk, IfErr, IsTrue, vec_capacity};
+ghost use Rattle.history.specs.declared.limits.TheConstants.{MOST_FOLDED};
 ghost use Rattle.history.specs.declared.fault.Fault.TheVariants.{OutOfMemory};
-ghost use Rattle.history.specs.Base.{each_below, opening_base, sleepers_of};
+ghost use Rattle.history.specs.Base.{based, each_below, nothing, opening_base, sleepers_of};
 ghost use Rattle.history.specs.BasePlaces.{HasPlaces};
+ghost use Rattle.history.specs.Counts.{total};
 ghost use Rattle.history.specs.Fold.{MayFold};
-ghost use Rattle.history.specs.GoodBase.{most_folded};
 ghost use Rattle.history.specs.Header.{IsInRange};
 ghost use Rattle.history.specs.NextBase.{next_base};
 ghost use Rattle.history.specs.Object.{opening_count};
@@ -17,6 +18,7 @@ use crate::base_parts::{
 use crate::entry::{End, Entry};
 use crate::fault::Fault;
 use crate::header::{Header, Object};
+use crate::limits::MOST_FOLDED;
 use std::alloc::Global;
 use std::marker::Model;
 
@@ -86,9 +88,6 @@ impl Model for Base {
         × All (λ list. vec_capacity list ≡ a.header.seats) a.sleepers.items };
 }
 
-/// The greatest number of entries that may be folded.
-const MOST_FOLDED: u128 = 1_000_000_000_000_000;
-
 /// What a seat has that did nothing yet.
 const NOTHING: SeatBase = SeatBase {
     calls: 0,
@@ -124,10 +123,17 @@ impl Base {
         sleepers_on(&self.sleepers, condition)
     }
 
+    /// The calls that its seats ended, all together, or `u64::MAX` if there are more.
+    pub fn calls(&self) -> u64
+        ensures { result ≡ min (based self.now).calls u64.MAX }
+    {
+        calls_of(&self.seats, self.header.seats)
+    }
+
     /// Whether so many entries more may be folded.
     pub(crate) fn may_fold(&self, more: u64) -> bool
-        requires { self.now.entries ≤ most_folded }
-        ensures { IsTrue result ↔ (self.now.entries + more ≤ most_folded) }
+        requires { self.now.entries ≤ MOST_FOLDED }
+        ensures { IsTrue result ↔ (self.now.entries + more ≤ MOST_FOLDED) }
     {
         u128::from(more) <= MOST_FOLDED - self.entries
     }
@@ -147,6 +153,26 @@ impl Base {
         leave_line(&mut self.line, entry);
         join_line(&mut self.line, sleepers_on(&self.sleepers, entry.at), entry);
         follow_sleepers(&mut self.sleepers, entry);
+    }
+}
+
+/// The calls that the first `count` seats ended, all together, or `u64::MAX` if there are more.
+fn calls_of(seats: &[SeatBase], count: u16) -> u64
+    ensures { result ≡ min (total count (λ i. (get_or seats.now i nothing).calls)) u64.MAX }
+{
+    let mut sum: u64 = 0;
+    for seat in 0..count {
+        sum = sum.saturating_add(calls_at(seats, seat));
+    }
+    sum
+}
+
+fn calls_at(seats: &[SeatBase], seat: u16) -> u64
+    ensures { result ≡ (get_or seats.now seat nothing).calls }
+{
+    match seats.get(seat as usize) {
+        Some(has) => has.calls,
+        None => 0,
     }
 }
 

@@ -1,20 +1,20 @@
 //! A list of entries that only grows or is folded into a base, with room that stays reserved.
 
-ghost use Rattle.std.specs.Prelude.{◌≡◌, ◌+◌, ◌*◌, ◌^◌, ◌<◌, ◌≤◌, ◌↔◌, ◌⊎◌, max, [], ◌∷◌, length, reverse, slice_get, Some, None, IsTrue, IsOk, IsErrOf, OnOk, OnErr, IfOk, IfErr, IsSomeAnd};
+ghost use Rattle.std.specs.Prelude.{◌≡◌, ◌+◌, ◌*◌, ◌^◌, ◌<◌, ◌≤◌, ◌↔◌, ◌⊎◌, max, min, [], ◌∷◌, length, reverse, slice_get, Some, None, IsTrue, IsOk, IsErrOf, OnOk, OnErr, IfOk, IfErr, IsSomeAnd};
 ghost use Rattle.std.specs.Option.{option_copied, option_map};
+ghost use Rattle.history.specs.declared.limits.TheConstants.{MOST_FOLDED};
 ghost use Rattle.history.specs.declared.fault.Fault.TheVariants.{HistoryFull, OutOfMemory, TrimFull};
 ghost use Rattle.history.specs.Base.{folded};
 ghost use Rattle.history.specs.Entry.{ends_call};
-ghost use Rattle.history.specs.Entries.{ended_calls};
+ghost use Rattle.history.specs.Entries.{all_calls};
 ghost use Rattle.history.specs.Fold.{MayFold};
-ghost use Rattle.history.specs.GoodBase.{most_folded};
 ghost use Rattle.history.specs.Pages.{whole_pages};
 
 use crate::base::Base;
 use crate::entry::{Entry, Word};
 use crate::fault::Fault;
 use crate::fold::fold_onto;
-use crate::page::{PLACES, Page, clear_pages, reserve_pages};
+use crate::pages::Pages;
 use std::alloc::Global;
 use std::marker::Model;
 use std::mem::size_of;
@@ -32,29 +32,29 @@ const _: () = prove!(size_of::<Entry>() <= 12);
 #[derive(Debug, Drop)]
 pub struct History {
     base: Option<Base>,
-    pages: Vec<Page>,
-    len: u64,
+    pages: Pages,
     cap: u32,
     owed: u64,
+    /// How many of the entries end a call.
     calls: u64,
 }
 
 impl Model for History {
-    ghost use Rattle.std.specs.Prelude.{◌*◌, length, reverse};
+    ghost use Rattle.std.specs.Prelude.{reverse};
     ghost use Rattle.history.specs.Entries.{HistoryView};
-    ghost use Rattle.history.specs.Pages.{in_pages, AreKept};
+    ghost use Rattle.history.specs.Paged.{IsKept};
 
     ghost Value = { HistoryView };
 
     ghost view = { λ a. record {
       cap = a.cap;
       base = a.base;
-      entries = reverse (in_pages a.pages.items);
+      entries = reverse a.pages.entries;
       owed = a.owed;
-      places = 1024 * length a.pages.items;
+      places = a.pages.places;
     } };
 
-    ghost invariant = { λ a. AreKept a.pages.items a.len a.cap a.owed a.calls };
+    ghost invariant = { λ a. IsKept a.pages a.cap a.owed a.calls };
 }
 
 impl History {
@@ -64,8 +64,7 @@ impl History {
     {
         History {
             base: None,
-            pages: Vec::new(alloc),
-            len: 0,
+            pages: Pages::open(alloc),
             cap,
             owed: 0,
             calls: 0,
@@ -95,13 +94,13 @@ impl History {
         ensures within_cap { result ≤ self.now.cap }
         ensures few { result < 2 ^ 32 }
     {
-        self.len
+        self.pages.len()
     }
 
     pub fn is_empty(&self) -> bool
         ensures { IsTrue result ↔ (self.now.entries ≡ []) }
     {
-        self.len == 0
+        self.pages.len() == 0
     }
 
     /// The greatest number of entries.
@@ -126,25 +125,25 @@ impl History {
         ensures value { result ≡ self.now.places }
         ensures bounded { result < self.now.cap + 1024 }
     {
-        (self.pages.len() * PLACES) as u64
+        self.pages.places()
     }
 
-    /// The number of entries that end a call.
+    /// The number of calls that ended: those of the base, and those of the entries. It is `u64::MAX` if there
+    /// are more, which there never are on a good base.
     pub fn calls(&self) -> u64
-        ensures { result ≡ ended_calls self.now.entries }
+        ensures { result ≡ min (all_calls self.now) u64.MAX }
     {
-        self.calls
+        match &self.base {
+            Some(base) => base.calls().saturating_add(self.calls),
+            None => self.calls,
+        }
     }
 
     /// The entry of a number, counted from 0, the oldest.
     pub fn get(&self, number: u64) -> Option<Entry>
         ensures { result ≡ slice_get (reverse self.now.entries) number }
     {
-        let place = number as usize;
-        match self.pages.get(place / PLACES) {
-            Some(page) => page.get(place % PLACES),
-            None => None,
-        }
+        self.pages.get(number)
     }
 
     /// Reserves places for as many entries more, beside those owed: as many pages as all these take, and no
@@ -191,24 +190,21 @@ impl History {
         ensures reserved { entries ≤ self.old.places → IsOk result × (self.new ≡ self.old) }
         ensures err { IfErr result (λ fault. (fault ≡ OutOfMemory) × (self.new ≡ self.old)) }
     {
-        let wanted = entries as usize;
-        if wanted <= self.pages.len() * PLACES {
-            return Ok(());
+        match self.pages.reserve(entries) {
+            Ok(()) => Ok(()),
+            Err(_) => Err(Fault::OutOfMemory),
         }
-        let more = wanted.div_ceil(PLACES) - self.pages.len();
-        reserve_pages(&mut self.pages, more)?;
-        Ok(())
     }
 
     /// Adds an entry at a place that is reserved, and says how much room stays owed from then on. It takes
     /// no memory.
+    #[inline(always)]
     pub fn add(&mut self, entry: Entry, owed: u64)
         requires reserved { length self.old.entries + 1 + owed ≤ self.old.places }
         requires within_cap { length self.old.entries + 1 + owed ≤ self.old.cap }
         ensures { self.new ≡ record self.old { entries = entry ∷ self.old.entries; owed = owed } }
     {
-        self.pages[self.len as usize / PLACES].add(entry);
-        self.len += 1;
+        self.pages.add(entry);
         self.owed = owed;
         self.calls += u64::from(ends_call(entry.word));
     }
@@ -229,15 +225,14 @@ impl History {
         // The base may fold what comes next.
         ensures goes_on { OnOk result (IsSomeAnd self.new.base (λ base. MayFold base [])) }
         ensures full { IsErrOf result TrimFull
-            ↔ IsSomeAnd self.old.base (λ base. most_folded < base.entries + length self.old.entries) }
+            ↔ IsSomeAnd self.old.base (λ base. MOST_FOLDED < base.entries + length self.old.entries) }
         ensures err { IfErr result (λ fault. (fault ≡ TrimFull) × (self.new ≡ self.old)) }
     {
-        let count = self.len;
+        let count = self.pages.len();
         if !fold_onto(&mut self.base, &self.pages, count) {
             return Err(Fault::TrimFull);
         }
-        clear_pages(&mut self.pages);
-        self.len = 0;
+        self.pages.clear();
         self.calls = 0;
         Ok(count)
     }

@@ -5,6 +5,7 @@ ghost use Rattle.history.specs.declared.entry.End.TheVariants as end;
 ghost use Rattle.history.specs.declared.entry.Entry.{Entry};
 ghost use Rattle.history.specs.declared.entry.Mode.{Mode};
 ghost use Rattle.history.specs.declared.entry.Mode.TheVariants.{X, S};
+ghost use Rattle.history.specs.declared.limits.TheConstants.{LAST_CONDITION, MOST_AMOUNT};
 ghost use Rattle.history.specs.EntryReading.{given_up_at, come_back_at, recorded_at, asked_at, condition_at, sleepers_at, left_at, refused_at, lapse_at, back_at, shared_at, named_entry_at, entry_at, in_mode, on_condition, asking, waking};
 ghost use Rattle.history.specs.EntryWords.{mode_word, end_word, entry_words, spelt, GaveUp, CameBack, HasWords, IsWritten};
 ghost use Rattle.history.specs.Fault.{fault_name, IsRecorded};
@@ -12,11 +13,8 @@ ghost use Rattle.history.specs.Reading.{Words, with_rest};
 
 use crate::entry::{End, Entry, Mode, Word};
 use crate::fault::Fault;
+use crate::limits::{LAST_CONDITION, MOST_AMOUNT};
 use crate::words::Words;
-
-const MOST: u64 = 2_147_483_647;
-
-const LAST_CONDITION: u64 = 15;
 
 /// How a call gave up.
 #[inline(always)]
@@ -79,10 +77,10 @@ fn recorded(words: &mut Words<'_>) -> Option<Fault>
 fn asked(words: &mut Words<'_>) -> Option<(Mode, u32)>
     ensures is { with_rest result words.new ≡ asked_at words.old }
     ensures found { IfSome result (λ a. (words.old ≡ mode_word a.0 ∷ decimal a.1 ∷ words.new)
-        × (a.1 ≤ 2147483647)) }
+        × (a.1 ≤ MOST_AMOUNT)) }
 {
     let mode = words.mode()?;
-    let n = words.number(0, MOST)?;
+    let n = words.number(0, MOST_AMOUNT as u64)?;
     Some((mode, n as u32))
 }
 
@@ -90,9 +88,9 @@ fn asked(words: &mut Words<'_>) -> Option<(Mode, u32)>
 #[inline(always)]
 fn condition(words: &mut Words<'_>) -> Option<u8>
     ensures is { with_rest result words.new ≡ condition_at words.old }
-    ensures found { IfSome result (λ c. (words.old ≡ decimal c ∷ words.new) × (c ≤ 15)) }
+    ensures found { IfSome result (λ c. (words.old ≡ decimal c ∷ words.new) × (c ≤ LAST_CONDITION)) }
 {
-    Some(words.number(0, LAST_CONDITION)? as u8)
+    Some(words.number(0, LAST_CONDITION as u64)? as u8)
 }
 
 /// A condition and an amount.
@@ -100,11 +98,11 @@ fn condition(words: &mut Words<'_>) -> Option<u8>
 #[inline(always)]
 fn sleepers(words: &mut Words<'_>) -> Option<(u8, u32)>
     ensures is { with_rest result words.new ≡ sleepers_at words.old }
-    ensures found { IfSome result (λ s. (words.old ≡ decimal s.0 ∷ decimal s.1 ∷ words.new) × (s.0 ≤ 15)
-        × (s.1 ≤ 2147483647)) }
+    ensures found { IfSome result (λ s. (words.old ≡ decimal s.0 ∷ decimal s.1 ∷ words.new) × (s.0 ≤ LAST_CONDITION)
+        × (s.1 ≤ MOST_AMOUNT)) }
 {
     let at = condition(words)?;
-    let n = words.number(0, MOST)?;
+    let n = words.number(0, MOST_AMOUNT as u64)?;
     Some((at, n as u32))
 }
 
@@ -208,7 +206,7 @@ fn back(words: &mut Words<'_>, seat: u16) -> Option<Entry>
 /// An entry of an object that is held shared alone, with an amount in this range.
 #[tactic(auto, unfolding(crate::specs::EntryReading::shared_at))]
 fn shared(words: &mut Words<'_>, seat: u16, word: Word, least: u64, most: u64) -> Option<Entry>
-    requires { most ≤ 2147483647 }
+    requires { most ≤ MOST_AMOUNT }
     ensures is { with_rest result words.new ≡ shared_at seat word least most words.old }
     ensures found { IfSome result (λ e. (e ≡ in_mode seat word (S, e.n)) × (least ≤ e.n) × (e.n ≤ most)
         × (words.old ≡ mode_word S ∷ decimal e.n ∷ words.new)) }
@@ -261,7 +259,7 @@ fn named_entry(words: &mut Words<'_>, seat: u16, name: &[u8]) -> Option<Entry>
     } else if name == b"counted".as_slice() {
         shared(words, seat, Word::Counted, 1, 1)
     } else if name == b"drained".as_slice() {
-        shared(words, seat, Word::Drained, 0, MOST)
+        shared(words, seat, Word::Drained, 0, MOST_AMOUNT as u64)
     } else {
         None
     }

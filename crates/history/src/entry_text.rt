@@ -6,6 +6,7 @@ ghost use Rattle.history.specs.EntryWords.{mode_word};
 
 use crate::entry::{End, Entry, Mode, Word};
 use crate::fault::Fault;
+use crate::limits::{LAST_CONDITION, MOST_AMOUNT};
 use crate::number::spell;
 use crate::pieces::{put_byte, put_bytes};
 
@@ -106,12 +107,11 @@ impl Entry {
         }
     }
 
-    /// Whether it may stand in a history text: spelt, its amount at most 2147483647, its condition at most
-    /// 15.
+    /// Whether it may stand in a history text: it is spelt, and its amount and condition are within the limits.
     pub fn is_written(&self) -> bool
         ensures { IsTrue result ↔ IsWritten self.now }
     {
-        self.is_spelt() && self.n <= 2_147_483_647 && self.at <= 15
+        self.is_spelt() && self.n <= MOST_AMOUNT && self.at <= LAST_CONDITION
     }
 
     /// Appends the words that stand behind the seat.

@@ -12,7 +12,7 @@ pub enum Fault {
     NotOwner,
     /// A hold limit.
     TooManyHolds,
-    /// A release past 2147483647 free permits.
+    /// A release past `MOST_AMOUNT` free permits.
     TooManyPermits,
     /// An interrupt was pending at entry.
     Interrupted,
@@ -22,7 +22,7 @@ pub enum Fault {
     OutOfPhase,
     /// A condition that the object doesn't have.
     NoSuchCondition,
-    /// An amount above 2147483647, or other than 1 on anything but a semaphore.
+    /// An amount above `MOST_AMOUNT`, or other than 1 on anything but a semaphore.
     BadAmount,
     /// A step or mode that the object doesn't have.
     WrongMode,

@@ -1,31 +1,33 @@
 //! Entries, folded into a base.
 
-ghost use Rattle.std.specs.Prelude.{◌≡◌, ◌+◌, ◌<◌, ◌≤◌, ◌↔◌, length, reverse, IsSomeAnd, IsTrue, IsFalse};
+ghost use Rattle.std.specs.Prelude.{◌≡◌, ◌+◌, ◌<◌, ◌≤◌, ◌↔◌, ◌++◌, length, reverse, IsSomeAnd, IsTrue, IsFalse};
 ghost use Rattle.std.specs.Option.{option_map};
+ghost use Rattle.history.specs.declared.limits.TheConstants.{MOST_FOLDED};
 ghost use Rattle.history.specs.Base.{folded};
 ghost use Rattle.history.specs.Fold.{MayFold};
-ghost use Rattle.history.specs.GoodBase.{most_folded};
-ghost use Rattle.history.specs.Pages.{in_pages};
+ghost use Rattle.history.specs.Paged.{in_pages};
 
 use crate::base::Base;
 use crate::entry::Entry;
 use crate::page::Page;
+use crate::pages::Pages;
 
-/// Folds the entries of these pages, of which there are so many, into the base, if there is one and it may
-/// have folded as many more. Else nothing changes.
-pub(crate) fn fold_onto(base: &mut Option<Base>, pages: &[Page], count: u64) -> bool
-    requires may { IsSomeAnd base.old (λ base. MayFold base (reverse (in_pages pages.now))) }
-    requires count { count ≡ length (reverse (in_pages pages.now)) }
+/// Folds all these entries, `count` of them, into the base. Returns false, and changes nothing, if there is no
+/// base or more would be folded than may be.
+pub(crate) fn fold_onto(base: &mut Option<Base>, entries: &Pages, count: u64) -> bool
+    requires may { IsSomeAnd base.old (λ base. MayFold base (reverse entries.now.entries)) }
+    requires count { count ≡ length (reverse entries.now.entries) }
     ensures folded { IsTrue result →
-        base.new ≡ option_map (λ base. folded base (reverse (in_pages pages.now))) base.old }
-    ensures full { IsFalse result ↔ IsSomeAnd base.old (λ base. most_folded < base.entries + count) }
+        base.new ≡ option_map (λ base. folded base (reverse entries.now.entries)) base.old }
+    ensures full { IsFalse result ↔ IsSomeAnd base.old (λ base. MOST_FOLDED < base.entries + count) }
     ensures stays { IsFalse result → base.new ≡ base.old }
 {
     match base {
         Some(base) => {
             let fits = base.may_fold(count);
             if fits {
-                fold_pages(base, pages);
+                let (pages, hand) = entries.parts();
+                fold_parts(base, pages, hand);
             }
             fits
         }
@@ -33,10 +35,20 @@ pub(crate) fn fold_onto(base: &mut Option<Base>, pages: &[Page], count: u64) -> 
     }
 }
 
+/// Folds the entries of pages into a base, and then those at hand.
+fn fold_parts(base: &mut Base, pages: &[Page], hand: &[Entry])
+    requires may { MayFold base.old (reverse (in_pages pages.now ++ hand.now)) }
+    requires few { base.old.entries + length (reverse (in_pages pages.now ++ hand.now)) ≤ MOST_FOLDED }
+    ensures { base.new ≡ folded base.old (reverse (in_pages pages.now ++ hand.now)) }
+{
+    fold_pages(base, pages);
+    fold_entries(base, hand);
+}
+
 /// Folds the entries of pages into a base, page by page.
 fn fold_pages(base: &mut Base, pages: &[Page])
     requires may { MayFold base.old (reverse (in_pages pages.now)) }
-    requires few { base.old.entries + length (reverse (in_pages pages.now)) ≤ most_folded }
+    requires few { base.old.entries + length (reverse (in_pages pages.now)) ≤ MOST_FOLDED }
     ensures { base.new ≡ folded base.old (reverse (in_pages pages.now)) }
 {
     for page in pages {
@@ -47,7 +59,7 @@ fn fold_pages(base: &mut Base, pages: &[Page])
 /// Folds entries into a base, the oldest first.
 fn fold_entries(base: &mut Base, entries: &[Entry])
     requires may { MayFold base.old (reverse entries.now) }
-    requires few { base.old.entries + length (reverse entries.now) ≤ most_folded }
+    requires few { base.old.entries + length (reverse entries.now) ≤ MOST_FOLDED }
     ensures { base.new ≡ folded base.old (reverse entries.now) }
 {
     for entry in entries {

@@ -2,6 +2,8 @@
 
 ghost use Rattle.std.specs.Prelude.{◌↔◌, IsTrue};
 
+use crate::limits::{LEAST_CAP, MOST_AMOUNT, MOST_CONDITIONS, MOST_SEATS};
+
 /// Which new calls stand behind those who wait. A reentrant call never does.
 #[derive(Clone, Copy, Debug, PartialEq, Eq)]
 pub enum Policy {
@@ -55,11 +57,11 @@ pub enum Object {
 #[derive(Clone, Copy, Debug, PartialEq, Eq)]
 pub struct Header {
     pub object: Object,
-    /// 1 to 256.
+    /// 1 to `MOST_SEATS`.
     pub seats: u16,
-    /// 0 to 16 for a lock or read-write lock, 0 for the others.
+    /// 0 to `MOST_CONDITIONS` for a lock or read-write lock, 0 for the others.
     pub conditions: u8,
-    /// 16 to 4294967295.
+    /// `LEAST_CAP` or more.
     pub cap: u32,
 }
 
@@ -89,10 +91,10 @@ impl Header {
         ensures { IsTrue result ↔ IsInRange self.now }
     {
         let opening = match self.object {
-            Object::Lock(_) | Object::ReadWrite(_) => self.conditions <= 16,
+            Object::Lock(_) | Object::ReadWrite(_) => self.conditions <= MOST_CONDITIONS,
             Object::Semaphore(_, _permits) => self.conditions == 0,
-            Object::Latch(count) => self.conditions == 0 && count <= 2_147_483_647,
+            Object::Latch(count) => self.conditions == 0 && count <= MOST_AMOUNT,
         };
-        opening && 1 <= self.seats && self.seats <= 256 && 16 <= self.cap
+        opening && 1 <= self.seats && self.seats <= MOST_SEATS && LEAST_CAP <= self.cap
     }
 }

@@ -5,12 +5,14 @@ ghost use Rattle.std.specs.Fmt.{signed_decimal};
 ghost use Rattle.history.specs.Text.{line_of};
 ghost use Rattle.history.specs.Header.{IsInRange};
 ghost use Rattle.history.specs.Spelling.{policy_word, part_words};
-ghost use Rattle.history.specs.Reading.{with_rest, lock_at, semaphore_at, latch_at, header_at};
+ghost use Rattle.history.specs.HeaderReading.{lock_at, semaphore_at, latch_at, header_at};
+ghost use Rattle.history.specs.Reading.{with_rest};
 ghost use Rattle.history.specs.declared.header.Header.{Header};
 ghost use Rattle.history.specs.declared.header.Object.TheVariants.{Lock, ReadWrite};
 
 use crate::fault::Fault;
 use crate::header::{Header, Object, Policy};
+use crate::limits::{LEAST_CAP, MOST_AMOUNT, MOST_CONDITIONS, MOST_SEATS};
 use crate::number::{put_number, put_permits};
 use crate::words::Words;
 use std::alloc::AllocError;
@@ -18,16 +20,16 @@ use std::alloc::AllocError;
 const LARGEST_CAP: u64 = 4_294_967_295;
 
 /// The rest of a lock's header, or a read-write lock's.
-#[tactic(auto, unfolding(crate::specs::Reading::lock_at))]
+#[tactic(auto, unfolding(crate::specs::HeaderReading::lock_at))]
 fn lock(words: &mut Words<'_>, read_write: bool) -> Option<Header>
     ensures is { with_rest result words.new ≡ lock_at (if read_write then ReadWrite else Lock) words.old }
     ensures found { IfSome result (λ h. IsInRange h
         × ((if read_write then codes "rw" else codes "lock") ∷ words.old ≡ part_words h ++ words.new)) }
 {
     let policy = words.policy()?;
-    let seats = words.named(b"seats", 1, 256)?;
-    let conditions = words.named(b"conditions", 0, 16)?;
-    let cap = words.named(b"cap", 16, LARGEST_CAP)?;
+    let seats = words.named(b"seats", 1, MOST_SEATS as u64)?;
+    let conditions = words.named(b"conditions", 0, MOST_CONDITIONS as u64)?;
+    let cap = words.named(b"cap", LEAST_CAP as u64, LARGEST_CAP)?;
     let object = if read_write {
         Object::ReadWrite(policy)
     } else {
@@ -41,17 +43,17 @@ fn lock(words: &mut Words<'_>, read_write: bool) -> Option<Header>
     })
 }
 
-#[tactic(auto, unfolding(crate::specs::Reading::semaphore_at))]
+#[tactic(auto, unfolding(crate::specs::HeaderReading::semaphore_at))]
 fn semaphore(words: &mut Words<'_>) -> Option<Header>
     ensures is { with_rest result words.new ≡ semaphore_at words.old }
     ensures found { IfSome result (λ h. IsInRange h
         × (codes "semaphore" ∷ words.old ≡ part_words h ++ words.new)) }
 {
     let policy = words.policy()?;
-    let seats = words.named(b"seats", 1, 256)?;
+    let seats = words.named(b"seats", 1, MOST_SEATS as u64)?;
     words.expect(b"permits")?;
     let permits = words.permits()?;
-    let cap = words.named(b"cap", 16, LARGEST_CAP)?;
+    let cap = words.named(b"cap", LEAST_CAP as u64, LARGEST_CAP)?;
     Some(Header {
         object: Object::Semaphore(policy, permits),
         seats: seats as u16,
@@ -60,15 +62,15 @@ fn semaphore(words: &mut Words<'_>) -> Option<Header>
     })
 }
 
-#[tactic(auto, unfolding(crate::specs::Reading::latch_at))]
+#[tactic(auto, unfolding(crate::specs::HeaderReading::latch_at))]
 fn latch(words: &mut Words<'_>) -> Option<Header>
     ensures is { with_rest result words.new ≡ latch_at words.old }
     ensures found { IfSome result (λ h. IsInRange h ×
         (codes "latch" ∷ words.old ≡ part_words h ++ words.new)) }
 {
-    let seats = words.named(b"seats", 1, 256)?;
-    let count = words.named(b"count", 0, 2_147_483_647)?;
-    let cap = words.named(b"cap", 16, LARGEST_CAP)?;
+    let seats = words.named(b"seats", 1, MOST_SEATS as u64)?;
+    let count = words.named(b"count", 0, MOST_AMOUNT as u64)?;
+    let cap = words.named(b"cap", LEAST_CAP as u64, LARGEST_CAP)?;
     Some(Header {
         object: Object::Latch(count as u32),
         seats: seats as u16,
@@ -77,7 +79,7 @@ fn latch(words: &mut Words<'_>) -> Option<Header>
     })
 }
 
-#[tactic(auto, unfolding(crate::specs::Reading::header_at))]
+#[tactic(auto, unfolding(crate::specs::HeaderReading::header_at))]
 fn header(words: &mut Words<'_>) -> Option<Header>
     ensures is { with_rest result words.new ≡ header_at words.old }
     ensures found { IfSome result (λ h. IsInRange h × (words.old ≡ part_words h ++ words.new)) }

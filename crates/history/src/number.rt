@@ -1,11 +1,13 @@
 //! Numbers in decimal, each with one spelling.
 
-ghost use Rattle.history.specs.Reading.{number_from, permits_from, wide_from};
+ghost use Rattle.history.specs.HeaderReading.{permits_from};
+ghost use Rattle.history.specs.Reading.{number_from, wide_from};
 ghost use Rattle.std.specs.Int.{w32};
 ghost use Rattle.std.specs.Fmt.{signed_decimal};
 ghost use Rattle.std.specs.Prelude.{FitsSigned, drop};
 ghost use Rattle.std.specs.Prelude.{◌≡◌, ◌≢◌, ℕ, ◌+◌, ◌<◌, ◌≤◌, ◌^◌, ◌++◌, IfSome, IfNone, OnOk, OnErr, decimal, length, take};
 
+use crate::limits::MOST_AMOUNT;
 use crate::pieces::{put_byte, put_bytes};
 use itoa::Buffer;
 use std::alloc::AllocError;
@@ -50,7 +52,7 @@ pub fn number_of(bytes: &[u8]) -> Option<u64>
 }
 
 /// The number of 32 bits that the bytes spell, with a sign where it is below 0.
-#[tactic(auto, unfolding(crate::specs::Reading::permits_from))]
+#[tactic(auto, unfolding(crate::specs::HeaderReading::permits_from))]
 pub(crate) fn permits_of(bytes: &[u8]) -> Option<i32>
     ensures is { result ≡ permits_from bytes.now }
     ensures found { IfSome result (λ z. (bytes.now ≡ signed_decimal z) × FitsSigned w32 z) }
@@ -67,7 +69,7 @@ pub(crate) fn permits_of(bytes: &[u8]) -> Option<i32>
         }
         _ => {
             let number = number_of(bytes)?;
-            if number <= 2_147_483_647 {
+            if number <= MOST_AMOUNT as u64 {
                 Some(number as i32)
             } else {
                 None

@@ -1,10 +1,11 @@
 //! A page of a history.
 
-ghost use Rattle.std.specs.Prelude.{◌≡◌, ◌+◌, ◌<◌, ◌++◌, [], ◌∷◌, length, map, slice_get, IfOk, OnOk, OnErr, replicate};
+ghost use Rattle.std.specs.Prelude.{◌≡◌, ◌++◌, [], map, slice_get, IfOk, OnOk, OnErr, replicate, vec_capacity};
 
 use crate::entry::Entry;
 use std::alloc::{AllocError, Global};
 use std::marker::Model;
+use std::mem::swap;
 
 /// How many entries a page holds.
 pub(crate) const PLACES: usize = 1024;
@@ -49,12 +50,22 @@ impl Page {
         &self.entries
     }
 
-    /// Writes an entry at the next place.
-    pub(crate) fn add(&mut self, entry: Entry)
-        requires { length self.old < 1024 }
-        ensures { self.new ≡ self.old ++ entry ∷ [] }
+    /// Exchanges its entries for others, which stand in memory for as many.
+    pub(crate) fn exchange(&mut self, entries: &mut Vec<Entry>)
+        requires { vec_capacity entries.old ≡ 1024 }
+        ensures put { self.new ≡ entries.old.items }
+        ensures got { entries.new.items ≡ self.old }
+        ensures capacity { vec_capacity entries.new ≡ 1024 }
     {
-        self.entries.push_reserved(entry);
+        swap(&mut self.entries, entries);
+    }
+
+    /// Gives up its entries, with their memory.
+    pub(crate) fn into_entries(self) -> Vec<Entry>
+        ensures items { result.items ≡ self }
+        ensures capacity { vec_capacity result ≡ 1024 }
+    {
+        self.entries
     }
 
     /// Removes all entries. Their places stay.

@@ -6,7 +6,8 @@ ghost use Rattle.std.specs.Fmt.{signed_decimal};
 ghost use Rattle.history.specs.Text.{words_of};
 ghost use Rattle.history.specs.Spelling.{policy_word};
 ghost use Rattle.history.specs.EntryWords.{mode_word};
-ghost use Rattle.history.specs.Reading.{with_rest, word_at, keyword_at, number_from, number_at, wide_at, policy_at, mode_at, named_at, permits_at};
+ghost use Rattle.history.specs.HeaderReading.{policy_at, permits_at};
+ghost use Rattle.history.specs.Reading.{with_rest, word_at, keyword_at, number_from, number_at, wide_at, mode_at, named_at};
 
 use crate::entry::Mode;
 use crate::header::Policy;

@@ -1,17 +1,18 @@
 -- A history text is written, one entry after another behind the lines of a base.
-use Rattle.std.proofs.Common.{◌≡◌, ⊎_elim, ℕ, ◌+◌, ◌≤◌, Bool, true, false, if◌then◌else◌, List, [], ◌∷◌, ◌++◌, length, map, take, reverse, Some, refl, sym, ap, subst, ◌∙◌, arith, append_assoc}
+use Rattle.std.proofs.Common.{◌≡◌, ⊎_elim, ℕ, ◌+◌, ◌-◌, ◌<◌, ◌≤◌, ◌^◌, min, List, [], ◌∷◌, ◌++◌, length, map, take, reverse, Some, refl, sym, ap, subst, ◌∙◌, arith, append_assoc}
 use Rattle.std.specs.List.{slice_get}
 use Rattle.std.proofs.lemmas.List.{take_more, length-take, length-reverse, reverse-append}
 use Rattle.std.proofs.lemmas.Option.{get_or_from_slice_get, slice_get_within}
 use Rattle.history.specs.declared.entry.Entry.{Entry}
 use Rattle.history.specs.declared.header.Header.{Header}
 use Rattle.history.specs.Base.{Base, opening_base}
-use Rattle.history.specs.Entries.{ended_calls}
-use Rattle.history.specs.Entry.{ends_call}
+use Rattle.history.specs.Entries.{HistoryView, all_calls, base_on, ended_calls, start_on}
 use Rattle.history.specs.GoodBase.{IsBaseOf, IsGood}
 use Rattle.history.specs.Header.{IsInRange}
 use Rattle.history.specs.Text.{ended}
-use Rattle.history.proofs.Lists.{ended_append}
+use Rattle.history.proofs.AllCalls.{calls_told}
+use Rattle.history.proofs.Lists.{calls-ended, ended_append}
+use Rattle.history.proofs.OpeningBase.{opening_good}
 use Rattle.line_text.specs.Form.{lines_of}
 use Rattle.line_text.proofs.Growing.{lines_of-push}
 use Rattle.history_text.specs.declared.base_line.BaseLine.{BaseLine}
@@ -25,6 +26,7 @@ use Rattle.history_text.specs.HistoryText.{end_of, history_form, history_text}
 use Rattle.history_text.proofs.BaseTheory.{IsGoodOf, good_again, good_calls, good_reads}
 use Rattle.history_text.proofs.BaseTold.{told_so_far}
 use Rattle.history_text.proofs.HeadWritten.{sum_calls, sum_none}
+use Rattle.history_text.proofs.Heads.{based_well}
 use Rattle.history_text.proofs.HistoryItems.{after_lines-append, behind_entries, numbered-push}
 use Rattle.history_text.proofs.HistoryLaws.{reached_lines, told_some}
 
@@ -58,14 +60,16 @@ ended_calls-reverse (e ∷ xs) =
     ap (λ (l : List Entry). ended_calls l) (reverse-append (e ∷ []) xs)
     ∙ ended_append (reverse xs) (e ∷ []) ∙ omega (arith, ended_calls-reverse xs)
 
-one_at_most : (b : Bool) → (if b then 1 else 0) ≤ 1
-one_at_most true = omega arith
-one_at_most false = omega arith
-
--- no more entries end a call than there are
-pub ended_few : (xs : List Entry) → ended_calls xs ≤ length xs
-ended_few [] = omega arith
-ended_few (e ∷ xs) = omega (arith, ended_few xs, one_at_most (ends_call e.word))
+-- all calls, those of the base and those of the entries
+pub all_summed : (k : Header) (v : HistoryView) (n : ℕ) → IsInRange k → IsBaseOf k (base_on k v) →
+    length v.entries < 2 ^ 32 → n ≡ min (all_calls v) (2 ^ 64 - 1) →
+    n ≡ calls_sum (base_on k v).seats + ended_calls v.entries
+all_summed k v n range of few is =
+    let good : IsGood (base_on k v) =
+    ⊎_elim (λ (e : base_on k v ≡ opening_base k). subst IsGood (sym e) (opening_good k range))
+    (λ known. known.1) of.1 in
+    let told = calls_told k v n (based_well k v.base range of) few is in
+    omega (arith, told, calls-ended (start_on k v) v.entries, sum_calls (base_on k v) good)
 
 -- the lines of a base, then those behind it
 lines_behind : (xs : List BaseLine) (ys : List Line) →

@@ -17,7 +17,7 @@ use Rattle.history_text.specs.declared.place.Head.{Head}
 use Rattle.history_text.specs.declared.place.Place.{Place}
 use Rattle.history_text.specs.BaseLines.{IsBaseLine, base_line}
 use Rattle.history_text.specs.BaseRules.{AllSeated, MayFollow, Told}
-use Rattle.history_text.specs.HistoryLines.{Based, Entered, IsWhole, Line, Reached, base_of, head_of, lines_on, lines_told, reached}
+use Rattle.history_text.specs.HistoryLines.{Entered, IsWhole, Line, Reached, base_of, head_of, lines_on, lines_told, reached}
 use Rattle.history_text.specs.HistoryText.{IsRead, history_form, lines_so_far}
 
 abbrev pub behind : Place → Entry → Place
@@ -48,11 +48,6 @@ abbrev pub entry_found : ℕ → Result (Option (Entry × ℕ)) TextFault → Re
 entry_found number (Ok (Some found)) = Ok (Some (Entered number found.0, found.1))
 entry_found number (Ok None) = Ok None
 entry_found number (Err fault) = Err fault
-
-abbrev pub line_found : Result (Option (BaseLine × ℕ)) TextFault → Result (Option (Line × ℕ)) TextFault
-line_found (Ok (Some found)) = Ok (Some (Based found.0, found.1))
-line_found (Ok None) = Ok None
-line_found (Err fault) = Err fault
 
 -- what the next line says, whatever base and lines a reader has behind it that stands there
 abbrev pub IsEntryBehind : Header → Place → List ℕ → Result (Option (Entry × ℕ)) TextFault → Type 0

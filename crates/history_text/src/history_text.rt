@@ -51,7 +51,7 @@ fn written(alloc: Global, header: &Header, history: &History) -> Result<Vec<u8>,
         ≡ history_text (base_on header.now history.now) history.now.entries) }
 {
     let mut out = Vec::with_capacity(alloc, (history.len() as usize).saturating_mul(LINE_LENGTH))?;
-    let (folded, calls) = put_head(&mut out, header, history.base())?;
+    let (folded, _) = put_head(&mut out, header, history.base())?;
     let mut numbering = Numbering::new();
     let mut number = 0;
     while let Some(entry) = history.get(number) {
@@ -59,7 +59,7 @@ fn written(alloc: Global, header: &Header, history: &History) -> Result<Vec<u8>,
         out.push(b'\n')?;
         number += 1;
     }
-    put_counts(&mut out, folded + history.len(), calls + history.calls())?;
+    put_counts(&mut out, folded + history.len(), history.calls())?;
     out.push(b'\n')?;
     Ok(out)
 }

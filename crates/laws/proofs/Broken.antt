@@ -1,7 +1,9 @@
 -- The histories that break a law, computed, and why none of them is legal.
 use Rattle.std.proofs.Common.{◌≡◌, ◌≢◌, ℕ, ◌+◌, ◌*◌, ◌≤◌, true, false, [], ◌∷◌, length, Option, Some, None, ap, arith}
+use Rattle.std.proofs.lemmas.Bool.{false≢true}
 use Rattle.std.specs.Prelude.{pos, ◌≤ℤ◌}
 use Rattle.std.proofs.lemmas.Int.{ints}
+use Rattle.history.specs.declared.limits.TheConstants.{MOST_AMOUNT}
 use Rattle.history.specs.declared.arrival.Arrival.{Arrival}
 use Rattle.history.specs.declared.entry.Entry.{Entry}
 use Rattle.history.specs.declared.entry.Mode.TheVariants.{X, S}
@@ -24,9 +26,6 @@ not_seen a q = cc
 not_one : ◌≡◌ {A = ℕ} 0 1 → ⊥
 not_one q = absurd (omega (arith, q))
 
-not_true : false ≡ true → ⊥
-not_true q = cc
-
 pub full_fits : Fits (opening lock) full
 full_fits = omega arith
 
@@ -47,7 +46,7 @@ pub two_owners_illegal : IsLegal (opening lock) two_owners → ⊥
 two_owners_illegal legal =
     let k : Known (opening lock) (plain 0 word.Got X 1 ∷ []) (plain 1 word.Got X 1) =
     known (opening lock) (plain 0 word.Got X 1 ∷ []) legal.0.0 (plain 1 word.Got X 1) legal.0.1 in
-    not_true k.1
+    false≢true k.1
 
 pub beside_two : IsOwned (opening read_write) reader_beside_owner → ⊥
 beside_two v = not_one (v.alone 0 1 (omega arith) (omega arith))
@@ -56,7 +55,7 @@ pub beside_illegal : IsLegal (opening read_write) reader_beside_owner → ⊥
 beside_illegal legal =
     let k : Known (opening read_write) (plain 0 word.Got X 1 ∷ []) (plain 1 word.Got S 1) =
     known (opening read_write) (plain 0 word.Got X 1 ∷ []) legal.0.0 (plain 1 word.Got S 1) legal.0.1 in
-    not_true k.1
+    false≢true k.1
 
 pub stranger_nothing : IsSaved (opening lock) stranger_sleeps 0 → ⊥
 stranger_nothing v = let l = v.some in absurd (omega (arith, l))
@@ -78,21 +77,21 @@ slept_away_illegal legal =
     let k : Known (opening semaphore) (plain 0 word.Got S 1 ∷ []) (plain 0 word.Await S 1) =
     known (opening semaphore) (plain 0 word.Got S 1 ∷ []) legal.0.0
     (plain 0 word.Await S 1) legal.0.1 in
-    not_true k.0.lock
+    false≢true k.0.lock
 
-pub released_past : free (opening semaphore) released_too_many ≤ℤ pos 2147483647 → ⊥
+pub released_past : free (opening semaphore) released_too_many ≤ℤ pos MOST_AMOUNT → ⊥
 released_past l = absurd (omega (arith, ints, l))
 
 pub released_illegal : IsLegal (opening semaphore) released_too_many → ⊥
 released_illegal legal =
-    let k : Known (opening semaphore) [] (plain 0 word.Gave S 2147483647) =
-    known (opening semaphore) [] legal.0.0 (plain 0 word.Gave S 2147483647) legal.0.1 in
+    let k : Known (opening semaphore) [] (plain 0 word.Gave S MOST_AMOUNT) =
+    known (opening semaphore) [] legal.0.0 (plain 0 word.Gave S MOST_AMOUNT) legal.0.1 in
     not_gave k.1
   where
     not_gave : word.Refused fault.TooManyPermits ≡ word.Gave → ⊥
     not_gave q = cc
 
-pub drained_past : held (opening semaphore) drained_too_many 0 S ≤ 2147483647 * length drained_too_many → ⊥
+pub drained_past : held (opening semaphore) drained_too_many 0 S ≤ MOST_AMOUNT * length drained_too_many → ⊥
 drained_past l = absurd (omega (arith, l))
 
 pub drained_illegal : IsLegal (opening semaphore) drained_too_many → ⊥

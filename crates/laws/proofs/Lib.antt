@@ -1,7 +1,5 @@
 pub mod Broken
-pub mod BehindFolds
 pub mod Forgetting
-pub mod GoingOn
 pub mod Marking
 pub mod OnBases
 pub mod OutOfOrder

@@ -1,18 +1,19 @@
 -- What is said of marks behind a fold, and with all marks cleared.
-use Rattle.std.proofs.Common.{◌≡◌, ℕ, Bool, true, false, List, ◌++◌, refl, ◌∙◌, sym}
+use Rattle.std.proofs.Common.{◌≡◌, ℕ, Bool, List, ◌++◌, refl, ◌∙◌, sym}
+use Rattle.std.proofs.lemmas.Bool.{true≢false}
 use Rattle.history.specs.declared.entry.Entry.{Entry}
+use Rattle.history.specs.Base.{Base, based, folded}
 use Rattle.history.specs.Marks.{AreTold, unmarked}
-use Rattle.history.specs.Start.{Start, opening}
-use Rattle.laws.proofs.GoingOn.{ready_goes_on}
-use Rattle.laws.specs.Fold.{fold}
+use Rattle.history.specs.Point.{CanFold}
+use Rattle.history.specs.Start.{opening}
+use Rattle.history.proofs.Alike.{ready_alike}
+use Rattle.laws.proofs.OnBases.{behind}
 use Rattle.laws.specs.OutOfTurn.{fair_lock, given_to_a_waiter}
 
-pub told_behind : (s : Start) (g h : List Entry) (m : ℕ → Bool) → AreTold s (h ++ g) m →
-    AreTold (fold s g) h m
-told_behind s g h m told i r = told i (sym (ready_goes_on s g h) ∙ r)
-
-true_not_false : true ≡ false → ⊥
-true_not_false q = cc
+pub told_behind : (b : Base) (g h : List Entry) (m : ℕ → Bool) → CanFold b (h ++ g) →
+    AreTold (based b) (h ++ g) m → AreTold (based (folded b g)) h m
+told_behind b g h m can told i r =
+    told i (ready_alike b.header (based b) (based (folded b g)) (h ++ g) h (behind b g h can) ∙ r)
 
 pub waiter_forgotten : AreTold (opening fair_lock) given_to_a_waiter unmarked → ⊥
-waiter_forgotten told = true_not_false (sym (told 1 refl))
+waiter_forgotten told = true≢false (sym (told 1 refl))

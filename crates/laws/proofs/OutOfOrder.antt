@@ -1,5 +1,6 @@
 -- Why the histories out of turn break their laws, and why none of them is legal.
 use Rattle.std.proofs.Common.{◌≡◌, ℕ, ◌≤◌, true, false, List, [], ◌∷◌, Option, Some, None, refl, arith}
+use Rattle.std.proofs.lemmas.Bool.{true≢false}
 use Rattle.history.specs.declared.arrival.Arrival.{Arrival}
 use Rattle.history.specs.declared.entry.Entry.{Entry}
 use Rattle.history.specs.declared.entry.Mode.TheVariants.{X}
@@ -13,8 +14,7 @@ use Rattle.history.specs.Phase.{Idle, InLine}
 use Rattle.history.specs.Start.{opening}
 use Rattle.history.specs.Waiting.{IsOneWait}
 use Rattle.history.proofs.Entering.{Known, known}
-use Rattle.laws.specs.Fold.{fold}
-use Rattle.laws.specs.OutOfTurn.{fair_lock, gave_first, got_past_the_line, granted_out_of_turn, of, queued_twice, strict_lock, taken, tried_past_the_line}
+use Rattle.laws.specs.OutOfTurn.{fair_lock, gave_first, got_past_the_line, granted_out_of_turn, of, queued_twice, strict_lock, tried_past_the_line}
 
 never_ends : (end : Ending) → None ≡ Some end → ⊥
 never_ends end q = cc
@@ -22,13 +22,10 @@ never_ends end q = cc
 another : ◌≡◌ {A = Option ℕ} (Some 1) (Some 2) → ⊥
 another q = cc
 
-held_back_not : true ≡ false → ⊥
-held_back_not q = cc
-
 in_line_not_idle : (a : Arrival) → InLine a ≡ Idle → ⊥
 in_line_not_idle a q = cc
 
-refused_not_gave : word.Refused fault.NotOwner ≡ word.Gave → ⊥
+pub refused_not_gave : word.Refused fault.NotOwner ≡ word.Gave → ⊥
 refused_not_gave q = cc
 
 -- an arrival of a new acquire, at the entry of its place
@@ -56,7 +53,7 @@ got_illegal l =
     let h : List Entry = of 0 word.Gave ∷ of 1 word.Queued ∷ of 0 word.Got ∷ [] in
     let k : Known (opening fair_lock) h (of 2 word.Got) =
     known (opening fair_lock) h l.0.0 (of 2 word.Got) l.0.1 in
-    held_back_not k.2
+    true≢false k.2
 
 pub tried_passes : IsFairOrder (opening strict_lock) tried_past_the_line → ⊥
 tried_passes law = let ended = law.0 refl refl in never_ends ended.0.end ended.0.is
@@ -66,7 +63,7 @@ tried_illegal l =
     let h : List Entry = of 0 word.Gave ∷ of 1 word.Queued ∷ of 0 word.Got ∷ [] in
     let k : Known (opening strict_lock) h (of 2 word.TryGot) =
     known (opening strict_lock) h l.0.0 (of 2 word.TryGot) l.0.1 in
-    held_back_not k.3
+    true≢false k.3
 
 pub waits_twice : IsOneWait (opening fair_lock) queued_twice → ⊥
 waits_twice law = let l : 2 ≤ 1 = law 1 in omega (arith, l)
@@ -83,6 +80,3 @@ gave_illegal l =
     let k : Known (opening fair_lock) [] (of 0 word.Gave) =
     known (opening fair_lock) [] l.0.0 (of 0 word.Gave) l.0.1 in
     refused_not_gave k.1
-
-pub gave_after : IsLegal (fold (opening fair_lock) taken) gave_first
-gave_after = ((step.Give X 1, refl), tt)

@@ -202,9 +202,6 @@ awaits seat c n = on_condition seat word.Await c n end.None
 abbrev pub signals : ℕ → ℕ → ℕ → Told
 signals seat c n = on_condition seat word.Signal c n end.None
 
-abbrev pub signals_all : ℕ → ℕ → ℕ → Told
-signals_all seat c n = on_condition seat word.SignalAll c n end.None
-
 abbrev pub lapses : ℕ → ℕ → End → Told
 lapses seat c how = on_condition seat word.Lapse c 0 how
 

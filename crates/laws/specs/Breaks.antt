@@ -1,5 +1,6 @@
 -- Histories that break the laws of room, permits and owners. None of them is legal.
 use Rattle.std.specs.Prelude.{ℕ, zero, suc, List, [], ◌∷◌, pos}
+use Rattle.history.specs.declared.limits.TheConstants.{MOST_AMOUNT}
 use Rattle.history.specs.declared.entry.Entry.{Entry}
 use Rattle.history.specs.declared.entry.End.TheVariants as end
 use Rattle.history.specs.declared.entry.Mode.TheVariants.{X, S}
@@ -49,7 +50,7 @@ permit_slept_away = plain 0 word.Await S 1 ∷ plain 0 word.Got S 1 ∷ []
 
 -- more permits are released, and more are drained, than there may be
 abbrev pub released_too_many : List Entry
-released_too_many = plain 0 word.Gave S 2147483647 ∷ []
+released_too_many = plain 0 word.Gave S MOST_AMOUNT ∷ []
 
 abbrev pub drained_too_many : List Entry
 drained_too_many = plain 0 word.Drained S 3000000000 ∷ []

@@ -2,6 +2,7 @@
 
 ghost use Rattle.std.specs.Prelude.{◌≡◌, ◌≢◌, ◌↔◌, ◌+◌, ◌<◌, ◌≤◌, ℕ, List, [], ◌∷◌, ◌++◌, length, true};
 ghost use Rattle.std.specs.List.{AllByRecursion};
+ghost use Rattle.history.specs.declared.limits.TheConstants.{MOST_FOLDED};
 ghost use Rattle.history.specs.declared.entry.Entry.{Entry};
 ghost use Rattle.history.specs.declared.entry.Mode.TheVariants.{X};
 ghost use Rattle.history.specs.declared.header.Header.{Header};
@@ -10,7 +11,7 @@ ghost use Rattle.history.specs.declared.step.Step.{Step};
 ghost use Rattle.history.specs.Base.{Base, based, folded, opening_base};
 ghost use Rattle.history.specs.Conservation.{IsConserved};
 ghost use Rattle.history.specs.Counts.{count, free, held, unheld};
-ghost use Rattle.history.specs.GoodBase.{IsGood, IsModest, most_folded};
+ghost use Rattle.history.specs.GoodBase.{IsGood, IsModest};
 ghost use Rattle.history.specs.Header.{IsInRange};
 ghost use Rattle.history.specs.Legal.{AreSeated, IsLegal, calls};
 ghost use Rattle.history.specs.Line.{line};
@@ -18,7 +19,7 @@ ghost use Rattle.history.specs.Naming.{named};
 ghost use Rattle.history.specs.NextBase.{next_base};
 ghost use Rattle.history.specs.Object.{is_lock, is_semaphore};
 ghost use Rattle.history.specs.Order.{IsFairOrder, IsInOrder};
-ghost use Rattle.history.specs.Ownership.{IsOwned, is_away};
+ghost use Rattle.history.specs.Ownership.{IsOwned, IsSaved, is_away};
 ghost use Rattle.history.specs.Phase.{Idle, phase};
 ghost use Rattle.history.specs.Point.{Agrees, CanFold, ComesBefore, FollowsBy};
 ghost use Rattle.history.specs.Room.{owed};
@@ -27,6 +28,7 @@ ghost use Rattle.history.specs.Start.{opening};
 ghost use Rattle.history.specs.Steps.{entry_for};
 ghost use Rattle.history.specs.Waiting.{IsOneWait};
 ghost use Rattle.laws.specs.Forgetful.{counted_out, forgets_a_permit, forgets_a_read, forgets_a_sleeper, forgets_the_count, gave_a_read, granted_first, moved, opened_for_one, opened_latch, opened_lock, opened_read_write, opened_semaphore, passes, read_held, released_unheld, reverses_its_line, slept, taken_by_nobody, took_a_permit, two_in_line};
+ghost use Rattle.laws.specs.OutOfTurn.{gave_first, taken};
 
 /// An object as it is opened is a base of no entries.
 pub fn an_opening_is_a_base()
@@ -86,7 +88,7 @@ pub fn a_base_can_be_folded()
 pub fn a_fold_goes_on_entry_by_entry()
     ensures one { (b : Base) (e : Entry) → CanFold b (e ∷ []) → folded b (e ∷ []) ≡ next_base b e }
     ensures more { (b : Base) (g : List Entry) (e : Entry) → IsInRange b.header → IsModest b →
-        b.entries + length g ≤ most_folded → CanFold b (e ∷ g) →
+        b.entries + length g ≤ MOST_FOLDED → CanFold b (e ∷ g) →
         folded b (e ∷ g) ≡ next_base (folded b g) e }
 {}
 
@@ -94,9 +96,9 @@ pub fn a_fold_goes_on_entry_by_entry()
 /// stay few where each entry folded moved no more than a request may be for, as from an opening on.
 pub fn the_fold_of_legal_entries_is_good()
     ensures good { (b : Base) (g : List Entry) → IsInRange b.header → CanFold b g →
-        b.entries + length g ≤ most_folded → IsModest b → IsGood (folded b g) }
+        b.entries + length g ≤ MOST_FOLDED → IsModest b → IsGood (folded b g) }
     ensures modest { (b : Base) (g : List Entry) → IsInRange b.header → CanFold b g →
-        b.entries + length g ≤ most_folded → IsModest b → IsModest (folded b g) }
+        b.entries + length g ≤ MOST_FOLDED → IsModest b → IsModest (folded b g) }
     ensures opening { (k : Header) → IsModest (opening_base k) }
 {}
 
@@ -128,12 +130,15 @@ pub fn nobody_is_passed_on_a_base()
     ensures fair { (b : Base) (h : List Entry) → IsLegal (based b) h → IsFairOrder (based b) h }
 {}
 
-/// On a good base permits are conserved, a lock has one owner, and a seat waits once.
+/// On a good base permits are conserved, a lock has one owner, one who is away saved its holds, and a seat
+/// waits once.
 pub fn what_holds_of_a_history_holds_on_a_base()
     ensures permits { (b : Base) (h : List Entry) → is_semaphore b.header.object ≡ true → CanFold b h →
         IsConserved (based b) h }
     ensures owner { (b : Base) (h : List Entry) → is_lock b.header.object ≡ true → CanFold b h →
         IsOwned (based b) h }
+    ensures saved { (b : Base) (h : List Entry) (i : ℕ) → IsGood b → IsLegal (based b) h →
+        is_away (phase (based b) h i) ≡ true → IsSaved (based b) h i }
     ensures once { (b : Base) (h : List Entry) → IsGood b → IsLegal (based b) h → IsOneWait (based b) h }
 {}
 
@@ -144,7 +149,13 @@ pub fn whoever_owns_is_idle()
         (seat : ℕ) → 0 < held (based b) h seat X → phase (based b) h seat ≡ Idle }
 {}
 
-/// A base that forgets a sleeper is not the fold: a signal that moved it no longer does.
+/// A base that forgets a hold is not the fold: its release is no longer legal.
+pub fn a_base_that_forgets_a_hold_is_no_fold()
+    ensures legal { IsLegal (based (folded opened_lock taken)) gave_first }
+    ensures illegal { IsLegal (based opened_lock) gave_first → ⊥ }
+{}
+
+/// Nor is one that forgets a sleeper: a signal that moved it no longer does.
 pub fn a_base_that_forgets_a_sleeper_is_no_fold()
     ensures legal { IsLegal (based (folded opened_lock slept)) moved }
     ensures illegal { IsLegal (based forgets_a_sleeper) moved → ⊥ }

@@ -6,6 +6,7 @@ ghost use Rattle.history.specs.declared.entry.Entry.{Entry};
 ghost use Rattle.history.specs.declared.entry.Mode.{Mode};
 ghost use Rattle.history.specs.declared.entry.Mode.TheVariants.{S};
 ghost use Rattle.history.specs.declared.header.Header.{Header};
+ghost use Rattle.history.specs.declared.limits.TheConstants.{MOST_AMOUNT};
 ghost use Rattle.history.specs.Conservation.{IsConserved};
 ghost use Rattle.history.specs.Counts.{free, held};
 ghost use Rattle.history.specs.Header.{IsInRange};
@@ -21,21 +22,21 @@ pub fn permits_are_conserved()
         IsLegal (opening k) h → AreSeated (opening k) h → IsConserved (opening k) h }
 {}
 
-/// Free permits are never more than 2147483647, nor fewer than a number of 32 bits may be.
+/// Free permits are never more than `MOST_AMOUNT`, nor fewer than a number of 32 bits may be.
 pub fn free_permits_stay_in_range()
     ensures at_most { (k : Header) (h : List Entry) →
         IsInRange k → is_semaphore k.object ≡ true → IsLegal (opening k) h →
-        free (opening k) h ≤ℤ pos 2147483647 }
+        free (opening k) h ≤ℤ pos MOST_AMOUNT }
     ensures fits { (k : Header) (h : List Entry) →
         IsInRange k → is_semaphore k.object ≡ true → IsLegal (opening k) h →
         FitsSigned w32 (free (opening k) h) }
 {}
 
-/// A seat holds at most 2147483647 permits for each entry.
+/// A seat holds at most `MOST_AMOUNT` permits for each entry.
 pub fn permits_held_stay_in_range()
     ensures { (k : Header) (h : List Entry) →
         IsInRange k → is_semaphore k.object ≡ true → IsLegal (opening k) h →
-        (seat : ℕ) (mode : Mode) → held (opening k) h seat mode ≤ 2147483647 * length h }
+        (seat : ℕ) (mode : Mode) → held (opening k) h seat mode ≤ MOST_AMOUNT * length h }
 {}
 
 /// A permit that is given up to sleep is lost. That isn't legal.
@@ -46,12 +47,12 @@ pub fn a_permit_is_not_slept_away()
 
 /// A release past the greatest number of permits isn't legal.
 pub fn no_release_goes_past_the_range()
-    ensures past { free (opening semaphore) released_too_many ≤ℤ pos 2147483647 → ⊥ }
+    ensures past { free (opening semaphore) released_too_many ≤ℤ pos MOST_AMOUNT → ⊥ }
     ensures illegal { IsLegal (opening semaphore) released_too_many → ⊥ }
 {}
 
 /// A drain of more permits than there may be isn't legal.
 pub fn no_drain_goes_past_the_range()
-    ensures past { held (opening semaphore) drained_too_many 0 S ≤ 2147483647 * length drained_too_many → ⊥ }
+    ensures past { held (opening semaphore) drained_too_many 0 S ≤ MOST_AMOUNT * length drained_too_many → ⊥ }
     ensures illegal { IsLegal (opening semaphore) drained_too_many → ⊥ }
 {}

@@ -6,7 +6,6 @@
 
 pub mod bases;
 pub mod conservation;
-pub mod folding;
 pub mod order;
 pub mod ownership;
 pub mod results;

@@ -10,7 +10,6 @@ ghost use Rattle.history.specs.Base.{Base, based, folded};
 ghost use Rattle.history.specs.Naming.{named, ready};
 ghost use Rattle.history.specs.Point.{CanFold};
 ghost use Rattle.history.specs.Start.{Start, opening};
-ghost use Rattle.laws.specs.Fold.{fold};
 ghost use Rattle.history.specs.Marks.{AreRight, AreTold, StandInLine, marks, marks_after, remarked, unmarked};
 ghost use Rattle.laws.specs.OutOfTurn.{fair_lock, given_to_a_waiter};
 ghost use Rattle.laws.specs.Woken.{IsWoken};
@@ -39,8 +38,8 @@ pub fn whoever_could_go_was_told()
         AreTold s (answer s h i step).1 (marks_after s h i (answer s h i step).0 m) }
     ensures steps { (s : Start) (h : List Entry) (m : ℕ → Bool) (steps : List (ℕ × Step)) → AreTold s h m →
         AreTold s (results s h steps).1 (marks s h m steps) }
-    ensures fold { (s : Start) (g h : List Entry) (m : ℕ → Bool) →
-        AreTold s (h ++ g) m → AreTold (fold s g) h m }
+    ensures fold { (b : Base) (g h : List Entry) (m : ℕ → Bool) → CanFold b (h ++ g) →
+        AreTold (based b) (h ++ g) m → AreTold (based (folded b g)) h m }
 {}
 
 /// Only who stands in line is marked.

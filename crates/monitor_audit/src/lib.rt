@@ -1,12 +1,9 @@
 //! What the audit finds in the history that a monitor left.
 #![tactic(auto)]
 
-ghost use Rattle.std.specs.Prelude.{◌≡◌, ◌≤◌, All, IfOk, IsOkUnless, get_or, length};
+ghost use Rattle.std.specs.Prelude.{◌≡◌, All, IfOk, IsOkUnless};
 ghost use Rattle.audit.specs.Verdict.{IsJudgement};
-ghost use Rattle.history.specs.Base.{nothing};
-ghost use Rattle.history.specs.Counts.{total};
 ghost use Rattle.history.specs.Entries.{IsBasedWell, start_on};
-ghost use Rattle.history.specs.GoodBase.{most_folded};
 ghost use Rattle.history.specs.Header.{IsInRange};
 ghost use Rattle.history.specs.Legal.{AreSeated, calls};
 ghost use Rattle.monitor.specs.Closing.{shares};
@@ -14,7 +11,6 @@ ghost use Rattle.monitor.specs.Closing.{shares};
 use audit::sums::Totals;
 use audit::verdict::{Judgement, judge};
 use frame::hooks::Hooks;
-use history::base::SeatBase;
 use history::entries::History;
 use history::fault::Fault;
 use history::header::{Header, Object};
@@ -100,37 +96,12 @@ pub fn close_and_judge<H: Hooks + Drop, R: Wait>(
 
 /// How many calls ended, in the entries of a history and before its base.
 fn calls_of(header: &Header, history: &History) -> u64
-    requires range { IsInRange header.now }
-    requires based { IsBasedWell header.now history.now.base }
+    requires { IsBasedWell header.now history.now.base }
     ensures { result ≡ calls (start_on header.now history.now) history.now.entries }
 {
+    let _header = header;
     let _few = history.len();
-    calls_before(header, history) + history.calls()
-}
-
-/// How many calls ended before the base of a history.
-fn calls_before(header: &Header, history: &History) -> u64
-    requires range { IsInRange header.now }
-    requires based { IsBasedWell header.now history.now.base }
-    ensures calls { result ≡ (start_on header.now history.now).calls }
-    ensures few { result ≤ most_folded }
-{
-    match history.base() {
-        None => 0,
-        Some(base) => sum_calls(&base.seats),
-    }
-}
-
-/// The calls that the seats of a base ended, all together.
-fn sum_calls(seats: &[SeatBase]) -> u64
-    requires { total (length seats.now) (λ i. (get_or seats.now i nothing).calls) ≤ most_folded }
-    ensures { result ≡ total (length seats.now) (λ i. (get_or seats.now i nothing).calls) }
-{
-    let mut sum: u64 = 0;
-    for seat in 0..seats.len() {
-        sum += seats[seat].calls;
-    }
-    sum
+    history.calls()
 }
 
 fn print_totals<R: Print>(rt: &R, object: &Object, totals: &Totals) -> io::Result<()> {

@@ -45,10 +45,6 @@ IsApart (first ∷ rest) = (¬ IsIn first rest) × IsApart rest
 abbrev pub IsEmpty : LinkedLists → ℕ → Type 0
 IsEmpty s list = (key : ℕ) → list_of s key ≢ Some list
 
--- some key is in the list
-abbrev pub HasKey : LinkedLists → ℕ → Type 0
-HasKey s list = (key : ℕ) × (list_of s key ≡ Some list)
-
 -- each list and each key is as it was
 pub record SameLists (old new : LinkedLists) : Type 0 where
   pub count : list_count new ≡ list_count old

@@ -7,18 +7,16 @@ use Rattle.audit.proofs.Beginnings.{good_from, header_from}
 use Rattle.driver.specs.AuditText.{audit_text}
 use Rattle.history.specs.declared.header.Header.{Header}
 use Rattle.history.specs.Base.{Base, based}
-use Rattle.history.specs.Entries.{IsBasedWell, or_opening}
 use Rattle.history.specs.EntryWords.{IsSpelt}
 use Rattle.history.specs.GoodBase.{IsGood}
 use Rattle.history.specs.Header.{IsInRange}
 use Rattle.history.specs.Legal.{calls}
 use Rattle.history.specs.Text.{ended}
 use Rattle.history.proofs.GoodBases.{good_waits}
-use Rattle.history_text.specs.BaseText.{IsHeadPut, lines_text}
+use Rattle.history_text.specs.BaseText.{lines_text}
 use Rattle.history_text.specs.EntryLines.{counts_line}
 use Rattle.history_text.specs.HistoryLines.{head_line, head_of, lines_told}
 use Rattle.history_text.specs.Pieces.{entry_lines}
-use Rattle.history_text.proofs.HeadWritten.{sum_calls}
 use Rattle.history_text.proofs.Lists.{each-reverse}
 use Rattle.history_text.proofs.Pieces.{pieces}
 use Rattle.history_text.proofs.Spelt.{all_spelt_on}
@@ -59,12 +57,6 @@ lines_spelt part is =
     let s = based (base_of part) in
     All-from_recursion IsSpelt (reverse h)
     (each-reverse IsSpelt h (all_spelt_on s h (good_waits (base_of part) (good_base part is)) is.2))
-
--- the calls that were ended by the entries that were folded
-pub head_calls : (k : Header) (o : Option Base) (out new : List ℕ) (n c : ℕ) → IsInRange k → IsBasedWell k o →
-    IsHeadPut (or_opening k o) out new n c → c ≡ calls (based (or_opening k o)) []
-head_calls k o out new n c range well put =
-    put.calls ∙ sum_calls (or_opening k o) (good_from k o range well)
 
 -- the lines behind the entries, one after another
 pub foot_lines : (part : ObjectReport) (n c : ℕ) (counted broken said new : List ℕ) →

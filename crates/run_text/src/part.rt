@@ -2,10 +2,8 @@
 
 ghost use Rattle.std.specs.Prelude.{◌≡◌, ◌↔◌, [], false, IfErr, IfOk, IsErr, IsTrue, OnErr, OnOk};
 ghost use Rattle.std.specs.Io.KnownBytes.{Appends};
-ghost use Rattle.history.specs.Base.{based};
-ghost use Rattle.history.specs.Entries.{IsBasedWell, base_on, start_on};
+ghost use Rattle.history.specs.Entries.{IsBasedWell, base_on};
 ghost use Rattle.history.specs.Header.{IsInRange};
-ghost use Rattle.history.specs.Legal.{calls};
 ghost use Rattle.run_text.specs.RunText.{IsJudged, base_of, foot_text, head_text, part_text};
 ghost use Rattle.streams.specs.Whole.{AppendsFront};
 ghost use Rattle.streams.specs.declared.stream_fault.StreamFault.TheVariants.{Memory};
@@ -57,8 +55,6 @@ struct Head {
     lines: Vec<u8>,
     /// How many entries were folded.
     entries: u64,
-    /// How many calls these ended.
-    calls: u64,
 }
 
 /// The line of a name, the first line of a history text and the lines of the base.
@@ -73,31 +69,25 @@ fn head_of(
     ensures lines { IfOk result (λ head. head.lines.items
         ≡ head_text name.now (base_on header.now history.now)) }
     ensures entries { IfOk result (λ head. head.entries ≡ (base_on header.now history.now).entries) }
-    ensures calls { IfOk result (λ head. head.calls ≡ calls (start_on header.now history.now) []) }
     ensures err { IfErr result (λ fault. fault ≡ Memory) }
 {
     let mut lines = Vec::from_slice(alloc, b"object ")?;
     lines.extend_from_slice(name)?;
     lines.push(b'\n')?;
-    let (entries, calls) = put_head(&mut lines, header, history.base())?;
-    Ok(Head {
-        lines,
-        entries,
-        calls,
-    })
+    let (entries, _) = put_head(&mut lines, header, history.base())?;
+    Ok(Head { lines, entries })
 }
 
 /// The end line of a history text, what the audit says of the history, and the line of the merged share.
 fn foot_of(alloc: Global, head: &Head, part: &ObjectReport) -> Result<Vec<u8>, StreamFault>
     requires judged { IsJudged part.now }
     requires folded { head.now.entries ≡ (base_of part.now).entries }
-    requires calls { head.now.calls ≡ calls (based (base_of part.now)) [] }
     ensures ok { IfOk result (λ foot. foot.items ≡ foot_text part.now) }
     ensures err { IfErr result (λ fault. fault ≡ Memory) }
 {
     let object = part.header.object;
     let entries = head.entries + part.history.len();
-    let calls = head.calls + part.history.calls();
+    let calls = part.history.calls();
     let mut foot = Vec::new(alloc);
     put_counts(&mut foot, entries, calls)?;
     foot.push(b'\n')?;

@@ -7,7 +7,7 @@ use Rattle.std.proofs.lemmas.Slice.Eq.{bytes_eq-Decides}
 use Rattle.indexmap.specs.IndexMap.{insert_entry}
 use Rattle.history.specs.declared.header.Header.{Header}
 use Rattle.history.specs.Header.{IsInRange}
-use Rattle.history.specs.Reading.{header_at}
+use Rattle.history.specs.HeaderReading.{header_at}
 use Rattle.history.specs.Spelling.{part_of}
 use Rattle.history.proofs.PartLemmas.{part_again}
 use Rattle.history.proofs.Readers.{same_value}

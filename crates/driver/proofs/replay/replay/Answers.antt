@@ -64,6 +64,7 @@ returns-clause-folded g c = record {
   header = c.recall_lawful.ensures.header ∙ c.loop-log.invariant.header
       ∙ ap (λ (k : StepsHeader). k.header) c.loop-log.invariant.same;
   entries = c.loop-log.invariant.answering.counted;
+  ended = c.loop-log.invariant.answering.ended;
   good = c.recall_lawful.ensures.may_fold.can.good;
 }
 

@@ -1,7 +1,7 @@
 use Rattle.std.proofs.Common.{◌+◌, ◌≤◌, length, reverse, ap, subst, sym, ◌∙◌}
+use Rattle.history.specs.declared.limits.TheConstants.{MOST_FOLDED}
 use Rattle.history.specs.Base.{Base, folded}
 use Rattle.history.specs.Fold.{MayFold}
-use Rattle.history.specs.GoodBase.{most_folded}
 use Rattle.history.proofs.Folding.{folds_nothing}
 use Rattle.history.proofs.FoldSteps.{page_few, page_folded, page_may}
 use Rattle.history.proofs.fold.fold_pages.Goals as goal
@@ -17,7 +17,7 @@ fold_entries-requires-clause-may c =
 
 pub fold_entries-requires-clause-few : goal.fold_entries-requires-clause-few
 fold_entries-requires-clause-few c =
-    subst (λ (b : Base). b.entries + length (reverse c.entries.result.now) ≤ most_folded)
+    subst (λ (b : Base). b.entries + length (reverse c.entries.result.now) ≤ MOST_FOLDED)
     (sym c.loop-page.invariant)
     (page_few c.args.base.now c.args.pages.now c.requires.may c.requires.few c.loop-page.page-index
     c.entries.result.now c.page-item.result c.loop-page-test.true (c.entries.ensures ∙ c.page-item.is))

@@ -10,7 +10,7 @@ use Rattle.history_text.specs.EntryLines.{entry_line}
 use Rattle.history_text.specs.HistoryLines.{head_line, head_of, lines_told, numbered}
 use Rattle.history_text.specs.HistoryText.{history_form}
 use Rattle.history_text.proofs.HistoryWriting.{past}
-use Rattle.history_text.proofs.TextWritten.{all_lines, ended_few, more_lines}
+use Rattle.history_text.proofs.TextWritten.{all_lines, all_summed, more_lines}
 use Rattle.history_text.proofs.history_text.written.Goals as goal
 
 pub loop-entry-preserved : goal.loop-entry-preserved
@@ -20,7 +20,7 @@ loop-entry-preserved c =
     let number = c.loop-entry.number in
     let head =
     subst (λ (a : Base). IsHeadPut a c.in_ok-out.out.items c.put_head.new.out.items c.in_ok-folded.folded
-    c.in_ok-folded.calls) (ap (or_opening c.args.header.now) c.base.ensures) c.in_ok-folded.ensures in
+    c.in_ok-folded.field-0-1) (ap (or_opening c.args.header.now) c.base.ensures) c.in_ok-folded.ensures in
     let lt : number < length xs = slice_get_within xs number c.in-Some.entry (sym c.in-Some.ensures) in
     record {
       lines = more_lines b.entries xs (ended (head_line (head_of b)) ++ lines_text (lines_told b))
@@ -32,15 +32,6 @@ loop-entry-preserved c =
       inside = omega (arith, lt);
     }
 
-pub overflow_add-calls : goal.overflow_add-calls
-overflow_add-calls c =
-    let b = base_on c.args.header.now c.args.history.now in
-    let head =
-    subst (λ (a : Base). IsHeadPut a c.in_ok-out.out.items c.put_head.new.out.items c.in_ok-folded.folded
-    c.in_ok-folded.calls) (ap (or_opening c.args.header.now) c.base.ensures) c.in_ok-folded.ensures in
-    let few = ended_few c.args.history.now.entries in
-    omega (arith, head.some, head.few, few, c.calls.ensures, c.len-2.ensures.value, c.len-2.ensures.few)
-
 pub returns : goal.returns
 returns c =
     let k = c.args.header.now in
@@ -48,7 +39,7 @@ returns c =
     let xs = reverse c.args.history.now.entries in
     let head =
     subst (λ (a : Base). IsHeadPut a c.in_ok-out.out.items c.put_head.new.out.items c.in_ok-folded.folded
-    c.in_ok-folded.calls) (ap (or_opening c.args.header.now) c.base.ensures) c.in_ok-folded.ensures in
+    c.in_ok-folded.field-0-1) (ap (or_opening c.args.header.now) c.base.ensures) c.in_ok-folded.ensures in
     let all = past xs c.loop-entry.number (sym c.in_default.ensures) in
     let lines =
     c.loop-entry.invariant.lines
@@ -57,6 +48,8 @@ returns c =
     let count : c.in_ok-folded.folded + c.len-2.result ≡ b.entries + length c.args.history.now.entries =
     omega (arith, head.folded, c.len-2.ensures.value) in
     all_lines k b c.args.history.now.entries c.loop-entry.out.items c.put_counts.new.out.items
-    c.push-2.new.self.items (c.in_ok-folded.folded + c.len-2.result) (c.in_ok-folded.calls + c.calls.result)
-    c.requires.range c.requires.base lines count (omega (arith, head.calls, c.calls.ensures))
+    c.push-2.new.self.items (c.in_ok-folded.folded + c.len-2.result) c.calls.result
+    c.requires.range c.requires.base lines count
+    (all_summed k c.args.history.now c.calls.result c.requires.range c.requires.base
+    (omega (arith, c.len-2.ensures.value, c.len-2.ensures.few)) c.calls.ensures)
     c.in_ok-put_counts.ensures.ok c.in_ok-push-2.ensures.items

@@ -1,22 +1,34 @@
-use Rattle.std.proofs.Common.{ℕ, ◌+◌, reverse, sym, ap, ◌∙◌, arith}
-use Rattle.history.specs.Entries.{ended_calls}
-use Rattle.history.proofs.Lists.{ended_append, ended_calls_le}
+use Rattle.std.proofs.Common.{◌≡◌, ◌<◌, ◌^◌, length, reverse, subst, arith, Option, Some, None}
+use Rattle.history.specs.declared.header.Header.{Header}
+use Rattle.history.specs.Base.{Base}
+use Rattle.history.specs.Entries.{IsBasedWell, ended_calls, or_opening, start_on}
+use Rattle.history.specs.GoodBase.{IsGood}
+use Rattle.history.proofs.AllCalls.{calls_told}
+use Rattle.history.proofs.Lists.{calls-ended, ended_append}
+use Rattle.driver.specs.Answers.{AllAnswers, all_of}
 use Rattle.driver.proofs.EntryLines.{ended_calls-reverse}
 use Rattle.driver.proofs.answers.Answers.calls.Goals as goal
 
-pub overflow_add-result : goal.overflow_add-result
-overflow_add-result c =
-    let few = c.calls_in.ensures.few in
-    let len = c.deref.ensures.len in
-    let calls = c.calls.ensures in
-    let most = ended_calls_le c.self.inside.history.entries in
-    let value = c.len-few.ensures.value in
-    let short = c.len-few.ensures.few in
-    omega (arith, few, len, calls, most, value, short)
+based_well : (k : Header) (o : Option Base) → (or_opening k o).header ≡ k → IsGood (or_opening k o) →
+    IsBasedWell k o
+based_well k None header good = tt
+based_well k (Some b) header good = (header, good)
 
 pub returns : goal.returns
 returns c =
-    let past = c.self.inside.past.items in
-    let h = c.self.inside.history.entries in
-    rw (c.calls_in.ensures.calls, c.deref.ensures.value, c.calls.ensures, ← c.self.view_is)
-    (sym (ended_append past (reverse h) ∙ ap (λ (n : ℕ). ended_calls past + n) (ended_calls-reverse h)))
+    let a = c.self.inside in
+    let k = a.header.header in
+    let h = a.history.entries in
+    let are = c.self.invariant.2 in
+    let few : length h < 2 ^ 32 = omega (arith, c.len-few.ensures.value, c.len-few.ensures.few) in
+    let told = calls_told k a.history c.calls.result (based_well k a.history.base are.header are.good) few
+    c.calls.ensures in
+    subst (λ (v : AllAnswers). c.calls.result ≡ ended_calls (all_of v)) c.self.view_is
+    (omega (
+      arith,
+      told,
+      calls-ended (start_on k a.history) h,
+      are.ended,
+      ended_append a.past.items (reverse h),
+      ended_calls-reverse h,
+    ))

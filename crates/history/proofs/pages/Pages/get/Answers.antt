@@ -1,0 +1,36 @@
+use Rattle.std.proofs.Common.{◌≡◌, ◌/◌, ◌%◌, None, ap, ◌∙◌, sym, subst, arith}
+use Rattle.std.proofs.lemmas.Grind.{common_steps}
+use Rattle.std.proofs.lemmas.Option.{gets}
+use Rattle.std.specs.Prelude.{slice_get, Some, vec_capacity}
+use Rattle.history.specs.Paged.{PagesView}
+use Rattle.history.proofs.Paging.{at_place, get_hand, get_other}
+use Rattle.history.proofs.pages.Pages.get.Goals as goal
+
+pub returns-then-place-self : goal.returns-then-place-self
+returns-then-place-self c =
+    let a = c.self.inside in
+    let there : c.copied.result ≡ slice_get a.hand.items (c.args.number % 1024) =
+    grind (arith, common_steps, gets) in
+    subst (λ (v : PagesView). c.copied.result ≡ slice_get v.entries c.args.number) c.self.view_is
+    (there ∙ sym (get_hand a.others.items a.full a.hand.items (vec_capacity a.hand) c.self.invariant
+    c.args.number c.if-place-self.true))
+
+pub returns-in-Some : goal.returns-in-Some
+returns-in-Some c =
+    let a = c.self.inside in
+    let there : slice_get a.others.items (c.args.number / 1024) ≡ Some c.in-Some.page.now =
+    grind (arith, common_steps, gets) in
+    subst (λ (v : PagesView). c.get-in-Some.result ≡ slice_get v.entries c.args.number) c.self.view_is
+    (c.get-in-Some.ensures ∙ sym (ap (λ p. at_place p (c.args.number % 1024)) there)
+    ∙ sym (get_other a.others.items a.full a.hand.items (vec_capacity a.hand) c.self.invariant c.args.number
+    c.if-place-self.false))
+
+pub returns-in-None : goal.returns-in-None
+returns-in-None c =
+    let a = c.self.inside in
+    let there : slice_get a.others.items (c.args.number / 1024) ≡ None =
+    grind (arith, common_steps, gets) in
+    subst (λ (v : PagesView). None ≡ slice_get v.entries c.args.number) c.self.view_is
+    (sym (ap (λ p. at_place p (c.args.number % 1024)) there)
+    ∙ sym (get_other a.others.items a.full a.hand.items (vec_capacity a.hand) c.self.invariant c.args.number
+    c.if-place-self.false))

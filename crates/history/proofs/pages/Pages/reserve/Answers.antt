@@ -1,0 +1,77 @@
+use Rattle.std.proofs.Common.{arith, ◌≡◌, ◌+◌, ◌-◌, ◌*◌, ◌/◌, ◌^◌, ◌<◌, zero, List, [], ◌++◌, length, replicate, ap, subst, sym, ◌∙◌, ⊎_elim}
+use Rattle.std.proofs.lemmas.List.{length-append, length-replicate}
+use Rattle.std.specs.Prelude.{vec_capacity}
+use Rattle.history.specs.declared.entry.Entry.{Entry}
+use Rattle.history.specs.Paged.{AreFull, AreKept, PagesView, in_pages}
+use Rattle.history.proofs.Paging.{entries_first, full_more, in_pages_more, kept_first, kept_more, none_kept}
+use Rattle.history.proofs.pages.Pages.reserve.Goals as goal
+
+pub invariant_of-self-in-Some : goal.invariant_of-self-in-Some
+invariant_of-self-in-Some c =
+    let a = c.self.inside in
+    let none = none_kept a.others.items a.full a.hand.items (vec_capacity a.hand) c.self.invariant
+    (omega (arith, c.capacity.ensures, c.if-capacity-eq0.true)) in
+    let all = c.in_ok-reserve_pages.ensures.ok in
+    let empty : AreFull zero c.reserve_pages.new.pages.items =
+    subst (AreFull zero) (sym all) (full_more zero a.others.items none.0 _) in
+    let many = ap length all
+    ∙ length-append a.others.items (replicate (c.div_ceil.result - c.places-places.result / 1024) [])
+    ∙ ap (λ n. length a.others.items + n)
+    (length-replicate {A = List Entry} (c.div_ceil.result - c.places-places.result / 1024) []) in
+    let places = ap (λ (v : PagesView). v.places) c.self.view_is in
+    let wanted = c.if-wanted-places.false in
+    let few : 1024 * length c.reserve_pages.new.pages.items < 2 ^ 33 =
+    omega (
+      arith,
+      many,
+      places,
+      wanted,
+      c.places-places.ensures.value,
+      c.div_ceil.ensures,
+      c.requires,
+      none.2,
+      c.self.invariant.few,
+      c.capacity.ensures,
+      c.if-capacity-eq0.true,
+    ) in
+    subst (λ n. AreKept c.pop.new.self.items n c.into_entries.result.items (vec_capacity c.into_entries.result))
+    (sym none.2)
+    (subst (λ xs. AreKept c.pop.new.self.items 0 xs (vec_capacity c.into_entries.result))
+    (sym c.into_entries.ensures.items)
+    (subst (AreKept c.pop.new.self.items 0 c.in-Some.page) (sym c.into_entries.ensures.capacity)
+    (kept_first c.reserve_pages.new.pages.items c.pop.new.self.items c.in-Some.page empty
+    c.in-Some.ensures.items few)))
+
+pub invariant_of-self-else-capacity-eq0 : goal.invariant_of-self-else-capacity-eq0
+invariant_of-self-else-capacity-eq0 c =
+    let a = c.self.inside in
+    let k = c.self.invariant in
+    let there = c.if-capacity-eq0.false in
+    let page : vec_capacity a.hand ≡ 1024 =
+    ⊎_elim (λ (q : vec_capacity a.hand ≡ 1024). q)
+    (λ none. absurd (omega (arith, none.0, there, c.capacity.ensures))) k.page in
+    let places = ap (λ (v : PagesView). v.places) c.self.view_is in
+    let wanted = c.if-wanted-places.false in
+    subst (λ ps. AreKept ps a.full a.hand.items (vec_capacity a.hand)) (sym c.in_ok-reserve_pages.ensures.ok)
+    (kept_more a.others.items a.full a.hand.items (vec_capacity a.hand) k _ page
+    (omega (arith, page, places, wanted, c.places-places.ensures.value, c.div_ceil.ensures, c.requires)))
+
+pub returns-in-Some-clause-same : goal.returns-in-Some-clause-same
+returns-in-Some-clause-same c =
+    let a = c.self.inside in
+    let none = none_kept a.others.items a.full a.hand.items (vec_capacity a.hand) c.self.invariant
+    (omega (arith, c.capacity.ensures, c.if-capacity-eq0.true)) in
+    let empty : AreFull zero c.reserve_pages.new.pages.items =
+    subst (AreFull zero) (sym c.in_ok-reserve_pages.ensures.ok) (full_more zero a.others.items none.0 _) in
+    ap (λ xs. in_pages c.pop.new.self.items ++ xs) c.into_entries.ensures.items
+    ∙ entries_first c.reserve_pages.new.pages.items c.pop.new.self.items c.in-Some.page empty
+    c.in-Some.ensures.items
+    ∙ sym none.1
+    ∙ ap (λ (v : PagesView). v.entries) c.self.view_is
+
+pub returns-else-capacity-eq0-clause-same : goal.returns-else-capacity-eq0-clause-same
+returns-else-capacity-eq0-clause-same c =
+    let a = c.self.inside in
+    ap (λ ps. in_pages ps ++ a.hand.items) c.in_ok-reserve_pages.ensures.ok
+    ∙ ap (λ xs. xs ++ a.hand.items) (in_pages_more a.others.items _)
+    ∙ ap (λ (v : PagesView). v.entries) c.self.view_is

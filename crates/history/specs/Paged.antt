@@ -1,0 +1,36 @@
+-- How the entries of a history stand in pages. A page is full before the next begins.
+use Rattle.std.specs.Prelude.{◌≡◌, ◌⊎◌, ℕ, zero, suc, ◌+◌, ◌*◌, ◌<◌, ◌≤◌, ◌^◌, List, [], ◌∷◌, ◌++◌, length, reverse}
+use Rattle.history.specs.declared.entry.Entry.{Entry}
+use Rattle.history.specs.Entries.{ended_calls}
+
+-- the entries, the oldest first, and how many the reserved pages hold
+pub record PagesView : Type 0 where
+  pub entries : List Entry
+  pub places : ℕ
+
+-- the entries of all pages, the oldest first
+abbrev pub in_pages : List (List Entry) → List Entry
+in_pages [] = []
+in_pages (page ∷ pages) = page ++ in_pages pages
+
+-- n of these pages are full, and then all are empty
+abbrev pub AreFull : ℕ → List (List Entry) → Type 0
+AreFull zero [] = Unit {0}
+AreFull zero (page ∷ pages) = (page ≡ []) × AreFull zero pages
+AreFull (suc n) [] = ⊥
+AreFull (suc n) (page ∷ pages) = (length page ≡ 1024) × AreFull n pages
+
+-- What stands in the pages is so. Without a page at hand there is none.
+pub record AreKept (others : List (List Entry)) (full : ℕ) (hand : List Entry) (room : ℕ) : Type 0 where
+  pub full_first : AreFull full others
+  pub fits : length hand ≤ room
+  pub page : (room ≡ 1024) ⊎ ((room ≡ 0) × (others ≡ []))
+  pub few : 1024 * length others + room < 2 ^ 33
+
+-- What a history keeps beside its pages is so.
+pub record IsKept (pages : PagesView) (cap owed calls : ℕ) : Type 0 where
+  pub reserved : length pages.entries + owed ≤ pages.places
+  pub within_cap : length pages.entries + owed ≤ cap
+  pub short : cap < 2 ^ 32
+  pub bounded : pages.places < cap + 1024
+  pub counted : calls ≡ ended_calls (reverse pages.entries)
