@@ -191,6 +191,10 @@ module _ (others : List (List Entry)) (full : ℕ) (hand : List Entry) (room : �
       ⊎_elim (λ (q : room ≡ 1024). q)
       (λ none. (let l = ap length none.1 in absurd (omega (arith, fits, none.0, l)))) kept.page
 
+  pub page_there : length hand < room → room ≡ 1024
+  page_there place =
+      ⊎_elim (λ (q : room ≡ 1024). q) (λ none. absurd (omega (arith, place, none.0))) kept.page
+
   pub next_within : length hand ≡ 1024 →
       length (in_pages others ++ hand) < 1024 * length others + room → full < length others
   next_within l fits =
@@ -208,22 +212,25 @@ module _ (others : List (List Entry)) (full : ℕ) (hand : List Entry) (room : �
         few = kept.few;
       }
 
-  -- the page at hand is full, and the next one is begun
-  pub kept_begin : (e : Entry) → length hand ≡ 1024 → full < length others → room ≡ 1024 →
-      AreKept (set others full hand) (full + 1) (e ∷ []) 1024
-  kept_begin e l within page =
+  -- the page at hand is full, and the next one is taken
+  pub kept_turn : (next : List Entry) → length hand ≡ 1024 → full < length others → room ≡ 1024 →
+      next ≡ get_or others full [] → AreKept (set others full hand) (full + 1) next 1024
+  kept_turn next l within page is =
       record {
         full_first = let more : suc full ≡ full + 1 = omega arith in
             subst (λ n. AreFull n (set others full hand)) more
             (full_next full others hand kept.full_first l within);
-        fits = omega arith;
+        fits = let n = ap length (is ∙ next_empty full others kept.full_first) in omega (arith, n);
         page = inl refl;
         few = let n = length-set others full hand in let f = kept.few in omega (arith, n, f, page);
       }
 
-  pub entries_begin : (e : Entry) → full < length others →
-      in_pages (set others full hand) ++ e ∷ [] ≡ (in_pages others ++ hand) ++ e ∷ []
-  entries_begin e within = ap (λ h. h ++ e ∷ []) (in_pages_next full others hand kept.full_first within)
+  pub entries_turn : (next : List Entry) → full < length others → next ≡ get_or others full [] →
+      in_pages (set others full hand) ++ next ≡ in_pages others ++ hand
+  entries_turn next within is =
+      ap (λ n. in_pages (set others full hand) ++ n) (is ∙ next_empty full others kept.full_first)
+      ∙ append-nil (in_pages (set others full hand))
+      ∙ in_pages_next full others hand kept.full_first within
 
   -- pages more
   pub kept_more : (k : ℕ) → room ≡ 1024 → 1024 * (length others + k) + room < 2 ^ 33 →

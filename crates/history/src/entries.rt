@@ -204,6 +204,22 @@ impl History {
         requires within_cap { length self.old.entries + 1 + owed ≤ self.old.cap }
         ensures { self.new ≡ record self.old { entries = entry ∷ self.old.entries; owed = owed } }
     {
+        if self.pages.add_at_hand(entry) {
+            self.owed = owed;
+            self.calls += u64::from(ends_call(entry.word));
+            return;
+        }
+        self.add_on_next_page(entry, owed);
+    }
+
+    /// Adds an entry where the page at hand is full.
+    #[cold]
+    #[inline(never)]
+    fn add_on_next_page(&mut self, entry: Entry, owed: u64)
+        requires reserved { length self.old.entries + 1 + owed ≤ self.old.places }
+        requires within_cap { length self.old.entries + 1 + owed ≤ self.old.cap }
+        ensures { self.new ≡ record self.old { entries = entry ∷ self.old.entries; owed = owed } }
+    {
         self.pages.add(entry);
         self.owed = owed;
         self.calls += u64::from(ends_call(entry.word));

@@ -1,8 +1,8 @@
 //! Entries in pages, one of them at hand.
 
-ghost use Rattle.std.specs.Prelude.{◌≡◌, ◌+◌, ◌*◌, ◌^◌, ◌<◌, ◌≤◌, ◌++◌, max, [], ◌∷◌, length, set, get_or, slice_get, IsOk, OnOk, OnErr, vec_capacity};
+ghost use Rattle.std.specs.Prelude.{◌≡◌, ◌+◌, ◌*◌, ◌^◌, ◌<◌, ◌≤◌, ◌++◌, max, [], ◌∷◌, length, set, get_or, slice_get, IsFalse, IsOk, IsTrue, OnOk, OnErr, vec_capacity};
 ghost use Rattle.history.specs.Pages.{whole_pages};
-ghost use Rattle.history.specs.Paged.{in_pages};
+ghost use Rattle.history.specs.Paged.{AreKept, in_pages};
 
 use crate::entry::Entry;
 use crate::page::{PLACES, Page, clear_pages, reserve_pages};
@@ -21,20 +21,26 @@ pub(crate) struct Pages {
     full: usize,
     /// The page at hand. It has no memory as long as no page is reserved.
     hand: Vec<Entry>,
+    /// How many entries there are.
+    len: u64,
+    /// How many the reserved pages hold.
+    places: u64,
 }
 
 impl Model for Pages {
-    ghost use Rattle.std.specs.Prelude.{◌+◌, ◌*◌, ◌++◌, length, vec_capacity};
+    ghost use Rattle.std.specs.Prelude.{◌≡◌, ◌+◌, ◌*◌, ◌++◌, length, vec_capacity};
     ghost use Rattle.history.specs.Paged.{AreKept, PagesView, in_pages};
 
     ghost Value = { PagesView };
 
     ghost view = { λ a. record {
       entries = in_pages a.others.items ++ a.hand.items;
-      places = 1024 * length a.others.items + vec_capacity a.hand;
+      places = a.places;
     } };
 
-    ghost invariant = { λ a. AreKept a.others.items a.full a.hand.items (vec_capacity a.hand) };
+    ghost invariant = { λ a. AreKept a.others.items a.full a.hand.items (vec_capacity a.hand)
+        × (a.len ≡ 1024 * a.full + length a.hand.items)
+        × (a.places ≡ 1024 * length a.others.items + vec_capacity a.hand) };
 }
 
 impl Pages {
@@ -46,6 +52,8 @@ impl Pages {
             others: Vec::new(alloc),
             full: 0,
             hand: Vec::new(alloc),
+            len: 0,
+            places: 0,
         }
     }
 
@@ -55,7 +63,7 @@ impl Pages {
         ensures within { result ≤ self.now.places }
         ensures few { result < 2 ^ 33 }
     {
-        (self.full * PLACES + self.hand.len()) as u64
+        self.len
     }
 
     /// The number of entries that the reserved memory holds.
@@ -63,7 +71,7 @@ impl Pages {
         ensures value { result ≡ self.now.places }
         ensures few { result < 2 ^ 33 }
     {
-        (self.others.len() * PLACES + self.hand.capacity()) as u64
+        self.places
     }
 
     /// The entry of a number, counted from 0, the oldest.
@@ -88,12 +96,13 @@ impl Pages {
         ensures reserved { entries ≤ self.old.places → IsOk result × (self.new ≡ self.old) }
         ensures err { OnErr result (self.new ≡ self.old) }
     {
-        let wanted = entries as usize;
-        let places = self.places() as usize;
-        if wanted <= places {
+        let places = self.places();
+        if entries <= places {
             return Ok(());
         }
-        reserve_pages(&mut self.others, wanted.div_ceil(PLACES) - places / PLACES)?;
+        let more = (entries as usize).div_ceil(PLACES) - places as usize / PLACES;
+        reserve_pages(&mut self.others, more)?;
+        self.places += (more * PLACES) as u64;
         if self.hand.capacity() == 0 {
             if let Some(page) = self.others.pop() {
                 self.hand = page.into_entries();
@@ -102,18 +111,29 @@ impl Pages {
         Ok(())
     }
 
-    /// Adds an entry at a place that is reserved.
+    /// Adds an entry at a place that is reserved, if the page at hand has one, and returns whether it did.
     #[inline(always)]
+    pub(crate) fn add_at_hand(&mut self, entry: Entry) -> bool
+        requires { length self.old.entries < self.old.places }
+        ensures added { IsTrue result → self.new ≡ record self.old { entries = self.old.entries ++ entry ∷ [] } }
+        ensures full { IsFalse result → self.new ≡ self.old }
+    {
+        if self.hand.len() < PLACES {
+            self.hand.push_reserved(entry);
+            self.len += 1;
+            return true;
+        }
+        false
+    }
+
+    /// Adds an entry at a place that is reserved, on whichever page it is.
     pub(crate) fn add(&mut self, entry: Entry)
         requires { length self.old.entries < self.old.places }
         ensures { self.new ≡ record self.old { entries = self.old.entries ++ entry ∷ [] } }
     {
-        if self.hand.len() < PLACES {
-            self.hand.push_reserved(entry);
-            return;
-        }
-        begin_page(&mut self.others, self.full, &mut self.hand, entry);
-        self.full += 1;
+        find_place(&mut self.others, &mut self.full, &mut self.hand);
+        self.hand.push_reserved(entry);
+        self.len += 1;
     }
 
     /// Removes all entries. Their places stay.
@@ -123,6 +143,7 @@ impl Pages {
         clear_pages(&mut self.others);
         self.hand.clear();
         self.full = 0;
+        self.len = 0;
     }
 
     /// The entries of the other pages, and those at hand.
@@ -133,17 +154,32 @@ impl Pages {
     }
 }
 
-/// Takes the next page to hand, in place of one that is full, and adds an entry there.
-#[cold]
-#[inline(never)]
-fn begin_page(others: &mut [Page], next: usize, hand: &mut Vec<Entry>, entry: Entry)
-    requires next { next < length others.old }
-    requires empty { get_or others.old next [] ≡ [] }
+/// Has a page at hand that has a place, where one of all pages has.
+fn find_place(others: &mut Vec<Page>, full: &mut usize, hand: &mut Vec<Entry>)
+    requires kept { AreKept others.old.items full.old hand.old.items (vec_capacity hand.old) }
+    requires place { length (in_pages others.old.items ++ hand.old.items)
+        < 1024 * length others.old.items + vec_capacity hand.old }
+    ensures kept { AreKept others.new.items full.new hand.new.items (vec_capacity hand.new) }
+    ensures entries { in_pages others.new.items ++ hand.new.items
+        ≡ in_pages others.old.items ++ hand.old.items }
+    ensures others { length others.new.items ≡ length others.old.items }
+    ensures capacity { vec_capacity hand.new ≡ vec_capacity hand.old }
+    ensures place { length hand.new.items < vec_capacity hand.new }
+{
+    if hand.len() < PLACES {
+        return;
+    }
+    turn_page(others, *full, hand);
+    *full += 1;
+}
+
+/// Takes the next page to hand, in place of one that is full.
+fn turn_page(others: &mut Vec<Page>, next: usize, hand: &mut Vec<Entry>)
+    requires next { next < length others.old.items }
     requires capacity { vec_capacity hand.old ≡ 1024 }
-    ensures others { others.new ≡ set others.old next hand.old.items }
-    ensures hand { hand.new.items ≡ entry ∷ [] }
+    ensures others { others.new.items ≡ set others.old.items next hand.old.items }
+    ensures hand { hand.new.items ≡ get_or others.old.items next [] }
     ensures capacity { vec_capacity hand.new ≡ 1024 }
 {
     others[next].exchange(hand);
-    hand.push_reserved(entry);
 }

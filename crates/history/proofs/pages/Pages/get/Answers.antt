@@ -12,7 +12,7 @@ returns-then-place-self c =
     let there : c.copied.result ≡ slice_get a.hand.items (c.args.number % 1024) =
     grind (arith, common_steps, gets) in
     subst (λ (v : PagesView). c.copied.result ≡ slice_get v.entries c.args.number) c.self.view_is
-    (there ∙ sym (get_hand a.others.items a.full a.hand.items (vec_capacity a.hand) c.self.invariant
+    (there ∙ sym (get_hand a.others.items a.full a.hand.items (vec_capacity a.hand) c.self.invariant.0
     c.args.number c.if-place-self.true))
 
 pub returns-in-Some : goal.returns-in-Some
@@ -22,7 +22,7 @@ returns-in-Some c =
     grind (arith, common_steps, gets) in
     subst (λ (v : PagesView). c.get-in-Some.result ≡ slice_get v.entries c.args.number) c.self.view_is
     (c.get-in-Some.ensures ∙ sym (ap (λ p. at_place p (c.args.number % 1024)) there)
-    ∙ sym (get_other a.others.items a.full a.hand.items (vec_capacity a.hand) c.self.invariant c.args.number
+    ∙ sym (get_other a.others.items a.full a.hand.items (vec_capacity a.hand) c.self.invariant.0 c.args.number
     c.if-place-self.false))
 
 pub returns-in-None : goal.returns-in-None
@@ -32,5 +32,5 @@ returns-in-None c =
     grind (arith, common_steps, gets) in
     subst (λ (v : PagesView). None ≡ slice_get v.entries c.args.number) c.self.view_is
     (sym (ap (λ p. at_place p (c.args.number % 1024)) there)
-    ∙ sym (get_other a.others.items a.full a.hand.items (vec_capacity a.hand) c.self.invariant c.args.number
+    ∙ sym (get_other a.others.items a.full a.hand.items (vec_capacity a.hand) c.self.invariant.0 c.args.number
     c.if-place-self.false))

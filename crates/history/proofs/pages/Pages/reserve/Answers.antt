@@ -1,4 +1,4 @@
-use Rattle.std.proofs.Common.{arith, ◌≡◌, ◌+◌, ◌-◌, ◌*◌, ◌/◌, ◌^◌, ◌<◌, zero, List, [], ◌++◌, length, replicate, ap, subst, sym, ◌∙◌, ⊎_elim}
+use Rattle.std.proofs.Common.{arith, ◌≡◌, ◌+◌, ◌-◌, ◌*◌, ◌/◌, ◌^◌, ◌<◌, zero, List, [], ◌∷◌, ◌++◌, length, replicate, ap, subst, sym, ◌∙◌, ⊎_elim}
 use Rattle.std.proofs.lemmas.List.{length-append, length-replicate}
 use Rattle.std.specs.Prelude.{vec_capacity}
 use Rattle.history.specs.declared.entry.Entry.{Entry}
@@ -9,17 +9,16 @@ use Rattle.history.proofs.pages.Pages.reserve.Goals as goal
 pub invariant_of-self-in-Some : goal.invariant_of-self-in-Some
 invariant_of-self-in-Some c =
     let a = c.self.inside in
-    let none = none_kept a.others.items a.full a.hand.items (vec_capacity a.hand) c.self.invariant
+    let more = c.div_ceil.result - c.places-places.result / 1024 in
+    let none = none_kept a.others.items a.full a.hand.items (vec_capacity a.hand) c.self.invariant.0
     (omega (arith, c.capacity.ensures, c.if-capacity-eq0.true)) in
     let all = c.in_ok-reserve_pages.ensures.ok in
     let empty : AreFull zero c.reserve_pages.new.pages.items =
     subst (AreFull zero) (sym all) (full_more zero a.others.items none.0 _) in
-    let many = ap length all
-    ∙ length-append a.others.items (replicate (c.div_ceil.result - c.places-places.result / 1024) [])
-    ∙ ap (λ n. length a.others.items + n)
-    (length-replicate {A = List Entry} (c.div_ceil.result - c.places-places.result / 1024) []) in
+    let many = ap length all ∙ length-append a.others.items (replicate more [])
+    ∙ ap (λ n. length a.others.items + n) (length-replicate {A = List Entry} more []) in
     let places = ap (λ (v : PagesView). v.places) c.self.view_is in
-    let wanted = c.if-wanted-places.false in
+    let wanted = c.if-entries-places.false in
     let few : 1024 * length c.reserve_pages.new.pages.items < 2 ^ 33 =
     omega (
       arith,
@@ -29,37 +28,70 @@ invariant_of-self-in-Some c =
       c.places-places.ensures.value,
       c.div_ceil.ensures,
       c.requires,
-      none.2,
-      c.self.invariant.few,
+      c.self.invariant.2,
+      c.self.invariant.0.few,
       c.capacity.ensures,
       c.if-capacity-eq0.true,
     ) in
-    subst (λ n. AreKept c.pop.new.self.items n c.into_entries.result.items (vec_capacity c.into_entries.result))
-    (sym none.2)
-    (subst (λ xs. AreKept c.pop.new.self.items 0 xs (vec_capacity c.into_entries.result))
-    (sym c.into_entries.ensures.items)
-    (subst (AreKept c.pop.new.self.items 0 c.in-Some.page) (sym c.into_entries.ensures.capacity)
-    (kept_first c.reserve_pages.new.pages.items c.pop.new.self.items c.in-Some.page empty
-    c.in-Some.ensures.items few)))
+    let last = ap length c.in-Some.ensures.items ∙ length-append c.pop.new.self.items (c.in-Some.page ∷ []) in
+    let nothing = ap length (entries_first c.reserve_pages.new.pages.items c.pop.new.self.items c.in-Some.page
+    empty c.in-Some.ensures.items) in
+    let parts = length-append (in_pages c.pop.new.self.items) c.in-Some.page in
+    let same = ap length c.into_entries.ensures.items in
+    let fits = c.self.invariant.0.fits in (
+      subst (λ n. AreKept c.pop.new.self.items n c.into_entries.result.items
+          (vec_capacity c.into_entries.result)) (sym none.2)
+          (subst (λ xs. AreKept c.pop.new.self.items 0 xs (vec_capacity c.into_entries.result))
+          (sym c.into_entries.ensures.items)
+          (subst (AreKept c.pop.new.self.items 0 c.in-Some.page) (sym c.into_entries.ensures.capacity)
+          (kept_first c.reserve_pages.new.pages.items c.pop.new.self.items c.in-Some.page empty
+          c.in-Some.ensures.items few))),
+      omega (arith, c.self.invariant.1, fits, c.capacity.ensures, c.if-capacity-eq0.true, nothing, parts, same),
+      omega (
+        arith,
+        c.self.invariant.2,
+        many,
+        last,
+        c.capacity.ensures,
+        c.if-capacity-eq0.true,
+        c.into_entries.ensures.capacity,
+      ),
+    )
 
 pub invariant_of-self-else-capacity-eq0 : goal.invariant_of-self-else-capacity-eq0
 invariant_of-self-else-capacity-eq0 c =
     let a = c.self.inside in
-    let k = c.self.invariant in
+    let k = c.self.invariant.0 in
+    let more = c.div_ceil.result - c.places-places.result / 1024 in
     let there = c.if-capacity-eq0.false in
     let page : vec_capacity a.hand ≡ 1024 =
     ⊎_elim (λ (q : vec_capacity a.hand ≡ 1024). q)
     (λ none. absurd (omega (arith, none.0, there, c.capacity.ensures))) k.page in
     let places = ap (λ (v : PagesView). v.places) c.self.view_is in
-    let wanted = c.if-wanted-places.false in
-    subst (λ ps. AreKept ps a.full a.hand.items (vec_capacity a.hand)) (sym c.in_ok-reserve_pages.ensures.ok)
-    (kept_more a.others.items a.full a.hand.items (vec_capacity a.hand) k _ page
-    (omega (arith, page, places, wanted, c.places-places.ensures.value, c.div_ceil.ensures, c.requires)))
+    let wanted = c.if-entries-places.false in
+    let many = ap length c.in_ok-reserve_pages.ensures.ok ∙ length-append a.others.items (replicate more [])
+    ∙ ap (λ n. length a.others.items + n) (length-replicate {A = List Entry} more []) in (
+      subst (λ ps. AreKept ps a.full a.hand.items (vec_capacity a.hand))
+          (sym c.in_ok-reserve_pages.ensures.ok)
+          (kept_more a.others.items a.full a.hand.items (vec_capacity a.hand) k _ page
+          (omega (
+            arith,
+            page,
+            places,
+            wanted,
+            c.self.invariant.2,
+            c.places-places.ensures.value,
+            c.div_ceil.ensures,
+            c.requires,
+          ))),
+      c.self.invariant.1,
+      omega (arith, c.self.invariant.2, many),
+    )
 
 pub returns-in-Some-clause-same : goal.returns-in-Some-clause-same
 returns-in-Some-clause-same c =
     let a = c.self.inside in
-    let none = none_kept a.others.items a.full a.hand.items (vec_capacity a.hand) c.self.invariant
+    let none = none_kept a.others.items a.full a.hand.items (vec_capacity a.hand) c.self.invariant.0
     (omega (arith, c.capacity.ensures, c.if-capacity-eq0.true)) in
     let empty : AreFull zero c.reserve_pages.new.pages.items =
     subst (AreFull zero) (sym c.in_ok-reserve_pages.ensures.ok) (full_more zero a.others.items none.0 _) in
