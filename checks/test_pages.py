@@ -27,8 +27,31 @@ class Stands(unittest.TestCase):
         self.assertFalse(pages.stands(["fn fill(&self) {", "self.pour();", "}"], SOURCE))
 
 
+class Functions(unittest.TestCase):
+    def test_those_of_a_type_and_of_a_trait_are_public(self):
+        text = "impl<T> Cup<T> {\n    pub fn fill(&self) {}\n\n    pub(crate) fn tilt(&self) {}\n}\n"
+        text += "\npub trait Vessel {\n    fn empty(&self);\n}\n\npub fn pour() {}\n"
+        self.assertEqual(pages.public_functions(text), ["Cup::fill", "Vessel::empty", "pour"])
+
+
+class Rows(unittest.TestCase):
+    def test_a_row_without_a_function_of_its_file_is_a_stray(self):
+        page = f"{TOP}/crates/script/CALLING.md"
+        row = pages.row_of(page, "src/worker.rt")
+        self.assertIn("`Worker::repeat`", row)
+        self.assertEqual(pages.strays_of(page, f"{row}\n", []), (1, []))
+        spoilt = row.replace("`Worker::repeat`, ", "")
+        self.assertEqual(pages.strays_of(page, f"{spoilt}\n", []), (1, [spoilt]))
+
+    def test_a_row_of_no_file_and_a_quoted_clause_are_strays(self):
+        page = f"{TOP}/crates/script/CALLING.md"
+        row = "| [src/cup.rt](src/cup.rt) | `fill` |"
+        self.assertEqual(pages.strays_of(page, f"{row}\n", []), (1, [row]))
+        self.assertEqual(pages.strays_of(page, "```text\nfn fill()\n  ensures: full\n```\n", []), (0, ["ensures"]))
+
+
 class Pages(unittest.TestCase):
-    def test_each_caller_stands_in_a_source(self):
+    def test_each_caller_and_row_is_as_the_sources(self):
         count, strays = pages.checked(TOP)
         self.assertLess(10, count)
         self.assertEqual(strays, [])
