@@ -1,0 +1,165 @@
+#!/usr/bin/env python3
+"""How time and memory grow with the input: checks/growth.py PROGRAM.
+
+Each command gets a text of some size and one four times as long. It may take five times as long at most, and so
+much more memory as docs/PERFORMANCE.md says of each entry and answer. Then the same calls are made in an object of 2
+seats and in one of 256, in which the others are idle, wait in line or sleep: that may take twice as long at most.
+Times are those of the processor, the least of three runs. A run that takes longer than a minute fails. The last line
+is 'N passed, M failed'.
+"""
+
+import json
+import os
+import signal
+import subprocess
+import sys
+import tempfile
+from dataclasses import dataclass
+
+RUNS = 3
+SECONDS = 60
+LONGER = 4  # the longer text, in lengths of the shorter
+TIMES = 5  # as long as the shorter at most
+CROWDED = 2  # with 256 seats as long as with 2 at most
+ENTRY = 12  # bytes of an entry in memory
+ANSWER = 16  # bytes of an answer that no entry says, a trim among them
+SLACK = 3 << 20  # pages, and what the heap has in reserve
+START = 0.02  # seconds that a start may take, whatever it does
+
+
+@dataclass
+class Case:
+    """A command whose text is made of so many rounds, and what a round may leave in memory."""
+
+    name: str
+    words: list
+    rounds: int
+    text: callable
+    bytes: int
+
+
+def steps(object, first, round, count, last="", form=1):
+    """A steps text: what comes first, so many rounds, and what comes last."""
+    lines = (first + last).count("\n") + round.count("\n") * count
+    return (f"aqs-steps {form} {object}\n" + first + round * count + last + f"end {lines}\n").encode()
+
+
+PAIR = "0 acquire x 1\n0 give x 1\n"
+LOCK = "lock fair seats {} conditions 1 cap 4294967295"
+
+
+def pairs(count):
+    return steps(LOCK.format(2), "", PAIR, count)
+
+
+def trimmed(count):
+    return steps(LOCK.format(2), "", PAIR + "trim\n", count, form=2)
+
+
+def waits(count):
+    """A thread holds the lock, and another waits in line and looks."""
+    return steps(LOCK.format(2), "0 acquire x 1\n1 acquire x 1\n", "1 look\n", count)
+
+
+def script(calls, count):
+    objects = [["a", "lock fair seats 1 conditions 0 cap 4294967295"]]
+    return json.dumps({"objects": objects, "threads": [{"repeat": count, "calls": calls}]}).encode()
+
+
+def history(program, text):
+    """The history that a replay of steps leaves."""
+    return subprocess.run([program, "replay", "--history"], input=text, capture_output=True, check=True).stdout
+
+
+def growing(program):
+    """The cases of a text that grows."""
+    call = ["a acquire x 1", "a give x 1"]
+    on_base = lambda count: history(program, steps(LOCK.format(2), PAIR + "trim\n", PAIR, count, form=2))
+    yield Case("replay", ["replay"], 200_000, pairs, 2 * ENTRY)
+    yield Case("replay, its history", ["replay", "--history"], 200_000, pairs, 2 * ENTRY)
+    yield Case("replay of looks in vain", ["replay"], 200_000, waits, ANSWER)
+    yield Case("replay with trims", ["replay"], 100_000, trimmed, 2 * ENTRY + ANSWER)
+    yield Case("replay with trims, its history", ["replay", "--history"], 100_000, trimmed, 0)
+    yield Case("audit", ["audit"], 100_000, lambda count: history(program, pairs(count)), 0)
+    yield Case("audit on a base", ["audit"], 100_000, on_base, 0)
+    yield Case("draw", ["draw"], 5_000, lambda count: history(program, pairs(count)), 4096)
+    yield Case("run", ["run"], 100_000, lambda count: script(call, count), 2 * ENTRY)
+    yield Case("run with trims", ["run"], 100_000, lambda count: script([*call, "a trim"], count), 0)
+
+
+def crowded(program):
+    """For each case its name, its words, and its text for so many seats."""
+    count = 100_000
+    lock = lambda seats: LOCK.format(seats)
+    others = lambda seats, words: "".join(f"{seat} {words}\n" for seat in range(2, seats))
+    sleep = lambda seats: "".join(f"{seat} acquire x 1\n{seat} await 0\n" for seat in range(2, seats))
+    idle = lambda seats: steps(lock(seats), "", PAIR, count)
+    waiting = lambda seats: "0 acquire x 1\n1 acquire x 1\n" + others(seats, "acquire x 1")
+    line = lambda seats: steps(lock(seats), waiting(seats), "1 look\n" + PAIR, count)
+    before = lambda seats: "0 acquire x 1\n" + others(seats, "acquire x 1")
+    leave = lambda seats: steps(lock(seats), before(seats), "1 acquire x 1\n1 interrupt\n", count)
+    nap = "0 acquire x 1\n0 await 0\n0 expire\n0 look\n0 give x 1\n"
+    asleep = lambda seats: steps(lock(seats), sleep(seats), nap, count)
+    folded = lambda seats: steps(lock(seats), "", PAIR * 200 + "trim\n", count // 200, form=2)
+    for name, text in [("idle", idle), ("in line", line), ("leaving", leave), ("asleep", asleep), ("trims", folded)]:
+        yield f"replay, {name}", ["replay"], text
+    for name, text in [("idle", idle), ("in line", line), ("leaving", leave), ("asleep", asleep)]:
+        yield f"audit, {name}", ["audit"], lambda seats, text=text: history(program, text(seats))
+
+
+def once(program, words, text):
+    """The seconds and the greatest memory of one run, or None if it failed or took too long."""
+    with tempfile.TemporaryFile() as given:
+        given.write(text)
+        given.seek(0)
+        ran = subprocess.Popen([program, *words], stdin=given, stdout=subprocess.DEVNULL)
+        signal.signal(signal.SIGALRM, lambda *_: ran.kill())
+        signal.alarm(SECONDS)
+        _, status, used = os.wait4(ran.pid, 0)
+        signal.alarm(0)
+        ran.returncode = status
+    return (used.ru_utime + used.ru_stime, used.ru_maxrss << 10) if status == 0 else None
+
+
+def measured(program, words, text):
+    """The least seconds and memory of some runs, or None."""
+    runs = [once(program, words, text) for _ in range(RUNS)]
+    return None if None in runs else tuple(map(min, zip(*runs)))
+
+
+def grows(program, case):
+    """Whether a case grows no more than it may, and the numbers."""
+    short = measured(program, case.words, case.text(case.rounds))
+    long = short and measured(program, case.words, case.text(LONGER * case.rounds))
+    if not long:
+        return False, "failed, or took more than a minute"
+    more = (long[1] - short[1]) / ((LONGER - 1) * case.rounds)
+    is_slow = TIMES * short[0] + START < long[0]
+    is_large = long[1] - short[1] > (LONGER - 1) * case.rounds * case.bytes + SLACK
+    told = f"{short[0]:.3f} s, then {long[0]:.3f} s; {more:.1f} bytes a round, {case.bytes} allowed"
+    return not is_slow and not is_large, told
+
+
+def is_crowd_borne(program, words, text):
+    """Whether 256 seats cost little more than 2, and the numbers."""
+    few = measured(program, words, text(2))
+    many = few and measured(program, words, text(256))
+    if not many:
+        return False, "failed, or took more than a minute"
+    return many[0] <= CROWDED * few[0] + START, f"{few[0]:.3f} s with 2 seats, {many[0]:.3f} s with 256"
+
+
+def main(program):
+    results = [(case.name, *grows(program, case)) for case in growing(program)]
+    results += [(name, *is_crowd_borne(program, words, text)) for name, words, text in crowded(program)]
+    for name, is_good, numbers in results:
+        print(f"{'good' if is_good else 'FAILED'}: {name}: {numbers}", flush=True)
+    failed = sum(not is_good for _, is_good, _ in results)
+    print(f"{len(results) - failed} passed, {failed} failed")
+    return 1 if failed else 0
+
+
+if __name__ == "__main__":
+    if len(sys.argv) != 2:
+        sys.exit(__doc__)
+    sys.exit(main(os.path.abspath(sys.argv[1])))
