@@ -3,6 +3,7 @@
 
 - `limits.py`: each limit at its value and one past it, and long texts.
 - `devices.py`: devices that fail, and ever less memory.
+- `growth.py`: how time and memory grow with the input and with the seats.
 - `storms.py`: two short storms of threads.
 - `fuzz.py`: random texts, others each day.
 - `spoilt.py`: two examples with each byte changed.
@@ -29,6 +30,7 @@ def checks(seed):
     number = str(zlib.crc32(seed.encode()))
     yield ["limits.py"]
     yield ["devices.py"]
+    yield ["growth.py"]
     yield ["storms.py", "2", "16", "4", number]
     yield ["storms.py", "1", "64", "8", number]
     yield ["fuzz.py", "4000"]

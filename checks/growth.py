@@ -1,15 +1,16 @@
 #!/usr/bin/env python3
 """How time and memory grow with the input: checks/growth.py PROGRAM.
 
-Each command gets a text of some size and one four times as long. It may take five times as long at most, and so
-much more memory as docs/PERFORMANCE.md says of each entry and answer. Then the same calls are made in an object of 2
-seats and in one of 256, in which the others are idle, wait in line or sleep: that may take twice as long at most.
+Each command gets a text of some size and one four times as long. It may take five times as long at most. It has the
+memory that docs/PERFORMANCE.md says of each entry and answer, and no more. Then the same calls are made in an object
+of 2 seats and in one of 256, in which the others are idle, wait in line or sleep: that may take twice as long at most.
 Times are those of the processor, the least of three runs. A run that takes longer than a minute fails. The last line
 is 'N passed, M failed'.
 """
 
 import json
 import os
+import resource
 import signal
 import subprocess
 import sys
@@ -23,19 +24,22 @@ TIMES = 5  # as long as the shorter at most
 CROWDED = 2  # with 256 seats as long as with 2 at most
 ENTRY = 12  # bytes of an entry in memory
 ANSWER = 16  # bytes of an answer that no entry says, a trim among them
-SLACK = 3 << 20  # pages, and what the heap has in reserve
-START = 0.02  # seconds that a start may take, whatever it does
+LISTED = 1.4  # answers, and entries that were folded, stand in lists, which have more room than they use
+ITSELF = 3 << 20  # bytes that the program takes with a short text
+STACKS = 16 << 20  # and with a thread
+START = 0.01  # seconds that a start may take, whatever it does
 
 
 @dataclass
 class Case:
-    """A command whose text is made of so many rounds, and what a round may leave in memory."""
+    """A command whose text is made of so many rounds, and the bytes that it and each round may take."""
 
     name: str
     words: list
     rounds: int
     text: callable
-    bytes: int
+    bytes: float
+    itself: int = ITSELF
 
 
 def steps(object, first, round, count, last="", form=1):
@@ -74,22 +78,23 @@ def history(program, text):
 def growing(program):
     """The cases of a text that grows."""
     call = ["a acquire x 1", "a give x 1"]
+    folded = LISTED * (2 * ENTRY + ANSWER)
     on_base = lambda count: history(program, steps(LOCK.format(2), PAIR + "trim\n", PAIR, count, form=2))
     yield Case("replay", ["replay"], 200_000, pairs, 2 * ENTRY)
     yield Case("replay, its history", ["replay", "--history"], 200_000, pairs, 2 * ENTRY)
-    yield Case("replay of looks in vain", ["replay"], 200_000, waits, ANSWER)
-    yield Case("replay with trims", ["replay"], 100_000, trimmed, 2 * ENTRY + ANSWER)
-    yield Case("replay with trims, its history", ["replay", "--history"], 100_000, trimmed, 0)
+    yield Case("replay of looks in vain", ["replay"], 200_000, waits, LISTED * ANSWER)
+    yield Case("replay with trims", ["replay"], 100_000, trimmed, folded)
+    yield Case("replay with trims, its history", ["replay", "--history"], 100_000, trimmed, folded)
     yield Case("audit", ["audit"], 100_000, lambda count: history(program, pairs(count)), 0)
     yield Case("audit on a base", ["audit"], 100_000, on_base, 0)
     yield Case("draw", ["draw"], 5_000, lambda count: history(program, pairs(count)), 4096)
-    yield Case("run", ["run"], 100_000, lambda count: script(call, count), 2 * ENTRY)
-    yield Case("run with trims", ["run"], 100_000, lambda count: script([*call, "a trim"], count), 0)
+    yield Case("run", ["run"], 100_000, lambda count: script(call, count), 2 * ENTRY, STACKS)
+    yield Case("run with trims", ["run"], 100_000, lambda count: script([*call, "a trim"], count), 0, STACKS)
 
 
 def crowded(program):
     """For each case its name, its words, and its text for so many seats."""
-    count = 100_000
+    count = 300_000
     lock = lambda seats: LOCK.format(seats)
     others = lambda seats, words: "".join(f"{seat} {words}\n" for seat in range(2, seats))
     sleep = lambda seats: "".join(f"{seat} acquire x 1\n{seat} await 0\n" for seat in range(2, seats))
@@ -107,37 +112,37 @@ def crowded(program):
         yield f"audit, {name}", ["audit"], lambda seats, text=text: history(program, text(seats))
 
 
-def once(program, words, text):
-    """The seconds and the greatest memory of one run, or None if it failed or took too long."""
+def once(program, words, text, size):
+    """The seconds of one run within so many bytes, or None if it failed or took too long."""
+    limit = lambda: resource.setrlimit(resource.RLIMIT_DATA, (size, size))
     with tempfile.TemporaryFile() as given:
         given.write(text)
         given.seek(0)
-        ran = subprocess.Popen([program, *words], stdin=given, stdout=subprocess.DEVNULL)
+        ran = subprocess.Popen([program, *words], stdin=given, stdout=subprocess.DEVNULL, preexec_fn=limit)
         signal.signal(signal.SIGALRM, lambda *_: ran.kill())
         signal.alarm(SECONDS)
         _, status, used = os.wait4(ran.pid, 0)
         signal.alarm(0)
         ran.returncode = status
-    return (used.ru_utime + used.ru_stime, used.ru_maxrss << 10) if status == 0 else None
+    return used.ru_utime + used.ru_stime if status == 0 else None
 
 
-def measured(program, words, text):
-    """The least seconds and memory of some runs, or None."""
-    runs = [once(program, words, text) for _ in range(RUNS)]
-    return None if None in runs else tuple(map(min, zip(*runs)))
+def measured(program, words, text, size=resource.RLIM_INFINITY):
+    """The least seconds of some runs, or None."""
+    runs = [once(program, words, text, size) for _ in range(RUNS)]
+    return None if None in runs else min(runs)
 
 
 def grows(program, case):
     """Whether a case grows no more than it may, and the numbers."""
-    short = measured(program, case.words, case.text(case.rounds))
-    long = short and measured(program, case.words, case.text(LONGER * case.rounds))
-    if not long:
-        return False, "failed, or took more than a minute"
-    more = (long[1] - short[1]) / ((LONGER - 1) * case.rounds)
-    is_slow = TIMES * short[0] + START < long[0]
-    is_large = long[1] - short[1] > (LONGER - 1) * case.rounds * case.bytes + SLACK
-    told = f"{short[0]:.3f} s, then {long[0]:.3f} s; {more:.1f} bytes a round, {case.bytes} allowed"
-    return not is_slow and not is_large, told
+    seconds = []
+    for rounds in case.rounds, LONGER * case.rounds:
+        size = case.itself + int(rounds * case.bytes)
+        seconds.append(measured(program, case.words, case.text(rounds), size))
+        if seconds[-1] is None:
+            return False, f"{rounds} rounds failed in {size} bytes, or took more than a minute"
+    short, long = seconds
+    return long <= TIMES * short + START, f"{short:.3f} s, then {long:.3f} s"
 
 
 def is_crowd_borne(program, words, text):
@@ -146,7 +151,7 @@ def is_crowd_borne(program, words, text):
     many = few and measured(program, words, text(256))
     if not many:
         return False, "failed, or took more than a minute"
-    return many[0] <= CROWDED * few[0] + START, f"{few[0]:.3f} s with 2 seats, {many[0]:.3f} s with 256"
+    return many <= CROWDED * few + START, f"{few:.3f} s with 2 seats, {many:.3f} s with 256"
 
 
 def main(program):
