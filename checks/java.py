@@ -5,7 +5,7 @@ Scenarios are played on the real classes of java.util.concurrent by checks/java/
 answered by PROGRAM. Both must say the same of each call: who ended at it and how, who holds what, in which order the
 queue and the sleepers stand, which interrupts are pending. `scenarios.py` says what a scenario is. There are
 
-- those of checks/java/suite.scenarios, which the tests of the classes describe;
+- those of checks/java/suite.scenarios, which the tests of the classes describe, fair and non-fair;
 - COUNT random ones (200 unless it is given), by SEED, or by the day if none is given;
 - those of checks/java/differences.scenarios, where profile and JDK differ by design: these must differ.
 
@@ -17,6 +17,7 @@ the built program. The last line is 'N passed, M failed'. Without a JDK nothing 
 import collections
 import datetime
 import importlib.util
+import itertools
 import pathlib
 import random
 import re
@@ -25,9 +26,9 @@ import subprocess
 import sys
 import tempfile
 
+import random_scenarios
 import scenarios
 from program import Program
-from scenarios import Scenario
 
 HERE = pathlib.Path(__file__).resolve().parent / "java"
 SHORT, LONGER = 5, (20, 100)
@@ -77,8 +78,8 @@ class Jdk:
         """For each scenario the lines of its calls."""
         text = "".join("\n".join([each.part, *each.calls, "end", ""]) for each in many)
         lines = iter(self.run(text.encode(), short)[1:])
-        told = [[line for _, line in zip(each.calls, lines)] for each in many]
-        if next(lines, None) is not None or any(len(a) != len(b.calls) for a, b in zip(told, many)):
+        told = [list(itertools.islice(lines, len(each.calls))) for each in many]
+        if next(lines, None) is not None or [len(each) for each in told] != [len(each.calls) for each in many]:
             raise ValueError("another number of lines than of calls")
         return told
 
@@ -93,13 +94,15 @@ def first_difference(scenario, rules, jdk):
 
 
 class Comparison:
-    """A program and a JDK that play the same scenarios."""
+    """A program and a JDK that play the same scenarios, and how often which entry was made."""
 
     def __init__(self, replay, jdk):
-        self.replay, self.jdk = replay, jdk
+        self.replay, self.jdk, self.made = replay, jdk, collections.Counter()
 
     def told(self, scenario):
-        return scenarios.played(scenario, self.replay)
+        told = scenarios.played(scenario, self.replay)
+        self.made.update(answer[0].word for answer in told.answers if not isinstance(answer, str))
+        return told
 
     def differences(self, many, short=SHORT):
         """For each scenario its first difference, or None."""
@@ -136,115 +139,6 @@ def without(scenario, size):
             yield scenario._replace(calls=calls[:at] + calls[at + size:])
 
 
-# Random scenarios.
-
-
-def part_of(chance):
-    """An object part: small numbers, and those at which permits end."""
-    policy = chance.choice(("fair", "nonfair"))
-    seats = chance.choice((2, 3, 3, 4, 4, 5, 6))
-    kind = chance.choice(("lock", "lock", "lock", "rw", "rw", "rw", "rw", "semaphore", "semaphore", "latch"))
-    if kind == "latch":
-        return f"latch seats {seats} count {chance.choice((0, 1, 1, 2, 3))}"
-    if kind == "semaphore":
-        at_end = (-2, -1, 2147483646, 2147483647, -2147483648)
-        permits = chance.choice((0, 1, 1, 2, 3, 5) * 2 + at_end)
-        return f"semaphore {policy} seats {seats} permits {permits}"
-    return f"{kind} {policy} seats {seats} conditions {chance.choice((0, 1, 1, 2, 3))}"
-
-
-def timed(chance):
-    """How a call waits, and its timeout."""
-    return chance.choice((("", ""),) * 4 + (("-interruptible", ""),) * 4 + (
-        ("-timed", " long"), ("-timed", " long"), ("-timed", " short"), ("-timed", " 0")))
-
-
-def acquire_of(chance, mode, n, names=("acquire", "acquire", "acquire", "acquire", "try")):
-    name = chance.choice(names)
-    if name == "try":
-        return f"try {mode} {n}"
-    way, time = timed(chance)
-    return f"acquire{way} {mode} {n}{time}"
-
-
-def condition_call(chance, conditions):
-    name, at = chance.choice(("await", "await", "signal", "signalall")), chance.randrange(conditions)
-    way, time = timed(chance) if name == "await" else ("", "")
-    return f"{name}{way} {at}{time}"
-
-
-def call_of_lock(chance, play, seat):
-    """A call of a lock or a read-write lock, most often one that the seat may make."""
-    kind, own, conditions = play.header.kind, play.state.holds[seat], play.header.conditions
-    mode = "x" if kind == "lock" else chance.choice("xs")
-    way = chance.random()
-    if conditions and way < (0.4 if own["x"] else 0.03):
-        return condition_call(chance, conditions)
-    if own["x"] or own["s"]:
-        if way < 0.8:
-            held = "x" if own["x"] and (not own["s"] or chance.random() < 0.5) else "s"
-            return f"give {held} 1"
-        mode = "s" if kind == "rw" and own["s"] and not own["x"] and chance.random() < 0.8 else mode
-    elif way < 0.08:
-        return f"give {mode} 1"
-    return acquire_of(chance, mode, 1)
-
-
-def call_of_permits(chance, play, seat):
-    """A call of a semaphore: most ask for few permits."""
-    n = chance.choice((0, 1, 1, 1, 1, 2, 2, 3))
-    if abs(play.state.free) > 1000000 and chance.random() < 0.5:
-        n = chance.choice((2147483645, 2147483646, 2147483647))
-    way = chance.random()
-    if way < 0.06:
-        return "drain"
-    return f"give s {n}" if way < (0.5 if play.state.line else 0.25) else acquire_of(chance, "s", n)
-
-
-def call_of_latch(chance, _play, _seat):
-    if chance.random() < 0.35:
-        return "give s 1"
-    way, time = chance.choice((("-interruptible", ""), ("-timed", " long"), ("-timed", " short"), ("-timed", " 0")))
-    return f"acquire{way} s 1{time}"
-
-
-CALLS = {"lock": call_of_lock, "rw": call_of_lock, "semaphore": call_of_permits, "latch": call_of_latch}
-
-
-def next_call(chance, play):
-    """A call of an idle thread, or an interrupt, most often of a thread that waits."""
-    seats = range(play.header.seats)
-    idle = [seat for seat in seats if seat not in play.waiting]
-    if not idle or chance.random() < 0.1:
-        return f"interrupt {chance.choice(list(play.waiting) * 3 + list(seats))}"
-    holders = [seat for seat in idle if play.state.holds[seat]["x"] or play.state.holds[seat]["s"]]
-    seat = chance.choice(holders if holders and chance.random() < 0.5 else idle)
-    return f"{seat} {CALLS[play.header.kind](chance, play, seat)}"
-
-
-def random_scenario(chance):
-    """A scenario that meets no difference by design. Some of a read-write lock begin at a limit of holds."""
-    part = part_of(chance)
-    calls, play = [], scenarios.Play(scenarios.header_of(Scenario("", [], part, [])))
-    if play.header.kind == "rw" and chance.random() < 0.01:
-        calls.append(f"0 acquire {chance.choice('xs')} 1 * {chance.choice((65534, 65535))}")
-        play.make(calls[0])
-    for _ in range(chance.choice((6, 12, 20, 20, 30))):
-        call = next_call(chance, play)
-        if design_ahead(play, call):
-            continue
-        play.make(call)
-        if play.designs:
-            break
-        calls.append(call)
-    return Scenario("", [], part, calls)
-
-
-def design_ahead(play, call):
-    words = call.split(" ")
-    return words[0] != "interrupt" and scenarios.design_of_call(play.state, int(words[0]), words[1:])
-
-
 # What is compared.
 
 
@@ -252,16 +146,25 @@ def shown(scenario, bad):
     return f"{scenarios.spelt(scenario)}at call {bad.at}, {bad.call}\n  rules {bad.rules}\n  JDK   {bad.jdk}"
 
 
+def with_policies(scenario):
+    """A scenario with each policy that Java has. A latch has none."""
+    kind, policy, *rest = scenario.part.split(" ")
+    if kind == "latch":
+        return [scenario]
+    return [scenario._replace(part=" ".join([kind, policy, *rest])) for policy in ("fair", "nonfair")]
+
+
 def suite(comparison):
-    """What is wrong with the scenarios of the suite, and how many there are."""
-    many = list(scenarios.read((HERE / "suite.scenarios").read_text()))
+    """What is wrong with the scenarios of the suite, and how many there are with the policies."""
+    many = scenarios.read((HERE / "suite.scenarios").read_text())
+    many = [each for scenario in many for each in with_policies(scenario)]
     return [shown(each, bad) for each, bad in comparison.lasting(many)], len(many)
 
 
 def random_ones(comparison, count, seed):
     """What is wrong with random scenarios, how many there are, and what they were about."""
     chance = random.Random(seed)
-    many = [random_scenario(chance) for _ in range(count)]
+    many = [random_scenarios.draw(chance) for _ in range(count)]
     found = comparison.lasting(many)
     wrong = []
     for each, _ in found[:SHOWN]:
@@ -272,7 +175,7 @@ def random_ones(comparison, count, seed):
     calls = sum(len(each.calls) for each in many)
     kinds = collections.Counter(each.part.split(" ")[0] for each in many)
     about = ", ".join(f"{number} of a {kind}" for kind, number in sorted(kinds.items()))
-    return wrong, len(many), f"{calls} calls; {about}"
+    return wrong, f"{calls} calls; {about}"
 
 
 def is_of(scenario, version):
@@ -299,14 +202,15 @@ def main(words):
     comparison = Comparison(replay_of(words[0]), Jdk())
     print(comparison.jdk.name, flush=True)
     wrong, played = suite(comparison)
-    print(f"{played} scenarios of the suite, {len(wrong)} differ", flush=True)
-    more, random_count, about = random_ones(comparison, count, seed)
-    print(f"{random_count} random scenarios, seed {seed}, {len(more)} differ; {about}", flush=True)
-    missing, designs = by_design(comparison)
-    print(f"{designs} scenarios differ by design, {len(missing)} of them don't")
-    wrong += more + missing
+    print(f"{played} scenarios of the suite: {len(wrong)} differ", flush=True)
+    more, about = random_ones(comparison, count, seed)
+    print(f"{count} random scenarios, seed {seed}: {len(more)} differ; {about}", flush=True)
+    same, designs = by_design(comparison)
+    print(f"{designs} scenarios that differ by design: {len(same)} don't differ")
+    print("entries: " + ", ".join(f"{word} {times}" for word, times in sorted(comparison.made.items())))
+    wrong += more + same
     print("".join(f"{each}\n" for each in wrong), end="")
-    print(f"{played + random_count + designs - len(wrong)} passed, {len(wrong)} failed")
+    print(f"{played + count + designs - len(wrong)} passed, {len(wrong)} failed")
     return 1 if wrong else 0
 
 

@@ -3,6 +3,7 @@
 A scenario is a text: lines `# ` with its name and what it shows; the object part without its cap; a line for each call.
 A call is spelt as in a thread script, with its seat in place of the object's name, or is `interrupt SEAT`. A timeout is
 `0`; `short`, which ends before the next call begins; or `long`, which never ends. `* K` behind a call makes it K times.
+`hold SEAT` stops a thread that waits: if it is woken it retries only behind the line `go`, so that others may barge.
 
 `played` makes the steps of each call. A thread that an entry names looks at once, and so on until nobody who was named
 has still to look. An interrupt that ends no wait is pending. Then a line says which calls ended and how, and how the
@@ -74,7 +75,7 @@ class Play:
     def __init__(self, header, known=()):
         self.header, self.state, self.known = header, rules.State(header), known
         self.steps, self.answers, self.designs = [], [], []
-        self.waiting, self.flags, self.named, self.ended = {}, set(), [], {}
+        self.waiting, self.held, self.flags, self.named, self.ended = {}, set(), set(), [], {}
 
     def step(self, seat, name, mode=None, n=None, at=None):
         """Makes a step, and follows its answer."""
@@ -90,7 +91,7 @@ class Play:
             self.answers.append(answer)
         if isinstance(answer, str):
             if answer != "sleep":
-                self.ended[seat] = answer
+                self.end(seat, answer)
             return None
         entry, named = answer
         self.after(entry, named)
@@ -106,20 +107,32 @@ class Play:
 
     def after(self, entry, named):
         """What an entry means for its thread, and for the one that it names."""
-        if named is not None:
+        if named is not None and named not in self.named:
             self.named.append(named)
         if entry.word == "lapse":
             self.named.append(entry.seat)
+            if self.overtakes(entry.seat):
+                self.designs.append("an awaiter that lapsed and overtakes")
         if entry.word not in rules.NO_CALL:
-            self.waiting.pop(entry.seat, None)
-            self.ended[entry.seat] = how(entry)
+            self.end(entry.seat, how(entry))
+
+    def overtakes(self, seat):
+        """Whether a thread that lapsed stands behind others and could acquire, were it not for them."""
+        is_behind = len(self.state.line) > 1 and self.header.policy == "nonfair"
+        return is_behind and self.state.could(seat, "x", 1)[0]
+
+    def end(self, seat, end):
+        self.waiting.pop(seat, None)
+        self.ended[seat] = end
 
     def look(self):
-        """Lets each thread that was named look, until nobody is left."""
+        """Lets each thread that was named and is not held look, until nobody is left."""
         for _ in range(LOOKS):
-            if not self.named:
+            free = [seat for seat in self.named if seat not in self.held]
+            if not free:
                 return
-            self.step(self.named.pop(0), "look")
+            self.named.remove(free[0])
+            self.step(free[0], "look")
         raise Unfollowed("no end of threads that are named")
 
     def make(self, call):
@@ -128,6 +141,12 @@ class Play:
         words = call.split(" ")
         if words[0] == "interrupt":
             self.interrupt(int(words[1]))
+        elif words[0] == "hold":
+            if int(words[1]) not in self.waiting or int(words[1]) in self.held:
+                return "busy"
+            self.held.add(int(words[1]))
+        elif words[0] == "go":
+            self.held.clear()
         elif int(words[0]) in self.waiting:
             return "busy"
         else:
@@ -138,6 +157,7 @@ class Play:
         return self.line()
 
     def call(self, seat, words):
+        """Makes a call as often as it says."""
         times = 1
         if "*" in words:
             times, words = int(words[-1]), words[:-2]
@@ -167,6 +187,8 @@ class Play:
 
     def interrupt(self, seat):
         """Interrupts a thread. What ends no wait stays pending."""
+        if seat in self.held:
+            self.designs.append("an interrupt of a thread that is held")
         before = len(self.answers)
         if self.waiting.get(seat):
             self.step(seat, "interrupt")
@@ -205,9 +227,6 @@ def design_of_call(state, seat, words):
     name, kind = words[0].partition("-")[0], state.header.kind
     if name == "await" and state.holds[seat]["x"] and state.holds[seat]["s"]:
         return "an await by an owner that reads"
-    is_barging = name == "await" and words[-1] == "0" and state.line and state.owner() == seat
-    if is_barging and state.header.policy == "nonfair":
-        return "an awaiter that lapsed and overtakes"
     if kind == "semaphore" and name == "drain" and state.free < 0:
         return "a drain below zero"
     if kind == "semaphore" and name in ("acquire", "try") and wraps(state.free, int(words[2])):

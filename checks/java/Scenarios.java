@@ -7,6 +7,7 @@ import java.util.Arrays;
 import java.util.Collection;
 import java.util.Collections;
 import java.util.List;
+import java.util.Locale;
 import java.util.concurrent.Callable;
 import java.util.concurrent.CountDownLatch;
 import java.util.concurrent.Semaphore;
@@ -22,7 +23,7 @@ import java.util.concurrent.locks.ReentrantReadWriteLock;
  *
  * <p>Standard input has scenarios: a line with the object, a line for each call, and a line "end". Each seat is a
  * thread. The calls are made one at a time. The next one begins when each thread is idle or parked, and nobody is on
- * the way to acquire. Then a line tells which calls ended and how, and what the object's observers say; checks/java.py
+ * the way to acquire. Then a line tells which calls ended and how, and what the object's observers say; scenarios.py
  * writes the same line of the answers of the rules. The first line of output names the JDK.
  *
  * <p>A timeout is spelt 0; "short", which is MILLISECONDS, and nothing else happens until it is over; or "long", which
@@ -46,7 +47,9 @@ public final class Scenarios {
         shortTime = Long.parseLong(words[0]);
         BufferedReader in = new BufferedReader(new InputStreamReader(System.in, StandardCharsets.US_ASCII));
         PrintStream out = new PrintStream(System.out, false, "US-ASCII");
-        out.println(System.getProperty("java.vm.name") + " " + System.getProperty("java.runtime.version"));
+        String version = System.getProperty("java.runtime.version");
+        String held = Held.isPossible() ? "" : ", which cannot hold threads";
+        out.println(System.getProperty("java.vm.name") + " " + version + held);
         List<Worker> idle = new ArrayList<>();
         for (String header = in.readLine(); header != null; header = in.readLine()) {
             String[] part = header.split(" ");
@@ -78,6 +81,13 @@ public final class Scenarios {
             settle(null);
             return told();
         }
+        if (words[0].equals("hold")) {
+            return held(workers[Integer.parseInt(words[1])]);
+        }
+        if (words[0].equals("go")) {
+            goOn();
+            return told();
+        }
         Worker worker = workers[Integer.parseInt(words[0])];
         if (worker.isBusy()) {
             return "busy";
@@ -86,6 +96,65 @@ public final class Scenarios {
         worker.ask(call, () -> subject.made(call));
         settle(call[call.length - 1].equals("short") ? worker : null);
         return told();
+    }
+
+    /** Stops a thread that waits: it does not retry until all go on, so that others may barge. */
+    private String held(Worker worker) {
+        if (!worker.isBusy() || worker.isHeld) {
+            return "busy";
+        }
+        Held.SUSPEND.call(worker);
+        worker.isHeld = true;
+        return told();
+    }
+
+    private void goOn() {
+        for (Worker worker : workers) {
+            if (worker.isHeld) {
+                worker.isHeld = false;
+                Held.RESUME.call(worker);
+            }
+        }
+        settle(null);
+    }
+
+    /** How the thread of a JDK is stopped, which JDK 20 and later can't. */
+    private enum Held {
+        SUSPEND, RESUME;
+
+        void call(Thread thread) {
+            try {
+                Thread.class.getMethod(name().toLowerCase(Locale.ROOT)).invoke(thread);
+            } catch (ReflectiveOperationException error) {
+                throw new IllegalStateException(error);
+            }
+        }
+
+        static boolean isPossible() {
+            Thread thread = new Thread(() -> { });
+            try {
+                SUSPEND.call(thread);
+                RESUME.call(thread);
+                return true;
+            } catch (IllegalStateException error) {
+                return false;
+            }
+        }
+    }
+
+    /** How a call ended. */
+    private static String outcome(Callable<String> call) {
+        try {
+            return call.call();
+        } catch (InterruptedException error) {
+            return "interrupted";
+        } catch (IllegalMonitorStateException error) {
+            return "illegal";
+        } catch (Error error) {
+            return String.valueOf(error.getMessage()).startsWith("Maximum ") ? "limit" : error.toString();
+        } catch (Exception error) {
+            return error.toString();
+        }
     }
 
     /** Waits until all is quiet, and until the short time of a worker is over. */
@@ -114,9 +183,9 @@ public final class Scenarios {
             if (!worker.isQuiet()) {
                 return false;
             }
-            anyWaits |= worker.isBusy();
+            anyWaits |= worker.isBusy() && !worker.isHeld;
         }
-        return !anyWaits || !subject.isFirstAboutToGo(workers);
+        return !anyWaits || !subject.isFirstAboutToGo();
     }
 
     private String told() {
@@ -151,6 +220,7 @@ public final class Scenarios {
 
     /** Ends the calls that still wait, as far as that goes, and returns the workers that can be used again. */
     private List<Worker> windUp() {
+        goOn();
         for (int round = 0; round <= 2 * workers.length && isAnyBusy(); round++) {
             for (Worker worker : workers) {
                 if (worker.isBusy()) {
@@ -188,6 +258,8 @@ public final class Scenarios {
         private volatile String holds;
         /** The interrupt flag while the worker is idle, since a thread with its flag set can't park. */
         private volatile boolean flag;
+        /** Whether the driver has stopped this thread. */
+        private volatile boolean isHeld;
 
         private int seat;
         private Subject subject;
@@ -236,7 +308,7 @@ public final class Scenarios {
         }
 
         boolean isQuiet() {
-            if (task == null) {
+            if (task == null || isHeld) {
                 return true;
             }
             State state = getState();
@@ -280,21 +352,6 @@ public final class Scenarios {
             end = kept;
             return said;
         }
-
-        private static String outcome(Callable<String> task) {
-            try {
-                return task.call();
-            } catch (InterruptedException error) {
-                return "interrupted";
-            } catch (IllegalMonitorStateException error) {
-                return "illegal";
-            } catch (Error error) {
-                String message = String.valueOf(error.getMessage());
-                return message.startsWith("Maximum ") ? "limit" : error.toString();
-            } catch (Exception error) {
-                return error.toString();
-            }
-        }
     }
 
     /** The object of a scenario. */
@@ -326,7 +383,16 @@ public final class Scenarios {
         abstract String call(String[] words) throws InterruptedException;
 
         /** Whether a thread that waits is about to acquire. */
-        abstract boolean isFirstAboutToGo(Worker[] workers);
+        abstract boolean isFirstAboutToGo();
+
+        /** The first in the queue, unless there is none or it is held. */
+        static Worker first(Collection<Thread> fromTheEnd) {
+            Worker first = null;
+            for (Thread thread : fromTheEnd) {
+                first = (Worker) thread;
+            }
+            return first == null || first.isHeld ? null : first;
+        }
 
         abstract String shown(Worker[] workers);
 
@@ -507,8 +573,8 @@ public final class Scenarios {
         }
 
         @Override
-        boolean isFirstAboutToGo(Worker[] workers) {
-            return lock.owner() == null && lock.hasQueuedThreads();
+        boolean isFirstAboutToGo() {
+            return lock.owner() == null && first(lock.queued()) != null;
         }
 
         @Override
@@ -584,13 +650,13 @@ public final class Scenarios {
         }
 
         @Override
-        boolean isFirstAboutToGo(Worker[] workers) {
-            List<Thread> line = inOrder(lock.queued());
-            if (line.isEmpty() || lock.owner() != null) {
+        boolean isFirstAboutToGo() {
+            Worker first = first(lock.queued());
+            if (first == null || lock.owner() != null) {
                 return false;
             }
             int readers = lock.getReadLockCount();
-            return lock.writers().contains(line.get(0)) ? readers == 0 : readers < MOST_READS;
+            return lock.writers().contains(first) ? readers == 0 : readers < MOST_READS;
         }
 
         @Override
@@ -684,9 +750,9 @@ public final class Scenarios {
         }
 
         @Override
-        boolean isFirstAboutToGo(Worker[] workers) {
-            List<Thread> line = inOrder(permits.queued());
-            return !line.isEmpty() && permits.availablePermits() - wanted(line.get(0)) >= 0;
+        boolean isFirstAboutToGo() {
+            Worker first = first(permits.queued());
+            return first != null && permits.availablePermits() - wanted(first) >= 0;
         }
 
         @Override
@@ -729,7 +795,7 @@ public final class Scenarios {
         }
 
         @Override
-        boolean isFirstAboutToGo(Worker[] workers) {
+        boolean isFirstAboutToGo() {
             return latch.getCount() == 0;
         }
 
