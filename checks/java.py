@@ -1,17 +1,18 @@
 #!/usr/bin/env python3
 """The rules and the JDK of this machine, call by call: checks/java.py PROGRAM [COUNT [SEED]].
 
-Scenarios are played on the real classes of java.util.concurrent by checks/java/Scenarios.java, and their steps are
-answered by PROGRAM. Both must say the same of each call: who ended at it and how, who holds what, in which order the
-queue and the sleepers stand, which interrupts are pending. `scenarios.py` says what a scenario is. There are
+Scenarios are played on the classes of java.util.concurrent by checks/java/Scenarios.java, and their steps are
+answered by PROGRAM. Both must say the same of each call: who ended at it and how, who holds what, in which
+order the queue and the sleepers stand, which interrupts are pending. `scenarios.py` says what a scenario is.
 
-- those of checks/java/suite.scenarios, which the tests of the classes describe, fair and non-fair;
-- COUNT random ones (200 unless it is given), by SEED, or by the day if none is given;
-- those of checks/java/differences.scenarios, where profile and JDK differ by design: these must differ.
+- Those of checks/java/suite.scenarios are situations of the classes' tests, each fair and non-fair.
+- COUNT are random (200 unless it is given), by SEED, or by the day if none is given.
+- Those of checks/java/differences.scenarios must differ, since the profile differs from Java there.
 
-A random scenario that differs is played again with longer times, since the machine may have been slow; if it still
-differs, it is shrunk and printed. PROGRAM may be a Python file with a function `replay`, as checks/rules.py, in place of
-the built program. The last line is 'N passed, M failed'. Without a JDK nothing is compared, and nothing fails.
+What differs is played again with longer times, since the machine may have been slow. If a random scenario
+still differs, it is shrunk and printed. PROGRAM may be a Python file with a function `replay`, as
+checks/rules.py, in place of the built program. The last line is 'N passed, M failed'. Without a JDK nothing
+is compared, and nothing fails.
 """
 
 import collections
@@ -31,10 +32,13 @@ import scenarios
 from program import Program
 
 HERE = pathlib.Path(__file__).resolve().parent / "java"
+
+# The short time in milliseconds, and longer ones.
 SHORT, LONGER = 5, (20, 100)
 MINUTES = 10
-TRIES = 20
 SHOWN = 5
+# One thread of the compiler and one of the collector are enough.
+FLAGS = ("-XX:TieredStopAtLevel=1", "-XX:+UseSerialGC")
 
 Difference = collections.namedtuple("Difference", "at call rules jdk")
 
@@ -61,27 +65,35 @@ class Jdk:
         self.folder = tempfile.TemporaryDirectory()
         words = ["javac", "-nowarn", "-d", self.folder.name, str(HERE / "Scenarios.java")]
         subprocess.run(words, check=True)
-        self.name = self.run(b"", SHORT)[0]
+        self.name, able = self.run(b"", SHORT)
+        self.can_hold, self.has_limit = "hold" in able, "limit" in able
 
     def run(self, text, short):
-        """The lines of a run. A thread of the compiler and one of the collector are enough."""
-        words = ["java", "-XX:TieredStopAtLevel=1", "-XX:+UseSerialGC", "-cp", self.folder.name, "Scenarios", str(short)]
+        """The lines of a run."""
+        words = ["java", *FLAGS, "-cp", self.folder.name, "Scenarios", str(short)]
         ran = subprocess.run(words, input=text, stdout=subprocess.PIPE, check=True, timeout=60 * MINUTES)
         return ran.stdout.decode().splitlines()
 
-    def version(self):
-        """The number of the feature release: 8, 11, 17."""
-        found = re.search(r" (?:1\.)?(\d+)", self.name)
-        return int(found[1])
+    def can_play(self, scenario):
+        """JDK 20 and later hold no thread, and JDK 25 has another limit of holds."""
+        is_held = any(call.startswith("hold") for call in scenario.calls)
+        at_limit = any("*" in call for call in scenario.calls)
+        return (self.can_hold or not is_held) and (self.has_limit or not at_limit)
 
     def played(self, many, short=SHORT):
         """For each scenario the lines of its calls."""
         text = "".join("\n".join([each.part, *each.calls, "end", ""]) for each in many)
-        lines = iter(self.run(text.encode(), short)[1:])
+        lines = iter(self.run(text.encode(), short)[2:])
         told = [list(itertools.islice(lines, len(each.calls))) for each in many]
-        if next(lines, None) is not None or [len(each) for each in told] != [len(each.calls) for each in many]:
+        counts, wanted = ([*map(len, told)], [len(each.calls) for each in many])
+        if counts != wanted or next(lines, None) is not None:
             raise ValueError("another number of lines than of calls")
         return told
+
+
+def version_of(name):
+    """The number of a JDK's feature release, of which 8 is spelt 1.8."""
+    return int(re.search(r" (?:1\.)?(\d+)\.", name + ".")[1])
 
 
 def first_difference(scenario, rules, jdk):
@@ -123,7 +135,8 @@ class Comparison:
         size = len(scenario.calls)
         while size:
             fewer = [each for each in without(scenario, size) if not self.told(each).designs]
-            smaller = next((each for each, bad in zip(fewer, self.differences(fewer, LONGER[0])) if bad), None)
+            found = zip(fewer, self.differences(fewer, LONGER[0]))
+            smaller = next((each for each, bad in found if bad), None)
             if smaller is None:
                 size //= 2
             else:
@@ -154,17 +167,22 @@ def with_policies(scenario):
     return [scenario._replace(part=" ".join([kind, policy, *rest])) for policy in ("fair", "nonfair")]
 
 
+def scenarios_of(name, jdk):
+    """The scenarios of a file that this JDK can play."""
+    return filter(jdk.can_play, scenarios.read((HERE / name).read_text()))
+
+
 def suite(comparison):
     """What is wrong with the scenarios of the suite, and how many there are with the policies."""
-    many = scenarios.read((HERE / "suite.scenarios").read_text())
+    many = scenarios_of("suite.scenarios", comparison.jdk)
     many = [each for scenario in many for each in with_policies(scenario)]
     return [shown(each, bad) for each, bad in comparison.lasting(many)], len(many)
 
 
 def random_ones(comparison, count, seed):
-    """What is wrong with random scenarios, how many there are, and what they were about."""
-    chance = random.Random(seed)
-    many = [random_scenarios.draw(chance) for _ in range(count)]
+    """What is wrong with random scenarios, and what they are about."""
+    chance, jdk = random.Random(seed), comparison.jdk
+    many = [random_scenarios.draw(chance, jdk.can_hold, jdk.has_limit) for _ in range(count)]
     found = comparison.lasting(many)
     wrong = []
     for each, _ in found[:SHOWN]:
@@ -185,12 +203,11 @@ def is_of(scenario, version):
 
 
 def by_design(comparison):
-    """What is wrong with the scenarios that must differ, each of which may be played often, and how many they are."""
-    many = [each for each in scenarios.read((HERE / "differences.scenarios").read_text())
-            if is_of(each, comparison.jdk.version())]
+    """What is wrong with the scenarios that must differ, and how many there are."""
+    jdk = comparison.jdk
+    many = [each for each in scenarios_of("differences.scenarios", jdk) if is_of(each, version_of(jdk.name))]
     same = [each for each, bad in zip(many, comparison.differences(many)) if not bad]
-    same = [each for each in same if not any(comparison.differences([each] * TRIES))]
-    return [f"does not differ, as the profile says:\n{scenarios.spelt(each)}" for each in same], len(many)
+    return [f"does not differ:\n{scenarios.spelt(each)}" for each in same], len(many)
 
 
 def main(words):
@@ -201,6 +218,8 @@ def main(words):
     seed = int(words[2]) if len(words) > 2 else int(datetime.date.today().strftime("%Y%m%d"))
     comparison = Comparison(replay_of(words[0]), Jdk())
     print(comparison.jdk.name, flush=True)
+    if not (comparison.jdk.can_hold and comparison.jdk.has_limit):
+        print("this JDK holds no threads, or has another limit of holds: scenarios with these are left out")
     wrong, played = suite(comparison)
     print(f"{played} scenarios of the suite: {len(wrong)} differ", flush=True)
     more, about = random_ones(comparison, count, seed)

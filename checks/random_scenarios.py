@@ -1,7 +1,7 @@
 """Random scenarios for checks/java.py: `draw(chance)` gives one that meets no difference by design.
 
-A call is drawn for the state that the calls before have led to by checks/rules.py, so that most are ones that their
-thread may make: who holds releases, who waits is interrupted, few ask for more than there ever is.
+A call is drawn for the state that the calls before have led to by checks/rules.py, so that most are ones that
+their thread may make: who holds releases, who waits is interrupted, few ask for more than there ever is.
 """
 import scenarios
 from scenarios import Scenario
@@ -75,11 +75,11 @@ def call_of_latch(chance, _play, _seat):
 CALLS = {"lock": call_of_lock, "rw": call_of_lock, "semaphore": call_of_semaphore, "latch": call_of_latch}
 
 
-def next_call(chance, play):
-    """A call of an idle thread, or an interrupt, most often of a thread that waits."""
+def next_call(chance, play, can_hold):
+    """A call of an idle thread, or an interrupt, most often of a thread that waits, or a hold."""
     seats = range(play.header.seats)
     idle = [seat for seat in seats if seat not in play.waiting]
-    if play.waiting and chance.random() < (0.2 if play.held else 0.1):
+    if can_hold and play.waiting and chance.random() < (0.2 if play.held else 0.1):
         return holding(chance, play)
     if not idle or chance.random() < 0.1:
         return f"interrupt {chance.choice(list(play.waiting) * 3 + list(seats))}"
@@ -103,14 +103,14 @@ def played(part, calls):
     return play
 
 
-def draw(chance):
+def draw(chance, can_hold=True, has_limit=True):
     """A random scenario. A few of a read-write lock begin at a limit of holds."""
     part, calls = part_of(chance), []
-    if part.startswith("rw") and chance.random() < 0.01:
+    if has_limit and part.startswith("rw") and chance.random() < 0.01:
         calls.append(f"0 acquire {chance.choice('xs')} 1 * {chance.choice((65534, 65535))}")
     play = played(part, calls)
     for _ in range(chance.choice((6, 12, 20, 20, 30))):
-        call = next_call(chance, play)
+        call = next_call(chance, play, can_hold)
         play.make(call)
         if play.designs:
             play = played(part, calls)

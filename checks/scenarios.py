@@ -1,13 +1,14 @@
 """Scenarios: calls on one object, made one at a time, and what the answers of the rules say of each.
 
-A scenario is a text: lines `# ` with its name and what it shows; the object part without its cap; a line for each call.
-A call is spelt as in a thread script, with its seat in place of the object's name, or is `interrupt SEAT`. A timeout is
-`0`; `short`, which ends before the next call begins; or `long`, which never ends. `* K` behind a call makes it K times.
-`hold SEAT` stops a thread that waits: if it is woken it retries only behind the line `go`, so that others may barge.
+A scenario is a text: lines `# ` with its name and what it shows; the object part without its cap; a line for
+each call. A call is spelt as in a thread script, with its seat in place of the object's name, or is
+`interrupt SEAT`. A timeout is `0`; `short`, which ends before the next call begins; or `long`, which never
+ends. `* K` behind a call makes it K times. `hold SEAT` stops a thread that waits: if it is woken it retries
+only behind the line `go`, so that others may barge.
 
-`played` makes the steps of each call. A thread that an entry names looks at once, and so on until nobody who was named
-has still to look. An interrupt that ends no wait is pending. Then a line says which calls ended and how, and how the
-object stands, in the form that checks/java/Scenarios.java writes.
+`played` makes the steps of each call. A thread that an entry names looks at once, and so on until nobody who
+was named has still to look. An interrupt that ends no wait is pending. Then a line says which calls ended and
+how, and how the object stands, in the form that checks/java/Scenarios.java writes.
 """
 import re
 from collections import namedtuple
@@ -24,7 +25,8 @@ Told = namedtuple("Told", "lines steps answers designs")
 # How a call ends, by the word of the entry that ends it.
 ENDS = {"got": "got", "trygot": "got", "granted": "got", "missed": "no", "gave": "done", "counted": "done",
         "signal": "done", "signalall": "done"}
-REFUSED = {"NotOwner": "illegal", "TooManyHolds": "limit", "TooManyPermits": "limit", "Interrupted": "interrupted"}
+REFUSED = {"NotOwner": "illegal", "TooManyHolds": "limit", "TooManyPermits": "limit",
+           "Interrupted": "interrupted"}
 BY_END = {"signalled": "done", "timeout": "no", "interrupt": "interrupted"}
 
 
@@ -69,8 +71,8 @@ def seats_told(seats):
 
 
 class Play:
-    """A scenario that is played: its steps so far, their answers, and what each thread does. The answers are those that
-    are known, and behind them those of `rules.py`."""
+    """A scenario that is played: its steps so far, their answers, and what each thread does. The answers are
+    those that are known, and behind them those of `rules.py`."""
 
     def __init__(self, header, known=()):
         self.header, self.state, self.known = header, rules.State(header), known
@@ -201,7 +203,7 @@ class Play:
         return f"{ended} | {self.stands()} | flags {flags}"
 
     def stands(self):
-        """What the object's observers say. A latch has none for its queue. Who sleeps is asked by the owner alone."""
+        """What the object's observers say. A latch has none of its queue. Only owners can ask who sleeps."""
         state, kind = self.state, self.header.kind
         if kind == "latch":
             return f"count {state.count}"
@@ -239,9 +241,10 @@ def design_of_line(state):
     head = state.line[0] if state.line else None
     if head is None:
         return None
-    if state.header.kind == "rw" and head.mode == "s" and state.owner() is None and state.reads == rules.READS:
+    kind = state.header.kind
+    if kind == "rw" and head.mode == "s" and state.owner() is None and state.readers() == rules.READS:
         return "a queued read at the limit"
-    return "permits that wrap" if state.header.kind == "semaphore" and wraps(state.free, head.n) else None
+    return "permits that wrap" if kind == "semaphore" and wraps(state.free, head.n) else None
 
 
 def wraps(free, n):
@@ -287,8 +290,9 @@ def answer_of(line):
 def played(scenario, replay):
     """What a scenario is by the answers of a program, which `replay` gives to a steps text.
 
-    Which thread looks next depends on the answers, and the program is asked for all at once. So the steps are first
-    made with the answers of `rules.py`. If the program answers otherwise, they are made anew with its answers.
+    Which thread looks next depends on the answers, and the program is asked for all at once. So the steps are
+    first made with the answers of `rules.py`. If the program answers otherwise, they are made anew with its
+    answers.
     """
     known = []
     while True:

@@ -21,13 +21,14 @@ import java.util.concurrent.locks.ReentrantReadWriteLock;
 /**
  * Plays scenarios on the synchronisers of java.util.concurrent: java Scenarios.java MILLISECONDS.
  *
- * <p>Standard input has scenarios: a line with the object, a line for each call, and a line "end". Each seat is a
- * thread. The calls are made one at a time. The next one begins when each thread is idle or parked, and nobody is on
- * the way to acquire. Then a line tells which calls ended and how, and what the object's observers say; scenarios.py
- * writes the same line of the answers of the rules. The first line of output names the JDK.
+ * <p>Standard input has scenarios: a line with the object, a line for each call, and a line "end". Each seat
+ * is a thread. The calls are made one at a time. The next one begins when each thread is idle or parked, and
+ * nobody is on the way to acquire. Then a line tells which calls ended and how, and what the object's observers
+ * say; scenarios.py writes the same line of the answers of the rules. Before that, a line names the JDK, and one
+ * says whether it can hold threads, and has the limit of 65535 holds.
  *
- * <p>A timeout is spelt 0; "short", which is MILLISECONDS, and nothing else happens until it is over; or "long", which
- * never ends. This file uses the API of Java SE 8 alone.
+ * <p>A timeout is 0; "short", which is MILLISECONDS, and nothing else happens until it is over; or "long",
+ * which never ends. This file uses the API of Java SE 8 alone.
  */
 public final class Scenarios {
     private static final long PATIENCE = TimeUnit.SECONDS.toNanos(2);
@@ -47,9 +48,9 @@ public final class Scenarios {
         shortTime = Long.parseLong(words[0]);
         BufferedReader in = new BufferedReader(new InputStreamReader(System.in, StandardCharsets.US_ASCII));
         PrintStream out = new PrintStream(System.out, false, "US-ASCII");
-        String version = System.getProperty("java.runtime.version");
-        String held = Held.isPossible() ? "" : ", which cannot hold threads";
-        out.println(System.getProperty("java.vm.name") + " " + version + held);
+        out.println(System.getProperty("java.vm.name") + " " + System.getProperty("java.runtime.version"));
+        boolean hasLimit = TwoLocks.isAtMost(MOST_READS);
+        out.println("can" + (Held.isPossible() ? " hold" : "") + (hasLimit ? " limit" : ""));
         List<Worker> idle = new ArrayList<>();
         for (String header = in.readLine(); header != null; header = in.readLine()) {
             String[] part = header.split(" ");
@@ -171,8 +172,8 @@ public final class Scenarios {
     }
 
     /**
-     * Whether nothing can change by itself. A parked thread may have been unparked and not run yet, so the observers
-     * are asked too: nobody who waits could acquire, or was interrupted without having noticed.
+     * Whether nothing can change by itself. A parked thread may have been unparked and not run yet, so the
+     * observers are asked too: nobody who waits could acquire, or was interrupted without having noticed.
      */
     private boolean isQuiet(Worker timed) {
         if (timed != null && timed.isBusy() && !subject.isBack(timed)) {
@@ -218,7 +219,7 @@ public final class Scenarios {
         return text.length() == 0 ? " -" : text.toString();
     }
 
-    /** Ends the calls that still wait, as far as that goes, and returns the workers that can be used again. */
+    /** Ends the calls that still wait, as far as that goes. Returns the workers that can be used again. */
     private List<Worker> windUp() {
         goOn();
         for (int round = 0; round <= 2 * workers.length && isAnyBusy(); round++) {
@@ -627,6 +628,15 @@ public final class Scenarios {
         TwoLocks(boolean isFair, int conditions) {
             lock = new Shown(isFair);
             open(lock.writeLock(), conditions);
+        }
+
+        /** Whether a read-write lock has so many read holds, and no more. */
+        static boolean isAtMost(int holds) {
+            Lock lock = new ReentrantReadWriteLock().readLock();
+            for (int held = 0; held < holds; held++) {
+                lock.lock();
+            }
+            return outcome(() -> Subject.got(lock.tryLock())).equals("limit");
         }
 
         @Override
