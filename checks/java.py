@@ -37,6 +37,7 @@ HERE = pathlib.Path(__file__).resolve().parent / "java"
 SHORT, LONGER = 5, (20, 100)
 MINUTES = 10
 SHOWN = 5
+BATCH = 1000
 # One thread of the compiler and one of the collector are enough.
 FLAGS = ("-XX:TieredStopAtLevel=1", "-XX:+UseSerialGC")
 
@@ -85,8 +86,7 @@ class Jdk:
         text = "".join("\n".join([each.part, *each.calls, "end", ""]) for each in many)
         lines = iter(self.run(text.encode(), short)[2:])
         told = [list(itertools.islice(lines, len(each.calls))) for each in many]
-        counts, wanted = ([*map(len, told)], [len(each.calls) for each in many])
-        if counts != wanted or next(lines, None) is not None:
+        if next(lines, None) is not None or len(told[-1]) < len(many[-1].calls):
             raise ValueError("another number of lines than of calls")
         return told
 
@@ -118,9 +118,12 @@ class Comparison:
 
     def differences(self, many, short=SHORT):
         """For each scenario its first difference, or None."""
-        told = [self.told(each).lines for each in many]
-        played = self.jdk.played(many, short) if many else []
-        return [first_difference(*three) for three in zip(many, told, played)]
+        found = []
+        for at in range(0, len(many), BATCH):
+            some = many[at:at + BATCH]
+            told = [self.told(each).lines for each in some]
+            found += map(first_difference, some, told, self.jdk.played(some, short))
+        return found
 
     def lasting(self, many):
         """The scenarios that differ, with longer times too, and their differences."""
@@ -150,9 +153,6 @@ def without(scenario, size):
     for at in range(0, len(calls) - size + 1, max(1, size // 2)):
         if size < len(calls):
             yield scenario._replace(calls=calls[:at] + calls[at + size:])
-
-
-# What is compared.
 
 
 def shown(scenario, bad):

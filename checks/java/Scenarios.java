@@ -227,7 +227,7 @@ public final class Scenarios {
                 if (worker.isBusy()) {
                     worker.interrupt();
                 } else {
-                    worker.ask(new String[] {"close"}, () -> subject.closed(workers));
+                    worker.ask(new String[] {"close"}, () -> subject.closed());
                 }
                 settle(null);
             }
@@ -294,6 +294,8 @@ public final class Scenarios {
                 }
                 if (flag) {
                     interrupt();
+                } else {
+                    Thread.interrupted();
                 }
                 isInside = true;
                 String how = outcome(task);
@@ -398,7 +400,7 @@ public final class Scenarios {
         abstract String shown(Worker[] workers);
 
         /** Releases what the calling thread holds, and what makes others wait. */
-        abstract String closed(Worker[] workers);
+        abstract String closed();
 
         /** Whether the time of a call that still goes on is over: it waits to acquire the lock again. */
         boolean isBack(Worker worker) {
@@ -584,7 +586,7 @@ public final class Scenarios {
         }
 
         @Override
-        String closed(Worker[] workers) {
+        String closed() {
             if (!lock.isLocked()) {
                 lock.lock();
             }
@@ -695,7 +697,7 @@ public final class Scenarios {
         }
 
         @Override
-        String closed(Worker[] workers) {
+        String closed() {
             if (!lock.isWriteLocked() && lock.getReadLockCount() == 0) {
                 lock.writeLock().lock();
             }
@@ -771,7 +773,7 @@ public final class Scenarios {
         }
 
         @Override
-        String closed(Worker[] workers) {
+        String closed() {
             List<Thread> line = inOrder(permits.queued());
             if (!line.isEmpty()) {
                 int missing = wanted(line.get(0)) - permits.availablePermits();
@@ -815,7 +817,7 @@ public final class Scenarios {
         }
 
         @Override
-        String closed(Worker[] workers) {
+        String closed() {
             return "closed";
         }
     }
