@@ -34,21 +34,25 @@ def acquire(chance, mode, n):
     return f"try {words}" if chance.random() < 0.2 else waiting(chance, "acquire", words)
 
 
-def call_on_condition(chance, conditions):
-    name, at = chance.choice(("await", "await", "signal", "signalall")), chance.randrange(conditions)
-    return waiting(chance, name, str(at)) if name == "await" else f"{name} {at}"
+def call_on_condition(chance, play):
+    """An await, or where several sleep a signal."""
+    at = chance.choice((0, chance.randrange(play.header.conditions)))
+    if chance.random() < (0.6 if len(play.state.sleepers[at]) > 1 else 0.2):
+        return f"{chance.choice(('signal', 'signalall'))} {at}"
+    return waiting(chance, "await", str(at))
 
 
-def call_of_lock(chance, play, seat):
-    """A call of a lock or a read-write lock. Few readers ask to write, since they wait for themselves."""
+def call_of_lock(chance, play, seat, of_conditions):
+    """A call of a lock or a read-write lock. Few readers ask to write, since they wait for themselves. An
+    owner's calls are often of conditions."""
     own, conditions = play.state.holds[seat], play.header.conditions
     reads = play.header.kind == "rw"
     mode = chance.choice("xsss") if reads else "x"
     way = chance.random()
-    if conditions and way < (0.4 if own["x"] else 0.03):
-        return call_on_condition(chance, conditions)
+    if conditions and way < (of_conditions if own["x"] else 0.03):
+        return call_on_condition(chance, play)
     if own["x"] or own["s"]:
-        if way < 0.8:
+        if way < (0.85 if own["s"] else 0.7):
             return f"give {chance.choice([held for held in 'xs' if own[held]])} 1"
         if reads and not own["x"] and way < 0.95:
             mode = "s"
@@ -57,7 +61,7 @@ def call_of_lock(chance, play, seat):
     return acquire(chance, mode, 1)
 
 
-def call_of_semaphore(chance, play, _seat):
+def call_of_semaphore(chance, play, _seat, _of_conditions):
     """A call of a semaphore: most ask for few permits."""
     n = chance.choice((0, 1, 1, 1, 1, 2, 2, 3))
     if abs(play.state.free) > 1000000 and chance.random() < 0.5:
@@ -68,24 +72,32 @@ def call_of_semaphore(chance, play, _seat):
     return f"give s {n}" if way < (0.5 if play.state.line else 0.25) else acquire(chance, "s", n)
 
 
-def call_of_latch(chance, _play, _seat):
+def call_of_latch(chance, _play, _seat, _of_conditions):
     return "give s 1" if chance.random() < 0.35 else waiting(chance, "acquire", "s 1", OF_LATCH)
 
 
 CALLS = {"lock": call_of_lock, "rw": call_of_lock, "semaphore": call_of_semaphore, "latch": call_of_latch}
 
 
-def next_call(chance, play, can_hold):
-    """A call of an idle thread, or an interrupt, most often of a thread that waits, or a hold."""
+def interrupted(chance, play):
+    """Whom to interrupt: often the first of the queue, or one that was signalled."""
+    line = play.state.line
+    back = [arrival.seat for arrival in line if arrival.back]
+    return chance.choice([arrival.seat for arrival in line[:1]] * 4 + back * 2 + list(play.waiting) +
+                         [chance.randrange(play.header.seats)])
+
+
+def next_call(chance, play, can_hold, of_holders, of_conditions):
+    """A call of an idle thread, often of a holder and of a condition; or an interrupt, or a hold."""
     seats = range(play.header.seats)
     idle = [seat for seat in seats if seat not in play.waiting]
     if can_hold and play.waiting and chance.random() < (0.2 if play.held else 0.1):
         return holding(chance, play)
-    if not idle or chance.random() < 0.1:
-        return f"interrupt {chance.choice(list(play.waiting) * 3 + list(seats))}"
+    if not idle or chance.random() < (0.25 if len(play.state.line) > 1 else 0.1):
+        return f"interrupt {interrupted(chance, play)}"
     holders = [seat for seat in idle if any(play.state.holds[seat].values())]
-    seat = chance.choice(holders if holders and chance.random() < 0.5 else idle)
-    return f"{seat} {CALLS[play.header.kind](chance, play, seat)}"
+    seat = chance.choice(holders if holders and chance.random() < of_holders else idle)
+    return f"{seat} {CALLS[play.header.kind](chance, play, seat, of_conditions)}"
 
 
 def holding(chance, play):
@@ -108,9 +120,9 @@ def draw(chance, can_hold=True, has_limit=True):
     part, calls = part_of(chance), []
     if has_limit and part.startswith("rw") and chance.random() < 0.01:
         calls.append(f"0 acquire {chance.choice('xs')} 1 * {chance.choice((65534, 65535))}")
-    play = played(part, calls)
+    play, often = played(part, calls), (chance.choice((0.1, 0.3, 0.5)), chance.choice((0.2, 0.5, 0.8)))
     for _ in range(chance.choice((6, 12, 20, 20, 30))):
-        call = next_call(chance, play, can_hold)
+        call = next_call(chance, play, can_hold, *often)
         play.make(call)
         if play.designs:
             play = played(part, calls)
