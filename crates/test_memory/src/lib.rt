@@ -5,6 +5,8 @@
 #[cfg(test)]
 mod any_core;
 #[cfg(test)]
+mod block;
+#[cfg(test)]
 mod calls;
 #[cfg(test)]
 mod cores;
