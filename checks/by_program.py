@@ -7,10 +7,11 @@
 - `storms.py`: two short storms of threads.
 - `fuzz.py`: random texts, others each day.
 - `spoilt.py`: two examples with each byte changed.
+- `java.py`: scenarios on the JDK of this machine, if it has one.
 
-The seed, as the hash of a commit, chooses the examples and the storms. Each check has a line with its
-numbers, its seconds and those of processors. What a check that failed has printed stands above its line. The
-last line is 'N passed, M failed'.
+The seed, as the hash of a commit, chooses the examples, the storms and the scenarios. Each check has a line
+with its numbers, its seconds and those of processors. What a check that failed has printed stands above its
+line. The last line is 'N passed, M failed'.
 """
 
 import pathlib
@@ -20,6 +21,8 @@ import subprocess
 import sys
 import time
 import zlib
+
+import java
 
 HERE = pathlib.Path(__file__).resolve().parent
 MINUTES = 10
@@ -35,6 +38,8 @@ def checks(seed):
     yield ["storms.py", "1", "64", "8", number]
     yield ["fuzz.py", "4000"]
     yield ["spoilt.py", seed]
+    if java.has_jdk():
+        yield ["java.py", "200", number]
 
 
 def processor_seconds():
@@ -56,6 +61,8 @@ def counts(words):
 
 def main(program, seed):
     passed = failed = 0
+    if not java.has_jdk():
+        print("java.py: no JDK on this machine, so nothing is compared with one")
     for name, *words in checks(seed):
         begun, used = time.monotonic(), processor_seconds()
         told, good, bad = counts([sys.executable, "-B", HERE / name, program, *words])

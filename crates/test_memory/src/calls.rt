@@ -4,10 +4,6 @@ ghost use Rattle.std.specs.Prelude.{◌≡◌};
 
 use acquire_queue::queue::Queue;
 use audit::totals::totals;
-use condition_queue::waiters::Waiters;
-use counting::latch::LatchHooks;
-use counting::semaphore::SemaphoreHooks;
-use frame::hooks::Hooks;
 use history::arrival::Arrival;
 use history::entries::History;
 use history::entry::{End, Entry, Mode, Word};
@@ -44,31 +40,6 @@ fn a_node_stands_until_it_comes_to_the_head(rt: HostRuntime) -> Result<(), Fail>
     queue.sweep();
     assert!(rt; queue.standing() == 1 && queue.arrival_of(3) == Some(asks(3)));
     assert!(rt; queue.take_first() == Some(asks(3)) && queue.is_empty());
-    Ok(())
-}
-
-/// Puts a seat to sleep on a condition, if it is awake.
-fn put_to_sleep(waiters: &mut Waiters, seat: u16) -> bool
-    requires seats { waiters.old.seats ≡ 8 }
-    requires conditions { waiters.old.conditions ≡ 3 }
-    ensures seats { waiters.new.seats ≡ 8 }
-    ensures conditions { waiters.new.conditions ≡ 3 }
-{
-    if 8 <= seat || waiters.sleeper_of(seat).is_some() {
-        return false;
-    }
-    waiters.join(2, seat, 7);
-    true
-}
-
-#[test]
-fn sleepers_sleep_until_they_leave(rt: HostRuntime) -> Result<(), Fail> {
-    let mut waiters = Waiters::open(rt.alloc(), 3, 8)?;
-    let is_first = put_to_sleep(&mut waiters, 5);
-    let is_second = put_to_sleep(&mut waiters, 6);
-    assert!(rt; is_first && is_second && waiters.len(2) == 2);
-    assert!(rt; waiters.leave(6) && waiters.len(2) == 1);
-    assert!(rt; waiters.sleeper_of(5).map(|sleeper| sleeper.holds) == Some(7));
     Ok(())
 }
 
@@ -167,14 +138,4 @@ fn totals_of_no_entries_are_none(rt: HostRuntime) -> Result<(), Fail> {
     let totals = totals(rt.alloc(), &HEADER, &history)?;
     assert!(rt; totals.x == 0 && totals.s == 0 && totals.line == 0 && totals.sleepers == 0);
     Ok(())
-}
-
-/// No seat of a semaphore or a latch sleeps, so there is nothing to restore.
-#[test]
-fn restoring_changes_no_permits_and_no_count(rt: HostRuntime) {
-    let mut semaphore = SemaphoreHooks::open(Policy::Fair, 3);
-    semaphore.restore(0, 2);
-    let mut latch = LatchHooks::open(3);
-    latch.restore(0, 2);
-    assert!(rt; semaphore.level() == 3 && latch.level() == 3);
 }

@@ -1,6 +1,6 @@
 //! Memory that is kept: what is played over and over leaves the memory that there was after the first times.
 
-use crate::played::{Play, perform};
+use crate::played::{Play, deepen, perform};
 use crate::streamed::Stream;
 use crate::texts::{ON_COUNT, ON_READER, ON_SLEEPER, SCRIPT, STEPS, TRIMMED, WRONG, put_history};
 use history::header::{Header, Object, Policy};
@@ -93,6 +93,7 @@ fn situation_keeps_none(
 fn situations_keep_no_memory(rt: HostRuntime) -> Result<(), Fail> {
     let mut history = Vec::with_capacity(rt.alloc(), AMPLE)?;
     let mut out = Vec::with_capacity(rt.alloc(), AMPLE)?;
+    deepen(&rt, &mut out);
     let mut memory = Memory::take_all(rt.alloc(), PIECE)?;
     for examples in [situations(), strict_situations()] {
         for example in examples {
@@ -139,34 +140,21 @@ fn texts_keep_none(
     out: &mut Vec<u8>,
 ) {
     for text in TRIMMED {
-        let replayed = Play::Through(Stream::Replay, text);
-        keeps_none(rt, memory, replayed, true, out, "a replay with trims");
-        let recorded = Play::Through(Stream::History, text);
-        keeps_none(rt, memory, recorded, true, out, "a history with trims");
+        for (stream, name) in [(Stream::Replay, "trims"), (Stream::History, "trims, kept")] {
+            keeps_none(rt, memory, Play::Through(stream, text), true, out, name);
+        }
     }
     for (text, legal) in BASED {
-        keeps_none(
-            rt,
-            memory,
-            Play::Through(Stream::Audit, text),
-            legal,
-            out,
-            "an audit",
-        );
-        keeps_none(
-            rt,
-            memory,
-            Play::Through(Stream::Draw, text),
-            legal,
-            out,
-            "a drawing",
-        );
+        for (stream, name) in [(Stream::Audit, "an audit"), (Stream::Draw, "a drawing")] {
+            keeps_none(rt, memory, Play::Through(stream, text), legal, out, name);
+        }
     }
 }
 
 #[test]
 fn trims_and_bases_and_openings_keep_no_memory(rt: HostRuntime) -> Result<(), Fail> {
     let mut out = Vec::with_capacity(rt.alloc(), AMPLE)?;
+    deepen(&rt, &mut out);
     let mut memory = Memory::take_all(rt.alloc(), PIECE)?;
     texts_keep_none(&rt, &mut memory, &mut out);
     for what in OPENED {

@@ -1,9 +1,10 @@
-//! Tests of memory that is refused, of memory that is kept, and of devices that fail. No clause says that a
-//! call finds memory where there is some, or how much it takes.
+//! Tests of memory that is refused or kept, and of devices that fail: no clause says how much a call takes.
 #![tactic(auto)]
 
 #[cfg(test)]
 mod any_core;
+#[cfg(test)]
+mod block;
 #[cfg(test)]
 mod calls;
 #[cfg(test)]

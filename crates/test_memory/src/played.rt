@@ -6,6 +6,7 @@ ghost use Rattle.history.specs.Header.{IsInRange};
 
 use crate::any_core::AnyCore;
 use crate::streamed::{Came, Stream, through};
+use crate::texts::{HISTORY, SCRIPT, STEPS};
 use acquire_queue::queue::Queue;
 use condition_queue::waiters::Waiters;
 use deciding::entries::plain;
@@ -210,5 +211,21 @@ pub fn perform(rt: &(impl AllocGlobal + Clock), what: Play, out: &mut Vec<u8>) -
         Play::Scripted => opened(ScriptedParking::open(alloc, Vec::new(alloc), 4)),
         Play::Lock | Play::ReadWriteLock | Play::Semaphore | Play::Latch => front(alloc, what),
         _ => read(alloc, what, out),
+    }
+}
+
+/// Plays what goes deepest while there is memory. Then the stack has its depth, for which the system has no
+/// memory later.
+pub fn deepen(rt: &(impl AllocGlobal + Clock), out: &mut Vec<u8>) {
+    for what in [
+        Play::Script(SCRIPT),
+        Play::Again(HISTORY),
+        Play::Through(Stream::Draw, HISTORY),
+        Play::Through(Stream::Replay, STEPS),
+        Play::ReadWriteLock,
+        Play::RunActs,
+    ] {
+        let _came = perform(rt, what, out);
+        out.clear();
     }
 }

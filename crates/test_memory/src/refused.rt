@@ -1,10 +1,11 @@
 //! Memory that is refused.
 //!
-//! A test takes all memory first, a part of it as small pieces side by side, and gives these back one by one.
+//! A test takes all memory first, a part of it as one block, and gives that back piece by piece from its end.
 //! So one request after another is refused, until all are met. What kept memory when refused would never be
 //! whole, since one piece comes back at a time.
 
-use crate::played::{Play, perform};
+use crate::block::Block;
+use crate::played::{Play, deepen, perform};
 use crate::streamed::Stream;
 use crate::texts::{
     HISTORY, ON_COUNT, ON_SLEEPER, SCRIPT, STEPS, TRIMMED, WIDE, put_history_of_pairs, put_pairs,
@@ -16,7 +17,6 @@ use std::process::Abort;
 use std::test::Fail;
 use std::time::Clock;
 use streams::stream_fault::StreamFault;
-use test_support::memory::Memory;
 
 /// More bytes than any answer here has.
 const AMPLE: usize = 1_000_000;
@@ -51,7 +51,7 @@ impl<'a> Row<'a> {
 fn fed(
     rt: &(impl Abort + AllocGlobal + Clock),
     what: Play,
-    memory: &mut Memory,
+    memory: &mut Block,
     wanted: &[u8],
     out: &mut Vec<u8>,
 ) -> u32 {
@@ -80,7 +80,7 @@ fn refusals(
     wanted: &[u8],
     out: &mut Vec<u8>,
 ) -> Result<u32, AllocError> {
-    let mut memory = Memory::take_all(rt.alloc(), piece)?;
+    let mut memory = Block::take_all(rt.alloc(), piece)?;
     Ok(fed(rt, what, &mut memory, wanted, out))
 }
 
@@ -117,6 +117,7 @@ fn try_rows(rt: &(impl Abort + AllocGlobal + Clock), rows: &[Row]) -> Result<(),
     let wanted = Vec::with_capacity(rt.alloc(), AMPLE)?;
     let out = Vec::with_capacity(rt.alloc(), AMPLE)?;
     let mut answers = Answers { wanted, out };
+    deepen(rt, &mut answers.out);
     for (number, row) in rows.iter().enumerate() {
         try_row(rt, &mut answers, number, row);
     }
@@ -185,12 +186,12 @@ fn monitors_and_parkings_are_opened_whole_or_not_at_all(rt: HostRuntime) -> Resu
 const NARROW: [(Stream, &[u8], u32, u32); 8] = [
     (Stream::Replay, STEPS, 980, 1070),
     (Stream::History, STEPS, 980, 1070),
-    (Stream::Audit, HISTORY, 830, 2600),
-    (Stream::Draw, HISTORY, 830, 2600),
-    (Stream::Audit, ON_SLEEPER, 830, 2600),
-    (Stream::Draw, ON_SLEEPER, 830, 2600),
-    (Stream::Audit, ON_COUNT, 830, 2600),
-    (Stream::Draw, ON_COUNT, 830, 2600),
+    (Stream::Audit, HISTORY, 830, 3000),
+    (Stream::Draw, HISTORY, 830, 3000),
+    (Stream::Audit, ON_SLEEPER, 830, 3000),
+    (Stream::Draw, ON_SLEEPER, 830, 3000),
+    (Stream::Audit, ON_COUNT, 830, 3000),
+    (Stream::Draw, ON_COUNT, 830, 3000),
 ];
 
 /// Nothing is written before there is memory for all: for the window, which takes most, and then for each
@@ -289,18 +290,13 @@ fn a_growth_of_a_history_is_refused(rt: HostRuntime) -> Result<(), Fail> {
     }
     let mut history = String::new(rt.alloc());
     put_history_of_pairs(&mut history, 600)?;
+    let audit = Play::Through(Stream::Audit, history.as_bytes());
     try_rows(
         &rt,
-        &[Row::of(Play::Again(history.as_bytes()), COARSE, 220, 280)],
-    )?;
-    try_rows(
-        &rt,
-        &[Row::of(
-            Play::Through(Stream::Audit, history.as_bytes()),
-            COARSE,
-            250,
-            290,
-        )],
+        &[
+            Row::of(Play::Again(history.as_bytes()), COARSE, 220, 280),
+            Row::of(audit, COARSE, 250, 290),
+        ],
     )?;
     Ok(())
 }

@@ -3,6 +3,7 @@
 //! What a core is to answer is told by one that lacks no memory.
 
 use crate::any_core::{AnyCore, Outcome};
+use crate::block::Block;
 use frame::acts::{Act, Done};
 use history::entry::Mode;
 use history::fault::Fault;
@@ -65,7 +66,7 @@ fn note(core: &mut AnyCore, acts: &[Act], rounds: u32, played: &mut Vec<Played>)
 fn feed(
     rt: &(impl Abort + AllocGlobal),
     core: &mut AnyCore,
-    memory: &mut Memory,
+    memory: &mut Block,
     act: Act,
     before: u64,
 ) -> Outcome {
@@ -85,7 +86,7 @@ fn feed(
 fn follow(
     rt: &(impl Abort + AllocGlobal),
     core: &mut AnyCore,
-    memory: &mut Memory,
+    memory: &mut Block,
     played: &Played,
 ) -> bool {
     let (before, places) = (core.told(), core.places());
@@ -110,7 +111,7 @@ fn follow_all(
     core: &mut AnyCore,
     played: &[Played],
 ) -> Result<u32, AllocError> {
-    let mut memory = Memory::take_all(rt.alloc(), PIECE)?;
+    let mut memory = Block::take_all(rt.alloc(), PIECE)?;
     let mut refused: u32 = 0;
     for step in played {
         refused = refused.saturating_add(u32::from(follow(rt, core, &mut memory, step)));

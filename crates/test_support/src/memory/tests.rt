@@ -3,21 +3,6 @@
 use super::*;
 use std::test::Fail;
 
-#[test]
-fn a_piece_that_is_given_back_can_be_taken(rt: HostRuntime) -> Result<(), Fail> {
-    let mut memory = Memory::take_all(rt.alloc(), 256)?;
-    let refused: Result<Vec<u8>, AllocError> = Vec::with_capacity(rt.alloc(), 256);
-    assert!(rt; refused.is_err());
-    assert!(rt; memory.give_piece());
-    let granted: Result<Vec<u8>, AllocError> = Vec::with_capacity(rt.alloc(), 256);
-    assert!(rt; granted.is_ok());
-    drop(granted);
-    memory.take_rest()?;
-    let refused: Result<Vec<u8>, AllocError> = Vec::with_capacity(rt.alloc(), 256);
-    assert!(rt; refused.is_err());
-    Ok(())
-}
-
 /// A leak of one byte takes a part of a piece, and so the whole of it.
 #[test]
 fn a_piece_of_which_a_byte_is_taken_is_not_free(rt: HostRuntime) -> Result<(), Fail> {
