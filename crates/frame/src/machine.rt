@@ -1,5 +1,6 @@
 //! The core of one object.
 
+mod at_once;
 mod decide;
 mod observing;
 mod recording;

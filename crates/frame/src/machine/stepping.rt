@@ -59,6 +59,28 @@ impl<H: Hooks + Drop> Core<H> {
         ensures own { IfOk result (λ answer. IsOf seat answer) }
         ensures names { IfOk result (λ answer. NamesBelow self.old.header.seats answer) }
     {
+        match self.step_at_once(seat, step) {
+            Some(entry) => Ok(Answer::Recorded(entry, None)),
+            None => self.step_in_full(seat, step),
+        }
+    }
+
+    /// The same, the general way: decide, record, name.
+    #[inline(never)]
+    fn step_in_full(&mut self, seat: u16, step: Step) -> Result<Answer, Fault>
+        requires { seat < self.old.header.seats }
+        ensures answered { IsAnswered self.old seat step result self.new }
+        ensures told { IsTold self.old seat result self.new }
+        ensures header { self.new.header ≡ self.old.header }
+        ensures base { self.new.base ≡ self.old.base }
+        ensures fault { OnErr result (self.new ≡ self.old) }
+        ensures places { self.new.places ≡ places_behind self.old result }
+        ensures refused { IfOk result (λ answer. KeepsHolds self.old seat answer self.new) }
+        ensures owed { MakesOwed self.old seat step → IsOk result }
+        ensures grown { self.new.entries ≡ made_by result ++ self.old.entries }
+        ensures own { IfOk result (λ answer. IsOf seat answer) }
+        ensures names { IfOk result (λ answer. NamesBelow self.old.header.seats answer) }
+    {
         let _header = &self.header;
         match self.decide(seat, step) {
             Err(fault) => Err(fault),
@@ -67,15 +89,7 @@ impl<H: Hooks + Drop> Core<H> {
                 self.untell(seat);
                 Ok(Answer::Sleep)
             }
-            // A copy for each of the commonest words: in each the word is known, and what it leaves as it was
-            // isn't asked.
-            Ok(Some(entry)) => match entry.word {
-                Word::Got => self.record(entry),
-                Word::Gave => self.record(entry),
-                Word::Queued => self.record(entry),
-                Word::Granted => self.record(entry),
-                _ => self.record(entry),
-            },
+            Ok(Some(entry)) => self.record(entry),
         }
     }
 }
