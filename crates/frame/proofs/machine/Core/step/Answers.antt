@@ -10,5 +10,5 @@ returns-in-Some-clause-own g c =
 
 pub returns-in-None-clause-told : goal.returns-in-None-clause-told
 returns-in-None-clause-told g c =
-    subst (λ (v : CoreView). IsTold v c.args.seat c.step_in_full.result c.step_in_full.new.self)
-    c.in-None.ensures.none c.step_in_full.ensures.told
+    subst (λ (v : CoreView). IsTold v c.args.seat c.step_by_kind.result c.step_by_kind.new.self)
+    c.in-None.ensures.none c.step_by_kind.ensures.told
