@@ -21,7 +21,6 @@ use history::step::{Answer, Step};
 
 impl<H: Hooks + Drop> Core<H> {
     /// An acquire takes, or joins the line.
-    #[inline(never)]
     pub(super) fn acquire(&mut self, seat: u16, mode: Mode, n: u32) -> Result<Answer, Fault>
         requires { seat < self.old.header.seats }
         ensures { IsStepped self.old seat (Acquire mode n) result self.new }
@@ -39,7 +38,6 @@ impl<H: Hooks + Drop> Core<H> {
     }
 
     /// A release gives back, and names the first in line if it could go now.
-    #[inline(never)]
     pub(super) fn give(&mut self, seat: u16, mode: Mode, n: u32) -> Result<Answer, Fault>
         requires { seat < self.old.header.seats }
         ensures { IsStepped self.old seat (Give mode n) result self.new }
@@ -54,7 +52,6 @@ impl<H: Hooks + Drop> Core<H> {
 
     /// Who looks is granted what it asks for, if it is the first in line and could take it; else it waits on.
     /// Who comes back from a condition goes the general way.
-    #[inline(never)]
     pub(super) fn look(&mut self, seat: u16) -> Result<Answer, Fault>
         requires { seat < self.old.header.seats }
         ensures { IsStepped self.old seat Look result self.new }
