@@ -6,6 +6,8 @@ pub mod Bounds
 pub mod Stepping
 pub mod Naming
 pub mod Recording
+pub mod AtOnce
+pub mod ByKind
 pub mod Owners
 pub mod Tables
 pub mod Opening

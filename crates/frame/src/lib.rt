@@ -23,6 +23,10 @@
 //!    Its seat is marked as told ([`Core::is_told`](machine::Core::is_told)) until it looks in vain or leaves
 //!    the queue. So whoever is first and could acquire is always marked.
 //!
+//! Nearly all steps need less. An acquire or try that takes, and a release, of an idle thread while nobody is
+//! in the queue, are done at once (`machine/at_once.rt`): they move nobody and name nobody. As in
+//! parking_lot, that is a few lines in front of a longer way.
+//!
 //! A step never blocks. A thread that has to wait is answered `Queued` or `Sleep`, and steps again with
 //! `Look` when it is woken, `Expire` at its timeout or `Interrupt`. So timeouts and interrupts are steps like
 //! any other, and what is proved of every list of steps is proved of every interleaving of critical sections.
@@ -32,7 +36,8 @@
 //! The history grows and grows, so no step may search it. The core keeps what a step needs to know: the
 //! hooks' state, the queue, the waiters of each condition and a record for each seat. One invariant says that
 //! these are what the definitions compute from the history (`specs/Core.antt`, `Stands`). Every entry, of
-//! whatever kind, goes through one function, which restores that invariant.
+//! whatever kind, goes through one of two functions, which restore that invariant: `enter` while nobody
+//! waits, and else `write`. One lemma says so of both.
 //!
 //! [`Core::trim`](machine::Core::trim) folds all entries into the history's base, which has all that the
 //! definitions ask of them, and gives their room back. What the core keeps is what base and list say

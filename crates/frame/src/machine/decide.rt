@@ -19,7 +19,7 @@ use history::step::Step;
 
 impl<H: Hooks + Drop> Core<H> {
     /// Whether somebody stands in line, and what the first asks for.
-    fn line(&self) -> Line
+    pub(super) fn line(&self) -> Line
         ensures { line_mode result ≡ first_mode_of self.now }
     {
         match self.queue.first() {
@@ -40,29 +40,13 @@ impl<H: Hooks + Drop> Core<H> {
 
     /// The one entry of a step, or sleep, or a fault that isn't recorded.
     #[inline(always)]
-    fn entry_for(&self, seat: u16, step: Step) -> Result<Option<Entry>, Fault>
+    pub(super) fn decide(&self, seat: u16, step: Step) -> Result<Option<Entry>, Fault>
         requires { seat < self.now.header.seats }
         ensures made { result ≡ entry_for (start_of self.now) self.now.entries seat step }
         ensures next { IfOk result (λ made. IfSome made (λ entry. IsNext self.now entry)) }
     {
         let _header = &self.header;
         decide::entry_for(self, seat, step)
-    }
-
-    /// [`entry_for`](Core::entry_for), with a copy for each of the commonest steps: in each it is known which
-    /// step it is.
-    #[inline(always)]
-    pub(super) fn decide(&self, seat: u16, step: Step) -> Result<Option<Entry>, Fault>
-        requires { seat < self.now.header.seats }
-        ensures made { result ≡ entry_for (start_of self.now) self.now.entries seat step }
-        ensures next { IfOk result (λ made. IfSome made (λ entry. IsNext self.now entry)) }
-    {
-        match step {
-            Step::Acquire(mode, n) => self.entry_for(seat, Step::Acquire(mode, n)),
-            Step::Give(mode, n) => self.entry_for(seat, Step::Give(mode, n)),
-            Step::Look => self.entry_for(seat, Step::Look),
-            _ => self.entry_for(seat, step),
-        }
     }
 }
 

@@ -3,7 +3,7 @@ use Rattle.deciding.specs.Situation.{IsHistory}
 use Rattle.frame.specs.Core.{CoreView, start_of}
 use Rattle.frame.proofs.Deciding.{made_next}
 use Rattle.frame.proofs.Stepping.{history_of}
-use Rattle.frame.proofs.machine.Core.entry_for.Goals as goal
+use Rattle.frame.proofs.machine.Core.decide.Goals as goal
 
 pub returns-clause-next : goal.returns-clause-next
 returns-clause-next g c =

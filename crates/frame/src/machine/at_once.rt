@@ -1,0 +1,143 @@
+//! The steps that are done at once: an acquire or a try that takes, and a release, of an idle seat while nobody
+//! stands in line.
+//!
+//! Nearly all steps are of this kind. They move nobody and name nobody, so they ask neither the line nor those
+//! who sleep for more than that. All other steps go the general way.
+
+ghost use Rattle.std.specs.Prelude.{◌≡◌, ◌<◌, [], true, not, is_none, int_lt, pos, ◌+ℤ◌, IfSome, IfNone, IsTrue};
+ghost use Rattle.deciding.specs.Balance.{available};
+ghost use Rattle.deciding.specs.Checks.{refused_as};
+ghost use Rattle.history.specs.Faults.{max_amount};
+ghost use Rattle.history.specs.Line.{line};
+ghost use Rattle.frame.specs.AtOnce.{Gives, IsAlone, IsAtOnce, Takes, moves_nobody};
+ghost use Rattle.frame.specs.Core.{start_of, IsAdded, IsNext};
+
+use super::Core;
+use crate::effects::change;
+use crate::hooks::Hooks;
+use crate::seat::update;
+use deciding::checks::refused_as;
+use deciding::entries::plain;
+use deciding::room::owed_behind;
+use history::entry::{Entry, Mode, Word};
+use history::header::{Header, Object};
+use history::step::Step;
+
+/// The most free permits.
+const MAX_PERMITS: i64 = 2_147_483_647;
+
+impl<H: Hooks + Drop> Core<H> {
+    /// The entry of a step that is done at once; `None`, and nothing changes, where it is to go the general way.
+    // In each arm it is known which entry it is.
+    #[inline(always)]
+    pub(super) fn step_at_once(&mut self, seat: u16, step: Step) -> Option<Entry>
+        requires { seat < self.old.header.seats }
+        ensures done { IfSome result (λ entry. IsAtOnce self.old seat step entry self.new) }
+        ensures none { IfNone result (self.new ≡ self.old) }
+    {
+        if !self.is_alone(seat) {
+            return None;
+        }
+        match step {
+            Step::Acquire(mode, n) if self.takes(seat, step, mode, n) => {
+                self.enter(plain(seat, Word::Got, mode, n))
+            }
+            Step::TryFair(mode, n) if self.takes(seat, step, mode, n) => {
+                self.enter(plain(seat, Word::Got, mode, n))
+            }
+            Step::Try(mode, n) if self.takes(seat, step, mode, n) => {
+                self.enter(plain(seat, Word::TryGot, mode, n))
+            }
+            Step::Give(mode, n) if self.gives(seat, step, mode, n) => {
+                self.enter(plain(seat, Word::Gave, mode, n))
+            }
+            _ => None,
+        }
+    }
+
+    /// Adds an entry that moves nobody, while nobody stands in line; `None`, and nothing changes, where its
+    /// place is refused.
+    #[inline(always)]
+    fn enter(&mut self, entry: Entry) -> Option<Entry>
+        requires next { IsNext self.old entry }
+        requires nobody { moves_nobody entry.word ≡ true }
+        requires empty { line (start_of self.old) self.old.entries ≡ [] }
+        ensures added { IfSome result (λ it. (it ≡ entry) × IsAdded self.old entry (Ok None) self.new) }
+        ensures none { IfNone result (self.new ≡ self.old) }
+    {
+        let object = self.object();
+        let was_owed = self.history.owed();
+        let owed = owed_behind(object, entry, was_owed);
+        let needed = (owed + 1).saturating_sub(was_owed);
+        let Ok(()) = self.history.make_room(needed) else {
+            return None;
+        };
+        change(&mut self.hooks, entry);
+        update(&mut self.seats, object, entry);
+        self.history.add(entry, owed);
+        Some(entry)
+    }
+
+    /// Whether nobody stands in line and the seat doesn't sleep: so it is idle.
+    #[inline(always)]
+    fn is_alone(&self, seat: u16) -> bool
+        ensures { IsTrue result → IsAlone self.now seat }
+    {
+        self.queue.is_empty() && self.waiters.sleeper_of(seat).is_none()
+    }
+
+    /// Whether the object has such a step, and the seat could take.
+    #[inline(always)]
+    pub(super) fn takes(&self, seat: u16, step: Step, mode: Mode, n: u32) -> bool
+        ensures { IsTrue result → Takes self.now seat step mode n }
+    {
+        self.admits(step) && !self.hooks.at_limit(seat, mode) && self.hooks.could(seat, mode, n)
+    }
+
+    /// Whether the object has such a step, and a hold or permits are given back. A latch is counted down the
+    /// general way.
+    #[inline(always)]
+    pub(super) fn gives(&self, seat: u16, step: Step, mode: Mode, n: u32) -> bool
+        requires { seat < self.now.header.seats }
+        ensures { IsTrue result → Gives self.now seat step mode n }
+    {
+        let _header = &self.header;
+        if !self.admits(step) {
+            return false;
+        }
+        match self.object() {
+            Object::Lock(_) | Object::ReadWrite(_) => self.holds(seat, mode) > 0,
+            Object::Semaphore(_, _) => self.may_free(n),
+            Object::Latch(_) => false,
+        }
+    }
+
+    /// Whether so many permits more may be free.
+    #[inline(always)]
+    fn may_free(&self, more: u32) -> bool
+        ensures { result
+            ≡ not (int_lt (pos max_amount) (available (start_of self.now) self.now.entries +ℤ pos more)) }
+    {
+        self.available() + i64::from(more) <= MAX_PERMITS
+    }
+
+    /// Whether the object has such a step, with its mode and its amount.
+    #[inline(always)]
+    pub(super) fn admits(&self, step: Step) -> bool
+        ensures { result ≡ is_none (refused_as self.now.header step) }
+    {
+        let header = Header {
+            object: self.object(),
+            ..self.header
+        };
+        refused_as(&header, step).is_none()
+    }
+
+    /// The object, as its hooks know it: those of a lock know when they are compiled that it is one.
+    #[inline(always)]
+    pub(super) fn object(&self) -> Object
+        ensures { result ≡ self.now.header.object }
+    {
+        self.hooks.object()
+    }
+}
