@@ -1,16 +1,19 @@
 //! An acquire, which may wait in line.
-ghost use Rattle.std.specs.Prelude.{◌≡◌, ◌≤◌};
+ghost use Rattle.std.specs.Prelude.{◌≡◌, ◌≤◌, true, IfErr};
 ghost use Rattle.word_lock.specs.Point.{Before};
 ghost use Rattle.history.specs.declared.step.Step.TheVariants.{EntryInterrupt};
+ghost use Rattle.permit.specs.Deed.{interrupted};
 ghost use Rattle.monitor.specs.Load.{holds_of};
 ghost use Rattle.monitor.specs.Shown.{IsTrue};
 ghost use Rattle.monitor.specs.Stepping.{IsSame, IsEntered};
 ghost use Rattle.monitor.specs.Acquire.{IsAcquire, first_step};
 
-use crate::how::{How, limits, takes_interrupt};
+use crate::how::{How, limits};
+use crate::interrupts::Interrupts;
 use crate::load::{Empty, Load};
 use crate::monitor::Monitor;
 use crate::pass::Pass;
+use crate::waiting::Stage;
 use frame::hooks::Hooks;
 use history::entry::{Entry, Mode, Word};
 use history::fault::Fault;
@@ -62,7 +65,7 @@ impl<H: Hooks + Drop> Monitor<H> {
         ensures same { IsSame pass.old pass.new }
         ensures begins { Before pass.old.seen pass.new.seen }
         ensures shows { IsTrue pass.new }
-        ensures acquired { IsAcquire pass.old mode n how result pass.new }
+        ensures acquired { IsAcquire (P.did parking.now) pass.old mode n how result pass.new }
     {
         self.acquire_with(rt, parking, pass, &mut Empty {}, mode, n, how)
     }
@@ -87,18 +90,18 @@ impl<H: Hooks + Drop, L: Load> Monitor<H, L> {
         ensures same { IsSame pass.old pass.new }
         ensures begins { Before pass.old.seen pass.new.seen }
         ensures shows { IsTrue pass.new }
-        ensures acquired { IsAcquire pass.old mode n how result pass.new }
+        ensures acquired { IsAcquire (P.did parking.now) pass.old mode n how result pass.new }
         ensures carries { L.carries load.new (holds_of pass.new) }
     {
-        if takes_interrupt(parking, pass, how) {
-            return self.refuse(rt, parking, pass, load, mode, n);
+        if let Some(interrupts) = Interrupts::at_entry(parking, pass, how) {
+            return self.refuse(rt, parking, pass, load, mode, n, interrupts);
         }
         let limits = limits(rt, parking, how);
         match self.enter(rt, parking, pass, load, first_step(how, mode, n)) {
             Err(fault) => Err(fault),
             Ok(entry) => match entry.word {
                 Word::Queued => {
-                    let last = self.wait(rt, parking, pass, load, None, limits);
+                    let last = self.wait(rt, parking, pass, load, Stage::Parks, limits);
                     Ok(last)
                 }
                 _ => Ok(entry),
@@ -115,21 +118,21 @@ impl<H: Hooks + Drop, L: Load> Monitor<H, L> {
         load: &mut L,
         mode: Mode,
         n: u32,
+        interrupts: Interrupts,
     ) -> Result<Entry, Fault>
         requires is_of { pass.old.lock ≡ self.now }
         requires places { self.now.header.seats ≤ P.seats parking.now }
+        requires interrupted { (interrupts.seat ≡ pass.old.seat) × (interrupts.taken ≡ true) }
         requires carries { L.carries load.old (holds_of pass.old) }
         ensures same { IsSame pass.old pass.new }
-        ensures entered { IsEntered pass.old (EntryInterrupt mode n) result pass.new }
+        ensures entered { IsEntered (P.did parking.now) pass.old (EntryInterrupt mode n) result pass.new }
+        ensures again { IfErr result (λ _. P.did parking.now (interrupted pass.old.seat)) }
         ensures shows { IsTrue pass.new }
         ensures carries { L.carries load.new (holds_of pass.new) }
     {
         pass.is_true();
-        let seat = pass.seat();
         let refused = self.enter(rt, parking, pass, load, Step::EntryInterrupt(mode, n));
-        if refused.is_err() {
-            parking.interrupt(seat);
-        }
+        interrupts.settle(parking, refused);
         refused
     }
 }

@@ -44,6 +44,7 @@ mod await_on;
 mod calls;
 mod closing;
 mod how;
+mod interrupts;
 mod kept;
 mod load;
 mod monitor;
