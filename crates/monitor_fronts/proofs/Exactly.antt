@@ -235,13 +235,13 @@ told_plain i e q = ap (λ (z : Entry). whether_by e.word z.end) q
 
 pub waits_to_the_end : (did : Deed → Type 0) (old new : Shown) (how : How) (r : Result Entry Fault) →
     (is_timed how → ⊥) → IsAcquire did old X 1 how r new → whether_of r ≡ Ok false → ⊥
-waits_to_the_end did old new how (Ok e) never (inl (step, (inl a, x))) told =
+waits_to_the_end did old new how (Ok e) never (inl (step, inl a, x)) told =
     let m = x.made in
     let made = subst (λ (t : Step). entry_for (start_at m.front) m.front.entries old.seat t ≡ Ok (Some e)) a.0
     m.made in
     let q = first_plain (start_at m.front) m.front.entries old.seat how X 1 e made in
     at_once_untimed how e.word never a.1 (sym (told_plain old.seat e q) ∙ told)
-waits_to_the_end did old new how (Ok e) never (inl (step, (inr b, x))) told =
+waits_to_the_end did old new how (Ok e) never (inl (step, inr b, x)) told =
     let t = ap (λ (w : Word). whether_by w e.end) (sym b.1) ∙ told in cc
 waits_to_the_end did old new how (Ok e) never (inr x) told = ends_untimed how old.seat e never x.end told
 waits_to_the_end did old new how (Err f) never x told = cc
