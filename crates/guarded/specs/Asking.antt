@@ -1,5 +1,5 @@
 -- What the calls of a lock ask of its monitor, and what is told of it.
-use Rattle.std.specs.Prelude.{◌≡◌, ⊥, ℕ, Bool, true, false, Option, Some, None, Result, Ok, Err}
+use Rattle.std.specs.Prelude.{◌≡◌, ℕ, Bool, true, false, Option, Some, None, Result, Ok, Err}
 use Rattle.history.specs.declared.entry.Entry.{Entry}
 use Rattle.history.specs.declared.entry.Mode.TheVariants.{X}
 use Rattle.history.specs.declared.fault.Fault.{Fault}

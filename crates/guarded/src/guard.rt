@@ -55,7 +55,7 @@ impl<'a, T: Drop, P: Parking, R: Wait + Clock, H: Hooks + Drop> Guard<'a, T, P, 
     /// The value, to be changed.
     pub fn value_mut(&mut self) -> &mut T
         requires there { IsFull self.old.slot }
-        ensures* lends { sem 𝓛 (LendsValue T.row P.row R.row H.row self.entry result) }
+        ensures* lends { sem 𝓛 (LendsValue T.row P.row R.row H.row H.Hooks self.entry result) }
         ensures value { Full result.now ≡ self.old.slot }
     {
         self.slot.value_mut()
