@@ -162,6 +162,11 @@ pub record IsWait (did : Deed → Type 0) (first : Shown) (k : Cause) (s : Stage
 abbrev pub IsWaited : (Deed → Type 0) → Shown → Stage → Limits → Entry → Shown → Type 0
 IsWaited did first s l e new = (k : Cause) → WaitsAs first.seen first.seat k → IsWait did first k s l e new
 
+-- it replied with the entry that ended its wait
+abbrev pub IsReply : (Deed → Type 0) → Shown → Stage → Limits → Result Entry Fault → Shown → Type 0
+IsReply did first s l (Ok e) new = IsWaited did first s l e new
+IsReply did first s l (Err f) new = ⊥
+
 -- the stage of one who hasn't lapsed: as it began, or given up, but not in line
 abbrev pub IsStage : (Deed → Type 0) → ℕ → Limits → Stage → Cause → Stage → Type 0
 IsStage did i l s (in_line a) stage = stage ≡ s

@@ -6,22 +6,21 @@ ghost use Rattle.monitor.specs.Shown.{IsTrue};
 ghost use Rattle.monitor.specs.Stepping.{IsSame};
 ghost use Rattle.monitor.specs.AwaitOn.{IsAwait, first_stage};
 
-use crate::how::{How, limits};
-use crate::interrupts::Interrupts;
+use crate::how::How;
 use crate::load::{Empty, Load};
+use crate::machine::Request;
 use crate::monitor::Monitor;
 use crate::pass::Pass;
 use crate::waiting::Stage;
 use frame::hooks::Hooks;
-use history::entry::{Entry, Mode, Word};
+use history::entry::Entry;
 use history::fault::Fault;
-use history::step::Step;
 use permit::Parking;
 use std::sync::Wait;
 use std::time::Clock;
 
 // An await without time expires before it parks.
-fn first_stage(how: How) -> Stage
+pub(crate) fn first_stage(how: How) -> Stage
     ensures { result ≡ first_stage how }
 {
     match how {
@@ -90,19 +89,6 @@ impl<H: Hooks + Drop, L: Load> Monitor<H, L> {
         ensures awaited { IsAwait (P.did parking.now) pass.old condition how result pass.new }
         ensures carries { L.carries load.new (holds_of pass.new) }
     {
-        if let Some(interrupts) = Interrupts::at_entry(parking, pass, how) {
-            return self.refuse(rt, parking, pass, load, Mode::X, 1, interrupts);
-        }
-        let limits = limits(rt, parking, how);
-        match self.enter(rt, parking, pass, load, Step::Await(condition)) {
-            Err(fault) => Err(fault),
-            Ok(entry) => match entry.word {
-                Word::Await => {
-                    let last = self.wait(rt, parking, pass, load, first_stage(how), limits);
-                    Ok(last)
-                }
-                _ => Ok(entry),
-            },
-        }
+        self.make(rt, parking, pass, load, Request::AwaitOn(condition), how)
     }
 }

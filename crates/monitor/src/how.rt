@@ -1,6 +1,7 @@
 //! How long a call waits.
 ghost use Rattle.std.specs.Prelude.{◌≡◌};
-ghost use Rattle.monitor.specs.Acquire.{IsUntil, LimitsFor, is_interruptible, moment_after};
+ghost use Rattle.monitor.specs.Acquire.{is_interruptible, moment_after};
+ghost use Rattle.monitor.specs.Machine.{WasShown, limits_from};
 
 use crate::waiting::Limits;
 use permit::Parking;
@@ -34,22 +35,28 @@ fn moment_after(moment: u64, milliseconds: u32) -> u64
     moment.saturating_add(u64::from(milliseconds))
 }
 
-fn until<P: Parking, R: Clock>(rt: &R, parking: &P, how: How) -> Option<u64>
-    ensures { IsUntil (P.did parking.now) how result }
+// How the parks of a call end: its time is counted from this moment.
+pub(crate) fn limits_from(moment: u64, how: How) -> Limits
+    ensures { result ≡ limits_from moment how }
 {
-    match how {
-        How::Timed(milliseconds) => Some(moment_after(parking.now(rt), milliseconds)),
+    let until = match how {
+        How::Timed(milliseconds) => Some(moment_after(moment, milliseconds)),
         How::Plain => None,
         How::Interruptible => None,
+    };
+    Limits {
+        until,
+        interruptible: is_interruptible(how),
     }
 }
 
-// How the parks of a call end: its time is counted from now.
-pub(crate) fn limits<P: Parking, R: Clock>(rt: &R, parking: &P, how: How) -> Limits
-    ensures { LimitsFor (P.did parking.now) how result }
+// What the clock shows, if the call is timed.
+pub(crate) fn moment<P: Parking, R: Clock>(rt: &R, parking: &P, how: How) -> u64
+    ensures { WasShown (P.did parking.now) how result }
 {
-    Limits {
-        until: until(rt, parking, how),
-        interruptible: is_interruptible(how),
+    match how {
+        How::Timed(_) => parking.now(rt),
+        How::Plain => 0,
+        How::Interruptible => 0,
     }
 }

@@ -1,17 +1,18 @@
 //! Interrupts that a parking told a call.
 ghost use Rattle.std.specs.Prelude.{◌≡◌, ◌<◌, ◌≤◌, false, true, is_some, IfSome, IsSome};
-ghost use Rattle.history.specs.declared.step.Step.TheVariants.{Interrupt};
 ghost use Rattle.monitor.specs.Acquire.{is_interruptible};
 ghost use Rattle.monitor.specs.Interrupts.{ends_interrupted, refuses_interrupted, tells_interrupt};
-ghost use Rattle.monitor.specs.Waits.{AfterPark, ComesOf};
-ghost use Rattle.permit.specs.Deed.{interrupted, took_interrupt};
+ghost use Rattle.monitor.specs.Machine.{limits_at, step_of_waiting};
+ghost use Rattle.monitor.specs.Waits.{ComesOf};
+ghost use Rattle.permit.specs.Deed.{interrupted, parked, took_interrupt};
+ghost use Rattle.permit.specs.declared.parking.Woke.TheVariants.{Deadline, Interrupted};
 
 use crate::how::{How, is_interruptible};
+use crate::machine::Waiting;
 use crate::pass::Pass;
-use crate::waiting::{Limits, Stage};
+use crate::waiting::Limits;
 use history::entry::{End, Entry, Word};
 use history::fault::Fault;
-use history::step::Step;
 use permit::{Parking, Woke};
 use std::sync::Wait;
 use std::time::Clock;
@@ -51,53 +52,43 @@ impl Interrupts {
         }
     }
 
-    /// Parks, and says to which step that leads.
-    fn park<P: Parking, R: Wait + Clock>(&mut self, rt: &R, parking: &P, limits: Limits) -> Step
-        requires place { self.old.seat < P.seats parking.now }
-        ensures seat { self.new.seat ≡ self.old.seat }
-        ensures after { AfterPark (P.did parking.now) self.old.seat limits result }
-        ensures noted { result ≡ Interrupt → self.new.taken ≡ true }
-        ensures kept { self.old.taken ≡ true → self.new.taken ≡ true }
-    {
-        match parking.park(rt, self.seat, limits.until, limits.interruptible) {
-            Woke::Permit => Step::Look,
-            Woke::Deadline => Step::Expire,
-            Woke::Interrupted => {
-                self.taken = true;
-                Step::Interrupt
-            }
-        }
-    }
-
-    /// The next step of one who waits. It parks, unless a step is due.
-    pub(crate) fn next_step<P: Parking, R: Wait + Clock>(
+    /// Parks, unless the next turn is due at once.
+    pub(crate) fn next_woke<P: Parking, R: Wait + Clock>(
         &mut self,
         rt: &R,
         parking: &P,
-        stage: Stage,
-        limits: Limits,
-    ) -> Step
+        waiting: Waiting,
+    ) -> Woke
         requires place { self.old.seat < P.seats parking.now }
         ensures seat { self.new.seat ≡ self.old.seat }
-        ensures comes { ComesOf (P.did parking.now) self.old.seat limits stage result }
+        ensures comes { ComesOf (P.did parking.now) self.old.seat waiting.limits waiting.stage
+            (step_of_waiting waiting result) }
+        ensures noted { IsSome (limits_at waiting.stage waiting.limits) → result ≡ Interrupted
+            → self.new.taken ≡ true }
+        ensures kept { self.old.taken ≡ true → self.new.taken ≡ true }
     {
-        match stage {
-            Stage::Expires => Step::Expire,
-            Stage::Parks => self.park(rt, parking, limits),
-            Stage::Looks => Step::Look,
-            Stage::GivenUp => {
-                let until = None;
-                let interruptible = false;
-                self.park(
-                    rt,
-                    parking,
-                    Limits {
-                        until,
-                        interruptible,
-                    },
-                )
-            }
+        match waiting.limits() {
+            Some(limits) => self.park(rt, parking, limits),
+            None => Woke::Permit,
         }
+    }
+
+    fn park<P: Parking, R: Wait + Clock>(&mut self, rt: &R, parking: &P, limits: Limits) -> Woke
+        requires place { self.old.seat < P.seats parking.now }
+        ensures seat { self.new.seat ≡ self.old.seat }
+        ensures done { P.did parking.now (parked self.old.seat limits.until limits.interruptible result) }
+        ensures deadline { result ≡ Deadline → IsSome limits.until }
+        ensures interrupted { result ≡ Interrupted → limits.interruptible ≡ true }
+        ensures noted { result ≡ Interrupted → self.new.taken ≡ true }
+        ensures kept { self.old.taken ≡ true → self.new.taken ≡ true }
+    {
+        let woke = parking.park(rt, self.seat, limits.until, limits.interruptible);
+        match woke {
+            Woke::Interrupted => self.taken = true,
+            Woke::Permit => {}
+            Woke::Deadline => {}
+        }
+        woke
     }
 
     /// The call ends with this reply. An interrupt that it doesn't tell is pending again.
@@ -112,7 +103,7 @@ impl Interrupts {
     }
 }
 
-fn tells_interrupt(reply: Result<Entry, Fault>) -> bool
+pub(crate) fn tells_interrupt(reply: Result<Entry, Fault>) -> bool
     ensures { result ≡ tells_interrupt reply }
 {
     match reply {

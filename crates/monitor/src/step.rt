@@ -206,7 +206,7 @@ fn named_in(answer: Result<Answer, Fault>) -> Option<u16>
     }
 }
 
-fn unpark<P: Parking>(parking: &P, named: Option<u16>)
+pub(crate) fn unpark<P: Parking>(parking: &P, named: Option<u16>)
     requires { IfSome named (λ j. j < P.seats parking.now) }
     ensures { IsUnparked (P.did parking.now) named }
 {

@@ -1,26 +1,28 @@
 //! The one loop in which every call waits.
-ghost use Rattle.std.specs.Prelude.{◌≡◌, ◌≤◌, ◌<◌, IsOk};
+ghost use Rattle.std.specs.Prelude.{◌≡◌, ◌≤◌, ◌<◌};
 ghost use Rattle.word_lock.specs.Point.{Before};
 ghost use Rattle.monitor.specs.Load.{holds_of};
 ghost use Rattle.monitor.specs.Shown.{IsTrue};
 ghost use Rattle.monitor.specs.Stepping.{IsSame};
-ghost use Rattle.monitor.specs.Waits.{IsWaited, MayBegin, Waits, ending_of, stage_behind};
+ghost use Rattle.monitor.specs.Waits.{IsReply, MayBegin, Waits, stage_asleep};
 
 use crate::interrupts::Interrupts;
 use crate::load::Load;
+use crate::machine::{Next, Waiting};
 use crate::monitor::Monitor;
 use crate::pass::Pass;
+use crate::step::unpark;
 use frame::hooks::Hooks;
-use history::entry::{Entry, Word};
+use history::entry::Entry;
 use history::fault::Fault;
-use history::step::{Answer, Step};
+use history::step::Step;
 use permit::Parking;
 use std::sync::Wait;
 use std::time::Clock;
 
 /// What else than a permit ends a park.
-#[derive(Clone, Copy)]
-pub(crate) struct Limits {
+#[derive(Clone, Copy, Debug, PartialEq, Eq)]
+pub struct Limits {
     pub until: Option<u64>,
     pub interruptible: bool,
 }
@@ -38,31 +40,13 @@ pub(crate) enum Stage {
     GivenUp,
 }
 
-// The stage behind a step that didn't end the wait. If it recorded an entry, that was a lapse.
-fn stage_behind(stage: Stage, step: Step, answer: Result<Answer, Fault>) -> Stage
-    ensures { result ≡ stage_behind stage step answer }
+// The stage behind a step that recorded nothing.
+pub(crate) fn stage_asleep(stage: Stage, step: Step) -> Stage
+    ensures { result ≡ stage_asleep stage step }
 {
-    match answer {
-        Ok(Answer::Recorded(_, _)) => Stage::Looks,
-        _ => match (stage, step) {
-            (Stage::Parks, Step::Look) => Stage::Parks,
-            _ => Stage::GivenUp,
-        },
-    }
-}
-
-// The entry that ended the wait. A lapse ends none.
-fn ending(answer: Result<Answer, Fault>) -> Option<Entry>
-    requires { IsOk answer }
-    ensures { result ≡ ending_of answer }
-{
-    match answer {
-        Ok(Answer::Recorded(entry, _)) => match entry.word {
-            Word::Lapse => None,
-            _ => Some(entry),
-        },
-        Ok(Answer::Sleep) => None,
-        Err(_) => unreachable!(),
+    match (stage, step) {
+        (Stage::Parks, Step::Look) => Stage::Parks,
+        _ => Stage::GivenUp,
     }
 }
 
@@ -74,31 +58,33 @@ impl<H: Hooks + Drop, L: Load> Monitor<H, L> {
         parking: &P,
         pass: &mut Pass,
         load: &mut L,
-        first: Stage,
-        limits: Limits,
-    ) -> Entry
+        waiting: Waiting,
+    ) -> Result<Entry, Fault>
         requires is_of { pass.old.lock ≡ self.now }
         requires places { self.now.header.seats ≤ P.seats parking.now }
         requires waits { Waits pass.old.seen pass.old.seat }
-        requires first { MayBegin limits first }
+        requires first { MayBegin waiting.limits waiting.stage }
         requires carries { L.carries load.old (holds_of pass.old) }
         ensures same { IsSame pass.old pass.new }
         ensures begins { Before pass.old.seen pass.new.seen }
         ensures shows { IsTrue pass.new }
-        ensures waited { IsWaited (P.did parking.now) pass.old first limits result pass.new }
+        ensures waited { IsReply (P.did parking.now) pass.old waiting.stage waiting.limits result pass.new }
         ensures carries { L.carries load.new (holds_of pass.new) }
     {
         pass.is_true();
         let mut interrupts = Interrupts::none(pass.seat());
-        let mut stage = first;
+        let mut waiting = waiting;
         for _ in rt.forever() {
-            let step = interrupts.next_step(rt, parking, stage, limits);
-            let answer = self.call(rt, parking, pass, load, step);
-            if let Some(entry) = ending(answer) {
-                interrupts.settle(parking, Ok(entry));
-                return entry;
+            let woke = interrupts.next_woke(rt, parking, waiting);
+            let turn = self.go_on(rt, pass, load, waiting, woke);
+            unpark(parking, turn.named);
+            match turn.next {
+                Next::Ends { reply, again: _ } => {
+                    interrupts.settle(parking, reply);
+                    return reply;
+                }
+                Next::Waits(next) => waiting = next,
             }
-            stage = stage_behind(stage, step, answer);
         }
         unreachable!()
     }

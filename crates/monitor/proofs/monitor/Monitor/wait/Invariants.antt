@@ -6,6 +6,8 @@ use Rattle.monitor.proofs.monitor.Monitor.wait.Given as goal
 abbrev pub invariant-loop : goal.invariant-loop
 invariant-loop g l =
     (goal.iterator-loop g).can_next l.iterator' × (goal.iterator-loop g).is_finite l.iterator'
-    × AllStillWait (g.P.Parking.did l.parking) l.fn.pass l.fn.first l.fn.limits l.pass l.stage
+    × AllStillWait (g.P.Parking.did l.parking) l.fn.pass l.fn.waiting.stage l.fn.waiting.limits l.pass
+    l.waiting.stage
+    × (l.waiting.limits ≡ l.fn.waiting.limits)
     × (l.interrupts.seat ≡ l.fn.pass.seat)
     × g.L.Load.carries l.load (holds_of l.pass)
