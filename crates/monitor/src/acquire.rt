@@ -150,9 +150,9 @@ impl<H: Hooks + Drop, L: Load> Monitor<H, L> {
         ensures carries { L.carries load.new (holds_of pass.new) }
     {
         pass.is_true();
-        let turn = self.begin(rt, pass, load, request, how, 0, true);
-        unpark(parking, turn.named);
-        match turn.next {
+        let refusal = self.begin(rt, pass, load, request, how, 0, true);
+        unpark(parking, refusal.named);
+        match refusal.next {
             Next::Ends { reply, again: _ } => {
                 interrupts.settle(parking, reply);
                 reply
