@@ -23,7 +23,9 @@ use Rattle.monitor.specs.AwaitOn.{first_stage}
 use Rattle.monitor.specs.Interrupts.{tells_interrupt}
 use Rattle.monitor.specs.Machine.{IsBegun, IsCall, IsGoneOn, WasShown, at_stage, begins_wait, begun, first_turn, later_turn, limits_at, limits_from, next_behind, next_by, stage_for, step_at, step_by, step_of_waiting, step_within}
 use Rattle.monitor.specs.Shown.{Shown, IsTrue}
-use Rattle.monitor.specs.Stepping.{IsSame, IsStep, IsUnparked, named_in}
+use Rattle.monitor.specs.Stepping.{IsSame, IsStep, IsStepNow, IsUnparked, answer_of, named_in}
+use Rattle.monitor.specs.declared.step.Now.{Now}
+use Rattle.monitor.specs.declared.step.Now.TheVariants.{Done, Busy}
 use Rattle.monitor.specs.Waits.{AfterPark, AllStillWait, ComesOf, IsReply, IsWaited, MayBegin, WaitsAs, ending_of, in_line, is_lapse, no_limits, on_condition, stage_asleep, stage_behind, unless_lapse, asking}
 use Rattle.monitor.specs.Waits as of_waits
 use Rattle.monitor.specs.declared.how.How.{How}
@@ -413,3 +415,18 @@ comes_at did i l Expires woke p = refl
 comes_at did i l Parks woke p = parked_within did i l woke (p l refl)
 comes_at did i l Looks woke p = refl
 comes_at did i l GivenUp woke p = parked_none did i woke (p no_limits refl)
+
+-- a step that waited for nobody
+pub stepped_now : (old new : Shown) (step : Step) (reply : Result Now Fault) (r : Result Answer Fault) →
+    IsStepNow old step reply new → answer_of reply ≡ Some r → IsStep old step r new
+stepped_now old new step (Ok (Done a)) r s q =
+    let same : Ok a ≡ r = cc in subst (λ (z : Result Answer Fault). IsStep old step z new) same s
+stepped_now old new step (Ok Busy) r s q = cc
+stepped_now old new step (Err f) r s q =
+    let same : Err f ≡ r = cc in subst (λ (z : Result Answer Fault). IsStep old step z new) same s
+
+pub busy_now : (old new : Shown) (step : Step) (reply : Result Now Fault) → IsStepNow old step reply new →
+    answer_of reply ≡ None → new ≡ old
+busy_now old new step (Ok (Done a)) s q = cc
+busy_now old new step (Ok Busy) s q = s
+busy_now old new step (Err f) s q = cc

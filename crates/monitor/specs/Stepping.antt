@@ -44,6 +44,11 @@ abbrev pub now_of : Result Answer Fault → Result Now Fault
 now_of (Ok answer) = Ok (Done answer)
 now_of (Err fault) = Err fault
 
+abbrev pub answer_of : Result Now Fault → Option (Result Answer Fault)
+answer_of (Ok (Done answer)) = Some (Ok answer)
+answer_of (Ok Busy) = None
+answer_of (Err fault) = Some (Err fault)
+
 -- a step that waits for nobody
 abbrev pub IsStepNow : Shown → Step → Result Now Fault → Shown → Type 0
 IsStepNow old step (Ok (Done answer)) new = IsStep old step (Ok answer) new

@@ -8,12 +8,12 @@
 //! A call begins by [`begin`](Monitor::begin). Each turn says which seat its step named: unpark it. It says
 //! too whether the call has ended, or waits. One that waits goes on by [`go_on`](Monitor::go_on), once its
 //! seat was parked as [`Waiting`] says, or at once.
-ghost use Rattle.std.specs.Prelude.{◌≡◌, ◌≢◌, IsOk};
+ghost use Rattle.std.specs.Prelude.{◌≡◌, ◌≢◌, IfNone, IfSome, IsOk};
 ghost use Rattle.history.specs.declared.step.Answer.TheVariants.{Sleep};
 ghost use Rattle.monitor.specs.Load.{holds_of};
 ghost use Rattle.monitor.specs.Machine.{IsBegun, IsGoneOn, at_stage, begins_wait, begun, first_turn, is_interrupt, later_turn, limits_at, next_behind, stage_for, step_by, step_of_waiting, step_within};
 ghost use Rattle.monitor.specs.Shown.{IsTrue};
-ghost use Rattle.monitor.specs.Stepping.{IsSame};
+ghost use Rattle.monitor.specs.Stepping.{IsSame, answer_of};
 ghost use Rattle.monitor.specs.Waits.{Waits, is_lapse};
 
 use crate::acquire::first_step;
@@ -23,6 +23,7 @@ use crate::interrupts::tells_interrupt;
 use crate::load::Load;
 use crate::monitor::Monitor;
 use crate::pass::Pass;
+use crate::step::Now;
 use crate::waiting::{Limits, Stage, stage_asleep};
 use frame::hooks::Hooks;
 use history::entry::{Entry, Mode, Word};
@@ -223,6 +224,17 @@ fn is_interrupt(step: Step) -> bool
     }
 }
 
+// What a step was answered, unless the object was busy.
+fn answer_of(reply: Result<Now, Fault>) -> Option<Result<Answer, Fault>>
+    ensures { result ≡ answer_of reply }
+{
+    match reply {
+        Ok(Now::Done(answer)) => Some(Ok(answer)),
+        Ok(Now::Busy) => None,
+        Err(fault) => Some(Err(fault)),
+    }
+}
+
 fn first_turn(
     request: Request,
     how: How,
@@ -283,6 +295,32 @@ impl<H: Hooks + Drop, L: Load> Monitor<H, L> {
         first_turn(request, how, moment, interrupted, answer)
     }
 
+    /// The first turn, if nobody has the object: None changes nothing. It waits for nobody and wakes nobody who
+    /// waits for the object, as a static library must.
+    pub fn begin_quietly(
+        &self,
+        pass: &mut Pass,
+        load: &mut L,
+        request: Request,
+        how: How,
+        moment: u64,
+        interrupted: bool,
+    ) -> Option<Turn>
+        requires is_of { pass.old.lock ≡ self.now }
+        requires carries { L.carries load.old (holds_of pass.old) }
+        ensures same { IsSame pass.old pass.new }
+        ensures busy { IfNone result (pass.new ≡ pass.old) }
+        ensures begun { IfSome result (λ turn. IsBegun pass.old request how moment interrupted turn pass.new) }
+        ensures shows { IsTrue pass.new }
+        ensures carries { L.carries load.new (holds_of pass.new) }
+    {
+        let step = request.step(how, interrupted);
+        let Some(answer) = answer_of(self.step_quietly(pass, load, step)) else {
+            return None;
+        };
+        Some(first_turn(request, how, moment, interrupted, answer))
+    }
+
     /// The next turn of a call that waits, behind the park that ended so. `woke` doesn't matter if no park was due.
     pub fn go_on<R: Wait>(
         &self,
@@ -304,5 +342,30 @@ impl<H: Hooks + Drop, L: Load> Monitor<H, L> {
         let step = waiting.step(woke);
         let answer = self.step_with(rt, pass, load, step);
         waiting.turn(step, answer)
+    }
+
+    /// The next turn, if nobody has the object: None changes nothing.
+    pub fn go_on_quietly(
+        &self,
+        pass: &mut Pass,
+        load: &mut L,
+        waiting: Waiting,
+        woke: Woke,
+    ) -> Option<Turn>
+        requires is_of { pass.old.lock ≡ self.now }
+        requires waits { Waits pass.old.seen pass.old.seat }
+        requires carries { L.carries load.old (holds_of pass.old) }
+        ensures same { IsSame pass.old pass.new }
+        ensures busy { IfNone result (pass.new ≡ pass.old) }
+        ensures gone_on { IfSome result (λ turn. IsGoneOn pass.old waiting woke turn pass.new) }
+        ensures shows { IsTrue pass.new }
+        ensures carries { L.carries load.new (holds_of pass.new) }
+    {
+        pass.is_true();
+        let step = waiting.step(woke);
+        let Some(answer) = answer_of(self.step_quietly(pass, load, step)) else {
+            return None;
+        };
+        Some(waiting.turn(step, answer))
     }
 }

@@ -78,11 +78,25 @@ impl<H: Hooks + Drop, L: Load> Monitor<H, L> {
         ensures shows { IsTrue pass.new }
         ensures carries { L.carries load.new (holds_of pass.new) }
     {
+        let answer = self.step_quietly(pass, load, step);
+        self.lock.wake();
+        answer
+    }
+
+    /// The same, but it wakes nobody who waits for the object: for a static library, in which nobody waits.
+    pub fn step_quietly(&self, pass: &mut Pass, load: &mut L, step: Step) -> Result<Now, Fault>
+        requires is_of { pass.old.lock ≡ self.now }
+        requires carries { L.carries load.old (holds_of pass.old) }
+        ensures same { IsSame pass.old pass.new }
+        ensures stepped { IsStepNow pass.old step result pass.new }
+        ensures shows { IsTrue pass.new }
+        ensures carries { L.carries load.new (holds_of pass.new) }
+    {
         let Some(mut held) = self.lock.lock_now(&mut pass.token) else {
             return Ok(Now::Busy);
         };
         let answer = held.value.step(pass.seat, step, load);
-        self.lock.unlock(&mut pass.token, held);
+        self.lock.unlock_quietly(&mut pass.token, held);
         pass.share = share_behind(pass.share, &answer);
         done(answer)
     }

@@ -10,7 +10,7 @@ use Rattle.word_lock.proofs.Sections.{follows_taken}
 use Rattle.monitor.specs.Lawful.{beside_of, point_of}
 use Rattle.monitor.proofs.Loads.{own_holds, true_holds}
 use Rattle.monitor.proofs.Sections.{answered_shown, owed_shown, Section, seat_below, follows_step, share_few, own_entries, sectioned, section_pass, section_true, section_step, as_step_now}
-use Rattle.monitor.proofs.monitor.Monitor.step_now_with.Goals as goal
+use Rattle.monitor.proofs.monitor.Monitor.step_quietly.Goals as goal
 
 pub step-answer-requires-clause-seat : goal.step-answer-requires-clause-seat
 step-answer-requires-clause-seat g c =
@@ -34,8 +34,8 @@ step-answer-requires-clause-carries g c =
     (sym (ap holds_of c.pass.view_is) ∙ same)
     c.requires.carries
 
-pub unlock-requires-clause-follows : goal.unlock-requires-clause-follows
-unlock-requires-clause-follows g c =
+pub unlock_quietly-requires-clause-follows : goal.unlock_quietly-requires-clause-follows
+unlock_quietly-requires-clause-follows g c =
     follows_taken _ c.pass.inside.token _ _ c.pass.inside.seat c.in-Some.ensures.taken.1
     c.pass.invariant.seat_is
     (follows_step c.pass.inside.seat (point_of c.in-Some.held.value.laden.value.core)
@@ -53,13 +53,13 @@ share_behind-pass-inside-requires g c =
     i.counted
 
 went : (g : _) (c : goal.After-done g) → Section c.pass.inside.token (held_ticket c.in-Some.held)
-    c.unlock.new.token
+    c.unlock_quietly.new.token
     (point_of c.in-Some.held.value.laden.value.core) (point_of c.step-answer.new.self.laden.value.core) c.pass.inside.seat
     c.pass.inside.share
     c.args.step c.step-answer.result
 went g c = record {
   taken = c.in-Some.ensures.taken.1;
-  given = c.unlock.ensures;
+  given = c.unlock_quietly.ensures;
   was = c.pass.invariant;
   begins = c.in-Some.ensures.begins;
   entries = c.in-Some.ensures.entries;
@@ -84,7 +84,7 @@ returns-clause-stepped g c =
     c.in-Some.ensures.fact.0
     c.step-answer.ensures.owed)))
 
-shows : (g : _) (c : goal.After-done g) → IsTrue (shown c.unlock.new.token c.pass.inside.seat
+shows : (g : _) (c : goal.After-done g) → IsTrue (shown c.unlock_quietly.new.token c.pass.inside.seat
     c.share_behind-pass-inside.result)
 shows g c = section_true _ _ _ _ _ _ _ _ _ (went g c) _ c.share_behind-pass-inside.ensures
 
@@ -93,7 +93,7 @@ returns-clause-shows g c = shows g c
 
 pub returns-clause-carries : goal.returns-clause-carries
 returns-clause-carries g c =
-    let new : Shown = shown c.unlock.new.token c.pass.inside.seat c.share_behind-pass-inside.result in
+    let new : Shown = shown c.unlock_quietly.new.token c.pass.inside.seat c.share_behind-pass-inside.result in
     let seen = (sectioned _ _ _ _ _ _ _ _ _ (went g c)).seen in
     subst (λ (f : Mode → ℕ). g.L.Load.carries c.step-answer.new.there f)
     (sym (true_holds new (shows g c)

@@ -1,6 +1,6 @@
 use Rattle.std.proofs.Common.{rules, arith}
 use Rattle.std.proofs.lemmas.Grind.{common_steps}
-use Rattle.word_lock.proofs.lock.WordLock.unlock.Goals as goal
+use Rattle.word_lock.proofs.lock.WordLock.unlock_quietly.Goals as goal
 
 pub put_value-requires-clause-fact : goal.put_value-requires-clause-fact
 put_value-requires-clause-fact g c = search rules
