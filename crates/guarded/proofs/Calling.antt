@@ -1,8 +1,9 @@
 -- What the calls of a lock leave of a pass's holds, and of the value that it has.
-use Rattle.std.proofs.Common.{◌≡◌, ⊥, ℕ, ◌+◌, ◌<◌, Bool, true, false, Result, Ok, Err, refl, sym, ap, ◌∙◌, subst, arith}
+use Rattle.std.proofs.Common.{◌≡◌, ℕ, ◌+◌, ◌<◌, Bool, true, false, Result, Ok, Err, refl, sym, ap, ◌∙◌, subst, arith}
 use Rattle.history.specs.declared.entry.Entry.{Entry}
 use Rattle.history.specs.declared.fault.Fault.{Fault}
 use Rattle.history.specs.Object.{is_lock}
+use Rattle.permit.specs.Deed.{Deed}
 use Rattle.word_lock.specs.Ticket.{LockId}
 use Rattle.monitor.specs.Shown.{Shown}
 use Rattle.monitor.specs.Stepping.{IsSame}
@@ -19,13 +20,13 @@ use Rattle.guarded.specs.declared.slot.Slot.TheVariants.{Empty, Full}
 use Rattle.guarded.specs.Stowed.{Carries, IsFull, IsOfLock, MutexView, mutex_view}
 
 -- a call adds the holds that it tells of
-pub call_gains : (a : Asked) (old new : Shown) (r : Result Entry Fault) →
-    is_lock old.lock.header.object ≡ true → IsSame old new → call_of a old r new →
+pub call_gains : (did : Deed → Type 0) (a : Asked) (old new : Shown) (r : Result Entry Fault) →
+    is_lock old.lock.header.object ≡ true → IsSame old new → call_of did a old r new →
     holds new ≡ holds old + gained_by a r
-call_gains (asked.Acquire how) old new r lock same made = acquire_gains old new how r lock same made
-call_gains (asked.Try) old new r lock same made = try_gains old new r lock same made
-call_gains (asked.Await condition how) old new r lock same made =
-    let keeps = await_holds old new condition how r same made in omega (arith, keeps)
+call_gains did (asked.Acquire how) old new r lock same made = acquire_gains did old new how r lock same made
+call_gains did (asked.Try) old new r lock same made = try_gains did old new r lock same made
+call_gains did (asked.Await condition how) old new r lock same made =
+    let keeps = await_holds did old new condition how r same made in omega (arith, keeps)
 
 -- a pass of such a lock is of a lock
 pub is_of_lock : (monitor : LockId) (when_full : WhenFull) (m : MutexView) (p : Shown) →

@@ -1,9 +1,10 @@
 -- Calls that make room where there is none.
-use Rattle.std.proofs.Common.{◌≡◌, ⊥, ◌⊎◌, inl, inr, ⊎_elim, ℕ, Bool, true, false, Result, Ok, Err, refl, sym, ap, ◌∙◌, subst}
+use Rattle.std.proofs.Common.{◌≡◌, ◌⊎◌, inl, inr, ⊎_elim, ℕ, Bool, true, false, Result, Ok, Err, refl, sym, ap, ◌∙◌, subst}
 use Rattle.history.specs.declared.entry.Entry.{Entry}
 use Rattle.history.specs.declared.fault.Fault.{Fault}
 use Rattle.history.specs.declared.fault.Fault.TheVariants.{HistoryFull}
 use Rattle.history.specs.declared.step.Step.{Step}
+use Rattle.permit.specs.Deed.{Deed}
 use Rattle.word_lock.specs.Point.{Before}
 use Rattle.monitor.specs.Acquire.{is_timed}
 use Rattle.monitor.specs.Shown.{Shown}
@@ -69,12 +70,12 @@ last_call w call old new r (inr (inl x)) = inl (x.folded, x.again)
 last_call w call old new r (inr (inr x)) = inr (x.fault, x.is)
 
 -- an acquire that waits as long as it must isn't told as missed
-pub never_missed : (w : WhenFull) (how : How) (old new : Shown) (r : Result Entry Fault) →
-    (is_timed how → ⊥) → WithRoom w (acquires how) old r new → whether_of r ≡ Ok false → ⊥
-never_missed w how old new r never made told =
-    ⊎_elim (λ x. waits_to_the_end x.0 new how r never x.1 told)
+pub never_missed : (did : Deed → Type 0) (w : WhenFull) (how : How) (old new : Shown) (r : Result Entry Fault) →
+    (is_timed how → ⊥) → WithRoom w (acquires did how) old r new → whether_of r ≡ Ok false → ⊥
+never_missed did w how old new r never made told =
+    ⊎_elim (λ x. waits_to_the_end did x.0 new how r never x.1 told)
     (λ x. let t = ap whether_of (sym x.1) ∙ told in cc)
-    (last_call w (acquires how) old new r made)
+    (last_call w (acquires did how) old new r made)
 
 -- a call that found no room added no holds
 pub full_gains : (w : WhenFull) (a : Asked) (r : Result Entry Fault) → lacks_room w r ≡ true → gained_by a r ≡ 0
@@ -90,7 +91,7 @@ fault_gains (asked.Acquire how) f = refl
 fault_gains (asked.Try) f = refl
 fault_gains (asked.Await condition how) f = refl
 
-pub entered_after : (old new : Shown) (step : Step) (r : Result Entry Fault) → IsEntered old step r new →
-    Before old.seen new.seen
-entered_after old new step (Ok e) s = s.1.after
-entered_after old new step (Err f) s = s.after
+pub entered_after : (did : Deed → Type 0) (old new : Shown) (step : Step) (r : Result Entry Fault) →
+    IsEntered did old step r new → Before old.seen new.seen
+entered_after did old new step (Ok e) s = s.1.after
+entered_after did old new step (Err f) s = s.after

@@ -1,5 +1,5 @@
 -- What the calls of a lock ask of its monitor, and what is told of it.
-use Rattle.std.specs.Prelude.{◌≡◌, ⊥, ℕ, Bool, true, false, Option, Some, None, Result, Ok, Err}
+use Rattle.std.specs.Prelude.{◌≡◌, ℕ, Bool, true, false, Option, Some, None, Result, Ok, Err}
 use Rattle.history.specs.declared.entry.Entry.{Entry}
 use Rattle.history.specs.declared.entry.Mode.TheVariants.{X}
 use Rattle.history.specs.declared.fault.Fault.{Fault}
@@ -12,33 +12,34 @@ use Rattle.monitor.specs.Stepping.{IsEntered}
 use Rattle.monitor.specs.declared.how.How.{How}
 use Rattle.monitor_fronts.specs.Holding.{gained}
 use Rattle.monitor_fronts.specs.Told.{done_of, whether_of}
+use Rattle.permit.specs.Deed.{Deed}
 use Rattle.guarded.specs.declared.asking.Asked.{Asked}
 use Rattle.guarded.specs.declared.asking.Asked.TheVariants as asked
 use Rattle.guarded.specs.declared.full.WhenFull.{WhenFull}
 use Rattle.guarded.specs.Full.{Call, WithRoom}
 
 -- the calls of the monitor
-abbrev pub acquires : How → Call
-acquires how old reply new = IsAcquire old X 1 how reply new
+abbrev pub acquires : (Deed → Type 0) → How → Call
+acquires did how old reply new = IsAcquire did old X 1 how reply new
 
-abbrev pub tries : Call
-tries old reply new = IsEntered old (Try X 1) reply new
+abbrev pub tries : (Deed → Type 0) → Call
+tries did old reply new = IsEntered did old (Try X 1) reply new
 
-abbrev pub awaits : ℕ → How → Call
-awaits condition how old reply new = IsAwait old condition how reply new
+abbrev pub awaits : (Deed → Type 0) → ℕ → How → Call
+awaits did condition how old reply new = IsAwait did old condition how reply new
 
 -- to one sleeper, or to all
 abbrev pub signal_step : Bool → ℕ → Step
 signal_step true condition = SignalAll condition
 signal_step false condition = Signal condition
 
-abbrev pub signals : Bool → ℕ → Call
-signals all condition old reply new = IsEntered old (signal_step all condition) reply new
+abbrev pub signals : (Deed → Type 0) → Bool → ℕ → Call
+signals did all condition old reply new = IsEntered did old (signal_step all condition) reply new
 
-abbrev pub call_of : Asked → Call
-call_of (asked.Acquire how) = acquires how
-call_of (asked.Try) = tries
-call_of (asked.Await condition how) = awaits condition how
+abbrev pub call_of : (Deed → Type 0) → Asked → Call
+call_of did (asked.Acquire how) = acquires did how
+call_of did (asked.Try) = tries did
+call_of did (asked.Await condition how) = awaits did condition how
 
 -- the calls of one who doesn't hold yet
 abbrev pub IsTake : Asked → Type 0
@@ -67,8 +68,8 @@ with_yes (Ok u) = Ok true
 with_yes (Err f) = Err f
 
 -- the step was recorded
-abbrev pub IsRecorded : Shown → Step → Shown → Type 0
-IsRecorded old step new = (e : Entry) × IsEntered old step (Ok e) new
+abbrev pub IsRecorded : (Deed → Type 0) → Shown → Step → Shown → Type 0
+IsRecorded did old step new = (e : Entry) × IsEntered did old step (Ok e) new
 
 -- whether there is something
 abbrev pub is_there : {T : Type 0} → Option T → Bool

@@ -2,11 +2,12 @@
 use Rattle.std.specs.Prelude.{[]}
 use Rattle.std.specs.Borrow.{Lends, MutBor, Fml, RattleType}
 use mir.Syntax.{named}
+use Rattle.frame.specs.declared.hooks.Hooks.{Ghosts}
 use Rattle.guarded.specs.declared.guard.Guard.{Guard}
 use Rattle.guarded.specs.declared.slot.Slot.TheVariants.{Full}
 use Rattle.guarded.specs.contracts.guard.Guard.{the_row}
 
-abbrev pub LendsValue : (T P R H : RattleType) → MutBor (Guard T.Denot P.Denot R.Denot H.Denot) →
-    MutBor T.Denot → Fml
-LendsValue T P R H s r =
-    Lends (the_row (record { mir = named 0; lft = [] }) T P R H) T s r (λ w. record s.now { slot = Full w })
+abbrev pub LendsValue : (T P R H : RattleType) → Ghosts H.Denot →
+    MutBor (Guard T.Denot P.Denot R.Denot H.Denot) → MutBor T.Denot → Fml
+LendsValue T P R H hooks s r =
+    Lends (the_row (record { mir = named 0; lft = [] }) T P R H hooks) T s r (λ w. record s.now { slot = Full w })

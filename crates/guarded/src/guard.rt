@@ -55,7 +55,7 @@ impl<'a, T: Drop, P: Parking, R: Wait + Clock, H: Hooks + Drop> Guard<'a, T, P, 
     /// The value, to be changed.
     pub fn value_mut(&mut self) -> &mut T
         requires there { IsFull self.old.slot }
-        ensures* lends { sem 𝓛 (LendsValue T.row P.row R.row H.row self.entry result) }
+        ensures* lends { sem 𝓛 (LendsValue T.row P.row R.row H.row H.Hooks self.entry result) }
         ensures value { Full result.now ≡ self.old.slot }
     {
         self.slot.value_mut()
@@ -71,7 +71,7 @@ impl<'a, T: Drop, P: Parking, R: Wait + Clock, H: Hooks + Drop> Guard<'a, T, P, 
         ensures same { IsSame self.old.pass.now self.new.pass.now }
         ensures guards { Guards self.new.lock.now (P.seats self.new.parking.now) self.new.pass.now self.new.slot }
         ensures keeps { holds self.new.pass.now ≡ holds self.old.pass.now }
-        ensures awaited { Tells self.old.lock.now.when_full (awaits condition Interruptible) self.old.pass.now
+        ensures awaited { Tells self.old.lock.now.when_full (awaits (P.did self.old.parking.now) condition Interruptible) self.old.pass.now
             self.new.pass.now result }
     {
         let pass = &mut *self.pass;
@@ -92,7 +92,7 @@ impl<'a, T: Drop, P: Parking, R: Wait + Clock, H: Hooks + Drop> Guard<'a, T, P, 
         ensures same { IsSame self.old.pass.now self.new.pass.now }
         ensures guards { Guards self.new.lock.now (P.seats self.new.parking.now) self.new.pass.now self.new.slot }
         ensures keeps { holds self.new.pass.now ≡ holds self.old.pass.now }
-        ensures awaited { Tells self.old.lock.now.when_full (awaits condition (Timed ms)) self.old.pass.now
+        ensures awaited { Tells self.old.lock.now.when_full (awaits (P.did self.old.parking.now) condition (Timed ms)) self.old.pass.now
             self.new.pass.now result }
     {
         let pass = &mut *self.pass;
@@ -114,7 +114,7 @@ impl<'a, T: Drop, P: Parking, R: Wait + Clock, H: Hooks + Drop> Guard<'a, T, P, 
         ensures same { IsSame self.old.pass.now self.new.pass.now }
         ensures guards { Guards self.new.lock.now (P.seats self.new.parking.now) self.new.pass.now self.new.slot }
         ensures keeps { holds self.new.pass.now ≡ holds self.old.pass.now }
-        ensures awaited { Tells self.old.lock.now.when_full (awaits condition Plain) self.old.pass.now
+        ensures awaited { Tells self.old.lock.now.when_full (awaits (P.did self.old.parking.now) condition Plain) self.old.pass.now
             self.new.pass.now result }
     {
         let pass = &mut *self.pass;
@@ -136,7 +136,7 @@ impl<'a, T: Drop, P: Parking, R: Wait + Clock, H: Hooks + Drop> Guard<'a, T, P, 
         ensures same { IsSame self.old.pass.now self.new.pass.now }
         ensures guards { Guards self.new.lock.now (P.seats self.new.parking.now) self.new.pass.now self.new.slot }
         ensures keeps { holds self.new.pass.now ≡ holds self.old.pass.now }
-        ensures signalled { TellsDone self.old.lock.now.when_full (signals false condition) self.old.pass.now
+        ensures signalled { TellsDone self.old.lock.now.when_full (signals (P.did self.old.parking.now) false condition) self.old.pass.now
             self.new.pass.now result }
         ensures value { self.new.slot ≡ self.old.slot }
     {
@@ -155,7 +155,7 @@ impl<'a, T: Drop, P: Parking, R: Wait + Clock, H: Hooks + Drop> Guard<'a, T, P, 
         ensures same { IsSame self.old.pass.now self.new.pass.now }
         ensures guards { Guards self.new.lock.now (P.seats self.new.parking.now) self.new.pass.now self.new.slot }
         ensures keeps { holds self.new.pass.now ≡ holds self.old.pass.now }
-        ensures signalled { TellsDone self.old.lock.now.when_full (signals true condition) self.old.pass.now
+        ensures signalled { TellsDone self.old.lock.now.when_full (signals (P.did self.old.parking.now) true condition) self.old.pass.now
             self.new.pass.now result }
         ensures value { self.new.slot ≡ self.old.slot }
     {
@@ -171,7 +171,7 @@ impl<'a, T: Drop, P: Parking, R: Wait + Clock, H: Hooks + Drop> Guard<'a, T, P, 
         ensures same { IsSame self.old.pass.now self.new.pass.now }
         ensures guards { Guards self.new.lock.now (P.seats self.new.parking.now) self.new.pass.now self.new.slot }
         ensures gains { holds self.new.pass.now ≡ holds self.old.pass.now + gained result }
-        ensures acquired { Tells self.old.lock.now.when_full (acquires Plain) self.old.pass.now
+        ensures acquired { Tells self.old.lock.now.when_full (acquires (P.did self.old.parking.now) Plain) self.old.pass.now
             self.new.pass.now result }
     {
         let pass = &mut *self.pass;
@@ -186,7 +186,7 @@ impl<'a, T: Drop, P: Parking, R: Wait + Clock, H: Hooks + Drop> Guard<'a, T, P, 
         ensures same { IsSame self.old.pass.now self.new.pass.now }
         ensures guards { Guards self.new.lock.now (P.seats self.new.parking.now) self.new.pass.now self.new.slot }
         ensures loses { holds self.new.pass.now + 1 ≡ holds self.old.pass.now }
-        ensures recorded { IsRecorded self.old.pass.now (Give X 1) self.new.pass.now }
+        ensures recorded { IsRecorded (P.did self.old.parking.now) self.old.pass.now (Give X 1) self.new.pass.now }
     {
         let pass = &mut *self.pass;
         self.lock.leave(self.rt, self.parking, pass, &mut self.slot);
@@ -199,7 +199,7 @@ impl<'a, T: Drop, P: Parking, R: Wait + Clock, H: Hooks + Drop> Guard<'a, T, P, 
         ensures free { holds self.exit.0.now ≡ 0 }
         ensures same { IsSame self.entry.pass.now self.exit.0.now }
         ensures shows { IsTrue self.exit.0.now }
-        ensures recorded { IsRecorded self.entry.pass.now (Give X 1) self.exit.0.now }
+        ensures recorded { IsRecorded (P.did self.entry.parking.now) self.entry.pass.now (Give X 1) self.exit.0.now }
     {}
 }
 
@@ -210,7 +210,7 @@ impl<T: Drop, P: Parking, R: Wait + Clock, H: Hooks + Drop> Drop for Guard<'_, T
         ensures free { holds self.exit.0.now ≡ 0 }
         ensures same { IsSame self.entry.pass.now self.exit.0.now }
         ensures shows { IsTrue self.exit.0.now }
-        ensures recorded { IsRecorded self.entry.pass.now (Give X 1) self.exit.0.now }
+        ensures recorded { IsRecorded (P.did self.entry.parking.now) self.entry.pass.now (Give X 1) self.exit.0.now }
     {
         let Guard {
             pass,

@@ -36,12 +36,12 @@ impl<T: Drop, H: Hooks + Drop> Mutex<T, H> {
         requires places { lock.now.lock.header.seats ≤ P.seats parking.now }
         requires free { holds pass.old ≡ 0 }
         ensures* not_locked { sem 𝓛 (RestsIfErr the_row pass.entry (λ guard. guard.pass.ghost_name) result
-            (λ last. NotLocked lock.now.when_full (acquires Plain) pass.old (told_by result) last)) }
+            (λ last. NotLocked lock.now.when_full (acquires (P.did parking.now) Plain) pass.old (told_by result) last)) }
         ensures same_reference { IfOk result (λ guard. guard.pass.ghost_name ≡ pass.entry.ghost_name) }
         ensures guards { IfOk result (λ guard.
             Guards guard.lock.now (P.seats guard.parking.now) guard.pass.now guard.slot) }
         ensures locked { IfOk result (λ guard.
-            Locked lock.now.when_full (acquires Plain) pass.old guard.slot guard.pass.now) }
+            Locked lock.now.when_full (acquires (P.did parking.now) Plain) pass.old guard.slot guard.pass.now) }
     {
         let slot = lock.take(rt, parking, pass, How::Plain)?;
         Ok(Guard {
@@ -65,12 +65,12 @@ impl<T: Drop, H: Hooks + Drop> Mutex<T, H> {
         requires places { lock.now.lock.header.seats ≤ P.seats parking.now }
         requires free { holds pass.old ≡ 0 }
         ensures* not_locked { sem 𝓛 (RestsIfErr the_row pass.entry (λ guard. guard.pass.ghost_name) result
-            (λ last. NotLocked lock.now.when_full (acquires Interruptible) pass.old (told_by result) last)) }
+            (λ last. NotLocked lock.now.when_full (acquires (P.did parking.now) Interruptible) pass.old (told_by result) last)) }
         ensures same_reference { IfOk result (λ guard. guard.pass.ghost_name ≡ pass.entry.ghost_name) }
         ensures guards { IfOk result (λ guard.
             Guards guard.lock.now (P.seats guard.parking.now) guard.pass.now guard.slot) }
         ensures locked { IfOk result (λ guard.
-            Locked lock.now.when_full (acquires Interruptible) pass.old guard.slot guard.pass.now) }
+            Locked lock.now.when_full (acquires (P.did parking.now) Interruptible) pass.old guard.slot guard.pass.now) }
     {
         let slot = lock.take(rt, parking, pass, How::Interruptible)?;
         Ok(Guard {
@@ -94,12 +94,12 @@ impl<T: Drop, H: Hooks + Drop> Mutex<T, H> {
         requires places { lock.now.lock.header.seats ≤ P.seats parking.now }
         requires free { holds pass.old ≡ 0 }
         ensures* not_locked { sem 𝓛 (RestsIfErr the_row pass.entry (λ guard. guard.pass.ghost_name) result
-            (λ last. NotLocked lock.now.when_full tries pass.old (told_if result) last)) }
+            (λ last. NotLocked lock.now.when_full (tries (P.did parking.now)) pass.old (told_if result) last)) }
         ensures same_reference { IfOk result (λ guard. guard.pass.ghost_name ≡ pass.entry.ghost_name) }
         ensures guards { IfOk result (λ guard.
             Guards guard.lock.now (P.seats guard.parking.now) guard.pass.now guard.slot) }
         ensures locked { IfOk result (λ guard.
-            Locked lock.now.when_full tries pass.old guard.slot guard.pass.now) }
+            Locked lock.now.when_full (tries (P.did parking.now)) pass.old guard.slot guard.pass.now) }
     {
         let slot = lock.try_take(rt, parking, pass, Asked::Try)?;
         Ok(Guard {
@@ -125,12 +125,12 @@ impl<T: Drop, H: Hooks + Drop> Mutex<T, H> {
         requires places { lock.now.lock.header.seats ≤ P.seats parking.now }
         requires free { holds pass.old ≡ 0 }
         ensures* not_locked { sem 𝓛 (RestsIfErr the_row pass.entry (λ guard. guard.pass.ghost_name) result
-            (λ last. NotLocked lock.now.when_full (acquires (Timed ms)) pass.old (told_if result) last)) }
+            (λ last. NotLocked lock.now.when_full (acquires (P.did parking.now) (Timed ms)) pass.old (told_if result) last)) }
         ensures same_reference { IfOk result (λ guard. guard.pass.ghost_name ≡ pass.entry.ghost_name) }
         ensures guards { IfOk result (λ guard.
             Guards guard.lock.now (P.seats guard.parking.now) guard.pass.now guard.slot) }
         ensures locked { IfOk result (λ guard.
-            Locked lock.now.when_full (acquires (Timed ms)) pass.old guard.slot guard.pass.now) }
+            Locked lock.now.when_full (acquires (P.did parking.now) (Timed ms)) pass.old guard.slot guard.pass.now) }
     {
         let slot = lock.try_take(rt, parking, pass, Asked::Acquire(How::Timed(ms)))?;
         Ok(Guard {

@@ -1,5 +1,5 @@
 //! A reentrant lock that guards a value.
-ghost use Rattle.std.specs.Prelude.{◌≡◌, ⊥, ◌<◌, ◌≤◌, ◌+◌, All, IfOk, IfErr, Err};
+ghost use Rattle.std.specs.Prelude.{◌≡◌, ◌<◌, ◌≤◌, ◌+◌, All, IfOk, IfErr, Err};
 ghost use Rattle.frame.specs.Core.{header_of};
 ghost use Rattle.history.specs.Counts.{counts};
 ghost use Rattle.history.specs.Entries.{IsBasedWell, start_on};
@@ -168,7 +168,7 @@ impl<T: Drop, H: Hooks + Drop> Mutex<T, H> {
         ensures same { IsSame pass.old pass.new }
         ensures begins { Before pass.old.seen pass.new.seen }
         ensures shows { IsTrue pass.new }
-        ensures called { call_of asked pass.old result pass.new }
+        ensures called { call_of (P.did parking.now) asked pass.old result pass.new }
         ensures gains { holds pass.new ≡ holds pass.old + gained_by asked result }
         ensures carries { Carries (holds pass.new) slot.new }
     {
@@ -202,7 +202,7 @@ impl<T: Drop, H: Hooks + Drop> Mutex<T, H> {
         ensures same { IsSame pass.old pass.new }
         ensures begins { Before pass.old.seen pass.new.seen }
         ensures shows { IsTrue pass.new }
-        ensures called { WithRoom self.now.when_full (call_of asked) pass.old result pass.new }
+        ensures called { WithRoom self.now.when_full (call_of (P.did parking.now) asked) pass.old result pass.new }
         ensures gains { holds pass.new ≡ holds pass.old + gained_by asked result }
         ensures carries { Carries (holds pass.new) slot.new }
     {
@@ -227,9 +227,9 @@ impl<T: Drop, H: Hooks + Drop> Mutex<T, H> {
         requires takes { IsTake asked }
         requires free { holds pass.old ≡ 0 }
         ensures locked { IfOk result (λ slot.
-            Locked self.now.when_full (call_of asked) pass.old slot pass.new) }
+            Locked self.now.when_full (call_of (P.did parking.now) asked) pass.old slot pass.new) }
         ensures not_locked { IfErr result (λ fault.
-            NotLocked self.now.when_full (call_of asked) pass.old (told_try fault) pass.new) }
+            NotLocked self.now.when_full (call_of (P.did parking.now) asked) pass.old (told_try fault) pass.new) }
     {
         let mut slot = Slot::Empty;
         let reply = self.call(rt, parking, pass, &mut slot, asked);
@@ -253,9 +253,9 @@ impl<T: Drop, H: Hooks + Drop> Mutex<T, H> {
         requires untimed { is_timed how → ⊥ }
         requires free { holds pass.old ≡ 0 }
         ensures locked { IfOk result (λ slot.
-            Locked self.now.when_full (acquires how) pass.old slot pass.new) }
+            Locked self.now.when_full (acquires (P.did parking.now) how) pass.old slot pass.new) }
         ensures not_locked { IfErr result (λ fault.
-            NotLocked self.now.when_full (acquires how) pass.old (Err fault) pass.new) }
+            NotLocked self.now.when_full (acquires (P.did parking.now) how) pass.old (Err fault) pass.new) }
     {
         match self.try_take(rt, parking, pass, Asked::Acquire(how)) {
             Ok(slot) => Ok(slot),
@@ -278,7 +278,7 @@ impl<T: Drop, H: Hooks + Drop> Mutex<T, H> {
         requires carries { Carries (holds pass.old) slot.old }
         ensures same { IsSame pass.old pass.new }
         ensures shows { IsTrue pass.new }
-        ensures recorded { IsRecorded pass.old (Give X 1) pass.new }
+        ensures recorded { IsRecorded (P.did parking.now) pass.old (Give X 1) pass.new }
         ensures loses { holds pass.new + 1 ≡ holds pass.old }
         ensures carries { Carries (holds pass.new) slot.new }
     {
@@ -304,7 +304,7 @@ impl<T: Drop, H: Hooks + Drop> Mutex<T, H> {
         requires last { holds pass.old ≡ 1 }
         ensures same { IsSame pass.old pass.new }
         ensures shows { IsTrue pass.new }
-        ensures recorded { IsRecorded pass.old (Give X 1) pass.new }
+        ensures recorded { IsRecorded (P.did parking.now) pass.old (Give X 1) pass.new }
         ensures free { holds pass.new ≡ 0 }
     {
         let mut slot = slot;
@@ -324,7 +324,7 @@ impl<T: Drop, H: Hooks + Drop> Mutex<T, H> {
         requires guards { Guards self.now (P.seats parking.now) pass.old slot.old }
         ensures same { IsSame pass.old pass.new }
         ensures guards { Guards self.now (P.seats parking.now) pass.new slot.new }
-        ensures awaited { Tells self.now.when_full (awaits condition how) pass.old pass.new result }
+        ensures awaited { Tells self.now.when_full (awaits (P.did parking.now) condition how) pass.old pass.new result }
         ensures keeps { holds pass.new ≡ holds pass.old }
     {
         whether(self.call(rt, parking, pass, slot, Asked::Await(condition, how)))
@@ -341,7 +341,7 @@ impl<T: Drop, H: Hooks + Drop> Mutex<T, H> {
         requires guards { Guards self.now (P.seats parking.now) pass.old slot.old }
         ensures same { IsSame pass.old pass.new }
         ensures guards { Guards self.now (P.seats parking.now) pass.new slot.new }
-        ensures acquired { Tells self.now.when_full (acquires Plain) pass.old pass.new result }
+        ensures acquired { Tells self.now.when_full (acquires (P.did parking.now) Plain) pass.old pass.new result }
         ensures gains { holds pass.new ≡ holds pass.old + gained result }
     {
         whether(self.call(rt, parking, pass, slot, Asked::Acquire(How::Plain)))
@@ -359,7 +359,7 @@ impl<T: Drop, H: Hooks + Drop> Mutex<T, H> {
         requires several { 1 < holds pass.old }
         ensures same { IsSame pass.old pass.new }
         ensures guards { Guards self.now (P.seats parking.now) pass.new slot.new }
-        ensures recorded { IsRecorded pass.old (Give X 1) pass.new }
+        ensures recorded { IsRecorded (P.did parking.now) pass.old (Give X 1) pass.new }
         ensures loses { holds pass.new + 1 ≡ holds pass.old }
     {
         self.give(rt, parking, pass, slot);
@@ -378,7 +378,7 @@ impl<T: Drop, H: Hooks + Drop> Mutex<T, H> {
         requires places { self.now.lock.header.seats ≤ P.seats parking.now }
         ensures same { IsSame pass.old pass.new }
         ensures shows { IsTrue pass.new }
-        ensures signalled { IsEntered pass.old (signal_step all condition) result pass.new }
+        ensures signalled { IsEntered (P.did parking.now) pass.old (signal_step all condition) result pass.new }
         ensures keeps { holds pass.new ≡ holds pass.old }
     {
         if all {
@@ -401,7 +401,7 @@ impl<T: Drop, H: Hooks + Drop> Mutex<T, H> {
         requires places { self.now.lock.header.seats ≤ P.seats parking.now }
         ensures same { IsSame pass.old pass.new }
         ensures shows { IsTrue pass.new }
-        ensures signalled { WithRoom self.now.when_full (signals all condition) pass.old result pass.new }
+        ensures signalled { WithRoom self.now.when_full (signals (P.did parking.now) all condition) pass.old result pass.new }
         ensures keeps { holds pass.new ≡ holds pass.old }
     {
         let reply = self.signal_once(rt, parking, pass, condition, all);

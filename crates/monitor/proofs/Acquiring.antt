@@ -1,5 +1,5 @@
 -- The first step of an acquire, and how its parts fit together.
-use Rattle.std.proofs.Common.{◌≡◌, ◌≢◌, ◌⊎◌, inl, inr, ⊎_elim, ℕ, eqb, Bool, true, false, cond, List, [], ◌∷◌, Option, Some, None, Result, Ok, Err, refl, sym, ap, ◌∙◌, subst}
+use Rattle.std.proofs.Common.{◌≡◌, ◌≢◌, ◌⊎◌, inl, inr, ⊎_elim, ℕ, eqb, Bool, true, false, cond, List, [], ◌∷◌, Option, Some, None, is_some, IsSome, IfErr, Result, Ok, Err, refl, sym, ap, ◌∙◌, subst}
 use Rattle.std.specs.List.{filter}
 use Rattle.std.proofs.lemmas.Bool.{eq-eqb, eqb-true}
 use Rattle.history.specs.Could.{could, limit, held_back}
@@ -26,12 +26,14 @@ use Rattle.word_lock.specs.Point.{Before}
 use Rattle.word_lock.proofs.PointLaws.{before_refl, before_trans}
 use Rattle.monitor.specs.Lawful.{start_at, view_of}
 use Rattle.monitor.specs.Shown.{Shown}
-use Rattle.monitor.specs.Stepping.{IsSame, IsStep, IsEntered}
+use Rattle.monitor.specs.Stepping.{IsSame, IsStep, IsEntered, IsUnparked}
+use Rattle.permit.specs.Deed.{Deed, interrupted, took_interrupt}
 use Rattle.monitor.specs.declared.how.How.{How}
 use Rattle.monitor.specs.declared.how.How.TheVariants.{Plain, Interruptible, Timed}
 use Rattle.monitor.specs.declared.waiting.Limits.{Limits}
-use Rattle.monitor.specs.Acquire.{AtOnce, IsEndFor, LimitsFor, EndsAtOnce, IsAcquire, first_step, is_interruptible, is_timed, has_time}
-use Rattle.monitor.specs.Waits.{StandsFor, IsMade, IsLast, IsEnd, in_line, IsWait, IsWaited, WaitsAs, asking}
+use Rattle.monitor.specs.declared.waiting.Stage.TheVariants.{Parks}
+use Rattle.monitor.specs.Acquire.{AtOnce, IsEndFor, IsUntil, LimitsFor, EndsAtOnce, EndsUnrecorded, IsAcquire, WasInterrupted, WasNotInterrupted, first_step, is_interruptible, is_timed, has_time}
+use Rattle.monitor.specs.Waits.{AfterPark, StandsFor, IsMade, IsLast, IsEnd, in_line, IsWait, IsWaited, WaitsAs, asking}
 use Rattle.monitor.proofs.Turns.{there_later}
 use Rattle.history.proofs.Staying.{place_filter, place_behind}
 use Rattle.monitor.proofs.InLine.{records, made_in, same_self}
@@ -107,6 +109,13 @@ first_words s h i (Timed ms) m n e q = by (eqb ms 0) refl q
     by true t r = fairly_words s h i (Timed ms) m n e (ap Timed (eqb-true ms 0 t)) r
     by false t r = acquire_words s h i (Timed ms) m n e r
 
+-- a deadline is one of a timed call
+pub only_timed : (did : Deed → Type 0) (how : How) (until : Option ℕ) → IsUntil did how until → IsSome until →
+    is_timed how
+only_timed did Plain until q some = let z : IsSome {T = ℕ} None = subst IsSome q some in cc
+only_timed did Interruptible until q some = let z : IsSome {T = ℕ} None = subst IsSome q some in cc
+only_timed did (Timed ms) until q some = tt
+
 time_left : (how : How) (m : Mode) (n : ℕ) → first_step how m n ≡ Acquire m n → is_timed how → has_time how
 time_left Plain m n q t = absurd t
 time_left Interruptible m n q t = absurd t
@@ -134,35 +143,36 @@ queued_stands s h i m n e q w =
     subst (λ (z : Entry). place_of i (line s (z ∷ h)) ≡ Some (asking i m n)) (sym is) there
 
 -- what an entered step is, where its answer is an entry
-pub entered_as : (old mid : Shown) (step is : Step) (r : Result Entry Fault) (e : Entry) →
-    step ≡ is → r ≡ Ok e →
-    IsEntered old step r mid → IsEntered old is (Ok e) mid
-entered_as old mid step is r e q t s =
-    subst (λ (z : Step). IsEntered old z (Ok e) mid) q (subst
-    (λ (z : Result Entry Fault). IsEntered old step z mid) t s)
+pub entered_as : (did : Deed → Type 0) (old mid : Shown) (step is : Step) (r : Result Entry Fault)
+    (e : Entry) → step ≡ is → r ≡ Ok e → IsEntered did old step r mid → IsEntered did old is (Ok e) mid
+entered_as did old mid step is r e q t s =
+    subst (λ (z : Step). IsEntered did old z (Ok e) mid) q (subst
+    (λ (z : Result Entry Fault). IsEntered did old step z mid) t s)
 
 -- a step that was recorded is a call of one entry
-pub at_once : (old new : Shown) (step : Step) (e : Entry) (name : Option ℕ) →
-    IsStep old step (Ok (Recorded e name)) new → EndsAtOnce old step e new
-at_once old new step e name s =
-    let made = made_in old old new step e name (same_self old) (before_refl old.seen) s in
-    record { made = made.0; last = made.1; mine = s.mine }
+pub at_once : (did : Deed → Type 0) (old new : Shown) (step : Step) (e : Entry) →
+    IsEntered did old step (Ok e) new → EndsAtOnce did old step e new
+at_once did old new step e s =
+    let made = made_in did old old new step e s.0 (same_self old) (before_refl old.seen) s.1 s.2 in
+    record { made = made.0; last = made.1; mine = s.1.mine }
 
 -- what was made behind a later pass was made behind an earlier one
-pub made_later : (old mid new : Shown) (step : Step) (e : Entry) → Before old.seen mid.seen →
-    mid.seat ≡ old.seat →
-    IsMade mid.seen mid.seat step e new.seen → IsMade old.seen old.seat step e new.seen
-made_later old mid new step e up same x =
+pub made_later : (did : Deed → Type 0) (old mid new : Shown) (step : Step) (e : Entry) →
+    Before old.seen mid.seen → mid.seat ≡ old.seat →
+    IsMade did mid.seen mid.seat step e new.seen → IsMade did old.seen old.seat step e new.seen
+made_later did old mid new step e up same x =
     record {
       front = x.front;
       begins = before_trans old.seen mid.seen x.front up x.begins;
       made = subst (λ (i : ℕ). entry_for (start_at x.front) x.front.entries i step ≡ Ok (Some e)) same x.made;
       there = x.there;
+      wakes = x.wakes;
     }
 
 -- the first step of an acquire that was recorded
-module _ (old mid : Shown) (how : How) (m : Mode) (n : ℕ) (e : Entry) (name : Option ℕ)
-    (s : IsStep old (first_step how m n) (Ok (Recorded e name)) mid) where
+module _ (did : Deed → Type 0) (old mid : Shown) (how : How) (m : Mode) (n : ℕ) (e : Entry) (name : Option ℕ)
+    (s : IsStep old (first_step how m n) (Ok (Recorded e name)) mid) (woken : IsUnparked did name)
+    (none : WasNotInterrupted did old.seat how) where
   rec : entry_for (start_at s.found) s.found.entries old.seat (first_step how m n) ≡ Ok (Some e)
   rec = (records (view_of s.found s.beside) (view_of mid.seen s.beside_left) old.seat (first_step how m n) e
       name s.answered).made
@@ -178,13 +188,17 @@ module _ (old mid : Shown) (how : How) (m : Mode) (n : ℕ) (e : Entry) (name : 
       by (inl x) = x.0
       by (inr x) = absurd (subst (AtOnce how) w x)
 
-  pub ends_at_once : e.word ≢ word.Queued → IsAcquire old m n how (Ok e) mid
+  pub ends_at_once : e.word ≢ word.Queued → IsAcquire did old m n how (Ok e) mid
   unfolding First
   ends_at_once w = by first
     where
-      by : First how m n (first_step how m n) e → IsAcquire old m n how (Ok e) mid
+      by : First how m n (first_step how m n) e → IsAcquire did old m n how (Ok e) mid
       by (inl x) = absurd (w x.1)
-      by (inr x) = inl (first_step how m n, inl (refl, x), at_once old mid (first_step how m n) e name s)
+      by (inr x) = inl (
+        first_step how m n,
+        inl (refl, x, none),
+        at_once did old mid (first_step how m n) e (name, s, woken),
+      )
 
   pub stands : e.word ≡ word.Queued → IsSame old mid → WaitsAs mid.seen mid.seat
       (in_line (asking mid.seat m n))
@@ -206,38 +220,42 @@ module _ (old mid : Shown) (how : How) (m : Mode) (n : ℕ) (e : Entry) (name : 
 
   -- and the end of the wait behind it
   pub ends_in_line : e.word ≡ word.Queued → IsSame old mid → (new : Shown) (l : Limits) (last : Entry) →
-      LimitsFor how l → Before mid.seen new.seen → IsWaited mid l last new →
-      IsAcquire old m n how (Ok last) new
+      LimitsFor did how l → Before mid.seen new.seen → IsWaited did mid Parks l last new →
+      IsAcquire did old m n how (Ok last) new
   ends_in_line w same new l last for after waited =
       by (waited (in_line (asking mid.seat m n)) (stands w same))
     where
-      made : IsMade old.seen old.seat (first_step how m n) e mid.seen × IsLast e mid.seen
-      made = made_in old old mid (first_step how m n) e name (same_self old) (before_refl old.seen) s
+      made : IsMade did old.seen old.seat (first_step how m n) e mid.seen × IsLast e mid.seen
+      made = made_in did old old mid (first_step how m n) e name (same_self old) (before_refl old.seen) s woken
 
-      joins : IsMade old.seen old.seat (Acquire m n) e new.seen
-      joins = there_later old.seen mid.seen new.seen old.seat (Acquire m n) e
-          (subst (λ (t : Step). IsMade old.seen old.seat t e mid.seen) (is_acquire w) made.0) after
+      joins : IsMade did old.seen old.seat (Acquire m n) e new.seen
+      joins = there_later did old.seen mid.seen new.seen old.seat (Acquire m n) e
+          (subst (λ (t : Step). IsMade did old.seen old.seat t e mid.seen) (is_acquire w) made.0) after
 
       ends_for : IsEnd l mid.seat (asking mid.seat m n) last →
           IsEndFor how old.seat (asking old.seat m n) last
       ends_for x = subst (λ (i : ℕ). IsEndFor how i (asking i m n) last) same.seat
           (⊎_elim inl
-          (λ r. inr (⊎_elim (λ t. inl (t.0, time_left how m n (is_acquire w) (for.only_timed t.1)))
+          (λ r. inr (⊎_elim (λ t. inl (t.0, time_left how m n (is_acquire w) (only_timed did how l.until for.until t.1)))
           (λ t. inr (t.0, sym for.interruptible ∙ t.1)) r)) x)
 
-      by : IsWait mid (in_line (asking mid.seat m n)) l last new → IsAcquire old m n how (Ok last) new
+      by : IsWait did mid (in_line (asking mid.seat m n)) Parks l last new → IsAcquire did old m n how (Ok last) new
       by x = end x.end
         where
-          end : ((new.mine ≡ last ∷ mid.mine) × IsEnd l mid.seat (asking mid.seat m n) last) ⊎ ⊥ →
-              IsAcquire old m n how (Ok last) new
+          end : ((new.mine ≡ last ∷ mid.mine) × IsEnd l mid.seat (asking mid.seat m n) last
+              × AfterPark did mid.seat l x.step) ⊎ ⊥ → IsAcquire did old m n how (Ok last) new
           end (inr z) = absurd z
           end (inl z) = inr record {
             asked = is_acquire w;
+            not_interrupted = none;
             joined = e;
             queued = w;
             joins = joins;
+            limits = l;
+            limited = for;
             step = x.step;
-            made = made_later old mid new x.step last s.after same.seat x.made;
+            comes = subst (λ (i : ℕ). AfterPark did i l x.step) same.seat z.2;
+            made = made_later did old mid new x.step last s.after same.seat x.made;
             last = x.last;
             end = ends_for z.1;
             mine = z.0 ∙ ap (λ (l : List Entry). last ∷ l) s.mine;
@@ -252,12 +270,38 @@ refused_at_once old new m n e name s =
     let x = idle_made (start_at s.found) s.found.entries old.seat (EntryInterrupt m n) e refl r.made in
     ap (λ (z : Entry). z.word) x.is
 
-pub refused : (old new : Shown) (how : How) (m : Mode) (n : ℕ) (r : Result Entry Fault) →
-    is_interruptible how ≡ true → IsEntered old (EntryInterrupt m n) r new → IsAcquire old m n how r new
-refused old new how m n (Ok e) is s = inl (
+pub refused : (did : Deed → Type 0) (old new : Shown) (how : How) (m : Mode) (n : ℕ) (r : Result Entry Fault) →
+    WasInterrupted did old.seat how → IsEntered did old (EntryInterrupt m n) r new →
+    IfErr r (λ _. did (interrupted old.seat)) → IsAcquire did old m n how r new
+refused did old new how m n (Ok e) is s again = inl (
   EntryInterrupt m n,
-  inr (refl, is, refused_at_once old new m n e s.0 s.1),
-  at_once old new (EntryInterrupt m n) e s.0 s.1,
+  inr (refl, refused_at_once old new m n e s.0 s.1, is),
+  at_once did old new (EntryInterrupt m n) e s,
 )
-refused old new how m n (Err f) is s =
-    record { step = EntryInterrupt m n; first = inr (refl, is); stepped = s }
+refused did old new how m n (Err f) is s again =
+    record { step = EntryInterrupt m n; first = inr (refl, is, again); stepped = s }
+
+-- what a call found at its entry
+pub found_none : {A : Type 0} → (did : Deed → Type 0) (i : ℕ) (how : How) (found : Option A) →
+    (is_interruptible how ≡ true → did (took_interrupt i (is_some found))) → found ≡ None →
+    WasNotInterrupted did i how
+found_none did i how found asked q = λ minds.
+    subst (λ (b : Bool). did (took_interrupt i b)) (ap is_some q) (asked minds)
+
+pub found_one : {A : Type 0} → (did : Deed → Type 0) (i : ℕ) (how : How) (found : Option A) (it : A) →
+    (is_interruptible how ≡ true → did (took_interrupt i (is_some found))) →
+    (IsSome found → is_interruptible how ≡ true) → found ≡ Some it → WasInterrupted did i how
+found_one did i how found it asked minded q =
+    let minds : is_interruptible how ≡ true = minded (ap is_some q) in
+    (minds, subst (λ (b : Bool). did (took_interrupt i b)) (ap is_some q) (asked minds))
+
+-- a call whose first step wasn't recorded
+pub unrecorded : (did : Deed → Type 0) (old new : Shown) (how : How) (starts step refuses : Step)
+    (r : Result Entry Fault) (f : Fault) → WasNotInterrupted did old.seat how → step ≡ starts → r ≡ Err f →
+    IsEntered did old step r new → EndsUnrecorded did old how starts refuses f new
+unrecorded did old new how starts step refuses r f none is failed s =
+    record {
+      step = step;
+      first = inl (is, none);
+      stepped = subst (λ (z : Result Entry Fault). IsEntered did old step z new) failed s;
+    }

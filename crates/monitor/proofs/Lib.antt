@@ -8,3 +8,4 @@ pub mod Merging
 pub mod Looking
 pub mod Trims
 pub mod Loads
+pub mod TurnByTurn

@@ -1,9 +1,8 @@
 -- The first step of an await, and how its parts fit together.
-use Rattle.std.proofs.Common.{◌≡◌, ◌≢◌, ◌⊎◌, inl, inr, ℕ, eqb, nat_lt, Bool, true, false, not, cond, List, ◌∷◌, Option, Some, Result, Ok, Err, refl, sym, ap, ◌∙◌, subst}
+use Rattle.std.proofs.Common.{◌≡◌, ◌≢◌, ◌⊎◌, inl, inr, ℕ, eqb, nat_lt, Bool, true, false, not, cond, List, ◌∷◌, Option, Some, IsSome, IfErr, Result, Ok, Err, refl, sym, ap, ◌∙◌, subst}
 use Rattle.history.specs.Could.{is_seat}
 use Rattle.history.specs.Counts.{Counts, counts, owner}
 use Rattle.history.specs.Base.{Base, based}
-use Rattle.history.specs.Start.{Sleep}
 use Rattle.history.specs.Steps.{entry_for, awaits, plain}
 use Rattle.history.specs.declared.entry.End.{End}
 use Rattle.history.specs.declared.entry.End.TheVariants as end
@@ -21,15 +20,16 @@ use Rattle.history.specs.Awaiting.{SleepsAs, signalled, lapsed, back_from, lapse
 use Rattle.monitor.specs.Lawful.{start_at, view_of}
 use Rattle.monitor.specs.Load.{holds_of}
 use Rattle.monitor.specs.Shown.{Shown, IsTrue}
-use Rattle.monitor.specs.Stepping.{IsSame, IsStep, IsEntered}
+use Rattle.monitor.specs.Stepping.{IsSame, IsStep, IsEntered, IsUnparked}
+use Rattle.permit.specs.Deed.{Deed, interrupted}
 use Rattle.monitor.specs.declared.how.How.{How}
 use Rattle.monitor.specs.declared.how.How.TheVariants.{Plain, Interruptible, Timed}
 use Rattle.monitor.specs.declared.waiting.Limits.{Limits}
-use Rattle.monitor.specs.Acquire.{LimitsFor, is_interruptible}
-use Rattle.monitor.specs.AwaitOn.{IsAwait, MayLapseFor, LapsesAndReturns, due_first, due_of}
-use Rattle.monitor.specs.Waits.{IsMade, IsWait, IsWaited, WaitsAs, on_condition, MayLapse, BackFromLapse, IsDue}
+use Rattle.monitor.specs.Acquire.{IsUntil, LimitsFor, WasInterrupted, WasNotInterrupted}
+use Rattle.monitor.specs.AwaitOn.{IsAwait, MayLapseFor, LapsesAndReturns, ReturnsSignalled, first_stage, stage_by}
+use Rattle.monitor.specs.Waits.{ComesOf, EndComesOf, IsMade, IsWait, IsWaited, WaitsAs, on_condition, MayBegin, MayLapse, BackFromLapse}
 use Rattle.history.proofs.Awaiting.{falls_asleep}
-use Rattle.monitor.proofs.Acquiring.{idle_made, at_once, made_later, refused_at_once}
+use Rattle.monitor.proofs.Acquiring.{idle_made, at_once, made_later, only_timed, refused_at_once}
 use Rattle.monitor.proofs.InLine.{records}
 use Rattle.monitor.proofs.Loads.{own_holds}
 use Rattle.monitor.proofs.Turns.{there_later}
@@ -65,23 +65,29 @@ await_gives k i c e q w = by (not (is_seat (owner k) i)) (nat_lt 0 (k.held i S))
     by false true u = let v = sym (ap (λ (z : Entry). z.word) u) ∙ w in cc
     by false false u = ap (λ (z : Entry). z.n) u
 
-pub due_for : (how : How) (l : Limits) → LimitsFor how l → IsDue l (due_first how)
-due_for Plain l for = tt
-due_for Interruptible l for = tt
-due_for (Timed ms) l for = by (eqb ms 0)
+deadline : (did : Deed → Type 0) (ms : ℕ) (until : Option ℕ) → IsUntil did (Timed ms) until → IsSome until
+deadline did ms until q = subst IsSome (sym q.2) refl
+
+pub may_begin : (did : Deed → Type 0) (how : How) (l : Limits) → LimitsFor did how l →
+    MayBegin l (first_stage how)
+may_begin did Plain l for = tt
+may_begin did Interruptible l for = tt
+may_begin did (Timed ms) l for = by (eqb ms 0)
   where
-    by : (b : Bool) → IsDue l (due_of b)
-    by true = for.timed tt
+    by : (b : Bool) → MayBegin l (stage_by b)
+    by true = deadline did ms l.until for.until
     by false = tt
 
-may_for : (how : How) (l : Limits) (e : End) → LimitsFor how l → MayLapse l e → MayLapseFor how e
-may_for how l end.Timeout for m = for.only_timed m
-may_for how l end.Interrupt for m = sym for.interruptible ∙ m
-may_for how l _ for m = absurd m
+may_for : (did : Deed → Type 0) (how : How) (l : Limits) (e : End) → LimitsFor did how l → MayLapse l e →
+    MayLapseFor how e
+may_for did how l end.Timeout for m = only_timed did how l.until for.until m
+may_for did how l end.Interrupt for m = sym for.interruptible ∙ m
+may_for did how l _ for m = absurd m
 
 -- the first step of an await that was recorded
-module _ (old mid : Shown) (c : ℕ) (how : How) (e : Entry) (name : Option ℕ)
-    (s : IsStep old (Await c) (Ok (Recorded e name)) mid) where
+module _ (did : Deed → Type 0) (old mid : Shown) (c : ℕ) (how : How) (e : Entry) (name : Option ℕ)
+    (s : IsStep old (Await c) (Ok (Recorded e name)) mid) (woken : IsUnparked did name)
+    (none : WasNotInterrupted did old.seat how) where
   rec : entry_for (start_at s.found) s.found.entries old.seat (Await c) ≡ Ok (Some e)
   rec = (records (view_of s.found s.beside) (view_of mid.seen s.beside_left) old.seat (Await c) e name
       s.answered).made
@@ -92,14 +98,14 @@ module _ (old mid : Shown) (c : ℕ) (how : How) (e : Entry) (name : Option ℕ)
       subst (AwaitsFirst old.seat) (sym x.is)
       (await_words (counts (start_at s.found) s.found.entries) old.seat c)
 
-  pub refuses : e.word ≢ word.Await → IsAwait old c how (Ok e) mid
+  pub refuses : e.word ≢ word.Await → IsAwait did old c how (Ok e) mid
   refuses w = by first.word
     where
       by : (e.word ≡ word.Await) ⊎ ((e.word ≡ word.Refused fault.NotOwner) ⊎
           (e.word ≡ word.Refused fault.HoldsRead)) →
-          IsAwait old c how (Ok e) mid
+          IsAwait did old c how (Ok e) mid
       by (inl x) = absurd (w x)
-      by (inr x) = inl (Await c, inl (refl, x), at_once old mid (Await c) e name s)
+      by (inr x) = inl (Await c, inl (refl, x, none), at_once did old mid (Await c) e (name, s, woken))
 
   pub sleeps : e.word ≡ word.Await → IsSame old mid → WaitsAs mid.seen mid.seat
       (on_condition (signalled e.at e.n))
@@ -135,57 +141,67 @@ module _ (old mid : Shown) (c : ℕ) (how : How) (e : Entry) (name : Option ℕ)
 
   -- and the end of the wait behind it
   pub ends_await : e.word ≡ word.Await → IsSame old mid → IsTrue mid → (new : Shown) (l : Limits) (last : Entry) →
-      LimitsFor how l →
-      Before mid.seen new.seen → IsWaited mid l last new → IsAwait old c how (Ok last) new
+      LimitsFor did how l → Before mid.seen new.seen → IsWaited did mid (first_stage how) l last new →
+      IsAwait did old c how (Ok last) new
   ends_await w same shows new l last for after waited =
       by (waited (on_condition (signalled e.at e.n)) (sleeps w same))
     where
-      v : Sleep
-      v = signalled e.at e.n
-
-      by : IsWait mid (on_condition v) l last new → IsAwait old c how (Ok last) new
+      by : IsWait did mid (on_condition (signalled e.at e.n)) (first_stage how) l last new →
+          IsAwait did old c how (Ok last) new
       by x = inr record {
+        not_interrupted = none;
         slept = e;
         await = w;
         gave_up = gave w same shows;
-        sleeps = there_later old.seen mid.seen new.seen old.seat (Await c) e
-            (at_once old mid (Await c) e name s).made after;
+        sleeps = there_later did old.seen mid.seen new.seen old.seat (Await c) e
+            (at_once did old mid (Await c) e (name, s, woken)).made after;
+        limits = l;
+        limited = for;
         step = x.step;
-        made = made_later old mid new x.step last s.after same.seat x.made;
+        made = made_later did old mid new x.step last s.after same.seat x.made;
         last = x.last;
         end = end x.end;
       }
         where
-          end : ((new.mine ≡ last ∷ mid.mine) × (last ≡ back_from mid.seat v)) ⊎ BackFromLapse
-              mid v l last new →
-              ((last ≡ back_from old.seat v) × (new.mine ≡ last ∷ e ∷ old.mine)) ⊎ LapsesAndReturns
-              old how e last new
-          end (inl z) = inl (
-            z.1 ∙ ap (λ (i : ℕ). back_from i v) same.seat,
-            z.0 ∙ ap (λ (l : List Entry). last ∷ l) s.mine,
-          )
+          end : ((new.mine ≡ last ∷ mid.mine) × (last ≡ back_from mid.seat (signalled e.at e.n))
+              × EndComesOf did mid.seat l (first_stage how) (on_condition (signalled e.at e.n)) x.step)
+              ⊎ BackFromLapse did mid (signalled e.at e.n) (first_stage how) l x.step last new →
+              ReturnsSignalled did old how l e x.step last new ⊎ LapsesAndReturns did old how l e x.step last new
+          end (inl z) = inl record {
+            comes = subst (λ (i : ℕ). EndComesOf did i l (first_stage how)
+                (on_condition (signalled e.at e.n)) x.step) same.seat z.2;
+            back = z.1 ∙ ap (λ (i : ℕ). back_from i (signalled e.at e.n)) same.seat;
+            mine = z.0 ∙ ap (λ (l : List Entry). last ∷ l) s.mine;
+          }
           end (inr z) =
-              let at : lapse_from mid.seat v z.how ≡ lapse_from old.seat v z.how =
-              ap (λ (i : ℕ). lapse_from i v z.how) same.seat in
+              let at : lapse_from mid.seat (signalled e.at e.n) z.how ≡
+              lapse_from old.seat (signalled e.at e.n) z.how =
+              ap (λ (i : ℕ). lapse_from i (signalled e.at e.n) z.how) same.seat in
               inr record {
                 end = z.how;
-                may = may_for how l z.how for z.lapse.may;
+                may = may_for did how l z.how for z.lapse.may;
                 step = z.lapse.step;
-                lapse = subst (λ (y : Entry). IsMade old.seen old.seat z.lapse.step y new.seen) at
-                    (made_later old mid new z.lapse.step (lapse_from mid.seat v z.how) s.after
-                    same.seat z.lapse.made);
-                back = z.back ∙ ap (λ (i : ℕ). back_from i (lapsed v z.how)) same.seat;
+                comes = subst (λ (i : ℕ). ComesOf did i l (first_stage how) z.lapse.step) same.seat
+                    z.lapse.comes;
+                lapse = subst (λ (y : Entry). IsMade did old.seen old.seat z.lapse.step y new.seen) at
+                    (made_later did old mid new z.lapse.step
+                    (lapse_from mid.seat (signalled e.at e.n) z.how) s.after same.seat z.lapse.made);
+                looks = z.looks;
+                back = z.back ∙ ap (λ (i : ℕ). back_from i (lapsed (signalled e.at e.n) z.how)) same.seat;
                 mine = z.mine
                     ∙ (ap (λ (y : Entry). last ∷ y ∷ mid.mine) at
-                    ∙ ap (λ (l : List Entry). last ∷ lapse_from old.seat v z.how ∷ l) s.mine);
+                    ∙ ap (λ (l : List Entry). last ∷ lapse_from old.seat (signalled e.at e.n) z.how ∷ l)
+                    s.mine);
               }
 
 -- a pending interrupt
-pub refused : (old new : Shown) (c : ℕ) (how : How) (r : Result Entry Fault) → is_interruptible how ≡ true →
-    IsEntered old (EntryInterrupt X 1) r new → IsAwait old c how r new
-refused old new c how (Ok e) is s = inl (
+pub refused : (did : Deed → Type 0) (old new : Shown) (c : ℕ) (how : How) (r : Result Entry Fault) →
+    WasInterrupted did old.seat how → IsEntered did old (EntryInterrupt X 1) r new →
+    IfErr r (λ _. did (interrupted old.seat)) → IsAwait did old c how r new
+refused did old new c how (Ok e) is s again = inl (
   EntryInterrupt X 1,
-  inr (refl, is, refused_at_once old new X 1 e s.0 s.1),
-  at_once old new (EntryInterrupt X 1) e s.0 s.1,
+  inr (refl, refused_at_once old new X 1 e s.0 s.1, is),
+  at_once did old new (EntryInterrupt X 1) e s,
 )
-refused old new c how (Err f) is s = record { step = EntryInterrupt X 1; first = inr (refl, is); stepped = s }
+refused did old new c how (Err f) is s again =
+    record { step = EntryInterrupt X 1; first = inr (refl, is, again); stepped = s }

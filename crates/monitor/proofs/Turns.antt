@@ -25,10 +25,13 @@ use Rattle.history.proofs.Awaiting.{await_turn}
 use Rattle.history.proofs.Lasting.{still_awaits_there, still_returns_there, still_stands}
 use Rattle.monitor.specs.Lawful.{view_of, IsLawful}
 use Rattle.monitor.specs.Shown.{Shown, IsTrue}
-use Rattle.monitor.specs.Stepping.{IsSame, IsStep}
+use Rattle.monitor.specs.Stepping.{IsSame, IsStep, IsUnparked, named_in}
 use Rattle.monitor.specs.declared.waiting.Limits.{Limits}
-use Rattle.monitor.specs.Waits.{IsMade, with_entry, Cause, in_line, on_condition, on_way_back, WaitsAs, IsAllowed, IsNarrower, no_limits, IsEnd, EndsBy, MayLapse, HasLapsed, EndsLapsed, IsWait, SoFar, StillWaits, AllStillWait, is_lapse, unless_lapse, ending_of}
-use Rattle.monitor.proofs.InLine.{queued_made, ends_by, owed_by, IsEndBy, outcome, Outcome, made_in, same_self}
+use Rattle.monitor.specs.declared.waiting.Stage.{Stage}
+use Rattle.monitor.specs.declared.waiting.Stage.TheVariants.{Expires, Parks, Looks, GivenUp}
+use Rattle.permit.specs.Deed.{Deed}
+use Rattle.monitor.specs.Waits.{IsMade, with_entry, Cause, in_line, on_condition, on_way_back, WaitsAs, IsAllowed, AfterPark, ComesOf, MayBegin, HasGivenUp, EndComesOf, no_limits, IsEnd, EndsBy, MayLapse, HasLapsed, EndsLapsed, IsWait, IsStage, IsBehindLapse, SoFar, StillWaits, AllStillWait, is_lapse, unless_lapse, ending_of, stage_asleep, stage_behind}
+use Rattle.monitor.proofs.InLine.{queued_made, ends_by, looks_by, owed_by, IsEndBy, outcome, Outcome, made_in, same_self}
 use Rattle.monitor.proofs.Sections.{left}
 
 -- who waits does so while no entry of its seat comes
@@ -51,12 +54,18 @@ TurnMakes b l i (on_condition w) step e =
     ⊎ ((how : End) × LapsesBy step how × (e ≡ lapse_from i w how) × ReturnsAs (based b) l i (lapsed w how))
 TurnMakes b l i (on_way_back w) step e = e ≡ back_from i w
 
+-- what one who waits on has stepped: in line it has looked
+abbrev pub StaysBy : Cause → Step → Type 0
+StaysBy (in_line a) step = step ≡ Look
+StaysBy _ step = Unit {0}
+
 -- a step of one who waits is no fault, and its entry was owed
 record TurnAt (b : Base) (h : List Entry) (i : ℕ) (c : Cause) (step : Step) : Type 0 where
   made : Option Entry
   is : entry_for (based b) h i step ≡ Ok made
   owed : (e : Entry) → made ≡ Some e → was_owed b.header.object e ≡ true
   makes : (e : Entry) → made ≡ Some e → TurnMakes b (e ∷ h) i c step e
+  stays : made ≡ None → StaysBy c step
 
 some_same : (x e : Entry) → Some x ≡ Some e → e ≡ x
 some_same x e q = cc
@@ -72,10 +81,11 @@ turn_at p i (in_line a) step w t =
       is = queued_made (based p.base) p.entries i a step t w.1 w.0;
       owed = λ e q. owed_by goes step i a e p.base.header.object q;
       makes = λ e q. ends_by goes step i a e q;
+      stays = λ n. looks_by goes step i a t n;
     }
 turn_at p i (on_condition w) step r t =
     let x = await_turn (based p.base) p.entries i w step r t in
-    record { made = x.made; is = x.is; owed = x.owed; makes = λ e q. by x.made x.makes e q }
+    record { made = x.made; is = x.is; owed = x.owed; makes = λ e q. by x.made x.makes e q; stays = λ n. tt }
   where
     by : (made : Option Entry) → AwaitMakes (based p.base) p.entries i w step made → (e : Entry) →
         made ≡ Some e →
@@ -93,7 +103,7 @@ turn_at p i (on_condition w) step r t =
         )
 turn_at p i (on_way_back w) step r t =
     let x = await_turn (based p.base) p.entries i w step (inr r) t in
-    record { made = x.made; is = x.is; owed = x.owed; makes = λ e q. by x.made x.makes e q }
+    record { made = x.made; is = x.is; owed = x.owed; makes = λ e q. by x.made x.makes e q; stays = λ n. tt }
   where
     nowhere : place_of i (line (based p.base) p.entries) ≡ None → ⊥
     nowhere n = let z = r.place in cc
@@ -107,7 +117,7 @@ turn_at p i (on_way_back w) step r t =
 
 -- a turn of one who waits
 abbrev pub Turn : Shown → Cause → Step → Result Answer Fault → Shown → Type 0
-Turn old c step (Ok answer.Sleep) new = WaitsAs new.seen old.seat c
+Turn old c step (Ok answer.Sleep) new = WaitsAs new.seen old.seat c × StaysBy c step
 Turn old c step (Ok (answer.Recorded e name)) new = TurnMakes new.seen.base new.seen.entries old.seat c step e
 Turn old c step (Err f) new = ⊥
 
@@ -148,7 +158,7 @@ turn old new c step r s t stands w =
     by : (m : Option Entry) → x.made ≡ m → Outcome v m r (view_of new.seen s.beside_left) →
         Turn old c step r new
     by None q o = subst (λ (z : Result Answer Fault). Turn old c step z new) (sym o.0)
-        (at new.seen.base new.seen.entries base o.1)
+        (at new.seen.base new.seen.entries base o.1, x.stays q)
     by (Some e) q o =
         subst (λ (z : Result Answer Fault). Turn old c step z new) (sym o.0)
         (subst (λ (b : Base). TurnMakes b new.seen.entries i c step e) base
@@ -161,21 +171,116 @@ waits_allowed l Expire a = refl
 waits_allowed l Interrupt a = refl
 waits_allowed l _ a = absurd a
 
-nothing_ends : (l : Limits) (step : Step) → IsAllowed no_limits step → IsAllowed l step
-nothing_ends l Look a = tt
-nothing_ends l Expire a = cc
-nothing_ends l Interrupt a = cc
-nothing_ends l _ a = absurd a
+after_allowed : (did : Deed → Type 0) (i : ℕ) (l : Limits) (step : Step) → AfterPark did i l step →
+    IsAllowed l step
+after_allowed did i l Look a = tt
+after_allowed did i l Expire a = a.1
+after_allowed did i l Interrupt a = a.1
+after_allowed did i l _ a = absurd a
 
-pub allowed_wide : (l wide : Limits) (step : Step) → IsNarrower l wide → IsAllowed l step →
-    IsAllowed wide step
-allowed_wide l wide step (inl same) a = subst (λ (z : Limits). IsAllowed z step) same a
-allowed_wide l wide step (inr none) a =
-    nothing_ends wide step (subst (λ (z : Limits). IsAllowed z step) none a)
+first_allowed : (did : Deed → Type 0) (i : ℕ) (l : Limits) (s : Stage) (step : Step) → MayBegin l s →
+    ComesOf did i l s step → IsAllowed l step
+first_allowed did i l Expires step may c = subst (IsAllowed l) (sym c) may
+first_allowed did i l Parks step may c = after_allowed did i l step c
+first_allowed did i l _ step may c = absurd may
 
-pub narrower : (a b c : Limits) → IsNarrower a b → IsNarrower b c → IsNarrower a c
-narrower a b c (inl same) y = subst (λ (z : Limits). IsNarrower z c) (sym same) y
-narrower a b c (inr none) y = inr none
+-- without limits a park leads to a look alone
+only_looks : (did : Deed → Type 0) (i : ℕ) (step : Step) → AfterPark did i no_limits step → step ≡ Look
+only_looks did i Look a = refl
+only_looks did i Expire a = let z = a.1 in cc
+only_looks did i Interrupt a = let z = a.1 in cc
+only_looks did i _ a = absurd a
+
+behind_looks : (did : Deed → Type 0) (i : ℕ) (l : Limits) (stage : Stage) (step : Step) →
+    IsBehindLapse stage → ComesOf did i l stage step → step ≡ Look
+behind_looks did i l Looks step b c = c
+behind_looks did i l GivenUp step b c = only_looks did i step c
+behind_looks did i l _ step b c = absurd b
+
+-- what a step comes of, by the stages that there are before a lapse
+end_comes : (did : Deed → Type 0) (i : ℕ) (l : Limits) (s : Stage) (was : Cause) (stage : Stage) (step : Step) →
+    IsStage did i l s was stage → ComesOf did i l stage step → EndComesOf did i l s was step
+end_comes did i l s (in_line a) stage step q c = subst (λ (z : Stage). ComesOf did i l z step) q c
+end_comes did i l s (on_condition w) stage step (inl q) c =
+    inl (subst (λ (z : Stage). ComesOf did i l z step) q c)
+end_comes did i l s (on_condition w) stage step (inr q) c =
+    inr (q.1, subst (λ (z : Stage). ComesOf did i l z step) q.0 c)
+end_comes did i l s (on_way_back w) stage step (inl q) c =
+    inl (subst (λ (z : Stage). ComesOf did i l z step) q c)
+end_comes did i l s (on_way_back w) stage step (inr q) c =
+    inr (q.1, subst (λ (z : Stage). ComesOf did i l z step) q.0 c)
+
+look_allowed : (l : Limits) (step : Step) → step ≡ Look → IsAllowed l step
+look_allowed l step q = subst (IsAllowed l) (sym q) tt
+
+end_allowed : (did : Deed → Type 0) (i : ℕ) (l : Limits) (s : Stage) (was : Cause) (step : Step) →
+    MayBegin l s → EndComesOf did i l s was step → IsAllowed l step
+end_allowed did i l s (in_line a) step may c = first_allowed did i l s step may c
+end_allowed did i l s (on_condition w) step may (inl c) = first_allowed did i l s step may c
+end_allowed did i l s (on_condition w) step may (inr c) = look_allowed l step (only_looks did i step c.1)
+end_allowed did i l s (on_way_back w) step may (inl c) = first_allowed did i l s step may c
+end_allowed did i l s (on_way_back w) step may (inr c) = look_allowed l step (only_looks did i step c.1)
+
+-- a look is no lapse, so a lapse comes of what the wait began with
+lapse_comes : (did : Deed → Type 0) (i : ℕ) (l : Limits) (s : Stage) (w : Sleep) (step : Step) (how : End) →
+    EndComesOf did i l s (on_condition w) step → LapsesBy step how → ComesOf did i l s step
+lapse_comes did i l s w step how (inl c) by = c
+lapse_comes did i l s w step how (inr c) by =
+    absurd (subst (λ (z : Step). LapsesBy z how) (only_looks did i step c.1) by)
+
+-- a look leaves the stage that a wait began with
+looks_on : (did : Deed → Type 0) (i : ℕ) (l : Limits) (s : Stage) → MayBegin l s → ComesOf did i l s Look →
+    stage_asleep s Look ≡ s
+looks_on did i l Expires may c = cc
+looks_on did i l Parks may c = refl
+looks_on did i l _ may c = absurd may
+
+-- the stage behind a step that recorded nothing
+expired : (s : Stage) → stage_asleep s Expire ≡ GivenUp
+expired Expires = refl
+expired Parks = refl
+expired Looks = refl
+expired GivenUp = refl
+
+interrupts : (s : Stage) → stage_asleep s Interrupt ≡ GivenUp
+interrupts Expires = refl
+interrupts Parks = refl
+interrupts Looks = refl
+interrupts GivenUp = refl
+
+abbrev WaitsOn : (Deed → Type 0) → ℕ → Limits → Stage → Stage → Type 0
+WaitsOn did i l s stage = (stage ≡ s) ⊎ ((stage ≡ GivenUp) × HasGivenUp did i l s)
+
+first_asleep : (did : Deed → Type 0) (i : ℕ) (l : Limits) (s : Stage) (step : Step) → MayBegin l s →
+    ComesOf did i l s step → WaitsOn did i l s (stage_asleep s step)
+first_asleep did i l s Look may c = inl (looks_on did i l s may c)
+first_asleep did i l s Expire may c = inr (expired s, inl c)
+first_asleep did i l s Interrupt may c = inr (interrupts s, inr c)
+first_asleep did i l s step may c = absurd (first_allowed did i l s step may c)
+
+on_asleep : (did : Deed → Type 0) (i : ℕ) (l : Limits) (s stage : Stage) (step : Step) → MayBegin l s →
+    WaitsOn did i l s stage → ComesOf did i l stage step → WaitsOn did i l s (stage_asleep stage step)
+on_asleep did i l s stage step may (inl q) c =
+    subst (λ (z : Stage). WaitsOn did i l s (stage_asleep z step)) (sym q)
+    (first_asleep did i l s step may (subst (λ (z : Stage). ComesOf did i l z step) q c))
+on_asleep did i l s stage step may (inr q) c =
+    inr (subst (λ (z : Stage). stage_asleep z step ≡ GivenUp) (sym q.0) refl, q.1)
+
+stage_stays : (did : Deed → Type 0) (i : ℕ) (l : Limits) (s : Stage) (was : Cause) (stage : Stage)
+    (step : Step) → MayBegin l s → IsStage did i l s was stage → StaysBy was step →
+    ComesOf did i l stage step → IsStage did i l s was (stage_asleep stage step)
+stage_stays did i l s (in_line a) stage step may q looked c =
+    let at : ComesOf did i l s Look =
+    subst (λ (z : Step). ComesOf did i l s z) looked (subst (λ (z : Stage). ComesOf did i l z step) q c) in
+    subst (λ (z : Stage). stage_asleep z step ≡ s) (sym q)
+    (subst (λ (z : Step). stage_asleep s z ≡ s) (sym looked) (looks_on did i l s may at))
+stage_stays did i l s (on_condition w) stage step may q looked c = on_asleep did i l s stage step may q c
+stage_stays did i l s (on_way_back w) stage step may q looked c = on_asleep did i l s stage step may q c
+
+behind_stays : (stage : Stage) (step : Step) → IsBehindLapse stage → IsBehindLapse (stage_asleep stage step)
+behind_stays Looks step b = tt
+behind_stays GivenUp step b = tt
+behind_stays _ step b = absurd b
 
 ends_as : (l : Limits) (step : Step) (i : ℕ) (a : Arrival) (e : Entry) → IsAllowed l step →
     IsEndBy step i a e → IsEnd l i a e
@@ -201,33 +306,55 @@ no_lapse _ i a e x = absurd x
 true_false : (b : Bool) → b ≡ true → b ≡ false → ⊥
 true_false b t f = cc
 
-pub there_later : (p q r : Point) (i : ℕ) (step : Step) (e : Entry) → IsMade p i step e q → Before q r →
-    IsMade p i step e r
-there_later p q r i step e m b =
+pub there_later : (did : Deed → Type 0) (p q r : Point) (i : ℕ) (step : Step) (e : Entry) →
+    IsMade did p i step e q → Before q r → IsMade did p i step e r
+there_later did p q r i step e m b =
     record {
       front = m.front;
       begins = m.begins;
       made = m.made;
       there = before_trans (with_entry e m.front) q r m.there b;
+      wakes = m.wakes;
     }
 
 -- a turn of one who still waits, or the end of its wait
-module _ (first now new : Shown) (was : Cause) (l : Limits) (step : Step) (stays : StillWaits first was l now)
-    (allowed : IsAllowed l step) where
+module _ (did : Deed → Type 0) (first now new : Shown) (was : Cause) (s : Stage) (l : Limits) (stage : Stage)
+    (step : Step) (may : MayBegin l s) (stays : StillWaits did first was s l now stage)
+    (comes : ComesOf did first.seat l stage step) where
+  ends_of : IsStage did first.seat l s was stage → EndComesOf did first.seat l s was step
+  ends_of q = end_comes did first.seat l s was stage step q comes
+
+  looked : IsBehindLapse stage → step ≡ Look
+  looked b = behind_looks did first.seat l stage step b comes
+
+  allowed : IsAllowed l step
+  allowed = by stays.so_far
+    where
+      by : SoFar did first was s l now stays.cause stage → IsAllowed l step
+      by (inl x) = end_allowed did first.seat l s was step may (ends_of x.2)
+      by (inr x) = look_allowed l step (looked x.6)
+
   turned : (r : Result Answer Fault) → IsStep now step r new → Turn now stays.cause step r new
-  turned r s = turn now new stays.cause step r s stays.shows stays.waits (waits_allowed l step allowed)
+  turned r t = turn now new stays.cause step r t stays.shows stays.waits (waits_allowed l step allowed)
 
   makes : (e : Entry) (name : Option ℕ) → IsStep now step (Ok (answer.Recorded e name)) new →
       TurnMakes new.seen.base new.seen.entries first.seat stays.cause step e
-  makes e name s =
+  makes e name t =
       subst (λ (i : ℕ). TurnMakes new.seen.base new.seen.entries i stays.cause step e) stays.same.seat
-      (turned (Ok (answer.Recorded e name)) s)
+      (turned (Ok (answer.Recorded e name)) t)
 
-  so_far_later : Before now.seen new.seen → new.mine ≡ now.mine → SoFar first was l new stays.cause
-  so_far_later b mine = by stays.so_far
+  so_far_later : Before now.seen new.seen → new.mine ≡ now.mine → StaysBy stays.cause step →
+      SoFar did first was s l new stays.cause (stage_asleep stage step)
+  so_far_later b mine by_look = by stays.so_far
     where
-      by : SoFar first was l now stays.cause → SoFar first was l new stays.cause
-      by (inl x) = inl (x.0, mine ∙ x.1)
+      by : SoFar did first was s l now stays.cause stage →
+          SoFar did first was s l new stays.cause (stage_asleep stage step)
+      by (inl x) = inl (
+        x.0,
+        mine ∙ x.1,
+        stage_stays did first.seat l s was stage step may x.2
+            (subst (λ (k : Cause). StaysBy k step) x.0 by_look) comes,
+      )
       by (inr x) = inr (
         x.0,
         x.1,
@@ -236,43 +363,49 @@ module _ (first now new : Shown) (was : Cause) (l : Limits) (step : Step) (stays
         record {
           may = x.4.may;
           step = x.4.step;
-          made = there_later first.seen now.seen new.seen first.seat x.4.step
+          comes = x.4.comes;
+          made = there_later did first.seen now.seen new.seen first.seat x.4.step
               (lapse_from first.seat x.0 x.1) x.4.made b;
         },
         mine ∙ x.5,
+        behind_stays stage step x.6,
       )
 
-  goes_on : IsSame now new → IsStep now step (Ok answer.Sleep) new → IsTrue new → StillWaits first was l new
-  goes_on same s shows = record {
-    same = record { lock = same.lock ∙ stays.same.lock; seat = same.seat ∙ stays.same.seat };
-    begins = before_trans first.seen now.seen new.seen stays.begins s.after;
-    shows = shows;
-    cause = stays.cause;
-    waits = subst (λ (i : ℕ). WaitsAs new.seen i stays.cause) (sym same.seat) (turned (Ok answer.Sleep) s);
-    so_far = so_far_later s.after s.mine;
-  }
+  goes_on : IsSame now new → IsStep now step (Ok answer.Sleep) new → IsTrue new →
+      StillWaits did first was s l new (stage_asleep stage step)
+  goes_on same t shows =
+      let sleeps = turned (Ok answer.Sleep) t in record {
+        same = record { lock = same.lock ∙ stays.same.lock; seat = same.seat ∙ stays.same.seat };
+        begins = before_trans first.seen now.seen new.seen stays.begins t.after;
+        shows = shows;
+        cause = stays.cause;
+        waits = subst (λ (i : ℕ). WaitsAs new.seen i stays.cause) (sym same.seat) sleeps.0;
+        so_far = so_far_later t.after t.mine sleeps.1;
+      }
 
   -- behind its lapse a sleeper is on its way back
-  has_lapsed : (e : Entry) (name : Option ℕ) → IsStep now step (Ok (answer.Recorded e name))
-      new → (w : Sleep) →
-      (how : End) → LapsesBy step how → e ≡ lapse_from first.seat w how → HasLapsed first w l how new.seen
-  has_lapsed e name s w how ends is = record {
+  has_lapsed : (e : Entry) (name : Option ℕ) → IsStep now step (Ok (answer.Recorded e name)) new →
+      IsUnparked did name → (w : Sleep) (how : End) → LapsesBy step how →
+      EndComesOf did first.seat l s (on_condition w) step → e ≡ lapse_from first.seat w how →
+      HasLapsed did first w s l how new.seen
+  has_lapsed e name t woken w how ends began is = record {
     may = lapses_as l step how allowed ends;
     step = step;
-    made = subst (λ (x : Entry). IsMade first.seen first.seat step x new.seen) is
-        (made_in first now new step e name stays.same stays.begins s).0;
+    comes = lapse_comes did first.seat l s w step how began ends;
+    made = subst (λ (x : Entry). IsMade did first.seen first.seat step x new.seen) is
+        (made_in did first now new step e name stays.same stays.begins t woken).0;
   }
 
   Lapsed : Entry → Type 0
-  Lapsed e = (k : Cause) × WaitsAs new.seen first.seat k × SoFar first was l new k
+  Lapsed e = (k : Cause) × WaitsAs new.seen first.seat k × SoFar did first was s l new k Looks
 
   after_lapse : (e : Entry) (name : Option ℕ) → IsStep now step (Ok (answer.Recorded e name)) new →
-      is_lapse e.word ≡ true → Lapsed e
+      IsUnparked did name → is_lapse e.word ≡ true → Lapsed e
   unfolding Lapsed
-  after_lapse e name s lapse = by stays.cause stays.so_far (makes e name s)
+  after_lapse e name t woken lapse = by stays.cause stays.so_far (makes e name t)
     where
-      by : (k : Cause) → SoFar first was l now k → TurnMakes new.seen.base new.seen.entries first.seat k
-          step e → Lapsed e
+      by : (k : Cause) → SoFar did first was s l now k stage →
+          TurnMakes new.seen.base new.seen.entries first.seat k step e → Lapsed e
       by (in_line a) f m = absurd (true_false (is_lapse e.word) lapse (no_lapse step first.seat a e m))
       by (on_way_back w) f m =
           absurd (true_false (is_lapse e.word) lapse (ap (λ (z : Entry). is_lapse z.word) m))
@@ -286,20 +419,22 @@ module _ (first now new : Shown) (was : Cause) (l : Limits) (step : Step) (stays
           m.0,
           sym f.0,
           refl,
-          has_lapsed e name s w m.0 m.1 m.2,
-          s.mine ∙ (ap (λ (x : List Entry). e ∷ x) f.1 ∙ ap (λ (x : Entry). x ∷ first.mine) m.2),
+          has_lapsed e name t woken w m.0 m.1
+              (subst (λ (k : Cause). EndComesOf did first.seat l s k step) (sym f.0) (ends_of f.2)) m.2,
+          t.mine ∙ (ap (λ (x : List Entry). e ∷ x) f.1 ∙ ap (λ (x : Entry). x ∷ first.mine) m.2),
+          tt,
         ),
       )
       by (on_condition w) (inr f) (inr m) = let z = f.3 in cc
 
   lapses_on : (e : Entry) (name : Option ℕ) → IsSame now new →
-      IsStep now step (Ok (answer.Recorded e name)) new →
-      is_lapse e.word ≡ true → IsTrue new → StillWaits first was l new
+      IsStep now step (Ok (answer.Recorded e name)) new → IsUnparked did name →
+      is_lapse e.word ≡ true → IsTrue new → StillWaits did first was s l new Looks
   unfolding Lapsed
-  lapses_on e name same s lapse shows =
-      let x = after_lapse e name s lapse in record {
+  lapses_on e name same t woken lapse shows =
+      let x = after_lapse e name t woken lapse in record {
         same = record { lock = same.lock ∙ stays.same.lock; seat = same.seat ∙ stays.same.seat };
-        begins = before_trans first.seen now.seen new.seen stays.begins s.after;
+        begins = before_trans first.seen now.seen new.seen stays.begins t.after;
         shows = shows;
         cause = x.0;
         waits = subst (λ (i : ℕ). WaitsAs new.seen i x.0) (sym (same.seat ∙ stays.same.seat)) x.1;
@@ -307,87 +442,101 @@ module _ (first now new : Shown) (was : Cause) (l : Limits) (step : Step) (stays
       }
 
   Ends : Entry → Type 0
-  Ends e = ((new.mine ≡ e ∷ first.mine) × EndsBy l first.seat was e) ⊎ EndsLapsed first was l e new
+  Ends e =
+      ((new.mine ≡ e ∷ first.mine) × EndsBy l first.seat was e × EndComesOf did first.seat l s was step)
+      ⊎ EndsLapsed did first was s l step e new
 
   ends : (e : Entry) (name : Option ℕ) → IsStep now step (Ok (answer.Recorded e name)) new →
       is_lapse e.word ≡ false → Ends e
   unfolding Ends
-  ends e name s lapse = by stays.cause stays.so_far (makes e name s)
+  ends e name t lapse = by stays.cause stays.so_far (makes e name t)
     where
       alone : now.mine ≡ first.mine → new.mine ≡ e ∷ first.mine
-      alone f = s.mine ∙ ap (λ (x : List Entry). e ∷ x) f
+      alone f = t.mine ∙ ap (λ (x : List Entry). e ∷ x) f
 
-      by : (k : Cause) → SoFar first was l now k → TurnMakes new.seen.base new.seen.entries first.seat k
-          step e → Ends e
+      by : (k : Cause) → SoFar did first was s l now k stage →
+          TurnMakes new.seen.base new.seen.entries first.seat k step e → Ends e
       by (in_line a) (inl f) m =
           inl (
             alone f.1,
             subst (λ (k : Cause). EndsBy l first.seat k e) f.0
                 (ends_as l step first.seat a e allowed m),
+            ends_of f.2,
           )
       by (in_line a) (inr f) m = let z = f.3 in cc
       by (on_condition w) (inl f) (inl m) =
-          inl (alone f.1, subst (λ (k : Cause). EndsBy l first.seat k e) f.0 m)
+          inl (alone f.1, subst (λ (k : Cause). EndsBy l first.seat k e) f.0 m, ends_of f.2)
       by (on_condition w) (inl f) (inr m) =
           absurd (true_false (is_lapse e.word) (ap (λ (z : Entry). is_lapse z.word) m.2) lapse)
       by (on_condition w) (inr f) m = let z = f.3 in cc
-      by (on_way_back w) (inl f) m = inl (alone f.1, subst (λ (k : Cause). EndsBy l first.seat k e) f.0 m)
+      by (on_way_back w) (inl f) m =
+          inl (alone f.1, subst (λ (k : Cause). EndsBy l first.seat k e) f.0 m, ends_of f.2)
       by (on_way_back w) (inr f) m =
           let is : w ≡ lapsed f.0 f.1 = same_sleep w (lapsed f.0 f.1) f.3 in
-          inr (subst (λ (k : Cause). EndsLapsed first k l e new) (sym f.2) record {
+          inr (subst (λ (k : Cause). EndsLapsed did first k s l step e new) (sym f.2) record {
             how = f.1;
             lapse = record {
               may = f.4.may;
               step = f.4.step;
-              made = there_later first.seen now.seen new.seen first.seat f.4.step
-                  (lapse_from first.seat f.0 f.1) f.4.made s.after;
+              comes = f.4.comes;
+              made = there_later did first.seen now.seen new.seen first.seat f.4.step
+                  (lapse_from first.seat f.0 f.1) f.4.made t.after;
             };
+            looks = looked f.6;
             back = m ∙ ap (back_from first.seat) is;
-            mine = s.mine ∙ ap (λ (x : List Entry). e ∷ x) f.5;
+            mine = t.mine ∙ ap (λ (x : List Entry). e ∷ x) f.5;
           })
         where
           same_sleep : (x y : Sleep) → on_way_back x ≡ on_way_back y → x ≡ y
           same_sleep x y q = cc
 
   pub no_fault : (f : Fault) → IsStep now step (Err f) new → ⊥
-  no_fault f s = turned (Err f) s
+  no_fault f t = turned (Err f) t
 
   pub never_fault : (r : Result Answer Fault) → IsStep now step r new → IsOk r
-  never_fault (Ok x) s = refl
-  never_fault (Err f) s = absurd (no_fault f s)
+  never_fault (Ok x) t = refl
+  never_fault (Err f) t = absurd (no_fault f t)
 
-  pub still_after : (r : Result Answer Fault) → IsSame now new → IsStep now step r new → IsTrue new →
-      ending_of r ≡ None → StillWaits first was l new
-  still_after (Ok answer.Sleep) same s shows q = goes_on same s shows
-  still_after (Err f) same s shows q = absurd (no_fault f s)
-  still_after (Ok (answer.Recorded e name)) same s shows q = by (is_lapse e.word) refl q
+  pub still_after : (r : Result Answer Fault) → IsSame now new → IsStep now step r new →
+      IsUnparked did (named_in r) → IsTrue new → ending_of r ≡ None →
+      StillWaits did first was s l new (stage_behind stage step r)
+  still_after (Ok answer.Sleep) same t woken shows q = goes_on same t shows
+  still_after (Err f) same t woken shows q = absurd (no_fault f t)
+  still_after (Ok (answer.Recorded e name)) same t woken shows q = by (is_lapse e.word) refl q
     where
-      by : (b : Bool) → is_lapse e.word ≡ b → unless_lapse b e ≡ None → StillWaits first was l new
-      by true t q = lapses_on e name same s t shows
-      by false t q = cc
+      by : (b : Bool) → is_lapse e.word ≡ b → unless_lapse b e ≡ None → StillWaits did first was s l new Looks
+      by true u q = lapses_on e name same t woken u shows
+      by false u q = cc
 
-  pub waited : (r : Result Answer Fault) (last : Entry) → IsStep now step r new → ending_of r ≡ Some last →
-      IsWait first was l last new
+  pub waited : (r : Result Answer Fault) (last : Entry) → IsStep now step r new →
+      IsUnparked did (named_in r) → ending_of r ≡ Some last → IsWait did first was s l last new
   unfolding Ends
-  waited (Ok answer.Sleep) last s q = cc
-  waited (Err f) last s q = cc
-  waited (Ok (answer.Recorded e name)) last s q = by (is_lapse e.word) refl q
+  waited (Ok answer.Sleep) last t woken q = cc
+  waited (Err f) last t woken q = cc
+  waited (Ok (answer.Recorded e name)) last t woken q = by (is_lapse e.word) refl q
     where
-      at : (is_lapse e.word ≡ false) → IsWait first was l e new
-      at t = let m = made_in first now new step e name stays.same stays.begins s in
-          record { step = step; made = m.0; last = m.1; end = ends e name s t }
+      at : (is_lapse e.word ≡ false) → IsWait did first was s l e new
+      at u = let m = made_in did first now new step e name stays.same stays.begins t woken in
+          record { step = step; made = m.0; last = m.1; end = ends e name t u }
 
-      by : (b : Bool) → is_lapse e.word ≡ b → unless_lapse b e ≡ Some last → IsWait first was l last new
-      by true t q = cc
-      by false t q = let same : e ≡ last = cc in subst (λ (x : Entry). IsWait first was l x new) same (at t)
+      by : (b : Bool) → is_lapse e.word ≡ b → unless_lapse b e ≡ Some last → IsWait did first was s l last new
+      by true u q = cc
+      by false u q =
+          let same : e ≡ last = cc in subst (λ (x : Entry). IsWait did first was s l x new) same (at u)
+
+begun : (did : Deed → Type 0) (i : ℕ) (l : Limits) (s : Stage) (was : Cause) → IsStage did i l s was s
+begun did i l s (in_line a) = refl
+begun did i l s (on_condition w) = inl refl
+begun did i l s (on_way_back w) = inl refl
 
 -- before its first park
-pub waits_first : (p : Shown) (l : Limits) → IsTrue p → AllStillWait p l p
-waits_first p l shows k w = record {
+pub waits_first : (did : Deed → Type 0) (p : Shown) (s : Stage) (l : Limits) → IsTrue p →
+    AllStillWait did p s l p s
+waits_first did p s l shows k w = record {
   same = same_self p;
   begins = before_refl p.seen;
   shows = shows;
   cause = k;
   waits = w;
-  so_far = inl (refl, refl);
+  so_far = inl (refl, refl, begun did p.seat l s k);
 }

@@ -1,5 +1,5 @@
 -- What an acquire records.
-use Rattle.std.specs.Prelude.{◌==◌, if◌then◌else◌, ◌≡◌, ◌⊎◌, ◌≢◌, ℕ, Bool, true, false, ◌∷◌, IsSome, Result, Ok, Err}
+use Rattle.std.specs.Prelude.{◌==◌, if◌then◌else◌, ◌≡◌, ◌⊎◌, ◌≢◌, ℕ, ◌+◌, ◌-◌, ◌^◌, min, Bool, true, false, ◌∷◌, Option, Some, None, Result, Ok, Err}
 use Rattle.history.specs.declared.arrival.Arrival.{Arrival}
 use Rattle.history.specs.declared.entry.End.TheVariants as end
 use Rattle.history.specs.declared.entry.Entry.{Entry}
@@ -11,9 +11,10 @@ use Rattle.history.specs.declared.fault.Fault.TheVariants as fault
 use Rattle.history.specs.declared.step.Step.{Step}
 use Rattle.history.specs.declared.step.Step.TheVariants.{Acquire, TryFair, EntryInterrupt}
 use Rattle.history.specs.Steps.{ended}
+use Rattle.permit.specs.Deed.{Deed, interrupted, showed, took_interrupt}
 use Rattle.monitor.specs.Shown.{Shown}
 use Rattle.monitor.specs.Stepping.{IsStep}
-use Rattle.monitor.specs.Waits.{IsMade, IsLast, asking}
+use Rattle.monitor.specs.Waits.{AfterPark, IsMade, IsLast, asking}
 use Rattle.monitor.specs.declared.how.How.{How}
 use Rattle.monitor.specs.declared.how.How.TheVariants.{Plain, Interruptible, Timed}
 use Rattle.monitor.specs.declared.waiting.Limits.{Limits}
@@ -31,31 +32,51 @@ abbrev pub is_timed : How → Type 0
 is_timed (Timed ms) = Unit {0}
 is_timed _ = ⊥
 
--- a wait has a deadline exactly if it is timed
-pub record LimitsFor (how : How) (l : Limits) : Type 0 where
-  pub timed : is_timed how → IsSome l.until
-  pub only_timed : IsSome l.until → is_timed how
+-- the moment that is so many milliseconds behind another, or the last one
+abbrev pub moment_after : ℕ → ℕ → ℕ
+moment_after moment ms = min (moment + ms) (2 ^ 64 - 1)
+
+-- the deadline of a call, counted from a moment that the clock showed
+abbrev pub IsUntil : (Deed → Type 0) → How → Option ℕ → Type 0
+IsUntil did (Timed ms) until = (moment : ℕ) × did (showed moment) × (until ≡ Some (moment_after moment ms))
+IsUntil did _ until = until ≡ None
+
+-- how the parks of a call end
+pub record LimitsFor (did : Deed → Type 0) (how : How) (l : Limits) : Type 0 where
+  pub until : IsUntil did how l.until
   pub interruptible : l.interruptible ≡ is_interruptible how
 
 abbrev pub first_step : How → Mode → ℕ → Step
 first_step (Timed ms) m n = if ms == 0 then TryFair m n else Acquire m n
 first_step _ m n = Acquire m n
 
--- the first step of a call: the one that it is for, or a refusal, since an interrupt was pending
-abbrev pub IsFirst : How → Step → Step → Step → Type 0
-IsFirst how starts refuses step = (step ≡ starts) ⊎ ((step ≡ refuses) × (is_interruptible how ≡ true))
+-- a call that minds interrupts found one pending at its entry, and took it
+abbrev pub WasInterrupted : (Deed → Type 0) → ℕ → How → Type 0
+WasInterrupted did i how = (is_interruptible how ≡ true) × did (took_interrupt i true)
+
+-- it found none, or it minds none
+abbrev pub WasNotInterrupted : (Deed → Type 0) → ℕ → How → Type 0
+WasNotInterrupted did i how = is_interruptible how ≡ true → did (took_interrupt i false)
+
+-- The first step of a call that wasn't recorded: the one that it is for, or a refusal, since an interrupt was
+-- pending, and then it is pending again.
+abbrev pub IsFirst : (Deed → Type 0) → ℕ → How → Step → Step → Step → Type 0
+IsFirst did i how starts refuses step =
+    ((step ≡ starts) × WasNotInterrupted did i how)
+    ⊎ ((step ≡ refuses) × WasInterrupted did i how × did (interrupted i))
 
 -- a call that recorded one entry, the one of its step
-pub record EndsAtOnce (old : Shown) (step : Step) (e : Entry) (new : Shown) : Type 0 where
-  pub made : IsMade old.seen old.seat step e new.seen
+pub record EndsAtOnce (did : Deed → Type 0) (old : Shown) (step : Step) (e : Entry)
+    (new : Shown) : Type 0 where
+  pub made : IsMade did old.seen old.seat step e new.seen
   pub last : IsLast e new.seen
   pub mine : new.mine ≡ e ∷ old.mine
 
 -- a call whose first step was refused and not recorded
-pub record EndsUnrecorded (old : Shown) (how : How) (starts refuses : Step) (f : Fault)
+pub record EndsUnrecorded (did : Deed → Type 0) (old : Shown) (how : How) (starts refuses : Step) (f : Fault)
     (new : Shown) : Type 0 where
   pub step : Step
-  pub first : IsFirst how starts refuses step
+  pub first : IsFirst did old.seat how starts refuses step
   pub stepped : IsStep old step (Err f) new
 
 -- the words that end an acquire at its first step
@@ -65,10 +86,10 @@ AtOnce how (word.Refused fault.TooManyHolds) = Unit {0}
 AtOnce how word.Missed = how ≡ Timed 0
 AtOnce how _ = ⊥
 
-abbrev pub IsAtOnce : How → Mode → ℕ → Step → Word → Type 0
-IsAtOnce how m n step w =
-    ((step ≡ first_step how m n) × AtOnce how w)
-    ⊎ ((step ≡ EntryInterrupt m n) × (is_interruptible how ≡ true) × (w ≡ word.Refused fault.Interrupted))
+abbrev pub IsAtOnce : (Deed → Type 0) → ℕ → How → Mode → ℕ → Step → Word → Type 0
+IsAtOnce did i how m n step w =
+    ((step ≡ first_step how m n) × AtOnce how w × WasNotInterrupted did i how)
+    ⊎ ((step ≡ EntryInterrupt m n) × (w ≡ word.Refused fault.Interrupted) × WasInterrupted did i how)
 
 abbrev pub IsEndFor : How → ℕ → Arrival → Entry → Type 0
 IsEndFor how i a e =
@@ -76,19 +97,27 @@ IsEndFor how i a e =
     ⊎ ((e ≡ ended i word.Left a end.Timeout) × has_time how)
     ⊎ ((e ≡ ended i word.Left a end.Interrupt) × (is_interruptible how ≡ true))
 
-pub record EndsInLine (old : Shown) (m : Mode) (n : ℕ) (how : How) (e : Entry) (new : Shown) : Type 0 where
+-- a call that joined the line, and left it by the step that a park of its seat led to
+pub record EndsInLine (did : Deed → Type 0) (old : Shown) (m : Mode) (n : ℕ) (how : How) (e : Entry)
+    (new : Shown) : Type 0 where
   pub asked : first_step how m n ≡ Acquire m n
+  pub not_interrupted : WasNotInterrupted did old.seat how
   pub joined : Entry
   pub queued : joined.word ≡ word.Queued
-  pub joins : IsMade old.seen old.seat (Acquire m n) joined new.seen
+  pub joins : IsMade did old.seen old.seat (Acquire m n) joined new.seen
+  pub limits : Limits
+  pub limited : LimitsFor did how limits
   pub step : Step
-  pub made : IsMade old.seen old.seat step e new.seen
+  pub comes : AfterPark did old.seat limits step
+  pub made : IsMade did old.seen old.seat step e new.seen
   pub last : IsLast e new.seen
   pub end : IsEndFor how old.seat (asking old.seat m n) e
   pub mine : new.mine ≡ e ∷ joined ∷ old.mine
 
 -- the entries of an acquire, by its answer
-abbrev pub IsAcquire : Shown → Mode → ℕ → How → Result Entry Fault → Shown → Type 0
-IsAcquire old m n how (Ok e) new =
-    ((step : Step) × IsAtOnce how m n step e.word × EndsAtOnce old step e new) ⊎ EndsInLine old m n how e new
-IsAcquire old m n how (Err f) new = EndsUnrecorded old how (first_step how m n) (EntryInterrupt m n) f new
+abbrev pub IsAcquire : (Deed → Type 0) → Shown → Mode → ℕ → How → Result Entry Fault → Shown → Type 0
+IsAcquire did old m n how (Ok e) new =
+    ((step : Step) × IsAtOnce did old.seat how m n step e.word × EndsAtOnce did old step e new)
+    ⊎ EndsInLine did old m n how e new
+IsAcquire did old m n how (Err f) new =
+    EndsUnrecorded did old how (first_step how m n) (EntryInterrupt m n) f new

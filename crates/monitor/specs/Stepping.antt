@@ -1,5 +1,5 @@
 -- What a step of a pass leaves.
-use Rattle.std.specs.Prelude.{◌≡◌, ℕ, List, [], ◌∷◌, ◌++◌, Option, Result, Ok, Err, IsOk}
+use Rattle.std.specs.Prelude.{◌≡◌, ℕ, List, [], ◌∷◌, ◌++◌, Option, Some, None, Result, Ok, Err, IsOk}
 use Rattle.history.specs.declared.entry.Entry.{Entry}
 use Rattle.history.specs.declared.fault.Fault.{Fault}
 use Rattle.history.specs.declared.step.Answer.{Answer}
@@ -7,6 +7,7 @@ use Rattle.history.specs.declared.step.Answer.TheVariants.{Recorded, Sleep}
 use Rattle.history.specs.declared.step.Step.{Step}
 use Rattle.frame.specs.Core.{IsAnswered, IsTold, IsTrimmed, MakesOwed}
 use Rattle.history.specs.declared.point.Point.{Point}
+use Rattle.permit.specs.Deed.{Deed, unparked}
 use Rattle.word_lock.specs.Point.{Before, Agrees}
 use Rattle.monitor.specs.Lawful.{view_of, Beside, IsLawful}
 use Rattle.monitor.specs.Shown.{Shown}
@@ -43,16 +44,36 @@ abbrev pub now_of : Result Answer Fault → Result Now Fault
 now_of (Ok answer) = Ok (Done answer)
 now_of (Err fault) = Err fault
 
+abbrev pub answer_of : Result Now Fault → Option (Result Answer Fault)
+answer_of (Ok (Done answer)) = Some (Ok answer)
+answer_of (Ok Busy) = None
+answer_of (Err fault) = Some (Err fault)
+
 -- a step that waits for nobody
 abbrev pub IsStepNow : Shown → Step → Result Now Fault → Shown → Type 0
 IsStepNow old step (Ok (Done answer)) new = IsStep old step (Ok answer) new
 IsStepNow old step (Ok Busy) new = new ≡ old
 IsStepNow old step (Err fault) new = IsStep old step (Err fault) new
 
--- a step that recorded its entry, or was refused
-abbrev pub IsEntered : Shown → Step → Result Entry Fault → Shown → Type 0
-IsEntered old step (Ok e) new = (named : Option ℕ) × IsStep old step (Ok (Recorded e named)) new
-IsEntered old step (Err f) new = IsStep old step (Err f) new
+-- the seat that an answer names, if it names one
+abbrev pub named_in : Result Answer Fault → Option ℕ
+named_in (Ok (Recorded e named)) = named
+named_in (Ok Sleep) = None
+named_in (Err fault) = None
+
+-- Here and in what follows, `did deed` says that this was done at the place where the seats park, or shown by
+-- its clock.
+
+-- the seat that a step named, if it named one, was unparked
+abbrev pub IsUnparked : (Deed → Type 0) → Option ℕ → Type 0
+IsUnparked did None = Unit {0}
+IsUnparked did (Some j) = did (unparked j)
+
+-- a step that recorded its entry, and the seat that it named was unparked; or a step that was refused
+abbrev pub IsEntered : (Deed → Type 0) → Shown → Step → Result Entry Fault → Shown → Type 0
+IsEntered did old step (Ok e) new =
+    (named : Option ℕ) × IsStep old step (Ok (Recorded e named)) new × IsUnparked did named
+IsEntered did old step (Err f) new = IsStep old step (Err f) new
 
 -- A trim found such a history, and folded it, or there were too many entries. It has added nothing.
 pub record IsTrim (old : Shown) (r : Result ℕ Fault) (new : Shown) : Type 0 where

@@ -1,18 +1,21 @@
 //! An acquire, which may wait in line.
-ghost use Rattle.std.specs.Prelude.{◌≡◌, ◌≤◌};
+ghost use Rattle.std.specs.Prelude.{◌≡◌, ◌≤◌, true};
 ghost use Rattle.word_lock.specs.Point.{Before};
-ghost use Rattle.history.specs.declared.step.Step.TheVariants.{EntryInterrupt};
 ghost use Rattle.monitor.specs.Load.{holds_of};
 ghost use Rattle.monitor.specs.Shown.{IsTrue};
-ghost use Rattle.monitor.specs.Stepping.{IsSame, IsEntered};
-ghost use Rattle.monitor.specs.Acquire.{IsAcquire, first_step};
+ghost use Rattle.monitor.specs.Stepping.{IsSame};
+ghost use Rattle.monitor.specs.Machine.{IsCall};
+ghost use Rattle.monitor.specs.Acquire.{IsAcquire, WasInterrupted, first_step};
 
-use crate::how::{How, limits, takes_interrupt};
+use crate::how::{How, moment};
+use crate::interrupts::Interrupts;
 use crate::load::{Empty, Load};
+use crate::machine::{Next, Request};
 use crate::monitor::Monitor;
 use crate::pass::Pass;
+use crate::step::unpark;
 use frame::hooks::Hooks;
-use history::entry::{Entry, Mode, Word};
+use history::entry::{Entry, Mode};
 use history::fault::Fault;
 use history::step::Step;
 use permit::Parking;
@@ -20,7 +23,7 @@ use std::sync::Wait;
 use std::time::Clock;
 
 // A call without time doesn't join the line.
-fn first_step(how: How, mode: Mode, n: u32) -> Step
+pub(crate) fn first_step(how: How, mode: Mode, n: u32) -> Step
     ensures { result ≡ first_step how mode n }
 {
     match how {
@@ -62,7 +65,7 @@ impl<H: Hooks + Drop> Monitor<H> {
         ensures same { IsSame pass.old pass.new }
         ensures begins { Before pass.old.seen pass.new.seen }
         ensures shows { IsTrue pass.new }
-        ensures acquired { IsAcquire pass.old mode n how result pass.new }
+        ensures acquired { IsAcquire (P.did parking.now) pass.old mode n how result pass.new }
     {
         self.acquire_with(rt, parking, pass, &mut Empty {}, mode, n, how)
     }
@@ -87,49 +90,74 @@ impl<H: Hooks + Drop, L: Load> Monitor<H, L> {
         ensures same { IsSame pass.old pass.new }
         ensures begins { Before pass.old.seen pass.new.seen }
         ensures shows { IsTrue pass.new }
-        ensures acquired { IsAcquire pass.old mode n how result pass.new }
+        ensures acquired { IsAcquire (P.did parking.now) pass.old mode n how result pass.new }
         ensures carries { L.carries load.new (holds_of pass.new) }
     {
-        if takes_interrupt(parking, pass, how) {
-            return self.refuse(rt, parking, pass, load, mode, n);
-        }
-        let limits = limits(rt, parking, how);
-        match self.enter(rt, parking, pass, load, first_step(how, mode, n)) {
-            Err(fault) => Err(fault),
-            Ok(entry) => match entry.word {
-                Word::Queued => {
-                    let last = self.wait(rt, parking, pass, load, None, limits);
-                    Ok(last)
-                }
-                _ => Ok(entry),
-            },
-        }
+        self.make(rt, parking, pass, load, Request::Acquire(mode, n), how)
     }
 
-    // A call that an interrupt ends before it began.
-    pub(crate) fn refuse<P: Parking, R: Wait + Clock>(
+    // A call that may wait.
+    pub(crate) fn make<P: Parking, R: Wait + Clock>(
         &self,
         rt: &R,
         parking: &P,
         pass: &mut Pass,
         load: &mut L,
-        mode: Mode,
-        n: u32,
+        request: Request,
+        how: How,
     ) -> Result<Entry, Fault>
         requires is_of { pass.old.lock ≡ self.now }
         requires places { self.now.header.seats ≤ P.seats parking.now }
         requires carries { L.carries load.old (holds_of pass.old) }
         ensures same { IsSame pass.old pass.new }
-        ensures entered { IsEntered pass.old (EntryInterrupt mode n) result pass.new }
+        ensures begins { Before pass.old.seen pass.new.seen }
         ensures shows { IsTrue pass.new }
+        ensures made { IsCall (P.did parking.now) pass.old request how result pass.new }
+        ensures carries { L.carries load.new (holds_of pass.new) }
+    {
+        if let Some(interrupts) = Interrupts::at_entry(parking, pass, how) {
+            return self.refuse(rt, parking, pass, load, request, how, interrupts);
+        }
+        let moment = moment(rt, parking, how);
+        let turn = self.begin(rt, pass, load, request, how, moment, false);
+        unpark(parking, turn.named);
+        match turn.next {
+            Next::Ends { reply, again: _ } => reply,
+            Next::Waits(waiting) => self.wait(rt, parking, pass, load, waiting),
+        }
+    }
+
+    // A call that an interrupt ends before it began.
+    fn refuse<P: Parking, R: Wait + Clock>(
+        &self,
+        rt: &R,
+        parking: &P,
+        pass: &mut Pass,
+        load: &mut L,
+        request: Request,
+        how: How,
+        interrupts: Interrupts,
+    ) -> Result<Entry, Fault>
+        requires is_of { pass.old.lock ≡ self.now }
+        requires places { self.now.header.seats ≤ P.seats parking.now }
+        requires interrupted { WasInterrupted (P.did parking.now) pass.old.seat how }
+        requires taken { (interrupts.seat ≡ pass.old.seat) × (interrupts.taken ≡ true) }
+        requires carries { L.carries load.old (holds_of pass.old) }
+        ensures same { IsSame pass.old pass.new }
+        ensures begins { Before pass.old.seen pass.new.seen }
+        ensures shows { IsTrue pass.new }
+        ensures made { IsCall (P.did parking.now) pass.old request how result pass.new }
         ensures carries { L.carries load.new (holds_of pass.new) }
     {
         pass.is_true();
-        let seat = pass.seat();
-        let refused = self.enter(rt, parking, pass, load, Step::EntryInterrupt(mode, n));
-        if refused.is_err() {
-            parking.interrupt(seat);
+        let refusal = self.begin(rt, pass, load, request, how, 0, true);
+        unpark(parking, refusal.named);
+        match refusal.next {
+            Next::Ends { reply, again: _ } => {
+                interrupts.settle(parking, reply);
+                reply
+            }
+            Next::Waits(_) => unreachable!(),
         }
-        refused
     }
 }

@@ -4,28 +4,35 @@ ghost use Rattle.word_lock.specs.Point.{Before};
 ghost use Rattle.monitor.specs.Load.{holds_of};
 ghost use Rattle.monitor.specs.Shown.{IsTrue};
 ghost use Rattle.monitor.specs.Stepping.{IsSame};
-ghost use Rattle.monitor.specs.AwaitOn.{IsAwait, due_first};
+ghost use Rattle.monitor.specs.AwaitOn.{IsAwait, first_stage};
 
-use crate::how::{How, limits, takes_interrupt};
+use crate::how::How;
 use crate::load::{Empty, Load};
+use crate::machine::Request;
 use crate::monitor::Monitor;
 use crate::pass::Pass;
+use crate::waiting::Stage;
 use frame::hooks::Hooks;
-use history::entry::{Entry, Mode, Word};
+use history::entry::Entry;
 use history::fault::Fault;
-use history::step::Step;
 use permit::Parking;
 use std::sync::Wait;
 use std::time::Clock;
 
 // An await without time expires before it parks.
-fn due_first(how: How) -> Option<Step>
-    ensures { result ≡ due_first how }
+pub(crate) fn first_stage(how: How) -> Stage
+    ensures { result ≡ first_stage how }
 {
     match how {
-        How::Timed(ms) => { if ms == 0 { Some(Step::Expire) } else { None } }
-        How::Plain => None,
-        How::Interruptible => None,
+        How::Timed(ms) => {
+            if ms == 0 {
+                Stage::Expires
+            } else {
+                Stage::Parks
+            }
+        }
+        How::Plain => Stage::Parks,
+        How::Interruptible => Stage::Parks,
     }
 }
 
@@ -55,7 +62,7 @@ impl<H: Hooks + Drop> Monitor<H> {
         ensures same { IsSame pass.old pass.new }
         ensures begins { Before pass.old.seen pass.new.seen }
         ensures shows { IsTrue pass.new }
-        ensures awaited { IsAwait pass.old condition how result pass.new }
+        ensures awaited { IsAwait (P.did parking.now) pass.old condition how result pass.new }
     {
         self.await_on_with(rt, parking, pass, &mut Empty {}, condition, how)
     }
@@ -79,22 +86,9 @@ impl<H: Hooks + Drop, L: Load> Monitor<H, L> {
         ensures same { IsSame pass.old pass.new }
         ensures begins { Before pass.old.seen pass.new.seen }
         ensures shows { IsTrue pass.new }
-        ensures awaited { IsAwait pass.old condition how result pass.new }
+        ensures awaited { IsAwait (P.did parking.now) pass.old condition how result pass.new }
         ensures carries { L.carries load.new (holds_of pass.new) }
     {
-        if takes_interrupt(parking, pass, how) {
-            return self.refuse(rt, parking, pass, load, Mode::X, 1);
-        }
-        let limits = limits(rt, parking, how);
-        match self.enter(rt, parking, pass, load, Step::Await(condition)) {
-            Err(fault) => Err(fault),
-            Ok(entry) => match entry.word {
-                Word::Await => {
-                    let last = self.wait(rt, parking, pass, load, due_first(how), limits);
-                    Ok(last)
-                }
-                _ => Ok(entry),
-            },
-        }
+        self.make(rt, parking, pass, load, Request::AwaitOn(condition), how)
     }
 }

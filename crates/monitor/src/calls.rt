@@ -32,7 +32,7 @@ impl<H: Hooks + Drop> Monitor<H> {
         requires is_of { pass.old.lock ≡ self.now }
         requires places { self.now.header.seats ≤ P.seats parking.now }
         ensures same { IsSame pass.old pass.new }
-        ensures tried { IsEntered pass.old (Try mode n) result pass.new }
+        ensures tried { IsEntered (P.did parking.now) pass.old (Try mode n) result pass.new }
         ensures shows { IsTrue pass.new }
     {
         pass.is_true();
@@ -51,7 +51,7 @@ impl<H: Hooks + Drop> Monitor<H> {
         requires is_of { pass.old.lock ≡ self.now }
         requires places { self.now.header.seats ≤ P.seats parking.now }
         ensures same { IsSame pass.old pass.new }
-        ensures given { IsEntered pass.old (Give mode n) result pass.new }
+        ensures given { IsEntered (P.did parking.now) pass.old (Give mode n) result pass.new }
         ensures shows { IsTrue pass.new }
     {
         pass.is_true();
@@ -68,7 +68,7 @@ impl<H: Hooks + Drop> Monitor<H> {
         requires is_of { pass.old.lock ≡ self.now }
         requires places { self.now.header.seats ≤ P.seats parking.now }
         ensures same { IsSame pass.old pass.new }
-        ensures counted { IsEntered pass.old (Give S 1) result pass.new }
+        ensures counted { IsEntered (P.did parking.now) pass.old (Give S 1) result pass.new }
         ensures shows { IsTrue pass.new }
     {
         pass.is_true();
@@ -85,7 +85,7 @@ impl<H: Hooks + Drop> Monitor<H> {
         requires is_of { pass.old.lock ≡ self.now }
         requires places { self.now.header.seats ≤ P.seats parking.now }
         ensures same { IsSame pass.old pass.new }
-        ensures drained { IsEntered pass.old (Drain) result pass.new }
+        ensures drained { IsEntered (P.did parking.now) pass.old (Drain) result pass.new }
         ensures shows { IsTrue pass.new }
     {
         pass.is_true();
@@ -106,7 +106,7 @@ impl<H: Hooks + Drop, L: Load> Monitor<H, L> {
         requires is_of { pass.old.lock ≡ self.now }
         requires places { self.now.header.seats ≤ P.seats parking.now }
         ensures same { IsSame pass.old pass.new }
-        ensures signalled { IsEntered pass.old (Signal condition) result pass.new }
+        ensures signalled { IsEntered (P.did parking.now) pass.old (Signal condition) result pass.new }
         ensures shows { IsTrue pass.new }
     {
         pass.is_true();
@@ -124,7 +124,7 @@ impl<H: Hooks + Drop, L: Load> Monitor<H, L> {
         requires is_of { pass.old.lock ≡ self.now }
         requires places { self.now.header.seats ≤ P.seats parking.now }
         ensures same { IsSame pass.old pass.new }
-        ensures signalled { IsEntered pass.old (SignalAll condition) result pass.new }
+        ensures signalled { IsEntered (P.did parking.now) pass.old (SignalAll condition) result pass.new }
         ensures shows { IsTrue pass.new }
     {
         pass.is_true();

@@ -1,8 +1,8 @@
 //! How long a call waits.
-ghost use Rattle.std.specs.Prelude.{◌≡◌, ◌≤◌, ◌+◌, ◌-◌, ◌^◌, min, true, IsSome};
-ghost use Rattle.monitor.specs.Acquire.{LimitsFor, is_interruptible, is_timed};
+ghost use Rattle.std.specs.Prelude.{◌≡◌};
+ghost use Rattle.monitor.specs.Acquire.{is_interruptible, moment_after};
+ghost use Rattle.monitor.specs.Machine.{WasShown, limits_from};
 
-use crate::pass::Pass;
 use crate::waiting::Limits;
 use permit::Parking;
 use std::time::Clock;
@@ -28,43 +28,35 @@ pub(crate) fn is_interruptible(how: How) -> bool
     }
 }
 
-// The moment that is so many milliseconds away, or the last one.
-fn moment(now: u64, milliseconds: u32) -> u64
-    ensures { result ≡ min (now + milliseconds) (2 ^ 64 - 1) }
+// The moment that is so many milliseconds behind another, or the last one.
+fn moment_after(moment: u64, milliseconds: u32) -> u64
+    ensures { result ≡ moment_after moment milliseconds }
 {
-    now.saturating_add(u64::from(milliseconds))
+    moment.saturating_add(u64::from(milliseconds))
 }
 
-fn until<P: Parking, R: Clock>(rt: &R, parking: &P, how: How) -> Option<u64>
-    ensures timed { is_timed how → IsSome result }
-    ensures only_timed { IsSome result → is_timed how }
+// How the parks of a call end: its time is counted from this moment.
+pub(crate) fn limits_from(moment: u64, how: How) -> Limits
+    ensures { result ≡ limits_from moment how }
 {
-    match how {
-        How::Timed(milliseconds) => Some(moment(parking.now(rt), milliseconds)),
+    let until = match how {
+        How::Timed(milliseconds) => Some(moment_after(moment, milliseconds)),
         How::Plain => None,
         How::Interruptible => None,
-    }
-}
-
-// How the parks of a call end: its time is counted from now.
-pub(crate) fn limits<P: Parking, R: Clock>(rt: &R, parking: &P, how: How) -> Limits
-    ensures { LimitsFor how result }
-{
+    };
     Limits {
-        until: until(rt, parking, how),
+        until,
         interruptible: is_interruptible(how),
     }
 }
 
-// Whether an interrupt is pending, where the call minds it. It is taken.
-pub(crate) fn takes_interrupt<P: Parking>(parking: &P, pass: &Pass, how: How) -> bool
-    requires places { pass.now.lock.header.seats ≤ P.seats parking.now }
-    ensures { result ≡ true → is_interruptible how ≡ true }
+// What the clock shows, if the call is timed.
+pub(crate) fn moment<P: Parking, R: Clock>(rt: &R, parking: &P, how: How) -> u64
+    ensures { WasShown (P.did parking.now) how result }
 {
-    pass.is_true();
-    if is_interruptible(how) {
-        parking.take_interrupt(pass.seat())
-    } else {
-        false
+    match how {
+        How::Timed(_) => parking.now(rt),
+        How::Plain => 0,
+        How::Interruptible => 0,
     }
 }

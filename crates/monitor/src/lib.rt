@@ -31,10 +31,20 @@
 //! its own place; the reply is the last entry seen; a fault is the answer of the definitions, and nothing
 //! was recorded. `step_now` waits for nobody, and its Busy leaves the pass as it was.
 //!
+//! Proved too of each call that has a parking, by the deeds that the parking's methods leave:
+//! - The seat that a step of the call named was unparked.
+//! - The deadline of a timed call is counted from a moment that the clock showed.
+//! - A call that minds interrupts asked for a pending one first. It is refused only if it took one, which is
+//!   pending again if the refusal couldn't be recorded.
+//! - The entry that ended a wait is that of the step to which a park of its seat led, and the seat was parked
+//!   as the call says. The exceptions: an await without time expires before it parks, and a sleeper looks
+//!   behind its own lapse.
+//! - An interrupt that a park told is told by the reply, or set again. The compiler refuses a body that
+//!   forgets it, since the value that stands for it can't be dropped.
+//!
 //! Not promised: that a waiter wakes, that a waiting call returns, or in which order threads are served
 //! between two steps. A parking promises only that it tells no deadline where there is none, and no
-//! interrupt where it may not. That a waiter parks, and that the named seat is unparked, are shown by
-//! tests.
+//! interrupt where it may not.
 //!
 //! The form is that of Doug Lea's "The java.util.concurrent Synchronizer Framework" (2005).
 #![tactic(auto)]
@@ -44,8 +54,10 @@ mod await_on;
 mod calls;
 mod closing;
 mod how;
+mod interrupts;
 mod kept;
 mod load;
+mod machine;
 mod monitor;
 mod observing;
 mod pass;
@@ -56,6 +68,8 @@ mod waiting;
 pub use closing::{CloseFault, Closed};
 pub use how::How;
 pub use load::{Empty, Holds, Load};
+pub use machine::{Next, Request, Turn, Waiting};
 pub use monitor::Monitor;
 pub use pass::Pass;
 pub use step::Now;
+pub use waiting::Limits;

@@ -1,9 +1,9 @@
 //! One step of a seat.
-ghost use Rattle.std.specs.Prelude.{◌≡◌, ◌≤◌, false, true};
+ghost use Rattle.std.specs.Prelude.{◌≡◌, ◌<◌, ◌≤◌, false, true, IfSome};
 ghost use Rattle.history.specs.Phase.{waits};
 ghost use Rattle.monitor.specs.Load.{holds_of, is_signal};
 ghost use Rattle.monitor.specs.Shown.{IsTrue};
-ghost use Rattle.monitor.specs.Stepping.{IsSame, IsStep, IsStepNow, IsEntered, now_of};
+ghost use Rattle.monitor.specs.Stepping.{IsSame, IsStep, IsStepNow, IsEntered, IsUnparked, named_in, now_of};
 
 use crate::load::{Empty, Load};
 use crate::monitor::Monitor;
@@ -78,11 +78,25 @@ impl<H: Hooks + Drop, L: Load> Monitor<H, L> {
         ensures shows { IsTrue pass.new }
         ensures carries { L.carries load.new (holds_of pass.new) }
     {
+        let answer = self.step_quietly(pass, load, step);
+        self.lock.wake();
+        answer
+    }
+
+    /// The same, but it wakes nobody who waits for the object: for a static library, in which nobody waits.
+    pub fn step_quietly(&self, pass: &mut Pass, load: &mut L, step: Step) -> Result<Now, Fault>
+        requires is_of { pass.old.lock ≡ self.now }
+        requires carries { L.carries load.old (holds_of pass.old) }
+        ensures same { IsSame pass.old pass.new }
+        ensures stepped { IsStepNow pass.old step result pass.new }
+        ensures shows { IsTrue pass.new }
+        ensures carries { L.carries load.new (holds_of pass.new) }
+    {
         let Some(mut held) = self.lock.lock_now(&mut pass.token) else {
             return Ok(Now::Busy);
         };
         let answer = held.value.step(pass.seat, step, load);
-        self.lock.unlock(&mut pass.token, held);
+        self.lock.unlock_quietly(&mut pass.token, held);
         pass.share = share_behind(pass.share, &answer);
         done(answer)
     }
@@ -101,13 +115,12 @@ impl<H: Hooks + Drop, L: Load> Monitor<H, L> {
         requires carries { L.carries load.old (holds_of pass.old) }
         ensures same { IsSame pass.old pass.new }
         ensures stepped { IsStep pass.old step result pass.new }
+        ensures unparked { IsUnparked (P.did parking.now) (named_in result) }
         ensures shows { IsTrue pass.new }
         ensures carries { L.carries load.new (holds_of pass.new) }
     {
         let answer = self.step_with(rt, pass, load, step);
-        if let Ok(Answer::Recorded(_, Some(seat))) = answer {
-            parking.unpark(seat);
-        }
+        unpark(parking, named_in(answer));
         answer
     }
 
@@ -126,7 +139,7 @@ impl<H: Hooks + Drop, L: Load> Monitor<H, L> {
         requires idle { waits step ≡ false }
         requires carries { L.carries load.old (holds_of pass.old) }
         ensures same { IsSame pass.old pass.new }
-        ensures entered { IsEntered pass.old step result pass.new }
+        ensures entered { IsEntered (P.did parking.now) pass.old step result pass.new }
         ensures shows { IsTrue pass.new }
         ensures carries { L.carries load.new (holds_of pass.new) }
     {
@@ -165,13 +178,12 @@ impl<H: Hooks + Drop, L: Load> Monitor<H, L> {
         requires signals { is_signal step ≡ true }
         ensures same { IsSame pass.old pass.new }
         ensures stepped { IsStep pass.old step result pass.new }
+        ensures unparked { IsUnparked (P.did parking.now) (named_in result) }
         ensures shows { IsTrue pass.new }
     {
-        let answer = self.signal_step(rt, pass, step);
-        if let Ok(Answer::Recorded(_, Some(seat))) = answer {
-            parking.unpark(seat);
-        }
-        answer
+        let told = self.signal_step(rt, pass, step);
+        unpark(parking, named_in(told));
+        told
     }
 
     // A signal of an idle seat, which is answered with its entry or a fault.
@@ -186,7 +198,7 @@ impl<H: Hooks + Drop, L: Load> Monitor<H, L> {
         requires places { self.now.header.seats ≤ P.seats parking.now }
         requires signals { is_signal step ≡ true }
         ensures same { IsSame pass.old pass.new }
-        ensures entered { IsEntered pass.old step result pass.new }
+        ensures entered { IsEntered (P.did parking.now) pass.old step result pass.new }
         ensures shows { IsTrue pass.new }
     {
         match self.signal_call(rt, parking, pass, step) {
@@ -194,6 +206,26 @@ impl<H: Hooks + Drop, L: Load> Monitor<H, L> {
             Ok(Answer::Sleep) => unreachable!(),
             Err(fault) => Err(fault),
         }
+    }
+}
+
+// The seat that an answer names.
+fn named_in(answer: Result<Answer, Fault>) -> Option<u16>
+    ensures { result ≡ named_in answer }
+{
+    match answer {
+        Ok(Answer::Recorded(_, named)) => named,
+        Ok(Answer::Sleep) => None,
+        Err(_) => None,
+    }
+}
+
+pub(crate) fn unpark<P: Parking>(parking: &P, named: Option<u16>)
+    requires { IfSome named (λ j. j < P.seats parking.now) }
+    ensures { IsUnparked (P.did parking.now) named }
+{
+    if let Some(seat) = named {
+        parking.unpark(seat);
     }
 }
 

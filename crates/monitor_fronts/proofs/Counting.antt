@@ -23,9 +23,10 @@ use Rattle.history.specs.Could.{is_seat}
 use Rattle.history.specs.Awaiting.{back_from, signalled, lapsed, lapse_from}
 use Rattle.history.specs.Start.{Sleep}
 use Rattle.std.proofs.lemmas.Bool.{eq-eqb}
+use Rattle.permit.specs.Deed.{Deed}
 use Rattle.word_lock.specs.Point.{header_of}
 use Rattle.word_lock.specs.Ticket.{LockId}
-use Rattle.monitor.specs.AwaitOn.{EndsAwait, IsAwait, IsAwaitRefused, LapsesAndReturns}
+use Rattle.monitor.specs.AwaitOn.{EndsAwait, IsAwait, IsAwaitRefused, LapsesAndReturns, ReturnsSignalled}
 use Rattle.history.specs.Counts.{Counts, counts, held, holds_after, owner}
 use Rattle.history.specs.Entry.{same_mode}
 use Rattle.history.specs.Object.{in_holds, is_lock}
@@ -115,21 +116,25 @@ refused_adds_none k i e had f w =
     same true = refl
     same false = refl
 
-refused_word : (how : How) (c : ℕ) (step : Step) (w : Word) → IsAwaitRefused how c step w →
-    (f : Fault) × (w ≡ word.Refused f)
-refused_word how c step w (inl (q, inl x)) = (fault.NotOwner, x)
-refused_word how c step w (inl (q, inr x)) = (fault.HoldsRead, x)
-refused_word how c step w (inr x) = (fault.Interrupted, x.2)
+refused_word : (did : Deed → Type 0) (i : ℕ) (how : How) (c : ℕ) (step : Step) (w : Word) →
+    IsAwaitRefused did i how c step w → (f : Fault) × (w ≡ word.Refused f)
+refused_word did i how c step w (inl x) = by x.1
+  where
+    by : (w ≡ word.Refused fault.NotOwner) ⊎ (w ≡ word.Refused fault.HoldsRead) →
+        (f : Fault) × (w ≡ word.Refused f)
+    by (inl y) = (fault.NotOwner, y)
+    by (inr y) = (fault.HoldsRead, y)
+refused_word did i how c step w (inr x) = (fault.Interrupted, x.1)
 
 -- who awaited holds as much as before
-pub await_holds : (old new : Shown) (c : ℕ) (how : How) (r : Result Entry Fault) → IsSame old new →
-    IsAwait old c how r new → holds new ≡ holds old
-await_holds old new c how (Ok e) same (inl a) =
+pub await_holds : (did : Deed → Type 0) (old new : Shown) (c : ℕ) (how : How) (r : Result Entry Fault) →
+    IsSame old new → IsAwait did old c how r new → holds new ≡ holds old
+await_holds did old new c how (Ok e) same (inl a) =
     let k = old.lock.header in
-    let f = refused_word how c a.0 e.word a.1 in
+    let f = refused_word did old.seat how c a.0 e.word a.1 in
     of_own old new same ∙ (ap (λ (l : List Entry). held (opening k) l old.seat X) a.2.mine
     ∙ refused_adds_none k old.seat e (holds old) f.0 f.1)
-await_holds old new c how (Ok e) same (inr x) = by x.end
+await_holds did old new c how (Ok e) same (inr x) = by x.end
   where
     k : Header
     k = old.lock.header
@@ -152,15 +157,16 @@ await_holds old new c how (Ok e) same (inr x) = by x.end
         let gave = x.gave_up in
         omega (arith, is, adds, n, nothing, gave)
 
-    by : ((e ≡ back_from old.seat (signalled x.slept.at x.slept.n)) × (new.mine ≡ e ∷ x.slept ∷ old.mine))
-        ⊎ LapsesAndReturns old how x.slept e new → holds new ≡ holds old
-    by (inl z) = holds_back (signalled x.slept.at x.slept.n) (x.slept ∷ old.mine) refl none z.0 z.1
+    by : ReturnsSignalled did old how x.limits x.slept x.step e new
+        ⊎ LapsesAndReturns did old how x.limits x.slept x.step e new → holds new ≡ holds old
+    by (inl z) =
+        holds_back (signalled x.slept.at x.slept.n) (x.slept ∷ old.mine) refl none z.back z.mine
     by (inr z) =
         let v = signalled x.slept.at x.slept.n in
         holds_back (lapsed v z.end) (lapse_from old.seat v z.end ∷ x.slept ∷ old.mine) refl
         (lapse_adds_none k old.seat v z.end (held (opening k) (x.slept ∷ old.mine) old.seat X) ∙ none)
         z.back z.mine
-await_holds old new c how (Err f) same x =
+await_holds did old new c how (Err f) same x =
     of_own old new same ∙ ap (λ (l : List Entry). held (opening old.lock.header) l old.seat X) x.stepped.mine
 
 same_either : (b : Bool) (n : ℕ) → cond b n n ≡ n
@@ -199,12 +205,12 @@ told_keeps old new (SignalAll c) e name signal s =
     (length (sleepers (start_at s.found) s.found.entries c)) old.seat c (holds old) (λ m. refl)
 told_keeps old new _ e name signal s = cc
 
-pub signal_keeps : (old new : Shown) (step : Step) (r : Result Entry Fault) → is_signal step ≡ true →
-    IsSame old new → IsEntered old step r new → holds new ≡ holds old
-signal_keeps old new step (Ok e) signal same s =
+pub signal_keeps : (did : Deed → Type 0) (old new : Shown) (step : Step) (r : Result Entry Fault) →
+    is_signal step ≡ true → IsSame old new → IsEntered did old step r new → holds new ≡ holds old
+signal_keeps did old new step (Ok e) signal same s =
     of_own old new same ∙ (ap (λ (l : List Entry). held (opening old.lock.header) l old.seat X) s.1.mine
     ∙ told_keeps old new step e s.0 signal s.1)
-signal_keeps old new step (Err f) signal same s =
+signal_keeps did old new step (Err f) signal same s =
     of_own old new same ∙ ap (λ (l : List Entry). held (opening old.lock.header) l old.seat X) s.mine
 
 -- a fold changes no holds

@@ -25,6 +25,7 @@ use Rattle.history.specs.Object.{in_holds, is_lock}
 use Rattle.history.specs.Start.{Start, opening}
 use Rattle.history.specs.Could.{try_held_back}
 use Rattle.history.specs.Steps.{ended, entry_for, gave, idle_entry, plain}
+use Rattle.permit.specs.Deed.{Deed}
 use Rattle.word_lock.specs.Point.{header_of}
 use Rattle.word_lock.specs.Ticket.{LockId}
 use Rattle.monitor.specs.Acquire.{AtOnce, EndsAtOnce, EndsInLine, IsAcquire, IsAtOnce, IsEndFor, first_step, has_time, is_timed}
@@ -79,17 +80,17 @@ gains_as : (k : Header) (i : ℕ) (e f : Entry) → e ≡ f → Gains k i f → 
 gains_as k i e f q g had =
     subst (λ (z : Entry). after k i z had ≡ had + gained (whether_of (Ok z))) (sym q) (g had)
 
-first_gains : (old : Shown) (how : How) (step : Step) (e : Entry) (new : Shown) →
-    is_lock old.lock.header.object ≡ true → IsAtOnce how X 1 step e.word → EndsAtOnce old step e new →
-    Gains old.lock.header old.seat e
-first_gains old how step e new lock (inl a) x =
+first_gains : (did : Deed → Type 0) (old : Shown) (how : How) (step : Step) (e : Entry) (new : Shown) →
+    is_lock old.lock.header.object ≡ true → IsAtOnce did old.seat how X 1 step e.word →
+    EndsAtOnce did old step e new → Gains old.lock.header old.seat e
+first_gains did old how step e new lock (inl a) x =
     let m = x.made in
     let made = subst (λ (t : Step). entry_for (start_at m.front) m.front.entries old.seat t ≡ Ok (Some e)) a.0
     m.made in
     gains_as old.lock.header old.seat e (plain old.seat e.word X 1)
     (first_plain (start_at m.front) m.front.entries old.seat how X 1 e made)
     (at_once_gains how old.lock.header old.seat e.word lock a.1)
-first_gains old how step e new lock (inr b) x = λ had.
+first_gains did old how step e new lock (inr b) x = λ had.
     (let k = old.lock.header in let i : ℕ = old.seat in let m = x.made in
     let made = subst (λ (t : Step). entry_for (start_at m.front) m.front.entries i t ≡ Ok (Some e)) b.0 m.made in
     let none : had ≡ had + 0 = omega arith in
@@ -111,19 +112,19 @@ end_gains how k i e lock (inr (inr q)) =
     ∙ (let zero : had ≡ had + 0 = omega arith in zero))
 
 -- an acquire adds one hold exactly where it tells so
-pub acquire_gains : (old new : Shown) (how : How) (r : Result Entry Fault) →
-    is_lock old.lock.header.object ≡ true → IsSame old new → IsAcquire old X 1 how r new →
+pub acquire_gains : (did : Deed → Type 0) (old new : Shown) (how : How) (r : Result Entry Fault) →
+    is_lock old.lock.header.object ≡ true → IsSame old new → IsAcquire did old X 1 how r new →
     holds new ≡ holds old + gained (whether_of r)
-acquire_gains old new how (Ok e) lock same (inl a) =
+acquire_gains did old new how (Ok e) lock same (inl a) =
     of_own old new same ∙ (ap (λ (l : List Entry). held (opening old.lock.header) l old.seat X) a.2.mine
-    ∙ first_gains old how a.0 e new lock a.1 a.2 (holds old))
-acquire_gains old new how (Ok e) lock same (inr x) =
+    ∙ first_gains did old how a.0 e new lock a.1 a.2 (holds old))
+acquire_gains did old new how (Ok e) lock same (inr x) =
     let k = old.lock.header in
     of_own old new same ∙ (ap (λ (l : List Entry). held (opening k) l old.seat X) x.mine
     ∙ (end_gains how k old.seat e lock x.end (after k old.seat x.joined (holds old))
     ∙ ap (λ (n : ℕ). n + gained (whether_of (Ok e)))
     (queued_adds_none k old.seat x.joined (holds old) x.queued)))
-acquire_gains old new how (Err f) lock same x =
+acquire_gains did old new how (Err f) lock same x =
     let zero : holds old ≡ holds old + 0 = omega arith in
     of_own old new same ∙ (ap (λ (l : List Entry). held (opening old.lock.header) l old.seat X) x.stepped.mine
     ∙ zero)
@@ -137,10 +138,10 @@ gave_own (Semaphore p c) k i q l = cc
 gave_own (Latch c) k i q l = cc
 
 -- what a give of an owner records
-pub gave_is : (old new : Shown) (e : Entry) → is_lock old.lock.header.object ≡ true → IsSame old new →
-    IsTrue new → IsEntered old (Give X 1) (Ok e) new → 0 < holds old → e ≡ plain old.seat word.Gave X 1
+pub gave_is : (did : Deed → Type 0) (old new : Shown) (e : Entry) → is_lock old.lock.header.object ≡ true →
+    IsSame old new → IsTrue new → IsEntered did old (Give X 1) (Ok e) new → 0 < holds old → e ≡ plain old.seat word.Gave X 1
 unfolding header_of
-gave_is old new e lock same shows s some =
+gave_is did old new e lock same shows s some =
     let k = old.lock.header in
     let x = s.1 in
     let r = records (view_of x.found x.beside) (view_of new.seen x.beside_left) old.seat (Give X 1) e s.0
@@ -157,11 +158,11 @@ gave_is old new e lock same shows s some =
     i.is ∙ ap (λ (z : Word). plain old.seat z X 1) w
 
 -- it takes one hold
-pub give_takes : (old new : Shown) (e : Entry) → is_lock old.lock.header.object ≡ true →
-    IsSame old new → IsTrue new → IsEntered old (Give X 1) (Ok e) new → 0 < holds old → holds new + 1 ≡ holds old
-give_takes old new e lock same shows s some =
+pub give_takes : (did : Deed → Type 0) (old new : Shown) (e : Entry) → is_lock old.lock.header.object ≡ true →
+    IsSame old new → IsTrue new → IsEntered did old (Give X 1) (Ok e) new → 0 < holds old → holds new + 1 ≡ holds old
+give_takes did old new e lock same shows s some =
     let k = old.lock.header in
-    let is = gave_is old new e lock same shows s some in
+    let is = gave_is did old new e lock same shows s some in
     let one = one_hold k.object 1 lock in
     let left : holds new ≡ holds old - in_holds k.object 1 =
     of_own old new same ∙ (ap (λ (l : List Entry). held (opening k) l old.seat X) s.1.mine
@@ -191,9 +192,9 @@ tries_gain k i w lock (inr (inr q)) =
     (λ had. own_after k i word.TryGot 1 0 end.None had ∙ ap (λ (n : ℕ). had + n) (one_hold k.object 1 lock))
 
 -- a try adds one hold exactly where it tells so
-pub try_gains : (old new : Shown) (r : Result Entry Fault) → is_lock old.lock.header.object ≡ true →
-    IsSame old new → IsEntered old (Try X 1) r new → holds new ≡ holds old + gained (whether_of r)
-try_gains old new (Ok e) lock same s =
+pub try_gains : (did : Deed → Type 0) (old new : Shown) (r : Result Entry Fault) →
+    is_lock old.lock.header.object ≡ true → IsSame old new → IsEntered did old (Try X 1) r new → holds new ≡ holds old + gained (whether_of r)
+try_gains did old new (Ok e) lock same s =
     let k = old.lock.header in
     let x = s.1 in
     let r = records (view_of x.found x.beside) (view_of new.seen x.beside_left) old.seat (Try X 1) e s.0
@@ -204,7 +205,7 @@ try_gains old new (Ok e) lock same s =
     let w = tried_words (try_held_back n first old.seat X) (limit n old.seat X) (could n old.seat X 1) in
     of_own old new same ∙ (ap (λ (l : List Entry). held (opening k) l old.seat X) x.mine
     ∙ gains_as k old.seat e _ i.is (tries_gain k old.seat _ lock w) (holds old))
-try_gains old new (Err f) lock same s =
+try_gains did old new (Err f) lock same s =
     let zero : holds old ≡ holds old + 0 = omega arith in
     of_own old new same ∙ (ap (λ (l : List Entry). held (opening old.lock.header) l old.seat X) s.mine ∙ zero)
 
@@ -232,15 +233,15 @@ at_once_untimed how _ never a told = absurd a
 told_plain : (i : ℕ) (e : Entry) → e ≡ plain i e.word X 1 → whether_of (Ok e) ≡ whether_by e.word end.None
 told_plain i e q = ap (λ (z : Entry). whether_by e.word z.end) q
 
-pub waits_to_the_end : (old new : Shown) (how : How) (r : Result Entry Fault) → (is_timed how → ⊥) →
-    IsAcquire old X 1 how r new → whether_of r ≡ Ok false → ⊥
-waits_to_the_end old new how (Ok e) never (inl (step, (inl a, x))) told =
+pub waits_to_the_end : (did : Deed → Type 0) (old new : Shown) (how : How) (r : Result Entry Fault) →
+    (is_timed how → ⊥) → IsAcquire did old X 1 how r new → whether_of r ≡ Ok false → ⊥
+waits_to_the_end did old new how (Ok e) never (inl (step, inl a, x)) told =
     let m = x.made in
     let made = subst (λ (t : Step). entry_for (start_at m.front) m.front.entries old.seat t ≡ Ok (Some e)) a.0
     m.made in
     let q = first_plain (start_at m.front) m.front.entries old.seat how X 1 e made in
     at_once_untimed how e.word never a.1 (sym (told_plain old.seat e q) ∙ told)
-waits_to_the_end old new how (Ok e) never (inl (step, (inr b, x))) told =
-    let t = ap (λ (w : Word). whether_by w e.end) (sym b.2) ∙ told in cc
-waits_to_the_end old new how (Ok e) never (inr x) told = ends_untimed how old.seat e never x.end told
-waits_to_the_end old new how (Err f) never x told = cc
+waits_to_the_end did old new how (Ok e) never (inl (step, inr b, x)) told =
+    let t = ap (λ (w : Word). whether_by w e.end) (sym b.1) ∙ told in cc
+waits_to_the_end did old new how (Ok e) never (inr x) told = ends_untimed how old.seat e never x.end told
+waits_to_the_end did old new how (Err f) never x told = cc

@@ -19,6 +19,7 @@ use Rattle.history.specs.Phase.{Phase, Idle, phase, suits}
 use Rattle.history.specs.Start.{Start}
 use Rattle.history.specs.Steps.{entry_for, phase_entry, plain}
 use Rattle.history.proofs.IdleOwners.{owner_idle}
+use Rattle.permit.specs.Deed.{Deed}
 use Rattle.word_lock.specs.Point.{header_of}
 use Rattle.word_lock.proofs.PointLaws.{before_header}
 use Rattle.monitor.specs.Lawful.{IsLawful, start_at}
@@ -64,10 +65,10 @@ point_gives p i l lock some =
     (owner_idle p.base p.entries l.may_fold.can i some)
 
 -- An owner's give is recorded: it finds room and memory, since it was owed.
-pub give_recorded : (old new : Shown) (r : Result Entry Fault) → is_lock old.lock.header.object ≡ true →
-    IsSame old new → IsTrue old → IsEntered old (Give X 1) r new → 0 < holds old → IsOk r
-give_recorded old new (Ok e) lock same shows s some = refl
-give_recorded old new (Err f) lock same shows s some =
+pub give_recorded : (did : Deed → Type 0) (old new : Shown) (r : Result Entry Fault) →
+    is_lock old.lock.header.object ≡ true → IsSame old new → IsTrue old → IsEntered did old (Give X 1) r new → 0 < holds old → IsOk r
+give_recorded did old new (Ok e) lock same shows s some = refl
+give_recorded did old new (Err f) lock same shows s some =
     let header : header_of s.found ≡ old.lock.header = sym (before_header old.seen s.found s.begins) ∙ shows.header in
     let is : is_lock s.found.base.header.object ≡ true =
     ap (λ (k : Header). is_lock k.object) (sym (header_shown s.found) ∙ header) ∙ lock in
@@ -77,10 +78,10 @@ give_recorded old new (Err f) lock same shows s some =
     s.owed (plain old.seat word.Gave X 1, point_gives s.found old.seat s.lawful is there, is)
 
 -- and that is what is told of it
-pub give_told : (old new : Shown) (r : Result Entry Fault) → is_lock old.lock.header.object ≡ true →
-    IsSame old new → IsTrue old → IsTrue new → IsEntered old (Give X 1) r new → 0 < holds old →
+pub give_told : (did : Deed → Type 0) (old new : Shown) (r : Result Entry Fault) →
+    is_lock old.lock.header.object ≡ true → IsSame old new → IsTrue old → IsTrue new → IsEntered did old (Give X 1) r new → 0 < holds old →
     whether_of r ≡ Ok true
-give_told old new (Ok e) lock same was shows s some =
-    ap (λ (z : Entry). whether_of (Ok z)) (gave_is old new e lock same shows s some)
-give_told old new (Err f) lock same was shows s some =
-    absurd (let ok = give_recorded old new (Err f) lock same was s some in cc)
+give_told did old new (Ok e) lock same was shows s some =
+    ap (λ (z : Entry). whether_of (Ok z)) (gave_is did old new e lock same shows s some)
+give_told did old new (Err f) lock same was shows s some =
+    absurd (let ok = give_recorded did old new (Err f) lock same was s some in cc)

@@ -47,7 +47,7 @@ impl<'m> Latch<'m> {
         ensures begins { Before pass.old.seen pass.new.seen }
         ensures shows { IsTrue pass.new }
         ensures acquired { Tells done_of
-            (λ reply. IsAcquire pass.old S 1 Interruptible reply pass.new) result }
+            (λ reply. IsAcquire (P.did parking.now) pass.old S 1 Interruptible reply pass.new) result }
     {
         done(
             self.monitor
@@ -69,7 +69,7 @@ impl<'m> Latch<'m> {
         ensures begins { Before pass.old.seen pass.new.seen }
         ensures shows { IsTrue pass.new }
         ensures acquired { Tells whether_of
-            (λ reply. IsAcquire pass.old S 1 (Timed ms) reply pass.new) result }
+            (λ reply. IsAcquire (P.did parking.now) pass.old S 1 (Timed ms) reply pass.new) result }
     {
         whether(
             self.monitor
@@ -89,7 +89,7 @@ impl<'m> Latch<'m> {
         ensures same { IsSame pass.old pass.new }
         ensures shows { IsTrue pass.new }
         ensures entered { Tells done_of
-            (λ reply. IsEntered pass.old (Give S 1) reply pass.new) result }
+            (λ reply. IsEntered (P.did parking.now) pass.old (Give S 1) reply pass.new) result }
     {
         done(self.monitor.count_down(rt, parking, pass))
     }

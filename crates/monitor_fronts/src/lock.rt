@@ -50,7 +50,7 @@ impl<'m> ReentrantLock<'m> {
         ensures begins { Before pass.old.seen pass.new.seen }
         ensures shows { IsTrue pass.new }
         ensures acquired { Tells done_of
-            (λ reply. IsAcquire pass.old X 1 Plain reply pass.new) result }
+            (λ reply. IsAcquire (P.did parking.now) pass.old X 1 Plain reply pass.new) result }
     {
         done(
             self.monitor
@@ -71,7 +71,7 @@ impl<'m> ReentrantLock<'m> {
         ensures begins { Before pass.old.seen pass.new.seen }
         ensures shows { IsTrue pass.new }
         ensures acquired { Tells done_of
-            (λ reply. IsAcquire pass.old X 1 Interruptible reply pass.new) result }
+            (λ reply. IsAcquire (P.did parking.now) pass.old X 1 Interruptible reply pass.new) result }
     {
         done(
             self.monitor
@@ -92,7 +92,7 @@ impl<'m> ReentrantLock<'m> {
         ensures same { IsSame pass.old pass.new }
         ensures shows { IsTrue pass.new }
         ensures entered { Tells whether_of
-            (λ reply. IsEntered pass.old (Try X 1) reply pass.new) result }
+            (λ reply. IsEntered (P.did parking.now) pass.old (Try X 1) reply pass.new) result }
     {
         whether(self.monitor.try_acquire(rt, parking, pass, Mode::X, 1))
     }
@@ -113,7 +113,7 @@ impl<'m> ReentrantLock<'m> {
         ensures begins { Before pass.old.seen pass.new.seen }
         ensures shows { IsTrue pass.new }
         ensures acquired { Tells whether_of
-            (λ reply. IsAcquire pass.old X 1 (Timed ms) reply pass.new) result }
+            (λ reply. IsAcquire (P.did parking.now) pass.old X 1 (Timed ms) reply pass.new) result }
     {
         whether(
             self.monitor
@@ -134,7 +134,7 @@ impl<'m> ReentrantLock<'m> {
         ensures same { IsSame pass.old pass.new }
         ensures shows { IsTrue pass.new }
         ensures entered { Tells done_of
-            (λ reply. IsEntered pass.old (Give X 1) reply pass.new) result }
+            (λ reply. IsEntered (P.did parking.now) pass.old (Give X 1) reply pass.new) result }
         ensures owner { is_lock self.now.monitor.now.header.object ≡ true → 0 < holds pass.old → IsOk result }
     {
         pass.is_true();
@@ -157,7 +157,7 @@ impl<'m> ReentrantLock<'m> {
         ensures begins { Before pass.old.seen pass.new.seen }
         ensures shows { IsTrue pass.new }
         ensures awaited { Tells done_of
-            (λ reply. IsAwait pass.old condition Interruptible reply pass.new) result }
+            (λ reply. IsAwait (P.did parking.now) pass.old condition Interruptible reply pass.new) result }
     {
         done(
             self.monitor
@@ -179,7 +179,7 @@ impl<'m> ReentrantLock<'m> {
         ensures begins { Before pass.old.seen pass.new.seen }
         ensures shows { IsTrue pass.new }
         ensures awaited { Tells done_of
-            (λ reply. IsAwait pass.old condition Plain reply pass.new) result }
+            (λ reply. IsAwait (P.did parking.now) pass.old condition Plain reply pass.new) result }
     {
         done(
             self.monitor
@@ -203,7 +203,7 @@ impl<'m> ReentrantLock<'m> {
         ensures begins { Before pass.old.seen pass.new.seen }
         ensures shows { IsTrue pass.new }
         ensures awaited { Tells whether_of
-            (λ reply. IsAwait pass.old condition (Timed ms) reply pass.new) result }
+            (λ reply. IsAwait (P.did parking.now) pass.old condition (Timed ms) reply pass.new) result }
     {
         whether(
             self.monitor
@@ -224,7 +224,7 @@ impl<'m> ReentrantLock<'m> {
         ensures same { IsSame pass.old pass.new }
         ensures shows { IsTrue pass.new }
         ensures entered { Tells done_of
-            (λ reply. IsEntered pass.old (Signal condition) reply pass.new) result }
+            (λ reply. IsEntered (P.did parking.now) pass.old (Signal condition) reply pass.new) result }
     {
         done(self.monitor.signal(rt, parking, pass, condition))
     }
@@ -242,7 +242,7 @@ impl<'m> ReentrantLock<'m> {
         ensures same { IsSame pass.old pass.new }
         ensures shows { IsTrue pass.new }
         ensures entered { Tells done_of
-            (λ reply. IsEntered pass.old (SignalAll condition) reply pass.new) result }
+            (λ reply. IsEntered (P.did parking.now) pass.old (SignalAll condition) reply pass.new) result }
     {
         done(self.monitor.signal_all(rt, parking, pass, condition))
     }

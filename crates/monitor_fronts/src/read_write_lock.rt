@@ -49,7 +49,7 @@ impl<'m> ReadWriteLock<'m> {
         ensures begins { Before pass.old.seen pass.new.seen }
         ensures shows { IsTrue pass.new }
         ensures acquired { Tells done_of
-            (λ reply. IsAcquire pass.old X 1 Plain reply pass.new) result }
+            (λ reply. IsAcquire (P.did parking.now) pass.old X 1 Plain reply pass.new) result }
     {
         done(
             self.monitor
@@ -70,7 +70,7 @@ impl<'m> ReadWriteLock<'m> {
         ensures begins { Before pass.old.seen pass.new.seen }
         ensures shows { IsTrue pass.new }
         ensures acquired { Tells done_of
-            (λ reply. IsAcquire pass.old X 1 Interruptible reply pass.new) result }
+            (λ reply. IsAcquire (P.did parking.now) pass.old X 1 Interruptible reply pass.new) result }
     {
         done(
             self.monitor
@@ -91,7 +91,7 @@ impl<'m> ReadWriteLock<'m> {
         ensures same { IsSame pass.old pass.new }
         ensures shows { IsTrue pass.new }
         ensures entered { Tells whether_of
-            (λ reply. IsEntered pass.old (Try X 1) reply pass.new) result }
+            (λ reply. IsEntered (P.did parking.now) pass.old (Try X 1) reply pass.new) result }
     {
         whether(self.monitor.try_acquire(rt, parking, pass, Mode::X, 1))
     }
@@ -112,7 +112,7 @@ impl<'m> ReadWriteLock<'m> {
         ensures begins { Before pass.old.seen pass.new.seen }
         ensures shows { IsTrue pass.new }
         ensures acquired { Tells whether_of
-            (λ reply. IsAcquire pass.old X 1 (Timed ms) reply pass.new) result }
+            (λ reply. IsAcquire (P.did parking.now) pass.old X 1 (Timed ms) reply pass.new) result }
     {
         whether(
             self.monitor
@@ -132,7 +132,7 @@ impl<'m> ReadWriteLock<'m> {
         ensures same { IsSame pass.old pass.new }
         ensures shows { IsTrue pass.new }
         ensures entered { Tells done_of
-            (λ reply. IsEntered pass.old (Give X 1) reply pass.new) result }
+            (λ reply. IsEntered (P.did parking.now) pass.old (Give X 1) reply pass.new) result }
     {
         done(self.monitor.release(rt, parking, pass, Mode::X, 1))
     }
@@ -153,7 +153,7 @@ impl<'m> ReadWriteLock<'m> {
         ensures begins { Before pass.old.seen pass.new.seen }
         ensures shows { IsTrue pass.new }
         ensures awaited { Tells done_of
-            (λ reply. IsAwait pass.old condition Interruptible reply pass.new) result }
+            (λ reply. IsAwait (P.did parking.now) pass.old condition Interruptible reply pass.new) result }
     {
         done(
             self.monitor
@@ -175,7 +175,7 @@ impl<'m> ReadWriteLock<'m> {
         ensures begins { Before pass.old.seen pass.new.seen }
         ensures shows { IsTrue pass.new }
         ensures awaited { Tells done_of
-            (λ reply. IsAwait pass.old condition Plain reply pass.new) result }
+            (λ reply. IsAwait (P.did parking.now) pass.old condition Plain reply pass.new) result }
     {
         done(
             self.monitor
@@ -199,7 +199,7 @@ impl<'m> ReadWriteLock<'m> {
         ensures begins { Before pass.old.seen pass.new.seen }
         ensures shows { IsTrue pass.new }
         ensures awaited { Tells whether_of
-            (λ reply. IsAwait pass.old condition (Timed ms) reply pass.new) result }
+            (λ reply. IsAwait (P.did parking.now) pass.old condition (Timed ms) reply pass.new) result }
     {
         whether(
             self.monitor
@@ -220,7 +220,7 @@ impl<'m> ReadWriteLock<'m> {
         ensures same { IsSame pass.old pass.new }
         ensures shows { IsTrue pass.new }
         ensures entered { Tells done_of
-            (λ reply. IsEntered pass.old (Signal condition) reply pass.new) result }
+            (λ reply. IsEntered (P.did parking.now) pass.old (Signal condition) reply pass.new) result }
     {
         done(self.monitor.signal(rt, parking, pass, condition))
     }
@@ -238,7 +238,7 @@ impl<'m> ReadWriteLock<'m> {
         ensures same { IsSame pass.old pass.new }
         ensures shows { IsTrue pass.new }
         ensures entered { Tells done_of
-            (λ reply. IsEntered pass.old (SignalAll condition) reply pass.new) result }
+            (λ reply. IsEntered (P.did parking.now) pass.old (SignalAll condition) reply pass.new) result }
     {
         done(self.monitor.signal_all(rt, parking, pass, condition))
     }
@@ -257,7 +257,7 @@ impl<'m> ReadWriteLock<'m> {
         ensures begins { Before pass.old.seen pass.new.seen }
         ensures shows { IsTrue pass.new }
         ensures acquired { Tells done_of
-            (λ reply. IsAcquire pass.old S 1 Plain reply pass.new) result }
+            (λ reply. IsAcquire (P.did parking.now) pass.old S 1 Plain reply pass.new) result }
     {
         done(
             self.monitor
@@ -278,7 +278,7 @@ impl<'m> ReadWriteLock<'m> {
         ensures begins { Before pass.old.seen pass.new.seen }
         ensures shows { IsTrue pass.new }
         ensures acquired { Tells done_of
-            (λ reply. IsAcquire pass.old S 1 Interruptible reply pass.new) result }
+            (λ reply. IsAcquire (P.did parking.now) pass.old S 1 Interruptible reply pass.new) result }
     {
         done(
             self.monitor
@@ -299,7 +299,7 @@ impl<'m> ReadWriteLock<'m> {
         ensures same { IsSame pass.old pass.new }
         ensures shows { IsTrue pass.new }
         ensures entered { Tells whether_of
-            (λ reply. IsEntered pass.old (Try S 1) reply pass.new) result }
+            (λ reply. IsEntered (P.did parking.now) pass.old (Try S 1) reply pass.new) result }
     {
         whether(self.monitor.try_acquire(rt, parking, pass, Mode::S, 1))
     }
@@ -320,7 +320,7 @@ impl<'m> ReadWriteLock<'m> {
         ensures begins { Before pass.old.seen pass.new.seen }
         ensures shows { IsTrue pass.new }
         ensures acquired { Tells whether_of
-            (λ reply. IsAcquire pass.old S 1 (Timed ms) reply pass.new) result }
+            (λ reply. IsAcquire (P.did parking.now) pass.old S 1 (Timed ms) reply pass.new) result }
     {
         whether(
             self.monitor
@@ -340,7 +340,7 @@ impl<'m> ReadWriteLock<'m> {
         ensures same { IsSame pass.old pass.new }
         ensures shows { IsTrue pass.new }
         ensures entered { Tells done_of
-            (λ reply. IsEntered pass.old (Give S 1) reply pass.new) result }
+            (λ reply. IsEntered (P.did parking.now) pass.old (Give S 1) reply pass.new) result }
     {
         done(self.monitor.release(rt, parking, pass, Mode::S, 1))
     }

@@ -48,7 +48,7 @@ impl<'m> Semaphore<'m> {
         ensures begins { Before pass.old.seen pass.new.seen }
         ensures shows { IsTrue pass.new }
         ensures acquired { Tells done_of
-            (λ reply. IsAcquire pass.old S n Interruptible reply pass.new) result }
+            (λ reply. IsAcquire (P.did parking.now) pass.old S n Interruptible reply pass.new) result }
     {
         done(
             self.monitor
@@ -70,7 +70,7 @@ impl<'m> Semaphore<'m> {
         ensures begins { Before pass.old.seen pass.new.seen }
         ensures shows { IsTrue pass.new }
         ensures acquired { Tells done_of
-            (λ reply. IsAcquire pass.old S n Plain reply pass.new) result }
+            (λ reply. IsAcquire (P.did parking.now) pass.old S n Plain reply pass.new) result }
     {
         done(
             self.monitor
@@ -92,7 +92,7 @@ impl<'m> Semaphore<'m> {
         ensures same { IsSame pass.old pass.new }
         ensures shows { IsTrue pass.new }
         ensures entered { Tells whether_of
-            (λ reply. IsEntered pass.old (Try S n) reply pass.new) result }
+            (λ reply. IsEntered (P.did parking.now) pass.old (Try S n) reply pass.new) result }
     {
         whether(self.monitor.try_acquire(rt, parking, pass, Mode::S, n))
     }
@@ -113,7 +113,7 @@ impl<'m> Semaphore<'m> {
         ensures begins { Before pass.old.seen pass.new.seen }
         ensures shows { IsTrue pass.new }
         ensures acquired { Tells whether_of
-            (λ reply. IsAcquire pass.old S n (Timed ms) reply pass.new) result }
+            (λ reply. IsAcquire (P.did parking.now) pass.old S n (Timed ms) reply pass.new) result }
     {
         whether(
             self.monitor
@@ -134,7 +134,7 @@ impl<'m> Semaphore<'m> {
         ensures same { IsSame pass.old pass.new }
         ensures shows { IsTrue pass.new }
         ensures entered { Tells done_of
-            (λ reply. IsEntered pass.old (Give S n) reply pass.new) result }
+            (λ reply. IsEntered (P.did parking.now) pass.old (Give S n) reply pass.new) result }
     {
         done(self.monitor.release(rt, parking, pass, Mode::S, n))
     }
@@ -152,7 +152,7 @@ impl<'m> Semaphore<'m> {
         ensures same { IsSame pass.old pass.new }
         ensures shows { IsTrue pass.new }
         ensures entered { Tells number_of
-            (λ reply. IsEntered pass.old Drain reply pass.new) result }
+            (λ reply. IsEntered (P.did parking.now) pass.old Drain reply pass.new) result }
     {
         number(self.monitor.drain(rt, parking, pass))
     }

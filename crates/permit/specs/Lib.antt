@@ -1,1 +1,2 @@
+pub mod Deed
 pub mod Script

@@ -71,8 +71,13 @@ impl NotedParking {
     }
 }
 
+#[tactic(auto, using(permit::specs::Deed::done))]
 impl Parking for NotedParking {
+    ghost use Rattle.permit.specs.Deed.{IsDone};
+
     ghost seats = { λ _. 256 };
+
+    ghost did = { λ place deed. IsDone place deed };
 
     fn now<R: Clock>(&self, _rt: &R) -> u64 {
         NOW

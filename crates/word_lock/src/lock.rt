@@ -114,10 +114,25 @@ impl<T: Chronicle> WordLock<T> {
             (T.point held.value) }
         ensures { token.new ≡ after_unlock (held_ticket held) (T.point held.value) }
     {
+        self.unlock_quietly(token, held);
+        self.wake();
+    }
+
+    /// The same, but it wakes nobody. A static library may not wake; nobody may wait for the value there. Else
+    /// call [`wake`](WordLock::wake) soon, or who sleeps may sleep on.
+    #[inline(always)]
+    pub fn unlock_quietly(&self, token: &mut Token, held: Held<T>)
+        requires own { (held_ticket held).lock ≡ self.now }
+        requires holds { token.old.free ≡ false }
+        requires one { length (held_ticket held).logs ≡ 1 }
+        requires fact { T.fact held.value }
+        requires follows { Follows (first_seat (held_ticket held).logs) (held_ticket held).seen
+            (T.point held.value) }
+        ensures { token.new ≡ after_unlock (held_ticket held) (T.point held.value) }
+    {
         let Held { value, mut seat } = held;
         self.put_value(&mut seat, value);
         *token = Token::of(seat);
-        self.wake();
     }
 
     /// Ties what two tokens have seen: both have then seen one list. It takes no memory and waits for nobody.
@@ -304,10 +319,10 @@ impl<T: Chronicle> WordLock<T> {
         }
     }
 
-    // It costs one load if nobody is enlisted. Where the word is 1 again nobody is woken: whoever took it
-    // wakes at its own store.
+    /// Wakes one who sleeps, if the value is there. It costs one load if nobody sleeps. If the value was taken
+    /// again nobody is woken, since whoever took it wakes as it unlocks.
     #[inline(always)]
-    fn wake(&self) {
+    pub fn wake(&self) {
         if self.sleepers.are_some() && self.table.shared.peek(0) == 0 {
             self.sleepers.wake_one();
         }

@@ -22,14 +22,15 @@ set_homes (p ∷ ps) (suc k) was now below at same =
     ap (λ hs. home_of p ∷ hs) (set_homes ps k was now (omega (arith, below)) at same)
 
 pub acts_on : (call : Call) (place : ℕ) (action : Action) (ps : List Shown) (was now : Shown)
-    (reply : Reply) → call ≡ On place action → place < length ps → was ≡ get_or ps place was →
-    IsActed action was reply now → IsCalled call ps (unrecorded_by reply) (set ps place now)
-acts_on call place action ps was now reply is below at acted =
+    (reply : Reply) (seats : ℕ) → call ≡ On place action → place < length ps → was ≡ get_or ps place was →
+    IsActed seats action was reply now → IsCalled call ps (unrecorded_by reply) (set ps place now)
+acts_on call place action ps was now reply seats is below at acted =
     subst (λ (z : Call). IsCalled z ps (unrecorded_by reply) (set ps place now)) (sym is) record {
       before = was;
       there = slice_get_read ps (length ps) place was refl below at;
       reply = reply;
       after = now;
+      seats = seats;
       acted = acted;
       others = refl;
       unrecorded = refl;

@@ -5,6 +5,7 @@ use Rattle.monitor.specs.Acquire.{IsAcquire}
 use Rattle.monitor.specs.AwaitOn.{IsAwait}
 use Rattle.monitor.specs.Shown.{Shown}
 use Rattle.monitor.specs.Stepping.{IsEntered, IsTrim}
+use Rattle.permit.specs.Deed.{IsDone, interrupted}
 use Rattle.script.specs.declared.action.Action.{Action}
 use Rattle.script.specs.declared.action.Action.TheVariants.{Acquire, TryAcquire, Release, AwaitOn, Signal, SignalAll, Drain, Trim}
 use Rattle.script.specs.declared.call.Call.{Call}
@@ -13,17 +14,17 @@ use Rattle.word_lock.specs.Ticket.{LockId}
 use Rattle.workers.specs.declared.reply.Reply.{Reply}
 use Rattle.workers.specs.declared.reply.Reply.TheVariants.{Entered, Trimmed}
 
--- a call of an object, as the call of its monitor
-abbrev pub IsActed : Action → Shown → Reply → Shown → Type 0
-IsActed (Acquire m n how) old (Entered r) new = IsAcquire old m n how r new
-IsActed (TryAcquire m n) old (Entered r) new = IsEntered old (step.Try m n) r new
-IsActed (Release m n) old (Entered r) new = IsEntered old (step.Give m n) r new
-IsActed (AwaitOn c how) old (Entered r) new = IsAwait old c how r new
-IsActed (Signal c) old (Entered r) new = IsEntered old (step.Signal c) r new
-IsActed (SignalAll c) old (Entered r) new = IsEntered old (step.SignalAll c) r new
-IsActed Drain old (Entered r) new = IsEntered old step.Drain r new
-IsActed Trim old (Trimmed r) new = IsTrim old r new
-IsActed _ old _ new = ⊥
+-- a call of an object, as the call of its monitor, at a place to park with so many seats
+abbrev pub IsActed : ℕ → Action → Shown → Reply → Shown → Type 0
+IsActed seats (Acquire m n how) old (Entered r) new = IsAcquire (IsDone seats) old m n how r new
+IsActed seats (TryAcquire m n) old (Entered r) new = IsEntered (IsDone seats) old (step.Try m n) r new
+IsActed seats (Release m n) old (Entered r) new = IsEntered (IsDone seats) old (step.Give m n) r new
+IsActed seats (AwaitOn c how) old (Entered r) new = IsAwait (IsDone seats) old c how r new
+IsActed seats (Signal c) old (Entered r) new = IsEntered (IsDone seats) old (step.Signal c) r new
+IsActed seats (SignalAll c) old (Entered r) new = IsEntered (IsDone seats) old (step.SignalAll c) r new
+IsActed seats Drain old (Entered r) new = IsEntered (IsDone seats) old step.Drain r new
+IsActed seats Trim old (Trimmed r) new = IsTrim old r new
+IsActed seats _ old _ new = ⊥
 
 -- how many answers of a call aren't recorded: its fault alone
 abbrev pub unrecorded_by : Reply → ℕ
@@ -39,14 +40,16 @@ pub record ActsOn (place : ℕ) (action : Action) (old : List Shown) (u : ℕ) (
   pub there : slice_get old place ≡ Some before
   pub reply : Reply
   pub after : Shown
-  pub acted : IsActed action before reply after
+  pub seats : ℕ  -- of the place to park
+  pub acted : IsActed seats action before reply after
   pub others : new ≡ slice_set old place after
   pub unrecorded : u ≡ unrecorded_by reply
 
 -- what a call leaves of the passes, and how many answers weren't recorded
 abbrev pub IsCalled : Call → List Shown → ℕ → List Shown → Type 0
 IsCalled (On place action) old u new = ActsOn place action old u new
-IsCalled (Interrupt thread) old u new = (new ≡ old) × (u ≡ 0)
+IsCalled (Interrupt thread) old u new =
+    (new ≡ old) × (u ≡ 0) × ((seats : ℕ) × IsDone seats (interrupted thread))
 
 -- what calls leave, the last of them first
 abbrev pub Made : List Call → List Shown → ℕ → List Shown → Type 0

@@ -22,7 +22,7 @@ pub(crate) fn act<R: Wait + Clock>(
     requires is_of { pass.old.lock ≡ monitor.now }
     requires places { monitor.now.header.seats ≤ parking.now }
     ensures same { IsSame pass.old pass.new }
-    ensures acted { IsActed action pass.old result pass.new }
+    ensures acted { IsActed parking.now action pass.old result pass.new }
 {
     match action {
         Action::Acquire(mode, n, how) => {

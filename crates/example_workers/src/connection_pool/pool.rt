@@ -5,6 +5,7 @@ ghost use Rattle.history.specs.declared.fault.Fault.TheVariants.{OutOfMemory};
 ghost use Rattle.history.specs.declared.step.Step.TheVariants.{Give};
 ghost use Rattle.monitor.specs.Acquire.{IsAcquire};
 ghost use Rattle.monitor.specs.Stepping.{IsEntered, IsSame};
+ghost use Rattle.permit.specs.Deed.{IsDone};
 ghost use Rattle.monitor.specs.declared.how.How.TheVariants.{Plain};
 ghost use Rattle.monitor_fronts.specs.Told.{Tells, done_of};
 
@@ -85,7 +86,7 @@ impl<'p> Pool<'p> {
     ) -> Result<(), Fault>
         requires { pass.old.lock ≡ self.now.permits.monitor.now }
         ensures same { IsSame pass.old pass.new }
-        ensures taken { Tells done_of (λ reply. IsAcquire pass.old S all Plain reply pass.new) result }
+        ensures taken { Tells done_of (λ reply. IsAcquire (IsDone self.now.parking.now) pass.old S all Plain reply pass.new) result }
     {
         self.permits
             .acquire_uninterruptibly(rt, self.parking, pass, all)
@@ -100,7 +101,7 @@ impl<'p> Pool<'p> {
     ) -> Result<(), Fault>
         requires { pass.old.lock ≡ self.now.permits.monitor.now }
         ensures same { IsSame pass.old pass.new }
-        ensures given { Tells done_of (λ reply. IsEntered pass.old (Give S all) reply pass.new) result }
+        ensures given { Tells done_of (λ reply. IsEntered (IsDone self.now.parking.now) pass.old (Give S all) reply pass.new) result }
     {
         self.permits.release(rt, self.parking, pass, all)
     }

@@ -5,4 +5,4 @@ pub returns-clause-rests : goal.returns-clause-rests
 returns-clause-rests g c =
     rests_trimmed (g.L.Load.rests c.args.laden.now.load) (g.met.L.Load.alike c.args.laden.now.load)
     c.args.laden.now.core c.trim-count.new.self c.trim-count.result c.requires.kept
-    c.trim-count.ensures.trimmed c.requires.rests
+    c.trim-count.ensures.done c.requires.rests

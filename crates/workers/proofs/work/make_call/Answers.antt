@@ -31,5 +31,5 @@ returns-in-On-clause-called g c =
     subst (λ z. IsCalled c.args.call z c.unrecorded.result
     (set ps c.in-On.place c.act-reply.new.pass)) here
     (subst (λ z. IsCalled c.args.call ps z (set ps c.in-On.place c.act-reply.new.pass)) count
-    (acts_on c.args.call c.in-On.place c.in-On.action ps _ c.act-reply.new.pass c.act-reply.result c.in-On.is
-    below c.index_mut-pass.ensures.value c.act-reply.ensures.acted))
+    (acts_on c.args.call c.in-On.place c.in-On.action ps _ c.act-reply.new.pass c.act-reply.result
+    c.args.shared.now.parking c.in-On.is below c.index_mut-pass.ensures.value c.act-reply.ensures.acted))

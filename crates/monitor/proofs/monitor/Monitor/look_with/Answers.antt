@@ -1,5 +1,8 @@
+use Rattle.std.proofs.Common.{sym, subst}
+use Rattle.history.specs.declared.point.Point.{Point}
+use Rattle.history.specs.Counts.{counts}
 use Rattle.word_lock.specs.Held.{held_ticket}
-use Rattle.monitor.specs.Lawful.{point_of}
+use Rattle.monitor.specs.Lawful.{point_of, start_at}
 use Rattle.monitor.proofs.Looking.{Looked, look, may_give_back}
 use Rattle.monitor.proofs.monitor.Monitor.look_with.Goals as goal
 
@@ -21,3 +24,12 @@ returns-clause-looked g c = rw (← c.pass.view_is) ((looked g c).is)
 
 pub returns-clause-shows : goal.returns-clause-shows
 returns-clause-shows g c = (looked g c).shows
+
+pub returns-clause-saw : goal.returns-clause-saw
+returns-clause-saw g c =
+    let load = c.lock-held.result.value.laden.value.load in (
+      load,
+      subst (λ (p : Point). g.L.Load.rests load (counts (start_at p) p.entries)) (sym (looked g c).seen)
+          c.lock-held.ensures.fact.1,
+      (c.load.result, c.look-seen.ensures, c.load.ensures),
+    )

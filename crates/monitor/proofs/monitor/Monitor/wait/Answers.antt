@@ -1,53 +1,71 @@
-use Rattle.std.proofs.Common.{rules, ◌≡◌, inl, Some, None, refl}
-use Rattle.word_lock.proofs.PointLaws.{before_trans}
-use Rattle.monitor.specs.Waits.{ending_of}
-use Rattle.monitor.proofs.Turns.{waits_first, allowed_wide, narrower, never_fault, still_after, waited}
+use Rattle.std.proofs.Common.{rules, ◌≡◌, ◌≤◌, ◌∙◌, sym, subst, refl}
+use Rattle.word_lock.specs.Ticket.{LockId}
+use Rattle.monitor.specs.Machine.{step_of_waiting}
+use Rattle.monitor.specs.Waits.{ComesOf, Waits}
+use Rattle.monitor.specs.declared.machine.Next.TheVariants as next
+use Rattle.monitor.proofs.TurnByTurn.{later, place_later, replies, waits_on}
+use Rattle.monitor.proofs.Turns.{waits_first}
+use Rattle.monitor.proofs.monitor.Monitor.wait.Goals.{After-go_on-turn}
 use Rattle.monitor.proofs.monitor.Monitor.wait.Goals as goal
 
 pub loop-init : goal.loop-init
 loop-init g c = (
   tt,
   tt,
-  waits_first c.args.pass.now c.args.limits c.is_true.ensures,
-  inl refl,
-  c.requires.due,
+  waits_first (g.P.Parking.did c.args.parking.now) c.args.pass.now c.args.waiting.stage c.args.waiting.limits
+      c.is_true.ensures,
+  refl,
+  c.none-interrupts.ensures ∙ c.seat.ensures,
   c.requires.carries,
 )
 
-pub ending-requires : goal.ending-requires
-ending-requires g c =
-    let w = c.requires.waits in
-    never_fault c.args.pass.now c.loop.pass c.call-answer.new.pass w.0 c.args.limits c.next_step-step.result
-    (c.loop.invariant.2 w.0 w.1) (allowed_wide c.loop.narrowed c.args.limits c.next_step-step.result
-    c.loop.invariant.3 c.next_step-step.ensures) c.call-answer.result c.call-answer.ensures.stepped
+pub go_on-turn-requires-clause-waits : goal.go_on-turn-requires-clause-waits
+go_on-turn-requires-clause-waits g c =
+    let w = c.requires.waits in let still = c.loop.invariant.2 w.0 w.1 in (still.cause, still.waits)
 
-pub returns-in-Some-ending-clause-begins : goal.returns-in-Some-ending-clause-begins
-returns-in-Some-ending-clause-begins g c =
-    let w = c.requires.waits in
-    before_trans c.args.pass.now.seen c.loop.pass.seen c.call-answer.new.pass.seen
-    (c.loop.invariant.2 w.0 w.1).begins
-    c.call-answer.ensures.stepped.after
+pub unpark-requires : goal.unpark-requires
+unpark-requires g c =
+    let seats = g.P.Parking.seats c.args.parking.now in
+    let lock : c.go_on-turn.new.pass.lock ≡ c.args.self.now = search rules in
+    place_later c.loop.pass c.go_on-turn.new.pass c.loop.waiting c.next_woke-woke.result c.go_on-turn.result seats
+    c.go_on-turn.ensures.gone_on c.go_on-turn.ensures.shows
+    (subst (λ (l : LockId). l.header.seats ≤ seats) (sym lock) c.requires.places)
 
-pub returns-in-Some-ending-clause-waited : goal.returns-in-Some-ending-clause-waited
-returns-in-Some-ending-clause-waited g c = λ k w.
-    (let is : ending_of c.call-answer.result ≡ Some c.in-Some-ending.entry = search rules in
-    waited c.args.pass.now c.loop.pass c.call-answer.new.pass k c.args.limits c.next_step-step.result
-    (c.loop.invariant.2 k w) (allowed_wide c.loop.narrowed c.args.limits c.next_step-step.result
-    c.loop.invariant.3 c.next_step-step.ensures) c.call-answer.result c.in-Some-ending.entry
-    c.call-answer.ensures.stepped is)
+-- what the step comes of
+comes : (g : _) (c : After-go_on-turn g) →
+    ComesOf (g.P.Parking.did c.args.parking.now) c.args.pass.now.seat c.loop.waiting.limits c.loop.waiting.stage
+    (step_of_waiting c.loop.waiting c.next_woke-woke.result)
+comes g c =
+    subst (λ i. ComesOf (g.P.Parking.did c.args.parking.now) i c.loop.waiting.limits c.loop.waiting.stage
+    (step_of_waiting c.loop.waiting c.next_woke-woke.result)) c.loop.invariant.4 c.next_woke-woke.ensures.comes
+
+pub returns-in-Ends-clause-begins : goal.returns-in-Ends-clause-begins
+returns-in-Ends-clause-begins g c =
+    later (g.P.Parking.did c.args.parking.now) c.args.pass.now c.loop.pass c.go_on-turn.new.pass
+    c.args.waiting.stage c.args.waiting.limits c.loop.waiting c.next_woke-woke.result c.go_on-turn.result
+    c.requires.waits c.requires.first c.loop.invariant.2 c.loop.invariant.3
+    (comes g (goal.at.returns-in-Ends-clause-begins g c).After-go_on-turn) c.go_on-turn.ensures.same
+    c.go_on-turn.ensures.gone_on c.unpark.ensures
+
+pub returns-in-Ends-clause-waited : goal.returns-in-Ends-clause-waited
+returns-in-Ends-clause-waited g c =
+    replies (g.P.Parking.did c.args.parking.now) c.args.pass.now c.loop.pass c.go_on-turn.new.pass
+    c.args.waiting.stage c.args.waiting.limits c.loop.waiting c.next_woke-woke.result c.go_on-turn.result
+    c.requires.waits c.requires.first c.loop.invariant.2 c.loop.invariant.3
+    (comes g (goal.at.returns-in-Ends-clause-waited g c).After-go_on-turn) c.go_on-turn.ensures.same
+    c.go_on-turn.ensures.gone_on c.unpark.ensures c.in-Ends.reply _ c.in-Ends.is
 
 pub loop-preserved : goal.loop-preserved
 loop-preserved g c =
-    let is : ending_of c.call-answer.result ≡ None = search rules in (
+    let x = waits_on (g.P.Parking.did c.args.parking.now) c.args.pass.now c.loop.pass c.go_on-turn.new.pass
+    c.args.waiting.stage c.args.waiting.limits c.loop.waiting c.next_woke-woke.result c.go_on-turn.result
+    c.requires.waits c.requires.first c.loop.invariant.2 c.loop.invariant.3
+    (comes g (goal.at.loop-preserved g c).After-go_on-turn) c.go_on-turn.ensures.same
+    c.go_on-turn.ensures.gone_on c.unpark.ensures c.in-Waits.next c.go_on-turn.ensures.shows c.in-Waits.is in (
       tt,
       tt,
-      λ k w. still_after c.args.pass.now c.loop.pass c.call-answer.new.pass k c.args.limits
-          c.next_step-step.result
-          (c.loop.invariant.2 k w) (allowed_wide c.loop.narrowed c.args.limits c.next_step-step.result
-          c.loop.invariant.3 c.next_step-step.ensures) c.call-answer.result c.call-answer.ensures.same
-          c.call-answer.ensures.stepped c.call-answer.ensures.shows is,
-      narrower c.limits_behind-narrowed.result c.loop.narrowed c.args.limits c.limits_behind-narrowed.ensures
-          c.loop.invariant.3,
-      c.due_behind-due.ensures,
-      c.call-answer.ensures.carries,
+      x.0,
+      x.1,
+      c.next_woke-woke.ensures.seat ∙ c.loop.invariant.4,
+      c.go_on-turn.ensures.carries,
     )

@@ -7,9 +7,9 @@ use Rattle.monitor_fronts.proofs.Owning.{give_told}
 use Rattle.monitor_fronts.proofs.lock.ReentrantLock.unlock.Goals as goal
 
 pub returns-clause-owner : goal.returns-clause-owner
-returns-clause-owner c = λ lock some.
+returns-clause-owner g c = λ lock some.
     let of : is_lock c.args.pass.now.lock.header.object ≡ true =
     ap (λ (l : LockId). is_lock l.header.object) c.requires.is_of ∙ lock in
-    let told = give_told c.args.pass.now c.release.new.pass c.release.result of c.release.ensures.same
+    let told = give_told (g.P.Parking.did c.args.parking.now) c.args.pass.now c.release.new.pass c.release.result of c.release.ensures.same
     c.is_true.ensures c.release.ensures.shows c.release.ensures.given some in
     subst (λ (r : Result (Unit {0}) Fault). IsOk r) (sym (c.done.ensures ∙ ap without told)) refl

@@ -1,0 +1,432 @@
+-- The turns of a call that may wait, as the call that they make.
+use Rattle.std.proofs.Common.{◌≡◌, ◌≢◌, ◌⊎◌, inl, inr, ℕ, ◌<◌, ◌≤◌, Bool, true, false, cond, eqb, Option, Some, None, is_some, IsSome, IfSome, IsOk, Result, Ok, Err, refl, sym, ap, ◌∙◌, subst}
+use Rattle.history.specs.declared.entry.Entry.{Entry}
+use Rattle.history.specs.declared.entry.Mode.{Mode}
+use Rattle.history.specs.declared.entry.Mode.TheVariants.{X}
+use Rattle.history.specs.declared.entry.Word.{Word}
+use Rattle.history.specs.declared.entry.Word.TheVariants as word
+use Rattle.history.specs.declared.fault.Fault.{Fault}
+use Rattle.history.specs.declared.fault.Fault.TheVariants as fault
+use Rattle.history.specs.declared.step.Answer.{Answer}
+use Rattle.history.specs.declared.step.Answer.TheVariants.{Recorded, Sleep}
+use Rattle.history.specs.declared.step.Step.{Step}
+use Rattle.history.specs.declared.step.Step.TheVariants as step
+use Rattle.history.specs.Awaiting.{signalled}
+use Rattle.history.specs.Phase.{waits}
+use Rattle.permit.specs.Deed.{Deed, interrupted, parked}
+use Rattle.permit.specs.declared.parking.Woke.{Woke}
+use Rattle.permit.specs.declared.parking.Woke.TheVariants.{Permit, Deadline, Interrupted}
+use Rattle.word_lock.specs.Point.{Before}
+use Rattle.word_lock.proofs.PointLaws.{before_trans}
+use Rattle.monitor.specs.Acquire.{EndsUnrecorded, LimitsFor, WasInterrupted, WasNotInterrupted, first_step}
+use Rattle.monitor.specs.AwaitOn.{first_stage}
+use Rattle.monitor.specs.Interrupts.{tells_interrupt}
+use Rattle.monitor.specs.Machine.{IsBegun, IsCall, IsGoneOn, WasShown, at_stage, begins_wait, begun, first_turn, later_turn, limits_at, limits_from, next_behind, next_by, stage_for, step_at, step_by, step_of_waiting, step_within}
+use Rattle.monitor.specs.Shown.{Shown, IsTrue}
+use Rattle.monitor.specs.Stepping.{IsSame, IsStep, IsStepNow, IsUnparked, answer_of, named_in}
+use Rattle.monitor.specs.declared.step.Now.{Now}
+use Rattle.monitor.specs.declared.step.Now.TheVariants.{Done, Busy}
+use Rattle.monitor.specs.Waits.{AfterPark, AllStillWait, ComesOf, IsReply, IsWaited, MayBegin, WaitsAs, ending_of, in_line, is_lapse, no_limits, on_condition, stage_asleep, stage_behind, unless_lapse, asking}
+use Rattle.monitor.specs.Waits as of_waits
+use Rattle.monitor.specs.declared.how.How.{How}
+use Rattle.monitor.specs.declared.how.How.TheVariants.{Plain, Interruptible, Timed}
+use Rattle.monitor.specs.declared.machine.Next.{Next}
+use Rattle.monitor.specs.declared.machine.Next.TheVariants.{Ends, Waits}
+use Rattle.monitor.specs.declared.machine.Request.{Request}
+use Rattle.monitor.specs.declared.machine.Request.TheVariants.{Acquire, AwaitOn}
+use Rattle.monitor.specs.declared.machine.Turn.{Turn}
+use Rattle.monitor.specs.declared.machine.Waiting.{Waiting}
+use Rattle.monitor.specs.declared.waiting.Limits.{Limits}
+use Rattle.monitor.specs.declared.waiting.Stage.{Stage}
+use Rattle.monitor.specs.declared.waiting.Stage.TheVariants.{Expires, Parks, Looks, GivenUp}
+use Rattle.monitor.proofs.Acquiring.{ends_at_once, ends_in_line, refused, refused_at_once, stands, unrecorded}
+use Rattle.monitor.proofs.InLine.{named_place, no_sleep}
+use Rattle.monitor.proofs.OnCondition as await
+use Rattle.monitor.proofs.Turns.{never_fault, still_after, turn, waited}
+
+-- a call begins by a step of an idle seat
+first_idle : (how : How) (m : Mode) (n : ℕ) → waits (first_step how m n) ≡ false
+first_idle Plain m n = refl
+first_idle Interruptible m n = refl
+first_idle (Timed ms) m n = by (eqb ms 0)
+  where
+    by : (b : Bool) → waits (cond b (step.TryFair m n) (step.Acquire m n)) ≡ false
+    by true = refl
+    by false = refl
+
+step_idle : (q : Request) (how : How) (was : Bool) → waits (step_by q how was) ≡ false
+step_idle (Acquire m n) how true = refl
+step_idle (Acquire m n) how false = first_idle how m n
+step_idle (AwaitOn c) how true = refl
+step_idle (AwaitOn c) how false = refl
+
+pub begins_awake : (old new : Shown) (q : Request) (how : How) (was : Bool) (r : Result Answer Fault) →
+    IsStep old (step_by q how was) r new → r ≢ Ok Sleep
+begins_awake old new q how was r s is =
+    no_sleep old new (step_by q how was) (step_idle q how was)
+    (subst (λ (z : Result Answer Fault). IsStep old (step_by q how was) z new) is s)
+
+-- one who waits takes a step of one who waits, and that is no fault
+waits_within : (l : Limits) (woke : Woke) → waits (step_within l woke) ≡ true
+waits_within l Permit = refl
+waits_within l Deadline = by (is_some l.until)
+  where
+    by : (b : Bool) → waits (cond b step.Expire step.Look) ≡ true
+    by true = refl
+    by false = refl
+waits_within l Interrupted = by l.interruptible
+  where
+    by : (b : Bool) → waits (cond b step.Interrupt step.Look) ≡ true
+    by true = refl
+    by false = refl
+
+step_waits : (stage : Stage) (l : Limits) (woke : Woke) → waits (step_at stage l woke) ≡ true
+step_waits Expires l woke = refl
+step_waits Parks l woke = waits_within l woke
+step_waits Looks l woke = refl
+step_waits GivenUp l woke = refl
+
+pub goes_on : (old new : Shown) (w : Waiting) (woke : Woke) (r : Result Answer Fault) → IsTrue old →
+    of_waits.Waits old.seen old.seat → IsStep old (step_of_waiting w woke) r new → IsOk r
+goes_on old new w woke (Ok x) t k s = refl
+goes_on old new w woke (Err f) t k s =
+    absurd (turn old new k.0 (step_of_waiting w woke) (Err f) s t k.1 (step_waits w.stage w.limits woke))
+
+-- the seat that a turn names is the one that its step named
+named_first : (q : Request) (how : How) (moment : ℕ) (was : Bool) (r : Result Answer Fault) →
+    (first_turn q how moment was r).named ≡ named_in r
+named_first q how moment was (Ok (Recorded e name)) = refl
+named_first q how moment was (Ok Sleep) = refl
+named_first q how moment was (Err f) = refl
+
+named_later : (w : Waiting) (s : Step) (r : Result Answer Fault) → (later_turn w s r).named ≡ named_in r
+named_later w s (Ok (Recorded e name)) = refl
+named_later w s (Ok Sleep) = refl
+named_later w s (Err f) = refl
+
+pub place_first : (old new : Shown) (q : Request) (how : How) (moment : ℕ) (was : Bool) (t : Turn) (seats : ℕ) →
+    IsBegun old q how moment was t new → IsTrue new → new.lock.header.seats ≤ seats →
+    IfSome t.named (λ j. j < seats)
+place_first old new q how moment was t seats (r, s, is) shows all =
+    subst (λ z. IfSome z (λ j. j < seats))
+    (sym (ap (λ (z : Turn). z.named) is ∙ named_first q how moment was r))
+    (named_place old new (step_by q how was) r seats s shows all)
+
+pub place_later : (old new : Shown) (w : Waiting) (woke : Woke) (t : Turn) (seats : ℕ) →
+    IsGoneOn old w woke t new → IsTrue new → new.lock.header.seats ≤ seats → IfSome t.named (λ j. j < seats)
+place_later old new w woke t seats (r, s, is) shows all =
+    subst (λ z. IfSome z (λ j. j < seats))
+    (sym (ap (λ (z : Turn). z.named) is ∙ named_later w (step_of_waiting w woke) r))
+    (named_place old new (step_of_waiting w woke) r seats s shows all)
+
+-- what a wait begins with
+pub limits_for : (did : Deed → Type 0) (how : How) (moment : ℕ) → WasShown did how moment →
+    LimitsFor did how (limits_from moment how)
+limits_for did Plain moment shown = record { until = refl; interruptible = refl }
+limits_for did Interruptible moment shown = record { until = refl; interruptible = refl }
+limits_for did (Timed ms) moment shown = record { until = (moment, shown, refl); interruptible = refl }
+
+-- which words begin a wait
+queued : (m : Mode) (n : ℕ) (w : Word) → begins_wait (Acquire m n) w ≡ true → w ≡ word.Queued
+queued m n word.Queued q = refl
+queued m n _ q = cc
+
+not_queued : (m : Mode) (n : ℕ) (w : Word) → begins_wait (Acquire m n) w ≡ false → w ≢ word.Queued
+not_queued m n w q is = let z = ap (begins_wait (Acquire m n)) is in cc
+
+awaits : (c : ℕ) (w : Word) → begins_wait (AwaitOn c) w ≡ true → w ≡ word.Await
+awaits c word.Await q = refl
+awaits c _ q = cc
+
+not_await : (c : ℕ) (w : Word) → begins_wait (AwaitOn c) w ≡ false → w ≢ word.Await
+not_await c w q is = let z = ap (begins_wait (AwaitOn c)) is in cc
+
+-- the first turn ended the call
+module _ (did : Deed → Type 0) (old new : Shown) (how : How) (none : WasNotInterrupted did old.seat how) where
+  recorded_ends : (q : Request) (e : Entry) (name : Option ℕ) →
+      IsStep old (step_by q how false) (Ok (Recorded e name)) new → IsUnparked did name →
+      begins_wait q e.word ≡ false → IsCall did old q how (Ok e) new
+  recorded_ends (Acquire m n) e name s woken b =
+      ends_at_once did old new how m n e name s woken none (not_queued m n e.word b)
+  recorded_ends (AwaitOn c) e name s woken b =
+      await.refuses did old new c how e name s woken none (not_await c e.word b)
+
+  fault_ends : (q : Request) (f : Fault) → IsStep old (step_by q how false) (Err f) new →
+      IsCall did old q how (Err f) new
+  fault_ends (Acquire m n) f s =
+      record { step = first_step how m n; first = inl (refl, none); stepped = s }
+  fault_ends (AwaitOn c) f s = record { step = step.Await c; first = inl (refl, none); stepped = s }
+
+  ends_by : (q : Request) (moment : ℕ) (r : Result Answer Fault) (reply : Result Entry Fault) (again : Bool) →
+      IsStep old (step_by q how false) r new → IsUnparked did (named_in r) →
+      (first_turn q how moment false r).next ≡ Ends reply again → IsCall did old q how reply new
+  ends_by q moment (Ok (Recorded e name)) reply again s woken is = by (begins_wait q e.word) refl is
+    where
+      by : (b : Bool) → begins_wait q e.word ≡ b → next_by b (begun q how moment) e ≡ Ends reply again →
+          IsCall did old q how reply new
+      by true t u = cc
+      by false t u =
+          let same : Ok e ≡ reply = cc in
+          subst (λ (z : Result Entry Fault). IsCall did old q how z new) same
+          (recorded_ends q e name s woken t)
+  ends_by q moment (Ok Sleep) reply again s woken is = absurd (begins_awake old new q how false (Ok Sleep) s refl)
+  ends_by q moment (Err f) reply again s woken is =
+      let same : Err f ≡ reply = cc in
+      subst (λ (z : Result Entry Fault). IsCall did old q how z new) same (fault_ends q f s)
+
+  pub begun_ends : (q : Request) (moment : ℕ) (t : Turn) (reply : Result Entry Fault) (again : Bool) →
+      IsBegun old q how moment false t new → IsUnparked did t.named → t.next ≡ Ends reply again →
+      IsCall did old q how reply new
+  begun_ends q moment t reply again (r, s, is) woken ends =
+      ends_by q moment r reply again s
+      (subst (IsUnparked did) (ap (λ (z : Turn). z.named) is ∙ named_first q how moment false r) woken)
+      (ap (λ (z : Turn). z.next) (sym is) ∙ ends)
+
+-- the first turn began to wait
+pub record Begins (did : Deed → Type 0) (old new : Shown) (q : Request) (how : How) : Type 0 where
+  pub entry : Entry
+  pub name : Option ℕ
+  pub step : IsStep old (step_by q how false) (Ok (Recorded entry name)) new
+  pub woken : IsUnparked did name
+  pub begins : begins_wait q entry.word ≡ true
+
+waits_by : (old new : Shown) (q : Request) (how : How) (moment : ℕ) (was : Bool)
+    (r : Result Answer Fault) (w : Waiting) → IsStep old (step_by q how was) r new →
+    (first_turn q how moment was r).next ≡ Waits w →
+    (e : Entry) × (name : Option ℕ) × (r ≡ Ok (Recorded e name)) × (begins_wait q e.word ≡ true)
+    × (w ≡ begun q how moment)
+waits_by old new q how moment was (Ok (Recorded e name)) w s is = by (begins_wait q e.word) refl is
+  where
+    by : (b : Bool) → begins_wait q e.word ≡ b → next_by b (begun q how moment) e ≡ Waits w →
+        (f : Entry) × (g : Option ℕ) × (◌≡◌ {A = Result Answer Fault} (Ok (Recorded e name)) (Ok (Recorded f g)))
+        × (begins_wait q f.word ≡ true) × (w ≡ begun q how moment)
+    by true t u = (e, name, refl, t, cc)
+    by false t u = cc
+waits_by old new q how moment was (Ok Sleep) w s is = cc
+waits_by old new q how moment was (Err f) w s is = cc
+
+pub begun_waits : (did : Deed → Type 0) (old new : Shown) (q : Request) (how : How) (moment : ℕ) (t : Turn)
+    (w : Waiting) → IsBegun old q how moment false t new → IsUnparked did t.named → t.next ≡ Waits w →
+    Begins did old new q how × (w ≡ begun q how moment)
+begun_waits did old new q how moment t w (r, s, is) woken next =
+    let x = waits_by old new q how moment false r w s (ap (λ (z : Turn). z.next) (sym is) ∙ next) in (
+      record {
+        entry = x.0;
+        name = x.1;
+        step = subst (λ (z : Result Answer Fault). IsStep old (step_by q how false) z new) x.2 s;
+        woken = subst (IsUnparked did) (ap (λ (z : Turn). z.named) is ∙ (named_first q how moment false r
+            ∙ ap named_in x.2)) woken;
+        begins = x.3;
+      },
+      x.4,
+    )
+
+pub waits_now : (did : Deed → Type 0) (old new : Shown) (q : Request) (how : How) →
+    WasNotInterrupted did old.seat how → Begins did old new q how → IsSame old new →
+    of_waits.Waits new.seen new.seat
+waits_now did old new (Acquire m n) how none b same = (
+  in_line (asking new.seat m n),
+  stands did old new how m n b.entry b.name b.step b.woken none (queued m n b.entry.word b.begins) same,
+)
+waits_now did old new (AwaitOn c) how none b same = (
+  on_condition (signalled b.entry.at b.entry.n),
+  await.sleeps did old new c how b.entry b.name b.step b.woken none (awaits c b.entry.word b.begins) same,
+)
+
+pub may_wait : (did : Deed → Type 0) (q : Request) (how : How) (moment : ℕ) → WasShown did how moment →
+    MayBegin (limits_from moment how) (stage_for q how)
+may_wait did (Acquire m n) how moment shown = tt
+may_wait did (AwaitOn c) how moment shown =
+    await.may_begin did how (limits_from moment how) (limits_for did how moment shown)
+
+-- and the wait ended the call
+pub waited_ends : (did : Deed → Type 0) (old mid new : Shown) (q : Request) (how : How) (moment : ℕ)
+    (reply : Result Entry Fault) → WasNotInterrupted did old.seat how → Begins did old mid q how →
+    IsSame old mid → IsTrue mid → WasShown did how moment → Before mid.seen new.seen →
+    IsReply did mid (stage_for q how) (limits_from moment how) reply new → IsCall did old q how reply new
+waited_ends did old mid new (Acquire m n) how moment (Ok e) none b same shows shown later waited =
+    ends_in_line did old mid how m n b.entry b.name b.step b.woken none (queued m n b.entry.word b.begins) same
+    new (limits_from moment how) e (limits_for did how moment shown) later waited
+waited_ends did old mid new (AwaitOn c) how moment (Ok e) none b same shows shown later waited =
+    await.ends_await did old mid c how b.entry b.name b.step b.woken none (awaits c b.entry.word b.begins) same
+    shows new (limits_from moment how) e (limits_for did how moment shown) later waited
+waited_ends did old mid new q how moment (Err f) none b same shows shown later waited = absurd waited
+
+-- an interrupt was pending
+refused_word : (old new : Shown) (q : Request) (how : How) (e : Entry) (name : Option ℕ) →
+    IsStep old (step_by q how true) (Ok (Recorded e name)) new → e.word ≡ word.Refused fault.Interrupted
+refused_word old new (Acquire m n) how e name s = refused_at_once old new m n e name s
+refused_word old new (AwaitOn c) how e name s = refused_at_once old new X 1 e name s
+
+refused_waits : (q : Request) (w : Word) → w ≡ word.Refused fault.Interrupted → begins_wait q w ≡ false
+refused_waits (Acquire m n) w is = ap (begins_wait (Acquire m n)) is
+refused_waits (AwaitOn c) w is = ap (begins_wait (AwaitOn c)) is
+
+module _ (did : Deed → Type 0) (old new : Shown) (how : How) (was : WasInterrupted did old.seat how) where
+  recorded_refused : (q : Request) (e : Entry) (name : Option ℕ) →
+      IsStep old (step_by q how true) (Ok (Recorded e name)) new → IsUnparked did name →
+      IsCall did old q how (Ok e) new
+  recorded_refused (Acquire m n) e name s woken = refused did old new how m n (Ok e) was (name, s, woken) tt
+  recorded_refused (AwaitOn c) e name s woken = await.refused did old new c how (Ok e) was (name, s, woken) tt
+
+  fault_refused : (q : Request) (f : Fault) → IsStep old (step_by q how true) (Err f) new →
+      did (interrupted old.seat) → IsCall did old q how (Err f) new
+  fault_refused (Acquire m n) f s again = refused did old new how m n (Err f) was s again
+  fault_refused (AwaitOn c) f s again = await.refused did old new c how (Err f) was s again
+
+  refused_by : (q : Request) (moment : ℕ) (r : Result Answer Fault) (reply : Result Entry Fault) (again : Bool) →
+      IsStep old (step_by q how true) r new → IsUnparked did (named_in r) →
+      (tells_interrupt reply ≡ false → did (interrupted old.seat)) →
+      (first_turn q how moment true r).next ≡ Ends reply again → IsCall did old q how reply new
+  refused_by q moment (Ok (Recorded e name)) reply again s woken settled is = by (begins_wait q e.word) is
+    where
+      by : (b : Bool) → next_by b (begun q how moment) e ≡ Ends reply again → IsCall did old q how reply new
+      by true u = cc
+      by false u =
+          let same : Ok e ≡ reply = cc in
+          subst (λ (z : Result Entry Fault). IsCall did old q how z new) same
+          (recorded_refused q e name s woken)
+  refused_by q moment (Ok Sleep) reply again s woken settled is =
+      absurd (begins_awake old new q how true (Ok Sleep) s refl)
+  refused_by q moment (Err f) reply again s woken settled is =
+      let same : Err f ≡ reply = cc in
+      subst (λ (z : Result Entry Fault). IsCall did old q how z new) same
+      (fault_refused q f s (settled (ap tells_interrupt (sym same))))
+
+  pub begun_refused : (q : Request) (moment : ℕ) (t : Turn) (reply : Result Entry Fault) (again : Bool) →
+      IsBegun old q how moment true t new → IsUnparked did t.named →
+      (tells_interrupt reply ≡ false → did (interrupted old.seat)) → t.next ≡ Ends reply again →
+      IsCall did old q how reply new
+  begun_refused q moment t reply again (r, s, is) woken settled ends =
+      refused_by q moment r reply again s
+      (subst (IsUnparked did) (ap (λ (z : Turn). z.named) is ∙ named_first q how moment true r) woken) settled
+      (ap (λ (z : Turn). z.next) (sym is) ∙ ends)
+
+pub never_waits : (old new : Shown) (q : Request) (how : How) (moment : ℕ) (t : Turn) (w : Waiting) →
+    IsBegun old q how moment true t new → t.next ≡ Waits w → ⊥
+never_waits old new q how moment t w (r, s, is) next =
+    let x = waits_by old new q how moment true r w s (ap (λ (z : Turn). z.next) (sym is) ∙ next) in
+    let none = refused_waits q x.0.word (refused_word old new q how x.0 x.1
+    (subst (λ (z : Result Answer Fault). IsStep old (step_by q how true) z new) x.2 s)) in
+    let some = x.3 in cc
+
+pub begun_after : (old new : Shown) (q : Request) (how : How) (moment : ℕ) (was : Bool) (t : Turn) →
+    IsBegun old q how moment was t new → Before old.seen new.seen
+begun_after old new q how moment was t (r, s, is) = s.after
+
+-- the later turns
+gone_ends : (w : Waiting) (s : Step) (r : Result Answer Fault) (reply : Result Entry Fault) (again : Bool) →
+    IsOk r → (later_turn w s r).next ≡ Ends reply again →
+    (e : Entry) × (ending_of r ≡ Some e) × (reply ≡ Ok e)
+gone_ends w s (Ok (Recorded e name)) reply again ok is = by (is_lapse e.word) refl is
+  where
+    by : (b : Bool) → is_lapse e.word ≡ b → next_behind b w s e ≡ Ends reply again →
+        (f : Entry) × (ending_of (Ok (Recorded e name)) ≡ Some f) × (reply ≡ Ok f)
+    by true t u = cc
+    by false t u = (e, ap (λ (b : Bool). unless_lapse b e) t, cc)
+gone_ends w s (Ok Sleep) reply again ok is = cc
+gone_ends w s (Err f) reply again ok is = cc
+
+gone_waits : (w : Waiting) (s : Step) (r : Result Answer Fault) (next : Waiting) → IsOk r →
+    (later_turn w s r).next ≡ Waits next →
+    (ending_of r ≡ None) × (next.stage ≡ stage_behind w.stage s r) × (next.limits ≡ w.limits)
+gone_waits w s (Ok (Recorded e name)) next ok is = by (is_lapse e.word) refl is
+  where
+    by : (b : Bool) → is_lapse e.word ≡ b → next_behind b w s e ≡ Waits next →
+        (ending_of (Ok (Recorded e name)) ≡ None) × (next.stage ≡ Looks) × (next.limits ≡ w.limits)
+    by true t u =
+        let same : at_stage w s Looks ≡ next = cc in (
+          ap (λ (b : Bool). unless_lapse b e) t,
+          ap (λ (z : Waiting). z.stage) (sym same),
+          ap (λ (z : Waiting). z.limits) (sym same),
+        )
+    by false t u = cc
+gone_waits w s (Ok Sleep) next ok is =
+    let same : at_stage w s (stage_asleep w.stage s) ≡ next = cc in
+    (refl, ap (λ (z : Waiting). z.stage) (sym same), ap (λ (z : Waiting). z.limits) (sym same))
+gone_waits w s (Err f) next ok is = cc
+
+-- a turn of one who still waits
+module _ (did : Deed → Type 0) (first now new : Shown) (s : Stage) (l : Limits) (w : Waiting) (woke : Woke)
+    (t : Turn) (began : of_waits.Waits first.seen first.seat) (may : MayBegin l s)
+    (still : AllStillWait did first s l now w.stage) (limits : w.limits ≡ l)
+    (comes : ComesOf did first.seat w.limits w.stage (step_of_waiting w woke)) (same : IsSame now new)
+    (gone : IsGoneOn now w woke t new) (woken : IsUnparked did t.named) where
+  its : ComesOf did first.seat l w.stage (step_of_waiting w woke)
+  its = subst (λ (z : Limits). ComesOf did first.seat z w.stage (step_of_waiting w woke)) limits comes
+
+  named : IsUnparked did (named_in gone.0)
+  named =
+      subst (IsUnparked did)
+      (ap (λ (z : Turn). z.named) gone.2 ∙ named_later w (step_of_waiting w woke) gone.0) woken
+
+  ok : IsOk gone.0
+  ok =
+      never_fault did first now new began.0 s l w.stage (step_of_waiting w woke) may
+      (still began.0 began.1) its gone.0 gone.1
+
+  pub later : Before first.seen new.seen
+  later = before_trans first.seen now.seen new.seen (still began.0 began.1).begins gone.1.after
+
+  pub replies : (reply : Result Entry Fault) (again : Bool) → t.next ≡ Ends reply again →
+      IsReply did first s l reply new
+  replies reply again ends =
+      let x = gone_ends w (step_of_waiting w woke) gone.0 reply again ok
+      (ap (λ (z : Turn). z.next) (sym gone.2) ∙ ends) in
+      subst (λ (z : Result Entry Fault). IsReply did first s l z new) (sym x.2)
+      (λ k stays. waited did first now new k s l w.stage (step_of_waiting w woke) may (still k stays) its gone.0
+      x.0 gone.1 named x.1)
+
+  pub waits_on : (next : Waiting) → IsTrue new → t.next ≡ Waits next →
+      AllStillWait did first s l new next.stage × (next.limits ≡ l)
+  waits_on next shows is =
+      let x = gone_waits w (step_of_waiting w woke) gone.0 next ok
+      (ap (λ (z : Turn). z.next) (sym gone.2) ∙ is) in (
+        subst (λ (z : Stage). AllStillWait did first s l new z) (sym x.1)
+            (λ k stays. still_after did first now new k s l w.stage (step_of_waiting w woke) may (still k stays)
+            its gone.0 same gone.1 named shows x.0),
+        x.2 ∙ limits,
+      )
+
+-- what the step comes of
+abbrev pub WasParked : (Deed → Type 0) → ℕ → Limits → Woke → Type 0
+WasParked did i l woke =
+    did (parked i l.until l.interruptible woke) × (woke ≡ Deadline → IsSome l.until)
+    × (woke ≡ Interrupted → l.interruptible ≡ true)
+
+parked_within : (did : Deed → Type 0) (i : ℕ) (l : Limits) (woke : Woke) → WasParked did i l woke →
+    AfterPark did i l (step_within l woke)
+parked_within did i l Permit p = p.0
+parked_within did i l Deadline p =
+    subst (λ (b : Bool). AfterPark did i l (cond b step.Expire step.Look)) (sym (p.1 refl)) (p.0, p.1 refl)
+parked_within did i l Interrupted p =
+    subst (λ (b : Bool). AfterPark did i l (cond b step.Interrupt step.Look)) (sym (p.2 refl)) (p.0, p.2 refl)
+
+parked_none : (did : Deed → Type 0) (i : ℕ) (woke : Woke) → WasParked did i no_limits woke →
+    AfterPark did i no_limits step.Look
+parked_none did i Permit p = p.0
+parked_none did i Deadline p = let z = p.1 refl in cc
+parked_none did i Interrupted p = let z = p.2 refl in cc
+
+pub comes_at : (did : Deed → Type 0) (i : ℕ) (l : Limits) (stage : Stage) (woke : Woke) →
+    ((k : Limits) → limits_at stage l ≡ Some k → WasParked did i k woke) →
+    ComesOf did i l stage (step_at stage l woke)
+comes_at did i l Expires woke p = refl
+comes_at did i l Parks woke p = parked_within did i l woke (p l refl)
+comes_at did i l Looks woke p = refl
+comes_at did i l GivenUp woke p = parked_none did i woke (p no_limits refl)
+
+-- a step that waited for nobody
+pub stepped_now : (old new : Shown) (step : Step) (reply : Result Now Fault) (r : Result Answer Fault) →
+    IsStepNow old step reply new → answer_of reply ≡ Some r → IsStep old step r new
+stepped_now old new step (Ok (Done a)) r s q =
+    let same : Ok a ≡ r = cc in subst (λ (z : Result Answer Fault). IsStep old step z new) same s
+stepped_now old new step (Ok Busy) r s q = cc
+stepped_now old new step (Err f) r s q =
+    let same : Err f ≡ r = cc in subst (λ (z : Result Answer Fault). IsStep old step z new) same s
+
+pub busy_now : (old new : Shown) (step : Step) (reply : Result Now Fault) → IsStepNow old step reply new →
+    answer_of reply ≡ None → new ≡ old
+busy_now old new step (Ok (Done a)) s q = cc
+busy_now old new step (Ok Busy) s q = s
+busy_now old new step (Err f) s q = cc

@@ -1,0 +1,22 @@
+use Rattle.std.proofs.Common.{◌≡◌, Result, subst}
+use Rattle.history.specs.declared.fault.Fault.{Fault}
+use Rattle.history.specs.declared.step.Answer.{Answer}
+use Rattle.history.specs.declared.step.Step.{Step}
+use Rattle.monitor.specs.Stepping.{IsStep}
+use Rattle.monitor.proofs.TurnByTurn.{begins_awake}
+use Rattle.monitor.proofs.monitor.Monitor.begin.Goals as goal
+
+pub first_turn-requires : goal.first_turn-requires
+first_turn-requires g c =
+    begins_awake c.args.pass.now c.step_with-answer.new.pass c.args.request c.args.how c.args.interrupted
+    c.step_with-answer.result
+    (subst (λ (z : Step). IsStep c.args.pass.now z c.step_with-answer.result c.step_with-answer.new.pass)
+    c.step-step.ensures c.step_with-answer.ensures.stepped)
+
+pub returns-clause-begun : goal.returns-clause-begun
+returns-clause-begun g c = (
+  c.step_with-answer.result,
+  subst (λ (z : Step). IsStep c.args.pass.now z c.step_with-answer.result c.step_with-answer.new.pass)
+      c.step-step.ensures c.step_with-answer.ensures.stepped,
+  c.first_turn.ensures,
+)

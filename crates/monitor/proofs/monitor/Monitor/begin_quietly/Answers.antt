@@ -1,0 +1,28 @@
+use Rattle.std.proofs.Common.{rules, ◌≡◌, None, sym, ◌∙◌, subst}
+use Rattle.history.specs.declared.step.Step.{Step}
+use Rattle.monitor.specs.Stepping.{IsStep, answer_of}
+use Rattle.monitor.proofs.TurnByTurn.{begins_awake, busy_now, stepped_now}
+use Rattle.monitor.proofs.monitor.Monitor.begin_quietly.Goals as goal
+
+pub first_turn-requires : goal.first_turn-requires
+first_turn-requires g c =
+    begins_awake c.args.pass.now c.step_quietly.new.pass c.args.request c.args.how c.args.interrupted
+    c.in-Some.answer
+    (subst (λ (z : Step). IsStep c.args.pass.now z c.in-Some.answer c.step_quietly.new.pass) c.step-step.ensures
+    (stepped_now c.args.pass.now c.step_quietly.new.pass c.step-step.result c.step_quietly.result c.in-Some.answer
+    c.step_quietly.ensures.stepped (sym c.answer_of.ensures ∙ c.in-Some.is)))
+
+pub returns-in_default-clause-busy : goal.returns-in_default-clause-busy
+returns-in_default-clause-busy g c =
+    let busy : answer_of c.step_quietly.result ≡ None = search rules in
+    busy_now c.args.pass.now c.step_quietly.new.pass c.step-step.result c.step_quietly.result
+    c.step_quietly.ensures.stepped busy
+
+pub returns-clause-begun : goal.returns-clause-begun
+returns-clause-begun g c = (
+  c.in-Some.answer,
+  (subst (λ (z : Step). IsStep c.args.pass.now z c.in-Some.answer c.step_quietly.new.pass) c.step-step.ensures
+      (stepped_now c.args.pass.now c.step_quietly.new.pass c.step-step.result c.step_quietly.result c.in-Some.answer
+      c.step_quietly.ensures.stepped (sym c.answer_of.ensures ∙ c.in-Some.is))),
+  c.first_turn.ensures,
+)

@@ -1,0 +1,21 @@
+use Rattle.std.proofs.Common.{◌≡◌, Result, ap, ◌∙◌, subst}
+use Rattle.history.specs.declared.step.Step.{Step}
+use Rattle.monitor.specs.Machine.{later_turn}
+use Rattle.monitor.specs.Stepping.{IsStep}
+use Rattle.monitor.proofs.TurnByTurn.{goes_on}
+use Rattle.monitor.proofs.monitor.Monitor.go_on.Goals as goal
+
+pub turn-requires : goal.turn-requires
+turn-requires g c =
+    goes_on c.args.pass.now c.step_with-answer.new.pass c.args.waiting c.args.woke c.step_with-answer.result
+    c.is_true.ensures c.requires.waits
+    (subst (λ (z : Step). IsStep c.args.pass.now z c.step_with-answer.result c.step_with-answer.new.pass)
+    c.step-step.ensures c.step_with-answer.ensures.stepped)
+
+pub returns-clause-gone_on : goal.returns-clause-gone_on
+returns-clause-gone_on g c = (
+  c.step_with-answer.result,
+  subst (λ (z : Step). IsStep c.args.pass.now z c.step_with-answer.result c.step_with-answer.new.pass)
+      c.step-step.ensures c.step_with-answer.ensures.stepped,
+  c.turn.ensures ∙ ap (λ (z : Step). later_turn c.args.waiting z c.step_with-answer.result) c.step-step.ensures,
+)

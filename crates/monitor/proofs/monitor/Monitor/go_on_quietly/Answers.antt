@@ -1,0 +1,29 @@
+use Rattle.std.proofs.Common.{rules, ◌≡◌, None, sym, ap, ◌∙◌, subst}
+use Rattle.history.specs.declared.step.Step.{Step}
+use Rattle.monitor.specs.Machine.{later_turn}
+use Rattle.monitor.specs.Stepping.{IsStep, answer_of}
+use Rattle.monitor.proofs.TurnByTurn.{goes_on, busy_now, stepped_now}
+use Rattle.monitor.proofs.monitor.Monitor.go_on_quietly.Goals as goal
+
+pub turn-requires : goal.turn-requires
+turn-requires g c =
+    goes_on c.args.pass.now c.step_quietly.new.pass c.args.waiting c.args.woke c.in-Some.answer
+    c.is_true.ensures c.requires.waits
+    (subst (λ (z : Step). IsStep c.args.pass.now z c.in-Some.answer c.step_quietly.new.pass) c.step-step.ensures
+    (stepped_now c.args.pass.now c.step_quietly.new.pass c.step-step.result c.step_quietly.result c.in-Some.answer
+    c.step_quietly.ensures.stepped (sym c.answer_of.ensures ∙ c.in-Some.is)))
+
+pub returns-in_default-clause-busy : goal.returns-in_default-clause-busy
+returns-in_default-clause-busy g c =
+    let busy : answer_of c.step_quietly.result ≡ None = search rules in
+    busy_now c.args.pass.now c.step_quietly.new.pass c.step-step.result c.step_quietly.result
+    c.step_quietly.ensures.stepped busy
+
+pub returns-clause-gone_on : goal.returns-clause-gone_on
+returns-clause-gone_on g c = (
+  c.in-Some.answer,
+  (subst (λ (z : Step). IsStep c.args.pass.now z c.in-Some.answer c.step_quietly.new.pass) c.step-step.ensures
+      (stepped_now c.args.pass.now c.step_quietly.new.pass c.step-step.result c.step_quietly.result c.in-Some.answer
+      c.step_quietly.ensures.stepped (sym c.answer_of.ensures ∙ c.in-Some.is))),
+  c.turn.ensures ∙ ap (λ (z : Step). later_turn c.args.waiting z c.in-Some.answer) c.step-step.ensures,
+)

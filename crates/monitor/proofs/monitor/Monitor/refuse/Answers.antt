@@ -1,0 +1,32 @@
+use Rattle.std.proofs.Common.{◌≡◌, ◌≤◌, ◌∙◌, false, sym, subst, true}
+use Rattle.permit.specs.Deed.{interrupted}
+use Rattle.word_lock.specs.Ticket.{LockId}
+use Rattle.monitor.proofs.TurnByTurn.{begun_after, begun_refused, never_waits, place_first}
+use Rattle.monitor.proofs.monitor.Monitor.refuse.Goals as goal
+
+pub unpark-requires : goal.unpark-requires
+unpark-requires g c =
+    let seats = g.P.Parking.seats c.args.parking.now in
+    let lock : c.begin-refusal.new.pass.lock ≡ c.args.self.now =
+    c.begin-refusal.ensures.same.lock ∙ c.requires.is_of in
+    place_first c.args.pass.now c.begin-refusal.new.pass c.args.request c.args.how 0 true
+    c.begin-refusal.result seats c.begin-refusal.ensures.begun c.begin-refusal.ensures.shows
+    (subst (λ (l : LockId). l.header.seats ≤ seats) (sym lock) c.requires.places)
+
+pub unreachable-requires : goal.unreachable-requires
+unreachable-requires g c =
+    never_waits c.args.pass.now c.begin-refusal.new.pass c.args.request c.args.how 0 c.begin-refusal.result _
+    c.begin-refusal.ensures.begun c.in-Waits.is
+
+pub returns-clause-begins : goal.returns-clause-begins
+returns-clause-begins g c =
+    begun_after c.args.pass.now c.begin-refusal.new.pass c.args.request c.args.how 0 true
+    c.begin-refusal.result c.begin-refusal.ensures.begun
+
+pub returns-clause-made : goal.returns-clause-made
+returns-clause-made g c =
+    begun_refused (g.P.Parking.did c.args.parking.now) c.args.pass.now c.begin-refusal.new.pass c.args.how
+    c.requires.interrupted c.args.request 0 c.begin-refusal.result c.in-Ends.reply _ c.begin-refusal.ensures.begun
+    c.unpark.ensures
+    (λ untold. subst (λ i. g.P.Parking.did c.args.parking.now (interrupted i)) c.requires.taken.0
+    (c.settle.ensures c.requires.taken.1 untold)) c.in-Ends.is

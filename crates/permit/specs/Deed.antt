@@ -1,0 +1,22 @@
+-- What is done at a place to park.
+use Rattle.std.specs.Prelude.{ℕ, Bool, Option}
+use Rattle.permit.specs.declared.parking.Woke.{Woke}
+
+-- What was done there: its clock showed a moment; a park of a seat ended; a seat was unparked, or interrupted;
+-- a seat's interrupt flag was cleared, and had been set or not.
+pub data Deed : Type 0 where
+  showed : (moment : ℕ) → Deed
+  parked : (seat : ℕ) → (until : Option ℕ) → (interruptible : Bool) → (woke : Woke) → Deed
+  unparked : (seat : ℕ) → Deed
+  interrupted : (seat : ℕ) → Deed
+  took_interrupt : (seat : ℕ) → (was_set : Bool) → Deed
+
+-- The deed was done at this place. What it means stays hidden, so that a contract which promises a deed is met
+-- only by the call that does it.
+pub IsDone : {A : Type 0} → A → Deed → Type 0
+IsDone place deed = Unit {0}
+
+-- for the methods of a place to park alone
+pub done : {A : Type 0} → (place : A) → (deed : Deed) → IsDone place deed
+unfolding IsDone
+done place deed = tt
