@@ -5,7 +5,7 @@ First plain rt ci: each proof, each test and program, and the few wrong bodies o
 built, the program answers the files of examples/ and cases/ (`examples.py`), and random, spoilt and endless texts,
 storms of threads and failing devices (`by_program.py`). The wrong bodies of wrong-bodies/ are held to their ledger, of
 which a sample is tried again (`wrong_bodies.py`). The commit's hash decides which, and which texts. --write writes the
-ledger's lines anew.
+ledger's lines anew. Behind each step stands how long it took.
 
 A clean clone is checked where it is. A tree in which checks have left their out/ is copied without it first. The last
 line is 'N passed, M failed' for all of this, and the status is 1 if anything failed.
@@ -13,10 +13,12 @@ line is 'N passed, M failed' for all of this, and the status is 1 if anything fa
 import glob
 import os
 import re
+import resource
 import shutil
 import subprocess
 import sys
 import tempfile
+import time
 
 HERE = os.path.dirname(os.path.realpath(__file__))
 ROOT = os.path.dirname(HERE)
@@ -36,6 +38,22 @@ def seed():
     """Returns the commit's hash."""
     ran = subprocess.run(["git", "rev-parse", "HEAD"], cwd=ROOT, capture_output=True, text=True)
     return ran.stdout.strip() or "no commit"
+
+
+def minutes():
+    """Returns how many minutes have gone by, and how many of processors the steps so far have taken."""
+    used = resource.getrusage(resource.RUSAGE_CHILDREN)
+    return time.monotonic() / 60, (used.ru_utime + used.ru_stime) / 60
+
+
+def timed(words, folder, last_line):
+    """Runs a step, and prints how long it took."""
+    begun, used = minutes()
+    numbers = run(words, folder, last_line)
+    ended, used_then = minutes()
+    name = os.path.basename(words[2]) if words[0] == sys.executable else " ".join(words)
+    print(f"checks: {name}: {ended - begun:.1f} minutes, {used_then - used:.1f} processor minutes", flush=True)
+    return numbers
 
 
 def run(words, folder, last_line):
@@ -71,7 +89,7 @@ def checked(tree, is_written):
     own = subprocess.run([sys.executable, "-B", "-m", "unittest", "discover", f"{tree}/checks"], cwd=tree)
     passed, failed = 0, int(own.returncode != 0)
     for words, last_line in steps(tree, is_written):
-        good, bad = run(words, tree, last_line)
+        good, bad = timed(words, tree, last_line)
         passed, failed = passed + good, failed + bad
     print(f"{passed} passed, {failed} failed", flush=True)
     return 1 if failed else 0
