@@ -21,11 +21,11 @@ use Rattle.history.specs.Text.{ended}
 use Rattle.history.proofs.Lists.{calls-ended, ended_append}
 use Rattle.history.proofs.OpeningBase.{based_opening}
 use Rattle.history_text.specs.EntryLines.{counts_line}
-use Rattle.history_text.specs.HistoryText.{history_text}
+use Rattle.history_text.specs.Pieces.{history_text}
 use Rattle.line_text.specs.Reading.{IsText}
 use Rattle.steps.specs.declared.header.StepsHeader.{StepsHeader}
 use Rattle.steps.specs.StepsText.{steps_form}
-use Rattle.driver.proofs.EntryLines.{ended_calls-reverse}
+use Rattle.history_text.proofs.Pieces.{ended_calls-reverse}
 use Rattle.driver.specs.declared.form.Form.{Form}
 use Rattle.driver.specs.declared.form.Form.TheVariants.{Replay, History}
 use Rattle.driver.specs.declared.remark.Remark.{Remark}

@@ -9,7 +9,7 @@ use Rattle.history.specs.GoodBase.{IsGood}
 use Rattle.history.specs.Spelling.{part_of}
 use Rattle.history.specs.Text.{ended}
 use Rattle.history_text.specs.EntryLines.{counts_line}
-use Rattle.history_text.specs.HistoryText.{history_text}
+use Rattle.history_text.specs.Pieces.{history_text}
 use Rattle.steps.specs.declared.header.StepsHeader.{StepsHeader}
 use Rattle.driver.specs.declared.form.Form.{Form}
 use Rattle.driver.specs.declared.form.Form.TheVariants.{Replay, History}

@@ -320,14 +320,6 @@ base_short x is stands =
     )) in
     omega (arith, line_weight (base_words x), all)
 
-pub some_line : (x : BaseLine) → 1 ≤ length (base_line x)
-some_line x = by (base_words x) (name_of x) (named x).0 (named x).1 (some_bytes x)
-  where
-    by : (ws : Words) (w : List ℕ) (rest : Words) → ws ≡ w ∷ rest → 0 < length w → 1 ≤ length (line_of ws)
-    by [] w rest is some = absurd cc
-    by (v ∷ []) w rest is some = rw (first_word v w [] rest is) (omega (arith, some))
-    by (v ∷ u ∷ ws) w rest is some = omega (arith, length-append v (32 ∷ line_of (u ∷ ws)))
-
 -- ---- a line that may follow is spelt
 
 opening_few : (o : Object) (c : ℕ) → IsOpening o c → opening_count o ≤ 2147483647

@@ -29,7 +29,8 @@ use Rattle.history.proofs.Times.{once_same, times-append, total_part}
 use Rattle.history_text.specs.declared.base_line.BaseLine.{BaseLine}
 use Rattle.history_text.specs.declared.base_line.BaseLine.TheVariants.{Stands, Sleeps}
 use Rattle.history_text.specs.BaseFollowing.{IsCountedFor}
-use Rattle.history_text.specs.BaseTelling.{Follow, IsToldBase, base_by, told_by}
+use Rattle.history_text.specs.BaseTelling.{Follow, base_by, told_by}
+use Rattle.history_text.specs.ToldBases.{IsToldBase}
 use Rattle.history_text.specs.BaseLines.{base_lines, first_line}
 use Rattle.history_text.specs.BaseRules.{AllSeated, IsFree, IsSeated, MayFollow, MayHold, Told, untold}
 use Rattle.history_text.proofs.BaseTold.{SoFar, gave_moved, pos_kept, stands_moved, waits_of}

@@ -12,7 +12,7 @@ use Rattle.history_text.specs.declared.base_line.BaseLine.TheVariants.{Folded, R
 use Rattle.history_text.specs.BaseFollowing.{AllFollow, AllRead, HasShape, after_told, with_lines}
 use Rattle.history_text.specs.BaseLines.{base_lines, first_line}
 use Rattle.history_text.specs.BaseRules.{AllSeated, MayFollow, Told, told, untold, with_line}
-use Rattle.history_text.specs.BaseTelling.{IsToldBase}
+use Rattle.history_text.specs.ToldBases.{IsToldBase}
 use Rattle.history_text.proofs.BaseRetold.{good_told}
 use Rattle.history_text.proofs.BaseTold.{gave_moved, header_after, header_kept, stands_moved, whole_told}
 use Rattle.history_text.proofs.BaseWalk.{IsTold, base_told}
@@ -87,9 +87,6 @@ read_follows t a b (x ∷ xs) e read = (
 -- Each line of a good base may follow those before it, also as it is read, and all seats are then told.
 pub good_reads : (b : Base) → IsGoodOf b → AllRead (opening_base b.header) untold (base_lines b)
 good_reads b of = (good_told b of.range of.good of.some).follow
-
-pub good_whole : (b : Base) → IsGoodOf b → AllSeated b.header (after_told untold (base_lines b))
-good_whole b of = (good_told b of.range of.good of.some).all
 
 -- a good base is read as it is told
 pub good_again : (b : Base) → IsGoodOf b → said b.header (base_lines b) ≡ b

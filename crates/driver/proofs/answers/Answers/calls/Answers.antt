@@ -1,7 +1,7 @@
 use Rattle.std.proofs.Common.{ℕ, ◌+◌, reverse, sym, ap, ◌∙◌, arith}
 use Rattle.history.specs.Entries.{ended_calls}
 use Rattle.history.proofs.Lists.{ended_append, ended_calls_le}
-use Rattle.driver.proofs.EntryLines.{ended_calls-reverse}
+use Rattle.history_text.proofs.Pieces.{ended_calls-reverse}
 use Rattle.driver.proofs.answers.Answers.calls.Goals as goal
 
 pub overflow_add-result : goal.overflow_add-result

@@ -1,7 +1,7 @@
 use Rattle.std.proofs.Common.{◌≡◌, ℕ, ◌<◌, ◌∷◌, ◌++◌, List, [], length, map, get_or, set, Vec, Global, ap, sym, ◌∙◌}
 use Rattle.std.proofs.lemmas.List.{get_or-map, map-set}
 use Rattle.history.specs.declared.base.Sleeper.{Sleeper}
-use Rattle.history_text.proofs.base_text.put_asleep.Goals as goal
+use Rattle.history_text.proofs.base_under_way.put_asleep.Goals as goal
 
 -- one list among many, changed
 changed : {A B : Type 0} (f : A → B) (g : B → B) (xs : List A) (i : ℕ) (x y : A) (d : B) → i < length xs →
