@@ -7,6 +7,7 @@ use Rattle.std.specs.Io.KnownBytes.{Keeps, IsAtEnd, prepend_known}
 use Rattle.history.specs.declared.entry.Entry.{Entry}
 use Rattle.history.specs.declared.header.Header.{Header}
 use Rattle.history.specs.Base.{Base}
+use Rattle.history.specs.GoodBase.{most_folded}
 use Rattle.history.specs.Header.{IsInRange}
 use Rattle.history.specs.Text.{ended}
 use Rattle.line_text.specs.declared.fault.TextFault.{TextFault}
@@ -195,6 +196,15 @@ entry_keeps k p old window left after e n range few s is =
     let line = entry_line (p.folded + p.count) e in
     all_kept old window line is.1.0 left after s (is.1.1 ∙ broken line is.1.0)
     (entry_short k (p.folded + p.count) e few range is.0)
+
+-- the numbers of a reader are small
+pub few_entries : (h : Header) (p : Place) → IsInRange h → p.count ≤ h.cap → p.folded ≤ most_folded →
+    p.folded + p.count < 2 ^ 64
+few_entries h p range few folded = omega (arith, range.cap, few, folded)
+
+pub few_calls : (h : Header) (p : Place) → IsInRange h → p.count ≤ h.cap → p.calls ≤ most_folded + p.count →
+    p.calls < 2 ^ 64
+few_calls h p range few calls = omega (arith, range.cap, few, calls)
 
 -- ---- what a call answers
 

@@ -1,13 +1,10 @@
 -- The first line and the lines of a base are written.
-use Rattle.std.proofs.Common.{◌≡◌, ⊎_elim, ℕ, zero, suc, ◌+◌, ◌≤◌, Bool, true, false, cond, List, [], ◌∷◌, ◌++◌, length, get_or, refl, sym, ap, ◌∙◌, arith, append_assoc, append-nil, codes}
+use Rattle.std.proofs.Common.{◌≡◌, ⊎_elim, ℕ, zero, suc, ◌+◌, ◌≤◌, Bool, List, [], ◌∷◌, ◌++◌, length, get_or, refl, sym, ap, ◌∙◌, arith, append_assoc, append-nil, codes}
 use Rattle.std.specs.List.{AllByRecursion}
 use Rattle.history.specs.declared.base.SeatBase.{SeatBase}
 use Rattle.history.specs.declared.header.Header.{Header}
 use Rattle.history.specs.Base.{Base, based, each_below, nothing, opening_base, seat_of}
 use Rattle.history.specs.Counts.{total}
-use Rattle.history.specs.declared.entry.Entry.{Entry}
-use Rattle.history.specs.Entries.{ended_calls}
-use Rattle.history.specs.Entry.{ends_call}
 use Rattle.history.specs.GoodBase.{IsBaseOf, IsGood, most_folded}
 use Rattle.history.specs.Header.{IsInRange}
 use Rattle.history.specs.Legal.{calls}
@@ -66,15 +63,6 @@ sum_calls b good =
 
 pub sum_few : (b : Base) → IsGood b → calls_sum b.seats ≤ b.entries
 sum_few b good = omega (arith, sum_calls b good, good.calls)
-
-one_at_most : (c : Bool) → cond c 1 0 ≤ 1
-one_at_most true = omega arith
-one_at_most false = omega arith
-
--- no more entries end a call than there are
-pub ended_few : (xs : List Entry) → ended_calls xs ≤ length xs
-ended_few [] = omega arith
-ended_few (e ∷ xs) = omega (arith, ended_few xs, one_at_most (ends_call e.word))
 
 sum_push : (xs : List SeatBase) → calls_sum (xs ++ nothing ∷ []) ≡ calls_sum xs
 sum_push [] = refl

@@ -1,5 +1,5 @@
 -- The lines of a history, and which lines may come next.
-use Rattle.std.proofs.Common.{◌≡◌, ◌⊎◌, ⊎_elim, inl, inr, ℕ, zero, suc, ◌+◌, ◌<◌, ◌≤◌, Bool, true, false, ltb, cond, List, [], ◌∷◌, ◌++◌, length, map, refl, sym, ap, subst, ◌∙◌, arith, append_assoc, append-nil}
+use Rattle.std.proofs.Common.{◌≡◌, ◌⊎◌, ⊎_elim, inl, inr, ℕ, zero, suc, ◌+◌, ◌<◌, ◌≤◌, Bool, true, ltb, List, [], ◌∷◌, ◌++◌, length, map, refl, sym, ap, subst, ◌∙◌, arith, append_assoc, append-nil}
 use Rattle.std.specs.List.{AllByRecursion}
 use Rattle.std.proofs.lemmas.Bool.{lt-ltb, ltb-true}
 use Rattle.std.proofs.lemmas.List.{length-append, length-map}
@@ -41,10 +41,6 @@ on_push b es e =
     ap (λ (l : List Line). map Based (lines_told b) ++ l) (numbered-push b.entries es e)
     ∙ sym (append_assoc (map Based (lines_told b)) (numbered b.entries es)
     (Entered (b.entries + length es) e ∷ []))
-
-pub one_or_none : (b : Bool) → cond b 1 0 ≤ 1
-one_or_none true = omega arith
-one_or_none false = omega arith
 
 -- ---- a base and its lines
 
@@ -271,6 +267,9 @@ tail_same x y xs ys e = cc
 base_same : (x y : BaseLine) → Based x ≡ Based y → x ≡ y
 base_same x y e = cc
 
+other_kind : {x : BaseLine} {n : ℕ} {e : Entry} → Based x ≡ Entered n e → ⊥
+other_kind q = cc
+
 entry_same : (n m : ℕ) (d e : Entry) → Entered n d ≡ Entered m e → (n ≡ m) × (d ≡ e)
 entry_same n m d e q = (cc, cc)
 
@@ -278,10 +277,7 @@ no_based : (n : ℕ) (es : List Entry) (before more : List Line) (x : BaseLine) 
     numbered n es ≡ before ++ Based x ∷ more → ⊥
 no_based n [] [] more x e = cc
 no_based n [] (y ∷ before) more x e = cc
-no_based n (f ∷ es) [] more x e = absurd (other (head_same _ _ _ _ e))
-  where
-    other : Entered n f ≡ Based x → ⊥
-    other q = cc
+no_based n (f ∷ es) [] more x e = absurd (other_kind (sym (head_same _ _ _ _ e)))
 no_based n (f ∷ es) (y ∷ before) more x e = no_based (n + 1) es before more x (tail_same _ _ _ _ e)
 
 based_split : (ls : List BaseLine) (n : ℕ) (es : List Entry) (before more : List Line) (x : BaseLine) →
@@ -298,19 +294,19 @@ based_split (l ∷ ls) n es (y ∷ before) more x e =
       ap (λ (z : List BaseLine). l ∷ z) s.3,
     )
 
--- the entries before one
-record Split (n : ℕ) (es : List Entry) (before : List Line) (m : ℕ) (e : Entry) : Type 0 where
+-- the entries before one, behind the lines of a base
+record Split (ls : List BaseLine) (n : ℕ) (es : List Entry) (before : List Line) (m : ℕ) (e : Entry) : Type 0 where
   fs : List Entry
   gs : List Entry
-  lines : before ≡ numbered n fs
+  lines : before ≡ map Based ls ++ numbered n fs
   number : m ≡ n + length fs
   all : es ≡ fs ++ e ∷ gs
 
-entry_split : (n : ℕ) (es : List Entry) (before more : List Line) (m : ℕ) (e : Entry) →
-    numbered n es ≡ before ++ Entered m e ∷ more → Split n es before m e
-entry_split n [] [] more m e q = absurd cc
-entry_split n [] (y ∷ before) more m e q = absurd cc
-entry_split n (f ∷ es) [] more m e q =
+entry_split : (ls : List BaseLine) (n : ℕ) (es : List Entry) (before more : List Line) (m : ℕ) (e : Entry) →
+    map Based ls ++ numbered n es ≡ before ++ Entered m e ∷ more → Split ls n es before m e
+entry_split [] n [] [] more m e q = absurd cc
+entry_split [] n [] (y ∷ before) more m e q = absurd cc
+entry_split [] n (f ∷ es) [] more m e q =
     let same = entry_same n m f e (head_same _ _ _ _ q) in
     record {
       fs = [];
@@ -319,8 +315,8 @@ entry_split n (f ∷ es) [] more m e q =
       number = omega (arith, same.0);
       all = ap (λ (x : Entry). x ∷ es) same.1;
     }
-entry_split n (f ∷ es) (y ∷ before) more m e q =
-    let s = entry_split (n + 1) es before more m e (tail_same _ _ _ _ q) in
+entry_split [] n (f ∷ es) (y ∷ before) more m e q =
+    let s = entry_split [] (n + 1) es before more m e (tail_same _ _ _ _ q) in
     record {
       fs = f ∷ s.fs;
       gs = s.gs;
@@ -329,27 +325,9 @@ entry_split n (f ∷ es) (y ∷ before) more m e q =
       number = omega (arith, s.number);
       all = ap (λ (z : List Entry). f ∷ z) s.all;
     }
-
--- behind the lines of a base
-record SplitBehind (ls : List BaseLine) (n : ℕ) (es : List Entry) (before : List Line) (m : ℕ) (e : Entry)
-    : Type 0 where
-  fs : List Entry
-  gs : List Entry
-  lines : before ≡ map Based ls ++ numbered n fs
-  number : m ≡ n + length fs
-  all : es ≡ fs ++ e ∷ gs
-
-entry_behind : (ls : List BaseLine) (n : ℕ) (es : List Entry) (before more : List Line) (m : ℕ) (e : Entry) →
-    map Based ls ++ numbered n es ≡ before ++ Entered m e ∷ more → SplitBehind ls n es before m e
-entry_behind [] n es before more m e q =
-    let s = entry_split n es before more m e q in
-    record { fs = s.fs; gs = s.gs; lines = s.lines; number = s.number; all = s.all }
-entry_behind (l ∷ ls) n es [] more m e q = absurd (other (head_same _ _ _ _ q))
-  where
-    other : Based l ≡ Entered m e → ⊥
-    other q = cc
-entry_behind (l ∷ ls) n es (y ∷ before) more m e q =
-    let s = entry_behind ls n es before more m e (tail_same _ _ _ _ q) in
+entry_split (l ∷ ls) n es [] more m e q = absurd (other_kind (head_same _ _ _ _ q))
+entry_split (l ∷ ls) n es (y ∷ before) more m e q =
+    let s = entry_split ls n es before more m e (tail_same _ _ _ _ q) in
     record {
       fs = s.fs;
       gs = s.gs;
@@ -471,7 +449,7 @@ module _ (h : Head) where
   pub next_entry : (before : List Line) (m : ℕ) (e : Entry) → SomeBeginsSo h (before ++ Entered m e ∷ []) →
       IsNextEntry before m e
   next_entry before m e (b, es, more, of, q) =
-      let s = entry_behind (lines_told b) b.entries es before more m e
+      let s = entry_split (lines_told b) b.entries es before more m e
       (at_next before more (Entered m e) _ q) in
       let all = subst (AllByRecursion (HasLine h.header)) s.all of.each in
       let few : length s.fs < h.header.cap =

@@ -8,9 +8,11 @@ use Rattle.history.specs.EntryWords.{entry_words}
 use Rattle.history.specs.Header.{IsInRange}
 use Rattle.history.specs.Spelling.{part_of}
 use Rattle.history.specs.Text.{words_of, line_of}
+use Rattle.history.proofs.Lists.{ended_calls_le}
 use Rattle.history.proofs.Numbers.{digits_alone}
 use Rattle.history.proofs.Plain.{words_again}
 use Rattle.line_text.proofs.Lawful.{Lacks, IsLawful}
+use Rattle.line_text.proofs.OneReading.{head_is, tail_is}
 use Rattle.line_text.proofs.WholeLines.{line_lacks, header_whole, header_one}
 use Rattle.history_text.specs.declared.base_line.BaseLine.{BaseLine}
 use Rattle.history_text.specs.declared.place.Head.{Head}
@@ -23,7 +25,7 @@ use Rattle.history_text.specs.ToldBases.{GoodBeginsSo}
 use Rattle.history_text.proofs.BaseLineLemmas.{base_lacks, base_no_end, base_no_entry, same_base_line}
 use Rattle.history_text.proofs.BaseWritten.{each_back, each_front}
 use Rattle.history_text.proofs.EntryLemmas.{line_plain, entry_line-words, same_entry, counts_plain, counts_line-words}
-use Rattle.history_text.proofs.HeadWritten.{ended_few, good_spelt, sums_few}
+use Rattle.history_text.proofs.HeadWritten.{good_spelt, sums_few}
 use Rattle.history_text.proofs.HistoryItems.{base_few, calls_on, entries_on, next_based, next_entry}
 
 entry_lacks : (h : Header) (k : ℕ) (e : Entry) → IsInRange h → k < 2 ^ 64 → HasLine h e →
@@ -56,12 +58,6 @@ entry_no_end h k e a b range lt fits l m same =
 head_whole : (is_based : Bool) (k : Header) → IsInRange k → Lacks (name_of is_based ++ part_of k)
 head_whole true k range = header_whole (codes "aqs-history 2 ") k refl range
 head_whole false k range = header_whole (codes "aqs-history 1 ") k refl range
-
-head_is : (x y : ℕ) (xs ys : List ℕ) → x ∷ xs ≡ y ∷ ys → x ≡ y
-head_is x y xs ys e = cc
-
-tail_is : (x y : ℕ) (xs ys : List ℕ) → x ∷ xs ≡ y ∷ ys → xs ≡ ys
-tail_is x y xs ys e = cc
 
 behind : (name : List ℕ) (a b : List ℕ) → name ++ a ≡ name ++ b → a ≡ b
 behind [] a b e = e
@@ -130,7 +126,7 @@ ended_fit h lines range (b, es, of, e) =
         calls_on b es (λ z. omega (arith, some, z)),
         some,
         few,
-        ended_few es,
+        ended_calls_le es,
         of.few,
         range.cap,
       ),

@@ -9,7 +9,7 @@ use Rattle.history_text.specs.EntryLines.{entry_line}
 use Rattle.history_text.specs.HistoryLines.{head_line, head_of, lines_told}
 use Rattle.history_text.specs.Pieces.{entry_lines}
 use Rattle.history_text.proofs.HistoryWriting.{past}
-use Rattle.history_text.proofs.HeadWritten.{ended_few}
+use Rattle.history.proofs.Lists.{ended_calls_le}
 use Rattle.history_text.proofs.TextWritten.{all_lines, more_lines}
 use Rattle.history_text.proofs.history_text.written.Goals as goal
 
@@ -38,7 +38,7 @@ overflow_add-calls c =
     let head =
     subst (λ (a : Base). IsHeadPut a c.in_ok-out.out.items c.put_head.new.out.items c.in_ok-folded.folded
     c.in_ok-folded.calls) (ap (or_opening c.args.header.now) c.base.ensures) c.in_ok-folded.ensures in
-    let few = ended_few c.args.history.now.entries in
+    let few = ended_calls_le c.args.history.now.entries in
     omega (arith, head.some, head.few, few, c.calls.ensures, c.len-2.ensures.value, c.len-2.ensures.few)
 
 pub returns : goal.returns

@@ -9,7 +9,7 @@ use Rattle.line_text.proofs.UnderWay.{left_over}
 use Rattle.history_text.specs.EntryLines.{entry_line}
 use Rattle.history_text.specs.HistoryText.{history_form}
 use Rattle.history_text.proofs.EntriesRead.{read_all, read_one}
-use Rattle.history_text.proofs.HistoryItems.{one_or_none}
+use Rattle.history.proofs.Lists.{one_at_most}
 use Rattle.history_text.proofs.reading.read_entries.Goals as goal
 
 pub next_entry-requires-clause-few : goal.next_entry-requires-clause-few
@@ -100,6 +100,6 @@ loop-history-preserved c =
       calls = rw (c.behind-place.ensures, entries) (omega (
         arith,
         c.loop-history.invariant.calls,
-        one_or_none (ends_call e.word),
+        one_at_most (ends_call e.word),
       ));
     }

@@ -2,7 +2,7 @@ use Rattle.std.proofs.Common.{◌≡◌, ◌+◌, ◌++◌, ℕ, List, ap, arith
 use Rattle.history.proofs.Lists.{calls-ended}
 use Rattle.history.specs.Base.{based}
 use Rattle.history.specs.Legal.{calls}
-use Rattle.history_text.proofs.HeadWritten.{ended_few}
+use Rattle.history.proofs.Lists.{ended_calls_le}
 use Rattle.history_text.specs.EntryLines.{counts_line}
 use Rattle.audit.proofs.Beginnings.{header_from}
 use Rattle.history.specs.declared.header.Header.{Header}
@@ -22,7 +22,7 @@ overflow_add-calls c =
       c.calls.ensures,
       c.len.ensures.value,
       c.len.ensures.few,
-      ended_few part.history.entries,
+      ended_calls_le part.history.entries,
     )
 
 pub returns-clause-ok : goal.returns-clause-ok

@@ -1,24 +1,12 @@
-use Rattle.std.proofs.Common.{◌+◌, ◌≤◌, ◌<◌, ◌^◌, Err, ap, arith, refl}
-use Rattle.history.specs.declared.header.Header.{Header}
-use Rattle.history.specs.GoodBase.{most_folded}
-use Rattle.history.specs.Header.{IsInRange}
+use Rattle.std.proofs.Common.{◌+◌, Err, ap, arith, refl}
 use Rattle.history_text.specs.EntryLines.{counts_line}
-use Rattle.history_text.specs.declared.place.Place.{Place}
 use Rattle.history_text.proofs.ShortEntries.{counts_short, ended_short}
 use Rattle.line_text.specs.declared.fault.TextFault.{TextFault}
 use Rattle.streams.specs.declared.stream_fault.StreamFault.{StreamFault}
 use Rattle.driver.specs.contracts.history_reader.HistoryReader.{the_view}
-use Rattle.driver.proofs.EntriesAhead.{entries_ended, entries_kept, entries_read_failed, entry_failed, entry_here, entry_keeps}
+use Rattle.driver.proofs.EntriesAhead.{entries_ended, entries_kept, entries_read_failed, entry_failed, entry_here, entry_keeps, few_calls, few_entries}
 use Rattle.driver.proofs.ReadingAhead.{end_kept, stands_behind, stands_failed}
 use Rattle.driver.proofs.history_reader.HistoryReader.next_after_reading.Goals as goal
-
-few_entries : (h : Header) (p : Place) → IsInRange h → p.count ≤ h.cap → p.folded ≤ most_folded →
-    p.folded + p.count < 2 ^ 64
-few_entries h p range few folded = omega (arith, range.cap, few, folded)
-
-few_calls : (h : Header) (p : Place) → IsInRange h → p.count ≤ h.cap → p.calls ≤ most_folded + p.count →
-    p.calls < 2 ^ 64
-few_calls h p range few calls = omega (arith, range.cap, few, calls)
 
 pub returns-in_err-read_line-clause-next : goal.returns-in_err-read_line-clause-next
 returns-in_err-read_line-clause-next g c =
