@@ -59,15 +59,6 @@ never_all first held left after more new many all read = λ text items were.
     by text items None were few = were
     by text items (Some xs) were few = omega (arith, were.count, many, few)
 
--- a fault behind them was passed on
-pub more_failed : {T : Type 0} (first now new : Progress StepsHeader Act) (more : List Act)
-    (left : Option (List ℕ)) (r : Result T StreamFault) (fault : StreamFault) →
-    IsErr r × IsErrAnd r (λ e. e ≡ fault) → IsNext steps_form now (Err fault) new left →
-    ReadMore first more now → IfErr r (IsFaultOn steps_form first left)
-more_failed first now new more left (Ok x) fault passed next read = absurd (false≢true passed.0)
-more_failed first now new more left (Err e) fault passed next read = λ text items were.
-    subst (IsFaultOf steps_form text left) (sym passed.1) (next text (items ++ more) (read text items were))
-
 -- a fault behind some items is one behind the header
 pub fault_passed_on : {H I T : Type 0} (form : Form H I) (first now : Progress H I) (items : List I)
     (left : Option (List ℕ)) (r : Result T StreamFault) (fault : StreamFault) →

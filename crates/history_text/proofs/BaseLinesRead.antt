@@ -98,9 +98,6 @@ lines_are xs t b so = by t.entries refl
     by zero e = sym (so.spelt.none e).2
     by (suc n) e = sym (so.spelt.some (omega (arith, e)))
 
-pub none_read : (k : Header) → IsInRange k → IsUnderWay untold (opening_base k) 0
-none_read k range = record { range = range; follow = tt; base = refl; told = refl; count = refl }
-
 module _ (t : Told) (b : Base) (lines : ℕ) (is : IsUnderWay t b lines) where
   abbrev xs : List BaseLine
   xs = lines_read t b
