@@ -104,7 +104,8 @@ base_failed h old new left after (Err e) fault passed is = λ text begun.
 
 -- ---- the base was told whole
 
-module _ (h : Head) (based_so : h.is_based ≡ true) (b : Base) (xs : List BaseLine) (is : IsToldBase h.header b)
+module _ (h : Head) (based_so : h.is_based ≡ true) (b : Base) (xs : List BaseLine) (is : IsToldBase
+    h.header b)
     (lines : base_lines b ≡ xs) where
   pub base_read : (window : List ℕ) (after : Option (List ℕ)) → LacksBaseLine window → HasShortLine window →
       (text : Option (List ℕ)) → LinesBehind text h (map Based xs) window after →

@@ -156,7 +156,8 @@ entries_few (Ok Sleep) = omega arith
 entries_few (Err fault) = omega arith
 
 -- an act adds one entry at most
-pub one_entry_more : (act : Act) (core core' : CoreView) (log log' : Logged) → IsLogged core log act core' log' →
+pub one_entry_more : (act : Act) (core core' : CoreView) (log log' : Logged) → IsLogged core log act
+    core' log' →
     length log'.past + length core'.entries ≤ length log.past + length core.entries + 1
 one_entry_more (Do i step) core core' log log' is =
     let now = answered core core' i step is.0 is.1 is.2 in

@@ -31,7 +31,11 @@ entry_lines-append k (x ∷ xs) ys =
     ∙ sym (append_assoc line (entry_lines (k + 1) xs)
     (entry_lines (k + length (x ∷ xs)) ys))
 
-no_entries : (b : Base) (n : ℕ) → b.entries ≡ n → head_of b ≡ record { is_based = nat_lt 0 n; header = b.header }
+no_entries : (b : Base) (n : ℕ) → b.entries ≡ n → head_of b ≡ record {
+  is_based = nat_lt 0 n;
+  header =
+      b.header;
+}
 no_entries b n e = ap (λ (m : ℕ). record { is_based = nat_lt 0 m; header = b.header }) e
 
 -- those of all entries are the history text, where nothing was folded
@@ -49,7 +53,8 @@ lines_alone a are none =
     let number : length es ≡ b.entries + length a.entries = omega (arith, length-reverse a.entries, zero) in
     ap (λ (past : List Entry). ended (first_line History a.header) ++ (told_lines (past ++ es) 0 []
     ++ ended (counts_line (length (past ++ es)) (ended_calls (past ++ es))))) none
-    ∙ ap (λ (t : List ℕ). ended t ++ (entry_lines 0 es ++ ended (counts_line (length es) (ended_calls es)))) first
+    ∙ ap (λ (t : List ℕ). ended t ++ (entry_lines 0 es ++ ended (counts_line (length es) (ended_calls
+    es)))) first
     ∙ ap (λ (n : ℕ). ended (head_line (head_of b))
     ++ (entry_lines n es ++ ended (counts_line (length es) (ended_calls es)))) (sym zero)
     ∙ ap (λ (n : ℕ). ended (head_line (head_of b))
@@ -57,7 +62,8 @@ lines_alone a are none =
     ∙ ap (λ (n : ℕ). ended (head_line (head_of b))
     ++ (entry_lines b.entries es ++ ended (counts_line (b.entries + length a.entries) n))) calls_are
     ∙ ap (λ (l : List BaseLine). ended (head_line (head_of b)) ++ (base_text l
-    ++ (entry_lines b.entries es ++ ended (counts_line (b.entries + length a.entries) (calls (based b) a.entries)))))
+    ++ (entry_lines b.entries es ++ ended (counts_line (b.entries + length a.entries) (calls (based b)
+    a.entries)))))
     (sym (told_none b zero))
 
 pub no_length : (xs : List Entry) → length xs ≡ 0 → xs ≡ []

@@ -46,7 +46,8 @@ ReadMore first more now =
     WereRead steps_form text now (items ++ more)
 
 -- so many acts are not all of a text
-pub never_all : (first : Progress StepsHeader Act) (held : Held) (left after : Option (List ℕ)) (more : List Act)
+pub never_all : (first : Progress StepsHeader Act) (held : Held) (left after : Option (List ℕ)) (more :
+    List Act)
     (new : Progress StepsHeader Act) → 2 ^ 32 ≤ held.count →
     IsNext steps_form (progress held left) (Ok None) new after → ReadMore first more (progress held left) →
     IsOfNoText steps_form first

@@ -20,7 +20,8 @@ lines_known h lines = record { header = h; count = length lines; known = λ all.
 
 -- these lines of a text were read, by a reader that holds these bytes, and whose source has this left
 abbrev pub LinesBehind : Option (List ℕ) → Head → List Line → List ℕ → Option (List ℕ) → Type 0
-LinesBehind text h lines bytes left = WereRead history_form text (reader_at (lines_known h lines) bytes left) lines
+LinesBehind text h lines bytes left = WereRead history_form text (reader_at (lines_known h lines) bytes
+    left) lines
 
 -- the first line alone was
 abbrev pub HeadRead : Option (List ℕ) → Head → List ℕ → Option (List ℕ) → Type 0
@@ -32,14 +33,15 @@ abbrev pub EntriesBehind : Option (List ℕ) → Head → Base → List Entry �
 EntriesBehind text h b es place bytes left =
     IfSome text (λ t. IsSomeAnd (prepend_known bytes left) (AreEntriesRead t h b es place))
 
--- A line of a base was taken up; or the base was told whole, and the next line, which stands whole in the window,
--- is none of a base; or this is the fault, whatever the text.
+-- A line of a base was taken up; or the base was told whole, and the next line, which stands whole in the
+-- window, is none of a base; or this is the fault, whatever the text.
 abbrev pub IsLineTaken : LinesRead → List ℕ → Option (List ℕ) → Result Bool StreamFault → LinesRead → List ℕ →
     Option (List ℕ) → Type 0
 IsLineTaken old bytes left (Ok true) new grown after =
     (length new.lines ≡ length old.lines + 1)
     × ((text : Option (List ℕ)) (h : Head) → h.is_based ≡ true → h.header ≡ old.header →
-    LinesBehind text h (map Based old.lines) bytes left → LinesBehind text h (map Based new.lines) grown after)
+    LinesBehind text h (map Based old.lines) bytes left → LinesBehind text h (map Based new.lines) grown
+    after)
 IsLineTaken old bytes left (Ok false) new grown after =
     (new ≡ old) × GoodHas old.header old.lines × LacksBaseLine grown × HasShortLine grown
     × Keeps (prepend_known bytes left) (prepend_known grown after)

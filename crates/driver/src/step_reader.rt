@@ -175,8 +175,8 @@ impl StepReader {
         }
     }
 
-    /// Reads what is left of a text of which more acts were read than a good one has: so it has a fault, and that is
-    /// found.
+    /// Reads what is left of a text of which more acts were read than a good one has: so it has a fault, and
+    /// that is found.
     #[inline(never)]
     pub fn read_to_fault<R: Source>(&mut self, reader: &mut R) -> Result<(), StreamFault>
         requires reader { R.failed reader.old ≡ false }

@@ -110,7 +110,8 @@ module _ (t : Told) (b : Base) (lines : ℕ) (is : IsUnderWay t b lines) where
 
   pub few : length xs ≤ 513
   few =
-      let all = few_more [] xs untold (opening_base b.header) (told_so_far b.header [] is.range tt) is.follow in
+      let all = few_more [] xs untold (opening_base b.header) (told_so_far b.header [] is.range tt)
+      is.follow in
       omega (arith, all, is.range.seats)
 
   -- ---- which line may come next
@@ -167,7 +168,11 @@ module _ (t : Told) (b : Base) (lines : ℕ) (is : IsUnderWay t b lines) where
 
   module _ (x : BaseLine) (may : MayFollow t b x) where
     pub seat_here : (i : ℕ) (has : SeatBase) → x ≡ Seat i has → i < length b.seats
-    seat_here i has e = let seat = (subst (MayFollow t b) e may).seat in omega (arith, seat, known.summed.length)
+    seat_here i has e = let seat = (subst (MayFollow t b) e may).seat in omega (
+      arith,
+      seat,
+      known.summed.length,
+    )
 
     -- one more finds a place in line, or among the sleepers of its condition
     pub place_in_line : (p : Standing) → x ≡ Stands p → length b.line < b.header.seats
@@ -204,7 +209,8 @@ module _ (t : Told) (b : Base) (lines : ℕ) (is : IsUnderWay t b lines) where
     )
 
 -- what was read is one line more
-pub taken_view : (t : Told) (b : Base) (lines : ℕ) (is : IsUnderWay t b lines) (x : BaseLine) → MayFollow t b x →
+pub taken_view : (t : Told) (b : Base) (lines : ℕ) (is : IsUnderWay t b lines) (x : BaseLine) → MayFollow
+    t b x →
     view_of (told t x) (with_line b x) ≡ record { header = b.header; lines = lines_read t b ++ x ∷ [] }
 taken_view t b lines is x may = λ j. record {
   header = header_kept b x j;

@@ -57,4 +57,11 @@ module _ (text : List ℕ) (h : Head) (based : h.is_based ≡ true) where
 -- its numbers are small
 pub told_few : (h : Head) (b : Base) → IsToldBase h.header b →
     (b.entries ≤ most_folded) × (calls_sum b.seats ≤ most_folded)
-told_few h b is = let few = sum_few b is.good in let most = is.good.entries in (most, omega (arith, few, most))
+told_few h b is = let few = sum_few b is.good in let most = is.good.entries in (
+  most,
+  omega (
+    arith,
+    few,
+    most,
+  ),
+)

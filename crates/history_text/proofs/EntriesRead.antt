@@ -24,11 +24,12 @@ module _ (text : List ℕ) (h : Head) (b : Base) (es : List Entry) (p : Place) (
       read.place.calls in
       record {
         base = subst (λ (k : Header). IsBaseOf k b) (sym read.history.base.0) read.history.base;
-        is = subst (λ (z : Head). IsText history_form text z (lines_on b es)) (sym read.history.head) (record {
-          begins = subst (Begins history_form text h (lines_on b es))
-              (is ∙ ap (λ (t : List ℕ). ended t) end) read.begins;
-          ends = (b, es, read.history, refl);
-        });
+        is = subst (λ (z : Head). IsText history_form text z (lines_on b es)) (sym read.history.head)
+            (record {
+              begins = subst (Begins history_form text h (lines_on b es))
+                  (is ∙ ap (λ (t : List ℕ). ended t) end) read.begins;
+              ends = (b, es, read.history, refl);
+            });
       }
 
   pub read_one : (e : Entry) (left : ℕ) (after : List ℕ) → p.count < h.header.cap →

@@ -295,7 +295,8 @@ based_split (l ∷ ls) n es (y ∷ before) more x e =
     )
 
 -- the entries before one, behind the lines of a base
-record Split (ls : List BaseLine) (n : ℕ) (es : List Entry) (before : List Line) (m : ℕ) (e : Entry) : Type 0 where
+record Split (ls : List BaseLine) (n : ℕ) (es : List Entry) (before : List Line) (m : ℕ) (e : Entry) :
+    Type 0 where
   fs : List Entry
   gs : List Entry
   lines : before ≡ map Based ls ++ numbered n fs
@@ -427,7 +428,8 @@ module _ (h : Head) where
   )
 
   -- lines of a history that are those of a base alone are those of a good one
-  pub good_whole : (b : Base) (es : List Entry) (xs : List BaseLine) → h.is_based ≡ true → IsHistoryOf h b es →
+  pub good_whole : (b : Base) (es : List Entry) (xs : List BaseLine) → h.is_based ≡ true → IsHistoryOf h
+      b es →
       lines_on b es ≡ map Based xs → GoodHas h.header xs
   good_whole b es xs based of e =
       let some : 1 ≤ b.entries = ltb-true 0 b.entries (ap (λ (g : Head). g.is_based) of.head ∙ based) in (

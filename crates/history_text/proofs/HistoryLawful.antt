@@ -88,7 +88,8 @@ each_at : {A : Type 0} (P : A → Type 0) (xs : List A) (x : A) (ys : List A) �
 each_at P xs x ys all = (each_back P xs (x ∷ []) (each_front P (xs ++ x ∷ []) ys all)).0
 
 -- a line with which a good base begins is spelt
-pub good_line : (k : Header) (xs : List BaseLine) (x : BaseLine) → IsInRange k → GoodBeginsSo k (xs ++ x ∷ []) →
+pub good_line : (k : Header) (xs : List BaseLine) (x : BaseLine) → IsInRange k → GoodBeginsSo k (xs ++ x
+    ∷ []) →
     IsBaseLine x
 good_line k xs x range (b, more, is, e) =
     each_at IsBaseLine xs x more

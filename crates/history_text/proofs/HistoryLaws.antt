@@ -30,7 +30,8 @@ base_by_lines k b range of = ⊎_elim none some of.1
   where
     none : b ≡ opening_base k → b ≡ (if ltb 0 b.entries then base_by k (lines_told b) else opening_base k)
     none e =
-        subst (λ (a : Base). a ≡ (if ltb 0 a.entries then base_by k (lines_told a) else opening_base k)) (sym e)
+        subst (λ (a : Base). a ≡ (if ltb 0 a.entries then base_by k (lines_told a) else opening_base k))
+        (sym e)
         refl
 
     some : (1 ≤ b.entries) × IsGood b →
@@ -71,7 +72,8 @@ same_said text a c es fs p q =
     sym (base_lines_again a es) ∙ ap base_lines_in lines ∙ base_lines_again c fs in (
       base_by_lines a.header a p.is.begins.header p.base
           ∙ ap (λ (k : Header). if ltb 0 a.entries then base_by k (lines_told a) else opening_base k) header
-          ∙ ap (λ (l : List BaseLine). if ltb 0 a.entries then base_by c.header l else opening_base c.header) told
+          ∙ ap (λ (l : List BaseLine). if ltb 0 a.entries then base_by c.header l else opening_base
+          c.header) told
           ∙ ap (λ (x : Bool). if x then base_by c.header (lines_told c) else opening_base c.header) based
           ∙ sym (base_by_lines c.header c q.is.begins.header q.base),
       sym (entries_again a es) ∙ ap entries_of lines ∙ entries_again c fs,

@@ -16,9 +16,9 @@ use Rattle.history_text.specs.EntryLines.{HasLine}
 use Rattle.history_text.specs.HistoryLines.{head_line, head_of}
 use Rattle.history_text.specs.TextLines.{Line, SomeBeginsSo, SomeHas, end_of, line_text, lines_on}
 
--- A header of any object, the lines of a base if there is one, entries of its seats with their numbers, no more
--- than its cap, and two counts. A line may stand where some history, on a good base, begins with it and the
--- lines before it.
+-- A header of any object, the lines of a base if there is one, entries of its seats with their numbers, no
+-- more than its cap, and two counts. A line may stand where some history, on a good base, begins with it and
+-- the lines before it.
 abbrev pub history_form : Form Head Line
 history_form =
     record {
@@ -51,8 +51,8 @@ pub record Fits (h : Header) (kept : HistoryView) : Type 0 where
   pub base : HasBaseText h (base_on h kept)
   pub each : All (HasLine h) (reverse kept.entries)
 
--- what was read: a list of the header's cap, on the base that the text tells, if it tells one, with no room owed
--- and no more pages than its entries take
+-- what was read: a list of the header's cap, on the base that the text tells, if it tells one, with no room
+-- owed and no more pages than its entries take
 pub record IsRead (text : List ℕ) (h : Header) (kept : HistoryView) : Type 0 where
   pub reading : IsHistoryText text (base_on h kept) (reverse kept.entries)
   pub header : (base_on h kept).header ≡ h

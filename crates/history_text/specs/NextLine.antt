@@ -89,8 +89,8 @@ pub record AreEntriesRead (text : List ℕ) (h : Head) (b : Base) (es : List Ent
   pub place : IsPlaceOf b es p
   pub behind : h.is_based ≡ true → es ≡ [] → LacksBaseLine rest
 
--- what the next line says at a place: an entry with its number, or that there are no more, or a fault, whatever
--- base and entries stand before
+-- what the next line says at a place: an entry with its number, or that there are no more, or a fault,
+-- whatever base and entries stand before
 abbrev pub IsEntryBehind : Header → Place → List ℕ → Result (Option (Entry × ℕ)) TextFault → Type 0
 IsEntryBehind k p rest (Ok (Some found)) =
     HasLine k found.0 × LineAhead rest (entry_line (p.folded + p.count) found.0) found.1

@@ -13,9 +13,9 @@ abbrev pub entry_lines : ℕ → List Entry → List ℕ
 entry_lines number [] = []
 entry_lines number (e ∷ entries) = ended (entry_line number e) ++ entry_lines (number + 1) entries
 
--- What is written of a history on a base, whose entries stand newest first: the first line, the lines of the base,
--- those of the entries, numbered behind the entries that were folded, and a line that counts all entries, those
--- folded among them, and the calls that ended by them.
+-- What is written of a history on a base, whose entries stand newest first: the first line, the lines of the
+-- base, those of the entries, numbered behind the entries that were folded, and a line that counts all
+-- entries, those folded among them, and the calls that ended by them.
 abbrev pub history_text : Base → List Entry → List ℕ
 history_text b h =
     ended (head_line (head_of b)) ++ (lines_text (lines_told b) ++ (entry_lines b.entries (reverse h)

@@ -51,8 +51,8 @@ impl Model for BaseUnderWay {
 }
 
 impl BaseUnderWay {
-    /// A base of which no line was read. It takes all memory that the base will need; `OutOfMemory` is the only
-    /// fault.
+    /// A base of which no line was read. It takes all memory that the base will need; `OutOfMemory` is the
+    /// only fault.
     pub fn open(alloc: Global, header: &Header) -> Result<Self, Fault>
         requires { IsInRange header.now }
         ensures opened { IfOk result (λ base. base ≡ record { header = header.now; lines = [] }) }
@@ -73,8 +73,8 @@ impl BaseUnderWay {
         let _lines = &self.lines;
     }
 
-    /// What the next line says of the base, and how many bytes follow it; or None where the base was told whole,
-    /// and the line is none of a base.
+    /// What the next line says of the base, and how many bytes follow it; or None where the base was told
+    /// whole, and the line is none of a base.
     fn next(&self, rest: &[u8]) -> Result<Option<(BaseLine, usize)>, TextFault>
         ensures line { IsBaseLineNext self.now rest.now result }
         ensures cut { IsErrOf result CutShort → HasNoBreak rest.now }
@@ -120,8 +120,8 @@ impl BaseUnderWay {
         self.lines += 1;
     }
 
-    /// Takes up the next line, if a good base begins with it, and says how many bytes follow it; or None where
-    /// the base was told whole, and the line is none of a base.
+    /// Takes up the next line, if a good base begins with it, and says how many bytes follow it; or None
+    /// where the base was told whole, and the line is none of a base.
     pub fn take_next(&mut self, rest: &[u8]) -> Result<Option<usize>, TextFault>
         ensures line { IsBaseLineTaken self.old rest.now result self.new }
         ensures header { self.new.header ≡ self.old.header }

@@ -49,8 +49,9 @@ pub fn lines_are_short()
     ensures { HasShortLines history_form 256 }
 {}
 
-/// The one text of the lines of a history, on a good base of an object in range, is its first line, the lines of
-/// the base, those of the entries, numbered behind the entries that were folded, and a line that counts both.
+/// The one text of the lines of a history, on a good base of an object in range, is its first line, the
+/// lines of the base, those of the entries, numbered behind the entries that were folded, and a line that
+/// counts both.
 pub fn texts_are_in_pieces()
     ensures { (b : Base) (entries : List Entry) → IsInRange b.header → IsGood b →
         text_of history_form (head_of b) (lines_on b (reverse entries)) ≡ history_text b entries }

@@ -7,9 +7,9 @@
 //! fits: [`legal_histories_fit`]. A text needn't be of a legal history to be read, and what is read fits:
 //! [`what_is_read_fits`].
 //!
-//! A line is good exactly if some history begins with it and the lines before it: a history on the opening base
-//! or on a good one (`specs/HistoryText.antt`). So a line of a base is read where some good base begins so, and
-//! bad where none does.
+//! A line is good exactly if some history begins with it and the lines before it: a history on the opening
+//! base or on a good one (`specs/HistoryText.antt`). So a line of a base is read where some good base begins
+//! so, and bad where none does.
 #![tactic(auto)]
 
 mod base_fitting;

@@ -100,7 +100,8 @@ returns-clause-next g c = rw (← c.self.view_is) (λ text es were.
     rw c.pass.ensures
     (entry_here _ _ es held.place text window left c.in-Some.entry c.in-Some.left (rw i.5.0 within)
     (rw i.5.0 is)
-    (entries_kept _ _ es held.place text held.window.bytes window (g.R.Source.left c.args.reader.now) left keeps
+    (entries_kept _ _ es held.place text held.window.bytes window (g.R.Source.left c.args.reader.now)
+    left keeps
     were)))
 
 pub returns-clause-counted : goal.returns-clause-counted

@@ -26,7 +26,8 @@ returns-then-allows-clause-line c =
     let told = c.in-Some-base_line_of.told in
     let after = c.in-Some.after.now in
     rw (← c.self.view_is) (
-      begins_next self.so_far self.base self.lines c.self.invariant told (c.allows.ensures.0 c.if-allows.true),
+      begins_next self.so_far self.base self.lines c.self.invariant told (c.allows.ensures.0
+          c.if-allows.true),
       (
         after,
         c.in-Some.ensures.0 ∙ ap (λ l. l ++ 10 ∷ after) c.in-Some-base_line_of.ensures.found.1
