@@ -139,7 +139,7 @@ impl HistoryReader {
         self.window.keep_last(left);
     }
 
-    /// The next entry, where a whole line isn't in the window yet or no entry is.
+    /// The next entry, where a whole line isn't in the window yet or the line is bad.
     #[inline(never)]
     fn next_after_reading<R: Source>(
         &mut self,
@@ -206,7 +206,11 @@ impl HistoryReader {
                 self.pass(entry, left);
                 Ok(Some(entry))
             }
-            _ => self.next_after_reading(reader),
+            Ok(None) => {
+                let lines = self.place.lines + self.place.count;
+                end_of(&mut self.window, reader, lines)
+            }
+            Err(_) => self.next_after_reading(reader),
         }
     }
 }

@@ -1,5 +1,7 @@
+use Rattle.std.proofs.Common.{arith, refl}
+use Rattle.steps.proofs.ShortSteps.{ended_short}
 use Rattle.steps.specs.StepsText.{steps_form, steps_so_far}
-use Rattle.driver.proofs.ReadingAhead.{item_ahead, keeps_same, line_within, not_counted, stands_here}
+use Rattle.driver.proofs.ReadingAhead.{ended_here, item_ahead, keeps_same, line_within, not_counted, stands_here, stands_still}
 use Rattle.driver.proofs.StepsAhead.{next_act}
 use Rattle.driver.proofs.step_reader.StepReader.next.Goals as goal
 
@@ -40,3 +42,24 @@ pub returns-in_err-pass-in-Ok-Some-clause-stands : goal.returns-in_err-pass-in-O
 returns-in_err-pass-in-Ok-Some-clause-stands g c =
     rw c.in_err-pass-in-Ok-Some.ensures.kept
     (stands_here _ (g.R.Source.left c.args.reader.now) c.from_residual.result)
+
+pub end_of-requires-clause-end : goal.end_of-requires-clause-end
+end_of-requires-clause-end g c =
+    let held = c.self.inside in
+    ended_short _ held.count (omega (arith, c.self.invariant.0))
+    ((rw (c.in-Ok-None.field-0-is, c.bytes.ensures.bytes) at c.in-Ok-None.ensures.last) refl)
+
+pub returns-in-Ok-None-clause-next : goal.returns-in-Ok-None-clause-next
+returns-in-Ok-None-clause-next g c =
+    let held = c.self.inside in
+    let is = rw (c.in-Ok-None.field-0-is, c.bytes.ensures.bytes) at c.in-Ok-None.ensures.line in
+    rw (← c.self.view_is)
+    (ended_here steps_form (steps_so_far held.header held.count) held.window.bytes c.end_of.new.window.bytes
+    (g.R.Source.left c.args.reader.now) (g.R.Source.left c.end_of.new.reader) c.end_of.result _ is
+    c.end_of.ensures.behind c.end_of.ensures.stays)
+
+pub returns-in-Ok-None-clause-stands : goal.returns-in-Ok-None-clause-stands
+returns-in-Ok-None-clause-stands g c =
+    rw (← c.self.view_is)
+    (stands_still c.self.inside.window.bytes c.end_of.new.window.bytes (g.R.Source.left c.args.reader.now)
+    (g.R.Source.left c.end_of.new.reader) c.end_of.result c.end_of.ensures.stays)
