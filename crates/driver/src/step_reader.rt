@@ -14,6 +14,7 @@ ghost use Rattle.streams.specs.declared.stream_fault.StreamFault.TheVariants.{Me
 
 use crate::end_of::end_of;
 use frame::acts::Act;
+use line_text::fault::TextFault;
 use std::alloc::Global;
 use std::marker::Model;
 use steps::header::StepsHeader;
@@ -110,7 +111,7 @@ impl StepReader {
         Ok(())
     }
 
-    /// The next act, where a whole line isn't in the window yet or the line is bad.
+    /// The next act, where a whole line isn't in the window yet.
     #[inline(never)]
     fn next_after_reading<R: Source>(&mut self, reader: &mut R) -> Result<Option<Act>, StreamFault>
         requires { R.failed reader.old ≡ false }
@@ -171,6 +172,7 @@ impl StepReader {
                 Ok(Some(act))
             }
             Ok(None) => end_of(&mut self.window, reader, self.count),
+            Err(TextFault::BadLine(line)) => Err(StreamFault::Text(TextFault::BadLine(line))),
             Err(_) => self.next_after_reading(reader),
         }
     }

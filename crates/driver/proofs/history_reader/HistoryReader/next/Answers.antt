@@ -1,8 +1,10 @@
-use Rattle.std.proofs.Common.{◌+◌, arith, refl}
+use Rattle.std.proofs.Common.{◌+◌, Err, arith, refl}
+use Rattle.line_text.specs.declared.fault.TextFault.TheVariants.{BadLine}
 use Rattle.history_text.proofs.ShortEntries.{ended_short}
+use Rattle.streams.specs.declared.stream_fault.StreamFault.TheVariants.{Text}
 use Rattle.driver.specs.contracts.history_reader.HistoryReader.{the_view}
-use Rattle.driver.proofs.EntriesAhead.{entries_ended, entry_here, few_calls, few_entries}
-use Rattle.driver.proofs.ReadingAhead.{keeps_same, stands_still}
+use Rattle.driver.proofs.EntriesAhead.{entries_ended, entry_failed, entry_here, few_calls, few_entries}
+use Rattle.driver.proofs.ReadingAhead.{keeps_same, keeps_stays, stands_still}
 use Rattle.driver.proofs.history_reader.HistoryReader.next.Goals as goal
 
 pub pass-requires : goal.pass-requires
@@ -48,3 +50,18 @@ returns-in-Ok-None-clause-stands g c =
     rw (← c.self.view_is)
     (stands_still c.self.inside.window.bytes c.end_of.new.window.bytes (g.R.Source.left c.args.reader.now)
     (g.R.Source.left c.end_of.new.reader) c.end_of.result c.end_of.ensures.stays)
+
+pub returns-in-Err-BadLine-clause-next : goal.returns-in-Err-BadLine-clause-next
+returns-in-Err-BadLine-clause-next g c =
+    let held = c.self.inside in
+    let left = g.R.Source.left c.args.reader.now in
+    let is = rw (c.in-Err-BadLine.field-0-is, c.bytes.ensures.bytes) at c.in-Err-BadLine.ensures.line in
+    rw (← c.self.view_is) (entry_failed (the_view held) (the_view held) held.window.bytes left left
+    (Err (Text (BadLine c.in-Err-BadLine.line))) (BadLine c.in-Err-BadLine.line) (refl, refl)
+    c.self.invariant.5.0 (keeps_stays _ _ left left (keeps_same _)) is (λ e. cc))
+
+pub returns-in-Err-BadLine-clause-stands : goal.returns-in-Err-BadLine-clause-stands
+returns-in-Err-BadLine-clause-stands g c =
+    let held = c.self.inside in
+    let left = g.R.Source.left c.args.reader.now in
+    rw (← c.self.view_is) (keeps_stays held.window.bytes held.window.bytes left left (keeps_same _))
