@@ -24,7 +24,7 @@ use Rattle.history_text.proofs.Lists.{each-reverse}
 use Rattle.history_text.proofs.Spelt.{all_spelt_on}
 use Rattle.steps.specs.declared.header.StepsHeader.{StepsHeader}
 use Rattle.steps.specs.StepLines.{IsAct}
-use Rattle.driver.proofs.EntryLines.{ended_calls-reverse}
+use Rattle.history_text.proofs.Pieces.{ended_calls-reverse}
 use Rattle.driver.specs.Answers.{AreFolded}
 use Rattle.driver.specs.Logged.{gone}
 use Rattle.driver.proofs.Told.{IsTrimOf, base_behind, list_behind}

@@ -1,5 +1,5 @@
 -- The acts of a text are done as their lines are read.
-use Rattle.std.proofs.Common.{◌≡◌, ℕ, ◌+◌, List, [], ◌∷◌, ◌++◌, All, length, reverse, Option, None, Some, Result, Ok, IfSome, refl, subst, sym, ap, ◌∙◌, arith}
+use Rattle.std.proofs.Common.{◌≡◌, ℕ, ◌+◌, ◌≤◌, List, [], ◌∷◌, ◌++◌, All, length, reverse, Option, None, Some, Result, Ok, Err, IfSome, refl, subst, sym, ap, ◌∙◌, arith}
 use Rattle.std.proofs.lemmas.List.{length-append, length-reverse}
 use Rattle.std.proofs.lemmas.List.Elements.{All-nil}
 use Rattle.frame.specs.declared.acts.Act.{Act}
@@ -8,6 +8,7 @@ use Rattle.frame.specs.Core.{CoreView}
 use Rattle.history.specs.declared.entry.Entry.{Entry}
 use Rattle.history.specs.declared.fault.Fault.{Fault}
 use Rattle.history.specs.declared.step.Answer.{Answer}
+use Rattle.history.specs.declared.step.Answer.TheVariants.{Recorded, Sleep}
 use Rattle.history.specs.declared.step.Step.{Step}
 use Rattle.history.specs.Answers.{answer}
 use Rattle.history.specs.Base.{Base, based, opening_base}
@@ -21,11 +22,11 @@ use Rattle.history.specs.Text.{ended}
 use Rattle.history.proofs.Lists.{calls-ended, ended_append}
 use Rattle.history.proofs.OpeningBase.{based_opening}
 use Rattle.history_text.specs.EntryLines.{counts_line}
-use Rattle.history_text.specs.HistoryText.{history_text}
+use Rattle.history_text.specs.Pieces.{history_text}
 use Rattle.line_text.specs.Reading.{IsText}
 use Rattle.steps.specs.declared.header.StepsHeader.{StepsHeader}
 use Rattle.steps.specs.StepsText.{steps_form}
-use Rattle.driver.proofs.EntryLines.{ended_calls-reverse}
+use Rattle.history_text.proofs.Pieces.{ended_calls-reverse}
 use Rattle.driver.specs.declared.form.Form.{Form}
 use Rattle.driver.specs.declared.form.Form.TheVariants.{Replay, History}
 use Rattle.driver.specs.declared.remark.Remark.{Remark}
@@ -33,12 +34,12 @@ use Rattle.driver.specs.Answers.{AllAnswers, answers_text}
 use Rattle.driver.specs.Logged.{IsLogged, Logged, gone}
 use Rattle.driver.specs.Remarks.{IsKept, remark_of, told_lines, trim_remark}
 use Rattle.driver.specs.ReplayStream.{AreAnswersBehind, IsAnswerTo, IsLawful, answer_text}
-use Rattle.driver.specs.ReplayText.{answer_line, behind_acts, done_lines, header_line, trim_line}
+use Rattle.driver.specs.ReplayText.{answer_line, behind_acts, done_lines, entries_of, header_line, trim_line}
 use Rattle.driver.specs.TextReader.{Progress, IsNext}
 use Rattle.driver.proofs.ReadingAhead.{ReadOn}
 use Rattle.driver.proofs.Behind.{replayed}
 use Rattle.driver.proofs.Doing.{all_counted, all_in_order, all_stay, folded_calls, folded_counted, has_trimmed, spelt_more}
-use Rattle.driver.proofs.Remarking.{Remarked, remarked_all, remarked_none, remarked_on, remarked_trim}
+use Rattle.driver.proofs.Remarking.{Remarked, added_count, added_is, remarked_all, remarked_none, remarked_on, remarked_trim}
 use Rattle.driver.proofs.Told.{IsTrimOf, Told, answered, base_all, base_behind, entries_all, list_behind, told_all, told_more, told_none, told_trim}
 
 -- These acts were read. The entries that were folded, the oldest first, and the list behind them, with these
@@ -147,6 +148,30 @@ answering_act first old new Trim core core' log log' left next same is may a =
     (may refl).can a in (
       rw (t.base, t.entries, is.2, is.3) more,
       t.header,
+    )
+
+entries_few : (r : Result Answer Fault) → entries_of r ≤ 1
+entries_few (Ok (Recorded e whom)) = omega arith
+entries_few (Ok Sleep) = omega arith
+entries_few (Err fault) = omega arith
+
+-- an act adds one entry at most
+pub one_entry_more : (act : Act) (core core' : CoreView) (log log' : Logged) → IsLogged core log act
+    core' log' →
+    length log'.past + length core'.entries ≤ length log.past + length core.entries + 1
+one_entry_more (Do i step) core core' log log' is =
+    let now = answered core core' i step is.0 is.1 is.2 in
+    let new = added_is _ core.entries i step is.0 core'.entries now.0 now.1 in
+    omega (arith, ap length new, added_count is.0 core.entries, entries_few is.0, ap length is.3)
+one_entry_more Trim core core' log log' is =
+    let t = has_trimmed core core' is.0 is.1 in
+    omega (
+      arith,
+      ap length t.entries,
+      ap length is.2,
+      ap length (all_stay is.0 log.past core.entries),
+      all_counted (log.past ++ gone is.0 core.entries) (list_behind is.0 core.entries),
+      all_counted log.past core.entries,
     )
 
 -- ---- all acts were done

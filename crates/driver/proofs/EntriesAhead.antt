@@ -1,16 +1,19 @@
 -- The entries of a history text ahead of a reader's window.
-use Rattle.std.proofs.Common.{◌≡◌, ℕ, ◌+◌, ◌-◌, ◌<◌, ◌≤◌, List, [], ◌∷◌, ◌++◌, length, drop, Option, None, Some, Result, Ok, Err, IfSome, refl, sym, ap, subst, ◌∙◌, arith, append_assoc, append-nil}
+use Rattle.std.proofs.Common.{◌≡◌, ℕ, ◌+◌, ◌-◌, ◌<◌, ◌≤◌, ◌^◌, List, [], ◌∷◌, ◌++◌, length, drop, Option, None, Some, Result, Ok, Err, IfSome, refl, sym, ap, subst, ◌∙◌, arith, append_assoc, append-nil}
 use Rattle.std.proofs.lemmas.Bool.{false≢true}
-use Rattle.std.proofs.lemmas.List.{append_cancel_left, length-append}
+use Rattle.std.proofs.lemmas.List.{length-append}
 use Rattle.std.specs.Result.{IsErr, IsErrAnd, IfErr}
 use Rattle.std.specs.Io.KnownBytes.{Keeps, IsAtEnd, prepend_known}
 use Rattle.history.specs.declared.entry.Entry.{Entry}
 use Rattle.history.specs.declared.header.Header.{Header}
 use Rattle.history.specs.Base.{Base}
+use Rattle.history.specs.GoodBase.{most_folded}
+use Rattle.history.specs.Header.{IsInRange}
 use Rattle.history.specs.Text.{ended}
 use Rattle.line_text.specs.declared.fault.TextFault.{TextFault}
-use Rattle.line_text.specs.declared.fault.TextFault.TheVariants.{CutShort}
-use Rattle.line_text.specs.UnderWay.{SoFar}
+use Rattle.line_text.specs.declared.fault.TextFault.TheVariants.{BadLine, CutShort}
+use Rattle.line_text.specs.Reading.{Begins, IsText}
+use Rattle.line_text.specs.UnderWay.{AreRead, SoFar}
 use Rattle.line_text.proofs.Growing.{broken}
 use Rattle.line_text.proofs.LongLines.{uncut}
 use Rattle.line_text.proofs.UnderWay.{last_bytes}
@@ -19,21 +22,23 @@ use Rattle.history_text.specs.declared.place.Head.{Head}
 use Rattle.history_text.specs.declared.place.Place.{Place}
 use Rattle.history_text.specs.BaseLines.{IsBaseLine, base_line}
 use Rattle.history_text.specs.EntryLines.{entry_line}
-use Rattle.history_text.specs.HistoryLines.{Entered, Line, Reached, base_of, head_of, lines_on, reached}
-use Rattle.history_text.specs.HistoryText.{IsHistoryText, history_form, lines_so_far}
-use Rattle.history_text.specs.NextLine.{AreEntriesRead, IsEntryBehind, IsPlacedAt, LacksBaseLine, behind}
+use Rattle.history_text.specs.HistoryLines.{head_of}
+use Rattle.history_text.specs.HistoryText.{IsHistoryText, history_form}
+use Rattle.history_text.specs.NextLine.{AreEntriesRead, IsEntryBehind, LacksBaseLine, behind}
+use Rattle.history_text.specs.TextLines.{Line, lines_on}
 use Rattle.history_text.proofs.BaseLineLemmas.{base_short}
-use Rattle.history_text.proofs.EntriesRead.{all_known, read_all, read_one}
+use Rattle.history_text.proofs.EntriesRead.{read_all, read_one}
+use Rattle.history_text.proofs.HistoryItems.{length-on}
 use Rattle.history_text.proofs.HistoryLawful.{lawful}
-use Rattle.history_text.proofs.ShortEntries.{short, waiting_short}
+use Rattle.history_text.proofs.ShortEntries.{entry_short, short, waiting_short}
 use Rattle.streams.specs.declared.stream_fault.StreamFault.{StreamFault}
 use Rattle.streams.specs.declared.stream_fault.StreamFault.TheVariants.{Text, ReadFailed, WriteFailed, Memory}
 use Rattle.streams.specs.Streams.{IsReadNoFurther}
 use Rattle.streams.specs.Whole.{IsOfReading, IsTooLong}
 use Rattle.streams.specs.Window.{IsAhead, StaysAhead}
-use Rattle.driver.specs.BaseReader.{EntriesBehind}
+use Rattle.driver.specs.BaseReader.{EntriesBehind, LinesBehind, lines_known}
 use Rattle.driver.specs.HistoryReader.{EntriesHeld, EntriesRead, IsEntryNext, IsFaultBehindBase, base_held}
-use Rattle.driver.specs.TextReader.{IsBehindEnd, IsFaultOf, IsPartLeft, reader_at}
+use Rattle.driver.specs.TextReader.{IsBehindEnd, IsFaultOf, reader_at}
 use Rattle.driver.proofs.ReadingAhead.{all_kept, ended_here, fault_ahead, left_of, no_further, reading_fault}
 
 -- ---- the lines of a base
@@ -60,21 +65,13 @@ window_lacks ahead window ys s lacks = λ line after x parts whole is same.
 
 -- ---- where a reader stands
 
-placed_on : (h : Head) (s : Reached) (p : Place) (ahead window : List ℕ) →
-    (LacksBaseLine ahead → LacksBaseLine window) → IsPlacedAt h s p ahead → IsPlacedAt h s p window
-placed_on h s p ahead window on placed =
-    record {
-      whole = placed.whole;
-      folded = placed.folded;
-      count = placed.count;
-      calls = placed.calls;
-      behind = λ based none. on (placed.behind based none);
-    }
-
 -- what is known of the lines that were read
-abbrev here : Head → Base → List Entry → Place → SoFar Head Line
-here h b es p =
-    lines_so_far h (base_of h.header (lines_on b es)) (reached (lines_on b es)) (p.lines + p.count)
+abbrev here : Head → Base → List Entry → SoFar Head Line
+here h b es = lines_known h (lines_on b es)
+
+all_known : (t : List ℕ) (h : Head) (b : Base) (es : List Entry) (p : Place) (rest : List ℕ) →
+    AreEntriesRead t h b es p rest → AreRead history_form t (here h b es) (lines_on b es) rest
+all_known t h b es p rest read = record { begins = read.begins; count = refl; known = refl }
 
 module _ (h : Head) (b : Base) (es : List Entry) (p : Place) where
   pub entries_kept : (text : Option (List ℕ)) (old new : List ℕ) (left after : Option (List ℕ)) →
@@ -85,31 +82,41 @@ module _ (h : Head) (b : Base) (es : List Entry) (p : Place) where
   entries_kept (Some t) old new (Some xs) None keeps were = absurd keeps
   entries_kept (Some t) old new (Some xs) (Some ys) keeps were = rw keeps were
 
+  -- the lines are those of the base and the entries
+  lines_behind : (text : Option (List ℕ)) (window : List ℕ) (left : Option (List ℕ)) →
+      EntriesBehind text h b es p window left → LinesBehind text h (lines_on b es) window left
+  lines_behind None window left were = tt
+  lines_behind (Some t) window None were = absurd were
+  lines_behind (Some t) window (Some xs) were = all_known t h b es p (window ++ xs) were
+
   -- no line was read but these, and what stands in the window
   pub entries_no_further : (text : Option (List ℕ)) (window : List ℕ) (left : Option (List ℕ)) →
       length window ≤ 65792 → EntriesBehind text h b es p window left → IsReadNoFurther history_form text left
-  entries_no_further None window left few were = tt
-  entries_no_further (Some t) window None few were = absurd were
-  entries_no_further (Some t) window (Some xs) few were =
-      no_further history_form (Some t) (here h b es p) window (Some xs) (lines_on b es) few
-      (all_known t h b es p (window ++ xs) were)
-
-  entries_left : (text : Option (List ℕ)) (window : List ℕ) (left : Option (List ℕ)) →
-      EntriesBehind text h b es p window left → IsPartLeft text left
-  entries_left None window left were = tt
-  entries_left (Some t) window None were = absurd were
-  entries_left (Some t) window (Some xs) were =
-      left_of history_form (Some t) (here h b es p) window (Some xs) (lines_on b es)
-      (all_known t h b es p (window ++ xs) were)
+  entries_no_further text window left few were =
+      no_further history_form text (here h b es) window left (lines_on b es) few
+      (lines_behind text window left were)
 
   -- the source gave no more
   pub entries_unread : (text : Option (List ℕ)) (old : List ℕ) (left after : Option (List ℕ))
       (fault : StreamFault) → IsOfReading fault → (fault ≡ Memory → IfSome left IsTooLong) →
       EntriesBehind text h b es p old left → IsFaultOf history_form text after fault
   entries_unread text old left after fault of long were =
-      reading_fault history_form text left after fault of long (entries_left text old left were)
+      reading_fault history_form text left after fault of long
+      (left_of history_form text (here h b es) old left (lines_on b es) (lines_behind text old left were))
 
   -- ---- the next entry
+
+  -- the same of other bytes ahead
+  read_with : (t u : List ℕ) (ahead window : List ℕ) (items : List Line) →
+      (LacksBaseLine ahead → LacksBaseLine window) → AreEntriesRead t h b es p ahead →
+      AreRead history_form u (here h b es) items window → AreEntriesRead u h b es p window
+  read_with t u ahead window items on were read =
+      record {
+        history = were.history;
+        begins = subst (λ (l : List Line). Begins history_form u h l window) read.known read.begins;
+        place = were.place;
+        behind = λ based none. on (were.behind based none);
+      }
 
   -- the fault of the next line, of which bytes may have been let go of
   pub entry_fault : (text : Option (List ℕ)) (old window : List ℕ) (left after : Option (List ℕ))
@@ -120,72 +127,39 @@ module _ (h : Head) (b : Base) (es : List Entry) (p : Place) where
   entry_fault (Some t) old window None after fault s is end were = absurd were
   entry_fault (Some t) old window (Some xs) None fault s is end were = absurd s
   entry_fault (Some t) old window (Some xs) (Some ys) fault s is end were =
-      let line =
-      is h (base_of h.header (lines_on b es)) (reached (lines_on b es)) refl
-      (placed_on h (reached (lines_on b es)) p (old ++ xs) window (window_lacks (old ++ xs) window ys s)
-      were.placed) in
-      fault_ahead history_form (Some t) (here h b es p) old window (Some xs) (Some ys) (lines_on b es) fault
-      lawful short s line end (all_known t h b es p (old ++ xs) were)
-
-  -- more stands behind the window
-  longer : (window more : List ℕ) (e : Entry) (n : ℕ) → IsEntryBehind h.header p window (Ok (Some (e, n))) →
-      IsEntryBehind h.header p (window ++ more) (Ok (Some (e, n + length more)))
-  longer window more e n is = λ g c s same placed text.
-      let found = is g c s same (placed_on g s p (window ++ more) window (front_lacks window more) placed)
-      text in (
-        found.0 ++ more,
-        record {
-          fits = found.1.fits;
-          parts = ap (λ (t : List ℕ). t ++ more) found.1.parts
-              ∙ append_assoc (ended (entry_line (p.folded + p.count) e)) found.0 more;
-        },
-        length-append found.0 more ∙ ap (λ (m : ℕ). m + length more) found.2,
-      )
+      fault_ahead history_form (Some t) (here h b es) old window (Some xs) (Some ys) (lines_on b es) fault
+      lawful short s
+      (λ u items read. is u h b es refl
+      (read_with t u (old ++ xs) window items (window_lacks (old ++ xs) window ys s) were read)) end
+      (all_known t h b es p (old ++ xs) were)
 
   -- it stands in the window, and so many bytes behind it
   pub entry_here : (text : Option (List ℕ)) (window : List ℕ) (left : Option (List ℕ)) (e : Entry) (n : ℕ) →
-      IsEntryBehind h.header p window (Ok (Some (e, n))) → EntriesBehind text h b es p window left →
+      p.count < h.header.cap → IsEntryBehind h.header p window (Ok (Some (e, n))) →
+      EntriesBehind text h b es p window left →
       EntriesBehind text h b (es ++ e ∷ []) (behind p e) (drop (length window - n) window) left
-  entry_here None window left e n is were = tt
-  entry_here (Some t) window None e n is were = absurd were
-  entry_here (Some t) window (Some more) e n is were =
+  entry_here None window left e n few is were = tt
+  entry_here (Some t) window None e n few is were = absurd were
+  entry_here (Some t) window (Some more) e n few is were =
       let line = ended (entry_line (p.folded + p.count) e) in
-      let s = reached (lines_on b es) in
-      let found =
-      is h (base_of h.header (lines_on b es)) s refl
-      (placed_on h s p (window ++ more) window (front_lacks window more) were.placed) t in
-      let one = read_one t h b es p (window ++ more) were e (n + length more) (longer window more e n is) in
-      let rest : one.after ≡ found.0 ++ more =
-      append_cancel_left line one.after (found.0 ++ more)
-      (sym one.parts ∙ ap (λ (w : List ℕ). w ++ more) found.1.parts ∙ append_assoc line found.0 more) in
-      let last = last_bytes window line found.0 n found.1.parts found.2 in
-      subst (AreEntriesRead t h b (es ++ e ∷ []) (behind p e))
-      (rest ∙ ap (λ (w : List ℕ). w ++ more) (sym last)) one.grown
-
-  -- nothing before it was let go of
-  pub entry_next : (text : Option (List ℕ)) (old window : List ℕ) (left after : Option (List ℕ))
-      (e : Entry) (n : ℕ) → StaysAhead old left window after →
-      IsEntryBehind h.header p window (Ok (Some (e, n))) → EntriesBehind text h b es p old left →
-      EntriesBehind text h b (es ++ e ∷ []) (behind p e) (drop (length window - n) window) after
-  entry_next None old window left after e n s is were = tt
-  entry_next (Some t) old window None after e n s is were = absurd were
-  entry_next (Some t) old window (Some xs) None e n s is were = absurd s
-  entry_next (Some t) old window (Some xs) (Some ys) e n s is were =
-      let to = reached (lines_on b es) in
-      let line = entry_line (p.folded + p.count) e in
-      let found =
-      is h (base_of h.header (lines_on b es)) to refl
-      (placed_on h to p (old ++ xs) window (window_lacks (old ++ xs) window ys s) were.placed) t in
-      let known = all_known t h b es p (old ++ xs) were in
-      let few =
-      short.item h (lines_on b es) (Entered (p.folded + p.count) e) known.begins.header known.begins.each
-      (found.1.fits (lines_on b es) known.count known.known) in
-      let keeps =
-      all_kept old window line found.0 (Some xs) (Some ys) s (found.1.parts ∙ broken line found.0) few in
-      entry_here (Some t) window (Some ys) e n is
-      (entries_kept (Some t) old window (Some xs) (Some ys) keeps were)
+      let ahead = is.1 in
+      let parts = ap (λ (w : List ℕ). w ++ more) ahead.1 ∙ append_assoc line ahead.0 more in
+      let last = last_bytes window line ahead.0 n ahead.1 ahead.2 in
+      subst (λ (w : List ℕ). AreEntriesRead t h b (es ++ e ∷ []) (behind p e) (w ++ more)) (sym last)
+      (read_one t h b es p (window ++ more) were e (n + length more) (ahead.0 ++ more) few
+      (is.0, (ahead.0 ++ more, parts, length-append ahead.0 more ∙ ap (λ (m : ℕ). m + length more) ahead.2))
+      parts)
 
   -- ---- behind the last
+
+  last_here : (t u : List ℕ) (ahead window : List ℕ) (items : List Line) →
+      (LacksBaseLine ahead → LacksBaseLine window) → IsEntryBehind h.header p window (Ok None) →
+      AreEntriesRead t h b es p ahead → AreRead history_form u (here h b es) items window →
+      IsText history_form u h items
+  last_here t u ahead window items on is were read =
+      let all = read_all u h b es p window (read_with t u ahead window items on were read) is in
+      subst (IsText history_form u h) (sym read.known)
+      (subst (λ (z : Head). IsText history_form u z (lines_on b es)) were.history.head all.is)
 
   pub all_here : (text : Option (List ℕ)) (window : List ℕ) (left : Option (List ℕ)) →
       IsEntryBehind h.header p window (Ok None) → IsAtEnd left → EntriesBehind text h b es p window left →
@@ -205,13 +179,32 @@ module _ (h : Head) (b : Base) (es : List Entry) (p : Place) where
   fault_behind None window grown left after fault is end keeps were = (tt, tt)
   fault_behind (Some t) window grown None after fault is end keeps were = absurd were
   fault_behind (Some t) window grown (Some more) after fault is end keeps were =
-      let s = reached (lines_on b es) in
-      let line =
-      is h (base_of h.header (lines_on b es)) s refl
-      (placed_on h s p (window ++ more) window (front_lacks window more) were.placed) in
-      ended_here history_form (here h b es p) window grown (Some more) after (Err (Text fault))
-      (reader_at (here h b es p) grown after) line end keeps (Some t) (lines_on b es)
+      let many : p.lines + p.count ≡ length (lines_on b es) =
+      omega (arith, length-on b es, were.place.lines, were.place.count) in
+      ended_here history_form (here h b es) window grown (Some more) after (Err (Text fault))
+      (reader_at (here h b es) grown after)
+      (λ u items read. last_here t u (window ++ more) window items (front_lacks window more) is were read)
+      (end.0 ∙ ap (λ (n : ℕ). BadLine (n + 3)) many, end.1) keeps (Some t) (lines_on b es)
       (all_known t h b es p (window ++ more) were)
+
+-- nothing before an entry that was found was let go of
+pub entry_keeps : (k : Header) (p : Place) (old window : List ℕ) (left after : Option (List ℕ))
+    (e : Entry) (n : ℕ) → IsInRange k → p.folded + p.count < 2 ^ 64 → StaysAhead old left window after →
+    IsEntryBehind k p window (Ok (Some (e, n))) →
+    Keeps (prepend_known old left) (prepend_known window after)
+entry_keeps k p old window left after e n range few s is =
+    let line = entry_line (p.folded + p.count) e in
+    all_kept old window line is.1.0 left after s (is.1.1 ∙ broken line is.1.0)
+    (entry_short k (p.folded + p.count) e few range is.0)
+
+-- the numbers of a reader are small
+pub few_entries : (h : Header) (p : Place) → IsInRange h → p.count ≤ h.cap → p.folded ≤ most_folded →
+    p.folded + p.count < 2 ^ 64
+few_entries h p range few folded = omega (arith, range.cap, few, folded)
+
+pub few_calls : (h : Header) (p : Place) → IsInRange h → p.count ≤ h.cap → p.calls ≤ most_folded + p.count →
+    p.calls < 2 ^ 64
+few_calls h p range few calls = omega (arith, range.cap, few, calls)
 
 -- ---- what a call answers
 

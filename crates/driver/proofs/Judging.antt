@@ -9,6 +9,7 @@ use Rattle.audit.specs.declared.auditor.Auditor.{Auditor}
 use Rattle.audit.specs.declared.verdict.Judgement.{Judgement}
 use Rattle.audit.specs.declared.verdict.Judgement.TheVariants.{Legal, NotLegal}
 use Rattle.audit.specs.Auditor.{HasJudged}
+use Rattle.audit.proofs.Beginnings.{header_from}
 use Rattle.audit.specs.Verdict.{IsJudgement, verdict_of}
 use Rattle.history.specs.declared.entry.Entry.{Entry}
 use Rattle.history.specs.declared.header.Header.{Header}
@@ -36,10 +37,6 @@ pub base_kept : (old new : EntriesHeld) → new.header ≡ old.header → new.ba
 base_kept old new header base =
     ap (λ (k : Header). or_opening k new.base) header
     ∙ ap (λ (o : Option Base). or_opening old.header o) base
-
-header_of : (k : Header) (o : Option Base) → IsBasedWell k o → (or_opening k o).header ≡ k
-header_of k None well = refl
-header_of k (Some b) well = well.0
 
 -- these entries were read from the base on, and followed, and those before the end were kept
 pub record Judging (first : EntriesHeld) (left : Option (List ℕ)) (now : EntriesHeld) (mid : Option (List ℕ))
@@ -90,7 +87,7 @@ judging_on first old new left mid after a b e end kept kept' next same same_base
     let one = ap (λ p. p.count) counted.0 in
     let P : Entry → Type 0 = λ x. x.seat < first.header.seats in
     let based_seat =
-    subst (λ (k : Header). e.seat < k.seats) (sym (header_of first.header first.base j.well)) seat in
+    subst (λ (k : Header). e.seat < k.seats) (sym (header_from first.header first.base j.well)) seat in
     record {
       entries = e ∷ j.entries;
       read = rw (reverse-append (e ∷ []) j.entries)

@@ -62,7 +62,7 @@ keeps_on (Some xs) (Some ys) None p q = absurd q
 keeps_on (Some xs) (Some ys) (Some zs) p q = q ∙ p
 
 -- nothing was let go of
-keeps_stays : (old new : List ℕ) (left after : Option (List ℕ)) →
+pub keeps_stays : (old new : List ℕ) (left after : Option (List ℕ)) →
     Keeps (prepend_known old left) (prepend_known new after) → StaysAhead old left new after
 keeps_stays old new None after keeps = tt
 keeps_stays old new (Some xs) None keeps = absurd keeps

@@ -17,9 +17,10 @@ use Rattle.history.specs.Text.{ended}
 use Rattle.history_text.specs.EntryLines.{entry_line}
 use Rattle.driver.specs.declared.remark.Remark.{Remark}
 use Rattle.driver.specs.declared.remark.Said.TheVariants.{IsNamed}
-use Rattle.driver.specs.Remarks.{IsKept, entries_said, entry_lines, remark_of, said_line, told_lines, trim_remark}
+use Rattle.driver.specs.Remarks.{IsKept, entries_said, remark_of, said_line, told_lines, trim_remark}
+use Rattle.history_text.specs.Pieces.{entry_lines}
 use Rattle.driver.specs.ReplayText.{answer_line, entries_of, trim_line}
-use Rattle.driver.proofs.EntryLines.{entry_lines-push}
+use Rattle.history_text.proofs.TextWritten.{entry_lines-push}
 
 -- the entries behind an answer
 abbrev added : Result Answer Fault → List Entry → List Entry

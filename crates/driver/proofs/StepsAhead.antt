@@ -1,12 +1,20 @@
 -- The acts of a text ahead of a reader's window.
-use Rattle.std.proofs.Common.{◌≡◌, ℕ, zero, suc, ◌<◌, List, [], ◌∷◌, length, Some, Ok, refl, ap}
+use Rattle.std.proofs.Common.{◌≡◌, ℕ, zero, suc, ◌<◌, ◌≤◌, ◌^◌, List, [], ◌∷◌, ◌++◌, length, Option, None, Some, Result, Ok, Err, refl, sym, ap, subst, arith}
+use Rattle.std.proofs.lemmas.Bool.{false≢true}
+use Rattle.std.specs.Result.{IsErr, IsErrAnd, IfErr}
 use Rattle.frame.specs.declared.acts.Act.{Act}
 use Rattle.history.specs.Header.{IsInRange}
+use Rattle.line_text.specs.Form.{Form}
 use Rattle.line_text.specs.UnderWay.{IsLineBehind}
 use Rattle.steps.specs.declared.header.StepsHeader.{StepsHeader}
 use Rattle.steps.specs.StepLines.{IsAct, act_line}
 use Rattle.steps.specs.StepsText.{steps_form, steps_so_far}
 use Rattle.steps.proofs.ShortSteps.{short}
+use Rattle.streams.specs.declared.stream_fault.StreamFault.{StreamFault}
+use Rattle.streams.specs.Streams.{IsReadNoFurther}
+use Rattle.driver.specs.StepReader.{Held, progress}
+use Rattle.driver.specs.TextReader.{IsFaultBehind, IsFaultOf, IsFaultOn, IsNext, IsOfNoText, Progress, WereRead}
+use Rattle.driver.proofs.ReadingAhead.{ReadOn}
 
 repeated : ℕ → Act → List Act
 repeated zero act = []
@@ -28,3 +36,41 @@ pub next_short : (h : StepsHeader) (count : ℕ) (window : List ℕ) (act : Act)
     → length (act_line act) < 256
 next_short h count window act left range is =
     short.item h [] act range tt (next_act h count window act left is)
+
+-- ---- more acts than a good text has
+
+-- from some items on, these were read
+abbrev pub ReadMore : Progress StepsHeader Act → List Act → Progress StepsHeader Act → Type 0
+ReadMore first more now =
+    (text : Option (List ℕ)) (items : List Act) → WereRead steps_form text first items →
+    WereRead steps_form text now (items ++ more)
+
+-- so many acts are not all of a text
+pub never_all : (first : Progress StepsHeader Act) (held : Held) (left after : Option (List ℕ)) (more :
+    List Act)
+    (new : Progress StepsHeader Act) → 2 ^ 32 ≤ held.count →
+    IsNext steps_form (progress held left) (Ok None) new after → ReadMore first more (progress held left) →
+    IsOfNoText steps_form first
+never_all first held left after more new many all read = λ text items were.
+    let now = read (Some text) items were in
+    by text (items ++ more) left now (all (Some text) (items ++ more) now).ends
+  where
+    by : (text : List ℕ) (items : List Act) (left : Option (List ℕ)) →
+        WereRead steps_form (Some text) (progress held left) items → length items < 2 ^ 32 → ⊥
+    by text items None were few = were
+    by text items (Some xs) were few = omega (arith, were.count, many, few)
+
+-- a fault behind some items is one behind the header
+pub fault_passed_on : {H I T : Type 0} (form : Form H I) (first now : Progress H I) (items : List I)
+    (left : Option (List ℕ)) (r : Result T StreamFault) (fault : StreamFault) →
+    IsErr r × IsErrAnd r (λ e. e ≡ fault) → IsFaultOn form now left fault → ReadOn form first items now →
+    IfErr r (IsFaultBehind form first left)
+fault_passed_on form first now items left (Ok x) fault passed on read = absurd (false≢true passed.0)
+fault_passed_on form first now items left (Err e) fault passed on read = λ text were.
+    subst (IsFaultOf form text left) (sym passed.1) (on text items (read text were))
+
+-- of no text nothing more was read
+pub no_text : {H I : Type 0} (form : Form H I) (p : Progress H I) (text : Option (List ℕ)) (items : List I)
+    (left : Option (List ℕ)) → IsOfNoText form p → WereRead form text p items → IsReadNoFurther form text left
+no_text form p None items left none were = tt
+no_text form p (Some t) items left none were = absurd (none t items were)

@@ -8,10 +8,12 @@ use Rattle.history.specs.Text.{ended}
 use Rattle.history_text.specs.EntryLines.{entry_line}
 use Rattle.streams.specs.declared.source.DeviceFailed.{DeviceFailed}
 use Rattle.driver.specs.declared.remark.Remark.{Remark}
-use Rattle.driver.specs.Remarks.{entries_said, entry_lines, said_line, told_lines}
+use Rattle.driver.specs.Remarks.{entries_said, said_line, told_lines}
+use Rattle.history_text.specs.Pieces.{entry_lines}
 use Rattle.driver.specs.LineWriter.{Gathers, IsGathered}
 use Rattle.streams.specs.Whole.{AppendsFront}
-use Rattle.driver.proofs.EntryLines.{entry_lines-append, entry_lines-push}
+use Rattle.history_text.proofs.TextWritten.{entry_lines-push}
+use Rattle.driver.proofs.EntryLines.{entry_lines-append}
 use Rattle.driver.proofs.Gathering.{gathered_more, front_more, front_longer}
 
 -- the lines of more entries begin with those of fewer

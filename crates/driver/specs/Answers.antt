@@ -10,7 +10,7 @@ use Rattle.history.specs.Legal.{calls}
 use Rattle.history.specs.Spelling.{part_of}
 use Rattle.history.specs.Text.{ended}
 use Rattle.history_text.specs.EntryLines.{counts_line}
-use Rattle.history_text.specs.HistoryText.{history_text}
+use Rattle.history_text.specs.Pieces.{history_text}
 use Rattle.steps.specs.declared.header.StepsHeader.{StepsHeader}
 use Rattle.driver.specs.declared.form.Form.{Form}
 use Rattle.driver.specs.declared.form.Form.TheVariants.{Replay, History}

@@ -1,26 +1,31 @@
 -- A base that is read from a source, line by line.
-use Rattle.std.specs.Prelude.{◌≡◌, ℕ, ◌<◌, ◌≤◌, true, List, [], ◌∷◌, ◌++◌, length, Option, Result, Ok, Err, IfSome, IsSomeAnd}
-use Rattle.std.specs.Io.KnownBytes.{prepend_known}
+use Rattle.std.specs.Prelude.{◌≡◌, ℕ, ◌+◌, ◌≤◌, Bool, true, false, List, [], length, map, Option, Result, Ok, Err, IfSome, IsSomeAnd}
+use Rattle.std.specs.Io.KnownBytes.{Keeps, prepend_known}
 use Rattle.history.specs.declared.entry.Entry.{Entry}
 use Rattle.history.specs.Base.{Base, based}
 use Rattle.history.specs.Entries.{or_opening}
-use Rattle.history.specs.Text.{HasNoBreak}
 use Rattle.history_text.specs.declared.place.Head.{Head}
 use Rattle.history_text.specs.declared.place.Place.{Place}
-use Rattle.history_text.specs.BaseRules.{Told}
-use Rattle.history_text.specs.HistoryLines.{Line, Reached}
-use Rattle.history_text.specs.HistoryText.{history_form, lines_so_far}
-use Rattle.history_text.specs.NextLine.{AreEntriesRead}
-use Rattle.line_text.specs.declared.fault.TextFault.{TextFault}
-use Rattle.line_text.specs.Reading.{Begins}
-use Rattle.line_text.specs.UnderWay.{IsLineBehind}
+use Rattle.history_text.specs.HistoryText.{history_form}
+use Rattle.history_text.specs.NextLine.{AreEntriesRead, HasShortLine, LacksBaseLine, LinesRead}
+use Rattle.history_text.specs.TextLines.{Based, Line}
+use Rattle.history_text.specs.ToldBases.{GoodHas}
+use Rattle.line_text.specs.UnderWay.{SoFar}
 use Rattle.streams.specs.declared.stream_fault.StreamFault.{StreamFault}
 use Rattle.driver.specs.TextReader.{IsFaultOf, WereRead, reader_at}
 
--- the first line of a text was read, by a reader that holds these bytes, and whose source has this left
+-- what is known of lines that were read: which they are
+abbrev pub lines_known : Head → List Line → SoFar Head Line
+lines_known h lines = record { header = h; count = length lines; known = λ all. all ≡ lines }
+
+-- these lines of a text were read, by a reader that holds these bytes, and whose source has this left
+abbrev pub LinesBehind : Option (List ℕ) → Head → List Line → List ℕ → Option (List ℕ) → Type 0
+LinesBehind text h lines bytes left = WereRead history_form text (reader_at (lines_known h lines) bytes
+    left) lines
+
+-- the first line alone was
 abbrev pub HeadRead : Option (List ℕ) → Head → List ℕ → Option (List ℕ) → Type 0
-HeadRead text h bytes left =
-    IfSome text (λ t. IsSomeAnd (prepend_known bytes left) (Begins history_form t h []))
+HeadRead text h bytes left = LinesBehind text h [] bytes left
 
 -- the base that the text tells was read, and these entries behind it, the oldest first; the reader is there
 abbrev pub EntriesBehind : Option (List ℕ) → Head → Base → List Entry → Place → List ℕ → Option (List ℕ) →
@@ -28,28 +33,21 @@ abbrev pub EntriesBehind : Option (List ℕ) → Head → Base → List Entry �
 EntriesBehind text h b es place bytes left =
     IfSome text (λ t. IsSomeAnd (prepend_known bytes left) (AreEntriesRead t h b es place))
 
--- the first line is whole, and no longer than a good one
-pub record HasShortLine (rest : List ℕ) : Type 0 where
-  pub line : List ℕ
-  pub after : List ℕ
-  pub parts : rest ≡ line ++ 10 ∷ after
-  pub whole : HasNoBreak line
-  pub few : length line < 256
-
--- the fault of a next line that is not, behind so many lines, whatever these are
-abbrev pub IsFaultOfLine : ℕ → List ℕ → TextFault → Type 0
-IsFaultOfLine lines rest fault =
-    (h : Head) (b : Base) (s : Reached) → IsLineBehind history_form (lines_so_far h b s lines) rest
-    (Err fault)
-
--- the faults behind so many lines of a base, which told so much, whatever the text
-abbrev pub IsFaultBehindLines : Base → Told → ℕ → List ℕ → Option (List ℕ) → Option (List ℕ) → StreamFault →
-    Type 0
-IsFaultBehindLines b t lines old left after fault =
-    (text : Option (List ℕ)) (h : Head) (items : List Line) → h.is_based ≡ true → h.header ≡ b.header →
-    WereRead history_form text
-    (reader_at (lines_so_far h b (record { told = t; count = 0; calls = 0 }) lines) old left) items →
-    IsFaultOf history_form text after fault
+-- A line of a base was taken up; or the base was told whole, and the next line, which stands whole in the
+-- window, is none of a base; or this is the fault, whatever the text.
+abbrev pub IsLineTaken : LinesRead → List ℕ → Option (List ℕ) → Result Bool StreamFault → LinesRead → List ℕ →
+    Option (List ℕ) → Type 0
+IsLineTaken old bytes left (Ok true) new grown after =
+    (length new.lines ≡ length old.lines + 1)
+    × ((text : Option (List ℕ)) (h : Head) → h.is_based ≡ true → h.header ≡ old.header →
+    LinesBehind text h (map Based old.lines) bytes left → LinesBehind text h (map Based new.lines) grown
+    after)
+IsLineTaken old bytes left (Ok false) new grown after =
+    (new ≡ old) × GoodHas old.header old.lines × LacksBaseLine grown × HasShortLine grown
+    × Keeps (prepend_known bytes left) (prepend_known grown after)
+IsLineTaken old bytes left (Err fault) new grown after =
+    (text : Option (List ℕ)) (h : Head) → h.is_based ≡ true → h.header ≡ old.header →
+    LinesBehind text h (map Based old.lines) bytes left → IsFaultOf history_form text after fault
 
 -- a place right behind a base
 pub record IsPlacedBehind (b : Base) (place : Place) : Type 0 where

@@ -5,7 +5,7 @@ use Rattle.history.specs.declared.fault.Fault.{Fault}
 use Rattle.history.specs.declared.step.Answer.{Answer}
 use Rattle.history.specs.declared.step.Answer.TheVariants.{Recorded, Sleep}
 use Rattle.history.specs.Text.{ended}
-use Rattle.history_text.specs.EntryLines.{entry_line}
+use Rattle.history_text.specs.Pieces.{entry_lines}
 use Rattle.driver.specs.declared.remark.Remark.{Remark}
 use Rattle.driver.specs.declared.remark.Said.{Said}
 use Rattle.driver.specs.declared.remark.Said.TheVariants.{IsNamed, Sleeps, Fails, Folds, FoldsNone}
@@ -46,11 +46,6 @@ entries_said Sleeps = 0
 entries_said (Fails fault) = 0
 entries_said (Folds count) = 0
 entries_said (FoldsNone fault) = 0
-
--- the lines of entries from a number on
-abbrev pub entry_lines : ℕ → List Entry → List ℕ
-entry_lines number [] = []
-entry_lines number (e ∷ entries) = ended (entry_line number e) ++ entry_lines (number + 1) entries
 
 -- the lines from a number on: those of the entries of which nothing is remarked, and those of the remarks
 abbrev pub told_lines : List Entry → ℕ → List Remark → List ℕ

@@ -6,7 +6,7 @@ use Rattle.history.specs.declared.entry.Entry.{Entry}
 use Rattle.history.specs.Base.{Base, based}
 use Rattle.history.specs.Legal.{IsLegal, AreSeated}
 use Rattle.history.specs.Order.{IsInOrder, IsFairOrder}
-use Rattle.history_text.specs.HistoryText.{history_text}
+use Rattle.history_text.specs.Pieces.{history_text}
 use Rattle.line_text.specs.Reading.{IsText}
 use Rattle.steps.specs.StepsText.{steps_form}
 use Rattle.steps.specs.declared.header.StepsHeader.{StepsHeader}

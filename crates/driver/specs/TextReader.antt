@@ -46,6 +46,15 @@ abbrev pub IsFaultBehind : {H I : Type 0} → Form H I → Progress H I → Opti
 IsFaultBehind form p left fault =
     (text : Option (List ℕ)) → WereRead form text p [] → IsFaultOf form text left fault
 
+-- the faults behind whatever items were read
+abbrev pub IsFaultOn : {H I : Type 0} → Form H I → Progress H I → Option (List ℕ) → StreamFault → Type 0
+IsFaultOn {H} {I} form p left fault =
+    (text : Option (List ℕ)) (items : List I) → WereRead form text p items → IsFaultOf form text left fault
+
+-- there is no text of which so much was read
+abbrev pub IsOfNoText : {H I : Type 0} → Form H I → Progress H I → Type 0
+IsOfNoText {H} {I} form p = (text : List ℕ) (items : List I) → WereRead form (Some text) p items → ⊥
+
 -- what stands behind the end line of so many items: nothing, or what makes the line after it a bad one
 abbrev pub IsBehindEnd : {I : Type 0} → ℕ → Option (List ℕ) → Result (Option I) StreamFault → Type 0
 IsBehindEnd count left (Ok (Some item)) = ⊥

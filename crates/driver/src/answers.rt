@@ -11,7 +11,8 @@ ghost use Rattle.history.specs.Text.{ended};
 ghost use Rattle.streams.specs.declared.stream_fault.StreamFault.TheVariants.{Memory};
 ghost use Rattle.driver.specs.Answers.{AreFolded, Writes, all_of, answers_text, first_line, lines_text, remarks_in, text_behind};
 ghost use Rattle.driver.specs.LineWriter.{Gathers};
-ghost use Rattle.driver.specs.Remarks.{entry_lines, said_line, told_lines};
+ghost use Rattle.driver.specs.Remarks.{said_line, told_lines};
+ghost use Rattle.history_text.specs.Pieces.{entry_lines};
 ghost use Rattle.driver.specs.ReplayText.{name_of};
 ghost use Rattle.streams.specs.Whole.{AppendsFront};
 

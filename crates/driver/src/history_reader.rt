@@ -22,6 +22,7 @@ use history::header::Header;
 use history::number::Numbering;
 use history_text::next_entry::{head_of, next_entry};
 use history_text::place::{Head, Place};
+use line_text::fault::TextFault;
 use std::alloc::Global;
 use std::marker::Model;
 use streams::source::Source;
@@ -139,7 +140,7 @@ impl HistoryReader {
         self.window.keep_last(left);
     }
 
-    /// The next entry, where a whole line isn't in the window yet or no entry is.
+    /// The next entry, where a whole line isn't in the window yet.
     #[inline(never)]
     fn next_after_reading<R: Source>(
         &mut self,
@@ -206,7 +207,12 @@ impl HistoryReader {
                 self.pass(entry, left);
                 Ok(Some(entry))
             }
-            _ => self.next_after_reading(reader),
+            Ok(None) => {
+                let lines = self.place.lines + self.place.count;
+                end_of(&mut self.window, reader, lines)
+            }
+            Err(TextFault::BadLine(line)) => Err(StreamFault::Text(TextFault::BadLine(line))),
+            Err(_) => self.next_after_reading(reader),
         }
     }
 }

@@ -30,6 +30,9 @@ use std::alloc::Global;
 use streams::source::Source;
 use streams::stream_fault::StreamFault;
 
+/// No good text has more acts.
+const MOST_ACTS: u64 = 4_294_967_295;
+
 /// What is kept of the answers beside the history of the core.
 #[derive(Drop)]
 pub struct Log {
@@ -58,19 +61,13 @@ fn keep(remarks: &mut Vec<Remark>, remark: Option<Remark>) -> Result<(), StreamF
     Ok(())
 }
 
-/// How many entries there are, those that were folded among them. No good text has as many steps as 32 bits
-/// count: where they don't count the entries, it is answered by want of memory.
+/// How many entries there are, those that were folded among them.
 #[inline(always)]
-fn count_of(past: &[Entry], history: &History) -> Result<u32, StreamFault>
-    ensures ok { IfOk result (λ count. count ≡ length past.now + length history.now.entries) }
-    ensures err { IfErr result (λ fault. fault ≡ Memory) }
-    ensures many { IsErr result → 2 ^ 32 ≤ length past.now + length history.now.entries }
+fn count_of(past: &[Entry], history: &History) -> u32
+    requires { length past.now + length history.now.entries < 2 ^ 32 }
+    ensures { result ≡ length past.now + length history.now.entries }
 {
-    let count = past.len() as u64 + history.len();
-    if count > u64::from(u32::MAX) {
-        return Err(StreamFault::Memory);
-    }
-    Ok(count as u32)
+    (past.len() as u64 + history.len()) as u32
 }
 
 /// Has a core answer a step, and keeps what there is to remark.
@@ -81,11 +78,12 @@ fn answer_step<H: Hooks + Drop>(
     seat: u16,
     step: Step,
 ) -> Result<(), StreamFault>
-    requires { seat < core.old.header.seats }
+    requires seat { seat < core.old.header.seats }
+    requires few { length log.old.past.items + length core.old.entries < 2 ^ 32 }
     ensures ok { OnOk result (IsStepLogged core.old (logged log.old) seat step core.new (logged log.new)) }
     ensures err { IfErr result (λ fault. fault ≡ Memory) }
 {
-    let before = count_of(&log.past, core.history())?;
+    let before = count_of(&log.past, core.history());
     let answer = core.step(seat, step);
     if lacks_memory(&answer) {
         return Err(StreamFault::Memory);
@@ -132,11 +130,12 @@ fn trim_keeping<H: Hooks + Drop>(
 /// Trims a core, and keeps what there is to tell of it.
 #[inline(never)]
 fn answer_trim<H: Hooks + Drop>(core: &mut Core<H>, log: &mut Log) -> Result<(), StreamFault>
+    requires { length log.old.past.items + length core.old.entries < 2 ^ 32 }
     ensures ok { OnOk result (IsTrimLogged core.old (logged log.old) core.new (logged log.new)) }
     ensures may_fold { OnOk result (MayFold core.old.base core.old.entries) }
     ensures err { IfErr result (λ fault. fault ≡ Memory) }
 {
-    let before = count_of(&log.past, core.history())?;
+    let before = count_of(&log.past, core.history());
     let answer = trim_keeping(core, &mut log.past)?;
     log.remarks.push(remark_on_trim(before, &answer))?;
     Ok(())
@@ -149,7 +148,8 @@ fn answer_act<H: Hooks + Drop>(
     log: &mut Log,
     act: Act,
 ) -> Result<(), StreamFault>
-    requires { IsOfSeats core.old.header.seats act }
+    requires seat { IsOfSeats core.old.header.seats act }
+    requires few { length log.old.past.items + length core.old.entries < 2 ^ 32 }
     ensures ok { OnOk result (IsLogged core.old (logged log.old) act core.new (logged log.new)) }
     ensures may_fold { OnOk result (act ≡ Act.Trim → MayFold core.old.base core.old.entries) }
     ensures err { IfErr result (λ fault. fault ≡ Memory) }
@@ -164,7 +164,8 @@ fn answer_act<H: Hooks + Drop>(
 /// the history that it has then.
 ///
 /// A fault of the text or of its source ends the replay, and so does a step that is refused for want of
-/// memory.
+/// memory. A text with more acts than a good one has is read to its fault, and they are not answered: so all
+/// entries can be counted.
 pub fn replay<H: Hooks + Drop, R: Source>(
     alloc: Global,
     core: &mut Core<H>,
@@ -198,6 +199,10 @@ pub fn replay<H: Hooks + Drop, R: Source>(
         remarks: Vec::new(alloc),
     };
     while let Some(act) = steps.next(reader)? {
+        if steps.count() > MOST_ACTS {
+            steps.read_to_fault(reader)?;
+            return Err(StreamFault::Memory);
+        }
         answer_act(core, &mut log, act)?;
     }
     core.recall_lawful();

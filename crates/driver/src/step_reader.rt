@@ -5,7 +5,7 @@ ghost use Rattle.std.specs.Io.KnownBytes.{IsAtEnd};
 ghost use Rattle.history.specs.Header.{IsInRange};
 ghost use Rattle.history.specs.Text.{HasNoBreak};
 ghost use Rattle.driver.specs.StepReader.{passed, progress};
-ghost use Rattle.driver.specs.TextReader.{IsFaultOf, IsNext, Stands, WereRead};
+ghost use Rattle.driver.specs.TextReader.{IsFaultOf, IsFaultOn, IsNext, IsOfNoText, Stands, WereRead};
 ghost use Rattle.steps.specs.StepLines.{IsAct};
 ghost use Rattle.steps.specs.StepsText.{steps_form};
 ghost use Rattle.streams.specs.Whole.{IsTooLong};
@@ -14,6 +14,7 @@ ghost use Rattle.streams.specs.declared.stream_fault.StreamFault.TheVariants.{Me
 
 use crate::end_of::end_of;
 use frame::acts::Act;
+use line_text::fault::TextFault;
 use std::alloc::Global;
 use std::marker::Model;
 use steps::header::StepsHeader;
@@ -84,6 +85,13 @@ impl StepReader {
         self.header
     }
 
+    /// How many acts were read.
+    pub fn count(&self) -> u64
+        ensures { result ≡ self.now.count }
+    {
+        self.count
+    }
+
     /// Counts one more act, whose line ends where so many bytes are left.
     #[inline(always)]
     fn pass(&mut self, left: usize) -> Result<(), StreamFault>
@@ -103,7 +111,7 @@ impl StepReader {
         Ok(())
     }
 
-    /// The next act, where a whole line isn't in the window yet or no act is.
+    /// The next act, where a whole line isn't in the window yet.
     #[inline(never)]
     fn next_after_reading<R: Source>(&mut self, reader: &mut R) -> Result<Option<Act>, StreamFault>
         requires { R.failed reader.old ≡ false }
@@ -163,7 +171,24 @@ impl StepReader {
                 self.pass(left)?;
                 Ok(Some(act))
             }
-            _ => self.next_after_reading(reader),
+            Ok(None) => end_of(&mut self.window, reader, self.count),
+            Err(TextFault::BadLine(line)) => Err(StreamFault::Text(TextFault::BadLine(line))),
+            Err(_) => self.next_after_reading(reader),
         }
+    }
+
+    /// Reads what is left of a text of which more acts were read than a good one has: so it has a fault, and
+    /// that is found.
+    #[inline(never)]
+    pub fn read_to_fault<R: Source>(&mut self, reader: &mut R) -> Result<(), StreamFault>
+        requires reader { R.failed reader.old ≡ false }
+        requires many { 2 ^ 32 ≤ self.old.count }
+        ensures none { OnOk result (IsOfNoText steps_form (progress self.old (R.left reader.old))) }
+        ensures err { IfErr result
+            (IsFaultOn steps_form (progress self.old (R.left reader.old)) (R.left reader.new)) }
+        ensures failing { IsErrOf result StreamFault.ReadFailed ↔ IsTrue (R.failed reader.new) }
+    {
+        while let Some(_) = self.next(reader)? {}
+        Ok(())
     }
 }

@@ -6,7 +6,7 @@ use Rattle.history.specs.declared.entry.Entry.{Entry}
 use Rattle.history.specs.declared.header.Header.{Header}
 use Rattle.history.specs.Base.{Base, folded, opening_base}
 use Rattle.history.specs.Point.{CanFold}
-use Rattle.history_text.specs.HistoryText.{history_text}
+use Rattle.history_text.specs.Pieces.{history_text}
 use Rattle.example_locks.specs.Parts.{AreLegal, Plays, Prints, left_by, texts}
 
 left_more : (b : Base) (p q : List (List Entry)) → left_by b (q ++ p) ≡ left_by (left_by b p) q

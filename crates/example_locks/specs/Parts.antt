@@ -6,7 +6,7 @@ use Rattle.history.specs.declared.entry.Entry.{Entry}
 use Rattle.history.specs.declared.header.Header.{Header}
 use Rattle.history.specs.Base.{Base, folded, opening_base}
 use Rattle.history.specs.Point.{CanFold}
-use Rattle.history_text.specs.HistoryText.{history_text}
+use Rattle.history_text.specs.Pieces.{history_text}
 
 -- what parts leave behind a base, the last part first: each is folded into what stood before it
 abbrev pub left_by : Base → List (List Entry) → Base

@@ -20,12 +20,12 @@ use Rattle.history.specs.GoodBase.{Asks, GaveUp, Returns, most_folded, most_perm
 use Rattle.history.specs.Header.{IsInRange, IsOpening}
 use Rattle.history.specs.Line.{coming_back}
 use Rattle.history.specs.Object.{opening_count}
-use Rattle.history.specs.Ownership.{most_exclusive}
 use Rattle.history.specs.Reading.{Words}
 use Rattle.history.specs.Text.{line_of, words_of}
 use Rattle.history.proofs.Asking.{asked_few}
 use Rattle.history.proofs.EntryAgain.{plain_entry, words_again_read}
 use Rattle.history.proofs.Numbers.{digits_alone, number_at_again}
+use Rattle.history.proofs.Owners.{most_fits}
 use Rattle.history.proofs.Plain.{ArePlain, words_again}
 use Rattle.history.proofs.WideNumbers.{wide_at_again, wide_plain}
 use Rattle.line_text.proofs.Lawful.{Lacks}
@@ -320,14 +320,6 @@ base_short x is stands =
     )) in
     omega (arith, line_weight (base_words x), all)
 
-pub some_line : (x : BaseLine) → 1 ≤ length (base_line x)
-some_line x = by (base_words x) (name_of x) (named x).0 (named x).1 (some_bytes x)
-  where
-    by : (ws : Words) (w : List ℕ) (rest : Words) → ws ≡ w ∷ rest → 0 < length w → 1 ≤ length (line_of ws)
-    by [] w rest is some = absurd cc
-    by (v ∷ []) w rest is some = rw (first_word v w [] rest is) (omega (arith, some))
-    by (v ∷ u ∷ ws) w rest is some = omega (arith, length-append v (32 ∷ line_of (u ∷ ws)))
-
 -- ---- a line that may follow is spelt
 
 opening_few : (o : Object) (c : ℕ) → IsOpening o c → opening_count o ≤ 2147483647
@@ -335,12 +327,6 @@ opening_few (Lock p) c r = omega arith
 opening_few (ReadWrite p) c r = omega arith
 opening_few (Semaphore p n) c r = omega arith
 opening_few (Latch n) c r = omega (arith, r.1)
-
-few_exclusive : (o : Object) → most_exclusive o ≤ 2147483647
-few_exclusive (Lock p) = omega arith
-few_exclusive (ReadWrite p) = omega arith
-few_exclusive (Semaphore p c) = omega arith
-few_exclusive (Latch c) = omega arith
 
 few_held : (o : Object) (seats : ℕ) (t : Told) (has : SeatBase) → MayHold o seats t has →
     (has.exclusive ≤ 2147483647) × (has.shared ≤ most_permits)
@@ -390,7 +376,7 @@ gave_few : (b : Base) (i c n : ℕ) → IsInRange b.header → GaveUp b i c n �
 gave_few b i c n range gave = (
   omega (arith, range.seats, gave.seat),
   omega (arith, few_conditions b.header.object b.header.conditions range.opening, gave.condition),
-  omega (arith, few_exclusive b.header.object, gave.most),
+  omega (arith, most_fits b.header.object, gave.most),
 )
 
 returns_line : (b : Base) (p : Standing) → IsInRange b.header → p.who.back ≡ true → Returns b p →

@@ -29,7 +29,8 @@ use Rattle.history.proofs.Times.{once_same, times-append, total_part}
 use Rattle.history_text.specs.declared.base_line.BaseLine.{BaseLine}
 use Rattle.history_text.specs.declared.base_line.BaseLine.TheVariants.{Stands, Sleeps}
 use Rattle.history_text.specs.BaseFollowing.{IsCountedFor}
-use Rattle.history_text.specs.BaseTelling.{Follow, IsToldBase, base_by, told_by}
+use Rattle.history_text.specs.BaseTelling.{Follow, base_by, told_by}
+use Rattle.history_text.specs.ToldBases.{IsToldBase}
 use Rattle.history_text.specs.BaseLines.{base_lines, first_line}
 use Rattle.history_text.specs.BaseRules.{AllSeated, IsFree, IsSeated, MayFollow, MayHold, Told, untold}
 use Rattle.history_text.proofs.BaseTold.{SoFar, gave_moved, pos_kept, stands_moved, waits_of}
@@ -95,6 +96,10 @@ permits_highest (negsuc n) f u s e l =
     let d : u ≤ 2147483647 + s + suc n = omega (arith, ints) in
     omega (arith, a, b, d)
 
+none_if : (m : ℕ) → (0 < m → ⊥) → m ≡ 0
+none_if zero f = refl
+none_if (suc m) f = absurd (f (omega arith))
+
 module _ (g : Base) (range : IsInRange g.header) (good : IsGood g) where
   -- what a seat may hold
   module _ (n : ℕ) (done : List BaseLine) (t : Told) (b : Base) (so : SoFar done t b) (at : AtSeats g n t b)
@@ -157,19 +162,11 @@ module _ (g : Base) (range : IsInRange g.header) (good : IsGood g) where
       sym shared_so_far ∙ sum_none (λ x. x.shared) refl
           (λ i ne. none_if (seat_of g i).shared (λ q. ne (sym (v.alone n i p q)))),
     )
-      where
-        none_if : (m : ℕ) → (0 < m → ⊥) → m ≡ 0
-        none_if zero f = refl
-        none_if (suc m) f = absurd (f (omega arith))
 
     reader_alone : IsOwned (based g) [] → 0 < (seat_of g n).shared → t.exclusive ≡ 0
     reader_alone v p =
         sym exclusive_so_far ∙ sum_none (λ x. x.exclusive) refl
         (λ i ne. none_if (seat_of g i).exclusive (λ q. ne (v.alone i n q p)))
-      where
-        none_if : (m : ℕ) → (0 < m → ⊥) → m ≡ 0
-        none_if zero f = refl
-        none_if (suc m) f = absurd (f (omega arith))
 
     holds : (o : Object) → g.header.object ≡ o → AreHeld o g → MayHold o g.header.seats t (seat_of g n)
     holds (Lock p) q v = (

@@ -1,18 +1,17 @@
 -- The lines of a base and good bases.
 use Rattle.std.proofs.Common.{◌≡◌, ◌≤◌, List, [], ◌∷◌, ap, ◌∙◌, sym, subst, refl, arith}
 use Rattle.history.specs.declared.header.Header.{Header}
-use Rattle.history.specs.Base.{Base, based, opening_base, seat_of}
+use Rattle.history.specs.Base.{Base, opening_base, seat_of}
 use Rattle.history.specs.declared.header.Object.{Object}
 use Rattle.history.specs.declared.header.Object.TheVariants.{Lock, ReadWrite, Semaphore, Latch}
 use Rattle.history.specs.GoodBase.{IsGood}
 use Rattle.history.specs.Header.{IsInRange}
-use Rattle.history.specs.Legal.{calls}
 use Rattle.history_text.specs.declared.base_line.BaseLine.{BaseLine}
 use Rattle.history_text.specs.declared.base_line.BaseLine.TheVariants.{Folded, Released, CountedDown, Seat, Stands, Sleeps}
 use Rattle.history_text.specs.BaseFollowing.{AllFollow, AllRead, HasShape, after_told, with_lines}
 use Rattle.history_text.specs.BaseLines.{base_lines, first_line}
 use Rattle.history_text.specs.BaseRules.{AllSeated, MayFollow, Told, told, untold, with_line}
-use Rattle.history_text.specs.BaseTelling.{IsToldBase}
+use Rattle.history_text.specs.ToldBases.{IsToldBase}
 use Rattle.history_text.proofs.BaseRetold.{good_told}
 use Rattle.history_text.proofs.BaseTold.{gave_moved, header_after, header_kept, stands_moved, whole_told}
 use Rattle.history_text.proofs.BaseWalk.{IsTold, base_told}
@@ -88,16 +87,9 @@ read_follows t a b (x ∷ xs) e read = (
 pub good_reads : (b : Base) → IsGoodOf b → AllRead (opening_base b.header) untold (base_lines b)
 good_reads b of = (good_told b of.range of.good of.some).follow
 
-pub good_whole : (b : Base) → IsGoodOf b → AllSeated b.header (after_told untold (base_lines b))
-good_whole b of = (good_told b of.range of.good of.some).all
-
 -- a good base is read as it is told
 pub good_again : (b : Base) → IsGoodOf b → said b.header (base_lines b) ≡ b
 good_again b of = (good_told b of.range of.good of.some).same
-
--- as many calls are told as ended in it
-pub good_calls : (b : Base) → IsGoodOf b → (after_told untold (base_lines b)).calls ≡ calls (based b) []
-good_calls b of = (good_told b of.range of.good of.some).calls
 
 pub good_follows : (b : Base) → IsGoodOf b → AllFollow b untold (base_lines b)
 good_follows b of =

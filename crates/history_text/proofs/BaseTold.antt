@@ -34,16 +34,12 @@ use Rattle.history.proofs.Times.{each-append, once_other, once_same, one_if, pig
 use Rattle.history_text.specs.declared.base_line.BaseLine.{BaseLine}
 use Rattle.history_text.specs.declared.base_line.BaseLine.TheVariants.{Folded, Released, CountedDown, Seat, Stands, Sleeps}
 use Rattle.history_text.specs.BaseFollowing.{AllRead, with_lines, after_told}
-use Rattle.history_text.specs.BaseTelling.{Follow, IsToldBase, base_by, told_by}
+use Rattle.history_text.specs.BaseTelling.{Follow, base_by, told_by}
+use Rattle.history_text.specs.ToldBases.{IsToldBase}
 use Rattle.history_text.specs.BaseLines.{base_lines, first_line, seat_lines, sleeper_lines}
+use Rattle.history_text.specs.BaseUnderWay.{lines_so_far}
 use Rattle.history_text.specs.BaseRules.{AllSeated, IsFirst, IsFree, IsSeated, MayFollow, MayHold, Told, told, untold, with_line}
 use Rattle.history_text.proofs.BasePlaces.{each_then, first_line_same, no_lines, seat_lines_push, sleeper_lines_push, times_stands, total_put, total_sleeps}
-
--- the lines of a base as far as they are told
-abbrev pub lines_so_far : Told → Base → List BaseLine
-lines_so_far t b =
-    first_line b.header.object b
-    ∷ (seat_lines 0 (take t.seats b.seats) ++ (map Stands b.line ++ sleeper_lines 0 b.sleepers))
 
 -- how often a seat waits
 abbrev pub waits_of : Base → ℕ → ℕ
@@ -104,7 +100,7 @@ pub record SoFar (done : List BaseLine) (t : Told) (b : Base) : Type 0 where
   pub spelt : Spelt done t b
 
 -- those told in line and those told on a condition are seats, and each of them once
-stands_seated : (b : Base) (p : Standing) → StandsWell b p → p.who.seat < b.header.seats
+pub stands_seated : (b : Base) (p : Standing) → StandsWell b p → p.who.seat < b.header.seats
 stands_seated b p well = ⊎_elim (λ asks. asks.1.seat) (λ comes. comes.1.gave.seat) well
 
 line_seated : (b : Base) (q : List Standing) → AllByRecursion (StandsWell b) q →

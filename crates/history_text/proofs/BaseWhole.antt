@@ -19,7 +19,8 @@ use Rattle.history.specs.Steps.{at_least_none}
 use Rattle.history_text.specs.declared.base_line.BaseLine.{BaseLine}
 use Rattle.history_text.specs.declared.base_line.BaseLine.TheVariants.{Folded, Released, CountedDown, Seat}
 use Rattle.history_text.specs.BaseFollowing.{AllRead, with_lines, after_told}
-use Rattle.history_text.specs.BaseTelling.{Follow, IsToldBase, base_by, told_by}
+use Rattle.history_text.specs.BaseTelling.{Follow, base_by, told_by}
+use Rattle.history_text.specs.ToldBases.{IsToldBase}
 use Rattle.history_text.specs.BaseLines.{base_lines}
 use Rattle.history_text.specs.BaseRules.{AllSeated, MayFollow, MayHold, Told, told, untold, with_line}
 use Rattle.history_text.proofs.BaseTold.{HeldSoFar, SoFar, Summed, goes_on, header_after, header_kept, pos_kept, told_so_far, whole_told}

@@ -1,14 +1,16 @@
 -- The first line and the lines of a base are written.
-use Rattle.std.proofs.Common.{◌≡◌, ℕ, zero, suc, ◌+◌, ◌≤◌, Bool, List, [], ◌∷◌, ◌++◌, length, get_or, refl, sym, ap, ◌∙◌, arith, append_assoc, append-nil, codes}
+use Rattle.std.proofs.Common.{◌≡◌, ⊎_elim, ℕ, zero, suc, ◌+◌, ◌≤◌, Bool, List, [], ◌∷◌, ◌++◌, length, get_or, refl, sym, ap, ◌∙◌, arith, append_assoc, append-nil, codes}
 use Rattle.std.specs.List.{AllByRecursion}
 use Rattle.history.specs.declared.base.SeatBase.{SeatBase}
 use Rattle.history.specs.declared.header.Header.{Header}
 use Rattle.history.specs.Base.{Base, based, each_below, nothing, opening_base, seat_of}
 use Rattle.history.specs.Counts.{total}
-use Rattle.history.specs.GoodBase.{IsGood, most_folded}
+use Rattle.history.specs.GoodBase.{IsBaseOf, IsGood, most_folded}
 use Rattle.history.specs.Header.{IsInRange}
 use Rattle.history.specs.Legal.{calls}
 use Rattle.history.specs.Spelling.{part_of}
+use Rattle.history.specs.Start.{Start}
+use Rattle.history.proofs.OpeningBase.{based_opening}
 use Rattle.history.specs.Text.{ended}
 use Rattle.history_text.specs.declared.base_line.BaseLine.{BaseLine}
 use Rattle.history_text.specs.declared.base_line.BaseLine.TheVariants.{Folded, Released, CountedDown, Seat, Stands, Sleeps}
@@ -19,7 +21,7 @@ use Rattle.history_text.specs.BaseText.{IsHeadPut, calls_sum, lines_text}
 use Rattle.history_text.specs.HistoryLines.{head_line, head_of, lines_told, name_of}
 use Rattle.history_text.proofs.BaseLineLemmas.{may_follow_spelt}
 use Rattle.history_text.proofs.BaseTheory.{IsGoodOf, good_follows}
-use Rattle.history_text.proofs.HistoryLaws.{some_entries, told_some}
+use Rattle.history_text.proofs.HistoryItems.{some_entries, told_some}
 
 few_then : (t : Told) (b : Base) (x : BaseLine) → t.entries ≤ most_folded → MayFollow t b x →
     (told t x).entries ≤ most_folded
@@ -70,6 +72,20 @@ sum_push (x ∷ xs) = ap (λ (n : ℕ). x.calls + n) (sum_push xs)
 pub sum_none : (n : ℕ) → calls_sum (each_below n (λ i. nothing)) ≡ 0
 sum_none zero = refl
 sum_none (suc n) = sum_push (each_below n (λ i. nothing)) ∙ sum_none n
+
+-- no more calls ended before a base than entries were folded into it
+pub sums_few : (k : Header) (b : Base) → IsBaseOf k b → calls_sum b.seats ≤ b.entries
+sums_few k b of =
+    ⊎_elim (λ (e : b ≡ opening_base k). (let z : calls_sum b.seats ≡ 0 =
+    ap (λ (a : Base). calls_sum a.seats) e ∙ sum_none k.seats in omega (arith, z)))
+    (λ (g : (1 ≤ b.entries) × IsGood b). sum_few b g.1) of.1
+
+-- and as many as the seats ended
+pub base_calls : (k : Header) (b : Base) → IsBaseOf k b → calls_sum b.seats ≡ calls (based b) []
+base_calls k b of =
+    ⊎_elim (λ (e : b ≡ opening_base k). ap (λ (a : Base). calls_sum a.seats) e ∙ sum_none k.seats
+    ∙ sym (ap (λ (s : Start). s.calls) (ap based e ∙ based_opening k)))
+    (λ (g : (1 ≤ b.entries) × IsGood b). sum_calls b g.1) of.1
 
 -- the first line of format 2 and the lines of a base
 pub head_written : (b : Base) (k : Header) (out x new : List ℕ) → 1 ≤ b.entries → b.header ≡ k →

@@ -1,5 +1,5 @@
 -- The first line of a text is written where no entry was folded.
-use Rattle.std.proofs.Common.{◌≡◌, ℕ, ◌+◌, Bool, false, ltb, List, ◌++◌, Option, Some, None, refl, sym, subst, ⊎_elim, ap, ◌∙◌, arith, append-nil, codes}
+use Rattle.std.proofs.Common.{◌≡◌, ℕ, Bool, false, ltb, List, ◌++◌, Option, Some, None, refl, sym, subst, ⊎_elim, ap, ◌∙◌, arith, append-nil, codes}
 use Rattle.history.specs.declared.header.Header.{Header}
 use Rattle.history.specs.Base.{Base}
 use Rattle.history.specs.Entries.{IsBasedWell, or_opening}
@@ -12,7 +12,7 @@ use Rattle.history_text.specs.declared.base_line.BaseLine.{BaseLine}
 use Rattle.history_text.specs.BaseText.{IsHeadPut, lines_text}
 use Rattle.history_text.specs.HistoryLines.{head_line, head_of, name_of}
 use Rattle.history_text.proofs.HeadWritten.{opening_written, sum_few}
-use Rattle.history_text.proofs.HistoryLaws.{told_none}
+use Rattle.history_text.proofs.HistoryItems.{told_none}
 
 -- of a good base with no entries the first line of format 1 is all
 good_written : (b : Base) (k : Header) (out new : List ℕ) → b.entries ≡ 0 → b.header ≡ k → IsGood b →

@@ -1,26 +1,32 @@
 -- The lines of a history text can be told apart.
-use Rattle.std.proofs.Common.{◌≡◌, ℕ, ◌+◌, ◌<◌, ◌^◌, Bool, true, false, List, [], ◌∷◌, ◌++◌, refl, sym, ap, subst, ◌∙◌, arith, decimal}
+use Rattle.std.proofs.Common.{◌≡◌, ℕ, ◌<◌, ◌^◌, Bool, true, false, List, [], ◌∷◌, ◌++◌, refl, sym, ap, subst, ◌∙◌, arith, decimal}
 use Rattle.std.specs.Prelude.{codes}
+use Rattle.std.specs.List.{AllByRecursion}
 use Rattle.history.specs.declared.entry.Entry.{Entry}
 use Rattle.history.specs.declared.header.Header.{Header}
 use Rattle.history.specs.EntryWords.{entry_words}
 use Rattle.history.specs.Header.{IsInRange}
 use Rattle.history.specs.Spelling.{part_of}
 use Rattle.history.specs.Text.{words_of, line_of}
+use Rattle.history.proofs.Lists.{ended_calls_le}
 use Rattle.history.proofs.Numbers.{digits_alone}
 use Rattle.history.proofs.Plain.{words_again}
-use Rattle.line_text.proofs.Lawful.{Lacks, IsLawful, Stand}
+use Rattle.line_text.proofs.Lawful.{Lacks, IsLawful}
+use Rattle.line_text.proofs.OneReading.{head_is, tail_is}
 use Rattle.line_text.proofs.WholeLines.{line_lacks, header_whole, header_one}
 use Rattle.history_text.specs.declared.base_line.BaseLine.{BaseLine}
 use Rattle.history_text.specs.declared.place.Head.{Head}
 use Rattle.history_text.specs.BaseLines.{IsBaseLine}
 use Rattle.history_text.specs.EntryLines.{HasLine, entry_line, counts_line}
-use Rattle.history_text.specs.HistoryLines.{Based, Entered, Line, MayStand, Reached, base_of, line_text, name_of, reached}
-use Rattle.history_text.specs.HistoryText.{end_of, history_form}
-use Rattle.history_text.proofs.BaseLineLemmas.{base_lacks, base_no_end, base_no_entry, may_follow_spelt, same_base_line}
+use Rattle.history_text.specs.HistoryLines.{name_of}
+use Rattle.history_text.specs.TextLines.{Based, Entered, Line, SomeBeginsSo, SomeHas, calls_told, end_of, entries_told, line_text, lines_on, sum_of}
+use Rattle.history_text.specs.HistoryText.{history_form}
+use Rattle.history_text.specs.ToldBases.{GoodBeginsSo}
+use Rattle.history_text.proofs.BaseLineLemmas.{base_lacks, base_no_end, base_no_entry, same_base_line}
+use Rattle.history_text.proofs.BaseWritten.{each_back, each_front}
 use Rattle.history_text.proofs.EntryLemmas.{line_plain, entry_line-words, same_entry, counts_plain, counts_line-words}
-use Rattle.history_text.proofs.HistoryItems.{IsSmall, small}
-use Rattle.history_text.proofs.SameBase.{base_header}
+use Rattle.history_text.proofs.HeadWritten.{good_spelt, sums_few}
+use Rattle.history_text.proofs.HistoryItems.{base_few, calls_on, entries_on, next_based, next_entry}
 
 entry_lacks : (h : Header) (k : ℕ) (e : Entry) → IsInRange h → k < 2 ^ 64 → HasLine h e →
     Lacks (entry_line k e)
@@ -53,12 +59,6 @@ head_whole : (is_based : Bool) (k : Header) → IsInRange k → Lacks (name_of i
 head_whole true k range = header_whole (codes "aqs-history 2 ") k refl range
 head_whole false k range = header_whole (codes "aqs-history 1 ") k refl range
 
-head_is : (x y : ℕ) (xs ys : List ℕ) → x ∷ xs ≡ y ∷ ys → x ≡ y
-head_is x y xs ys e = cc
-
-tail_is : (x y : ℕ) (xs ys : List ℕ) → x ∷ xs ≡ y ∷ ys → xs ≡ ys
-tail_is x y xs ys e = cc
-
 behind : (name : List ℕ) (a b : List ℕ) → name ++ a ≡ name ++ b → a ≡ b
 behind [] a b e = e
 behind (x ∷ name) a b e = behind name a b (tail_is x x (name ++ a) (name ++ b) e)
@@ -83,75 +83,106 @@ one_head false true k l p q e = absurd (other_name (part_of k) (part_of l) e)
 
 -- ---- the lines behind it
 
-abbrev Stands : Head → List Line → Type 0
-Stands h before = Stand history_form h before
+each_at : {A : Type 0} (P : A → Type 0) (xs : List A) (x : A) (ys : List A) →
+    AllByRecursion P ((xs ++ x ∷ []) ++ ys) → P x
+each_at P xs x ys all = (each_back P xs (x ∷ []) (each_front P (xs ++ x ∷ []) ys all)).0
 
-pub number_fits : (h : Head) (s : Reached) (number : ℕ) → IsInRange h.header → IsSmall h s →
-    number ≡ s.told.entries + s.count → number < 2 ^ 64
-number_fits h s number range small is = omega (arith, is, small.entries, small.count, range.cap)
+-- a line with which a good base begins is spelt
+pub good_line : (k : Header) (xs : List BaseLine) (x : BaseLine) → IsInRange k → GoodBeginsSo k (xs ++ x
+    ∷ []) →
+    IsBaseLine x
+good_line k xs x range (b, more, is, e) =
+    each_at IsBaseLine xs x more
+    (subst (AllByRecursion IsBaseLine) e
+    (good_spelt b
+    (record { range = subst IsInRange (sym is.header) range; some = is.some; good = is.good })))
 
-pub ended_fit : (h : Head) (s : Reached) → IsInRange h.header → IsSmall h s →
-    (s.told.entries + s.count < 2 ^ 64) × (s.told.calls + s.calls < 2 ^ 64)
-ended_fit h s range small = (
-  omega (arith, small.entries, small.count, range.cap),
-  omega (arith, small.entries, small.told_calls, small.count, small.calls, range.cap),
-)
+pub spelt_next : (h : Head) (before : List Line) (x : BaseLine) → IsInRange h.header →
+    SomeBeginsSo h (before ++ Based x ∷ []) → IsBaseLine x
+spelt_next h before x range begins =
+    let next = next_based h before x begins in good_line h.header next.xs x range next.good
 
--- a line of a base that may come next is spelt
-pub spelt_next : (h : Head) (before : List Line) (x : BaseLine) → Stands h before →
-    MayStand h (reached before) (base_of h.header before) (Based x) → IsBaseLine x
-spelt_next h before x stand may =
-    may_follow_spelt (reached before).told (base_of h.header before) x
-    (subst IsInRange (sym (base_header h.header before)) stand.header)
-    (small h before stand.each).entries may.2
+-- the numbers of entries are small
+pub number_fits : (h : Head) (before : List Line) (m : ℕ) (e : Entry) → IsInRange h.header →
+    SomeBeginsSo h (before ++ Entered m e ∷ []) → (m < 2 ^ 64) × HasLine h.header e
+number_fits h before m e range begins =
+    let next = next_entry h before m e begins in (
+      omega (arith, next.number, next.room, base_few h.header next.base next.of.base, range.cap),
+      next.line,
+    )
 
-line_whole : (h : Head) (before : List Line) (x : Line) → Stands h before →
-    MayStand h (reached before) (base_of h.header before) x → Lacks (line_text x)
-line_whole h before (Based x) stand may = base_lacks x (spelt_next h before x stand may)
-line_whole h before (Entered number e) stand may =
-    entry_lacks h.header number e stand.header
-    (number_fits h (reached before) number stand.header (small h before stand.each) may.1) may.3
+-- and so are those of an end line
+pub ended_fit : (h : Head) (lines : List Line) → IsInRange h.header → SomeHas h lines →
+    (sum_of entries_told lines < 2 ^ 64) × (sum_of calls_told lines < 2 ^ 64)
+ended_fit h lines range (b, es, of, e) =
+    let few = base_few h.header b of.base in
+    let some = sums_few h.header b of.base in
+    let entries : sum_of entries_told (lines_on b es) ≡ sum_of entries_told lines =
+    ap (sum_of entries_told) e in
+    let calls : sum_of calls_told (lines_on b es) ≡ sum_of calls_told lines = ap (sum_of calls_told) e in (
+      omega (arith, entries, entries_on b es, few, of.few, range.cap),
+      omega (
+        arith,
+        calls,
+        calls_on b es (λ z. omega (arith, some, z)),
+        some,
+        few,
+        ended_calls_le es,
+        of.few,
+        range.cap,
+      ),
+    )
 
-line_one : (h : Head) (before : List Line) (x y : Line) → Stands h before →
-    MayStand h (reached before) (base_of h.header before) x →
-    MayStand h (reached before) (base_of h.header before) y → line_text x ≡ line_text y → x ≡ y
-line_one h before (Based x) (Based y) stand p q e =
+line_whole : (h : Head) (before : List Line) (x : Line) → IsInRange h.header →
+    SomeBeginsSo h (before ++ x ∷ []) → Lacks (line_text x)
+line_whole h before (Based x) range begins = base_lacks x (spelt_next h before x range begins)
+line_whole h before (Entered m e) range begins =
+    let fits = number_fits h before m e range begins in entry_lacks h.header m e range fits.0 fits.1
+
+-- an entry's number is that of the entries before it
+pub numbered_so : (h : Head) (before : List Line) (m : ℕ) (e : Entry) →
+    SomeBeginsSo h (before ++ Entered m e ∷ []) → m ≡ sum_of entries_told before
+numbered_so h before m e begins =
+    let next = next_entry h before m e begins in
+    next.number ∙ sym (entries_on next.base next.entries) ∙ ap (sum_of entries_told) (sym next.lines)
+
+line_one : (h : Head) (before : List Line) (x y : Line) → IsInRange h.header →
+    SomeBeginsSo h (before ++ x ∷ []) → SomeBeginsSo h (before ++ y ∷ []) → line_text x ≡ line_text y → x ≡ y
+line_one h before (Based x) (Based y) range p q e =
     ap (λ (z : BaseLine). Based z)
-    (same_base_line x y (spelt_next h before x stand p) (spelt_next h before y stand q) e)
-line_one h before (Based x) (Entered number d) stand p q e =
-    absurd (base_no_entry x h.header number d (spelt_next h before x stand p)
-    (number_fits h (reached before) number stand.header (small h before stand.each) q.1) stand.header q.3 e)
-line_one h before (Entered number d) (Based x) stand p q e =
-    absurd (base_no_entry x h.header number d (spelt_next h before x stand q)
-    (number_fits h (reached before) number stand.header (small h before stand.each) p.1) stand.header p.3
-    (sym e))
-line_one h before (Entered n d) (Entered k f) stand p q e =
-    let same : n ≡ k = p.1 ∙ sym q.1 in
+    (same_base_line x y (spelt_next h before x range p) (spelt_next h before y range q) e)
+line_one h before (Based x) (Entered m d) range p q e =
+    let fits = number_fits h before m d range q in
+    absurd (base_no_entry x h.header m d (spelt_next h before x range p) fits.0 range fits.1 e)
+line_one h before (Entered m d) (Based x) range p q e =
+    let fits = number_fits h before m d range p in
+    absurd (base_no_entry x h.header m d (spelt_next h before x range q) fits.0 range fits.1 (sym e))
+line_one h before (Entered n d) (Entered k f) range p q e =
+    let same : n ≡ k = numbered_so h before n d p ∙ sym (numbered_so h before k f q) in
     let lines : entry_line k d ≡ entry_line k f = ap (λ (z : ℕ). entry_line z d) (sym same) ∙ e in
+    let fits = number_fits h before k f range q in
     ap (λ (z : ℕ). Entered z d) same
     ∙ ap (λ (z : Entry). Entered k z)
-    (same_entry h.header k d f (number_fits h (reached before) k stand.header (small h before stand.each) q.1)
-    stand.header p.3 q.3 lines)
+    (same_entry h.header k d f fits.0 range (number_fits h before n d range p).1 fits.1 lines)
 
-no_end : (h : Head) (before : List Line) (x : Line) → Stands h before →
-    MayStand h (reached before) (base_of h.header before) x → line_text x ≡ end_of (reached before) → ⊥
-no_end h before (Based x) stand may e =
-    let fit = ended_fit h (reached before) stand.header (small h before stand.each) in
-    base_no_end x _ _ (spelt_next h before x stand may) fit.0 fit.1 e
-no_end h before (Entered number d) stand may e =
-    let fit = ended_fit h (reached before) stand.header (small h before stand.each) in
-    entry_no_end h.header number d _ _ stand.header
-    (number_fits h (reached before) number stand.header (small h before stand.each) may.1) may.3 fit.0 fit.1 e
+no_end : (h : Head) (before : List Line) (x : Line) → IsInRange h.header →
+    SomeBeginsSo h (before ++ x ∷ []) → SomeHas h before → line_text x ≡ end_of before → ⊥
+no_end h before (Based x) range begins has e =
+    let fit = ended_fit h before range has in
+    base_no_end x _ _ (spelt_next h before x range begins) fit.0 fit.1 e
+no_end h before (Entered m d) range begins has e =
+    let fit = ended_fit h before range has in
+    let fits = number_fits h before m d range begins in
+    entry_no_end h.header m d _ _ range fits.0 fits.1 fit.0 fit.1 e
 
 pub lawful : IsLawful history_form
 lawful =
     record {
       header_whole = λ h fits. head_whole h.is_based h.header fits;
       header_one = λ h g p q e. one_head h.is_based g.is_based h.header g.header p q e;
-      item_whole = line_whole;
-      item_one = line_one;
-      end_whole = λ h items stand ends.
-          let fit = ended_fit h (reached items) stand.header (small h items stand.each) in
-          end_lacks _ _ fit.0 fit.1;
-      item_no_end = λ h before x stand may ends e. no_end h before x stand may e;
+      item_whole = λ h before x stand begins. line_whole h before x stand.header begins;
+      item_one = λ h before x y stand p q e. line_one h before x y stand.header p q e;
+      end_whole = λ h items stand has.
+          let fit = ended_fit h items stand.header has in end_lacks _ _ fit.0 fit.1;
+      item_no_end = λ h before x stand begins has e. no_end h before x stand.header begins has e;
     }

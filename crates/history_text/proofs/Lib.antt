@@ -1,12 +1,12 @@
 pub mod Amounts
 pub mod BaseFits
 pub mod BaseFollowed
-pub mod BaseItems
 pub mod BaseLineLemmas
 pub mod BaseOpening
 pub mod BasePlaces
 pub mod BaseReadings
 pub mod BaseRetold
+pub mod BaseLinesRead
 pub mod BaseTextRead
 pub mod BaseTheory
 pub mod BaseTold
@@ -29,5 +29,4 @@ pub mod TextRead
 pub mod TextWritten
 pub mod NextLines
 pub mod Pieces
-pub mod SameBase
 pub mod ShortEntries

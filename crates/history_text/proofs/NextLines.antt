@@ -1,26 +1,28 @@
 -- What the next line of a history text says, behind its base.
-use Rattle.std.proofs.Common.{◌≡◌, ◌≢◌, ℕ, ◌+◌, ◌<◌, Bool, true, false, eqb, List, ◌∷◌, ◌++◌, length, Ok, Err, None, sym, ap, subst, ◌∙◌, arith, inl}
+use Rattle.std.proofs.Common.{◌≡◌, ◌≢◌, ℕ, ◌+◌, ◌<◌, Bool, true, false, eqb, List, [], ◌∷◌, ◌++◌, length, Ok, Err, None, refl, sym, ap, subst, ◌∙◌, arith, inl, inr}
 use Rattle.std.specs.Prelude.{codes}
+use Rattle.std.proofs.lemmas.Bool.{eqb-false}
 use Rattle.history.specs.declared.entry.Entry.{Entry}
 use Rattle.history.specs.declared.header.Header.{Header}
 use Rattle.history.specs.Base.{Base}
 use Rattle.history.specs.Header.{IsInRange}
 use Rattle.history.specs.Spelling.{part_of}
-use Rattle.history.specs.Text.{HasNoBreak}
+use Rattle.history.specs.Text.{HasNoBreak, ended}
 use Rattle.line_text.specs.declared.fault.TextFault.{TextFault}
 use Rattle.line_text.specs.declared.fault.TextFault.TheVariants.{BadHeader, BadLine, CutShort}
 use Rattle.line_text.specs.HeaderLine.{LacksHeader}
 use Rattle.line_text.specs.Reading.{Begins, IsReading}
-use Rattle.line_text.specs.UnderWay.{AreRead}
+use Rattle.line_text.proofs.Growing.{at_end}
 use Rattle.line_text.proofs.OneReading.{lacks, no_line, same_lines}
-use Rattle.line_text.proofs.UnderWay.{IsEnd, all_read, more_behind}
 use Rattle.history_text.specs.declared.place.Head.{Head}
 use Rattle.history_text.specs.declared.place.Place.{Place}
 use Rattle.history_text.specs.EntryLines.{HasLine, counts_line, entry_line}
-use Rattle.history_text.specs.HistoryLines.{Based, Entered, IsWhole, Line, MayStand, Reached, base_of, line_text, name_of, reached}
-use Rattle.history_text.specs.HistoryText.{end_of, history_form, lines_so_far}
-use Rattle.history_text.specs.NextLine.{IsEntryBehind, IsPlacedAt}
-use Rattle.history_text.proofs.HistoryLawful.{spelt_next}
+use Rattle.history_text.specs.HistoryLines.{name_of}
+use Rattle.history_text.specs.HistoryText.{history_form}
+use Rattle.history_text.specs.NextLine.{AreEntriesRead, IsEntryBehind}
+use Rattle.history_text.specs.TextLines.{Based, Entered, Line, SomeBeginsSo, end_of, line_text, lines_on}
+use Rattle.history_text.proofs.HistoryItems.{ends_on, entries_again, entries_of, entries_on, length-on, next_based, next_entry, none_behind}
+use Rattle.history_text.proofs.HistoryLawful.{good_line, numbered_so}
 
 -- ---- the first line
 
@@ -48,6 +50,10 @@ both_lack text f (BadLine n) p q = absurd q
 
 -- ---- the lines behind a base
 
+empty : (xs : List ℕ) → length xs ≡ 0 → xs ≡ []
+empty [] p = cc
+empty (x ∷ xs) p = absurd (omega arith)
+
 module _ (k : Header) (p : Place) (rest : List ℕ) where
   abbrev lines : ℕ
   lines = p.lines + p.count
@@ -55,70 +61,74 @@ module _ (k : Header) (p : Place) (rest : List ℕ) where
   abbrev number : ℕ
   number = p.folded + p.count
 
-  numbers : (h : Head) (s : Reached) → IsPlacedAt h s p rest → s.told.entries + s.count ≡ number
-  numbers h s placed = omega (arith, placed.folded, placed.count)
+  module _ (text : List ℕ) (h : Head) (b : Base) (es : List Entry) (read : AreEntriesRead text h b es p rest)
+    where
+      ends : counts_line number p.calls ≡ end_of (lines_on b es)
+      ends = ends_on b es number p.calls (omega (arith, read.place.folded, read.place.count)) read.place.calls
 
-  is_end : (h : Head) (b : Base) (s : Reached) (line : List ℕ) → IsPlacedAt h s p rest →
-      line ≡ counts_line number p.calls → IsEnd history_form (lines_so_far h b s lines) rest line
-  is_end h b s line placed is text items read = (
-    subst (IsWhole h) (sym read.known.reached) placed.whole,
-    is ∙ ap (λ (n : ℕ). counts_line n p.calls) (sym (numbers h s placed))
-        ∙ ap (counts_line (s.told.entries + s.count)) (sym placed.calls)
-        ∙ ap end_of (sym read.known.reached),
-  )
+      many : length (lines_on b es) ≡ lines
+      many = omega (arith, length-on b es, read.place.lines, read.place.count)
 
   pub last_line : (line after : List ℕ) → rest ≡ line ++ 10 ∷ after → line ≡ counts_line number p.calls →
       length after ≡ 0 → IsEntryBehind k p rest (Ok None)
-  last_line line after parts is none = λ h b s header placed text.
-      all_read history_form text (lines_so_far h b s lines) rest line after parts
-      (is_end h b s line placed is) none
+  last_line line after parts is none =
+      parts ∙ ap (λ (t : List ℕ). line ++ 10 ∷ t) (empty after none)
+      ∙ ap (λ (t : List ℕ). ended t) is
 
   pub behind_last : (line after : List ℕ) → rest ≡ line ++ 10 ∷ after → line ≡ counts_line number p.calls →
       eqb (length after) 0 ≡ false → IsEntryBehind k p rest (Err (BadLine (lines + 3)))
-  behind_last line after parts is some = λ h b s header placed text.
-      more_behind history_form text (lines_so_far h b s lines) rest line after parts
-      (is_end h b s line placed is) some
+  behind_last line after parts is some = λ text h b es same read.
+      inr (
+        h,
+        lines_on b es,
+        after,
+        at_end history_form text h (lines_on b es) rest line after read.begins parts
+            (is ∙ ends text h b es read),
+        (b, es, read.history, refl),
+        (λ e. eqb-false _ _ some (ap length e)),
+        omega (arith, many text h b es read),
+      )
 
   -- no entry has this line
   abbrev pub IsNoEntry : List ℕ → Type 0
   IsNoEntry line = (e : Entry) → p.count < k.cap → HasLine k e → line ≢ entry_line number e
 
-  no_item : (h : Head) (b : Base) (s : Reached) (text : List ℕ) (items : List Line) (line after : List ℕ) →
-      h.header ≡ k → IsPlacedAt h s p rest → AreRead history_form text (lines_so_far h b s lines) items rest →
-      rest ≡ line ++ 10 ∷ after → HasNoBreak line → IsNoEntry line
-      → (x : Line) → MayStand h (reached items) (base_of h.header items) x → line ≢ line_text x
-  no_item h b s text items line after header placed read parts whole none (Based y) may =
-      placed.behind may.0
-      (sym placed.count ∙ ap (λ (z : Reached). z.count) (sym read.known.reached) ∙ may.1) line after y parts
-      whole
-      (spelt_next h items y (record { header = read.begins.header; each = read.begins.each }) may)
-  no_item h b s text items line after header placed read parts whole none (Entered n e) may = λ same.
-      let at : n ≡ number = may.1
-      ∙ ap (λ (z : Reached). z.told.entries + z.count) read.known.reached ∙ numbers h s placed in
+  no_item : (text : List ℕ) (h : Head) (b : Base) (es : List Entry) (line after : List ℕ) → h.header ≡ k →
+      AreEntriesRead text h b es p rest → rest ≡ line ++ 10 ∷ after → HasNoBreak line → IsNoEntry line
+      → (x : Line) → SomeBeginsSo h (lines_on b es ++ x ∷ []) → line ≢ line_text x
+  no_item text h b es line after header read parts whole none (Based y) begins =
+      let next = next_based h (lines_on b es) y begins in
+      read.behind next.based (none_behind b es next.xs next.lines) line after y parts whole
+      (good_line h.header next.xs y read.begins.header next.good)
+  no_item text h b es line after header read parts whole none (Entered m e) begins = λ same.
+      let next = next_entry h (lines_on b es) m e begins in
+      let entries : es ≡ next.entries =
+      sym (entries_again b es) ∙ ap entries_of next.lines ∙ entries_again next.base next.entries in
+      let at : m ≡ number =
+      numbered_so h (lines_on b es) m e begins
+      ∙ omega (arith, entries_on b es, read.place.folded, read.place.count) in
       none e (omega (
         arith,
-        may.2,
-        ap (λ (z : Reached). z.count) read.known.reached,
-        placed.count,
+        next.room,
+        ap length entries,
+        read.place.count,
         ap (λ (z : Header). z.cap) header,
-      )) (subst (λ (z : Header). HasLine z e) header may.3) (same ∙ ap (λ (z : ℕ). entry_line z e) at)
+      )) (subst (λ (z : Header). HasLine z e) header next.line) (same ∙ ap (λ (z : ℕ). entry_line z e) at)
 
   pub bad_line : (line after : List ℕ) → rest ≡ line ++ 10 ∷ after → HasNoBreak line →
       line ≢ counts_line number p.calls → IsNoEntry line →
       IsEntryBehind k p rest (Err (BadLine (lines + 2)))
-  bad_line line after parts whole no_end none = λ h b s header placed text items read.
+  bad_line line after parts whole no_end none = λ text h b es header read.
       inl (
         h,
-        items,
+        lines_on b es,
         line,
         after,
-        subst (Begins history_form text h items) parts read.begins,
+        subst (Begins history_form text h (lines_on b es)) parts read.begins,
         record {
           whole = whole;
-          no_item = no_item h b s text items line after header placed read parts whole none;
-          no_end = λ ends same. no_end (same ∙ ap end_of read.known.reached
-              ∙ ap (λ (n : ℕ). counts_line n (s.told.calls + s.calls)) (numbers h s placed)
-              ∙ ap (counts_line number) placed.calls);
+          no_item = no_item text h b es line after header read parts whole none;
+          no_end = λ has same. no_end (same ∙ sym (ends text h b es read));
         },
-        omega (arith, read.count),
+        omega (arith, many text h b es read),
       )

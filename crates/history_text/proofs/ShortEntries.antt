@@ -1,5 +1,5 @@
 -- The lines of a history text are short.
-use Rattle.std.proofs.Common.{◌≡◌, ℕ, ◌+◌, ◌<◌, ◌≤◌, ◌^◌, Bool, true, false, List, [], ◌∷◌, length, refl, ap, arith, decimal}
+use Rattle.std.proofs.Common.{◌≡◌, ℕ, ◌<◌, ◌≤◌, ◌^◌, Bool, true, false, List, [], ◌∷◌, ◌++◌, length, refl, ap, arith, decimal}
 use Rattle.std.specs.Prelude.{codes}
 use Rattle.history.specs.declared.entry.End.{End}
 use Rattle.history.specs.declared.entry.End.TheVariants as end
@@ -18,19 +18,18 @@ use Rattle.history.specs.Fault.{fault_name}
 use Rattle.history.specs.Header.{IsInRange}
 use Rattle.history.specs.Text.{ended}
 use Rattle.history.specs.Spelling.{part_of}
-use Rattle.line_text.proofs.Lawful.{Stand}
 use Rattle.line_text.specs.Short.{HasShortLines}
 use Rattle.line_text.proofs.Lengths.{AreShort, decimal_short, header_short, line_length}
 use Rattle.std.proofs.lemmas.List.{length-append}
 use Rattle.history_text.specs.declared.place.Head.{Head}
 use Rattle.history_text.specs.BaseLines.{waiting_by}
 use Rattle.history_text.specs.EntryLines.{HasLine, counts_line, entry_line}
-use Rattle.history_text.specs.HistoryLines.{Based, Entered, Line, MayStand, base_of, head_line, line_text, name_of, reached}
+use Rattle.history_text.specs.HistoryLines.{head_line, name_of}
+use Rattle.history_text.specs.TextLines.{Based, Entered, Line, SomeBeginsSo, calls_told, entries_told, line_text, sum_of}
 use Rattle.history_text.specs.HistoryText.{history_form}
 use Rattle.history_text.proofs.BaseLineLemmas.{base_short}
 use Rattle.history_text.proofs.EntryLemmas.{counts_line-words, entry_line-words}
-use Rattle.history_text.proofs.HistoryItems.{small}
-use Rattle.history_text.proofs.HistoryLawful.{spelt_next}
+use Rattle.history_text.proofs.HistoryLawful.{ended_fit, number_fits, spelt_next}
 
 mode_short : (m : Mode) → length (mode_word m) ≤ 20
 mode_short X = omega arith
@@ -102,7 +101,7 @@ words_short word.Counted m n at e lt le =
 words_short word.Drained m n at e lt le =
     ((omega arith, (mode_short m, (decimal_short n (omega (arith, lt)), tt))), omega arith)
 
-entry_short : (h : Header) (k : ℕ) (e : Entry) → k < 2 ^ 64 → IsInRange h → HasLine h e →
+pub entry_short : (h : Header) (k : ℕ) (e : Entry) → k < 2 ^ 64 → IsInRange h → HasLine h e →
     length (entry_line k e) < 256
 entry_short h k e lt range fits =
     let words = words_short e.word e.mode e.n e.at e.end fits.written.amount fits.written.condition in
@@ -144,30 +143,22 @@ waiting_short p true written = words_short Back X p.holds p.condition p.how writ
 waiting_short p false written =
     words_short Queued p.who.mode p.who.n 0 end.None written.amount written.condition
 
-line_short : (h : Head) (before : List Line) (x : Line) → Stand history_form h before →
-    MayStand h (reached before) (base_of h.header before) x → length (line_text x) < 256
-line_short h before (Based x) stand may =
-    base_short x (spelt_next h before x stand may) (λ p fits. waiting_short p p.who.back fits.1)
-line_short h before (Entered number e) stand may =
-    let s = small h before stand.each in
-    entry_short h.header number e (omega (arith, may.1, s.entries, s.count, stand.header.cap)) stand.header
-    may.3
+line_short : (h : Head) (before : List Line) (x : Line) → IsInRange h.header →
+    SomeBeginsSo h (before ++ x ∷ []) → length (line_text x) < 256
+line_short h before (Based x) range begins =
+    base_short x (spelt_next h before x range begins) (λ p fits. waiting_short p p.who.back fits.1)
+line_short h before (Entered m e) range begins =
+    let fits = number_fits h before m e range begins in entry_short h.header m e fits.0 range fits.1
 
 pub short : HasShortLines history_form 256
 short =
     record {
       header = head_short;
-      item = λ h before x header each fits.
-          line_short h before x (record { header = header; each = each }) fits;
-      end = λ h lines header each ends.
-          let s = small h lines each in
-          omega (
-            arith,
-            counts_short ((reached lines).told.entries + (reached lines).count)
-                ((reached lines).told.calls + (reached lines).calls)
-                (omega (arith, s.entries, s.count, header.cap))
-                (omega (arith, s.entries, s.told_calls, s.count, s.calls, header.cap)),
-          );
+      item = λ h before x header each begins. line_short h before x header begins;
+      end = λ h lines header each has.
+          let fit = ended_fit h lines header has in
+          let few = counts_short (sum_of entries_told lines) (sum_of calls_told lines) fit.0 fit.1 in
+          omega (arith, few);
     }
 
 -- the end line and its break

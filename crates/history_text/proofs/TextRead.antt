@@ -1,5 +1,5 @@
 -- A text is read whole: its first line, the lines of its base, and its entries.
-use Rattle.std.proofs.Common.{◌≡◌, ℕ, ◌-◌, List, [], ◌++◌, length, drop, take, Result, Ok, Err, subst, sym, ◌∙◌}
+use Rattle.std.proofs.Common.{◌≡◌, ℕ, ◌-◌, false, ltb, ap, None, List, [], ◌++◌, length, drop, take, Result, Ok, Err, subst, sym, ◌∙◌}
 use Rattle.std.proofs.lemmas.Bool.{false≢true}
 use Rattle.std.proofs.lemmas.List.{append_cancel_left}
 use Rattle.std.specs.Prelude.{Option}
@@ -15,7 +15,8 @@ use Rattle.line_text.specs.Reading.{Begins}
 use Rattle.line_text.proofs.UnderWay.{left_over}
 use Rattle.history_text.specs.declared.place.Head.{Head}
 use Rattle.history_text.specs.declared.place.Place.{Place}
-use Rattle.history_text.specs.HistoryLines.{head_line, lines_on}
+use Rattle.history_text.specs.HistoryLines.{head_line}
+use Rattle.history_text.specs.TextLines.{lines_on}
 use Rattle.history_text.specs.HistoryText.{Reads, history_form}
 use Rattle.history_text.specs.NextLine.{AreAllRead, AreEntriesRead, IsBaseAhead}
 
@@ -46,3 +47,10 @@ module _ (text ahead : List ℕ) (h : Head) (begun : Begins history_form text h 
     pub entries_failed : (fault : ReadFault) → AreAllRead h base last p (Err fault) → Reads text (Err fault)
     entries_failed (Text f) is = is text behind_base
     entries_failed OutOfMemory is = tt
+
+-- what stands on no entry has no base
+pub unfolded : (text rest : List ℕ) (h : Head) (base : Option Base) (p : Place) →
+    AreEntriesRead text h (or_opening h.header base) [] p rest → (h.is_based ≡ false → base ≡ None) →
+    (or_opening h.header base).entries ≡ 0 → base ≡ None
+unfolded text rest h base p read none zero =
+    none (sym (ap (λ (g : Head). g.is_based) read.history.head) ∙ ap (λ (n : ℕ). ltb 0 n) zero)

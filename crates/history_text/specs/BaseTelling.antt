@@ -1,8 +1,7 @@
--- Lines that tell a base from its first line on, and a good base of an object.
-use Rattle.std.specs.Prelude.{◌≡◌, ◌≤◌, List}
+-- Lines that tell a base from its first line on.
+use Rattle.std.specs.Prelude.{List}
 use Rattle.history.specs.declared.header.Header.{Header}
 use Rattle.history.specs.Base.{Base, opening_base}
-use Rattle.history.specs.GoodBase.{IsGood}
 use Rattle.history_text.specs.declared.base_line.BaseLine.{BaseLine}
 use Rattle.history_text.specs.BaseFollowing.{AllRead, after_told, with_lines}
 use Rattle.history_text.specs.BaseRules.{Told, untold}
@@ -17,9 +16,3 @@ base_by k xs = with_lines (opening_base k) xs
 -- each line may follow those before it
 abbrev pub Follow : Header → List BaseLine → Type 0
 Follow k xs = AllRead (opening_base k) untold xs
-
--- a good base of an object, with entries that were folded
-pub record IsToldBase (k : Header) (b : Base) : Type 0 where
-  pub header : b.header ≡ k
-  pub some : 1 ≤ b.entries
-  pub good : IsGood b

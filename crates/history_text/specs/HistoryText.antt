@@ -1,5 +1,5 @@
--- History texts: their form, what is written, and what reading one answers.
-use Rattle.std.specs.Prelude.{◌≡◌, ℕ, ◌+◌, ◌≤◌, List, length, reverse, All, Result, Ok, Err}
+-- History texts: their form, and what reading one answers.
+use Rattle.std.specs.Prelude.{◌≡◌, ℕ, ◌≤◌, List, [], ◌∷◌, ◌++◌, length, reverse, All, None, Result, Ok, Err}
 use Rattle.history.specs.declared.entry.Entry.{Entry}
 use Rattle.history.specs.declared.header.Header.{Header}
 use Rattle.history.specs.Base.{Base}
@@ -8,34 +8,27 @@ use Rattle.history.specs.GoodBase.{IsBaseOf}
 use Rattle.history.specs.Header.{IsInRange}
 use Rattle.history.specs.Pages.{whole_pages}
 use Rattle.line_text.specs.declared.fault.ReadFault.{ReadFault}
-use Rattle.line_text.specs.Form.{Form, text_of}
+use Rattle.line_text.specs.Form.{Form}
 use Rattle.line_text.specs.Reading.{IsReading, IsText, Reading}
 use Rattle.line_text.specs.Reading as reading
-use Rattle.line_text.specs.UnderWay.{SoFar}
 use Rattle.history_text.specs.declared.place.Head.{Head}
-use Rattle.history_text.specs.EntryLines.{HasLine, counts_line}
-use Rattle.history_text.specs.HistoryLines.{IsWhole, Line, MayStand, Reached, base_of, head_line, head_of, line_text, lines_on, reached}
+use Rattle.history_text.specs.EntryLines.{HasLine}
+use Rattle.history_text.specs.HistoryLines.{head_line, head_of}
+use Rattle.history_text.specs.TextLines.{Line, SomeBeginsSo, SomeHas, end_of, line_text, lines_on}
 
--- the end line: how many entries there are, those folded among them, and how many of them end a call
-abbrev pub end_of : Reached → List ℕ
-end_of s = counts_line (s.told.entries + s.count) (s.told.calls + s.calls)
-
--- a header of any object, the lines of a base if there is one, entries of its seats with their numbers, fewer
--- than its cap, and two counts
+-- A header of any object, the lines of a base if there is one, entries of its seats with their numbers, no
+-- more than its cap, and two counts. A line may stand where some history, on a good base, begins with it and
+-- the lines before it.
 abbrev pub history_form : Form Head Line
 history_form =
     record {
       IsHeader = λ h. IsInRange h.header;
       header_line = head_line;
-      IsItem = λ h before x. MayStand h (reached before) (base_of h.header before) x;
+      IsItem = λ h before x. SomeBeginsSo h (before ++ x ∷ []);
       item_line = line_text;
-      MayEnd = λ h lines. IsWhole h (reached lines);
-      end_line = λ lines. end_of (reached lines);
+      MayEnd = SomeHas;
+      end_line = end_of;
     }
-
--- what is written of a history on a base, whose entries stand newest first
-abbrev pub history_text : Base → List Entry → List ℕ
-history_text b entries = text_of history_form (head_of b) (lines_on b (reverse entries))
 
 -- the text of a history on this base, with these entries, the oldest first
 pub record IsHistoryText (text : List ℕ) (b : Base) (entries : List Entry) : Type 0 where
@@ -58,23 +51,15 @@ pub record Fits (h : Header) (kept : HistoryView) : Type 0 where
   pub base : HasBaseText h (base_on h kept)
   pub each : All (HasLine h) (reverse kept.entries)
 
--- what was read: a list of the header's cap, on the base that the text tells, with no room owed and no more
--- pages than its entries take
+-- what was read: a list of the header's cap, on the base that the text tells, if it tells one, with no room
+-- owed and no more pages than its entries take
 pub record IsRead (text : List ℕ) (h : Header) (kept : HistoryView) : Type 0 where
   pub reading : IsHistoryText text (base_on h kept) (reverse kept.entries)
   pub header : (base_on h kept).header ≡ h
+  pub none : (base_on h kept).entries ≡ 0 → kept.base ≡ None
   pub cap : kept.cap ≡ h.cap
   pub owed : kept.owed ≡ 0
   pub places : kept.places ≡ whole_pages (length kept.entries)
-
--- A reader of entries knows of the lines that it read how many there are, what the base is, how many entries
--- follow it, and how many of these end a call.
-pub record AreKnown (h : Head) (b : Base) (s : Reached) (lines : List Line) : Type 0 where
-  pub base : base_of h.header lines ≡ b
-  pub reached : reached lines ≡ s
-
-abbrev pub lines_so_far : Head → Base → Reached → ℕ → SoFar Head Line
-lines_so_far h b s lines = record { header = h; count = lines; known = AreKnown h b s }
 
 -- what a call answers: the reading of the text, or want of memory
 abbrev pub Reads : List ℕ → Result (Header × HistoryView) ReadFault → Type 0

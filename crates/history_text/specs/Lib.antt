@@ -4,6 +4,7 @@ pub mod BaseReading
 pub mod BaseRules
 pub mod BaseTelling
 pub mod BaseText
+pub mod BaseUnderWay
 pub mod CommonEntry
 pub mod EntryLines
 pub mod EntryReading
@@ -11,3 +12,5 @@ pub mod HistoryLines
 pub mod HistoryText
 pub mod NextLine
 pub mod Pieces
+pub mod TextLines
+pub mod ToldBases

@@ -1,24 +1,69 @@
 -- What the next line of a history text says.
-use Rattle.std.specs.Prelude.{◌≡◌, ◌≢◌, ℕ, ◌+◌, ◌≤◌, ◌<◌, ◌^◌, true, if◌then◌else◌, List, [], ◌∷◌, ◌++◌, length, Option, Some, None, Result, Ok, Err}
+use Rattle.std.specs.Prelude.{◌≡◌, ◌≢◌, ℕ, ◌+◌, ◌≤◌, ◌<◌, ◌^◌, true, if◌then◌else◌, List, [], ◌∷◌, ◌++◌, length, map, Option, Some, None, Result, Ok, Err}
 use Rattle.history.specs.declared.entry.Entry.{Entry}
 use Rattle.history.specs.declared.header.Header.{Header}
 use Rattle.history.specs.Base.{Base}
 use Rattle.history.specs.Entries.{HistoryView, or_opening}
 use Rattle.history.specs.Entry.{ends_call}
-use Rattle.history.specs.GoodBase.{IsBaseOf, most_folded}
+use Rattle.history.specs.GoodBase.{most_folded}
 use Rattle.history.specs.Text.{HasNoBreak, ended}
 use Rattle.line_text.specs.declared.fault.ReadFault.{ReadFault}
 use Rattle.line_text.specs.declared.fault.TextFault.{TextFault}
 use Rattle.line_text.specs.Reading.{Begins, IsReading}
 use Rattle.line_text.specs.Reading as reading
-use Rattle.line_text.specs.UnderWay.{IsLineBehind}
 use Rattle.history_text.specs.declared.base_line.BaseLine.{BaseLine}
 use Rattle.history_text.specs.declared.place.Head.{Head}
 use Rattle.history_text.specs.declared.place.Place.{Place}
 use Rattle.history_text.specs.BaseLines.{IsBaseLine, base_line}
-use Rattle.history_text.specs.BaseRules.{AllSeated, MayFollow, Told}
-use Rattle.history_text.specs.HistoryLines.{Entered, IsWhole, Line, Reached, base_of, head_of, lines_on, lines_told, reached}
-use Rattle.history_text.specs.HistoryText.{IsRead, history_form, lines_so_far}
+use Rattle.history_text.specs.EntryLines.{HasLine, counts_line, entry_line}
+use Rattle.history_text.specs.HistoryLines.{lines_told}
+use Rattle.history_text.specs.ToldBases.{GoodBeginsSo, GoodHas}
+use Rattle.history_text.specs.TextLines.{Based, IsHistoryOf, calls_told, lines_on, sum_of}
+use Rattle.history_text.specs.HistoryText.{IsRead, history_form}
+
+-- a line begins the bytes, and so many follow it
+abbrev pub LineAhead : List ℕ → List ℕ → ℕ → Type 0
+LineAhead rest line left = (after : List ℕ) × (rest ≡ ended line ++ after) × (length after ≡ left)
+
+-- the first line of these bytes is whole, and no longer than a good one
+pub record HasShortLine (rest : List ℕ) : Type 0 where
+  pub line : List ℕ
+  pub after : List ℕ
+  pub parts : rest ≡ line ++ 10 ∷ after
+  pub whole : HasNoBreak line
+  pub few : length line < 256
+
+-- the first line of these bytes is no line of a base
+abbrev pub LacksBaseLine : List ℕ → Type 0
+LacksBaseLine rest =
+    (line : List ℕ) (after : List ℕ) (x : BaseLine) → rest ≡ line ++ 10 ∷ after → HasNoBreak line →
+    IsBaseLine x → line ≢ base_line x
+
+-- ---- the lines of a base
+
+-- A base of an object that is read: the lines that were read of it.
+pub record LinesRead : Type 0 where
+  pub header : Header
+  pub lines : List BaseLine
+
+-- What the next line says of a base of which these lines were read: a good base begins with them and it; or
+-- it is no line of a base, and they are those of a good one; or it is bad, whatever stands before.
+abbrev pub IsBaseLineNext : LinesRead → List ℕ → Result (Option (BaseLine × ℕ)) TextFault → Type 0
+IsBaseLineNext read rest (Ok (Some found)) =
+    GoodBeginsSo read.header (read.lines ++ found.0 ∷ []) × LineAhead rest (base_line found.0) found.1
+IsBaseLineNext read rest (Ok None) = GoodHas read.header read.lines × LacksBaseLine rest
+IsBaseLineNext read rest (Err fault) =
+    (text : List ℕ) (h : Head) → h.is_based ≡ true → h.header ≡ read.header →
+    Begins history_form text h (map Based read.lines) rest → IsReading history_form text (Err fault)
+
+-- the same where the line is taken up
+abbrev pub IsBaseLineTaken : LinesRead → List ℕ → Result (Option ℕ) TextFault → LinesRead → Type 0
+IsBaseLineTaken old rest (Ok (Some left)) new =
+    (x : BaseLine) × (new.lines ≡ old.lines ++ x ∷ []) × IsBaseLineNext old rest (Ok (Some (x, left)))
+IsBaseLineTaken old rest (Ok None) new = (new ≡ old) × IsBaseLineNext old rest (Ok None)
+IsBaseLineTaken old rest (Err fault) new = (new ≡ old) × IsBaseLineNext old rest (Err fault)
+
+-- ---- entries behind a base
 
 abbrev pub behind : Place → Entry → Place
 behind p e =
@@ -29,45 +74,30 @@ behind p e =
       calls = p.calls + (if ends_call e.word then 1 else 0);
     }
 
--- the first line of these bytes is no line of a base
-abbrev pub LacksBaseLine : List ℕ → Type 0
-LacksBaseLine rest =
-    (line : List ℕ) (after : List ℕ) (x : BaseLine) → rest ≡ line ++ 10 ∷ after → HasNoBreak line →
-    IsBaseLine x → line ≢ base_line x
-
--- A reader stands behind the lines of a base, if there is one, and entries, where these say so.
-pub record IsPlacedAt (h : Head) (s : Reached) (p : Place) (rest : List ℕ) : Type 0 where
-  pub whole : IsWhole h s
-  pub folded : s.told.entries ≡ p.folded
-  pub count : s.count ≡ p.count
-  pub calls : s.told.calls + s.calls ≡ p.calls
-  pub behind : h.is_based ≡ true → p.count ≡ 0 → LacksBaseLine rest
-
--- the line of an entry of this number, if one was found
-abbrev pub entry_found : ℕ → Result (Option (Entry × ℕ)) TextFault → Result (Option (Line × ℕ)) TextFault
-entry_found number (Ok (Some found)) = Ok (Some (Entered number found.0, found.1))
-entry_found number (Ok None) = Ok None
-entry_found number (Err fault) = Err fault
-
--- what the next line says, whatever base and lines a reader has behind it that stands there
-abbrev pub IsEntryBehind : Header → Place → List ℕ → Result (Option (Entry × ℕ)) TextFault → Type 0
-IsEntryBehind k p rest result =
-    (h : Head) (b : Base) (s : Reached) → h.header ≡ k → IsPlacedAt h s p rest →
-    IsLineBehind history_form (lines_so_far h b s (p.lines + p.count)) rest
-    (entry_found (p.folded + p.count) result)
+-- The numbers of a place are those of a base and entries behind it.
+pub record IsPlaceOf (b : Base) (es : List Entry) (p : Place) : Type 0 where
+  pub lines : p.lines ≡ length (lines_told b)
+  pub folded : p.folded ≡ b.entries
+  pub count : p.count ≡ length es
+  pub calls : p.calls ≡ sum_of calls_told (lines_on b es)
 
 -- A base and entries behind it, the oldest first, were read of a text, and this follows them.
 pub record AreEntriesRead (text : List ℕ) (h : Head) (b : Base) (es : List Entry) (p : Place)
     (rest : List ℕ) : Type 0 where
-  pub base : IsBaseOf h.header b
-  pub head : head_of b ≡ h
+  pub history : IsHistoryOf h b es
   pub begins : Begins history_form text h (lines_on b es) rest
-  pub placed : IsPlacedAt h (reached (lines_on b es)) p rest
-  pub lines : p.lines ≡ length (lines_told b)
-  pub entries : p.folded ≡ b.entries
-  pub few : p.folded ≤ most_folded
-  pub count : p.count ≡ length es
-  pub calls : p.calls ≤ most_folded + length es
+  pub place : IsPlaceOf b es p
+  pub behind : h.is_based ≡ true → es ≡ [] → LacksBaseLine rest
+
+-- what the next line says at a place: an entry with its number, or that there are no more, or a fault,
+-- whatever base and entries stand before
+abbrev pub IsEntryBehind : Header → Place → List ℕ → Result (Option (Entry × ℕ)) TextFault → Type 0
+IsEntryBehind k p rest (Ok (Some found)) =
+    HasLine k found.0 × LineAhead rest (entry_line (p.folded + p.count) found.0) found.1
+IsEntryBehind k p rest (Ok None) = rest ≡ ended (counts_line (p.folded + p.count) p.calls)
+IsEntryBehind k p rest (Err fault) =
+    (text : List ℕ) (h : Head) (b : Base) (es : List Entry) → h.header ≡ k →
+    AreEntriesRead text h b es p rest → IsReading history_form text (Err fault)
 
 -- of a text that begins with this head and goes on so, behind the lines of the base so many bytes are left
 abbrev pub IsBaseAhead : Head → List ℕ → Result (Option Base × Place × ℕ) ReadFault → Type 0
@@ -75,18 +105,6 @@ IsBaseAhead h ahead result =
     (text : List ℕ) → Begins history_form text h [] ahead →
     reading.Reads history_form (λ r. (rest : List ℕ) × (length rest ≡ r.2)
     × AreEntriesRead text h (or_opening h.header r.0) [] r.1 rest) text result
-
--- what a line says of a base of which so much was told
-abbrev pub IsBaseLineBehind : Base → Told → ℕ → List ℕ → Result (Option (BaseLine × ℕ)) TextFault → Type 0
-IsBaseLineBehind b t lines rest (Ok (Some found)) =
-    MayFollow t b found.0
-    × ((after : List ℕ) × (rest ≡ ended (base_line found.0) ++ after) × (length after ≡ found.1))
-IsBaseLineBehind b t lines rest (Ok None) = AllSeated b.header t × LacksBaseLine rest
-IsBaseLineBehind b t lines rest (Err fault) =
-    (text : List ℕ) (h : Head) (items : List Line) → h.is_based ≡ true → h.header ≡ b.header →
-    Begins history_form text h items rest → reached items ≡ (record { told = t; count = 0; calls = 0 }) →
-    base_of h.header items ≡ b → length items ≡ lines →
-    IsReading history_form text (Err fault)
 
 -- numbers that a reader has behind the lines of a base
 pub record IsEarly (p : Place) : Type 0 where

@@ -10,7 +10,7 @@ ghost use Rattle.history.specs.Header.{IsInRange};
 ghost use Rattle.history.specs.Spelling.{part_of};
 ghost use Rattle.history.specs.Text.{ended};
 ghost use Rattle.history_text.specs.BaseText.{IsHeadPut};
-ghost use Rattle.history_text.specs.HistoryText.{history_text};
+ghost use Rattle.history_text.specs.Pieces.{history_text};
 
 use crate::base_writing::{calls_of, put_base};
 use crate::entry_line::{put_counts, put_entry};

@@ -8,10 +8,13 @@ ghost use Rattle.history.specs.Entries.{HistoryView, base_on, start_on};
 ghost use Rattle.history.specs.GoodBase.{IsBaseOf, IsGood};
 ghost use Rattle.history.specs.Header.{IsInRange};
 ghost use Rattle.history.specs.Legal.{AreSeated, IsLegal};
+ghost use Rattle.line_text.specs.Form.{text_of};
 ghost use Rattle.line_text.specs.Reading.{IsCutShort, Reading};
 ghost use Rattle.line_text.specs.Short.{HasShortLines};
-ghost use Rattle.history_text.specs.HistoryText.{history_form, history_text, Fits, IsHistoryReading, IsHistoryText};
-ghost use Rattle.history_text.specs.Pieces.{in_pieces};
+ghost use Rattle.history_text.specs.HistoryLines.{head_of};
+ghost use Rattle.history_text.specs.HistoryText.{history_form, Fits, IsHistoryReading, IsHistoryText, IsRead};
+ghost use Rattle.history_text.specs.Pieces.{history_text};
+ghost use Rattle.history_text.specs.TextLines.{lines_on};
 
 /// A text has one reading: it spells one base, with its header, and one list of entries, or it has one first
 /// fault.
@@ -46,9 +49,15 @@ pub fn lines_are_short()
     ensures { HasShortLines history_form 256 }
 {}
 
-/// A history text of an object in range, on a good base, is its first line, the lines of the base, those of
-/// the entries, numbered behind the entries that were folded, and a line that counts both.
+/// The one text of the lines of a history, on a good base of an object in range, is its first line, the
+/// lines of the base, those of the entries, numbered behind the entries that were folded, and a line that
+/// counts both.
 pub fn texts_are_in_pieces()
     ensures { (b : Base) (entries : List Entry) → IsInRange b.header → IsGood b →
-        history_text b entries ≡ in_pieces b entries }
+        text_of history_form (head_of b) (lines_on b (reverse entries)) ≡ history_text b entries }
+{}
+
+/// What is read of a text fits its header: so it has a text again.
+pub fn what_is_read_fits()
+    ensures { (text : List ℕ) (h : Header) (kept : HistoryView) → IsRead text h kept → Fits h kept }
 {}

@@ -4,19 +4,20 @@
 //! Each text is a history text, with one base and one list of entries, or it has one first fault:
 //! [`one_reading`]. What begins a history text and isn't all of it is cut short: [`cut_short`]. A history
 //! that fits its header is read as it was written: [`written_is_read`]. Each legal history on a good base
-//! fits: [`legal_histories_fit`]. A text needn't be of a legal history to be read.
+//! fits: [`legal_histories_fit`]. A text needn't be of a legal history to be read, and what is read fits:
+//! [`what_is_read_fits`].
 //!
-//! A line of a base is read where some good base begins with the lines so far: [`some_good_base_begins_so`].
-//! All of them tell a good base, and each good base is told so: [`lines_tell_a_good_base`],
-//! [`a_good_base_is_told`].
+//! A line is good exactly if some history begins with it and the lines before it: a history on the opening
+//! base or on a good one (`specs/HistoryText.antt`). So a line of a base is read where some good base begins
+//! so, and bad where none does.
 #![tactic(auto)]
 
 mod base_fitting;
-mod base_law;
 pub mod base_line;
 mod base_reading;
-pub mod base_so_far;
+mod base_so_far;
 pub mod base_text;
+pub mod base_under_way;
 mod base_writing;
 mod common_entry;
 mod end_line;
@@ -30,14 +31,11 @@ pub mod place;
 mod reading;
 mod waiting_rules;
 
-pub use crate::base_law::{
-    a_good_base_is_told, lines_judge_a_base, lines_tell_a_good_base, some_good_base_begins_so,
-};
 pub use crate::fitting::fits;
 pub use crate::history_text::write_text;
 pub use crate::law::{
     cut_short, legal_histories_fit, lines_are_short, one_reading, texts_are_in_pieces,
-    written_is_read,
+    what_is_read_fits, written_is_read,
 };
 pub use crate::reading::read_text;
 pub use line_text::fault::{ReadFault, TextFault};

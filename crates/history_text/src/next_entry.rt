@@ -1,14 +1,13 @@
 //! The lines of a history text behind its base, one after another.
 
-ghost use Rattle.std.specs.Prelude.{◌≡◌, ◌+◌, ◌<◌, ◌≤◌, ◌^◌, [], codes, Err, Ok, None, length, IfOk, IfSome, IfErr, IsErrOf};
+ghost use Rattle.std.specs.Prelude.{◌≡◌, ◌+◌, ◌<◌, ◌≤◌, ◌^◌, [], codes, Err, length, IfOk, IfSome, IfErr, IsErrOf};
 ghost use Rattle.history.specs.GoodBase.{most_folded};
 ghost use Rattle.history.specs.Header.{IsInRange};
-ghost use Rattle.history.specs.Text.{HasNoBreak, ended};
+ghost use Rattle.history.specs.Text.{HasNoBreak};
 ghost use Rattle.line_text.specs.Reading.{Begins, IsReading};
 ghost use Rattle.line_text.specs.declared.fault.TextFault.{TextFault};
 ghost use Rattle.line_text.specs.declared.fault.TextFault.TheVariants.{CutShort};
 ghost use Rattle.line_text.specs.HeaderLine.{LacksHeader};
-ghost use Rattle.history_text.specs.EntryLines.{counts_line};
 ghost use Rattle.history_text.specs.HistoryText.{history_form};
 ghost use Rattle.history_text.specs.NextLine.{IsEntryBehind};
 
@@ -80,8 +79,6 @@ fn entry_by_words(
     ensures shorter { IfOk result (λ next. IfSome next (λ r. r.1 < length rest.now)) }
     ensures seated { IfOk result (λ next. IfSome next (λ r. r.0.seat < header.now.seats)) }
     ensures within { IfOk result (λ next. IfSome next (λ _. place.count < header.now.cap)) }
-    ensures last { result ≡ Ok None →
-        rest.now ≡ ended (counts_line (place.folded + place.count) place.calls) }
 {
     let lines = place.lines + place.count;
     let number = place.folded + place.count;
@@ -121,8 +118,6 @@ pub fn next_entry(
     ensures shorter { IfOk result (λ next. IfSome next (λ r. r.1 < length rest.now)) }
     ensures seated { IfOk result (λ next. IfSome next (λ r. r.0.seat < header.now.seats)) }
     ensures within { IfOk result (λ next. IfSome next (λ _. place.count < header.now.cap)) }
-    ensures last { result ≡ Ok None →
-        rest.now ≡ ended (counts_line (place.folded + place.count) place.calls) }
 {
     if place.count < u64::from(header.cap) {
         let number = place.folded + place.count;

@@ -1,6 +1,7 @@
 //! The reading of a history text.
 
-ghost use Rattle.std.specs.Prelude.{◌≡◌, []};
+ghost use Rattle.std.specs.Prelude.{◌≡◌, [], None};
+ghost use Rattle.history.specs.Entries.{or_opening};
 ghost use Rattle.history.specs.Header.{IsInRange};
 ghost use Rattle.history_text.specs.HistoryText.{Reads};
 ghost use Rattle.history_text.specs.NextLine.{AreAllRead, IsEarly};
@@ -17,7 +18,8 @@ use std::alloc::Global;
 
 /// The header and the history that a text spells, or its first fault, or want of memory.
 ///
-/// No room is owed in what is read, which needn't be legal.
+/// No room is owed in what is read, which fits its header (`what_is_read_fits`) and needn't be legal. Behind
+/// format 1 it has no base.
 pub fn read_text(alloc: Global, text: &[u8]) -> Result<(Header, History), ReadFault>
     ensures { Reads text.now result }
 {
@@ -50,6 +52,7 @@ fn read_entries(
     requires range { IsInRange head.now.header }
     requires empty { (empty.entries ≡ []) × (empty.owed ≡ 0) × (empty.cap ≡ head.now.header.cap) }
     requires places { empty.places ≡ 0 }
+    requires none { (or_opening head.now.header empty.base).entries ≡ 0 → empty.base ≡ None }
     requires place { IsEarly place }
     ensures { AreAllRead head.now empty.base ahead.now place result }
 {

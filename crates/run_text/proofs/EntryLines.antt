@@ -7,16 +7,7 @@ use Rattle.history.specs.declared.entry.Entry.{Entry}
 use Rattle.history.specs.Text.{ended}
 use Rattle.history_text.specs.EntryLines.{entry_line}
 use Rattle.history_text.specs.Pieces.{entry_lines}
-
-lines_append : (k : ℕ) (xs ys : List Entry) →
-    entry_lines k (xs ++ ys) ≡ entry_lines k xs ++ entry_lines (k + length xs) ys
-lines_append k [] ys = ap (λ (n : ℕ). entry_lines n ys) (omega arith)
-lines_append k (x ∷ xs) ys =
-    let line = ended (entry_line k x) in
-    let here : (k + 1) + length xs ≡ k + length (x ∷ xs) = omega arith in
-    ap (λ (t : List ℕ). line ++ t) (lines_append (k + 1) xs ys
-    ∙ ap (λ (n : ℕ). entry_lines (k + 1) xs ++ entry_lines n ys) here)
-    ∙ sym (append_assoc line (entry_lines (k + 1) xs) (entry_lines (k + length (x ∷ xs)) ys))
+use Rattle.driver.proofs.EntryLines.{entry_lines-append}
 
 -- one more entry
 pub entry_more : (es : List Entry) (first place : ℕ) (e : Entry) → slice_get es place ≡ Some e →
@@ -29,7 +20,7 @@ entry_more es first place e at =
     omega (arith, length-take-le place es (omega (arith, within))) in
     ap (entry_lines first) (take_more es place e within
     ∙ ap (λ (x : Entry). take place es ++ x ∷ []) here)
-    ∙ lines_append first (take place es) (e ∷ [])
+    ∙ entry_lines-append first (take place es) (e ∷ [])
     ∙ ap (λ (n : ℕ). entry_lines first (take place es) ++ entry_lines n (e ∷ [])) counted
     ∙ ap (λ (t : List ℕ). entry_lines first (take place es) ++ t)
     (append-nil (ended (entry_line (first + place) e)))
@@ -38,4 +29,4 @@ entry_more es first place e at =
 pub lines_begin : (es : List Entry) (first n : ℕ) → entry_lines first es
     ≡ entry_lines first (take n es) ++ entry_lines (first + length (take n es)) (drop n es)
 lines_begin es first n =
-    ap (entry_lines first) (sym (take-append-drop n es)) ∙ lines_append first (take n es) (drop n es)
+    ap (entry_lines first) (sym (take-append-drop n es)) ∙ entry_lines-append first (take n es) (drop n es)

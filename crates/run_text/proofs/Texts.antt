@@ -18,7 +18,6 @@ use Rattle.history_text.specs.EntryLines.{counts_line}
 use Rattle.history_text.specs.HistoryLines.{head_line, head_of, lines_told}
 use Rattle.history_text.specs.Pieces.{entry_lines}
 use Rattle.history_text.proofs.Lists.{each-reverse}
-use Rattle.history_text.proofs.Pieces.{pieces}
 use Rattle.history_text.proofs.Spelt.{all_spelt_on}
 use Rattle.script.specs.Script.{Named}
 use Rattle.workers.specs.declared.report.ObjectReport.{ObjectReport}
@@ -40,15 +39,10 @@ pub part_is : (name : List ℕ) (part : ObjectReport) → IsJudged part →
     ≡ part_text name part
 part_is name part is =
     let b = base_of part in
-    let audit = audit_text b part.history.entries (verdict_of part.judgement) in
-    let shares = ended (shares_line part.share) in
-    let range = subst IsInRange (sym (header_from part.header part.history.base is.1)) is.0 in
     regrouped (ended (name_line name)) (ended (head_line (head_of b))) (lines_text (lines_told b))
     (entry_lines b.entries (reverse part.history.entries))
     (ended (counts_line (b.entries + length part.history.entries) (calls (based b) part.history.entries)))
-    audit shares
-    ∙ ap (λ (t : List ℕ). ended (name_line name) ++ t ++ audit ++ shares)
-    (sym (pieces b part.history.entries range (good_base part is)))
+    (audit_text b part.history.entries (verdict_of part.judgement)) (ended (shares_line part.share))
 
 -- each entry has a line
 pub lines_spelt : (part : ObjectReport) → IsJudged part → All IsSpelt (reverse part.history.entries)

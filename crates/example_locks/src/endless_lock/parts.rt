@@ -8,7 +8,7 @@ ghost use Rattle.history.specs.declared.header.Object.TheVariants.{Lock};
 ghost use Rattle.history.specs.declared.header.Policy.TheVariants.{Fair};
 ghost use Rattle.history.specs.Base.{opening_base};
 ghost use Rattle.history.specs.Point.{CanFold};
-ghost use Rattle.history_text.specs.HistoryText.{history_text};
+ghost use Rattle.history_text.specs.Pieces.{history_text};
 
 use crate::endless_lock::failure::Failure;
 use frame::machine::Core;

@@ -1,7 +1,7 @@
 use Rattle.std.proofs.Common.{◌≡◌, ◌≤◌, ◌-◌, false, drop, take}
 use Rattle.driver.specs.Answers.{all_of}
 use Rattle.driver.specs.LineWriter.{IsGathered}
-use Rattle.driver.specs.Remarks.{entry_lines}
+use Rattle.history_text.specs.Pieces.{entry_lines}
 use Rattle.driver.proofs.answers.put_entries.Given as goal
 
 abbrev pub invariant-loop-number : goal.invariant-loop-number

@@ -1,6 +1,7 @@
-use Rattle.std.proofs.Common.{◌≡◌, ◌≤◌, false, length}
+use Rattle.std.proofs.Common.{◌≡◌, ◌≤◌, ◌-◌, ℕ, List, Option, false, length, map}
+use Rattle.history_text.specs.TextLines.{Based}
 use Rattle.streams.specs.Window.{room}
-use Rattle.driver.proofs.BaseAhead.{BaseUnderWay, to_tell}
+use Rattle.driver.specs.BaseReader.{HeadRead, LinesBehind}
 use Rattle.driver.proofs.base_reader.read_base.Given as goal
 
 abbrev pub invariant-loop-base : goal.invariant-loop-base
@@ -8,9 +9,11 @@ invariant-loop-base g l = record {
   going : g.R.Source.failed l.reader ≡ false;
   places : l.window.places ≡ room;
   held : length l.window.bytes ≤ room;
-  under : BaseUnderWay l.head l.fn.window.bytes (g.R.Source.left l.fn.reader) l.window.bytes
-      (g.R.Source.left l.reader) l.base l.so_far l.lines;
+  header : l.base.header ≡ l.head.header;
+  few : length l.base.lines ≤ 513;
+  under : (text : Option (List ℕ)) → HeadRead text l.head l.fn.window.bytes (g.R.Source.left l.fn.reader) →
+      LinesBehind text l.head (map Based l.base.lines) l.window.bytes (g.R.Source.left l.reader);
 }
 
 abbrev pub decreases-loop-base : goal.decreases-loop-base
-decreases-loop-base g l = to_tell l.head.header l.so_far
+decreases-loop-base g l = 513 - length l.base.lines

@@ -15,5 +15,5 @@ returns-clause-ok g c =
       (λ e. false≢true (c.if-lacks_memory.ensures.1 e)),
       refl,
       kept,
-    )) (rw (c.remark_on.ensures, c.in_ok-before.ensures.ok, c.deref.ensures.value, c.history.ensures.entries)
+    )) (rw (c.remark_on.ensures, c.count_of-before.ensures, c.deref.ensures.value, c.history.ensures.entries)
     at c.keep.ensures.ok)

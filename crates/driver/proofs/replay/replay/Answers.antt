@@ -1,4 +1,4 @@
-use Rattle.std.proofs.Common.{◌∷◌, [], ◌++◌, reverse, refl, ap, sym, ◌∙◌, subst, arith}
+use Rattle.std.proofs.Common.{◌∷◌, [], ◌++◌, length, reverse, refl, ap, sym, ◌∙◌, subst, arith}
 use Rattle.std.proofs.lemmas.List.Elements.{All-append}
 use Rattle.frame.specs.Acts.{IsOfSeats}
 use Rattle.history.specs.declared.header.Header.{Header}
@@ -8,15 +8,26 @@ use Rattle.steps.specs.StepsText.{steps_form, steps_so_far}
 use Rattle.driver.specs.Logged.{logged}
 use Rattle.driver.specs.StepReader.{progress}
 use Rattle.driver.proofs.Doing.{of_seats, spelt_on}
-use Rattle.driver.proofs.Driven.{answering_none, answering_act, answering_all}
+use Rattle.driver.proofs.Driven.{answering_none, answering_act, answering_all, one_entry_more}
 use Rattle.driver.proofs.Ending.{fault_on, memory_on}
+use Rattle.driver.proofs.StepsAhead.{fault_passed_on, no_text}
 use Rattle.driver.proofs.ReadingAhead.{goes_on, memory_at_end, memory_behind}
 use Rattle.driver.proofs.replay.replay.Goals as goal
 
-pub answer_act-requires : goal.answer_act-requires
-answer_act-requires g c =
+pub answer_act-requires-clause-seat : goal.answer_act-requires-clause-seat
+answer_act-requires-clause-seat g c =
     subst (λ (k : Header). IsOfSeats k.seats c.in-Some.act) (sym c.loop-log.invariant.header)
     (of_seats c.loop-log.steps.header c.in-Some.act (rw c.in-Some.is at c.in_ok-act.ensures.seated))
+
+pub answer_act-requires-clause-few : goal.answer_act-requires-clause-few
+answer_act-requires-clause-few g c =
+    omega (
+      arith,
+      c.loop-log.invariant.few,
+      rw c.in-Some.is at c.in_ok-act.ensures.counted,
+      c.count.ensures,
+      c.if-count-gt-MOST_ACTS.false,
+    )
 
 pub loop-log-preserved : goal.loop-log-preserved
 loop-log-preserved g c =
@@ -31,6 +42,13 @@ loop-log-preserved g c =
       going = goes_on c.in_ok-act.field-0 (g.R.Source.failed c.next.new.reader)
           (λ t. c.in_ok-act.ensures.failing.1 t);
       same = same ∙ was.invariant.same;
+      few = omega (
+        arith,
+        was.invariant.few,
+        rw c.in-Some.is at c.in_ok-act.ensures.counted,
+        one_entry_more c.in-Some.act was.core c.answer_act.new.core (logged was.log)
+            (logged c.answer_act.new.log) c.in_ok-answer_act.ensures.ok,
+      );
       header = a.1 ∙ was.invariant.header ∙ ap (λ (k : StepsHeader). k.header) (sym same);
       answering = a.0;
     }
@@ -73,6 +91,7 @@ loop-log-init g c = record {
   going = c.requires.reader;
   same = refl;
   header = c.requires.header;
+  few = omega (arith, ap length c.new.ensures.items, ap length c.requires.fresh);
   answering =
       rw (c.new.ensures.items, c.new-2.ensures.items) (answering_none _ c.args.core.now.base
       c.args.core.now.entries c.requires.base c.requires.fresh);
@@ -107,3 +126,20 @@ returns-clause-memory g c =
     c.next.new.self.bytes (g.R.Source.left was.reader) (g.R.Source.left c.next.new.reader)
     c.in_ok-act.ensures.held (rw c.in_default.is at c.in_ok-act.ensures.stands)
     was.invariant.answering.read
+
+pub returns-in_err-read_to_fault-clause-err : goal.returns-in_err-read_to_fault-clause-err
+returns-in_err-read_to_fault-clause-err g c =
+    let a = c.loop-log.invariant.answering in
+    let next = rw c.in-Some.is at c.in_ok-act.ensures.next in
+    fault_passed_on steps_form (progress c.args.steps.now (g.R.Source.left c.args.reader.now))
+    (progress c.next.new.self (g.R.Source.left c.next.new.reader)) (a.acts ++ c.in-Some.act ∷ [])
+    (g.R.Source.left c.read_to_fault.new.reader) c.from_residual-in_err-read_to_fault.result
+    c.in_err-read_to_fault.field-0.0 c.from_residual-in_err-read_to_fault.ensures
+    c.in_err-read_to_fault.ensures.err (λ text were. next text a.acts (a.read text were))
+
+pub returns-then-count-gt-MOST_ACTS-clause-err : goal.returns-then-count-gt-MOST_ACTS-clause-err
+returns-then-count-gt-MOST_ACTS-clause-err g c = λ text were.
+    let a = c.loop-log.invariant.answering in
+    let next = rw c.in-Some.is at c.in_ok-act.ensures.next in
+    no_text steps_form (progress c.next.new.self (g.R.Source.left c.next.new.reader)) text
+    (a.acts ++ c.in-Some.act ∷ []) _ c.in_ok-read_to_fault.ensures.none (next text a.acts (a.read text were))

@@ -1,4 +1,4 @@
-use Rattle.std.proofs.Common.{◌≡◌, ◌-◌, ◌^◌, false}
+use Rattle.std.proofs.Common.{◌≡◌, ◌+◌, ◌-◌, ◌≤◌, ◌^◌, false, length}
 use Rattle.driver.specs.StepReader.{progress}
 use Rattle.driver.proofs.Driven.{Answering}
 use Rattle.driver.proofs.replay.replay.Given as goal
@@ -8,6 +8,7 @@ invariant-loop-log g l = record {
   going : g.R.Source.failed l.reader ≡ false;
   same : l.steps.header ≡ l.initial.steps.header;
   header : l.core.header ≡ l.steps.header.header;
+  few : length l.log.past.items + length l.core.entries ≤ l.steps.count;
   answering : Answering (progress l.initial.steps (g.R.Source.left l.initial.reader))
       (progress l.steps (g.R.Source.left l.reader)) l.core.base l.core.entries l.log.past.items
       l.log.remarks.items;

@@ -1,16 +1,17 @@
-use Rattle.std.proofs.Common.{◌≡◌, ℕ, ◌+◌, ◌<◌, List, length, reverse, sym, ap, subst, ◌∙◌, arith, ◌++◌}
+use Rattle.std.proofs.Common.{◌≡◌, ℕ, ◌+◌, ◌<◌, ◌^◌, List, length, reverse, sym, ap, subst, ◌∙◌, arith, ◌++◌}
 use Rattle.std.proofs.lemmas.Option.{slice_get_within}
 use Rattle.history.specs.declared.entry.Entry.{Entry}
 use Rattle.history.specs.Base.{Base}
 use Rattle.history.specs.Entries.{base_on, or_opening}
 use Rattle.history.specs.Text.{ended}
-use Rattle.line_text.specs.Form.{lines_of}
 use Rattle.history_text.specs.BaseText.{IsHeadPut, lines_text}
 use Rattle.history_text.specs.EntryLines.{entry_line}
-use Rattle.history_text.specs.HistoryLines.{head_line, head_of, lines_told, numbered}
-use Rattle.history_text.specs.HistoryText.{history_form}
+use Rattle.history_text.specs.HistoryLines.{head_line, head_of, lines_told}
+use Rattle.history_text.specs.Pieces.{entry_lines}
+use Rattle.history.proofs.AllCalls.{calls_told}
+use Rattle.history_text.proofs.Heads.{based_well}
 use Rattle.history_text.proofs.HistoryWriting.{past}
-use Rattle.history_text.proofs.TextWritten.{all_lines, all_summed, more_lines}
+use Rattle.history_text.proofs.TextWritten.{all_lines, more_lines}
 use Rattle.history_text.proofs.history_text.written.Goals as goal
 
 pub loop-entry-preserved : goal.loop-entry-preserved
@@ -44,12 +45,14 @@ returns c =
     let lines =
     c.loop-entry.invariant.lines
     ∙ ap (λ (l : List Entry). (ended (head_line (head_of b)) ++ lines_text (lines_told b))
-    ++ lines_of history_form (numbered b.entries l)) all in
+    ++ entry_lines b.entries l) all in
     let count : c.in_ok-folded.folded + c.len-2.result ≡ b.entries + length c.args.history.now.entries =
     omega (arith, head.folded, c.len-2.ensures.value) in
-    all_lines k b c.args.history.now.entries c.loop-entry.out.items c.put_counts.new.out.items
-    c.push-2.new.self.items (c.in_ok-folded.folded + c.len-2.result) c.calls.result
-    c.requires.range c.requires.base lines count
-    (all_summed k c.args.history.now c.calls.result c.requires.range c.requires.base
-    (omega (arith, c.len-2.ensures.value, c.len-2.ensures.few)) c.calls.ensures)
+    let few : length c.args.history.now.entries < 2 ^ 32 =
+    omega (arith, c.len-2.ensures.value, c.len-2.ensures.few) in
+    let calls =
+    calls_told k c.args.history.now c.calls.result
+    (based_well k c.args.history.now.base c.requires.range c.requires.base) few c.calls.ensures in
+    all_lines b c.args.history.now.entries c.loop-entry.out.items c.put_counts.new.out.items
+    c.push-2.new.self.items (c.in_ok-folded.folded + c.len-2.result) c.calls.result lines count calls
     c.in_ok-put_counts.ensures.ok c.in_ok-push-2.ensures.items

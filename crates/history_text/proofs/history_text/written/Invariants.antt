@@ -1,10 +1,9 @@
 use Rattle.std.proofs.Common.{◌≡◌, ◌≤◌, ◌++◌, ◌-◌, length, take, reverse}
 use Rattle.history.specs.Entries.{base_on}
 use Rattle.history.specs.Text.{ended}
-use Rattle.line_text.specs.Form.{lines_of}
 use Rattle.history_text.specs.BaseText.{lines_text}
-use Rattle.history_text.specs.HistoryLines.{head_line, head_of, lines_told, numbered}
-use Rattle.history_text.specs.HistoryText.{history_form}
+use Rattle.history_text.specs.HistoryLines.{head_line, head_of, lines_told}
+use Rattle.history_text.specs.Pieces.{entry_lines}
 use Rattle.history_text.proofs.history_text.written.Given as goal
 
 abbrev pub invariant-loop-entry : goal.invariant-loop-entry
@@ -12,8 +11,7 @@ invariant-loop-entry l = record {
   lines : l.out.items
       ≡ (ended (head_line (head_of (base_on l.header l.history)))
       ++ lines_text (lines_told (base_on l.header l.history)))
-      ++ lines_of history_form (numbered (base_on l.header l.history).entries
-      (take l.number (reverse l.history.entries)));
+      ++ entry_lines (base_on l.header l.history).entries (take l.number (reverse l.history.entries));
   inside : l.number ≤ length (reverse l.history.entries);
 }
 

@@ -1,4 +1,4 @@
-use Rattle.std.proofs.Common.{sym, ◌∙◌}
+use Rattle.std.proofs.Common.{sym, ◌∙◌, arith}
 use Rattle.std.proofs.lemmas.Bool.{eqb-true, false≢true}
 use Rattle.history_text.proofs.NextLines.{bad_line, behind_last, last_line}
 use Rattle.history_text.proofs.next_entry.entry_by_words.Goals as goal
@@ -20,3 +20,10 @@ returns-in-None-clause-line c =
     c.in-Some.ensures.0 c.in-Some.ensures.1
     (λ same. false≢true (sym c.if-is_end.false ∙ c.is_end.ensures.1 same))
     (λ e few fits. c.in-None.ensures.none e fits)
+
+pub returns-then-place-from-clause-line : goal.returns-then-place-from-clause-line
+returns-then-place-from-clause-line c =
+    bad_line c.args.header.now c.args.place c.args.rest.now c.in-Some.line.now c.in-Some.after.now
+    c.in-Some.ensures.0 c.in-Some.ensures.1
+    (λ same. false≢true (sym c.if-is_end.false ∙ c.is_end.ensures.1 same))
+    (λ e few fits. absurd (omega (arith, few, c.from.ensures, c.if-place-from.true)))

@@ -1,4 +1,4 @@
-use Rattle.std.proofs.Common.{◌≡◌, ℕ, ◌∷◌, ◌+◌, ◌≤◌, max, [], Bool, true, false, cond, length, reverse, arith, ap, sym, ◌∙◌}
+use Rattle.std.proofs.Common.{◌≡◌, refl, ℕ, ◌∷◌, ◌+◌, ◌≤◌, max, [], length, reverse, arith, ap, ◌∙◌}
 use Rattle.std.proofs.lemmas.List.{reverse-append}
 use Rattle.history.specs.Entries.{HistoryView, or_opening}
 use Rattle.history.specs.Entry.{ends_call}
@@ -8,8 +8,8 @@ use Rattle.line_text.proofs.Faults.{fault_passed}
 use Rattle.line_text.proofs.UnderWay.{left_over}
 use Rattle.history_text.specs.EntryLines.{entry_line}
 use Rattle.history_text.specs.HistoryText.{history_form}
-use Rattle.history_text.proofs.EntriesRead.{read_all, read_fault, read_one}
-use Rattle.history_text.proofs.HistoryItems.{one_or_none}
+use Rattle.history_text.proofs.EntriesRead.{read_all, read_one}
+use Rattle.history.proofs.Lists.{one_at_most}
 use Rattle.history_text.proofs.reading.read_entries.Goals as goal
 
 pub next_entry-requires-clause-few : goal.next_entry-requires-clause-few
@@ -28,8 +28,7 @@ next_entry-requires-clause-lines c =
 pub returns-in_err-entry : goal.returns-in_err-entry
 returns-in_err-entry c = λ text read.
     fault_passed history_form _ text c.from_residual.result c.in_err-entry.field-0.0 c.from_residual.ensures
-    (read_fault text c.args.head.now _ _ c.loop-history.place c.loop-history.rest.now
-    (c.loop-history.invariant.read text read) c.in_err-entry.field-0.0 c.in_err-entry.ensures.line)
+    (c.in_err-entry.ensures.line text c.args.head.now _ _ refl (c.loop-history.invariant.read text read))
 
 pub returns : goal.returns
 returns c = λ text was.
@@ -41,7 +40,8 @@ returns c = λ text was.
     (rw c.in_default.is at c.in_ok-entry.ensures.line) in
     record {
       reading = rw c.loop-history.invariant.base all;
-      header = rw c.loop-history.invariant.base here.base.0;
+      header = rw c.loop-history.invariant.base here.history.base.0;
+      none = rw c.loop-history.invariant.base c.requires.none;
       cap = c.loop-history.invariant.cap;
       owed = c.loop-history.invariant.owed;
       places = c.loop-history.invariant.places;
@@ -74,10 +74,10 @@ loop-history-preserved c =
     record {
       read = λ text was.
           let one = read_one text h base (reverse old) p rest (c.loop-history.invariant.read text was) e
-          c.in-Some.left line in
-          let same = left_over rest (ended (entry_line (p.folded + p.count) e)) one.after c.in-Some.left
-          one.parts one.long in
-          rw (entries, reverse-append (e ∷ []) old, same, c.behind-place.ensures) one.grown;
+          c.in-Some.left line.1.0 (rw c.in-Some.is at c.in_ok-entry.ensures.within) line line.1.1 in
+          let same = left_over rest (ended (entry_line (p.folded + p.count) e)) line.1.0 c.in-Some.left
+          line.1.1 line.1.2 in
+          rw (entries, reverse-append (e ∷ []) old, same, c.behind-place.ensures) one;
       base = ap (λ (v : HistoryView). v.base) c.add.ensures
           ∙ ap (λ (v : HistoryView). v.base) c.make_room.ensures.same ∙ c.loop-history.invariant.base;
       cap = cap;
@@ -100,6 +100,6 @@ loop-history-preserved c =
       calls = rw (c.behind-place.ensures, entries) (omega (
         arith,
         c.loop-history.invariant.calls,
-        one_or_none (ends_call e.word),
+        one_at_most (ends_call e.word),
       ));
     }

@@ -6,7 +6,7 @@ use Rattle.history.specs.GoodBase.{IsGood}
 use Rattle.history.proofs.AllCalls.{calls_told}
 use Rattle.history.proofs.Lists.{calls-ended, ended_append}
 use Rattle.driver.specs.Answers.{AllAnswers, all_of}
-use Rattle.driver.proofs.EntryLines.{ended_calls-reverse}
+use Rattle.history_text.proofs.Pieces.{ended_calls-reverse}
 use Rattle.driver.proofs.answers.Answers.calls.Goals as goal
 
 based_well : (k : Header) (o : Option Base) → (or_opening k o).header ≡ k → IsGood (or_opening k o) →

@@ -1,24 +1,12 @@
-use Rattle.std.proofs.Common.{◌+◌, ◌≤◌, ◌<◌, ◌^◌, Err, ap, arith, refl}
-use Rattle.history.specs.declared.header.Header.{Header}
-use Rattle.history.specs.GoodBase.{most_folded}
-use Rattle.history.specs.Header.{IsInRange}
+use Rattle.std.proofs.Common.{◌+◌, Err, ap, arith, refl}
 use Rattle.history_text.specs.EntryLines.{counts_line}
-use Rattle.history_text.specs.declared.place.Place.{Place}
 use Rattle.history_text.proofs.ShortEntries.{counts_short, ended_short}
 use Rattle.line_text.specs.declared.fault.TextFault.{TextFault}
 use Rattle.streams.specs.declared.stream_fault.StreamFault.{StreamFault}
 use Rattle.driver.specs.contracts.history_reader.HistoryReader.{the_view}
-use Rattle.driver.proofs.EntriesAhead.{entries_ended, entries_read_failed, entry_failed, entry_next}
+use Rattle.driver.proofs.EntriesAhead.{entries_ended, entries_kept, entries_read_failed, entry_failed, entry_here, entry_keeps, few_calls, few_entries}
 use Rattle.driver.proofs.ReadingAhead.{end_kept, stands_behind, stands_failed}
 use Rattle.driver.proofs.history_reader.HistoryReader.next_after_reading.Goals as goal
-
-few_entries : (h : Header) (p : Place) → IsInRange h → p.count ≤ h.cap → p.folded ≤ most_folded →
-    p.folded + p.count < 2 ^ 64
-few_entries h p range few folded = omega (arith, range.cap, few, folded)
-
-few_calls : (h : Header) (p : Place) → IsInRange h → p.count ≤ h.cap → p.calls ≤ most_folded + p.count →
-    p.calls < 2 ^ 64
-few_calls h p range few calls = omega (arith, range.cap, few, calls)
 
 pub returns-in_err-read_line-clause-next : goal.returns-in_err-read_line-clause-next
 returns-in_err-read_line-clause-next g c =
@@ -56,7 +44,7 @@ end_of-requires-clause-end g c =
     let i = c.self.invariant in
     ended_short _ (held.place.folded + held.place.count) held.place.calls
     (few_entries held.header held.place i.4 i.0 i.3) (few_calls held.header held.place i.4 i.0 i.1)
-    ((rw (c.in_default.is, c.bytes.ensures.bytes) at c.in_ok-entry.ensures.last) refl)
+    (rw (c.in_default.is, c.bytes.ensures.bytes) at c.in_ok-entry.ensures.line)
 
 pub returns-in_default-clause-next : goal.returns-in_default-clause-next
 returns-in_default-clause-next g c =
@@ -65,7 +53,7 @@ returns-in_default-clause-next g c =
     let n = held.place.folded + held.place.count in
     let window = c.read_line.new.self.bytes in
     let is = rw (c.in_default.is, c.bytes.ensures.bytes) at c.in_ok-entry.ensures.line in
-    let last = (rw (c.in_default.is, c.bytes.ensures.bytes) at c.in_ok-entry.ensures.last) refl in
+    let last = rw (c.in_default.is, c.bytes.ensures.bytes) at c.in_ok-entry.ensures.line in
     let keeps =
     end_kept held.window.bytes window (counts_line n held.place.calls) (g.R.Source.left c.args.reader.now)
     (g.R.Source.left c.read_line.new.reader) c.in_ok-read_line.ensures.ahead last
@@ -82,7 +70,7 @@ returns-in_default-clause-stands g c =
     let i = c.self.invariant in
     let n = held.place.folded + held.place.count in
     let window = c.read_line.new.self.bytes in
-    let last = (rw (c.in_default.is, c.bytes.ensures.bytes) at c.in_ok-entry.ensures.last) refl in
+    let last = rw (c.in_default.is, c.bytes.ensures.bytes) at c.in_ok-entry.ensures.line in
     let keeps =
     end_kept held.window.bytes window (counts_line n held.place.calls) (g.R.Source.left c.args.reader.now)
     (g.R.Source.left c.read_line.new.reader) c.in_ok-read_line.ensures.ahead last
@@ -100,12 +88,21 @@ pass-requires g c =
 pub returns-clause-next : goal.returns-clause-next
 returns-clause-next g c = rw (← c.self.view_is) (λ text es were.
     let held = c.self.inside in
+    let i = c.self.invariant in
+    let window = c.read_line.new.self.bytes in
+    let left = g.R.Source.left c.read_line.new.reader in
     let is = rw (c.in-Some.is, c.bytes.ensures.bytes) at c.in_ok-entry.ensures.line in
+    let within = rw c.in-Some.is at c.in_ok-entry.ensures.within in
+    let keeps =
+    entry_keeps held.header held.place held.window.bytes window (g.R.Source.left c.args.reader.now) left
+    c.in-Some.entry c.in-Some.left i.4 (few_entries held.header held.place i.4 i.0 i.3)
+    c.in_ok-read_line.ensures.ahead is in
     rw c.pass.ensures
-    (entry_next _ _ es held.place text held.window.bytes c.read_line.new.self.bytes
-    (g.R.Source.left c.args.reader.now) (g.R.Source.left c.read_line.new.reader) c.in-Some.entry
-    c.in-Some.left
-    c.in_ok-read_line.ensures.ahead (rw c.self.invariant.5.0 is) were))
+    (entry_here _ _ es held.place text window left c.in-Some.entry c.in-Some.left (rw i.5.0 within)
+    (rw i.5.0 is)
+    (entries_kept _ _ es held.place text held.window.bytes window (g.R.Source.left c.args.reader.now)
+    left keeps
+    were)))
 
 pub returns-clause-counted : goal.returns-clause-counted
 returns-clause-counted g c =

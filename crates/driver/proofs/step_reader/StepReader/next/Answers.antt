@@ -1,5 +1,11 @@
+use Rattle.std.proofs.Common.{Err, arith, refl}
+use Rattle.line_text.specs.declared.fault.TextFault.TheVariants.{BadLine}
+use Rattle.steps.proofs.ShortSteps.{ended_short, short}
+use Rattle.steps.proofs.StepsLawful.{lawful}
 use Rattle.steps.specs.StepsText.{steps_form, steps_so_far}
-use Rattle.driver.proofs.ReadingAhead.{item_ahead, keeps_same, line_within, not_counted, stands_here}
+use Rattle.streams.specs.declared.stream_fault.StreamFault.TheVariants.{Text}
+use Rattle.driver.specs.TextReader.{reader_at}
+use Rattle.driver.proofs.ReadingAhead.{ended_here, item_ahead, keeps_same, keeps_stays, line_within, next_failed, not_counted, stands_here, stands_still}
 use Rattle.driver.proofs.StepsAhead.{next_act}
 use Rattle.driver.proofs.step_reader.StepReader.next.Goals as goal
 
@@ -40,3 +46,40 @@ pub returns-in_err-pass-in-Ok-Some-clause-stands : goal.returns-in_err-pass-in-O
 returns-in_err-pass-in-Ok-Some-clause-stands g c =
     rw c.in_err-pass-in-Ok-Some.ensures.kept
     (stands_here _ (g.R.Source.left c.args.reader.now) c.from_residual.result)
+
+pub end_of-requires-clause-end : goal.end_of-requires-clause-end
+end_of-requires-clause-end g c =
+    let held = c.self.inside in
+    ended_short _ held.count (omega (arith, c.self.invariant.0))
+    ((rw (c.in-Ok-None.field-0-is, c.bytes.ensures.bytes) at c.in-Ok-None.ensures.last) refl)
+
+pub returns-in-Ok-None-clause-next : goal.returns-in-Ok-None-clause-next
+returns-in-Ok-None-clause-next g c =
+    let held = c.self.inside in
+    let is = rw (c.in-Ok-None.field-0-is, c.bytes.ensures.bytes) at c.in-Ok-None.ensures.line in
+    rw (← c.self.view_is)
+    (ended_here steps_form (steps_so_far held.header held.count) held.window.bytes c.end_of.new.window.bytes
+    (g.R.Source.left c.args.reader.now) (g.R.Source.left c.end_of.new.reader) c.end_of.result _ is
+    c.end_of.ensures.behind c.end_of.ensures.stays)
+
+pub returns-in-Ok-None-clause-stands : goal.returns-in-Ok-None-clause-stands
+returns-in-Ok-None-clause-stands g c =
+    rw (← c.self.view_is)
+    (stands_still c.self.inside.window.bytes c.end_of.new.window.bytes (g.R.Source.left c.args.reader.now)
+    (g.R.Source.left c.end_of.new.reader) c.end_of.result c.end_of.ensures.stays)
+
+pub returns-in-Err-BadLine-clause-next : goal.returns-in-Err-BadLine-clause-next
+returns-in-Err-BadLine-clause-next g c =
+    let held = c.self.inside in
+    let so_far = steps_so_far held.header held.count in
+    let left = g.R.Source.left c.args.reader.now in
+    let is = rw (c.in-Err-BadLine.field-0-is, c.bytes.ensures.bytes) at c.in-Err-BadLine.ensures.line in
+    rw (← c.self.view_is) (next_failed steps_form so_far held.window.bytes held.window.bytes left left
+    (Err (Text (BadLine c.in-Err-BadLine.line))) (reader_at so_far held.window.bytes left)
+    (BadLine c.in-Err-BadLine.line) (refl, refl) lawful short (keeps_stays _ _ left left (keeps_same _)) is
+    (λ e. cc))
+
+pub returns-in-Err-BadLine-clause-stands : goal.returns-in-Err-BadLine-clause-stands
+returns-in-Err-BadLine-clause-stands g c =
+    let left = g.R.Source.left c.args.reader.now in
+    keeps_stays c.args.self.now.bytes c.args.self.now.bytes left left (keeps_same _)
