@@ -1,4 +1,4 @@
-use Rattle.std.proofs.Common.{◌+◌, ◌<◌, ◌∙◌, arith}
+use Rattle.std.proofs.Common.{◌<◌, ◌∙◌, arith}
 use Rattle.monitor_fronts.specs.Holding.{holds}
 use Rattle.guarded.proofs.Calling.{has_value}
 use Rattle.guarded.proofs.mutex.Mutex.again.Goals as goal

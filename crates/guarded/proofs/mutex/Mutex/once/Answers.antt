@@ -1,5 +1,4 @@
-use Rattle.std.proofs.Common.{◌≡◌, ◌+◌, Bool, true, sym, subst}
-use Rattle.history.specs.Object.{is_lock}
+use Rattle.std.proofs.Common.{◌≡◌, ◌+◌, sym, subst}
 use Rattle.monitor_fronts.specs.Holding.{holds}
 use Rattle.guarded.specs.declared.asking.Asked.{Asked}
 use Rattle.guarded.specs.declared.asking.Asked.TheVariants as asked

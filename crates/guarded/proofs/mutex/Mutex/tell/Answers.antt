@@ -1,4 +1,4 @@
-use Rattle.std.proofs.Common.{rules, ◌≡◌, Bool, true, Ok, Err, Result, subst}
+use Rattle.std.proofs.Common.{rules, ◌≡◌, Bool, true, Ok, Result, subst}
 use Rattle.history.specs.declared.fault.Fault.{Fault}
 use Rattle.guarded.specs.Asking.{signals}
 use Rattle.guarded.specs.Full.{MakesRoom}
