@@ -1,16 +1,19 @@
 -- What the calls of a lock leave of a pass's holds, and of the value that it has.
-use Rattle.std.proofs.Common.{◌≡◌, ℕ, ◌+◌, ◌<◌, Bool, true, false, Result, Ok, Err, refl, sym, ap, ◌∙◌, subst, arith}
+use Rattle.std.proofs.Common.{◌≡◌, ℕ, ◌+◌, ◌<◌, true, Result, Ok, Err, IsOk, refl, sym, ap, ◌∙◌, arith}
 use Rattle.history.specs.declared.entry.Entry.{Entry}
 use Rattle.history.specs.declared.fault.Fault.{Fault}
 use Rattle.history.specs.Object.{is_lock}
 use Rattle.permit.specs.Deed.{Deed}
 use Rattle.word_lock.specs.Ticket.{LockId}
-use Rattle.monitor.specs.Shown.{Shown}
-use Rattle.monitor.specs.Stepping.{IsSame}
+use Rattle.history.specs.declared.entry.Mode.TheVariants.{X}
+use Rattle.history.specs.declared.step.Step.TheVariants.{Give}
+use Rattle.monitor.specs.Shown.{Shown, IsTrue}
+use Rattle.monitor.specs.Stepping.{IsEntered, IsSame}
 use Rattle.monitor_fronts.specs.Holding.{gained, holds}
 use Rattle.monitor_fronts.specs.Told.{whether_of}
 use Rattle.monitor_fronts.proofs.Counting.{await_holds}
-use Rattle.monitor_fronts.proofs.Exactly.{acquire_gains, try_gains}
+use Rattle.monitor_fronts.proofs.Exactly.{acquire_gains, give_takes, try_gains}
+use Rattle.monitor_fronts.proofs.Owning.{give_recorded}
 use Rattle.guarded.specs.declared.asking.Asked.{Asked}
 use Rattle.guarded.specs.declared.asking.Asked.TheVariants as asked
 use Rattle.guarded.specs.declared.full.WhenFull.{WhenFull}
@@ -54,3 +57,15 @@ has_holds n (Full x) carries there = carries
 pub carries_some : {T : Type 0} (n : ℕ) (value : Slot T) → IsFull value → 0 < n → Carries n value
 carries_some n Empty there some = absurd there
 carries_some n (Full x) there some = some
+
+-- an owner's give takes one hold
+pub give_loses : (did : Deed → Type 0) (old new : Shown) (r : Result Entry Fault) →
+    is_lock old.lock.header.object ≡ true → IsSame old new → IsTrue old → IsTrue new →
+    IsEntered did old (Give X 1) r new → 0 < holds old → holds new + 1 ≡ holds old
+give_loses did old new (Ok e) lock same was shows s some = give_takes did old new e lock same shows s some
+give_loses did old new (Err f) lock same was shows s some =
+    let ok = give_recorded did old new (Err f) lock same was s some in cc
+
+pub never_fails : (r : Result Entry Fault) (f : Fault) → IsOk r → r ≡ Err f → ⊥
+never_fails (Ok e) f ok q = cc
+never_fails (Err x) f ok q = cc

@@ -1,5 +1,5 @@
 -- Calls that make room where there is none.
-use Rattle.std.proofs.Common.{◌≡◌, ◌⊎◌, inl, inr, ⊎_elim, ℕ, Bool, true, false, Result, Ok, Err, refl, sym, ap, ◌∙◌, subst}
+use Rattle.std.proofs.Common.{◌≡◌, ◌⊎◌, inl, inr, ⊎_elim, true, false, Result, Ok, Err, refl, sym, ap, ◌∙◌, subst}
 use Rattle.history.specs.declared.entry.Entry.{Entry}
 use Rattle.history.specs.declared.fault.Fault.{Fault}
 use Rattle.history.specs.declared.fault.Fault.TheVariants.{HistoryFull}
@@ -17,7 +17,7 @@ use Rattle.guarded.specs.declared.asking.Asked.TheVariants as asked
 use Rattle.guarded.specs.declared.full.WhenFull.{WhenFull}
 use Rattle.guarded.specs.declared.full.WhenFull.TheVariants.{Refuse, Trim}
 use Rattle.guarded.specs.Asking.{acquires, gained_by}
-use Rattle.guarded.specs.Full.{Call, CannotFold, MadeAgain, MakesRoom, WithRoom, lacks_room}
+use Rattle.guarded.specs.Full.{Call, MakesRoom, WithRoom, lacks_room}
 
 lacks_trims : (w : WhenFull) (r : Result Entry Fault) → lacks_room w r ≡ true →
     (w ≡ Trim) × (r ≡ Err HistoryFull)

@@ -80,3 +80,6 @@ moved {T} i k l t b a before after here there here' there' h th r c =
 
 pub carried : {T : Type 0} (n : ℕ) (v w : Slot T) → v ≡ w → Carries n v → Carries n w
 carried {T} n v w q c = subst (λ (z : Slot T). Carries n z) q c
+
+pub rests_as : {T : Type 0} (v w : Slot T) (k : Counts) → w ≡ v → Rests v k → Rests w k
+rests_as {T} v w k q r = subst (λ (z : Slot T). Rests z k) (sym q) r
