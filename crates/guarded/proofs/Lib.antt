@@ -1,3 +1,4 @@
 pub mod Stowing
 pub mod Room
 pub mod Calling
+pub mod Readers

@@ -63,7 +63,7 @@ cannot_fold w call old mid new r f x m =
     })
 
 -- the reply is a call's, or a fault
-last_call : (w : WhenFull) (call : Call) (old new : Shown) (r : Result Entry Fault) →
+pub last_call : (w : WhenFull) (call : Call) (old new : Shown) (r : Result Entry Fault) →
     WithRoom w call old r new → ((o : Shown) × call o r new) ⊎ ((f : Fault) × (r ≡ Err f))
 last_call w call old new r (inl x) = inl (old, x.0)
 last_call w call old new r (inr (inl x)) = inl (x.folded, x.again)

@@ -4,3 +4,4 @@ pub mod Full
 pub mod Asking
 pub mod Lending
 pub mod GuardLending
+pub mod Reading

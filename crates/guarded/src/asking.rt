@@ -11,3 +11,12 @@ pub(crate) enum Asked {
     /// Gives the lock up, sleeps on the condition, and has the lock again.
     Await(u8, How),
 }
+
+/// A call by which a pass may come to read.
+#[derive(Clone, Copy)]
+pub(crate) enum Reading {
+    /// Waits in line for a read hold.
+    Acquire(How),
+    /// Takes a read hold past those in line.
+    Try,
+}

@@ -19,11 +19,14 @@ mod full;
 mod guard;
 mod locking;
 mod mutex;
+mod reading;
+mod rw_mutex;
 mod slot;
 mod try_lock;
 
 pub use full::WhenFull;
 pub use guard::Guard;
 pub use mutex::Mutex;
+pub use rw_mutex::RwMutex;
 pub use slot::Slot;
 pub use try_lock::TryLockFault;

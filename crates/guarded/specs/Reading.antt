@@ -1,0 +1,56 @@
+-- What readers of a lock that guards a value ask of its monitor.
+use Rattle.std.specs.Prelude.{◌≡◌, ◌+◌, ℕ, Bool, Result}
+use Rattle.history.specs.declared.entry.Entry.{Entry}
+use Rattle.history.specs.declared.entry.Mode.TheVariants.{S}
+use Rattle.history.specs.Counts.{counts}
+use Rattle.history.specs.declared.fault.Fault.{Fault}
+use Rattle.history.specs.declared.step.Step.TheVariants.{Give, Try}
+use Rattle.monitor.specs.Acquire.{IsAcquire}
+use Rattle.monitor.specs.Lawful.{start_at}
+use Rattle.monitor.specs.Load.{holds_of}
+use Rattle.monitor.specs.Shown.{Shown}
+use Rattle.monitor.specs.Stepping.{IsEntered}
+use Rattle.monitor.specs.declared.how.How.{How}
+use Rattle.monitor_fronts.specs.Holding.{gained, holds}
+use Rattle.monitor_fronts.specs.Told.{done_of}
+use Rattle.permit.specs.Deed.{Deed}
+use Rattle.guarded.specs.declared.asking.Reading.{Reading}
+use Rattle.guarded.specs.declared.asking.Reading.TheVariants as asks
+use Rattle.guarded.specs.declared.slot.Slot.{Slot}
+use Rattle.guarded.specs.declared.slot.Slot.TheVariants.{Full}
+use Rattle.guarded.specs.Full.{Call}
+use Rattle.guarded.specs.Stowed.{Rests}
+
+-- how many read holds the pass's seat has, by its own entries alone
+abbrev pub reads : Shown → ℕ
+reads p = holds_of p S
+
+-- the calls of the monitor
+abbrev pub reads_by : (Deed → Type 0) → How → Call
+reads_by did how old reply new = IsAcquire did old S 1 how reply new
+
+abbrev pub tries_read : (Deed → Type 0) → Call
+tries_read did old reply new = IsEntered did old (Try S 1) reply new
+
+abbrev pub reading_of : (Deed → Type 0) → Reading → Call
+reading_of did (asks.Acquire how) = reads_by did how
+reading_of did (asks.Try) = tries_read did
+
+-- a read hold was given back, or the step was refused, and this is what is told of it
+abbrev pub GivesRead : (Deed → Type 0) → Shown → Result (Unit {0}) Fault → Shown → Type 0
+GivesRead did old told new =
+    (reply : Result Entry Fault) × IsEntered did old (Give S 1) reply new × (told ≡ done_of reply)
+
+-- the pass has so many read holds more, and its write holds are as they were
+pub record GainsReads (old : Shown) (told : Result Bool Fault) (new : Shown) : Type 0 where
+  pub reads : reads new ≡ reads old + gained told
+  pub writes : holds new ≡ holds old
+
+-- an answer was given at the value that lay under the lock then, which nobody wrote to
+abbrev pub Saw : {T A : Type 0} → (T → A → Type 0) → Shown → A → Type 0
+Saw {T} returns p answer =
+    (value : T) × Rests (Full value) (counts (start_at p.seen) p.seen.entries) × returns value answer
+
+-- an answer was given at the value of a slot
+abbrev pub Sees : {T A : Type 0} → (T → A → Type 0) → Slot T → A → Type 0
+Sees {T} returns slot answer = (value : T) × (slot ≡ Full value) × returns value answer

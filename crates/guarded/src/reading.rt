@@ -1,0 +1,225 @@
+//! How a pass comes to read a value that a lock guards.
+ghost use Rattle.std.specs.Prelude.{◌≡◌, ◌<◌, ◌≤◌, ◌+◌, IfSome, None};
+ghost use Rattle.std.specs.Fn.{FnOnceReturnsAt};
+ghost use Rattle.monitor.specs.Acquire.{is_timed};
+ghost use Rattle.monitor.specs.declared.how.How.TheVariants.{Plain};
+ghost use Rattle.monitor.specs.Observing.{IsLook};
+ghost use Rattle.monitor.specs.Shown.{IsTrue};
+ghost use Rattle.monitor.specs.Stepping.{IsSame};
+ghost use Rattle.monitor_fronts.specs.Holding.{gained, holds};
+ghost use Rattle.monitor_fronts.specs.Told.{whether_of};
+ghost use Rattle.guarded.specs.Asking.{Tells};
+ghost use Rattle.guarded.specs.Full.{WithRoom};
+ghost use Rattle.guarded.specs.Guarding.{Guards, told_by, told_if};
+ghost use Rattle.guarded.specs.Reading.{GainsReads, GivesRead, Saw, Sees, reading_of, reads, reads_by};
+ghost use Rattle.guarded.specs.Stowed.{Carries};
+ghost use Rattle.guarded.specs.declared.slot.Slot.TheVariants.{Empty};
+ghost use Rattle.word_lock.specs.Point.{Before};
+
+use crate::asking::Reading;
+use crate::mutex::Mutex;
+use crate::slot::Slot;
+use crate::try_lock::TryLockFault;
+use frame::hooks::Hooks;
+use history::entry::{Entry, Mode};
+use history::fault::Fault;
+use history::step::Step;
+use monitor::{How, Pass};
+use monitor_fronts::{done, whether};
+use permit::Parking;
+use std::sync::Wait;
+use std::time::Clock;
+
+/// What the calls of readers are made of. A pass that writes carries the value meanwhile, in its slot.
+impl<T: Drop, H: Hooks + Drop> Mutex<T, H> {
+    // A call of the monitor.
+    fn read_once<P: Parking, R: Wait + Clock>(
+        &self,
+        rt: &R,
+        parking: &P,
+        pass: &mut Pass,
+        slot: &mut Slot<T>,
+        asked: Reading,
+    ) -> Result<Entry, Fault>
+        requires is_of { pass.old.lock ≡ self.now.lock }
+        requires places { self.now.lock.header.seats ≤ P.seats parking.now }
+        requires carries { Carries (holds pass.old) slot.old }
+        ensures same { IsSame pass.old pass.new }
+        ensures begins { Before pass.old.seen pass.new.seen }
+        ensures shows { IsTrue pass.new }
+        ensures called { reading_of (P.did parking.now) asked pass.old result pass.new }
+        ensures gains { GainsReads pass.old (whether_of result) pass.new }
+        ensures carries { Carries (holds pass.new) slot.new }
+    {
+        match asked {
+            Reading::Acquire(how) => {
+                self.monitor
+                    .acquire_with(rt, parking, pass, slot, Mode::S, 1, how)
+            }
+            Reading::Try => self
+                .monitor
+                .enter(rt, parking, pass, slot, Step::Try(Mode::S, 1)),
+        }
+    }
+
+    // A call that makes room where there is none.
+    pub(crate) fn start_reading<P: Parking, R: Wait + Clock>(
+        &self,
+        rt: &R,
+        parking: &P,
+        pass: &mut Pass,
+        slot: &mut Slot<T>,
+        asked: Reading,
+    ) -> Result<Entry, Fault>
+        requires is_of { pass.old.lock ≡ self.now.lock }
+        requires places { self.now.lock.header.seats ≤ P.seats parking.now }
+        requires carries { Carries (holds pass.old) slot.old }
+        ensures same { IsSame pass.old pass.new }
+        ensures begins { Before pass.old.seen pass.new.seen }
+        ensures shows { IsTrue pass.new }
+        ensures called { WithRoom self.now.when_full (reading_of (P.did parking.now) asked) pass.old result pass.new }
+        ensures gains { GainsReads pass.old (whether_of result) pass.new }
+        ensures carries { Carries (holds pass.new) slot.new }
+    {
+        let reply = self.read_once(rt, parking, pass, slot, asked);
+        match self.makes_room(rt, pass, reply) {
+            Ok(false) => reply,
+            Ok(true) => self.read_once(rt, parking, pass, slot, asked),
+            Err(fault) => Err(fault),
+        }
+    }
+
+    // A call by one who doesn't write.
+    pub(crate) fn try_read_by<P: Parking, R: Wait + Clock>(
+        &self,
+        rt: &R,
+        parking: &P,
+        pass: &mut Pass,
+        asked: Reading,
+    ) -> Result<(), TryLockFault>
+        requires is_of { pass.old.lock ≡ self.now.lock }
+        requires places { self.now.lock.header.seats ≤ P.seats parking.now }
+        requires free { holds pass.old ≡ 0 }
+        ensures same { IsSame pass.old pass.new }
+        ensures begins { Before pass.old.seen pass.new.seen }
+        ensures shows { IsTrue pass.new }
+        ensures tells { Tells self.now.when_full (reading_of (P.did parking.now) asked) pass.old pass.new (told_if result) }
+        ensures gains { GainsReads pass.old (told_if result) pass.new }
+    {
+        let mut slot = Slot::Empty;
+        let reply = self.start_reading(rt, parking, pass, &mut slot, asked);
+        match whether(reply) {
+            Ok(true) => Ok(()),
+            Ok(false) => Err(TryLockFault::Missed),
+            Err(fault) => Err(TryLockFault::Failed(fault)),
+        }
+    }
+
+    // The same of an acquire that waits as long as it must.
+    pub(crate) fn read_by<P: Parking, R: Wait + Clock>(
+        &self,
+        rt: &R,
+        parking: &P,
+        pass: &mut Pass,
+        how: How,
+    ) -> Result<(), Fault>
+        requires is_of { pass.old.lock ≡ self.now.lock }
+        requires places { self.now.lock.header.seats ≤ P.seats parking.now }
+        requires untimed { is_timed how → ⊥ }
+        requires free { holds pass.old ≡ 0 }
+        ensures same { IsSame pass.old pass.new }
+        ensures begins { Before pass.old.seen pass.new.seen }
+        ensures shows { IsTrue pass.new }
+        ensures tells { Tells self.now.when_full (reads_by (P.did parking.now) how) pass.old pass.new (told_by result) }
+        ensures gains { GainsReads pass.old (told_by result) pass.new }
+    {
+        match self.try_read_by(rt, parking, pass, Reading::Acquire(how)) {
+            Ok(()) => Ok(()),
+            Err(TryLockFault::Failed(fault)) => Err(fault),
+            Err(TryLockFault::Missed) => unreachable!(),
+        }
+    }
+
+    // A read hold for one who writes.
+    pub(crate) fn read_too<P: Parking, R: Wait + Clock>(
+        &self,
+        rt: &R,
+        parking: &P,
+        pass: &mut Pass,
+        slot: &mut Slot<T>,
+    ) -> Result<bool, Fault>
+        requires guards { Guards self.now (P.seats parking.now) pass.old slot.old }
+        ensures same { IsSame pass.old pass.new }
+        ensures guards { Guards self.now (P.seats parking.now) pass.new slot.new }
+        ensures tells { Tells self.now.when_full (reads_by (P.did parking.now) Plain) pass.old pass.new result }
+        ensures gains { GainsReads pass.old result pass.new }
+    {
+        whether(self.start_reading(rt, parking, pass, slot, Reading::Acquire(How::Plain)))
+    }
+
+    // Gives a read hold back.
+    pub(crate) fn end_reading<P: Parking, R: Wait + Clock>(
+        &self,
+        rt: &R,
+        parking: &P,
+        pass: &mut Pass,
+        slot: &mut Slot<T>,
+    ) -> Result<(), Fault>
+        requires is_of { pass.old.lock ≡ self.now.lock }
+        requires places { self.now.lock.header.seats ≤ P.seats parking.now }
+        requires has { 0 < reads pass.old }
+        requires carries { Carries (holds pass.old) slot.old }
+        ensures same { IsSame pass.old pass.new }
+        ensures shows { IsTrue pass.new }
+        ensures given { GivesRead (P.did parking.now) pass.old result pass.new }
+        ensures loses { reads pass.new + gained (told_by result) ≡ reads pass.old }
+        ensures keeps { holds pass.new ≡ holds pass.old }
+        ensures carries { Carries (holds pass.new) slot.new }
+    {
+        done(
+            self.monitor
+                .enter(rt, parking, pass, slot, Step::Give(Mode::S, 1)),
+        )
+    }
+
+    // Shows the value to a pass that reads and doesn't write.
+    pub(crate) fn look<R: Wait, A, F: FnOnce(&T) -> A>(&self, rt: &R, pass: &mut Pass, look: F) -> A
+        requires is_of { pass.old.lock ≡ self.now.lock }
+        requires reads { 0 < reads pass.old }
+        requires writes_not { holds pass.old ≡ 0 }
+        requires callable { F.IsAlwaysCallable look }
+        ensures looked { IsLook pass.old pass.new }
+        ensures shows { IsTrue pass.new }
+        ensures reads { reads pass.new ≡ reads pass.old }
+        ensures keeps { holds pass.new ≡ holds pass.old }
+        ensures saw { Saw (λ value answer. FnOnceReturnsAt F.FnOnce look value answer) pass.new result }
+    {
+        let seen = self.monitor.look_with(
+            rt,
+            pass,
+            |slot: &Slot<T>|
+                requires callable { F.IsAlwaysCallable look }
+                ensures saw { IfSome result (λ seen.
+                    Sees (λ value answer. FnOnceReturnsAt F.FnOnce look value answer) slot.now seen) }
+                ensures elsewhere { result ≡ None → slot.now ≡ Empty }
+            { see(slot, look) },
+        );
+        match seen {
+            Some(seen) => seen,
+            None => unreachable!(),
+        }
+    }
+}
+
+// Shows the value of a slot, if it is there.
+fn see<T, A, F: FnOnce(&T) -> A>(slot: &Slot<T>, look: F) -> Option<A>
+    requires callable { F.IsAlwaysCallable look }
+    ensures saw { IfSome result (λ seen.
+        Sees (λ value answer. FnOnceReturnsAt F.FnOnce look value answer) slot.now seen) }
+    ensures elsewhere { result ≡ None → slot.now ≡ Empty }
+{
+    match slot {
+        Slot::Full(value) => Some(look(value)),
+        Slot::Empty => None,
+    }
+}

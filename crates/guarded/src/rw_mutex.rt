@@ -1,0 +1,391 @@
+//! A reentrant read-write lock that guards a value.
+ghost use Rattle.std.specs.Prelude.{◌≡◌, ◌<◌, ◌≤◌, ◌+◌, All, IfOk, IfErr};
+ghost use Rattle.std.specs.Borrow.{sem, RestsIfErr};
+ghost use Rattle.std.specs.Fn.{FnOnceReturnsAt};
+ghost use Rattle.frame.specs.Core.{header_of};
+ghost use Rattle.history.specs.Counts.{counts};
+ghost use Rattle.history.specs.Entries.{IsBasedWell, start_on};
+ghost use Rattle.history.specs.Header.{IsInRange};
+ghost use Rattle.history.specs.Legal.{AreSeated, calls};
+ghost use Rattle.history.specs.declared.fault.Fault.TheVariants.{OutOfMemory};
+ghost use Rattle.history.specs.declared.entry.Mode.TheVariants.{X};
+ghost use Rattle.history.specs.declared.step.Step.TheVariants.{Give};
+ghost use Rattle.history.specs.declared.header.Object.TheVariants.{ReadWrite};
+ghost use Rattle.monitor.specs.contracts.pass.Pass.{the_row};
+ghost use Rattle.monitor.specs.declared.how.How.TheVariants.{Plain, Interruptible, Timed};
+ghost use Rattle.monitor.specs.Lawful.{blank};
+ghost use Rattle.monitor.specs.Observing.{IsLook};
+ghost use Rattle.monitor.specs.Shown.{IsTrue, opening_passes};
+ghost use Rattle.monitor.specs.Stepping.{IsSame};
+ghost use Rattle.monitor_fronts.specs.Holding.{gained, holds};
+ghost use Rattle.guarded.specs.Asking.{IsRecorded, Tells, acquires, tries};
+ghost use Rattle.guarded.specs.Guarding.{Guards, Locked, NotLocked, told_by, told_if};
+ghost use Rattle.guarded.specs.Reading.{GainsReads, GivesRead, Saw, reads, reads_by, tries_read};
+ghost use Rattle.guarded.specs.Stowed.{Rests, slot_of};
+ghost use Rattle.word_lock.specs.Point.{Before};
+
+use crate::asking::Reading;
+use crate::full::WhenFull;
+use crate::guard::Guard;
+use crate::mutex::Mutex;
+use crate::slot::Slot;
+use crate::try_lock::TryLockFault;
+use history::fault::Fault;
+use history::header::Policy;
+use monitor::{CloseFault, Closed, How, Monitor, Pass};
+use permit::Parking;
+use read_write::hooks::RwHooks;
+use std::alloc::Global;
+use std::marker::Model;
+use std::sync::Wait;
+use std::time::Clock;
+
+/// A lock that guards a value: `java.util.concurrent.locks.ReentrantReadWriteLock` of Java SE 8 with the conditions
+/// of its write lock, and `std::sync::RwLock` of Rust in what it guards. The thread is the pass.
+///
+/// A writer has the value, in a [`Guard`]. Readers hold the lock together, and meanwhile the value lies in it:
+/// `read_with` shows it to one of them at a time, for as long as a closure looks. There is no guard with a `&T`,
+/// since the value lies under the monitor's lock, which is taken anew for each look.
+///
+/// A writer may read too, and then unlock: so it becomes a reader, with nobody in between. A reader can't become
+/// a writer: its `write` waits for its own read hold, and never ends, unless it is interrupted or has a time.
+#[derive(Drop)]
+pub struct RwMutex<T: Drop> {
+    pub(crate) mutex: Mutex<T, RwHooks>,
+}
+
+impl<T: Drop> Model for RwMutex<T> {
+    ghost use Rattle.guarded.specs.Stowed.{MutexView};
+
+    ghost Value = { MutexView };
+
+    ghost view = { λ m. m.mutex };
+}
+
+impl<T: Drop> RwMutex<T> {
+    /// A lock whose write lock has conditions 0 to `conditions - 1` that guards the value, and a pass for each seat,
+    /// in order. `cap` is the greatest number of entries of its history, those among them that are owed. Where
+    /// memory is refused, the value comes back.
+    pub fn open(
+        alloc: Global,
+        value: T,
+        policy: Policy,
+        when_full: WhenFull,
+        seats: u16,
+        conditions: u8,
+        cap: u32,
+    ) -> Result<(RwMutex<T>, Vec<Pass>), (T, Fault)>
+        requires { IsInRange (header_of (ReadWrite policy) seats conditions cap) }
+        ensures header { IfOk result (λ r. r.0.lock.header ≡ header_of (ReadWrite policy) seats conditions cap) }
+        ensures when_full { IfOk result (λ r. r.0.when_full ≡ when_full) }
+        ensures passes { IfOk result (λ r.
+            r.1.items ≡ opening_passes r.0.lock (blank r.0.lock.header) 0 seats) }
+        ensures own { IfOk result (λ r. All (λ p. p.lock ≡ r.0.lock) r.1.items) }
+        ensures free { IfOk result (λ r. All (λ p. holds p ≡ 0) r.1.items) }
+        ensures back { IfErr result (λ e. (e.0 ≡ value) × (e.1 ≡ OutOfMemory)) }
+    {
+        let Ok(hooks) = RwHooks::open(alloc, policy, seats) else {
+            return Err((value, Fault::OutOfMemory));
+        };
+        let slot = Slot::Full(value);
+        match Monitor::open_with(alloc, hooks, slot, seats, conditions, cap) {
+            Ok((monitor, passes)) => {
+                let mutex = Mutex { monitor, when_full };
+                Ok((RwMutex { mutex }, passes))
+            }
+            Err((slot, fault)) => match slot {
+                Slot::Full(value) => Err((value, fault)),
+                Slot::Empty => unreachable!(),
+            },
+        }
+    }
+
+    /// Takes the lock for good, and waits until nobody is in a call. It gives back the history, and the value
+    /// unless some seat still writes: then whoever writes has the value.
+    ///
+    /// The passes of all seats are needed, in any order. Where one is missing, all comes back as it was.
+    pub fn close<R: Wait>(
+        self,
+        rt: &R,
+        passes: Vec<Pass>,
+    ) -> Result<(Closed, Option<T>), (RwMutex<T>, Vec<Pass>, CloseFault)>
+        requires is_of { All (λ p. p.lock ≡ self.lock) passes.items }
+        ensures value { IfOk result (λ r.
+            Rests (slot_of r.1) (counts (start_on self.lock.header r.0.history) r.0.history.entries)) }
+        ensures good { IfOk result (λ r. IsBasedWell self.lock.header r.0.history.base) }
+        ensures seated { IfOk result (λ r.
+            AreSeated (start_on self.lock.header r.0.history) r.0.history.entries) }
+        ensures calls { IfOk result (λ r.
+            r.0.share ≡ calls (start_on self.lock.header r.0.history) r.0.history.entries) }
+        ensures back { IfErr result (λ r. (r.0 ≡ self) × (r.1 ≡ passes)) }
+    {
+        match self.mutex.close(rt, passes) {
+            Ok(closed) => Ok(closed),
+            Err((mutex, passes, fault)) => Err((RwMutex { mutex }, passes, fault)),
+        }
+    }
+
+    /// The monitor, for what it tells of the lock, and for `trim` and `meet`.
+    pub fn monitor(&self) -> &Monitor<RwHooks, Slot<T>>
+        ensures { result.now ≡ self.now.lock }
+    {
+        self.mutex.monitor()
+    }
+}
+
+/// Each of these is called by a pass that doesn't write, and answers a guard, which has the value. Behind an `Err`
+/// the pass writes nothing, and nobody has lost the value. A fault is the monitor's, as at [`Mutex`].
+///
+/// A pass that reads waits for itself here: it calls `unread` first.
+///
+/// The pass is the first argument, as in `RwMutex::write(pass, &lock, rt, parking)`, since the guard borrows it.
+impl<T: Drop> RwMutex<T> {
+    /// Waits until nobody else writes or reads. An interrupt doesn't end the wait, and stays pending. This is
+    /// `WriteLock.lock()` of Java SE 8.
+    pub fn write<'a, P: Parking, R: Wait + Clock>(
+        pass: &'a mut Pass,
+        lock: &'a RwMutex<T>,
+        rt: &'a R,
+        parking: &'a P,
+    ) -> Result<Guard<'a, T, P, R, RwHooks>, Fault>
+        requires is_of { pass.old.lock ≡ lock.now.lock }
+        requires places { lock.now.lock.header.seats ≤ P.seats parking.now }
+        requires free { holds pass.old ≡ 0 }
+        ensures* not_locked { sem 𝓛 (RestsIfErr the_row pass.entry (λ guard. guard.pass.ghost_name) result
+            (λ last. NotLocked lock.now.when_full (acquires (P.did parking.now) Plain) pass.old (told_by result) last)) }
+        ensures same_reference { IfOk result (λ guard. guard.pass.ghost_name ≡ pass.entry.ghost_name) }
+        ensures guards { IfOk result (λ guard.
+            Guards guard.lock.now (P.seats guard.parking.now) guard.pass.now guard.slot) }
+        ensures locked { IfOk result (λ guard.
+            Locked lock.now.when_full (acquires (P.did parking.now) Plain) pass.old guard.slot guard.pass.now) }
+    {
+        Mutex::lock(pass, &lock.mutex, rt, parking)
+    }
+
+    /// Waits until it has the lock, or is interrupted: `Err(Interrupted)`, also where an interrupt was pending. The
+    /// interrupt is taken. This is `WriteLock.lockInterruptibly()`.
+    pub fn write_interruptibly<'a, P: Parking, R: Wait + Clock>(
+        pass: &'a mut Pass,
+        lock: &'a RwMutex<T>,
+        rt: &'a R,
+        parking: &'a P,
+    ) -> Result<Guard<'a, T, P, R, RwHooks>, Fault>
+        requires is_of { pass.old.lock ≡ lock.now.lock }
+        requires places { lock.now.lock.header.seats ≤ P.seats parking.now }
+        requires free { holds pass.old ≡ 0 }
+        ensures* not_locked { sem 𝓛 (RestsIfErr the_row pass.entry (λ guard. guard.pass.ghost_name) result
+            (λ last. NotLocked lock.now.when_full (acquires (P.did parking.now) Interruptible) pass.old (told_by result) last)) }
+        ensures same_reference { IfOk result (λ guard. guard.pass.ghost_name ≡ pass.entry.ghost_name) }
+        ensures guards { IfOk result (λ guard.
+            Guards guard.lock.now (P.seats guard.parking.now) guard.pass.now guard.slot) }
+        ensures locked { IfOk result (λ guard.
+            Locked lock.now.when_full (acquires (P.did parking.now) Interruptible) pass.old guard.slot guard.pass.now) }
+    {
+        Mutex::lock_interruptibly(pass, &lock.mutex, rt, parking)
+    }
+
+    /// Takes the lock if nobody writes or reads now. It goes past those in line, under a fair policy too, but not
+    /// under a strict one. This is `WriteLock.tryLock()`.
+    pub fn try_write<'a, P: Parking, R: Wait + Clock>(
+        pass: &'a mut Pass,
+        lock: &'a RwMutex<T>,
+        rt: &'a R,
+        parking: &'a P,
+    ) -> Result<Guard<'a, T, P, R, RwHooks>, TryLockFault>
+        requires is_of { pass.old.lock ≡ lock.now.lock }
+        requires places { lock.now.lock.header.seats ≤ P.seats parking.now }
+        requires free { holds pass.old ≡ 0 }
+        ensures* not_locked { sem 𝓛 (RestsIfErr the_row pass.entry (λ guard. guard.pass.ghost_name) result
+            (λ last. NotLocked lock.now.when_full (tries (P.did parking.now)) pass.old (told_if result) last)) }
+        ensures same_reference { IfOk result (λ guard. guard.pass.ghost_name ≡ pass.entry.ghost_name) }
+        ensures guards { IfOk result (λ guard.
+            Guards guard.lock.now (P.seats guard.parking.now) guard.pass.now guard.slot) }
+        ensures locked { IfOk result (λ guard.
+            Locked lock.now.when_full (tries (P.did parking.now)) pass.old guard.slot guard.pass.now) }
+    {
+        Mutex::try_lock(pass, &lock.mutex, rt, parking)
+    }
+
+    /// Waits for the lock, for `ms` milliseconds at most, or until it is interrupted: `Err(Failed(Interrupted))`.
+    /// With 0 it doesn't wait, and under a fair or strict policy it doesn't go past those in line. This is
+    /// `WriteLock.tryLock(time, unit)`.
+    pub fn try_write_for<'a, P: Parking, R: Wait + Clock>(
+        pass: &'a mut Pass,
+        lock: &'a RwMutex<T>,
+        rt: &'a R,
+        parking: &'a P,
+        ms: u32,
+    ) -> Result<Guard<'a, T, P, R, RwHooks>, TryLockFault>
+        requires is_of { pass.old.lock ≡ lock.now.lock }
+        requires places { lock.now.lock.header.seats ≤ P.seats parking.now }
+        requires free { holds pass.old ≡ 0 }
+        ensures* not_locked { sem 𝓛 (RestsIfErr the_row pass.entry (λ guard. guard.pass.ghost_name) result
+            (λ last. NotLocked lock.now.when_full (acquires (P.did parking.now) (Timed ms)) pass.old (told_if result) last)) }
+        ensures same_reference { IfOk result (λ guard. guard.pass.ghost_name ≡ pass.entry.ghost_name) }
+        ensures guards { IfOk result (λ guard.
+            Guards guard.lock.now (P.seats guard.parking.now) guard.pass.now guard.slot) }
+        ensures locked { IfOk result (λ guard.
+            Locked lock.now.when_full (acquires (P.did parking.now) (Timed ms)) pass.old guard.slot guard.pass.now) }
+    {
+        Mutex::try_lock_for(pass, &lock.mutex, rt, parking, ms)
+    }
+}
+
+/// Each of these is called by a pass that doesn't write, and may read already: it then has one read hold more. Behind
+/// an `Err` it has as many as before. There are 65535 read holds for all passes together, and then
+/// `Err(TooManyHolds)`; the other faults are the monitor's, as at [`Mutex`].
+impl<T: Drop> RwMutex<T> {
+    /// Waits until nobody writes. An interrupt doesn't end the wait, and stays pending. This is `ReadLock.lock()` of
+    /// Java SE 8.
+    pub fn read<P: Parking, R: Wait + Clock>(
+        &self,
+        rt: &R,
+        parking: &P,
+        pass: &mut Pass,
+    ) -> Result<(), Fault>
+        requires is_of { pass.old.lock ≡ self.now.lock }
+        requires places { self.now.lock.header.seats ≤ P.seats parking.now }
+        requires free { holds pass.old ≡ 0 }
+        ensures same { IsSame pass.old pass.new }
+        ensures begins { Before pass.old.seen pass.new.seen }
+        ensures shows { IsTrue pass.new }
+        ensures tells { Tells self.now.when_full (reads_by (P.did parking.now) Plain) pass.old pass.new (told_by result) }
+        ensures gains { GainsReads pass.old (told_by result) pass.new }
+    {
+        self.mutex.read_by(rt, parking, pass, How::Plain)
+    }
+
+    /// Waits until it reads, or is interrupted: `Err(Interrupted)`, also where an interrupt was pending. The interrupt
+    /// is taken. This is `ReadLock.lockInterruptibly()`.
+    pub fn read_interruptibly<P: Parking, R: Wait + Clock>(
+        &self,
+        rt: &R,
+        parking: &P,
+        pass: &mut Pass,
+    ) -> Result<(), Fault>
+        requires is_of { pass.old.lock ≡ self.now.lock }
+        requires places { self.now.lock.header.seats ≤ P.seats parking.now }
+        requires free { holds pass.old ≡ 0 }
+        ensures same { IsSame pass.old pass.new }
+        ensures begins { Before pass.old.seen pass.new.seen }
+        ensures shows { IsTrue pass.new }
+        ensures tells { Tells self.now.when_full (reads_by (P.did parking.now) Interruptible) pass.old pass.new (told_by result) }
+        ensures gains { GainsReads pass.old (told_by result) pass.new }
+    {
+        self.mutex.read_by(rt, parking, pass, How::Interruptible)
+    }
+
+    /// Reads if nobody writes now. It goes past those in line, under a fair policy too, but not under a strict one.
+    /// This is `ReadLock.tryLock()`.
+    pub fn try_read<P: Parking, R: Wait + Clock>(
+        &self,
+        rt: &R,
+        parking: &P,
+        pass: &mut Pass,
+    ) -> Result<(), TryLockFault>
+        requires is_of { pass.old.lock ≡ self.now.lock }
+        requires places { self.now.lock.header.seats ≤ P.seats parking.now }
+        requires free { holds pass.old ≡ 0 }
+        ensures same { IsSame pass.old pass.new }
+        ensures begins { Before pass.old.seen pass.new.seen }
+        ensures shows { IsTrue pass.new }
+        ensures tells { Tells self.now.when_full (tries_read (P.did parking.now)) pass.old pass.new (told_if result) }
+        ensures gains { GainsReads pass.old (told_if result) pass.new }
+    {
+        self.mutex.try_read_by(rt, parking, pass, Reading::Try)
+    }
+
+    /// Waits for a read hold, for `ms` milliseconds at most, or until it is interrupted: `Err(Failed(Interrupted))`.
+    /// With 0 it doesn't wait, and under a fair or strict policy it doesn't go past those in line. This is
+    /// `ReadLock.tryLock(time, unit)`.
+    pub fn try_read_for<P: Parking, R: Wait + Clock>(
+        &self,
+        rt: &R,
+        parking: &P,
+        pass: &mut Pass,
+        ms: u32,
+    ) -> Result<(), TryLockFault>
+        requires is_of { pass.old.lock ≡ self.now.lock }
+        requires places { self.now.lock.header.seats ≤ P.seats parking.now }
+        requires free { holds pass.old ≡ 0 }
+        ensures same { IsSame pass.old pass.new }
+        ensures begins { Before pass.old.seen pass.new.seen }
+        ensures shows { IsTrue pass.new }
+        ensures tells { Tells self.now.when_full (reads_by (P.did parking.now) (Timed ms)) pass.old pass.new (told_if result) }
+        ensures gains { GainsReads pass.old (told_if result) pass.new }
+    {
+        self.mutex
+            .try_read_by(rt, parking, pass, Reading::Acquire(How::Timed(ms)))
+    }
+}
+
+impl<T: Drop> RwMutex<T> {
+    /// Shows the value to `look`, in one turn of the lock: nobody has it otherwise meanwhile, a reader neither, so
+    /// let it be short. The pass reads, and goes on reading.
+    pub fn read_with<R: Wait, A, F: FnOnce(&T) -> A>(&self, rt: &R, pass: &mut Pass, look: F) -> A
+        requires is_of { pass.old.lock ≡ self.now.lock }
+        requires reads { 0 < reads pass.old }
+        requires free { holds pass.old ≡ 0 }
+        requires callable { F.IsAlwaysCallable look }
+        ensures looked { IsLook pass.old pass.new }
+        ensures shows { IsTrue pass.new }
+        ensures reads { reads pass.new ≡ reads pass.old }
+        ensures keeps { holds pass.new ≡ holds pass.old }
+        ensures saw { Saw (λ value answer. FnOnceReturnsAt F.FnOnce look value answer) pass.new result }
+    {
+        self.mutex.look(rt, pass, look)
+    }
+
+    /// Gives a read hold back. It never lacks room or memory: `Err(OutOfPhase)` where the pass was left in the
+    /// middle of another call, by steps of its own on the monitor. This is `ReadLock.unlock()`.
+    pub fn unread<P: Parking, R: Wait + Clock>(
+        &self,
+        rt: &R,
+        parking: &P,
+        pass: &mut Pass,
+    ) -> Result<(), Fault>
+        requires is_of { pass.old.lock ≡ self.now.lock }
+        requires places { self.now.lock.header.seats ≤ P.seats parking.now }
+        requires reads { 0 < reads pass.old }
+        requires free { holds pass.old ≡ 0 }
+        ensures same { IsSame pass.old pass.new }
+        ensures shows { IsTrue pass.new }
+        ensures given { GivesRead (P.did parking.now) pass.old result pass.new }
+        ensures loses { reads pass.new + gained (told_by result) ≡ reads pass.old }
+        ensures keeps { holds pass.new ≡ holds pass.old }
+    {
+        let mut slot = Slot::Empty;
+        self.mutex.end_reading(rt, parking, pass, &mut slot)
+    }
+}
+
+/// A writer may read too, and so become a reader.
+impl<T: Drop, P: Parking, R: Wait + Clock> Guard<'_, T, P, R, RwHooks> {
+    /// Takes a read hold beside the write hold: whether it did. This is `ReadLock.lock()` by the owner of the write
+    /// lock.
+    pub fn read(&mut self) -> Result<bool, Fault>
+        requires guards { Guards self.old.lock.now (P.seats self.old.parking.now) self.old.pass.now self.old.slot }
+        ensures same_reference { self.new.pass.ghost_name ≡ self.old.pass.ghost_name }
+        ensures same { IsSame self.old.pass.now self.new.pass.now }
+        ensures guards { Guards self.new.lock.now (P.seats self.new.parking.now) self.new.pass.now self.new.slot }
+        ensures tells { Tells self.old.lock.now.when_full (reads_by (P.did self.old.parking.now) Plain) self.old.pass.now
+            self.new.pass.now result }
+        ensures gains { GainsReads self.old.pass.now result self.new.pass.now }
+    {
+        let pass = &mut *self.pass;
+        self.lock
+            .read_too(self.rt, self.parking, pass, &mut self.slot)
+    }
+
+    /// Unlocks now, and keeps the read holds: so a writer becomes a reader, and nobody writes in between. It can't
+    /// fail. This is `WriteLock.unlock()` by an owner that reads too.
+    pub fn downgrade(self)
+        requires guards { Guards self.lock.now (P.seats self.parking.now) self.pass.now self.slot }
+        requires last { holds self.pass.now ≡ 1 }
+        ensures free { holds self.exit.0.now ≡ 0 }
+        ensures reads { reads self.exit.0.now ≡ reads self.entry.pass.now }
+        ensures same { IsSame self.entry.pass.now self.exit.0.now }
+        ensures shows { IsTrue self.exit.0.now }
+        ensures recorded { IsRecorded (P.did self.entry.parking.now) self.entry.pass.now (Give X 1) self.exit.0.now }
+    {}
+}
