@@ -290,22 +290,6 @@ give_reads did old new (Err f) lock same shows s some =
     let g = still old new f same s.mine in
     let more = g.reads in (omega (arith, more), g.writes)
 
--- a seat's own exclusive entry leaves its read holds
-own_exclusive : (k : Header) (i : ℕ) (w : Word) (had : ℕ) → after k i (plain i w X 1) S had ≡ had
-own_exclusive k i w had = ap (λ (b : Bool). cond (b && false) (holds_after k.object w 1 had) had) (eq-eqb i i refl)
-
--- who gives a write hold back reads on
-pub unlock_reads : (did : Deed → Type 0) (old new : Shown) (e : Entry) → IsSame old new →
-    IsEntered did old (Give X 1) (Ok e) new → reads new ≡ reads old
-unlock_reads did old new e same s =
-    let k = old.lock.header in
-    let x = s.1 in
-    let r = records (view_of x.found x.beside) (view_of new.seen x.beside_left) old.seat (Give X 1) e s.0
-    x.answered in
-    let i = idle_made (start_at x.found) x.found.entries old.seat (Give X 1) e refl r.made in
-    of_own old new S same ∙ (ap (λ (l : List Entry). held (opening k) l old.seat S) x.mine
-    ∙ (ap (λ (z : Entry). after k old.seat z S (reads old)) i.is ∙ own_exclusive k old.seat _ (reads old)))
-
 -- a look leaves a pass's holds
 pub looks_on : (old new : Shown) → IsLook old new → (reads new ≡ reads old) × (holds new ≡ holds old)
 looks_on old new l =

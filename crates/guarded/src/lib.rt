@@ -5,6 +5,9 @@
 //! very turn in which the first hold comes or the last one goes, so the value is never in two places and never
 //! in none.
 //!
+//! An [`RwMutex`] is a read-write lock of the same kind: a writer has the value, and while nobody writes, the
+//! value lies in the lock, which shows it to its readers, one at a time.
+//!
 //! A [`Guard`] has the value between `lock` and the end of its scope, where it unlocks. It borrows its pass, so a
 //! pass that holds makes no other call. An invariant of the value is what a ghost field of its type says: whoever
 //! has the value may use it, and whoever changed it has proved it.
