@@ -1,7 +1,6 @@
 //! The core of one object.
 
 mod at_once;
-mod by_kind;
 mod decide;
 mod observing;
 mod recording;
