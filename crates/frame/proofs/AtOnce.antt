@@ -35,7 +35,7 @@ use Rattle.history.specs.Phase.{Idle, phase_by, waits}
 use Rattle.history.specs.Sleepers.{sleepers, sleepers_after, sleeps_below}
 use Rattle.history.specs.Start.{Start}
 use Rattle.history.specs.Steps.{acquired, entry_for, gave, idle_entry, plain, tried, tried_fairly}
-use Rattle.frame.specs.AtOnce.{Gives, IsAlone, IsAtOnce, Takes, moves_nobody}
+use Rattle.frame.specs.AtOnce.{Gives, IsAlone, IsAtOnce, IsIdle, Takes, moves_nobody}
 use Rattle.frame.specs.Core.{CoreView, counts_of, start_of, IsAdded}
 use Rattle.frame.proofs.Stepping.{Names}
 
@@ -134,8 +134,11 @@ alone v i arrivals sleeper header is none sleeps wakes =
           ∙ ap (phase_by None) awake;
     }
 
+idle_of : (v : CoreView) (i : ℕ) → IsAlone v i → IsIdle v i
+idle_of v i is = record { header = is.header; idle = is.idle }
+
 -- the entry of an idle seat's step that the object has
-idle_made : (v : CoreView) (i : ℕ) (step : Step) → IsAlone v i →
+pub idle_made : (v : CoreView) (i : ℕ) (step : Step) → IsIdle v i →
     refused_as v.header step ≡ None → waits step ≡ false →
     entry_for (start_of v) v.entries i step ≡ Ok (Some (idle_entry (start_of v) v.entries i step))
 idle_made v i step is admitted idle =
@@ -146,7 +149,7 @@ idle_made v i step is admitted idle =
     s : Start
     s = start_of v
 
-abbrev made_of : ℕ → Mode → ℕ → Word → Result (Option Entry) Fault
+abbrev pub made_of : ℕ → Mode → ℕ → Word → Result (Option Entry) Fault
 made_of i m n w = Ok (Some (plain i w m n))
 
 -- what an acquire, a try and a try in fair order make, where nobody holds them back
@@ -167,7 +170,7 @@ nobody_first v i is = ap (λ l. mode_of (first_of l)) is.empty
 acquires_so : (v : CoreView) (i : ℕ) (m : Mode) (n : ℕ) → IsAlone v i → Takes v i (Acquire m n) m n →
     entry_for (start_of v) v.entries i (Acquire m n) ≡ made_of i m n word.Got
 acquires_so v i m n is t =
-    idle_made v i (Acquire m n) is t.admitted refl
+    idle_made v i (Acquire m n) (idle_of v i is) t.admitted refl
     ∙ ap (made_of i m n)
     (ap (λ first. acquired (counts_of v) first i m n) (nobody_first v i is)
     ∙ word_taken _ _ _ word.Got word.Queued word.Queued fault.TooManyHolds (unheld (counts_of v) i m) t.below
@@ -176,7 +179,7 @@ acquires_so v i m n is t =
 fairly_so : (v : CoreView) (i : ℕ) (m : Mode) (n : ℕ) → IsAlone v i → Takes v i (TryFair m n) m n →
     entry_for (start_of v) v.entries i (TryFair m n) ≡ made_of i m n word.Got
 fairly_so v i m n is t =
-    idle_made v i (TryFair m n) is t.admitted refl
+    idle_made v i (TryFair m n) (idle_of v i is) t.admitted refl
     ∙ ap (made_of i m n)
     (ap (λ first. tried_fairly (counts_of v) first i m n) (nobody_first v i is)
     ∙ word_taken _ _ _ word.Got word.Missed word.Missed fault.TooManyHolds (unheld (counts_of v) i m) t.below
@@ -185,14 +188,14 @@ fairly_so v i m n is t =
 tries_so : (v : CoreView) (i : ℕ) (m : Mode) (n : ℕ) → IsAlone v i → Takes v i (Try m n) m n →
     entry_for (start_of v) v.entries i (Try m n) ≡ made_of i m n word.TryGot
 tries_so v i m n is t =
-    idle_made v i (Try m n) is t.admitted refl
+    idle_made v i (Try m n) (idle_of v i is) t.admitted refl
     ∙ ap (made_of i m n)
     (ap (λ first. tried (counts_of v) first i m n) (nobody_first v i is)
     ∙ word_taken _ _ _ word.TryGot word.Missed word.Missed fault.TooManyHolds
     (ap (λ b. is_strict (counts_of v).object && b) (unheld (counts_of v) i m)
     ∙ and-false (is_strict (counts_of v).object)) t.below t.could)
 
-gives_so : (v : CoreView) (i : ℕ) (m : Mode) (n : ℕ) → IsAlone v i → Gives v i (Give m n) m n →
+pub gives_so : (v : CoreView) (i : ℕ) (m : Mode) (n : ℕ) → IsIdle v i → Gives v i (Give m n) m n →
     entry_for (start_of v) v.entries i (Give m n) ≡ made_of i m n word.Gave
 gives_so v i m n is t =
     idle_made v i (Give m n) is t.admitted refl
@@ -235,7 +238,7 @@ pub releases : (v : CoreView) (i : ℕ) (step : Step) (e : Entry) (m : Mode) (n 
     e ≡ plain i word.Gave m n → IsAlone v i → Gives v i (Give m n) m n → IsMade v i step e
 releases v i step e m n is q alone t =
     made_as v i step (Give m n) e word.Gave m n is q refl
-    (gives_so v i m n alone t)
+    (gives_so v i m n (idle_of v i alone) t)
 
 -- an entry that was added
 pub at_once : (v new : CoreView) (i : ℕ) (step : Step) (e : Entry) (r : Option Entry) → IsMade v i step e →

@@ -7,6 +7,7 @@ pub mod Stepping
 pub mod Naming
 pub mod Recording
 pub mod AtOnce
+pub mod ByKind
 pub mod Owners
 pub mod Tables
 pub mod Opening

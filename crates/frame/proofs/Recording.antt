@@ -1,19 +1,21 @@
 -- What is answered where an entry was added, or not.
-use Rattle.std.proofs.Common.{◌≡◌, inl, ℕ, ◌<◌, eqb, true, not, ◌&&◌, ◌∷◌, Option, Some, None, Result, Ok, refl, ap, ◌∙◌, sym, subst}
-use Rattle.std.specs.Prelude.{IfOk, IfSome}
+use Rattle.std.proofs.Common.{◌≡◌, inl, ℕ, ◌<◌, eqb, true, not, ◌&&◌, ◌∷◌, ◌++◌, Option, Some, None, Result, Ok, refl, ap, ◌∙◌, sym, subst}
+use Rattle.std.specs.Prelude.{IfOk, IfSome, IsOk, OnErr, Err, ◌⊎◌}
 use Rattle.std.proofs.lemmas.Bool.{cond_both}
 use Rattle.history.specs.Could.{is_seat}
 use Rattle.history.proofs.Answering.{entry_seat}
 use Rattle.history.specs.declared.entry.Entry.{Entry}
 use Rattle.history.specs.declared.fault.Fault.{Fault}
+use Rattle.history.specs.declared.fault.Fault.TheVariants.{OutOfMemory}
 use Rattle.history.specs.declared.step.Answer.{Answer}
-use Rattle.history.specs.declared.step.Answer.TheVariants.{Recorded}
+use Rattle.history.specs.declared.step.Answer.TheVariants.{Recorded, Sleep}
 use Rattle.history.specs.declared.step.Step.{Step}
-use Rattle.history.specs.Answers.{recorded}
+use Rattle.history.specs.Answers.{answer_by, recorded}
 use Rattle.history.specs.Naming.{named, named_by}
-use Rattle.history.specs.Room.{has_room}
+use Rattle.history.specs.Room.{has_room, was_owed}
 use Rattle.history.specs.Steps.{entry_for}
-use Rattle.frame.specs.Core.{CoreView, start_of, IsAdded, IsRecorded, IsTold, IsOf, NamesBelow}
+use Rattle.frame.specs.Core.{CoreView, made_by, places_behind, start_of, unmarked_at, IsAdded, IsAnswer, IsAnswered, IsRecorded, IsStepped, IsTold, IsOf, KeepsHolds, LacksMemory, NamesBelow}
+use Rattle.frame.proofs.Telling.{marks_slept}
 
 -- an entry that has room, and one that hasn't
 room_for : (v : CoreView) (e : Entry) → has_room (start_of v) v.entries e ≡ true →
@@ -60,3 +62,75 @@ names_below seats e before after name below is =
     by None l = tt
     by (Some j) l = cond_both (not (eqb j e.seat) && not (is_seat before j)) (Some j) None
         (λ x. IfSome x (λ k. k < seats)) (λ t. l) (λ t. tt)
+
+-- what is known of an entry that was recorded, or not
+pub record Entered (v : CoreView) (e : Entry) (r : Result Answer Fault) (new : CoreView) : Type 0 where
+  pub recorded : IsRecorded v e r new
+  pub told : IsTold v e.seat r new
+  pub header : new.header ≡ v.header
+  pub base : new.base ≡ v.base
+  pub fault : OnErr r (new ≡ v)
+  pub places : new.places ≡ places_behind v r
+  pub refused : IfOk r (λ answer. KeepsHolds v e.seat answer new)
+  pub owed : was_owed v.header.object e ≡ true → IsOk r
+  pub grown : new.entries ≡ made_by r ++ v.entries
+  pub own : IfOk r (λ answer. IsOf e.seat answer)
+  pub names : IfOk r (λ answer. NamesBelow v.header.seats answer)
+
+answered_by : (v new : CoreView) (i : ℕ) (step : Step) (e : Entry) (r : Result Answer Fault) →
+    entry_for (start_of v) v.entries i step ≡ Ok (Some e) → IsRecorded v e r new → IsAnswered v i step r new
+answered_by v new i step e r made is =
+    subst (λ m. IsAnswer v (answer_by (start_of v) v.entries m) r new
+    ⊎ ((r ≡ Err OutOfMemory) × LacksMemory v m new)) (sym made) is
+
+same_entry : (x y : Entry) → ◌≡◌ {A = Result (Option Entry) Fault} (Ok (Some x)) (Ok (Some y)) → x ≡ y
+same_entry x y q = cc
+
+-- so a step was answered that makes it
+pub stepped : (v new : CoreView) (i : ℕ) (step : Step) (e : Entry) (r : Result Answer Fault) →
+    entry_for (start_of v) v.entries i step ≡ Ok (Some e) → Entered v e r new → IsStepped v i step r new
+stepped v new i step e r made is =
+    let own : e.seat ≡ i = entry_seat (start_of v) v.entries i step e made in
+    record {
+      answered = answered_by v new i step e r made is.recorded;
+      told = subst (λ j. IsTold v j r new) own is.told;
+      header = is.header;
+      base = is.base;
+      fault = is.fault;
+      places = is.places;
+      refused = subst (λ j. IfOk r (λ answer. KeepsHolds v j answer new)) own is.refused;
+      owed = λ m.
+          is.owed (ap (was_owed v.header.object) (same_entry e m.0 (sym made ∙ m.1)) ∙ m.2);
+      grown = is.grown;
+      own = subst (λ j. IfOk r (λ answer. IsOf j answer)) own is.own;
+      names = is.names;
+    }
+
+-- one who waits on is told no more
+pub waited : (v new : CoreView) (i : ℕ) (step : Step) →
+    entry_for (start_of v) v.entries i step ≡ Ok None → new ≡ unmarked_at i v →
+    IsStepped v i step (Ok Sleep) new
+waited v new i step made is =
+    subst (IsStepped v i step (Ok Sleep)) (sym is) (record {
+      answered = inl (record {
+        answer = sym (ap (λ m. (answer_by (start_of v) v.entries m).0) made);
+        entries = sym (ap (λ m. (answer_by (start_of v) v.entries m).1) made);
+        header = refl;
+        base = refl;
+        places = refl;
+      });
+      told = marks_slept v i;
+      header = refl;
+      base = refl;
+      fault = tt;
+      places = refl;
+      refused = refl;
+      owed = λ m. refl;
+      grown = refl;
+      own = tt;
+      names = tt;
+    })
+
+-- an entry that is made, by what it was called
+pub made_plain : (r : Result (Option Entry) Fault) (x e : Entry) → r ≡ Ok (Some e) → x ≡ e → r ≡ Ok (Some x)
+made_plain r x e made is = subst (λ y. r ≡ Ok (Some y)) (sym is) made

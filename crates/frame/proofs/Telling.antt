@@ -14,7 +14,7 @@ use Rattle.history.specs.Naming.{named}
 use Rattle.history.specs.Start.{Start}
 use Rattle.history.proofs.Marking.{remarked_is}
 use Rattle.frame.specs.declared.seat.Seat.{Seat}
-use Rattle.frame.specs.Core.{IsTold, marks_of, unmarked_at, with_history}
+use Rattle.frame.specs.Core.{CoreView, IsTold, marks_of, start_of, unmarked_at, with_history}
 use Rattle.frame.specs.Seat.{IsSeat, marks_in, no_holds, seat_after, telling, told_in, with_mark}
 
 -- the list of the marks of a table has the mark of each seat
@@ -189,6 +189,11 @@ marks_untold s h t i = λ k j. at j k
         ∙ ap (λ l. get_or l j false) (map-set (λ (x : Seat). x.told) t i _)
         ∙ untold_at (told_in t) i j
         ∙ ap (λ m. m && not (eqb j i)) (marks_at t j)
+
+-- and what a caller sees of it
+pub marks_slept : (v : CoreView) (i : ℕ) →
+    marks_of (unmarked_at i v) ≡ marks_after (start_of v) v.entries i (Ok Sleep) (marks_of v)
+marks_slept v i = λ k j. untold_at v.told i j k
 
 pub view_untold : (k : Header) (kept : HistoryView) (t : List Seat) (i : ℕ) →
     with_history k kept (told_in (with_mark false i t)) ≡ unmarked_at i (with_history k kept (told_in t))

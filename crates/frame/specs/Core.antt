@@ -1,5 +1,5 @@
 -- What a core is to its callers, and how its fields stand for it.
-use Rattle.std.specs.Prelude.{◌≡◌, Bool, ◌⊎◌, ◌≤◌, ◌<◌, ℕ, ◌+◌, max, true, false, List, [], ◌∷◌, length, slice_index_or, slice_set, Result, Ok, Err, Option, Some, IfSome}
+use Rattle.std.specs.Prelude.{◌≡◌, Bool, ◌⊎◌, ◌≤◌, ◌<◌, ℕ, ◌+◌, max, true, false, List, [], ◌∷◌, length, slice_index_or, slice_set, Result, Ok, Err, Option, Some, IfSome, IfOk, IsOk, OnErr, ◌++◌}
 use Rattle.acquire_queue.specs.Line.{Line}
 use Rattle.condition_queue.specs.Following.{JoinedBy, Keeps}
 use Rattle.condition_queue.specs.Sleepers.{Sleepers}
@@ -209,3 +209,18 @@ trimmed v = record v { base = folded v.base v.entries; entries = [] }
 abbrev pub IsTrimmed : CoreView → Result ℕ Fault → CoreView → Type 0
 IsTrimmed old (Ok count) new = (IsTrimFull old → ⊥) × (count ≡ length old.entries) × (new ≡ trimmed old)
 IsTrimmed old (Err fault) new = IsTrimFull old × (fault ≡ TrimFull) × (new ≡ old)
+
+-- a step was answered, with all that is known of it
+pub record IsStepped (old : CoreView) (i : ℕ) (step : Step) (r : Result Answer Fault) (new : CoreView)
+    : Type 0 where
+  pub answered : IsAnswered old i step r new
+  pub told : IsTold old i r new
+  pub header : new.header ≡ old.header
+  pub base : new.base ≡ old.base
+  pub fault : OnErr r (new ≡ old)
+  pub places : new.places ≡ places_behind old r
+  pub refused : IfOk r (λ answer. KeepsHolds old i answer new)
+  pub owed : MakesOwed old i step → IsOk r
+  pub grown : new.entries ≡ made_by r ++ old.entries
+  pub own : IfOk r (λ answer. IsOf i answer)
+  pub names : IfOk r (λ answer. NamesBelow old.header.seats answer)

@@ -1,6 +1,7 @@
 //! The core of one object.
 
 mod at_once;
+mod by_kind;
 mod decide;
 mod observing;
 mod recording;

@@ -88,7 +88,7 @@ impl<H: Hooks + Drop> Core<H> {
 
     /// Whether the object has such a step, and the seat could take.
     #[inline(always)]
-    fn takes(&self, seat: u16, step: Step, mode: Mode, n: u32) -> bool
+    pub(super) fn takes(&self, seat: u16, step: Step, mode: Mode, n: u32) -> bool
         ensures { IsTrue result → Takes self.now seat step mode n }
     {
         self.admits(step) && !self.hooks.at_limit(seat, mode) && self.hooks.could(seat, mode, n)
@@ -97,7 +97,7 @@ impl<H: Hooks + Drop> Core<H> {
     /// Whether the object has such a step, and a hold or permits are given back. A latch is counted down the
     /// general way.
     #[inline(always)]
-    fn gives(&self, seat: u16, step: Step, mode: Mode, n: u32) -> bool
+    pub(super) fn gives(&self, seat: u16, step: Step, mode: Mode, n: u32) -> bool
         requires { seat < self.now.header.seats }
         ensures { IsTrue result → Gives self.now seat step mode n }
     {
@@ -123,7 +123,7 @@ impl<H: Hooks + Drop> Core<H> {
 
     /// Whether the object has such a step, with its mode and its amount.
     #[inline(always)]
-    fn admits(&self, step: Step) -> bool
+    pub(super) fn admits(&self, step: Step) -> bool
         ensures { result ≡ is_none (refused_as self.now.header step) }
     {
         let header = Header {
@@ -135,7 +135,7 @@ impl<H: Hooks + Drop> Core<H> {
 
     /// The object, as its hooks know it: those of a lock know when they are compiled that it is one.
     #[inline(always)]
-    fn object(&self) -> Object
+    pub(super) fn object(&self) -> Object
         ensures { result ≡ self.now.header.object }
     {
         self.hooks.object()

@@ -19,7 +19,7 @@ use history::step::Step;
 
 impl<H: Hooks + Drop> Core<H> {
     /// Whether somebody stands in line, and what the first asks for.
-    fn line(&self) -> Line
+    pub(super) fn line(&self) -> Line
         ensures { line_mode result ≡ first_mode_of self.now }
     {
         match self.queue.first() {

@@ -26,7 +26,7 @@ impl<H: Hooks + Drop> Core<H> {
         ensures added { IsAdded self.old entry result self.new }
         ensures names { IfOk result (λ name. IfSome name (λ seat. seat < self.old.header.seats)) }
     {
-        let object = self.header.object;
+        let object = self.object();
         let was_owed = self.history.owed();
         let owed = owed_behind(object, entry, was_owed);
         let needed = (owed + 1).saturating_sub(was_owed);

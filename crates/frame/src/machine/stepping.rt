@@ -16,7 +16,9 @@ impl<H: Hooks + Drop> Core<H> {
     fn tidy_before(&mut self, seat: u16)
         ensures { self.new ≡ self.old }
     {
-        self.queue.tidy_before(seat);
+        if self.queue.live_len() < self.queue.standing() {
+            self.queue.tidy_before(seat);
+        }
     }
 
     /// Forgets that a seat was told, where it couldn't go now.
@@ -26,6 +28,17 @@ impl<H: Hooks + Drop> Core<H> {
         ensures { self.new ≡ unmarked_at seat self.old }
     {
         untell(&mut self.seats, seat);
+    }
+
+    /// One that waits on is told no more, and the nodes of those who left right before it are freed.
+    #[inline(always)]
+    pub(super) fn sleep(&mut self, seat: u16)
+        requires seat { seat < self.old.header.seats }
+        requires waits { ready_of self.old ≢ Some seat }
+        ensures { self.new ≡ unmarked_at seat self.old }
+    {
+        self.tidy_before(seat);
+        self.untell(seat);
     }
 
     /// One step of a seat.
@@ -61,13 +74,38 @@ impl<H: Hooks + Drop> Core<H> {
     {
         match self.step_at_once(seat, step) {
             Some(entry) => Ok(Answer::Recorded(entry, None)),
-            None => self.step_in_full(seat, step),
+            None => self.step_by_kind(seat, step),
+        }
+    }
+
+    /// The same, of a step that is not done at once. The commonest of them have a way of their own, in which it
+    /// is known which entry it is.
+    #[inline(always)]
+    fn step_by_kind(&mut self, seat: u16, step: Step) -> Result<Answer, Fault>
+        requires { seat < self.old.header.seats }
+        ensures answered { IsAnswered self.old seat step result self.new }
+        ensures told { IsTold self.old seat result self.new }
+        ensures header { self.new.header ≡ self.old.header }
+        ensures base { self.new.base ≡ self.old.base }
+        ensures fault { OnErr result (self.new ≡ self.old) }
+        ensures places { self.new.places ≡ places_behind self.old result }
+        ensures refused { IfOk result (λ answer. KeepsHolds self.old seat answer self.new) }
+        ensures owed { MakesOwed self.old seat step → IsOk result }
+        ensures grown { self.new.entries ≡ made_by result ++ self.old.entries }
+        ensures own { IfOk result (λ answer. IsOf seat answer) }
+        ensures names { IfOk result (λ answer. NamesBelow self.old.header.seats answer) }
+    {
+        match step {
+            Step::Acquire(mode, n) => self.acquire(seat, mode, n),
+            Step::Give(mode, n) => self.give(seat, mode, n),
+            Step::Look => self.look(seat),
+            _ => self.step_in_full(seat, step),
         }
     }
 
     /// The same, the general way: decide, record, name.
     #[inline(never)]
-    fn step_in_full(&mut self, seat: u16, step: Step) -> Result<Answer, Fault>
+    pub(super) fn step_in_full(&mut self, seat: u16, step: Step) -> Result<Answer, Fault>
         requires { seat < self.old.header.seats }
         ensures answered { IsAnswered self.old seat step result self.new }
         ensures told { IsTold self.old seat result self.new }
@@ -85,8 +123,7 @@ impl<H: Hooks + Drop> Core<H> {
         match self.decide(seat, step) {
             Err(fault) => Err(fault),
             Ok(None) => {
-                self.tidy_before(seat);
-                self.untell(seat);
+                self.sleep(seat);
                 Ok(Answer::Sleep)
             }
             Ok(Some(entry)) => self.record(entry),

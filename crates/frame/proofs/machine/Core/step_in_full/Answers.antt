@@ -1,22 +1,21 @@
-use Rattle.std.proofs.Common.{◌≡◌, ◌∙◌, Option, None, Result, Ok, ap, sym, subst, rules}
+use Rattle.std.proofs.Common.{◌≡◌, Option, None, Result, Ok, sym, subst, rules}
 use Rattle.history.specs.declared.entry.Entry.{Entry}
 use Rattle.history.specs.declared.fault.Fault.{Fault}
 use Rattle.history.specs.Steps.{entry_for}
 use Rattle.history.proofs.Marking.{sleeper_not_ready}
-use Rattle.frame.specs.Core.{ready_of, start_of}
+use Rattle.frame.specs.Core.{start_of}
 use Rattle.frame.proofs.Recording.{own_entry, own_told}
 use Rattle.frame.proofs.machine.Core.step_in_full.Goals as goal
 
-pub untell-requires-clause-waits : goal.untell-requires-clause-waits
-untell-requires-clause-waits g c = λ r.
+pub sleep-requires-clause-waits : goal.sleep-requires-clause-waits
+sleep-requires-clause-waits g c = λ r.
     let v = c.args.self.now in
     let made : ◌≡◌ {A = Result (Option Entry) Fault} (Ok None)
     (entry_for (start_of v) v.entries c.args.seat c.args.step) =
     subst (λ x. ◌≡◌ {A = Result (Option Entry) Fault} (Ok x)
     (entry_for (start_of v) v.entries c.args.seat c.args.step)) c.in-Ok-None.field-0-is
     c.in-Ok-None.ensures.made in
-    sleeper_not_ready (start_of v) v.entries c.args.seat c.args.step (sym made)
-    (sym (ap ready_of c.tidy_before.ensures) ∙ r)
+    sleeper_not_ready (start_of v) v.entries c.args.seat c.args.step (sym made) r
 
 pub returns-in-Ok-None-clause-answered : goal.returns-in-Ok-None-clause-answered
 returns-in-Ok-None-clause-answered g c = search rules

@@ -1,19 +1,21 @@
-use Rattle.std.proofs.Common.{◌≡◌, ℕ, ◌+◌, ◌<◌, ◌≤◌, ◌∷◌, cond, length, Option, None, Result, Ok, Err, ◌∙◌, ap, sym, subst, arith, rules}
+use Rattle.std.proofs.Common.{◌≡◌, ℕ, ◌+◌, ◌-◌, ◌<◌, ◌≤◌, ◌^◌, ◌∷◌, cond, length, Option, None, Result, Ok, Err, ◌∙◌, ap, sym, subst, arith, rules}
 use Rattle.std.proofs.lemmas.List.{length-set}
 use Rattle.std.specs.Prelude.{IfSome}
 use Rattle.history.specs.Counts.{counts}
 use Rattle.history.specs.declared.fault.Fault.{Fault}
 use Rattle.history.specs.Entries.{base_on, start_on}
 use Rattle.history.specs.Naming.{named, ready}
+use Rattle.history.specs.Room.{releases, reserves}
 use Rattle.condition_queue.specs.Following.{Keeps}
 use Rattle.frame.specs.Core.{CoreView, IsAdded, ready_of, with_history}
 use Rattle.frame.specs.Effects.{asks_before, counts_after}
-use Rattle.frame.specs.Seat.{telling, told_in}
+use Rattle.frame.specs.Seat.{seat_behind, telling, told_in}
 use Rattle.condition_queue.proofs.Movable.{joined_next, movable, keeps_next}
+use Rattle.frame.proofs.Telling.{table_behind}
 use Rattle.frame.proofs.Naming.{named_below, named_now}
 use Rattle.frame.proofs.Stepping.{Grown, Names, Needs, Next, next_seen, within, needs, refused, grown, is_added, stands_next, exclusive_next, history_of, shared_next}
 use Rattle.frame.proofs.machine.Core.write.Goals as goal
-use Rattle.frame.proofs.machine.Core.write.Goals.{After-owed-was_owed, After-owed_behind-owed, After-whom_named-name}
+use Rattle.frame.proofs.machine.Core.write.Goals.{After-owed-was_owed, After-owed_behind-owed, After-whom_named-name, After-tell}
 
 -- what is known of the entry before it is added
 next : (g : _) (c : After-owed-was_owed g) → Next c.self.inside.header
@@ -22,17 +24,35 @@ next g c =
     next_seen c.self.inside.header c.self.inside.history c.args.entry _ c.self.invariant c.self.view_is
     c.requires.next
 
+-- the hooks' object is that of the header
+same : (g : _) (c : After-owed-was_owed g) → c.object-object.result ≡ c.self.inside.header.object
+same g c = c.object-object.ensures ∙ sym (ap (λ (v : CoreView). v.header.object) c.self.view_is)
+
 -- the room that it needs
-needed : (g : _) (c : After-owed_behind-owed g) → Next c.self.inside.header
+needed : (g : _) (c : After-owed_behind-owed g) → c.object-object.result ≡ c.self.inside.header.object →
+    Next c.self.inside.header
     (base_on c.self.inside.header c.self.inside.history) c.self.inside.history.entries c.args.entry →
     Needs c.self.inside.header
     (base_on c.self.inside.header c.self.inside.history) c.self.inside.history.entries c.args.entry
     c.owed-was_owed.result c.owed_behind-owed.result
-needed g c n =
+needed g c object n =
     let a = c.self.inside in
-    needs a.header (base_on a.header a.history) a.history.entries c.args.entry c.owed-was_owed.result
+    let e = c.args.entry in
+    needs a.header (base_on a.header a.history) a.history.entries e c.owed-was_owed.result
     c.owed_behind-owed.result n (c.owed-was_owed.ensures.value ∙ c.self.invariant.owed)
-    c.owed_behind-owed.ensures
+    (subst (λ o. c.owed_behind-owed.result ≡ c.owed-was_owed.result + reserves o e - releases o e) object
+    c.owed_behind-owed.ensures)
+
+-- the table
+tabled : (g : _) (c : After-tell g) → c.object-object.result ≡ c.self.inside.header.object →
+    c.tell.new.seats.items
+    ≡ table_behind c.self.inside.header.object c.args.entry c.whom_named-name.result c.self.inside.seats.items
+tabled g c object =
+    let a = c.self.inside in
+    let e = c.args.entry in
+    let name = c.whom_named-name.result in
+    subst (λ o. c.tell.new.seats.items ≡ table_behind o e name a.seats.items) object
+    (c.tell.ensures ∙ ap (telling name) c.update.ensures)
 
 -- line and sleepers follow it
 waiting : (g : _) (c : After-whom_named-name g) → Keeps (start_on c.self.inside.header c.self.inside.history)
@@ -84,14 +104,16 @@ names g c n =
 pub owed_behind-owed-requires-clause-owed : goal.owed_behind-owed-requires-clause-owed
 owed_behind-owed-requires-clause-owed g c =
     let a = c.self.inside in
-    within a.header (base_on a.header a.history) a.history.entries c.args.entry c.owed-was_owed.result
-    (next g (goal.at.owed_behind-owed-requires-clause-owed g c).After-owed-was_owed)
-    (c.owed-was_owed.ensures.value ∙ c.self.invariant.owed)
+    let e = c.args.entry in
+    let at = (goal.at.owed_behind-owed-requires-clause-owed g c).After-owed-was_owed in
+    subst (λ o. releases o e ≤ c.owed-was_owed.result + reserves o e) (sym (same g at))
+    (within a.header (base_on a.header a.history) a.history.entries e c.owed-was_owed.result (next g at)
+    (c.owed-was_owed.ensures.value ∙ c.self.invariant.owed))
 
 pub returns-in_err-make_room-clause-added : goal.returns-in_err-make_room-clause-added
 returns-in_err-make_room-clause-added g c =
     let at = goal.at.returns-in_err-make_room-clause-added g c in
-    let m = needed g at.After-owed_behind-owed (next g at.After-owed-was_owed) in
+    let m = needed g at.After-owed_behind-owed (same g at.After-owed-was_owed) (next g at.After-owed-was_owed) in
     let a = c.self.inside in
     let s = c.self.invariant in
     let was = c.owed-was_owed.ensures in
@@ -131,18 +153,24 @@ move_waiters-requires g c =
 pub update-requires-clause-exclusive : goal.update-requires-clause-exclusive
 update-requires-clause-exclusive g c =
     let a = c.self.inside in
-    let n = next g (goal.at.update-requires-clause-exclusive g c).After-owed-was_owed in
-    exclusive_next a.header (base_on a.header a.history) a.history.entries c.args.entry _ n
-    (c.self.invariant.tabled c.args.entry.seat n.seat)
+    let e = c.args.entry in
+    let at = (goal.at.update-requires-clause-exclusive g c).After-owed-was_owed in
+    let n = next g at in
+    subst (λ o. (seat_behind o e a.seats.items).exclusive < 2 ^ 32) (sym (same g at))
+    (exclusive_next a.header (base_on a.header a.history) a.history.entries e _ n
+    (c.self.invariant.tabled e.seat n.seat))
 
 pub update-requires-clause-shared : goal.update-requires-clause-shared
 update-requires-clause-shared g c =
     let a = c.self.inside in
     let s = c.self.invariant in
-    let n = next g (goal.at.update-requires-clause-shared g c).After-owed-was_owed in
+    let e = c.args.entry in
+    let at = (goal.at.update-requires-clause-shared g c).After-owed-was_owed in
+    let n = next g at in
     let short : length a.history.entries ≤ a.header.cap = let r = s.room in omega (arith, r) in
-    shared_next a.header (base_on a.header a.history) a.history.entries c.args.entry _ s.range n short
-    (s.tabled c.args.entry.seat n.seat)
+    subst (λ o. (seat_behind o e a.seats.items).shared < 2 ^ 128) (sym (same g at))
+    (shared_next a.header (base_on a.header a.history) a.history.entries e _ s.range n short
+    (s.tabled e.seat n.seat))
 
 pub tell-requires : goal.tell-requires
 tell-requires g c =
@@ -162,6 +190,7 @@ invariant_of-self-2 g c =
     let e = c.args.entry in
     let s = c.self.invariant in
     let n = next g at.After-owed-was_owed in
+    let object = same g at.After-owed-was_owed in
     let changed =
     c.change-may_name.ensures.changed (counts (start_on a.header a.history) h) s.hooks n.allowed in
     let joined =
@@ -171,8 +200,8 @@ invariant_of-self-2 g c =
     a.history c.add.new.self a.queue c.move_waiters.new.queue a.waiters c.move_waiters.new.waiters
     a.seats.items c.tell.new.seats.items e c.whom_named-name.result s n changed
     (waiting g at.After-whom_named-name) joined (names g at.After-whom_named-name n)
-    (c.tell.ensures ∙ ap (telling c.whom_named-name.result) c.update.ensures)
-    (grows g at.After-whom_named-name (needed g at.After-owed_behind-owed n))
+    (tabled g at.After-tell object)
+    (grows g at.After-whom_named-name (needed g at.After-owed_behind-owed object n))
 
 pub returns-clause-added : goal.returns-clause-added
 returns-clause-added g c =
@@ -182,13 +211,14 @@ returns-clause-added g c =
     let name = c.whom_named-name.result in
     let table = c.tell.new.seats.items in
     let n = next g at.After-owed-was_owed in
+    let object = same g at.After-owed-was_owed in
     let P : CoreView → Type 0 =
     λ w. IsAdded w e (Ok name) (with_history a.header c.add.new.self (told_in table)) in
     subst P c.self.view_is
     (is_added (g.H.Hooks.agrees a.hooks) a.header e name a.history c.add.new.self a.queue a.waiters
     a.seats.items table c.self.invariant n
-    (grows g at.After-whom_named-name (needed g at.After-owed_behind-owed n))
-    (names g at.After-whom_named-name n) (c.tell.ensures ∙ ap (telling name) c.update.ensures))
+    (grows g at.After-whom_named-name (needed g at.After-owed_behind-owed object n))
+    (names g at.After-whom_named-name n) (tabled g at.After-tell object))
 
 pub returns-clause-names : goal.returns-clause-names
 returns-clause-names g c =

@@ -1,0 +1,51 @@
+use Rattle.std.proofs.Common.{◌≡◌, ◌∙◌, Some, Ok, ap, sym, subst}
+use Rattle.history.specs.declared.step.Step.TheVariants.{Look}
+use Rattle.history.specs.Line.{first_of, line, place_of}
+use Rattle.history.specs.Steps.{entry_for}
+use Rattle.frame.specs.Core.{CoreView, start_of}
+use Rattle.frame.proofs.ByKind.{takes_turn, waits_on}
+use Rattle.frame.proofs.Deciding.{step_next}
+use Rattle.frame.proofs.Recording.{made_plain, stepped, waited}
+use Rattle.frame.proofs.machine.Core.look.Goals as goal
+use Rattle.frame.proofs.machine.Core.look.Goals.{After-granted}
+
+granted : (g : _) (c : After-granted g) →
+    entry_for (start_of c.args.self.now) c.args.self.now.entries c.args.seat Look ≡ Ok (Some c.granted.result)
+granted g c =
+    let header = subst (λ (v : CoreView). (start_of v).header ≡ v.header) c.self.view_is c.self.invariant.based in
+    let first = subst (λ (v : CoreView). first_of (line (start_of v) v.entries) ≡ Some c.in-Some.first)
+    c.self.view_is (ap first_of (sym c.self.invariant.waiting.line) ∙ sym c.first.ensures ∙ c.in-Some.is) in
+    made_plain _ c.granted.result _ (takes_turn c.args.self.now c.args.seat c.in-Some.first header first
+    (sym c.is_ready.ensures ∙ c.if-is_ready.true) c.if-first.false) c.granted.ensures
+
+pub record-requires : goal.record-requires
+record-requires g c =
+    step_next c.args.self.now c.args.seat Look c.granted.result c.requires
+    (granted g (goal.at.record-requires g c).After-granted)
+
+pub returns-then-is_some : goal.returns-then-is_some
+returns-then-is_some g c =
+    let v = c.args.self.now in
+    let header = subst (λ (v : CoreView). (start_of v).header ≡ v.header) c.self.view_is c.self.invariant.based in
+    let place = subst (λ (v : CoreView). c.arrival_of.result ≡ place_of c.args.seat (line (start_of v) v.entries))
+    c.self.view_is (c.arrival_of.ensures ∙ ap (place_of c.args.seat) c.self.invariant.waiting.line) in
+    waited v c.sleep.new.self c.args.seat Look
+    (waits_on v c.args.seat c.arrival_of.result header place (sym c.is_some.ensures ∙ c.if-is_some.true)
+    (sym c.is_ready.ensures ∙ c.if-is_ready.false)) c.sleep.ensures
+
+pub returns-else-first : goal.returns-else-first
+returns-else-first g c =
+    stepped c.args.self.now c.record.new.self c.args.seat Look c.granted.result c.record.result
+    (granted g (goal.at.returns-else-first g c).After-granted) (record {
+      recorded = c.record.ensures.recorded;
+      told = c.record.ensures.told;
+      header = c.record.ensures.header;
+      base = c.record.ensures.base;
+      fault = c.record.ensures.fault;
+      places = c.record.ensures.places;
+      refused = c.record.ensures.refused;
+      owed = c.record.ensures.owed;
+      grown = c.record.ensures.grown;
+      own = c.record.ensures.own;
+      names = c.record.ensures.names;
+    })

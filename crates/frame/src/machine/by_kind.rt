@@ -1,0 +1,140 @@
+//! The commonest steps that are not done at once: an acquire, a release and a look, of which it is known in each
+//! arm which entry they make.
+
+ghost use Rattle.std.specs.Prelude.{◌≡◌, ◌<◌, IsTrue, Some};
+ghost use Rattle.history.specs.declared.entry.End.TheVariants as end;
+ghost use Rattle.history.specs.declared.entry.Word.TheVariants as word;
+ghost use Rattle.history.specs.declared.step.Step.TheVariants.{Acquire, Give, Look};
+ghost use Rattle.history.specs.Could.{could, held_back, is_seat};
+ghost use Rattle.history.specs.Line.{first_of, line};
+ghost use Rattle.history.specs.Steps.{ended};
+ghost use Rattle.frame.specs.AtOnce.{IsIdle, may_acquire, queues};
+ghost use Rattle.frame.specs.Core.{counts_of, first_mode_of, ready_of, start_of, IsStepped};
+
+use super::Core;
+use crate::hooks::Hooks;
+use deciding::entries::plain;
+use history::arrival::Arrival;
+use history::entry::{End, Entry, Mode, Word};
+use history::fault::Fault;
+use history::step::{Answer, Step};
+
+impl<H: Hooks + Drop> Core<H> {
+    /// An acquire takes, or joins the line.
+    pub(super) fn acquire(&mut self, seat: u16, mode: Mode, n: u32) -> Result<Answer, Fault>
+        requires { seat < self.old.header.seats }
+        ensures { IsStepped self.old seat (Acquire mode n) result self.new }
+    {
+        let step = Step::Acquire(mode, n);
+        if !self.is_idle(seat) {
+            self.step_in_full(seat, step)
+        } else if self.queues(seat, step, mode, n) {
+            self.record(plain(seat, Word::Queued, mode, n))
+        } else if self.takes(seat, step, mode, n) {
+            self.record(plain(seat, Word::Got, mode, n))
+        } else {
+            self.step_in_full(seat, step)
+        }
+    }
+
+    /// A release gives back, and names the first in line if it could go now.
+    pub(super) fn give(&mut self, seat: u16, mode: Mode, n: u32) -> Result<Answer, Fault>
+        requires { seat < self.old.header.seats }
+        ensures { IsStepped self.old seat (Give mode n) result self.new }
+    {
+        let step = Step::Give(mode, n);
+        if self.is_idle(seat) && self.gives(seat, step, mode, n) {
+            self.record(plain(seat, Word::Gave, mode, n))
+        } else {
+            self.step_in_full(seat, step)
+        }
+    }
+
+    /// Who looks is granted what it asks for, if it is the first in line and could take it; else it waits on.
+    /// Who comes back from a condition goes the general way.
+    pub(super) fn look(&mut self, seat: u16) -> Result<Answer, Fault>
+        requires { seat < self.old.header.seats }
+        ensures { IsStepped self.old seat Look result self.new }
+    {
+        let Some(first) = self.queue.first() else {
+            return self.step_in_full(seat, Step::Look);
+        };
+        if self.is_ready(seat, first) {
+            if first.back {
+                self.step_in_full(seat, Step::Look)
+            } else {
+                self.record(granted(seat, first))
+            }
+        } else if self.queue.arrival_of(seat).is_some() {
+            self.sleep(seat);
+            Ok(Answer::Sleep)
+        } else {
+            self.step_in_full(seat, Step::Look)
+        }
+    }
+
+    /// Whether the seat neither stands in line nor sleeps.
+    #[inline(always)]
+    fn is_idle(&self, seat: u16) -> bool
+        ensures { IsTrue result → IsIdle self.now seat }
+    {
+        self.queue.arrival_of(seat).is_none() && self.waiters.sleeper_of(seat).is_none()
+    }
+
+    /// Whether the seat is the first in line and could take what it asks for.
+    #[inline(always)]
+    fn is_ready(&self, seat: u16, first: Arrival) -> bool
+        requires { first_of (line (start_of self.now) self.now.entries) ≡ Some first }
+        ensures { result ≡ is_seat (ready_of self.now) seat }
+    {
+        first.seat == seat && self.hooks.could(seat, first.mode, first.n)
+    }
+
+    /// Whether the object has such a step, and an acquire of the seat joins the line: it is held back, or could
+    /// not take.
+    #[inline(always)]
+    fn queues(&self, seat: u16, step: Step, mode: Mode, n: u32) -> bool
+        ensures { result ≡ queues self.now seat step mode n }
+    {
+        self.may_acquire(seat, step, mode)
+            && (self.holds_back(seat, mode) || !self.could(seat, mode, n))
+    }
+
+    /// Whether the object has such a step, and the seat is below its limit.
+    #[inline(always)]
+    fn may_acquire(&self, seat: u16, step: Step, mode: Mode) -> bool
+        ensures { result ≡ may_acquire self.now seat step mode }
+    {
+        self.admits(step) && !self.hooks.at_limit(seat, mode)
+    }
+
+    /// Whether the line holds a new call of the seat back.
+    #[inline(always)]
+    fn holds_back(&self, seat: u16, mode: Mode) -> bool
+        ensures { result ≡ held_back (counts_of self.now) (first_mode_of self.now) seat mode }
+    {
+        self.hooks.holds_back(seat, mode, self.line())
+    }
+
+    /// Whether the seat could take now.
+    #[inline(always)]
+    fn could(&self, seat: u16, mode: Mode, n: u32) -> bool
+        ensures { result ≡ could (counts_of self.now) seat mode n }
+    {
+        self.hooks.could(seat, mode, n)
+    }
+}
+
+/// The entry by which an acquire in line takes.
+fn granted(seat: u16, arrival: Arrival) -> Entry
+    ensures { result ≡ ended seat word.Granted arrival end.None }
+{
+    Entry {
+        seat,
+        word: Word::Granted,
+        mode: arrival.mode,
+        n: arrival.n,
+        at: 0,
+        end: End::None,
+    }
+}
