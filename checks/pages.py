@@ -1,5 +1,5 @@
 #!/usr/bin/env python3
-"""Says whether the pages CALLING.md show what the sources have.
+"""Says whether README, the pages of docs/ and the pages CALLING.md show what the sources have.
 
 usage: checks/pages.py [--write]      at the top of the repository
 
@@ -75,7 +75,7 @@ def strays_of(page, text, sources):
 
 
 def pages_of(top):
-    return sorted(glob.glob(f"{top}/crates/*/CALLING.md"))
+    return sorted(it for some in ("README.md", "docs/*.md", "crates/*/CALLING.md") for it in glob.glob(f"{top}/{some}"))
 
 
 def checked(top):

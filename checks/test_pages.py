@@ -1,4 +1,4 @@
-"""Tests that the pages CALLING.md show what the sources have."""
+"""Tests that README and the pages for callers show what the sources have."""
 import os
 import unittest
 
@@ -51,6 +51,11 @@ class Rows(unittest.TestCase):
 
 
 class Pages(unittest.TestCase):
+    def test_readme_and_the_documents_are_pages(self):
+        found = pages.pages_of(TOP)
+        for page in ("README.md", "docs/PROMISES.md", "crates/monitor/CALLING.md"):
+            self.assertIn(f"{TOP}/{page}", found)
+
     def test_each_caller_and_row_is_as_the_sources(self):
         count, strays = pages.checked(TOP)
         self.assertLess(10, count)
