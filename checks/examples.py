@@ -2,11 +2,12 @@
 """Runs every example and every case through the program: checks/examples.py PROGRAM [FOLDER].
 
 Each pair NAME.steps and NAME.answers is replayed, and each pair NAME.history and NAME.answers audited, from
-the file. The history text of each steps text is legal, and a trim after each step changes no answer. Each
-NAME.svg is the picture of NAME.history, or of the history that a replay of NAME.steps gives. Each NAME.script
-is run: the lines outside its histories are as NAME.answers has them, where * stands for a number that depends
-on the schedule, and `aqs audit` says the same of each history. Texts of an enemy follow, the cases of cases/
-(`cases.py`), long random lists of steps (`crowds.py`), and the times of common lines (`common_lines.py`).
+the file. Cut after any byte but the last, each of them is cut short. The history text of each steps text is
+legal, and a trim after each step changes no answer. Each NAME.svg is the picture of NAME.history, or of the
+history that a replay of NAME.steps gives. Each NAME.script is run: the lines outside its histories are as
+NAME.answers has them, where * stands for a number that depends on the schedule, and `aqs audit` says the same
+of each history. Texts of an enemy follow, the cases of cases/ (`cases.py`), long random lists of steps
+(`crowds.py`), and the times of common lines (`common_lines.py`).
 Compared are the exit status, standard output and standard error. The last line is 'N passed, M failed', and
 the status is 0 only if nothing failed and something passed.
 """
@@ -20,6 +21,7 @@ import tempfile
 import cases
 import common_lines
 import crowds
+from program import Program
 
 SECONDS = 60
 
@@ -44,6 +46,16 @@ def pairs(folder):
         else:
             status = 1 if answers.startswith(b"not legal at ") else 0
             yield ["audit", file], (status, answers, b"")
+
+
+def cuts(program, folder):
+    """A steps text or a history that lacks its end is cut short, after whichever byte, and nothing is written."""
+    short, running = (3, b"", b"aqs: cut short\n"), Program(program)
+    for (command, file), _ in pairs(folder):
+        text = file.read_bytes()
+        good = all(running.answer([command], text[:length]) == short for length in range(len(text)))
+        yield f"{command} {file.name}, cut after each byte", good
+    running.close()
 
 
 def unpaired(folder):
@@ -161,6 +173,7 @@ def hostile(program):
 def results(program, folder, scratch):
     for words, wanted in pairs(folder):
         yield " ".join(pathlib.Path(w).name for w in map(str, words)), run(program, words) == wanted
+    yield from cuts(program, folder)
     yield from round_trips(program, folder, scratch)
     yield from trimmed(program, folder)
     yield from runs(program, folder, scratch)
