@@ -54,7 +54,9 @@
 //!
 //! `CanLock` says what `Mutex::lock` asks of a caller: the pass is one of this lock's, it does not hold the
 //! lock, and the parking has a place for each thread. It is a word of `Rattle.locks.specs.Calling`, with the
-//! others that contracts of callers need. So contracts need no other crate either.
+//! others that a caller's contracts mostly need. All other words of the contracts here are passed on too:
+//! what the page of a crate names `Rattle.guarded.specs.Asking` is `Rattle.locks.specs.Asking`. So a program
+//! that has contracts lists no other crate either.
 //!
 //! ## Which type for which need
 //!
@@ -137,6 +139,8 @@ pub use history::entries::History;
 pub use history::fault::Fault;
 pub use history::header::{Header, Object, Policy};
 pub use monitor::{CloseFault, Closed, How, Monitor, Pass};
-pub use monitor_fronts::{Latch, ReadWriteLock, ReentrantLock, Semaphore};
-pub use monitor_fronts::{open_latch, open_lock, open_read_write_lock, open_semaphore};
+pub use monitor_fronts::{
+    Latch, ReadWriteLock, ReentrantLock, Semaphore, open_latch, open_lock, open_read_write_lock,
+    open_semaphore,
+};
 pub use permit::{Parking, ThreadParking};
