@@ -50,6 +50,34 @@ class Rows(unittest.TestCase):
         self.assertEqual(pages.strays_of(page, "```text\nfn fill()\n  ensures: full\n```\n", []), (0, ["ensures"]))
 
 
+class References(unittest.TestCase):
+    PAGE = f"{TOP}/crates/guarded/CALLING.md"
+
+    def test_a_reference_that_is_not_as_the_sources_is_a_stray(self):
+        made = pages.made_of(self.PAGE, "WhenFull")
+        text = f"{pages.OPENS % 'WhenFull'}\n{made}{pages.ENDS}\n"
+        self.assertEqual(pages.strays_of(self.PAGE, text, []), (1, []))
+        spoilt = text.replace("Trim", "Trims")
+        self.assertEqual(pages.strays_of(self.PAGE, spoilt, []), (1, ["the reference of WhenFull as it stands"]))
+
+    def test_a_reference_has_the_contracts_of_all_files(self):
+        made = pages.made_of(self.PAGE, "Mutex Guard")
+        for it in ("#### `Mutex::open`", "#### `Mutex::lock`", "#### `Guard::wait`", "#### `Guard::drop`"):
+            self.assertIn(f"{it}\n", made)
+        self.assertIn("requires free { holds pass.old ≡ 0 }", made)
+
+    def test_a_name_that_no_source_has_is_a_stray(self):
+        self.assertIsNone(pages.made_of(self.PAGE, "Mutex Cup"))
+        text = f"{pages.OPENS % 'Cup'}\n{pages.ENDS}\n"
+        self.assertEqual(pages.strays_of(self.PAGE, text, []), (1, ["the reference of Cup as it stands"]))
+
+    def test_each_name_that_the_facade_passes_on_is_found(self):
+        found = pages.passed_on(TOP)
+        self.assertIn(("guarded", "Mutex"), found)
+        self.assertIn(("history", "Fault"), found)
+        self.assertEqual([*pages.missing(TOP)], [])
+
+
 class Pages(unittest.TestCase):
     def test_readme_and_the_documents_are_pages(self):
         found = pages.pages_of(TOP)

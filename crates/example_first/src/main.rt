@@ -1,0 +1,56 @@
+//! A first program: two threads add to one number that a fair lock guards.
+#![tactic(auto)]
+
+ghost use Rattle.locks.specs.Calling.{CanLock};
+
+use locks::{Fault, Mutex, Pass, Policy, ThreadParking, WhenFull};
+use std::alloc::Global;
+use std::sync::Wait;
+use std::thread::Threads;
+use std::time::Clock;
+use std::{io, thread};
+
+/// Adds to the number, and returns what it is then. At the end of its scope the guard unlocks.
+fn add<R: Wait + Clock>(
+    rt: &R,
+    parking: &ThreadParking,
+    number: &Mutex<u64>,
+    pass: &mut Pass,
+    more: u64,
+) -> Result<u64, Fault>
+    requires { CanLock number.now parking.now pass.old }
+    ensures { CanLock number.now parking.now pass.new }
+{
+    let mut guard = Mutex::lock(pass, number, rt, parking)?;
+    let value = guard.value_mut();
+    *value = value.saturating_add(more);
+    Ok(*value)
+}
+
+/// Opens a lock that guards 0, for two threads that add. The later one returns the sum.
+fn sum<R: Threads + Wait + Clock + Sync>(rt: &R, alloc: Global) -> Result<u64, Fault> {
+    let parking = ThreadParking::open(rt, alloc, 2)?;
+    let opened = Mutex::open(alloc, 0u64, Policy::Fair, WhenFull::Trim, 2, 0, 64);
+    let Ok((number, mut passes)) = opened else {
+        return Err(Fault::OutOfMemory);
+    };
+    let Some(mut one) = passes.pop() else {
+        unreachable!()
+    };
+    let Some(mut two) = passes.pop() else {
+        unreachable!()
+    };
+    let (a, b) = thread::join(
+        rt,
+        || add(rt, &parking, &number, &mut one, 40),
+        || add(rt, &parking, &number, &mut two, 2),
+    );
+    Ok(a?.max(b?))
+}
+
+fn main(rt: HostRuntime) -> io::Result<()> {
+    match sum(&rt, rt.alloc()) {
+        Ok(sum) => println!(rt; "{sum}"),
+        Err(fault) => println!(rt; "no sum: {fault}"),
+    }
+}

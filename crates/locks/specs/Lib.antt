@@ -1,0 +1,24 @@
+-- The words of a caller's contracts, and all that the contracts of this crate's types speak of.
+pub mod Calling
+pub use Rattle.frame.specs.Core
+pub use Rattle.guarded.specs.Asking
+pub use Rattle.guarded.specs.Full
+pub use Rattle.guarded.specs.Guarding
+pub use Rattle.guarded.specs.Reading
+pub use Rattle.guarded.specs.Stowed
+pub use Rattle.history.specs.Counts
+pub use Rattle.history.specs.Entries
+pub use Rattle.history.specs.Header
+pub use Rattle.history.specs.Legal
+pub use Rattle.history.specs.Object
+pub use Rattle.monitor.specs.Acquire
+pub use Rattle.monitor.specs.AwaitOn
+pub use Rattle.monitor.specs.Closing
+pub use Rattle.monitor.specs.Lawful
+pub use Rattle.monitor.specs.Observing
+pub use Rattle.monitor.specs.Shown
+pub use Rattle.monitor.specs.Stepping
+pub use Rattle.monitor_fronts.specs.Holding
+pub use Rattle.monitor_fronts.specs.Told
+pub use Rattle.permit.specs.Deed
+pub use Rattle.word_lock.specs.Point

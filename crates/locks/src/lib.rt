@@ -1,0 +1,146 @@
+//! # Locks for threads
+//!
+//! The locks of `java.util.concurrent` in Java SE 8, proved: mutexes and read-write locks that own the value
+//! which they guard, and reentrant locks with conditions, read-write locks, semaphores and latches that guard
+//! no value.
+//!
+//! A program names this crate alone in `crates.txt`, as `mine: locks`. `docs/FIRST_HOUR.md` goes step by step
+//! from a fresh clone to a program of your own. The types are described in `CALLING.md` of the crates that
+//! define them: `guarded`, `monitor_fronts`, `monitor`, `permit` and `history`.
+//!
+//! ## A program
+//!
+//! Two threads add to one number. These are two functions of the crate `example_first`.
+//!
+//! ```rust
+//! /// Adds to the number, and returns what it is then. At the end of its scope the guard unlocks.
+//! fn add<R: Wait + Clock>(
+//!     rt: &R,
+//!     parking: &ThreadParking,
+//!     number: &Mutex<u64>,
+//!     pass: &mut Pass,
+//!     more: u64,
+//! ) -> Result<u64, Fault>
+//!     requires { CanLock number.now parking.now pass.old }
+//!     ensures { CanLock number.now parking.now pass.new }
+//! {
+//!     let mut guard = Mutex::lock(pass, number, rt, parking)?;
+//!     let value = guard.value_mut();
+//!     *value = value.saturating_add(more);
+//!     Ok(*value)
+//! }
+//!
+//! /// Opens a lock that guards 0, for two threads that add. The later one returns the sum.
+//! fn sum<R: Threads + Wait + Clock + Sync>(rt: &R, alloc: Global) -> Result<u64, Fault> {
+//!     let parking = ThreadParking::open(rt, alloc, 2)?;
+//!     let opened = Mutex::open(alloc, 0u64, Policy::Fair, WhenFull::Trim, 2, 0, 64);
+//!     let Ok((number, mut passes)) = opened else {
+//!         return Err(Fault::OutOfMemory);
+//!     };
+//!     let Some(mut one) = passes.pop() else {
+//!         unreachable!()
+//!     };
+//!     let Some(mut two) = passes.pop() else {
+//!         unreachable!()
+//!     };
+//!     let (a, b) = thread::join(
+//!         rt,
+//!         || add(rt, &parking, &number, &mut one, 40),
+//!         || add(rt, &parking, &number, &mut two, 2),
+//!     );
+//!     Ok(a?.max(b?))
+//! }
+//! ```
+//!
+//! `CanLock` says what `Mutex::lock` asks of a caller: the pass is one of this lock's, it does not hold the
+//! lock, and the parking has a place for each thread. It is a word of `Rattle.locks.specs.Calling`, with the
+//! others that a caller's contracts mostly need. All other words of the contracts here are passed on too:
+//! what the page of a crate names `Rattle.guarded.specs.Asking` is `Rattle.locks.specs.Asking`. So a program
+//! that has contracts lists no other crate either.
+//!
+//! ## Which type for which need
+//!
+//! | need | here | Java SE 8 | Rust's std | POSIX |
+//! |---|---|---|---|---|
+//! | a value for one thread at a time | `Mutex`, `Guard` | `ReentrantLock` | `Mutex` | `pthread_mutex_t` |
+//! | to wait until the value has changed | `Guard::wait`, `signal` | `Condition` | `Condvar` | `pthread_cond_t` |
+//! | a value that many read, few change | `RwMutex` | `ReentrantReadWriteLock` | `RwLock` | `pthread_rwlock_t` |
+//! | a lock that guards no value | `ReentrantLock` | `ReentrantLock` | none | `pthread_mutex_t` |
+//! | readers and writers of no value | `ReadWriteLock` | `ReentrantReadWriteLock` | none | `pthread_rwlock_t` |
+//! | a limit on threads at once | `Semaphore` | `Semaphore` | none | `sem_t` |
+//! | to wait for a number of events | `Latch` | `CountDownLatch` | none | none |
+//! | a place to wait, and interrupts | `ThreadParking` | `LockSupport` | `thread::park` | none |
+//! | the right of one thread to call | `Pass` | the current thread | the current thread | the current thread |
+//!
+//! `Policy` chooses who goes first. With `Fair` a new acquire waits if others wait. With `NonFair` it may
+//! overtake them. With `Strict`, which Java lacks, not even an untimed try overtakes.
+//!
+//! `WhenFull` chooses what a lock does when its history is full. `Trim` is for a program that runs on;
+//! `Refuse` is for one that wants every entry. The lock without a value, the semaphore and the latch refuse,
+//! until the program calls `trim` of their monitor.
+//!
+//! ## What is promised
+//!
+//! Each contract is proved. For each call that returns:
+//!
+//! - *Exclusion.* The value is with one guard, or in the lock. Nobody writes while another thread reads.
+//! - *The value's invariant*, a ghost field of its type, holds whenever a thread gets the value.
+//! - *Order.* No queued acquire is granted before an earlier one that still waits.
+//! - *Unlocking cannot fail.* It lacks neither memory nor room in the history, and a guard unlocks at each
+//!   way out. Releasing a semaphore can fail, since a thread may release permits that it did not acquire.
+//! - *The history.* Each call adds exactly the entries that its contract lists to one legal history, which
+//!   `close` returns.
+//! - *Errors.* After an `Err` the pass holds what it held before. The contract says what was recorded:
+//!   nothing, a refusal, or that the thread gave up waiting.
+//!
+//! Not promised: that a call which waits returns, that a woken thread runs soon, and that threads do not wait
+//! for one another in a circle. `docs/PROMISES.md` has all promises, `docs/PROOFS.md` says what is only
+//! tested.
+//!
+//! ## What it costs
+//!
+//! - *Time.* On four busy processors, 6 to 8 million pairs of lock and unlock a second with one thread, and 4
+//!   to 10 million with up to eight. Apart from a fair lock with eight threads, that is 0.14 to 0.23 times
+//!   what Java's classes reach when they keep a history too. `docs/PERFORMANCE.md` says how it was measured:
+//!   without a value under the lock.
+//! - *Moving the value.* A `Mutex` moves its value out and in at each pair. Put a large value into a `Box`.
+//! - *Memory.* 12 bytes an entry, in pages of 1,024 entries. A pair that waits for nobody takes two entries,
+//!   one that waits takes three. A lock never keeps more than `cap` entries.
+//!
+//! ## What can go wrong
+//!
+//! Each call that can fail returns a `Fault`, and these are all of them:
+//!
+//! | fault | when | what to do |
+//! |---|---|---|
+//! | `HistoryFull` | the history has no room for the call | `WhenFull::Trim`, or `trim`, or a larger `cap` |
+//! | `OutOfMemory` | an allocation failed | call again when there is memory; nothing has changed |
+//! | `Interrupted` | the thread was interrupted, in a call that heeds it | stop, or call again |
+//! | `NotOwner` | an unlock, wait or signal without the lock | mend the caller; a `Guard` rules it out |
+//! | `TooManyHolds` | 2147483647 holds of a lock, 65535 of a read-write lock | unlock as often as you lock |
+//! | `TooManyPermits` | a release past 2147483647 permits | release what was acquired |
+//! | `HoldsRead` | a wait on a condition by a writer that reads too | end the read first |
+//! | `NoSuchCondition` | a condition that the lock lacks | they count from 0; open the lock with more |
+//! | `BadAmount` | more than 2147483647 permits at once | ask for less |
+//! | `OutOfPhase` | a pass that was left in the middle of another call of the monitor | end that call first |
+//! | `WrongMode` | a step that the object does not have; no call of these types makes one | |
+//! | `TrimFull` | 1000000000000000 entries were folded | close the lock, and open a new one |
+//!
+//! A try that did not get the lock returns `TryLockFault::Missed`, or `false`. A lock that is closed without
+//! all of its passes returns `CloseFault::MissingPass`, and everything with it.
+//!
+//! What has no fault: a thread that waits for a signal which nobody sends, two threads that wait for each
+//! other, and a thread that ends without giving back its permits. Give such a wait a time: `try_lock_for`,
+//! `wait_for`.
+#![tactic(auto)]
+
+pub use guarded::{Guard, Mutex, RwMutex, TryLockFault, WhenFull};
+pub use history::entries::History;
+pub use history::fault::Fault;
+pub use history::header::{Header, Object, Policy};
+pub use monitor::{CloseFault, Closed, How, Monitor, Pass};
+pub use monitor_fronts::{
+    Latch, ReadWriteLock, ReentrantLock, Semaphore, open_latch, open_lock, open_read_write_lock,
+    open_semaphore,
+};
+pub use permit::{Parking, ThreadParking};
