@@ -74,6 +74,12 @@ turn v w i step r kept kept' below a =
       free = λ t. turn_frees v w i step r kept kept' below a t;
     }
 
+pub turn_step : (v w : CoreView) (i : ℕ) (step : Step) (r : Result Answer Fault) (kept : IsKept v)
+    (kept' : IsKept w) (below : i < v.header.seats) (a : IsAnswered v i step r w) →
+    (turn v w i step r kept kept' below a).step ≡ step
+unfolding turn
+turn_step v w i step r kept kept' below a = refl
+
 -- what a core tells of its free permits
 pub told_free : (v : CoreView) (free : ℤ) → free ≡ available (start_of v) v.entries → IsFree free (counts_of v)
 told_free v free is t = is ∙ ap (λ (b : Bool). cond b (counts_of v).free (pos 0)) t
