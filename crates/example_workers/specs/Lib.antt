@@ -1,2 +1,3 @@
+pub mod Client
 pub mod Opened
 pub mod Worker

@@ -1,19 +1,27 @@
-//! A pool of connections: clients take one, use it and put it back, and a fair semaphore has a permit for
-//! each connection that is free.
+//! A pool of connections: a client acquires one, uses it and releases it. Whoever has a connection has it by
+//! ownership, so it is in one hand at a time.
 //!
 //! First one client has all connections, and no other gets one in time. Then all clients share them. Prints
-//! how many requests were served and refused, and what the audit says of the history of the semaphore.
+//! how many requests were served and refused, how many connections lie in the pool at the end, and what the
+//! audit says of the history of its semaphore.
 
-ghost use Rattle.std.specs.Prelude.{◌≡◌, ◌<◌, ◌≤◌, All, IfOk, length};
+ghost use Rattle.std.specs.Prelude.{◌≡◌, ◌≤◌, All, IfOk, pos};
+ghost use Rattle.frame.specs.Core.{header_of};
+ghost use Rattle.history.specs.declared.header.Object.TheVariants.{Semaphore};
+ghost use Rattle.history.specs.declared.header.Policy.TheVariants.{Fair};
+ghost use Rattle.monitor.specs.Stepping.{IsSame};
+ghost use Rattle.example_workers.specs.Client.{IsOf};
 
-mod pool;
+mod clients;
+mod service;
 
-use crate::connection_pool::pool::{Outcome, Pool, Tally, request_all};
+use crate::connection_pool::clients::{Client, Outcome, dismiss, enroll};
+use crate::connection_pool::service::{Connection, Service, connect, requests_of};
+use guarded::{Pool, WhenFull};
 use history::fault::Fault;
 use history::header::{Header, Object, Policy};
 use monitor::Pass;
-use monitor_audit::{Findings, close_and_judge};
-use monitor_fronts::{Semaphore, open_semaphore};
+use monitor_audit::Findings;
 use permit::ThreadParking;
 use std::alloc::Global;
 use std::sync::Wait;
@@ -55,71 +63,69 @@ const WHILE_ALL_ARE_SHARED: Round = Round {
 /// Each client makes its requests in a thread of its own.
 fn play_round<R: Threads + Wait + Clock + Sync>(
     rt: &R,
-    pool: &Pool,
-    tally: &Tally,
-    clients: Vec<Pass>,
+    service: &Service,
+    clients: Vec<Client>,
     round: Round,
-) -> Result<Vec<Pass>, Fault>
-    requires own { All (λ p. p.lock ≡ pool.now.permits.monitor.now) clients.items }
-    ensures { IfOk result (λ v. All (λ p. p.lock ≡ pool.now.permits.monitor.now) v.items) }
+) -> Result<Vec<Client>, Fault>
+    requires { All (IsOf service.now.pool.now.lock) clients.items }
+    ensures { IfOk result (λ v. All (IsOf service.now.pool.now.lock) v.items) }
 {
     let Round { requests, patience } = round;
     let played = thread::map_vec(
         rt,
         clients,
-        &|client: Pass| -> Pass
-            requires { client.lock ≡ pool.now.permits.monitor.now }
-            ensures { result.lock ≡ pool.entry.now.permits.monitor.now }
-        { request_all(rt, pool, tally, client, requests, patience) },
+        &|client: Client| -> Client
+            requires { IsOf service.now.pool.now.lock client }
+            ensures { IsOf service.entry.now.pool.now.lock result }
+        { service.request_all(rt, client, requests, patience) },
     )?;
     Ok(played)
 }
 
-/// A round while one pass has all connections, and then one while all clients share them.
-fn play_rounds<R: Threads + Wait + Clock + Sync>(
+/// A round while one pass has all connections, and so nobody else has one.
+fn play_while_taken<R: Threads + Wait + Clock + Sync>(
     rt: &R,
-    pool: &Pool,
-    tally: &Tally,
-    owner: Pass,
-    clients: Vec<Pass>,
-) -> Result<Vec<Pass>, Fault>
-    requires own { owner.lock ≡ pool.now.permits.monitor.now }
-    requires all { All (λ p. p.lock ≡ pool.now.permits.monitor.now) clients.items }
-    ensures { IfOk result (λ v. All (λ p. p.lock ≡ pool.now.permits.monitor.now) v.items) }
+    service: &Service,
+    owner: &mut Pass,
+    clients: Vec<Client>,
+) -> Result<Vec<Client>, Fault>
+    requires is_of { owner.old.lock ≡ service.now.pool.now.lock }
+    requires own { All (IsOf service.now.pool.now.lock) clients.items }
+    ensures same { IsSame owner.old owner.new }
+    ensures own { IfOk result (λ v. All (IsOf service.now.pool.now.lock) v.items) }
 {
-    let mut owner = owner;
-    pool.close_for_all(rt, &mut owner, CONNECTIONS)?;
-    let clients = play_round(rt, pool, tally, clients, WHILE_ALL_ARE_TAKEN)?;
-    pool.open_for_all(rt, &mut owner, CONNECTIONS)?;
-    let mut passes = play_round(rt, pool, tally, clients, WHILE_ALL_ARE_SHARED)?;
-    match passes.push(owner) {
-        Ok(()) => Ok(passes),
-        Err(_) => Err(Fault::OutOfMemory),
-    }
+    let all = service.take_all(rt, owner)?;
+    let played = play_round(rt, service, clients, WHILE_ALL_ARE_TAKEN);
+    service.put_all_back(rt, owner, all)?;
+    played
 }
 
-/// All clients play with these passes, and give them back. Says what came of their requests.
-fn play_all<R: Threads + Wait + Clock + Sync>(
+/// Both rounds with the passes of a pool as it is opened. Gives the passes back, and says what came of the
+/// requests.
+fn play_rounds<R: Threads + Wait + Clock + Sync>(
     rt: &R,
     alloc: Global,
     parking: &ThreadParking,
-    permits: Semaphore,
+    pool: &Pool<Connection>,
     passes: Vec<Pass>,
 ) -> Result<(Vec<Pass>, Outcome), Fault>
-    requires places { permits.monitor.now.header.seats ≤ parking.now }
-    requires all { 0 < length passes.items }
-    requires own { All (λ p. p.lock ≡ permits.monitor.now) passes.items }
-    ensures { IfOk result (λ r. All (λ p. p.lock ≡ permits.entry.monitor.now) r.0.items) }
+    requires places { pool.now.lock.header.seats ≤ parking.now }
+    requires own { All (λ p. p.lock ≡ pool.now.lock) passes.items }
+    ensures { IfOk result (λ r. All (λ p. p.lock ≡ pool.now.lock) r.0.items) }
 {
-    let mut clients = passes;
-    let Some(owner) = clients.pop() else {
-        unreachable!()
+    let service = Service { parking, pool };
+    let mut passes = passes;
+    let Some(owner) = passes.pop() else {
+        return Err(Fault::OutOfPhase);
     };
-    let pool = Pool::open(alloc, parking, permits, CONNECTIONS)?;
-    let tally = Tally::new();
-    match play_rounds(rt, &pool, &tally, owner, clients) {
-        Ok(passes) => Ok((passes, tally.outcome(pool.requests()))),
-        Err(fault) => Err(fault),
+    let mut owner = owner;
+    let clients = enroll(alloc, pool, passes)?;
+    let clients = play_while_taken(rt, &service, &mut owner, clients)?;
+    let clients = play_round(rt, &service, clients, WHILE_ALL_ARE_SHARED)?;
+    let (mut passes, outcome) = dismiss(alloc, pool, clients)?;
+    match passes.push(owner) {
+        Ok(()) => Ok((passes, outcome)),
+        Err(_) => Err(Fault::OutOfMemory),
     }
 }
 
@@ -127,38 +133,88 @@ fn play_all<R: Threads + Wait + Clock + Sync>(
 #[derive(Clone, Copy)]
 struct Told {
     outcome: Outcome,
+    /// Requests that the connections counted.
+    by_connections: u64,
+    /// Connections that lie in the pool.
+    lie: usize,
+    /// Permits that are free by the history.
+    free: i64,
     findings: Findings,
 }
 
-/// Plays, closes the semaphore and has its history judged.
-fn play<R: Threads + Wait + Clock + Sync>(rt: &R, alloc: Global) -> Result<Told, Fault> {
+/// Closes the pool, and has the history of its semaphore judged. In the pool lies a connection for each free
+/// permit.
+fn close<R: Wait>(
+    rt: &R,
+    alloc: Global,
+    pool: Pool<Connection>,
+    passes: Vec<Pass>,
+    outcome: Outcome,
+) -> Result<Told, Fault>
+    requires own { All (λ p. p.lock ≡ pool.lock) passes.items }
+    requires header { pool.lock.header ≡ HEADER }
+    ensures { IfOk result (λ told. pos told.lie ≡ told.free) }
+{
+    match pool.close(rt, passes) {
+        Ok((closed, connections)) => {
+            let findings = Findings::of(alloc, &HEADER, &closed)?;
+            let lie = connections.len();
+            Ok(Told {
+                outcome,
+                by_connections: requests_of(connections),
+                lie,
+                free: closed.balance.available,
+                findings,
+            })
+        }
+        Err(_) => Err(Fault::OutOfPhase),
+    }
+}
+
+/// Opens a pool, plays with it, and closes it.
+fn play<R: Threads + Wait + Clock + Sync>(rt: &R, alloc: Global) -> Result<Told, Fault>
+    ensures { IfOk result (λ told. pos told.lie ≡ told.free) }
+{
     let parking = ThreadParking::open(rt, alloc, HEADER.seats)?;
-    let (monitor, passes) = open_semaphore(
+    let connections = connect(alloc, CONNECTIONS)?;
+    let opened = Pool::open(
         alloc,
+        connections,
         Policy::Fair,
-        CONNECTIONS as i32,
+        WhenFull::Refuse,
         HEADER.seats,
         HEADER.cap,
-    )?;
-    let (passes, outcome) = play_all(rt, alloc, &parking, Semaphore::of(&monitor), passes)?;
-    let findings = close_and_judge(rt, alloc, &HEADER, monitor, passes)?;
-    Ok(Told { outcome, findings })
+    );
+    match opened {
+        Ok((pool, passes)) => {
+            let (passes, outcome) = play_rounds(rt, alloc, &parking, &pool, passes)?;
+            close(rt, alloc, pool, passes, outcome)
+        }
+        Err((_connections, fault)) => Err(fault),
+    }
 }
 
 /// Runs all clients, and prints what came of it.
 pub fn run<R: Print + AllocGlobal + Threads + Wait + Clock + Sync>(rt: &R) -> io::Result<()> {
-    let Ok(told) = play(rt, rt.alloc()) else {
-        return println!(rt; "out of memory");
+    let told = match play(rt, rt.alloc()) {
+        Ok(told) => told,
+        Err(fault) => return println!(rt; "{fault}, and the connections were given up"),
     };
-    let Told { outcome, findings } = told;
+    let Told {
+        outcome,
+        by_connections,
+        lie,
+        free: _,
+        findings,
+    } = told;
     println!(rt;
-        "served {}, of them by the connections {}",
-        outcome.served, outcome.by_connections
+        "served {}, of them by the connections {by_connections}",
+        outcome.served
     )?;
     println!(rt; "not served in time {}", outcome.timed_out)?;
     println!(rt;
-        "permits without a connection {}, faults {}",
-        outcome.missing, outcome.failed
+        "connections in the pool {lie}, given up {}, faults {}",
+        outcome.given_up, outcome.failed
     )?;
     println!(rt; "calls {}", findings.calls)?;
     findings.print(rt)

@@ -2,3 +2,5 @@ pub mod Stowing
 pub mod Room
 pub mod Calling
 pub mod Readers
+pub mod Shelving
+pub mod Fetching

@@ -5,3 +5,5 @@ pub mod Asking
 pub mod Lending
 pub mod GuardLending
 pub mod Reading
+pub mod Shelved
+pub mod Pooling

@@ -1,4 +1,4 @@
-//! What the calls of a lock ask of its monitor.
+//! What the calls of a lock or a pool ask of its monitor.
 use monitor::How;
 
 /// A call by which a pass may come to hold the lock.
@@ -19,4 +19,15 @@ pub(crate) enum Reading {
     Acquire(How),
     /// Takes a read hold past those in line.
     Try,
+}
+
+/// A call of a pool.
+#[derive(Clone, Copy)]
+pub(crate) enum PoolCall {
+    /// Waits in line for so many items.
+    Acquire(u32, How),
+    /// Takes so many items past those in line.
+    Try(u32),
+    /// Gives so many items back.
+    Release(u32),
 }

@@ -64,6 +64,7 @@ fn trade<T>(here: &mut Slot<T>, there: &mut Slot<T>, before: u128, after: u128)
 }
 
 impl<T: Drop> Load for Slot<T> {
+    ghost use Rattle.std.specs.Prelude.{false};
     ghost use Rattle.history.specs.declared.entry.Mode.TheVariants.{X};
     ghost use Rattle.guarded.specs.Stowed.{Carries, Rests, alike_so};
 
@@ -71,10 +72,14 @@ impl<T: Drop> Load for Slot<T> {
 
     ghost carries = { λ s h. Carries (h X) s };
 
+    ghost is_counted = { false };
+
+    ghost amount = { λ _. 0 };
+
     ghost alike = { λ s k l same r. alike_so s k l same r };
 
     #[inline(always)]
-    fn trade(&mut self, there: &mut Self, before: Holds, after: Holds) {
+    fn trade(&mut self, there: &mut Self, before: Holds, after: Holds, _free: i64) {
         trade(self, there, before.exclusive, after.exclusive);
     }
 }

@@ -7,5 +7,6 @@ pub mod Opening
 pub mod Merging
 pub mod Looking
 pub mod Trims
+pub mod Freeing
 pub mod Loads
 pub mod TurnByTurn

@@ -1,7 +1,8 @@
 -- What a turn of the lock is to a load.
-use Rattle.std.proofs.Common.{◌≡◌, ◌≢◌, ℕ, ◌-◌, ◌==◌, Bool, true, false, ◌&&◌, not, cond, length, Some, List, [], ◌∷◌, ◌++◌, Result, Ok, Err, refl, sym, ap, ◌∙◌, subst}
+use Rattle.std.proofs.Common.{◌≡◌, ◌≢◌, ℕ, ◌-◌, ◌<◌, ◌==◌, Bool, true, false, ◌&&◌, not, cond, length, Some, List, [], ◌∷◌, ◌++◌, Result, Ok, Err, refl, sym, ap, ◌∙◌, subst}
 use Rattle.std.specs.List.{AllByRecursion}
-use Rattle.std.specs.Prelude.{ℤ}
+use Rattle.std.specs.Prelude.{ℤ, pos}
+use Rattle.deciding.specs.Balance.{available}
 use Rattle.history.specs.declared.entry.End.TheVariants as end
 use Rattle.history.specs.declared.entry.Entry.{Entry}
 use Rattle.history.specs.declared.entry.Mode.{Mode}
@@ -31,14 +32,15 @@ use Rattle.history.proofs.Folding.{fold_alike}
 use Rattle.history.proofs.GoodFolds.{owned_behind}
 use Rattle.history.proofs.OpeningBase.{based_opening}
 use Rattle.history.proofs.SleepLemmas.{held_other}
-use Rattle.frame.specs.Core.{CoreView, IsAnswered, IsTrimmed, counts_of}
+use Rattle.frame.specs.Core.{CoreView, IsAnswered, IsTrimmed, counts_of, start_of}
 use Rattle.frame.specs.Hooks.{AreAlike}
 use Rattle.word_lock.specs.Point.{header_of, Agrees}
 use Rattle.monitor.specs.Lawful.{IsKept, IsLawful, beside_of, point_of, start_at}
-use Rattle.monitor.specs.Load.{IsOneOwner, IsTurn, holds_at, holds_by, holds_in, holds_of, is_signal, opened_counts}
+use Rattle.monitor.specs.Load.{IsFree, IsOneOwner, IsTurn, holds_at, holds_by, holds_in, holds_of, is_signal, opened_counts}
 use Rattle.monitor.specs.Shown.{Shown, IsTrue}
 use Rattle.monitor.specs.Stepping.{made_by}
 use Rattle.monitor.proofs.Acquiring.{idle_made}
+use Rattle.monitor.proofs.Freeing.{turn_frees}
 use Rattle.monitor.proofs.InLine.{records}
 use Rattle.monitor.proofs.Sections.{Left, answered_shown, left}
 
@@ -55,8 +57,8 @@ one_owner p lawful lock =
 
 -- a step of a seat is a turn
 pub turn : (v w : CoreView) (i : ℕ) (step : Step) (r : Result Answer Fault) → IsKept v → IsKept w →
-    IsAnswered v i step r w → IsTurn i (counts_of v) (counts_of w)
-turn v w i step r kept kept' a =
+    i < v.header.seats → IsAnswered v i step r w → IsTurn i (counts_of v) (counts_of w)
+turn v w i step r kept kept' below a =
     let l = left i (point_of v) (point_of w) (beside_of v) (beside_of w) step r
     (answered_shown v w i step r kept kept' a) in
     let object = ap (λ (b : Base). b.header.object) (sym l.base) in record {
@@ -68,7 +70,19 @@ turn v w i step r kept kept' a =
           ∙ held_others (based v.base) (made_by r) v.entries i j m ne l.own);
       before = λ lock. one_owner (point_of v) kept.lawful lock;
       after = λ lock. one_owner (point_of w) kept'.lawful (ap is_lock object ∙ lock);
+      step = step;
+      free = λ t. turn_frees v w i step r kept kept' below a t;
     }
+
+pub turn_step : (v w : CoreView) (i : ℕ) (step : Step) (r : Result Answer Fault) (kept : IsKept v)
+    (kept' : IsKept w) (below : i < v.header.seats) (a : IsAnswered v i step r w) →
+    (turn v w i step r kept kept' below a).step ≡ step
+unfolding turn
+turn_step v w i step r kept kept' below a = refl
+
+-- what a core tells of its free permits
+pub told_free : (v : CoreView) (free : ℤ) → free ≡ available (start_of v) v.entries → IsFree free (counts_of v)
+told_free v free is t = is ∙ ap (λ (b : Bool). cond b (counts_of v).free (pos 0)) t
 
 -- what holds of the counts of a core holds of them where it was trimmed
 pub counts_folded : (b : Base) (h : List Entry) → Alike b.header (based b) (based (folded b h)) h [] →

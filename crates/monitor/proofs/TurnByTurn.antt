@@ -1,5 +1,5 @@
 -- The turns of a call that may wait, as the call that they make.
-use Rattle.std.proofs.Common.{◌≡◌, ◌≢◌, ◌⊎◌, inl, inr, ℕ, ◌<◌, ◌≤◌, Bool, true, false, cond, eqb, Option, Some, None, is_some, IsSome, IfSome, IsOk, Result, Ok, Err, refl, sym, ap, ◌∙◌, subst}
+use Rattle.std.proofs.Common.{◌≡◌, ◌≢◌, ◌⊎◌, inl, inr, ℕ, ◌<◌, ◌≤◌, Bool, true, false, cond, eqb, List, Option, Some, None, is_some, IsSome, IfSome, IsOk, Result, Ok, Err, refl, sym, ap, ◌∙◌, subst}
 use Rattle.history.specs.declared.entry.Entry.{Entry}
 use Rattle.history.specs.declared.entry.Mode.{Mode}
 use Rattle.history.specs.declared.entry.Mode.TheVariants.{X}
@@ -11,22 +11,27 @@ use Rattle.history.specs.declared.step.Answer.{Answer}
 use Rattle.history.specs.declared.step.Answer.TheVariants.{Recorded, Sleep}
 use Rattle.history.specs.declared.step.Step.{Step}
 use Rattle.history.specs.declared.step.Step.TheVariants as step
+use Rattle.std.specs.Prelude.{ℤ}
 use Rattle.history.specs.Awaiting.{signalled}
+use Rattle.history.specs.Counts.{free, free_after}
 use Rattle.history.specs.Phase.{waits}
+use Rattle.history.specs.Start.{opening}
 use Rattle.permit.specs.Deed.{Deed, interrupted, parked}
 use Rattle.permit.specs.declared.parking.Woke.{Woke}
 use Rattle.permit.specs.declared.parking.Woke.TheVariants.{Permit, Deadline, Interrupted}
 use Rattle.word_lock.specs.Point.{Before}
+use Rattle.word_lock.specs.Ticket.{LockId}
 use Rattle.word_lock.proofs.PointLaws.{before_trans}
 use Rattle.monitor.specs.Acquire.{EndsUnrecorded, LimitsFor, WasInterrupted, WasNotInterrupted, first_step}
 use Rattle.monitor.specs.AwaitOn.{first_stage}
 use Rattle.monitor.specs.Interrupts.{tells_interrupt}
+use Rattle.monitor.specs.Load.{free_of, given_by}
 use Rattle.monitor.specs.Machine.{IsBegun, IsCall, IsGoneOn, WasShown, at_stage, begins_wait, begun, first_turn, later_turn, limits_at, limits_from, next_behind, next_by, stage_for, step_at, step_by, step_of_waiting, step_within}
 use Rattle.monitor.specs.Shown.{Shown, IsTrue}
 use Rattle.monitor.specs.Stepping.{IsSame, IsStep, IsStepNow, IsUnparked, answer_of, named_in}
 use Rattle.monitor.specs.declared.step.Now.{Now}
 use Rattle.monitor.specs.declared.step.Now.TheVariants.{Done, Busy}
-use Rattle.monitor.specs.Waits.{AfterPark, AllStillWait, ComesOf, IsReply, IsWaited, MayBegin, WaitsAs, ending_of, in_line, is_lapse, no_limits, on_condition, stage_asleep, stage_behind, unless_lapse, asking}
+use Rattle.monitor.specs.Waits.{AfterPark, AllStillWait, Cause, ComesOf, IsReply, IsWaited, MayBegin, SoFar, StillWaits, WaitsAs, ending_of, in_line, is_lapse, no_limits, on_condition, stage_asleep, stage_behind, unless_lapse, asking}
 use Rattle.monitor.specs.Waits as of_waits
 use Rattle.monitor.specs.declared.how.How.{How}
 use Rattle.monitor.specs.declared.how.How.TheVariants.{Plain, Interruptible, Timed}
@@ -40,6 +45,7 @@ use Rattle.monitor.specs.declared.waiting.Limits.{Limits}
 use Rattle.monitor.specs.declared.waiting.Stage.{Stage}
 use Rattle.monitor.specs.declared.waiting.Stage.TheVariants.{Expires, Parks, Looks, GivenUp}
 use Rattle.monitor.proofs.Acquiring.{ends_at_once, ends_in_line, refused, refused_at_once, stands, unrecorded}
+use Rattle.monitor.proofs.Freeing.{waits_gives_none}
 use Rattle.monitor.proofs.InLine.{named_place, no_sleep}
 use Rattle.monitor.proofs.OnCondition as await
 use Rattle.monitor.proofs.Turns.{never_fault, still_after, turn, waited}
@@ -59,6 +65,22 @@ step_idle (Acquire m n) how true = refl
 step_idle (Acquire m n) how false = first_idle how m n
 step_idle (AwaitOn c) how true = refl
 step_idle (AwaitOn c) how false = refl
+
+-- and gives nothing back
+first_gives_none : (how : How) (m : Mode) (n : ℕ) → given_by (first_step how m n) ≡ 0
+first_gives_none Plain m n = refl
+first_gives_none Interruptible m n = refl
+first_gives_none (Timed ms) m n = by (eqb ms 0)
+  where
+    by : (b : Bool) → given_by (cond b (step.TryFair m n) (step.Acquire m n)) ≡ 0
+    by true = refl
+    by false = refl
+
+pub step_gives_none : (q : Request) (how : How) (was : Bool) → given_by (step_by q how was) ≡ 0
+step_gives_none (Acquire m n) how true = refl
+step_gives_none (Acquire m n) how false = first_gives_none how m n
+step_gives_none (AwaitOn c) how true = refl
+step_gives_none (AwaitOn c) how false = refl
 
 pub begins_awake : (old new : Shown) (q : Request) (how : How) (was : Bool) (r : Result Answer Fault) →
     IsStep old (step_by q how was) r new → r ≢ Ok Sleep
@@ -85,6 +107,9 @@ step_waits Expires l woke = refl
 step_waits Parks l woke = waits_within l woke
 step_waits Looks l woke = refl
 step_waits GivenUp l woke = refl
+
+pub later_gives_none : (w : Waiting) (woke : Woke) → given_by (step_of_waiting w woke) ≡ 0
+later_gives_none w woke = waits_gives_none (step_of_waiting w woke) (step_waits w.stage w.limits woke)
 
 pub goes_on : (old new : Shown) (w : Waiting) (woke : Woke) (r : Result Answer Fault) → IsTrue old →
     of_waits.Waits old.seen old.seat → IsStep old (step_of_waiting w woke) r new → IsOk r
@@ -189,6 +214,36 @@ pub record Begins (did : Deed → Type 0) (old new : Shown) (q : Request) (how :
   pub step : IsStep old (step_by q how false) (Ok (Recorded entry name)) new
   pub woken : IsUnparked did name
   pub begins : begins_wait q entry.word ≡ true
+
+-- the entry by which it began to wait took nothing
+begins_free : (q : Request) (w : Word) (n : ℕ) (had : ℤ) → begins_wait q w ≡ true → free_after w n had ≡ had
+begins_free (Acquire m k) word.Queued n had b = refl
+begins_free (Acquire m k) _ n had b = cc
+begins_free (AwaitOn c) word.Await n had b = refl
+begins_free (AwaitOn c) _ n had b = cc
+
+pub begun_free : (did : Deed → Type 0) (old new : Shown) (q : Request) (how : How) → IsSame old new →
+    Begins did old new q how → free_of new ≡ free_of old
+begun_free did old new q how same b =
+    ap (λ (l : LockId). free (opening l.header) new.mine) same.lock
+    ∙ (ap (λ (l : List Entry). free (opening old.lock.header) l) b.step.mine
+    ∙ begins_free q b.entry.word b.entry.n (free_of old) b.begins)
+
+-- nor has one who still waits
+still_free : (did : Deed → Type 0) (first : Shown) (was : Cause) (s : Stage) (l : Limits) (now : Shown)
+    (stage : Stage) → StillWaits did first was s l now stage → free_of now ≡ free_of first
+still_free did first was s l now stage still =
+    ap (λ (k : LockId). free (opening k.header) now.mine) still.same.lock ∙ by still.so_far
+  where
+    by : SoFar did first was s l now still.cause stage → free (opening first.lock.header) now.mine ≡ free_of first
+    by (inl x) = ap (λ (z : List Entry). free (opening first.lock.header) z) x.1
+    by (inr x) = ap (λ (z : List Entry). free (opening first.lock.header) z) x.5
+
+pub all_still_free : (did : Deed → Type 0) (first : Shown) (s : Stage) (l : Limits) (now : Shown)
+    (stage : Stage) → of_waits.Waits first.seen first.seat → AllStillWait did first s l now stage →
+    free_of now ≡ free_of first
+all_still_free did first s l now stage began still =
+    still_free did first began.0 s l now stage (still began.0 began.1)
 
 waits_by : (old new : Shown) (q : Request) (how : How) (moment : ℕ) (was : Bool)
     (r : Result Answer Fault) (w : Waiting) → IsStep old (step_by q how was) r new →

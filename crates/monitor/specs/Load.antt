@@ -1,12 +1,12 @@
 -- What a load knows of a turn of the lock.
-use Rattle.std.specs.Prelude.{◌≡◌, ◌≢◌, ◌<◌, ℕ, Bool, true, false, List, []}
+use Rattle.std.specs.Prelude.{◌≡◌, ◌≢◌, ◌<◌, ◌⊎◌, ℕ, Bool, true, false, List, [], ℤ, pos, ◌+ℤ◌, ◌-ℤ◌, ◌≤ℤ◌}
 use Rattle.history.specs.declared.entry.Mode.{Mode}
 use Rattle.history.specs.declared.entry.Mode.TheVariants.{X, S}
 use Rattle.history.specs.declared.header.Header.{Header}
 use Rattle.history.specs.declared.step.Step.{Step}
-use Rattle.history.specs.declared.step.Step.TheVariants.{Signal, SignalAll}
-use Rattle.history.specs.Counts.{Counts, counts, held}
-use Rattle.history.specs.Object.{is_lock}
+use Rattle.history.specs.declared.step.Step.TheVariants.{Give, Signal, SignalAll}
+use Rattle.history.specs.Counts.{Counts, counts, free, held}
+use Rattle.history.specs.Object.{is_lock, is_semaphore}
 use Rattle.history.specs.Start.{opening}
 use Rattle.frame.specs.Core.{CoreView, start_of}
 use Rattle.history.specs.declared.entry.Entry.{Entry}
@@ -30,6 +30,10 @@ holds_at p i m = held (start_at p) p.entries i m
 abbrev pub holds_in : CoreView → ℕ → Mode → ℕ
 holds_in v i m = held (start_of v) v.entries i m
 
+-- the permits that would be free if no pass but this one had stepped, by its own entries alone
+abbrev pub free_of : Shown → ℤ
+free_of p = free (opening p.lock.header) p.mine
+
 abbrev pub AreOf : Holds → (Mode → ℕ) → Type 0
 AreOf h f = (h.exclusive ≡ f X) × (h.shared ≡ f S)
 
@@ -42,6 +46,19 @@ pub record IsOneOwner (k : Counts) : Type 0 where
   pub one : (a b : ℕ) → 0 < k.held a X → 0 < k.held b X → a ≡ b
   pub alone : (a b : ℕ) → 0 < k.held a X → 0 < k.held b S → a ≡ b
 
+-- how many permits a step gives back
+abbrev pub given_by : Step → ℕ
+given_by (Give m n) = n
+given_by _ = 0
+
+-- The free permits of a semaphore behind a step: as many as before, or fewer by what was taken, which was free, or
+-- more by what was given back. An acquire that has what it asked for, a grant and a drain take.
+abbrev pub IsFreeAfter : Step → ℤ → ℤ → Type 0
+IsFreeAfter step had left =
+    (left ≡ had)
+    ⊎ ((given_by step ≡ 0) × ((n : ℕ) × (left ≡ had -ℤ pos n)) × (pos 0 ≤ℤ left))
+    ⊎ (left ≡ had +ℤ pos (given_by step))
+
 -- one step of a seat
 pub record IsTurn (i : ℕ) (k l : Counts) : Type 0 where
   pub object : l.object ≡ k.object
@@ -49,6 +66,22 @@ pub record IsTurn (i : ℕ) (k l : Counts) : Type 0 where
   pub others : (j : ℕ) (m : Mode) → j ≢ i → l.held j m ≡ k.held j m
   pub before : is_lock k.object ≡ true → IsOneOwner k
   pub after : is_lock k.object ≡ true → IsOneOwner l
+  pub step : Step
+  pub free : is_semaphore k.object ≡ true → IsFreeAfter step k.free l.free
+
+-- the free permits, where there are any
+abbrev pub IsFree : ℤ → Counts → Type 0
+IsFree free k = is_semaphore k.object ≡ true → free ≡ k.free
+
+-- Whoever gives permits of a counted load back brings an item for each, and else brings none.
+abbrev pub Brings : Bool → ℕ → ℕ → Type 0
+Brings true has n = has ≡ n
+Brings false has n = Unit {0}
+
+-- Of a counted load one has as many items more as permits fewer are free. Where as many are free, it is as it was.
+abbrev pub Moves : {A : Type 0} → Bool → (A → ℕ) → A → ℤ → A → ℤ → Type 0
+Moves true amount x f y g = (pos (amount y) +ℤ g ≡ pos (amount x) +ℤ f) × (g ≡ f → y ≡ x)
+Moves false amount x f y g = Unit {0}
 
 -- the steps that change nobody's holds
 abbrev pub is_signal : Step → Bool

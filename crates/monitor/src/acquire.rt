@@ -1,7 +1,7 @@
 //! An acquire, which may wait in line.
 ghost use Rattle.std.specs.Prelude.{◌≡◌, ◌≤◌, true};
 ghost use Rattle.word_lock.specs.Point.{Before};
-ghost use Rattle.monitor.specs.Load.{holds_of};
+ghost use Rattle.monitor.specs.Load.{Brings, Moves, free_of, holds_of};
 ghost use Rattle.monitor.specs.Shown.{IsTrue};
 ghost use Rattle.monitor.specs.Stepping.{IsSame};
 ghost use Rattle.monitor.specs.Machine.{IsCall};
@@ -87,11 +87,13 @@ impl<H: Hooks + Drop, L: Load> Monitor<H, L> {
         requires is_of { pass.old.lock ≡ self.now }
         requires places { self.now.header.seats ≤ P.seats parking.now }
         requires carries { L.carries load.old (holds_of pass.old) }
+        requires brings { Brings L.is_counted (L.amount load.old) 0 }
         ensures same { IsSame pass.old pass.new }
         ensures begins { Before pass.old.seen pass.new.seen }
         ensures shows { IsTrue pass.new }
         ensures acquired { IsAcquire (P.did parking.now) pass.old mode n how result pass.new }
         ensures carries { L.carries load.new (holds_of pass.new) }
+        ensures moves { Moves L.is_counted L.amount load.old (free_of pass.old) load.new (free_of pass.new) }
     {
         self.make(rt, parking, pass, load, Request::Acquire(mode, n), how)
     }
@@ -109,11 +111,13 @@ impl<H: Hooks + Drop, L: Load> Monitor<H, L> {
         requires is_of { pass.old.lock ≡ self.now }
         requires places { self.now.header.seats ≤ P.seats parking.now }
         requires carries { L.carries load.old (holds_of pass.old) }
+        requires brings { Brings L.is_counted (L.amount load.old) 0 }
         ensures same { IsSame pass.old pass.new }
         ensures begins { Before pass.old.seen pass.new.seen }
         ensures shows { IsTrue pass.new }
         ensures made { IsCall (P.did parking.now) pass.old request how result pass.new }
         ensures carries { L.carries load.new (holds_of pass.new) }
+        ensures moves { Moves L.is_counted L.amount load.old (free_of pass.old) load.new (free_of pass.new) }
     {
         if let Some(interrupts) = Interrupts::at_entry(parking, pass, how) {
             return self.refuse(rt, parking, pass, load, request, how, interrupts);
@@ -143,11 +147,13 @@ impl<H: Hooks + Drop, L: Load> Monitor<H, L> {
         requires interrupted { WasInterrupted (P.did parking.now) pass.old.seat how }
         requires taken { (interrupts.seat ≡ pass.old.seat) × (interrupts.taken ≡ true) }
         requires carries { L.carries load.old (holds_of pass.old) }
+        requires brings { Brings L.is_counted (L.amount load.old) 0 }
         ensures same { IsSame pass.old pass.new }
         ensures begins { Before pass.old.seen pass.new.seen }
         ensures shows { IsTrue pass.new }
         ensures made { IsCall (P.did parking.now) pass.old request how result pass.new }
         ensures carries { L.carries load.new (holds_of pass.new) }
+        ensures moves { Moves L.is_counted L.amount load.old (free_of pass.old) load.new (free_of pass.new) }
     {
         pass.is_true();
         let refusal = self.begin(rt, pass, load, request, how, 0, true);

@@ -1,4 +1,4 @@
-//! What lies under the lock beside the object, and changes hands as its holds do.
+//! What lies under the lock beside the object, and changes hands as its holds and permits do.
 
 /// What one seat holds in each mode.
 #[derive(Clone, Copy, Debug, PartialEq, Eq)]
@@ -9,14 +9,20 @@ pub struct Holds {
 
 /// What lies under the lock beside the object. One part lies there, and whoever holds may carry another.
 ///
-/// A step of a seat changes what that seat holds. In the same turn of the lock the load may change hands:
-/// `trade` moves it, and its contract says that each part is then where it belongs.
+/// A step of a seat changes what that seat holds, and how many permits are free. In the same turn of the lock
+/// the load may change hands: `trade` moves it, and its contract says that each part is then where it
+/// belongs.
+///
+/// A counted load is one for a semaphore. It has an item for each permit, which moves as the permit does.
+/// Permits may be given back by a pass that holds none, so who carries how many items is said by the pass's
+/// own entries: whoever gives permits back brings as many items, and whoever takes some has as many items
+/// more.
 pub trait Load: Drop {
-    ghost use Rattle.std.specs.Prelude.{ℕ};
+    ghost use Rattle.std.specs.Prelude.{Bool, ℕ};
     ghost use Rattle.history.specs.declared.entry.Mode.{Mode};
     ghost use Rattle.history.specs.Counts.{Counts};
     ghost use Rattle.frame.specs.Hooks.{AreAlike};
-    ghost use Rattle.monitor.specs.Load.{AreOf, IsTurn};
+    ghost use Rattle.monitor.specs.Load.{AreOf, Brings, IsFree, IsTurn, Moves, given_by};
 
     // What lies under the lock whenever it is free, by what is held and what is free.
     ghost rests: { Self → Counts → Type 0 };
@@ -24,11 +30,20 @@ pub trait Load: Drop {
     // What one carries who holds so much.
     ghost carries: { Self → (Mode → ℕ) → Type 0 };
 
-    /// Moves what changes hands as a seat that held `before` holds `after`.
-    fn trade(&mut self, there: &mut Self, before: Holds, after: Holds)
-        ensures { (i : ℕ) (k l : Counts) → IsTurn i k l → AreOf before (k.held i) → AreOf after (l.held i)
-            → rests self.old k → carries there.old (k.held i)
-            → rests self.new l × carries there.new (l.held i) };
+    // Whether it has an item for each permit of a semaphore.
+    ghost is_counted: { Bool };
+
+    // How many items it has, if it is counted.
+    ghost amount: { Self → ℕ };
+
+    /// Moves what changes hands as a seat that held `before` holds `after`, and so many permits are free
+    /// then.
+    fn trade(&mut self, there: &mut Self, before: Holds, after: Holds, free: i64)
+        ensures { (i : ℕ) (k l : Counts) → (turn : IsTurn i k l) → AreOf before (k.held i)
+            → AreOf after (l.held i) → IsFree free l → rests self.old k → carries there.old (k.held i)
+            → Brings is_counted (amount there.old) (given_by turn.step)
+            → rests self.new l × carries there.new (l.held i)
+            × Moves is_counted amount there.old k.free there.new l.free };
 
     // It knows of counts what they say of what the object has.
     ghost alike: { (x : Self) (k l : Counts) → AreAlike k l → rests x k → rests x l };
@@ -39,12 +54,18 @@ pub trait Load: Drop {
 pub struct Empty {}
 
 impl Load for Empty {
+    ghost use Rattle.std.specs.Prelude.{false};
+
     ghost rests = { λ _ _. Unit {0} };
 
     ghost carries = { λ _ _. Unit {0} };
 
+    ghost is_counted = { false };
+
+    ghost amount = { λ _. 0 };
+
     ghost alike = { λ _ _ _ _ _. tt };
 
     #[inline(always)]
-    fn trade(&mut self, _there: &mut Self, _before: Holds, _after: Holds) {}
+    fn trade(&mut self, _there: &mut Self, _before: Holds, _after: Holds, _free: i64) {}
 }

@@ -10,7 +10,7 @@
 //! seat was parked as [`Waiting`] says, or at once.
 ghost use Rattle.std.specs.Prelude.{◌≡◌, ◌≢◌, IfNone, IfSome, IsOk};
 ghost use Rattle.history.specs.declared.step.Answer.TheVariants.{Sleep};
-ghost use Rattle.monitor.specs.Load.{holds_of};
+ghost use Rattle.monitor.specs.Load.{Brings, Moves, free_of, holds_of};
 ghost use Rattle.monitor.specs.Machine.{IsBegun, IsGoneOn, at_stage, begins_wait, begun, first_turn, is_interrupt, later_turn, limits_at, next_behind, stage_for, step_by, step_of_waiting, step_within};
 ghost use Rattle.monitor.specs.Shown.{IsTrue};
 ghost use Rattle.monitor.specs.Stepping.{IsSame, answer_of};
@@ -285,10 +285,12 @@ impl<H: Hooks + Drop, L: Load> Monitor<H, L> {
     ) -> Turn
         requires is_of { pass.old.lock ≡ self.now }
         requires carries { L.carries load.old (holds_of pass.old) }
+        requires brings { Brings L.is_counted (L.amount load.old) 0 }
         ensures same { IsSame pass.old pass.new }
         ensures begun { IsBegun pass.old request how moment interrupted result pass.new }
         ensures shows { IsTrue pass.new }
         ensures carries { L.carries load.new (holds_of pass.new) }
+        ensures moves { Moves L.is_counted L.amount load.old (free_of pass.old) load.new (free_of pass.new) }
     {
         let step = request.step(how, interrupted);
         let answer = self.step_with(rt, pass, load, step);
@@ -308,11 +310,13 @@ impl<H: Hooks + Drop, L: Load> Monitor<H, L> {
     ) -> Option<Turn>
         requires is_of { pass.old.lock ≡ self.now }
         requires carries { L.carries load.old (holds_of pass.old) }
+        requires brings { Brings L.is_counted (L.amount load.old) 0 }
         ensures same { IsSame pass.old pass.new }
         ensures busy { IfNone result (pass.new ≡ pass.old) }
         ensures begun { IfSome result (λ turn. IsBegun pass.old request how moment interrupted turn pass.new) }
         ensures shows { IsTrue pass.new }
         ensures carries { L.carries load.new (holds_of pass.new) }
+        ensures moves { Moves L.is_counted L.amount load.old (free_of pass.old) load.new (free_of pass.new) }
     {
         let step = request.step(how, interrupted);
         let Some(answer) = answer_of(self.step_quietly(pass, load, step)) else {
@@ -333,10 +337,12 @@ impl<H: Hooks + Drop, L: Load> Monitor<H, L> {
         requires is_of { pass.old.lock ≡ self.now }
         requires waits { Waits pass.old.seen pass.old.seat }
         requires carries { L.carries load.old (holds_of pass.old) }
+        requires brings { Brings L.is_counted (L.amount load.old) 0 }
         ensures same { IsSame pass.old pass.new }
         ensures gone_on { IsGoneOn pass.old waiting woke result pass.new }
         ensures shows { IsTrue pass.new }
         ensures carries { L.carries load.new (holds_of pass.new) }
+        ensures moves { Moves L.is_counted L.amount load.old (free_of pass.old) load.new (free_of pass.new) }
     {
         pass.is_true();
         let step = waiting.step(woke);
@@ -355,11 +361,13 @@ impl<H: Hooks + Drop, L: Load> Monitor<H, L> {
         requires is_of { pass.old.lock ≡ self.now }
         requires waits { Waits pass.old.seen pass.old.seat }
         requires carries { L.carries load.old (holds_of pass.old) }
+        requires brings { Brings L.is_counted (L.amount load.old) 0 }
         ensures same { IsSame pass.old pass.new }
         ensures busy { IfNone result (pass.new ≡ pass.old) }
         ensures gone_on { IfSome result (λ turn. IsGoneOn pass.old waiting woke turn pass.new) }
         ensures shows { IsTrue pass.new }
         ensures carries { L.carries load.new (holds_of pass.new) }
+        ensures moves { Moves L.is_counted L.amount load.old (free_of pass.old) load.new (free_of pass.new) }
     {
         pass.is_true();
         let step = waiting.step(woke);

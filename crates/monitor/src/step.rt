@@ -1,7 +1,7 @@
 //! One step of a seat.
 ghost use Rattle.std.specs.Prelude.{◌≡◌, ◌<◌, ◌≤◌, false, true, IfSome};
 ghost use Rattle.history.specs.Phase.{waits};
-ghost use Rattle.monitor.specs.Load.{holds_of, is_signal};
+ghost use Rattle.monitor.specs.Load.{Brings, Moves, free_of, given_by, holds_of, is_signal};
 ghost use Rattle.monitor.specs.Shown.{IsTrue};
 ghost use Rattle.monitor.specs.Stepping.{IsSame, IsStep, IsStepNow, IsEntered, IsUnparked, named_in, now_of};
 
@@ -57,10 +57,12 @@ impl<H: Hooks + Drop, L: Load> Monitor<H, L> {
     ) -> Result<Answer, Fault>
         requires is_of { pass.old.lock ≡ self.now }
         requires carries { L.carries load.old (holds_of pass.old) }
+        requires brings { Brings L.is_counted (L.amount load.old) (given_by step) }
         ensures same { IsSame pass.old pass.new }
         ensures stepped { IsStep pass.old step result pass.new }
         ensures shows { IsTrue pass.new }
         ensures carries { L.carries load.new (holds_of pass.new) }
+        ensures moves { Moves L.is_counted L.amount load.old (free_of pass.old) load.new (free_of pass.new) }
     {
         let mut held = self.lock.lock(rt, &mut pass.token);
         let answer = held.value.step(pass.seat, step, load);
@@ -73,10 +75,12 @@ impl<H: Hooks + Drop, L: Load> Monitor<H, L> {
     pub fn step_now_with(&self, pass: &mut Pass, load: &mut L, step: Step) -> Result<Now, Fault>
         requires is_of { pass.old.lock ≡ self.now }
         requires carries { L.carries load.old (holds_of pass.old) }
+        requires brings { Brings L.is_counted (L.amount load.old) (given_by step) }
         ensures same { IsSame pass.old pass.new }
         ensures stepped { IsStepNow pass.old step result pass.new }
         ensures shows { IsTrue pass.new }
         ensures carries { L.carries load.new (holds_of pass.new) }
+        ensures moves { Moves L.is_counted L.amount load.old (free_of pass.old) load.new (free_of pass.new) }
     {
         let answer = self.step_quietly(pass, load, step);
         self.lock.wake();
@@ -87,10 +91,12 @@ impl<H: Hooks + Drop, L: Load> Monitor<H, L> {
     pub fn step_quietly(&self, pass: &mut Pass, load: &mut L, step: Step) -> Result<Now, Fault>
         requires is_of { pass.old.lock ≡ self.now }
         requires carries { L.carries load.old (holds_of pass.old) }
+        requires brings { Brings L.is_counted (L.amount load.old) (given_by step) }
         ensures same { IsSame pass.old pass.new }
         ensures stepped { IsStepNow pass.old step result pass.new }
         ensures shows { IsTrue pass.new }
         ensures carries { L.carries load.new (holds_of pass.new) }
+        ensures moves { Moves L.is_counted L.amount load.old (free_of pass.old) load.new (free_of pass.new) }
     {
         let Some(mut held) = self.lock.lock_now(&mut pass.token) else {
             return Ok(Now::Busy);
@@ -113,11 +119,13 @@ impl<H: Hooks + Drop, L: Load> Monitor<H, L> {
         requires is_of { pass.old.lock ≡ self.now }
         requires places { self.now.header.seats ≤ P.seats parking.now }
         requires carries { L.carries load.old (holds_of pass.old) }
+        requires brings { Brings L.is_counted (L.amount load.old) (given_by step) }
         ensures same { IsSame pass.old pass.new }
         ensures stepped { IsStep pass.old step result pass.new }
         ensures unparked { IsUnparked (P.did parking.now) (named_in result) }
         ensures shows { IsTrue pass.new }
         ensures carries { L.carries load.new (holds_of pass.new) }
+        ensures moves { Moves L.is_counted L.amount load.old (free_of pass.old) load.new (free_of pass.new) }
     {
         let answer = self.step_with(rt, pass, load, step);
         unpark(parking, named_in(answer));
@@ -138,10 +146,12 @@ impl<H: Hooks + Drop, L: Load> Monitor<H, L> {
         requires places { self.now.header.seats ≤ P.seats parking.now }
         requires idle { waits step ≡ false }
         requires carries { L.carries load.old (holds_of pass.old) }
+        requires brings { Brings L.is_counted (L.amount load.old) (given_by step) }
         ensures same { IsSame pass.old pass.new }
         ensures entered { IsEntered (P.did parking.now) pass.old step result pass.new }
         ensures shows { IsTrue pass.new }
         ensures carries { L.carries load.new (holds_of pass.new) }
+        ensures moves { Moves L.is_counted L.amount load.old (free_of pass.old) load.new (free_of pass.new) }
     {
         match self.call(rt, parking, pass, load, step) {
             Ok(Answer::Recorded(entry, _)) => Ok(entry),

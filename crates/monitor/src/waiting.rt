@@ -1,7 +1,7 @@
 //! The one loop in which every call waits.
 ghost use Rattle.std.specs.Prelude.{◌≡◌, ◌≤◌, ◌<◌};
 ghost use Rattle.word_lock.specs.Point.{Before};
-ghost use Rattle.monitor.specs.Load.{holds_of};
+ghost use Rattle.monitor.specs.Load.{Brings, Moves, free_of, holds_of};
 ghost use Rattle.monitor.specs.Shown.{IsTrue};
 ghost use Rattle.monitor.specs.Stepping.{IsSame};
 ghost use Rattle.monitor.specs.Waits.{IsReply, MayBegin, Waits, stage_asleep};
@@ -65,11 +65,13 @@ impl<H: Hooks + Drop, L: Load> Monitor<H, L> {
         requires waits { Waits pass.old.seen pass.old.seat }
         requires first { MayBegin waiting.limits waiting.stage }
         requires carries { L.carries load.old (holds_of pass.old) }
+        requires brings { Brings L.is_counted (L.amount load.old) 0 }
         ensures same { IsSame pass.old pass.new }
         ensures begins { Before pass.old.seen pass.new.seen }
         ensures shows { IsTrue pass.new }
         ensures waited { IsReply (P.did parking.now) pass.old waiting.stage waiting.limits result pass.new }
         ensures carries { L.carries load.new (holds_of pass.new) }
+        ensures moves { Moves L.is_counted L.amount load.old (free_of pass.old) load.new (free_of pass.new) }
     {
         pass.is_true();
         let mut interrupts = Interrupts::none(pass.seat());

@@ -1,21 +1,36 @@
-use Rattle.std.proofs.Common.{rules}
+use mir.Syntax.{w64}
+use mir.Val.{SFits}
+use Rattle.std.proofs.Common.{ℕ, ◌∙◌, rules, sym, ap, subst}
+use Rattle.std.proofs.lemmas.Int.{to_z-of_z}
 use Rattle.frame.specs.Core.{counts_of}
 use Rattle.monitor.specs.Lawful.{IsKept}
-use Rattle.monitor.specs.Load.{holds_in}
-use Rattle.monitor.proofs.Loads.{turn}
+use Rattle.monitor.specs.Load.{Brings, Moves, given_by, holds_in}
+use Rattle.monitor.proofs.Loads.{told_free, turn, turn_step}
 use Rattle.monitor.proofs.kept.step_laden.Goals as goal
 
-both : (g : _) (c : goal.After-trade g) → g.L.Load.rests c.trade.new.self (counts_of c.step-answer.new.self)
+traded : (g : _) (c : goal.After-trade g) → g.L.Load.rests c.trade.new.self (counts_of c.step-answer.new.self)
     × g.L.Load.carries c.trade.new.there (holds_in c.step-answer.new.self c.args.seat)
-both g c =
+    × Moves g.L.Load.is_counted g.L.Load.amount c.args.there.now (counts_of c.args.laden.now.core).free
+    c.trade.new.there (counts_of c.step-answer.new.self).free
+traded g c =
     let kept : IsKept c.step-answer.new.self = search rules in
+    let fits : SFits w64 c.available-free.result = search rules in
     c.trade.ensures c.args.seat (counts_of c.args.laden.now.core) (counts_of c.step-answer.new.self)
     (turn c.args.laden.now.core c.step-answer.new.self c.args.seat c.args.step c.step-answer.result c.requires.kept kept
-    c.step-answer.ensures.answered)
-    c.holds_of-before.ensures c.holds_of-after.ensures c.requires.rests c.requires.carries
+    c.requires.seat c.step-answer.ensures.answered)
+    c.holds_of-before.ensures c.holds_of-after.ensures
+    (told_free c.step-answer.new.self _
+    (to_z-of_z w64 c.available-free.result fits ∙ c.available-free.ensures.permits))
+    c.requires.rests c.requires.carries
+    (subst (λ (n : ℕ). Brings g.L.Load.is_counted (g.L.Load.amount c.args.there.now) n)
+    (ap given_by (sym (turn_step c.args.laden.now.core c.step-answer.new.self c.args.seat c.args.step
+    c.step-answer.result c.requires.kept kept c.requires.seat c.step-answer.ensures.answered))) c.requires.brings)
 
 pub returns-clause-rests : goal.returns-clause-rests
-returns-clause-rests g c = (both g c).0
+returns-clause-rests g c = (traded g c).0
 
 pub returns-clause-carries : goal.returns-clause-carries
-returns-clause-carries g c = (both g c).1
+returns-clause-carries g c = (traded g c).1
+
+pub returns-clause-moves : goal.returns-clause-moves
+returns-clause-moves g c = (traded g c).2

@@ -1,9 +1,10 @@
-use Rattle.std.proofs.Common.{◌≡◌, Result, subst}
+use Rattle.std.proofs.Common.{◌≡◌, Result, subst, ℕ, sym, ap, ◌∙◌}
 use Rattle.history.specs.declared.fault.Fault.{Fault}
 use Rattle.history.specs.declared.step.Answer.{Answer}
 use Rattle.history.specs.declared.step.Step.{Step}
+use Rattle.monitor.specs.Load.{Brings, given_by}
 use Rattle.monitor.specs.Stepping.{IsStep}
-use Rattle.monitor.proofs.TurnByTurn.{begins_awake}
+use Rattle.monitor.proofs.TurnByTurn.{begins_awake, step_gives_none}
 use Rattle.monitor.proofs.monitor.Monitor.begin.Goals as goal
 
 pub first_turn-requires : goal.first_turn-requires
@@ -20,3 +21,8 @@ returns-clause-begun g c = (
       c.step-step.ensures c.step_with-answer.ensures.stepped,
   c.first_turn.ensures,
 )
+
+pub step_with-answer-requires-clause-brings : goal.step_with-answer-requires-clause-brings
+step_with-answer-requires-clause-brings g c =
+    subst (λ (n : ℕ). Brings g.L.Load.is_counted (g.L.Load.amount c.args.load.now) n)
+    (sym (ap given_by c.step-step.ensures ∙ step_gives_none c.args.request c.args.how c.args.interrupted)) c.requires.brings

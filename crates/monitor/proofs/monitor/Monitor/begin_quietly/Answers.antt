@@ -1,7 +1,8 @@
-use Rattle.std.proofs.Common.{rules, ◌≡◌, None, sym, ◌∙◌, subst}
+use Rattle.std.proofs.Common.{rules, ◌≡◌, None, sym, ◌∙◌, subst, ℕ, ap}
 use Rattle.history.specs.declared.step.Step.{Step}
+use Rattle.monitor.specs.Load.{Brings, given_by}
 use Rattle.monitor.specs.Stepping.{IsStep, answer_of}
-use Rattle.monitor.proofs.TurnByTurn.{begins_awake, busy_now, stepped_now}
+use Rattle.monitor.proofs.TurnByTurn.{begins_awake, busy_now, stepped_now, step_gives_none}
 use Rattle.monitor.proofs.monitor.Monitor.begin_quietly.Goals as goal
 
 pub first_turn-requires : goal.first_turn-requires
@@ -26,3 +27,8 @@ returns-clause-begun g c = (
       c.step_quietly.ensures.stepped (sym c.answer_of.ensures ∙ c.in-Some.is))),
   c.first_turn.ensures,
 )
+
+pub step_quietly-requires-clause-brings : goal.step_quietly-requires-clause-brings
+step_quietly-requires-clause-brings g c =
+    subst (λ (n : ℕ). Brings g.L.Load.is_counted (g.L.Load.amount c.args.load.now) n)
+    (sym (ap given_by c.step-step.ensures ∙ step_gives_none c.args.request c.args.how c.args.interrupted)) c.requires.brings

@@ -1,8 +1,9 @@
-use Rattle.std.proofs.Common.{◌≡◌, Result, ap, ◌∙◌, subst}
+use Rattle.std.proofs.Common.{◌≡◌, Result, ap, ◌∙◌, subst, ℕ, sym}
 use Rattle.history.specs.declared.step.Step.{Step}
 use Rattle.monitor.specs.Machine.{later_turn}
+use Rattle.monitor.specs.Load.{Brings, given_by}
 use Rattle.monitor.specs.Stepping.{IsStep}
-use Rattle.monitor.proofs.TurnByTurn.{goes_on}
+use Rattle.monitor.proofs.TurnByTurn.{goes_on, later_gives_none}
 use Rattle.monitor.proofs.monitor.Monitor.go_on.Goals as goal
 
 pub turn-requires : goal.turn-requires
@@ -19,3 +20,8 @@ returns-clause-gone_on g c = (
       c.step-step.ensures c.step_with-answer.ensures.stepped,
   c.turn.ensures ∙ ap (λ (z : Step). later_turn c.args.waiting z c.step_with-answer.result) c.step-step.ensures,
 )
+
+pub step_with-answer-requires-clause-brings : goal.step_with-answer-requires-clause-brings
+step_with-answer-requires-clause-brings g c =
+    subst (λ (n : ℕ). Brings g.L.Load.is_counted (g.L.Load.amount c.args.load.now) n)
+    (sym (ap given_by c.step-step.ensures ∙ later_gives_none c.args.waiting c.args.woke)) c.requires.brings

@@ -1,8 +1,9 @@
-use Rattle.std.proofs.Common.{rules, ◌≡◌, None, sym, ap, ◌∙◌, subst}
+use Rattle.std.proofs.Common.{rules, ◌≡◌, None, sym, ap, ◌∙◌, subst, ℕ}
 use Rattle.history.specs.declared.step.Step.{Step}
 use Rattle.monitor.specs.Machine.{later_turn}
+use Rattle.monitor.specs.Load.{Brings, given_by}
 use Rattle.monitor.specs.Stepping.{IsStep, answer_of}
-use Rattle.monitor.proofs.TurnByTurn.{goes_on, busy_now, stepped_now}
+use Rattle.monitor.proofs.TurnByTurn.{goes_on, busy_now, stepped_now, later_gives_none}
 use Rattle.monitor.proofs.monitor.Monitor.go_on_quietly.Goals as goal
 
 pub turn-requires : goal.turn-requires
@@ -27,3 +28,8 @@ returns-clause-gone_on g c = (
       c.step_quietly.ensures.stepped (sym c.answer_of.ensures ∙ c.in-Some.is))),
   c.turn.ensures ∙ ap (λ (z : Step). later_turn c.args.waiting z c.in-Some.answer) c.step-step.ensures,
 )
+
+pub step_quietly-requires-clause-brings : goal.step_quietly-requires-clause-brings
+step_quietly-requires-clause-brings g c =
+    subst (λ (n : ℕ). Brings g.L.Load.is_counted (g.L.Load.amount c.args.load.now) n)
+    (sym (ap given_by c.step-step.ensures ∙ later_gives_none c.args.waiting c.args.woke)) c.requires.brings

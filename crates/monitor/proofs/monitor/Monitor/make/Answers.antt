@@ -2,11 +2,13 @@ use Rattle.std.proofs.Common.{rules, ◌≡◌, ◌≤◌, ◌∙◌, None, sym,
 use Rattle.word_lock.proofs.PointLaws.{before_trans}
 use Rattle.word_lock.specs.Ticket.{LockId}
 use Rattle.monitor.specs.Acquire.{WasNotInterrupted}
+use Rattle.monitor.specs.Load.{free_of}
 use Rattle.monitor.specs.Machine.{begun}
 use Rattle.monitor.specs.Waits.{IsReply, MayBegin}
 use Rattle.monitor.specs.declared.machine.Waiting.{Waiting}
 use Rattle.monitor.proofs.Acquiring.{found_none, found_one}
-use Rattle.monitor.proofs.TurnByTurn.{begun_after, begun_ends, begun_waits, may_wait, place_first, waited_ends, waits_now}
+use Rattle.monitor.proofs.Freeing.{brings_still, moves_since, stays}
+use Rattle.monitor.proofs.TurnByTurn.{begun_after, begun_ends, begun_free, begun_waits, may_wait, place_first, waited_ends, waits_now}
 use Rattle.monitor.proofs.monitor.Monitor.make.Goals.{After-begin-turn}
 use Rattle.monitor.proofs.monitor.Monitor.make.Goals as goal
 
@@ -79,3 +81,28 @@ returns-in-Waits-clause-made g c =
     c.begin-turn.ensures.shows c.moment-moment.ensures c.wait.ensures.begins
     (subst (λ (w : Waiting). IsReply (g.P.Parking.did c.args.parking.now) c.begin-turn.new.pass w.stage w.limits
     c.wait.result c.wait.new.pass) x.1 c.wait.ensures.waited)
+
+pub wait-requires-clause-brings : goal.wait-requires-clause-brings
+wait-requires-clause-brings g c =
+    let began = begun_waits (g.P.Parking.did c.args.parking.now) c.args.pass.now c.begin-turn.new.pass
+    c.args.request c.args.how c.moment-moment.result c.begin-turn.result c.in-Waits.waiting
+    c.begin-turn.ensures.begun c.unpark.ensures c.in-Waits.is in
+    let same = begun_free (g.P.Parking.did c.args.parking.now) c.args.pass.now c.begin-turn.new.pass c.args.request
+    c.args.how c.begin-turn.ensures.same began.0 in
+    brings_still g.L.Load.is_counted g.L.Load.amount c.args.load.now c.begin-turn.new.load 0
+    (stays g.L.Load.is_counted g.L.Load.amount c.args.load.now c.begin-turn.new.load (free_of c.args.pass.now)
+    (free_of c.begin-turn.new.pass) same c.begin-turn.ensures.moves)
+    c.requires.brings
+
+pub returns-in-Waits-clause-moves : goal.returns-in-Waits-clause-moves
+returns-in-Waits-clause-moves g c =
+    let began = begun_waits (g.P.Parking.did c.args.parking.now) c.args.pass.now c.begin-turn.new.pass
+    c.args.request c.args.how c.moment-moment.result c.begin-turn.result c.in-Waits.waiting
+    c.begin-turn.ensures.begun c.unpark.ensures c.in-Waits.is in
+    let same = begun_free (g.P.Parking.did c.args.parking.now) c.args.pass.now c.begin-turn.new.pass c.args.request
+    c.args.how c.begin-turn.ensures.same began.0 in
+    moves_since g.L.Load.is_counted g.L.Load.amount c.args.load.now c.begin-turn.new.load c.wait.new.load
+    (free_of c.args.pass.now) (free_of c.begin-turn.new.pass) (free_of c.wait.new.pass)
+    (stays g.L.Load.is_counted g.L.Load.amount c.args.load.now c.begin-turn.new.load (free_of c.args.pass.now)
+    (free_of c.begin-turn.new.pass) same c.begin-turn.ensures.moves)
+    same c.wait.ensures.moves

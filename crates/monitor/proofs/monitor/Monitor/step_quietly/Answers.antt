@@ -1,13 +1,16 @@
 use Rattle.std.proofs.Common.{◌≡◌, ◌<◌, ◌∙◌, ℕ, refl, sym, ap, subst}
+use Rattle.std.specs.Prelude.{ℤ, ◌+ℤ◌}
+use Rattle.frame.specs.Core.{counts_of}
 use Rattle.history.specs.declared.entry.Mode.{Mode}
 use Rattle.history.specs.declared.header.Header.{Header}
 use Rattle.history.specs.declared.point.Point.{Point}
 use Rattle.word_lock.specs.Held.{held_ticket}
 use Rattle.monitor.specs.Shown.{Shown, IsTrue, shown}
-use Rattle.monitor.specs.Load.{holds_at, holds_of}
+use Rattle.monitor.specs.Load.{free_of, holds_at, holds_of}
 use Rattle.word_lock.specs.Ticket.{LockId, first_entries}
 use Rattle.word_lock.proofs.Sections.{follows_taken}
 use Rattle.monitor.specs.Lawful.{beside_of, point_of}
+use Rattle.monitor.proofs.Freeing.{moves_none, moves_own, section_frees}
 use Rattle.monitor.proofs.Loads.{own_holds, true_holds}
 use Rattle.monitor.proofs.Sections.{answered_shown, owed_shown, Section, seat_below, follows_step, share_few, own_entries, sectioned, section_pass, section_true, section_step, as_step_now}
 use Rattle.monitor.proofs.monitor.Monitor.step_quietly.Goals as goal
@@ -99,3 +102,17 @@ returns-clause-carries g c =
     (sym (true_holds new (shows g c)
     ∙ ap (λ (z : Point). holds_at z c.pass.inside.seat) seen))
     c.step-answer.ensures.carries
+
+pub returns-clause-moves : goal.returns-clause-moves
+returns-clause-moves g c =
+    let new : Shown = shown c.unlock_quietly.new.token c.pass.inside.seat c.share_behind-pass-inside.result in
+    let before = (counts_of c.in-Some.held.value.laden.value.core).free in
+    let after = (counts_of c.step-answer.new.self.laden.value.core).free in
+    moves_own g.L.Load.is_counted g.L.Load.amount c.args.load.now c.step-answer.new.there
+    (free_of c.args.pass.now) (free_of new) before after
+    (section_frees _ _ _ _ _ _ _ _ _ (went g c) ∙ ap (λ (z : ℤ). z +ℤ after) (ap free_of c.pass.view_is))
+    c.step-answer.ensures.moves
+
+pub returns-in_default-clause-moves : goal.returns-in_default-clause-moves
+returns-in_default-clause-moves g c =
+    moves_none g.L.Load.is_counted g.L.Load.amount c.args.load.now (free_of c.args.pass.now)

@@ -1,9 +1,11 @@
 use Rattle.std.proofs.Common.{rules, ◌≡◌, ◌≤◌, ◌∙◌, sym, subst, refl}
 use Rattle.word_lock.specs.Ticket.{LockId}
+use Rattle.monitor.specs.Load.{free_of}
 use Rattle.monitor.specs.Machine.{step_of_waiting}
 use Rattle.monitor.specs.Waits.{ComesOf, Waits}
 use Rattle.monitor.specs.declared.machine.Next.TheVariants as next
-use Rattle.monitor.proofs.TurnByTurn.{later, place_later, replies, waits_on}
+use Rattle.monitor.proofs.Freeing.{brings_still, moves_since, stays}
+use Rattle.monitor.proofs.TurnByTurn.{all_still_free, later, place_later, replies, waits_on}
 use Rattle.monitor.proofs.Turns.{waits_first}
 use Rattle.monitor.proofs.monitor.Monitor.wait.Goals.{After-go_on-turn}
 use Rattle.monitor.proofs.monitor.Monitor.wait.Goals as goal
@@ -17,7 +19,13 @@ loop-init g c = (
   refl,
   c.none-interrupts.ensures ∙ c.seat.ensures,
   c.requires.carries,
+  λ _. refl,
 )
+
+pub go_on-turn-requires-clause-brings : goal.go_on-turn-requires-clause-brings
+go_on-turn-requires-clause-brings g c =
+    brings_still g.L.Load.is_counted g.L.Load.amount c.args.load.now c.loop.load 0 c.loop.invariant.6
+    c.requires.brings
 
 pub go_on-turn-requires-clause-waits : goal.go_on-turn-requires-clause-waits
 go_on-turn-requires-clause-waits g c =
@@ -55,17 +63,33 @@ returns-in-Ends-clause-waited g c =
     (comes g (goal.at.returns-in-Ends-clause-waited g c).After-go_on-turn) c.go_on-turn.ensures.same
     c.go_on-turn.ensures.gone_on c.unpark.ensures c.in-Ends.reply _ c.in-Ends.is
 
+pub returns-in-Ends-clause-moves : goal.returns-in-Ends-clause-moves
+returns-in-Ends-clause-moves g c =
+    moves_since g.L.Load.is_counted g.L.Load.amount c.args.load.now c.loop.load c.go_on-turn.new.load
+    (free_of c.args.pass.now) (free_of c.loop.pass) (free_of c.go_on-turn.new.pass) c.loop.invariant.6
+    (all_still_free (g.P.Parking.did c.args.parking.now) c.args.pass.now c.args.waiting.stage c.args.waiting.limits
+    c.loop.pass c.loop.waiting.stage c.requires.waits c.loop.invariant.2)
+    c.go_on-turn.ensures.moves
+
 pub loop-preserved : goal.loop-preserved
 loop-preserved g c =
     let x = waits_on (g.P.Parking.did c.args.parking.now) c.args.pass.now c.loop.pass c.go_on-turn.new.pass
     c.args.waiting.stage c.args.waiting.limits c.loop.waiting c.next_woke-woke.result c.go_on-turn.result
     c.requires.waits c.requires.first c.loop.invariant.2 c.loop.invariant.3
     (comes g (goal.at.loop-preserved g c).After-go_on-turn) c.go_on-turn.ensures.same
-    c.go_on-turn.ensures.gone_on c.unpark.ensures c.in-Waits.next c.go_on-turn.ensures.shows c.in-Waits.is in (
+    c.go_on-turn.ensures.gone_on c.unpark.ensures c.in-Waits.next c.go_on-turn.ensures.shows c.in-Waits.is in
+    let free = all_still_free (g.P.Parking.did c.args.parking.now) c.args.pass.now c.args.waiting.stage
+    c.args.waiting.limits in
+    let same = free c.go_on-turn.new.pass c.in-Waits.next.stage c.requires.waits x.0
+    ∙ sym (free c.loop.pass c.loop.waiting.stage c.requires.waits c.loop.invariant.2) in (
       tt,
       tt,
       x.0,
       x.1,
       c.next_woke-woke.ensures.seat ∙ c.loop.invariant.4,
       c.go_on-turn.ensures.carries,
+      λ counted.
+          stays g.L.Load.is_counted g.L.Load.amount c.loop.load c.go_on-turn.new.load (free_of c.loop.pass)
+          (free_of c.go_on-turn.new.pass) same c.go_on-turn.ensures.moves counted
+          ∙ c.loop.invariant.6 counted,
     )

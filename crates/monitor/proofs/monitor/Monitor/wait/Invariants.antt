@@ -1,4 +1,4 @@
-use Rattle.std.proofs.Common.{◌≡◌}
+use Rattle.std.proofs.Common.{◌≡◌, true}
 use Rattle.monitor.specs.Load.{holds_of}
 use Rattle.monitor.specs.Waits.{AllStillWait}
 use Rattle.monitor.proofs.monitor.Monitor.wait.Given as goal
@@ -11,3 +11,4 @@ invariant-loop g l =
     × (l.waiting.limits ≡ l.fn.waiting.limits)
     × (l.interrupts.seat ≡ l.fn.pass.seat)
     × g.L.Load.carries l.load (holds_of l.pass)
+    × (g.L.Load.is_counted ≡ true → l.load ≡ l.fn.load)

@@ -1,0 +1,282 @@
+-- What the calls of a pool leave of the free permits, and so of the items that one has.
+use Rattle.std.proofs.Common.{◌≡◌, ◌⊎◌, inl, inr, ⊎_elim, ℕ, ◌+◌, ◌==◌, eqb, Bool, true, false, cond, List, [], ◌∷◌, length, Option, Some, None, IfErr, Result, Ok, Err, refl, sym, ap, ◌∙◌, subst, arith}
+use Rattle.std.specs.Prelude.{ℤ, pos, ◌+ℤ◌, ◌-ℤ◌, int_lt}
+use Rattle.std.proofs.lemmas.Int.{ints}
+use Rattle.history.specs.declared.limits.TheConstants.{MOST_AMOUNT}
+use Rattle.history.specs.declared.entry.End.TheVariants as end
+use Rattle.history.specs.declared.entry.Entry.{Entry}
+use Rattle.history.specs.declared.entry.Mode.{Mode}
+use Rattle.history.specs.declared.entry.Mode.TheVariants.{S}
+use Rattle.history.specs.declared.entry.Word.{Word}
+use Rattle.history.specs.declared.entry.Word.TheVariants as word
+use Rattle.history.specs.declared.fault.Fault.{Fault}
+use Rattle.history.specs.declared.fault.Fault.TheVariants as fault
+use Rattle.history.specs.declared.fault.Fault.TheVariants.{HistoryFull}
+use Rattle.history.specs.declared.header.Header.{Header}
+use Rattle.history.specs.declared.header.Object.{Object}
+use Rattle.history.specs.declared.header.Object.TheVariants.{Lock, ReadWrite, Semaphore, Latch}
+use Rattle.history.specs.declared.step.Step.{Step}
+use Rattle.history.specs.declared.step.Step.TheVariants.{Acquire, EntryInterrupt, Give, Try, TryFair}
+use Rattle.history.specs.Base.{Base}
+use Rattle.history.specs.Could.{could, limit, try_held_back}
+use Rattle.history.specs.Counts.{Counts, counts, free, free_after}
+use Rattle.history.specs.Line.{first_mode}
+use Rattle.history.specs.Object.{is_semaphore}
+use Rattle.history.specs.Start.{Start, opening}
+use Rattle.history.specs.Steps.{ended, entry_for, gave, plain}
+use Rattle.permit.specs.Deed.{Deed}
+use Rattle.word_lock.specs.Point.{header_of}
+use Rattle.word_lock.specs.Ticket.{LockId}
+use Rattle.monitor.specs.Acquire.{AtOnce, EndsAtOnce, IsAcquire, IsAtOnce, IsEndFor, first_step, has_time, is_timed}
+use Rattle.monitor.specs.Lawful.{start_at, view_of}
+use Rattle.monitor.specs.Load.{Moves, free_of}
+use Rattle.monitor.specs.Shown.{Shown, IsTrue}
+use Rattle.monitor.specs.Stepping.{IsEntered, IsSame}
+use Rattle.monitor.specs.Waits.{asking}
+use Rattle.monitor.specs.declared.how.How.{How}
+use Rattle.monitor.specs.declared.how.How.TheVariants.{Plain, Interruptible, Timed}
+use Rattle.monitor.proofs.Acquiring.{idle_made}
+use Rattle.monitor.proofs.InLine.{records}
+use Rattle.monitor_fronts.specs.Told.{whether_by, whether_of}
+use Rattle.guarded.specs.declared.asking.PoolCall.{PoolCall}
+use Rattle.guarded.specs.declared.asking.PoolCall.TheVariants as asks
+use Rattle.guarded.specs.declared.full.WhenFull.{WhenFull}
+use Rattle.guarded.specs.declared.shelf.Shelf.{Shelf}
+use Rattle.guarded.specs.declared.full.WhenFull.TheVariants.{Refuse, Trim}
+use Rattle.guarded.specs.Asking.{told_of}
+use Rattle.guarded.specs.Full.{lacks_room}
+use Rattle.guarded.specs.Pooling.{Answers, asked_by, brought_by, free_after_call, free_if, has_after, is_done, pool_call}
+use Rattle.guarded.specs.Shelved.{IsOfSemaphore}
+use Rattle.guarded.specs.Stowed.{MutexView, mutex_view}
+
+-- an entry that leaves the free permits as the answer to its call says
+record Frees (asked : PoolCall) (e : Entry) : Type 0 where
+  left : (had : ℤ) → free_after e.word e.n had ≡ free_after_call asked (whether_of (Ok e)) had
+  answers : Answers asked (whether_of (Ok e))
+
+frees_as : (asked : PoolCall) (e f : Entry) → e ≡ f → Frees asked f → Frees asked e
+frees_as asked e f q frees = subst (λ (z : Entry). Frees asked z) (sym q) frees
+
+as_plain : (i : ℕ) (w : Word) (m : Mode) (n : ℕ) (e : Entry) → e ≡ plain i w m n → e ≡ plain i e.word m n
+as_plain i w m n e q = q ∙ ap (λ (z : Word). plain i z m n) (sym (ap (λ (z : Entry). z.word) q))
+
+first_plain : (s : Start) (h : List Entry) (i : ℕ) (how : How) (m : Mode) (n : ℕ) (e : Entry) →
+    entry_for s h i (first_step how m n) ≡ Ok (Some e) → e ≡ plain i e.word m n
+first_plain s h i Plain m n e q = as_plain i _ m n e (idle_made s h i (Acquire m n) e refl q).is
+first_plain s h i Interruptible m n e q = as_plain i _ m n e (idle_made s h i (Acquire m n) e refl q).is
+first_plain s h i (Timed ms) m n e q = by (eqb ms 0) q
+  where
+    by : (b : Bool) → entry_for s h i (cond b (TryFair m n) (Acquire m n)) ≡ Ok (Some e) → e ≡ plain i e.word m n
+    by true r = as_plain i _ m n e (idle_made s h i (TryFair m n) e refl r).is
+    by false r = as_plain i _ m n e (idle_made s h i (Acquire m n) e refl r).is
+
+at_once_frees : (how : How) (i n : ℕ) (w : Word) → AtOnce how w → Frees (asks.Acquire n how) (plain i w S n)
+at_once_frees how i n word.Got a = record { left = λ had. refl; answers = tt }
+at_once_frees how i n (word.Refused fault.TooManyHolds) a = record { left = λ had. refl; answers = tt }
+at_once_frees how i n word.Missed a = record { left = λ had. refl; answers = subst is_timed (sym a) tt }
+at_once_frees how i n _ a = absurd a
+
+first_frees : (did : Deed → Type 0) (old : Shown) (how : How) (n : ℕ) (step : Step) (e : Entry) (new : Shown) →
+    IsAtOnce did old.seat how S n step e.word → EndsAtOnce did old step e new → Frees (asks.Acquire n how) e
+first_frees did old how n step e new (inl a) x =
+    let m = x.made in
+    let made = subst (λ (t : Step). entry_for (start_at m.front) m.front.entries old.seat t ≡ Ok (Some e)) a.0
+    m.made in
+    frees_as (asks.Acquire n how) e (plain old.seat e.word S n)
+    (first_plain (start_at m.front) m.front.entries old.seat how S n e made) (at_once_frees how old.seat n e.word a.1)
+first_frees did old how n step e new (inr b) x =
+    let m = x.made in
+    let made = subst (λ (t : Step). entry_for (start_at m.front) m.front.entries old.seat t ≡ Ok (Some e)) b.0
+    m.made in
+    frees_as (asks.Acquire n how) e (plain old.seat (word.Refused fault.Interrupted) S n)
+    (idle_made (start_at m.front) m.front.entries old.seat (EntryInterrupt S n) e refl made).is
+    record { left = λ had. refl; answers = tt }
+
+timed : (how : How) → has_time how → is_timed how
+timed Plain t = t
+timed Interruptible t = t
+timed (Timed ms) t = tt
+
+end_frees : (how : How) (i n : ℕ) (e : Entry) → IsEndFor how i (asking i S n) e → Frees (asks.Acquire n how) e
+end_frees how i n e (inl q) =
+    frees_as (asks.Acquire n how) e (ended i word.Granted (asking i S n) end.None) q
+    record { left = λ had. refl; answers = tt }
+end_frees how i n e (inr (inl q)) =
+    frees_as (asks.Acquire n how) e (ended i word.Left (asking i S n) end.Timeout) q.0
+    record { left = λ had. refl; answers = timed how q.1 }
+end_frees how i n e (inr (inr q)) =
+    frees_as (asks.Acquire n how) e (ended i word.Left (asking i S n) end.Interrupt) q.0
+    record { left = λ had. refl; answers = tt }
+
+tried_words : (b c d : Bool) →
+    let w = cond b word.Missed (cond c (word.Refused fault.TooManyHolds) (cond d word.TryGot word.Missed)) in
+    (w ≡ word.Missed) ⊎ ((w ≡ word.Refused fault.TooManyHolds) ⊎ (w ≡ word.TryGot))
+tried_words true c d = inl refl
+tried_words false true d = inr (inl refl)
+tried_words false false true = inr (inr refl)
+tried_words false false false = inl refl
+
+tries_free : (i n : ℕ) (w : Word) →
+    (w ≡ word.Missed) ⊎ ((w ≡ word.Refused fault.TooManyHolds) ⊎ (w ≡ word.TryGot)) →
+    Frees (asks.Try n) (plain i w S n)
+tries_free i n w (inl q) =
+    subst (λ (z : Word). Frees (asks.Try n) (plain i z S n)) (sym q) record { left = λ had. refl; answers = tt }
+tries_free i n w (inr (inl q)) =
+    subst (λ (z : Word). Frees (asks.Try n) (plain i z S n)) (sym q) record { left = λ had. refl; answers = tt }
+tries_free i n w (inr (inr q)) =
+    subst (λ (z : Word). Frees (asks.Try n) (plain i z S n)) (sym q) record { left = λ had. refl; answers = tt }
+
+gives_free : (o : Object) (k : Counts) (i n : ℕ) → is_semaphore o ≡ true →
+    Frees (asks.Release n) (plain i (gave o k i S n) S n)
+gives_free (Semaphore p c) k i n t = by (int_lt (pos MOST_AMOUNT) (k.free +ℤ pos n))
+  where
+    by : (b : Bool) →
+        Frees (asks.Release n) (plain i (cond b (word.Refused fault.TooManyPermits) word.Gave) S n)
+    by true = record { left = λ had. refl; answers = tt }
+    by false = record { left = λ had. refl; answers = tt }
+gives_free (Lock p) k i n t = cc
+gives_free (ReadWrite p) k i n t = cc
+gives_free (Latch c) k i n t = cc
+
+-- what a call leaves of the free permits, by what is told of it
+pub record Left (asked : PoolCall) (old : Shown) (r : Result Entry Fault) (new : Shown) : Type 0 where
+  pub free : free_of new ≡ free_after_call asked (whether_of r) (free_of old)
+  pub answers : Answers asked (whether_of r)
+
+own_free : (old new : Shown) → IsSame old new → free_of new ≡ free (opening old.lock.header) new.mine
+own_free old new same = ap (λ (l : LockId). free (opening l.header) new.mine) same.lock
+
+left_by : (asked : PoolCall) (old : Shown) (e : Entry) (new : Shown) → IsSame old new →
+    free (opening old.lock.header) new.mine ≡ free_after e.word e.n (free_of old) → Frees asked e →
+    Left asked old (Ok e) new
+left_by asked old e new same is frees =
+    record { free = own_free old new same ∙ (is ∙ frees.left (free_of old)); answers = frees.answers }
+
+queued_free : (w : Word) (n : ℕ) (had : ℤ) → w ≡ word.Queued → free_after w n had ≡ had
+queued_free w n had q = ap (λ (z : Word). free_after z n had) q
+
+acquire_left : (did : Deed → Type 0) (old new : Shown) (n : ℕ) (how : How) (r : Result Entry Fault) →
+    IsSame old new → IsAcquire did old S n how r new → Left (asks.Acquire n how) old r new
+acquire_left did old new n how (Ok e) same (inl a) =
+    left_by (asks.Acquire n how) old e new same
+    (ap (λ (l : List Entry). free (opening old.lock.header) l) a.2.mine)
+    (first_frees did old how n a.0 e new a.1 a.2)
+acquire_left did old new n how (Ok e) same (inr x) =
+    left_by (asks.Acquire n how) old e new same
+    (ap (λ (l : List Entry). free (opening old.lock.header) l) x.mine
+    ∙ ap (λ (z : ℤ). free_after e.word e.n z) (queued_free x.joined.word x.joined.n (free_of old) x.queued))
+    (end_frees how old.seat n e x.end)
+acquire_left did old new n how (Err f) same x =
+    record {
+      free = own_free old new same ∙ ap (λ (l : List Entry). free (opening old.lock.header) l) x.stepped.mine;
+      answers = tt;
+    }
+
+-- the object of a history that a step found is that of the pool
+found_semaphore : (old new : Shown) → is_semaphore old.lock.header.object ≡ true → IsSame old new →
+    IsTrue new → (base : Base) → new.seen.base ≡ base → is_semaphore base.header.object ≡ true
+unfolding header_of
+found_semaphore old new semaphore same shows base is =
+    ap (λ (b : Base). is_semaphore b.header.object) (sym is)
+    ∙ (ap (λ (k : Header). is_semaphore k.object) shows.header
+    ∙ (ap (λ (l : LockId). is_semaphore l.header.object) same.lock ∙ semaphore))
+
+try_left : (did : Deed → Type 0) (old new : Shown) (n : ℕ) (r : Result Entry Fault) → IsSame old new →
+    IsEntered did old (Try S n) r new → Left (asks.Try n) old r new
+try_left did old new n (Ok e) same s =
+    let x = s.1 in
+    let r = records (view_of x.found x.beside) (view_of new.seen x.beside_left) old.seat (Try S n) e s.0
+    x.answered in
+    let i = idle_made (start_at x.found) x.found.entries old.seat (Try S n) e refl r.made in
+    let k = counts (start_at x.found) x.found.entries in
+    let first = first_mode (start_at x.found) x.found.entries in
+    let w = tried_words (try_held_back k first old.seat S) (limit k old.seat S) (could k old.seat S n) in
+    left_by (asks.Try n) old e new same
+    (ap (λ (l : List Entry). free (opening old.lock.header) l) x.mine)
+    (frees_as (asks.Try n) e _ i.is (tries_free old.seat n _ w))
+try_left did old new n (Err f) same s =
+    record {
+      free = own_free old new same ∙ ap (λ (l : List Entry). free (opening old.lock.header) l) s.mine;
+      answers = tt;
+    }
+
+release_left : (did : Deed → Type 0) (old new : Shown) (n : ℕ) (r : Result Entry Fault) →
+    is_semaphore old.lock.header.object ≡ true → IsSame old new → IsTrue new →
+    IsEntered did old (Give S n) r new → Left (asks.Release n) old r new
+release_left did old new n (Ok e) semaphore same shows s =
+    let x = s.1 in
+    let r = records (view_of x.found x.beside) (view_of new.seen x.beside_left) old.seat (Give S n) e s.0
+    x.answered in
+    let i = idle_made (start_at x.found) x.found.entries old.seat (Give S n) e refl r.made in
+    let k = counts (start_at x.found) x.found.entries in
+    let found = found_semaphore old new semaphore same shows x.found.base r.base in
+    left_by (asks.Release n) old e new same
+    (ap (λ (l : List Entry). free (opening old.lock.header) l) x.mine)
+    (frees_as (asks.Release n) e _ i.is (gives_free x.found.base.header.object k old.seat n found))
+release_left did old new n (Err f) semaphore same shows s =
+    record {
+      free = own_free old new same ∙ ap (λ (l : List Entry). free (opening old.lock.header) l) s.mine;
+      answers = tt;
+    }
+
+pub call_left : (did : Deed → Type 0) (asked : PoolCall) (old new : Shown) (r : Result Entry Fault) →
+    is_semaphore old.lock.header.object ≡ true → IsSame old new → IsTrue new → pool_call did asked old r new →
+    Left asked old r new
+call_left did (asks.Acquire n how) old new r semaphore same shows made = acquire_left did old new n how r same made
+call_left did (asks.Try n) old new r semaphore same shows made = try_left did old new n r same made
+call_left did (asks.Release n) old new r semaphore same shows made =
+    release_left did old new n r semaphore same shows made
+
+-- a pass of a pool is of a semaphore
+pub is_of_semaphore : (monitor : LockId) (when_full : WhenFull) (m : MutexView) (p : Shown) →
+    mutex_view monitor when_full ≡ m → IsOfSemaphore monitor → p.lock ≡ m.lock →
+    is_semaphore p.lock.header.object ≡ true
+is_of_semaphore monitor when_full m p view semaphore of =
+    ap (λ (l : LockId). is_semaphore l.header.object) of
+    ∙ (ap (λ (v : MutexView). is_semaphore v.lock.header.object) (sym view) ∙ semaphore)
+
+-- what one has then, by what one brought
+has_by : (b : Bool) (asked : PoolCall) (m n : ℕ) (f : ℤ) → m ≡ brought_by asked →
+    pos n +ℤ free_if b asked f ≡ pos m +ℤ f → n ≡ cond b (asked_by asked) (brought_by asked)
+has_by true (asks.Acquire n how) m has f brings q = omega (arith, ints, q, brings)
+has_by true (asks.Try n) m has f brings q = omega (arith, ints, q, brings)
+has_by true (asks.Release n) m has f brings q = omega (arith, ints, q, brings)
+has_by false asked m has f brings q = omega (arith, ints, q, brings)
+
+pub has_then : {T : Type 0} (asked : PoolCall) (told : Result Bool Fault) (x y : Shelf T) (f g : ℤ) →
+    length x.items ≡ brought_by asked → g ≡ free_after_call asked told f →
+    Moves true (λ (s : Shelf T). length s.items) x f y g → length y.items ≡ has_after asked told
+has_then asked told x y f g brings is m =
+    has_by (is_done told) asked (length x.items) (length y.items) f brings
+    (ap (λ (z : ℤ). pos (length y.items) +ℤ z) (sym is) ∙ m.0)
+
+pub keeps_then : {T : Type 0} (asked : PoolCall) (told : Result Bool Fault) (x y : Shelf T) (f g : ℤ) →
+    g ≡ free_after_call asked told f → Moves true (λ (s : Shelf T). length s.items) x f y g →
+    is_done told ≡ false → y ≡ x
+keeps_then asked told x y f g is m missed = m.1 (is ∙ ap (λ (b : Bool). free_if b asked f) missed)
+
+-- a call that found no room did nothing
+pub full_is : (w : WhenFull) (r : Result Entry Fault) → lacks_room w r ≡ true → r ≡ Err HistoryFull
+full_is Refuse r q = cc
+full_is Trim (Ok e) q = cc
+full_is Trim (Err HistoryFull) q = refl
+full_is Trim (Err _) q = cc
+
+pub full_not_done : (w : WhenFull) (r : Result Entry Fault) → lacks_room w r ≡ true →
+    is_done (whether_of r) ≡ false
+full_not_done w r q = ap (λ (z : Result Entry Fault). is_done (whether_of z)) (full_is w r q)
+
+pub same_length : {T : Type 0} (x y : Shelf T) → y ≡ x → length y.items ≡ length x.items
+same_length {T} x y q = ap (λ (s : Shelf T). length s.items) q
+
+-- an acquire that waits as long as it must has items
+pub never_none : {A : Type 0} (n : ℕ) (how : How) (got : Option A) → (is_timed how → ⊥) → got ≡ None →
+    Answers (asks.Acquire n how) (told_of (Ok got)) → ⊥
+never_none {A} n how got never none answers =
+    never (subst (λ (z : Option A). Answers (asks.Acquire n how) (told_of (Ok z))) none answers)
+
+-- the item that comes back is the one that went out
+pub same_item : {A : Type 0} (items : List A) (item : A) (r : Result (Unit {0}) (A × Fault)) →
+    items ≡ item ∷ [] → IfErr r (λ e. items ≡ e.0 ∷ []) → IfErr r (λ e. e.0 ≡ item)
+same_item items item (Ok u) is back = tt
+same_item items item (Err e) is back = let q : e.0 ∷ [] ≡ item ∷ [] = sym back ∙ is in cc

@@ -1,0 +1,17 @@
+use Rattle.std.proofs.Common.{inl, inr, refl}
+use Rattle.word_lock.proofs.PointLaws.{before_refl}
+use Rattle.guarded.proofs.Fetching.{same_item}
+use Rattle.guarded.proofs.acquiring.Pool.release_one.Goals as goal
+
+pub returns-in-Err-clause-begins : goal.returns-in-Err-clause-begins
+returns-in-Err-clause-begins g c = before_refl c.args.pass.now.seen
+
+pub returns-in-Err-clause-told : goal.returns-in-Err-clause-told
+returns-in-Err-clause-told g c = inr (refl, refl)
+
+pub returns-in-Ok-clause-back : goal.returns-in-Ok-clause-back
+returns-in-Ok-clause-back g c =
+    same_item c.in-Ok.items c.args.item c.release_only.result c.in-Ok.ensures.ok c.release_only.ensures.back
+
+pub returns-in-Ok-clause-told : goal.returns-in-Ok-clause-told
+returns-in-Ok-clause-told g c = inl c.release_only.ensures.told

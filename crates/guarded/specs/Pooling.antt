@@ -1,0 +1,83 @@
+-- What the calls of a pool ask of its monitor, and what becomes of the items.
+use Rattle.std.specs.Prelude.{if◌then◌else◌, ◌≡◌, ◌⊎◌, ℕ, ℤ, pos, ◌+ℤ◌, ◌-ℤ◌}
+use Rattle.std.specs.Prelude.{Bool, true, false, Result, Ok, Err}
+use Rattle.history.specs.declared.entry.Mode.TheVariants.{S}
+use Rattle.history.specs.declared.fault.Fault.{Fault}
+use Rattle.history.specs.declared.fault.Fault.TheVariants.{OutOfMemory}
+use Rattle.history.specs.declared.step.Step.TheVariants.{Give, Try}
+use Rattle.monitor.specs.Acquire.{IsAcquire, is_timed}
+use Rattle.monitor.specs.Shown.{Shown}
+use Rattle.monitor.specs.Stepping.{IsEntered}
+use Rattle.monitor.specs.declared.how.How.{How}
+use Rattle.permit.specs.Deed.{Deed}
+use Rattle.guarded.specs.declared.asking.PoolCall.{PoolCall}
+use Rattle.guarded.specs.declared.asking.PoolCall.TheVariants as asks
+use Rattle.guarded.specs.declared.full.WhenFull.{WhenFull}
+use Rattle.guarded.specs.Asking.{Tells}
+use Rattle.guarded.specs.Full.{Call}
+
+-- the calls of the monitor
+abbrev pub fetches : (Deed → Type 0) → ℕ → How → Call
+fetches did n how old reply new = IsAcquire did old S n how reply new
+
+abbrev pub tries_fetch : (Deed → Type 0) → ℕ → Call
+tries_fetch did n old reply new = IsEntered did old (Try S n) reply new
+
+abbrev pub gives_back : (Deed → Type 0) → ℕ → Call
+gives_back did n old reply new = IsEntered did old (Give S n) reply new
+
+abbrev pub pool_call : (Deed → Type 0) → PoolCall → Call
+pool_call did (asks.Acquire n how) = fetches did n how
+pool_call did (asks.Try n) = tries_fetch did n
+pool_call did (asks.Release n) = gives_back did n
+
+-- how many items a call brings
+abbrev pub brought_by : PoolCall → ℕ
+brought_by (asks.Release n) = n
+brought_by _ = 0
+
+-- how many items it asks for
+abbrev pub asked_by : PoolCall → ℕ
+asked_by (asks.Acquire n how) = n
+asked_by (asks.Try n) = n
+asked_by (asks.Release n) = 0
+
+-- the call had what it asked for
+abbrev pub is_done : Result Bool Fault → Bool
+is_done (Ok b) = b
+is_done (Err f) = false
+
+-- how many items one has behind a call, by what is told of it
+abbrev pub has_after : PoolCall → Result Bool Fault → ℕ
+has_after asked told = if is_done told then asked_by asked else brought_by asked
+
+-- the free permits that the pass's own entries leave behind a call
+abbrev pub free_if : Bool → PoolCall → ℤ → ℤ
+free_if true (asks.Acquire n how) f = f -ℤ pos n
+free_if true (asks.Try n) f = f -ℤ pos n
+free_if true (asks.Release n) f = f +ℤ pos n
+free_if false asked f = f
+
+abbrev pub free_after_call : PoolCall → Result Bool Fault → ℤ → ℤ
+free_after_call asked told f = free_if (is_done told) asked f
+
+-- an acquire without time and a release have no answer 'no'
+abbrev pub MayMiss : PoolCall → Type 0
+MayMiss (asks.Acquire n how) = is_timed how
+MayMiss (asks.Try n) = Unit {0}
+MayMiss (asks.Release n) = ⊥
+
+abbrev pub Answers : PoolCall → Result Bool Fault → Type 0
+Answers asked (Ok false) = MayMiss asked
+Answers asked _ = Unit {0}
+
+-- what is told of a release
+abbrev pub told_release : {A : Type 0} → Result (Unit {0}) (A × Fault) → Result Bool Fault
+told_release (Ok u) = Ok true
+told_release (Err e) = Err e.1
+
+-- a release of one item: the pool's answer, or memory for its node was refused, and nothing was done
+abbrev pub IsReleased :
+    {A : Type 0} → WhenFull → Call → Shown → Shown → Result (Unit {0}) (A × Fault) → Type 0
+IsReleased w call old new result =
+    Tells w call old new (told_release result) ⊎ ((told_release result ≡ Err OutOfMemory) × (new ≡ old))

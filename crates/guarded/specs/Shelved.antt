@@ -1,0 +1,23 @@
+-- Where the items of a pool are: as many lie there as permits are free.
+use Rattle.std.specs.Prelude.{◌≡◌, ℕ, Bool, true, List, length, pos}
+use Rattle.std.proofs.Common.{◌∙◌, ap, sym}
+use Rattle.history.specs.Counts.{Counts}
+use Rattle.history.specs.Object.{is_semaphore}
+use Rattle.frame.specs.Hooks.{AreAlike}
+use Rattle.word_lock.specs.Ticket.{LockId}
+
+-- what holds whenever the pool is free
+pub record Lies {T : Type 0} (items : List T) (k : Counts) : Type 0 where
+  pub semaphore : is_semaphore k.object ≡ true
+  pub each : pos (length items) ≡ k.free
+
+pub alike_lies : {T : Type 0} (items : List T) (k l : Counts) → AreAlike k l → Lies items k → Lies items l
+alike_lies items k l same lies =
+    record {
+      semaphore = ap is_semaphore same.object ∙ lies.semaphore;
+      each = lies.each ∙ sym (same.free lies.semaphore);
+    }
+
+-- the object is a semaphore
+abbrev pub IsOfSemaphore : LockId → Type 0
+IsOfSemaphore l = is_semaphore l.header.object ≡ true

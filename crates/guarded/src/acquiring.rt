@@ -1,0 +1,295 @@
+//! How items are taken from a pool, and put back.
+ghost use Rattle.std.specs.Prelude.{◌≡◌, ◌<◌, ◌≤◌, ◌^◌, ◌∷◌, [], IfErr, IfOk, IfSome, length};
+ghost use Rattle.monitor.specs.Shown.{IsTrue};
+ghost use Rattle.monitor.specs.Stepping.{IsSame};
+ghost use Rattle.monitor.specs.declared.how.How.TheVariants.{Interruptible, Plain, Timed};
+ghost use Rattle.guarded.specs.Asking.{Tells, told_of};
+ghost use Rattle.guarded.specs.Guarding.{told_by};
+ghost use Rattle.guarded.specs.Pooling.{IsReleased, fetches, gives_back, told_release, tries_fetch};
+ghost use Rattle.word_lock.specs.Point.{Before};
+
+use crate::asking::PoolCall;
+use crate::pool::Pool;
+use crate::shelf::Shelf;
+use history::fault::Fault;
+use monitor::{How, Pass};
+use monitor_fronts::whether;
+use permit::Parking;
+use std::alloc::Global;
+use std::collections::LinkedList;
+use std::sync::Wait;
+use std::time::Clock;
+
+/// Each of these answers just the items that were asked for. Behind an `Err`, or a None, nobody has lost an
+/// item, and the caller has none. A fault is the monitor's: `HistoryFull` where the history has no room,
+/// `OutOfMemory` where memory for it is refused, `BadAmount` above 2147483647, and `Interrupted` where that
+/// is said.
+impl<T: Drop> Pool<T> {
+    /// Waits until `n` items lie there, or is interrupted: `Err(Interrupted)`, also where an interrupt was
+    /// pending. The interrupt is taken. This is `Semaphore.acquire(permits)`.
+    pub fn acquire<P: Parking, R: Wait + Clock>(
+        &self,
+        rt: &R,
+        parking: &P,
+        pass: &mut Pass,
+        n: u32,
+    ) -> Result<LinkedList<T>, Fault>
+        requires is_of { pass.old.lock ≡ self.now.lock }
+        requires places { self.now.lock.header.seats ≤ P.seats parking.now }
+        ensures same { IsSame pass.old pass.new }
+        ensures begins { Before pass.old.seen pass.new.seen }
+        ensures shows { IsTrue pass.new }
+        ensures items { IfOk result (λ items. length items ≡ n) }
+        ensures told { Tells self.now.when_full (fetches (P.did parking.now) n Interruptible)
+            pass.old pass.new (told_by result) }
+    {
+        self.fetch(rt, parking, pass, n, How::Interruptible)
+    }
+
+    /// The same, but an interrupt doesn't end the wait, and stays pending. This is
+    /// `Semaphore.acquireUninterruptibly(permits)`.
+    pub fn acquire_uninterruptibly<P: Parking, R: Wait + Clock>(
+        &self,
+        rt: &R,
+        parking: &P,
+        pass: &mut Pass,
+        n: u32,
+    ) -> Result<LinkedList<T>, Fault>
+        requires is_of { pass.old.lock ≡ self.now.lock }
+        requires places { self.now.lock.header.seats ≤ P.seats parking.now }
+        ensures same { IsSame pass.old pass.new }
+        ensures begins { Before pass.old.seen pass.new.seen }
+        ensures shows { IsTrue pass.new }
+        ensures items { IfOk result (λ items. length items ≡ n) }
+        ensures told { Tells self.now.when_full (fetches (P.did parking.now) n Plain) pass.old pass.new
+            (told_by result) }
+    {
+        self.fetch(rt, parking, pass, n, How::Plain)
+    }
+
+    /// Takes `n` items if they lie there now. It goes past those in line, under a fair policy too, but not
+    /// under a strict one. This is `Semaphore.tryAcquire(permits)`.
+    pub fn try_acquire<P: Parking, R: Wait + Clock>(
+        &self,
+        rt: &R,
+        parking: &P,
+        pass: &mut Pass,
+        n: u32,
+    ) -> Result<Option<LinkedList<T>>, Fault>
+        requires is_of { pass.old.lock ≡ self.now.lock }
+        requires places { self.now.lock.header.seats ≤ P.seats parking.now }
+        ensures same { IsSame pass.old pass.new }
+        ensures begins { Before pass.old.seen pass.new.seen }
+        ensures shows { IsTrue pass.new }
+        ensures items { IfOk result (λ got. IfSome got (λ items. length items ≡ n)) }
+        ensures told { Tells self.now.when_full (tries_fetch (P.did parking.now) n) pass.old pass.new
+            (told_of result) }
+    {
+        self.take(rt, parking, pass, PoolCall::Try(n))
+    }
+
+    /// Waits for `n` items, for `ms` milliseconds at most, or until it is interrupted. With 0 it doesn't wait,
+    /// and under a fair or strict policy it doesn't go past those in line. This is
+    /// `Semaphore.tryAcquire(permits, timeout, unit)`.
+    pub fn try_acquire_for<P: Parking, R: Wait + Clock>(
+        &self,
+        rt: &R,
+        parking: &P,
+        pass: &mut Pass,
+        n: u32,
+        ms: u32,
+    ) -> Result<Option<LinkedList<T>>, Fault>
+        requires is_of { pass.old.lock ≡ self.now.lock }
+        requires places { self.now.lock.header.seats ≤ P.seats parking.now }
+        ensures same { IsSame pass.old pass.new }
+        ensures begins { Before pass.old.seen pass.new.seen }
+        ensures shows { IsTrue pass.new }
+        ensures items { IfOk result (λ got. IfSome got (λ items. length items ≡ n)) }
+        ensures told { Tells self.now.when_full (fetches (P.did parking.now) n (Timed ms)) pass.old pass.new
+            (told_of result) }
+    {
+        self.take(rt, parking, pass, PoolCall::Acquire(n, How::Timed(ms)))
+    }
+
+    /// Puts the items into the pool. Where it fails, they come back with the fault: `HistoryFull` and
+    /// `OutOfMemory` as above, `TooManyPermits` if more than 2147483647 would lie there, and `BadAmount` for
+    /// so many at once. This is `Semaphore.release(permits)`.
+    pub fn release<P: Parking, R: Wait + Clock>(
+        &self,
+        rt: &R,
+        parking: &P,
+        pass: &mut Pass,
+        items: LinkedList<T>,
+    ) -> Result<(), (LinkedList<T>, Fault)>
+        requires is_of { pass.old.lock ≡ self.now.lock }
+        requires places { self.now.lock.header.seats ≤ P.seats parking.now }
+        requires few { length items < 2 ^ 32 }
+        ensures same { IsSame pass.old pass.new }
+        ensures begins { Before pass.old.seen pass.new.seen }
+        ensures shows { IsTrue pass.new }
+        ensures back { IfErr result (λ e. e.0 ≡ items) }
+        ensures told { Tells self.now.when_full (gives_back (P.did parking.now) (length items))
+            pass.old pass.new (told_release result) }
+    {
+        let n = items.len() as u32;
+        let mut shelf = Shelf { items };
+        let reply = self.call(rt, parking, pass, &mut shelf, PoolCall::Release(n));
+        match whether(reply) {
+            Ok(true) => {
+                shelf.put_away();
+                Ok(())
+            }
+            Ok(false) => unreachable!(),
+            Err(fault) => {
+                let Shelf { items } = shelf;
+                Err((items, fault))
+            }
+        }
+    }
+}
+
+/// The same with one item.
+impl<T: Drop> Pool<T> {
+    /// [`acquire`](Pool::acquire) of one item.
+    pub fn acquire_one<P: Parking, R: Wait + Clock>(
+        &self,
+        rt: &R,
+        parking: &P,
+        pass: &mut Pass,
+    ) -> Result<T, Fault>
+        requires is_of { pass.old.lock ≡ self.now.lock }
+        requires places { self.now.lock.header.seats ≤ P.seats parking.now }
+        ensures same { IsSame pass.old pass.new }
+        ensures begins { Before pass.old.seen pass.new.seen }
+        ensures shows { IsTrue pass.new }
+        ensures told { Tells self.now.when_full (fetches (P.did parking.now) 1 Interruptible)
+            pass.old pass.new (told_by result) }
+    {
+        match self.acquire(rt, parking, pass, 1) {
+            Ok(items) => Ok(only(items)),
+            Err(fault) => Err(fault),
+        }
+    }
+
+    /// [`try_acquire`](Pool::try_acquire) of one item.
+    pub fn try_acquire_one<P: Parking, R: Wait + Clock>(
+        &self,
+        rt: &R,
+        parking: &P,
+        pass: &mut Pass,
+    ) -> Result<Option<T>, Fault>
+        requires is_of { pass.old.lock ≡ self.now.lock }
+        requires places { self.now.lock.header.seats ≤ P.seats parking.now }
+        ensures same { IsSame pass.old pass.new }
+        ensures begins { Before pass.old.seen pass.new.seen }
+        ensures shows { IsTrue pass.new }
+        ensures told { Tells self.now.when_full (tries_fetch (P.did parking.now) 1) pass.old pass.new
+            (told_of result) }
+    {
+        match self.try_acquire(rt, parking, pass, 1) {
+            Ok(Some(items)) => Ok(Some(only(items))),
+            Ok(None) => Ok(None),
+            Err(fault) => Err(fault),
+        }
+    }
+
+    /// [`try_acquire_for`](Pool::try_acquire_for) of one item.
+    pub fn try_acquire_one_for<P: Parking, R: Wait + Clock>(
+        &self,
+        rt: &R,
+        parking: &P,
+        pass: &mut Pass,
+        ms: u32,
+    ) -> Result<Option<T>, Fault>
+        requires is_of { pass.old.lock ≡ self.now.lock }
+        requires places { self.now.lock.header.seats ≤ P.seats parking.now }
+        ensures same { IsSame pass.old pass.new }
+        ensures begins { Before pass.old.seen pass.new.seen }
+        ensures shows { IsTrue pass.new }
+        ensures told { Tells self.now.when_full (fetches (P.did parking.now) 1 (Timed ms)) pass.old pass.new
+            (told_of result) }
+    {
+        match self.try_acquire_for(rt, parking, pass, 1, ms) {
+            Ok(Some(items)) => Ok(Some(only(items))),
+            Ok(None) => Ok(None),
+            Err(fault) => Err(fault),
+        }
+    }
+
+    /// [`release`](Pool::release) of one item. It takes memory for the item's node first: `OutOfMemory` where
+    /// that is refused.
+    pub fn release_one<P: Parking, R: Wait + Clock>(
+        &self,
+        rt: &R,
+        parking: &P,
+        pass: &mut Pass,
+        item: T,
+    ) -> Result<(), (T, Fault)>
+        requires is_of { pass.old.lock ≡ self.now.lock }
+        requires places { self.now.lock.header.seats ≤ P.seats parking.now }
+        ensures same { IsSame pass.old pass.new }
+        ensures begins { Before pass.old.seen pass.new.seen }
+        ensures shows { IsTrue pass.new }
+        ensures back { IfErr result (λ e. e.0 ≡ item) }
+        ensures told { IsReleased self.now.when_full (gives_back (P.did parking.now) 1) pass.old
+            pass.new result }
+    {
+        pass.is_true();
+        match list_of(self.alloc, item) {
+            Ok(items) => self.release_only(rt, parking, pass, items),
+            Err(item) => Err((item, Fault::OutOfMemory)),
+        }
+    }
+
+    // The same with the item in a list.
+    fn release_only<P: Parking, R: Wait + Clock>(
+        &self,
+        rt: &R,
+        parking: &P,
+        pass: &mut Pass,
+        items: LinkedList<T>,
+    ) -> Result<(), (T, Fault)>
+        requires is_of { pass.old.lock ≡ self.now.lock }
+        requires places { self.now.lock.header.seats ≤ P.seats parking.now }
+        requires one { length items ≡ 1 }
+        ensures same { IsSame pass.old pass.new }
+        ensures begins { Before pass.old.seen pass.new.seen }
+        ensures shows { IsTrue pass.new }
+        ensures back { IfErr result (λ e. items ≡ e.0 ∷ []) }
+        ensures told { Tells self.now.when_full (gives_back (P.did parking.now) 1) pass.old pass.new
+            (told_release result) }
+    {
+        match self.release(rt, parking, pass, items) {
+            Ok(()) => Ok(()),
+            Err((items, fault)) => Err((only(items), fault)),
+        }
+    }
+}
+
+// A list of one item. Where memory for its node is refused, the item comes back.
+fn list_of<T>(alloc: Global, item: T) -> Result<LinkedList<T>, T>
+    ensures ok { IfOk result (λ items. items ≡ item ∷ []) }
+    ensures err { IfErr result (λ back. back ≡ item) }
+{
+    let mut items = LinkedList::new(alloc);
+    match items.push_back(item) {
+        Ok(()) => Ok(items),
+        Err(refused) => {
+            items.destroy_empty();
+            Err(refused.value)
+        }
+    }
+}
+
+// The one item of a list.
+fn only<T: Drop>(items: LinkedList<T>) -> T
+    requires { length items ≡ 1 }
+    ensures { items ≡ result ∷ [] }
+{
+    let mut items = items;
+    let Some(item) = items.pop_front() else {
+        unreachable!()
+    };
+    items.destroy_empty();
+    item
+}

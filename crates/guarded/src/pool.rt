@@ -1,0 +1,319 @@
+//! A semaphore that has an item for each free permit.
+ghost use Rattle.std.specs.Prelude.{◌≡◌, ◌<◌, ◌≤◌, ◌^◌, All, IfErr, IfOk, IfSome, ℕ, false, length, pos};
+ghost use Rattle.counting.specs.Semaphore.{IsOpened, semaphore_of};
+ghost use Rattle.frame.specs.Core.{header_of};
+ghost use Rattle.history.specs.Counts.{counts};
+ghost use Rattle.history.specs.Entries.{IsBasedWell, start_on};
+ghost use Rattle.history.specs.Header.{IsInRange};
+ghost use Rattle.history.specs.Legal.{AreSeated, calls};
+ghost use Rattle.history.specs.declared.fault.Fault.TheVariants.{OutOfMemory};
+ghost use Rattle.history.specs.declared.header.Object.TheVariants.{Semaphore};
+ghost use Rattle.monitor.specs.Acquire.{is_timed};
+ghost use Rattle.monitor.specs.Lawful.{blank};
+ghost use Rattle.monitor.specs.Shown.{IsTrue, opening_passes};
+ghost use Rattle.monitor.specs.Stepping.{IsSame};
+ghost use Rattle.monitor_fronts.specs.Told.{whether_of};
+ghost use Rattle.guarded.specs.Asking.{Tells, told_of};
+ghost use Rattle.guarded.specs.Full.{MakesRoom, WithRoom};
+ghost use Rattle.guarded.specs.Guarding.{told_by};
+ghost use Rattle.guarded.specs.Pooling.{Answers, asked_by, brought_by, fetches, has_after};
+ghost use Rattle.guarded.specs.Pooling.{is_done, pool_call};
+ghost use Rattle.guarded.specs.Shelved.{Lies};
+ghost use Rattle.word_lock.specs.Point.{Before};
+
+use crate::asking::PoolCall;
+use crate::full::{WhenFull, lacks_room};
+use crate::shelf::Shelf;
+use counting::semaphore::SemaphoreHooks;
+use history::entry::{Entry, Mode};
+use history::fault::Fault;
+use history::header::Policy;
+use history::step::Step;
+use monitor::{CloseFault, Closed, How, Monitor, Pass};
+use monitor_fronts::whether;
+use permit::Parking;
+use std::alloc::Global;
+use std::collections::LinkedList;
+use std::marker::Model;
+use std::sync::Wait;
+use std::time::Clock;
+
+/// Items that threads share: `java.util.concurrent.Semaphore` of Java SE 8 with an item for each permit.
+/// Whoever acquires has the items, by ownership, and nobody else has them. The thread is the pass. A contract
+/// sees which semaphore it is, with its header, and what it does where its history is full.
+///
+/// As many items as free permits lie in the pool, at any time. An item that was acquired is its holder's own:
+/// it may be given to another thread, and any pass may release it. A holder that drops an item takes it out
+/// of the pool for good.
+///
+/// The item that was released last is acquired first. Items come and go as a `LinkedList`, since so they move
+/// without memory: to acquire some takes a step for each, and to release them takes one step.
+#[derive(Drop)]
+pub struct Pool<T: Drop> {
+    monitor: Monitor<SemaphoreHooks, Shelf<T>>,
+    when_full: WhenFull,
+    pub(crate) alloc: Global,
+}
+
+impl<T: Drop> Model for Pool<T> {
+    ghost use Rattle.guarded.specs.Shelved.{IsOfSemaphore};
+    ghost use Rattle.guarded.specs.Stowed.{MutexView, mutex_view};
+
+    ghost Value = { MutexView };
+
+    ghost view = { λ m. mutex_view m.monitor m.when_full };
+
+    ghost invariant = { λ m. IsOfSemaphore m.monitor };
+}
+
+impl<T: Drop> Pool<T> {
+    /// A pool of these items, with a permit for each, and a pass for each seat, in order. `cap` is the
+    /// greatest number of entries of its history, those among them that are owed. Where memory is refused,
+    /// the items come back.
+    pub fn open(
+        alloc: Global,
+        items: LinkedList<T>,
+        policy: Policy,
+        when_full: WhenFull,
+        seats: u16,
+        cap: u32,
+    ) -> Result<(Pool<T>, Vec<Pass>), (LinkedList<T>, Fault)>
+        requires { IsInRange (header_of (Semaphore policy (pos (length items))) seats 0 cap) }
+        ensures header { IfOk result (λ r.
+            r.0.lock.header ≡ header_of (Semaphore policy (pos (length items))) seats 0 cap) }
+        ensures when_full { IfOk result (λ r. r.0.when_full ≡ when_full) }
+        ensures passes { IfOk result (λ r.
+            r.1.items ≡ opening_passes r.0.lock (blank r.0.lock.header) 0 seats) }
+        ensures own { IfOk result (λ r. All (λ p. p.lock ≡ r.0.lock) r.1.items) }
+        ensures back { IfErr result (λ e. (e.0 ≡ items) × (e.1 ≡ OutOfMemory)) }
+    {
+        let hooks = hooks_for(policy, &items);
+        let shelf = Shelf { items };
+        match Monitor::open_with(alloc, hooks, shelf, seats, 0, cap) {
+            Ok((monitor, passes)) => Ok((
+                Pool {
+                    monitor,
+                    when_full,
+                    alloc,
+                },
+                passes,
+            )),
+            Err((shelf, fault)) => {
+                let Shelf { items } = shelf;
+                Err((items, fault))
+            }
+        }
+    }
+
+    /// Takes the pool for good, and waits until nobody is in a call. It gives back the history, and the items
+    /// that lie there: one for each permit that is free then. The others are with whoever acquired them.
+    ///
+    /// The passes of all seats are needed, in any order. Where one is missing, all comes back as it was.
+    pub fn close<R: Wait>(
+        self,
+        rt: &R,
+        passes: Vec<Pass>,
+    ) -> Result<(Closed, LinkedList<T>), (Pool<T>, Vec<Pass>, CloseFault)>
+        requires is_of { All (λ p. p.lock ≡ self.lock) passes.items }
+        ensures items { IfOk result (λ r.
+            Lies r.1 (counts (start_on self.lock.header r.0.history) r.0.history.entries)) }
+        ensures each { IfOk result (λ r. pos (length r.1) ≡ r.0.balance.available) }
+        ensures good { IfOk result (λ r. IsBasedWell self.lock.header r.0.history.base) }
+        ensures seated { IfOk result (λ r.
+            AreSeated (start_on self.lock.header r.0.history) r.0.history.entries) }
+        ensures calls { IfOk result (λ r.
+            r.0.share ≡ calls (start_on self.lock.header r.0.history) r.0.history.entries) }
+        ensures back { IfErr result (λ r. (r.0 ≡ self) × (r.1 ≡ passes)) }
+    {
+        let Pool {
+            monitor,
+            when_full,
+            alloc,
+        } = self;
+        match monitor.close_with(rt, passes) {
+            Ok((closed, shelf)) => {
+                let Shelf { items } = shelf;
+                Ok((closed, items))
+            }
+            Err((monitor, passes, fault)) => Err((
+                Pool {
+                    monitor,
+                    when_full,
+                    alloc,
+                },
+                passes,
+                fault,
+            )),
+        }
+    }
+
+    /// The monitor, for what it tells of the semaphore, and for `trim` and `meet`.
+    pub fn monitor(&self) -> &Monitor<SemaphoreHooks, Shelf<T>>
+        ensures { result.now ≡ self.now.lock }
+    {
+        &self.monitor
+    }
+}
+
+/// What all calls are made of.
+impl<T: Drop> Pool<T> {
+    // Folds a full history, where the pool is one that does so: whether it did.
+    fn makes_room<R: Wait>(
+        &self,
+        rt: &R,
+        pass: &mut Pass,
+        reply: Result<Entry, Fault>,
+    ) -> Result<bool, Fault>
+        requires is_of { pass.old.lock ≡ self.now.lock }
+        requires shows { IsTrue pass.old }
+        ensures same { IsSame pass.old pass.new }
+        ensures begins { Before pass.old.seen pass.new.seen }
+        ensures shows { IsTrue pass.new }
+        ensures makes { MakesRoom self.now.when_full reply pass.old result pass.new }
+    {
+        if !lacks_room(self.when_full, reply) {
+            return Ok(false);
+        }
+        match self.monitor.trim(rt, pass) {
+            Ok(_) => Ok(true),
+            Err(fault) => Err(fault),
+        }
+    }
+
+    // A call of the monitor.
+    fn once<P: Parking, R: Wait + Clock>(
+        &self,
+        rt: &R,
+        parking: &P,
+        pass: &mut Pass,
+        shelf: &mut Shelf<T>,
+        asked: PoolCall,
+    ) -> Result<Entry, Fault>
+        requires is_of { pass.old.lock ≡ self.now.lock }
+        requires places { self.now.lock.header.seats ≤ P.seats parking.now }
+        requires brings { length shelf.old.items ≡ brought_by asked }
+        ensures same { IsSame pass.old pass.new }
+        ensures begins { Before pass.old.seen pass.new.seen }
+        ensures shows { IsTrue pass.new }
+        ensures called { pool_call (P.did parking.now) asked pass.old result pass.new }
+        ensures answers { Answers asked (whether_of result) }
+        ensures has { length shelf.new.items ≡ has_after asked (whether_of result) }
+        ensures keeps { is_done (whether_of result) ≡ false → shelf.new ≡ shelf.old }
+    {
+        match asked {
+            PoolCall::Acquire(n, how) => {
+                self.monitor
+                    .acquire_with(rt, parking, pass, shelf, Mode::S, n, how)
+            }
+            PoolCall::Try(n) => self
+                .monitor
+                .enter(rt, parking, pass, shelf, Step::Try(Mode::S, n)),
+            PoolCall::Release(n) => self
+                .monitor
+                .enter(rt, parking, pass, shelf, Step::Give(Mode::S, n)),
+        }
+    }
+
+    // A call that makes room where there is none.
+    pub(crate) fn call<P: Parking, R: Wait + Clock>(
+        &self,
+        rt: &R,
+        parking: &P,
+        pass: &mut Pass,
+        shelf: &mut Shelf<T>,
+        asked: PoolCall,
+    ) -> Result<Entry, Fault>
+        requires is_of { pass.old.lock ≡ self.now.lock }
+        requires places { self.now.lock.header.seats ≤ P.seats parking.now }
+        requires brings { length shelf.old.items ≡ brought_by asked }
+        ensures same { IsSame pass.old pass.new }
+        ensures begins { Before pass.old.seen pass.new.seen }
+        ensures shows { IsTrue pass.new }
+        ensures called { WithRoom self.now.when_full (pool_call (P.did parking.now) asked) pass.old
+            result pass.new }
+        ensures answers { Answers asked (whether_of result) }
+        ensures has { length shelf.new.items ≡ has_after asked (whether_of result) }
+        ensures keeps { is_done (whether_of result) ≡ false → shelf.new ≡ shelf.old }
+    {
+        let reply = self.once(rt, parking, pass, shelf, asked);
+        match self.makes_room(rt, pass, reply) {
+            Ok(false) => reply,
+            Ok(true) => self.once(rt, parking, pass, shelf, asked),
+            Err(fault) => Err(fault),
+        }
+    }
+
+    // A call that brings nothing: the items that it asks for, unless it missed them.
+    pub(crate) fn take<P: Parking, R: Wait + Clock>(
+        &self,
+        rt: &R,
+        parking: &P,
+        pass: &mut Pass,
+        asked: PoolCall,
+    ) -> Result<Option<LinkedList<T>>, Fault>
+        requires is_of { pass.old.lock ≡ self.now.lock }
+        requires places { self.now.lock.header.seats ≤ P.seats parking.now }
+        requires brings { brought_by asked ≡ 0 }
+        ensures same { IsSame pass.old pass.new }
+        ensures begins { Before pass.old.seen pass.new.seen }
+        ensures shows { IsTrue pass.new }
+        ensures items { IfOk result (λ got. IfSome got (λ items. length items ≡ asked_by asked)) }
+        ensures told { Tells self.now.when_full (pool_call (P.did parking.now) asked) pass.old pass.new
+            (told_of result) }
+        ensures answers { Answers asked (told_of result) }
+    {
+        let mut shelf = Shelf {
+            items: LinkedList::new(self.alloc),
+        };
+        let reply = self.call(rt, parking, pass, &mut shelf, asked);
+        match whether(reply) {
+            Ok(true) => {
+                let Shelf { items } = shelf;
+                Ok(Some(items))
+            }
+            Ok(false) => {
+                shelf.put_away();
+                Ok(None)
+            }
+            Err(fault) => {
+                shelf.put_away();
+                Err(fault)
+            }
+        }
+    }
+
+    // The same of an acquire that waits as long as it must.
+    pub(crate) fn fetch<P: Parking, R: Wait + Clock>(
+        &self,
+        rt: &R,
+        parking: &P,
+        pass: &mut Pass,
+        n: u32,
+        how: How,
+    ) -> Result<LinkedList<T>, Fault>
+        requires is_of { pass.old.lock ≡ self.now.lock }
+        requires places { self.now.lock.header.seats ≤ P.seats parking.now }
+        requires untimed { is_timed how → ⊥ }
+        ensures same { IsSame pass.old pass.new }
+        ensures begins { Before pass.old.seen pass.new.seen }
+        ensures shows { IsTrue pass.new }
+        ensures items { IfOk result (λ items. length items ≡ n) }
+        ensures told { Tells self.now.when_full (fetches (P.did parking.now) n how) pass.old pass.new
+            (told_by result) }
+    {
+        match self.take(rt, parking, pass, PoolCall::Acquire(n, how)) {
+            Ok(Some(items)) => Ok(items),
+            Ok(None) => unreachable!(),
+            Err(fault) => Err(fault),
+        }
+    }
+}
+
+// The hooks of a semaphore with a permit for each item.
+fn hooks_for<T>(policy: Policy, items: &LinkedList<T>) -> SemaphoreHooks
+    requires { length items.now < 2 ^ 31 }
+    ensures object { semaphore_of result ≡ Semaphore policy (pos (length items.now)) }
+    ensures opened { (seats : ℕ) → IsOpened result seats }
+{
+    SemaphoreHooks::open(policy, items.len() as i32)
+}

@@ -1,0 +1,78 @@
+//! Items that lie in a pool, one for each free permit, or in the hand of one who fetches or brings some.
+ghost use Rattle.std.specs.Prelude.{◌≡◌, ◌<◌, ◌+◌, ◌^◌, ◌++◌, ℕ, [], drop, length, pos, take};
+
+use monitor::{Holds, Load};
+use std::collections::LinkedList;
+
+/// A place for items: under the lock, or with one who fetches or brings some. Items move with their nodes, so
+/// to move some takes no memory.
+#[derive(Drop)]
+pub struct Shelf<T> {
+    pub(crate) items: LinkedList<T>,
+}
+
+impl<T: Drop> Shelf<T> {
+    // An empty one is put away, and no item with it.
+    pub(crate) fn put_away(self)
+        requires { length self.items ≡ 0 }
+    {
+        let Shelf { items } = self;
+        items.destroy_empty();
+    }
+}
+
+// So many items stay here. Whoever takes some brought none; whoever gave some back brought them.
+fn settle<T: Drop>(here: &mut LinkedList<T>, there: &mut LinkedList<T>, free: usize)
+    requires { free < 2 ^ 63 }
+    ensures takes { free < length here.old → there.old ≡ [] → (here.new ≡ take free here.old)
+        × (there.new ≡ drop free here.old) }
+    ensures gives { length here.old + length there.old ≡ free → 0 < length there.old
+        → (here.new ≡ here.old ++ there.old) × (there.new ≡ []) }
+    ensures stays { length here.old ≡ free → (here.new ≡ here.old) × (there.new ≡ there.old) }
+{
+    let lies = here.len();
+    if lies == free {
+        return;
+    }
+    if lies < free {
+        let _ = here.append(there);
+        return;
+    }
+    let Ok(taken) = here.split_off(free) else {
+        unreachable!()
+    };
+    *there = taken;
+}
+
+// The same by a number of permits, which may be below 0 where nothing lies here.
+fn trade<T: Drop>(here: &mut LinkedList<T>, there: &mut LinkedList<T>, free: i64)
+    ensures takes { (n : ℕ) → free ≡ pos n → n < length here.old → there.old ≡ []
+        → (here.new ≡ take n here.old) × (there.new ≡ drop n here.old) }
+    ensures gives { free ≡ pos (length here.old + length there.old) → 0 < length there.old
+        → (here.new ≡ here.old ++ there.old) × (there.new ≡ []) }
+    ensures stays { free ≡ pos (length here.old) → (here.new ≡ here.old) × (there.new ≡ there.old) }
+{
+    if free < 0 {
+        return;
+    }
+    settle(here, there, free as usize);
+}
+
+impl<T: Drop> Load for Shelf<T> {
+    ghost use Rattle.std.specs.Prelude.{length, true};
+    ghost use Rattle.guarded.specs.Shelved.{Lies, alike_lies};
+
+    ghost rests = { λ s k. Lies s.items k };
+
+    ghost carries = { λ _ _. Unit {0} };
+
+    ghost is_counted = { true };
+
+    ghost amount = { λ s. length s.items };
+
+    ghost alike = { λ s k l same lies. alike_lies s.items k l same lies };
+
+    fn trade(&mut self, there: &mut Self, _before: Holds, _after: Holds, free: i64) {
+        trade(&mut self.items, &mut there.items, free);
+    }
+}
