@@ -129,7 +129,9 @@ fn open_seats(
     let mut seats = Vec::new(alloc);
     for right in rights {
         let seat = open_seat(alloc, shared, right)?;
-        seats.push(seat)?;
+        if seats.push(seat).is_err() {
+            return Err(Fault::OutOfMemory);
+        }
     }
     Ok(seats)
 }
