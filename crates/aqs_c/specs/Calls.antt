@@ -14,7 +14,7 @@ use Rattle.monitor.specs.declared.machine.Turn.{Turn}
 use Rattle.monitor.specs.declared.machine.Waiting.{Waiting}
 use Rattle.monitor.specs.declared.step.Now.{Now}
 use Rattle.permit.specs.declared.parking.Woke.{Woke}
-use Rattle.aqs_c.specs.Codes.{IsAnswerOf, IsCodeOf, IsEntry, IsHow, IsMinding, IsRequest, IsTurnOf, IsWoke}
+use Rattle.aqs_c.specs.Codes.{IsAnswerOf, IsCallOf, IsCodeOf, IsEntry, IsTurnOf, IsWoke}
 use Rattle.aqs_c.specs.Seated.{Seated, waiting_in}
 use Rattle.aqs_c.specs.declared.answers.AqsAnswer.{AqsAnswer}
 use Rattle.aqs_c.specs.declared.calls.AqsCall.{AqsCall}
@@ -38,12 +38,6 @@ abbrev pub IsSeatStep : Option Waiting → Seated → AqsStep → AqsAnswer → 
 IsSeatStep (Some w) old code a new = IsRefused 8 old a new
 IsSeatStep None old code a new =
     (IsRefused 4 old a new × ((step : Step) → IsCodeOf step code → ⊥)) ⊎ IsStepMade old code a new
-
--- the numbers of a call
-pub record IsCallOf (q : Request) (how : How) (was : Bool) (c : AqsCall) : Type 0 where
-  pub request : IsRequest q c
-  pub waits : IsHow how c
-  pub minds : IsMinding was c
 
 -- the first turn of a call, as the monitor promises it, and its answer in numbers
 pub record IsTurnBegun (old : Seated) (c : AqsCall) (a : AqsAnswer) (new : Seated) : Type 0 where

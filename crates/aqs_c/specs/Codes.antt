@@ -97,6 +97,10 @@ abbrev pub IsMinding : Bool → AqsCall → Type 0
 IsMinding false c = c.interrupted ≡ 0
 IsMinding true c = (c.interrupted ≡ 1) × ((c.how ≡ 1) ⊎ (c.how ≡ 2))
 
+-- the numbers of a call
+abbrev pub IsCallOf : Request → How → Bool → AqsCall → Type 0
+IsCallOf q how was c = IsRequest q c × IsHow how c × IsMinding was c
+
 abbrev pub IsWoke : Woke → ℕ → Type 0
 IsWoke Permit number = number ≡ 0
 IsWoke Deadline number = number ≡ 1

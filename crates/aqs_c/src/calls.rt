@@ -3,7 +3,7 @@ ghost use Rattle.std.specs.Prelude.{◌≡◌, IfSome, IfNone};
 ghost use Rattle.monitor.specs.declared.how.How.{How};
 ghost use Rattle.monitor.specs.declared.machine.Request.{Request};
 ghost use Rattle.permit.specs.declared.parking.Woke.{Woke};
-ghost use Rattle.aqs_c.specs.Codes.{IsHow, IsMinding, IsRequest, IsWoke};
+ghost use Rattle.aqs_c.specs.Codes.{IsCallOf, IsHow, IsMinding, IsRequest, IsWoke};
 
 use crate::steps::mode_of;
 use monitor::{How, Request};
@@ -26,8 +26,8 @@ pub struct AqsCall {
     pub interrupted: u8,
 }
 
-/// What a call asks for, if its numbers say so.
-pub(crate) fn request_of(call: AqsCall) -> Option<Request>
+// What a call asks for, if its numbers say so.
+fn request_of(call: AqsCall) -> Option<Request>
     ensures some { IfSome result (λ r. IsRequest r call) }
     ensures none { IfNone result ((r : Request) → IsRequest r call → ⊥) }
 {
@@ -38,8 +38,8 @@ pub(crate) fn request_of(call: AqsCall) -> Option<Request>
     }
 }
 
-/// How long it waits, if its numbers say so.
-pub(crate) fn how_of(call: AqsCall) -> Option<How>
+// How long it waits, if its numbers say so.
+fn how_of(call: AqsCall) -> Option<How>
     ensures some { IfSome result (λ how. IsHow how call) }
     ensures none { IfNone result ((how : How) → IsHow how call → ⊥) }
 {
@@ -51,8 +51,8 @@ pub(crate) fn how_of(call: AqsCall) -> Option<How>
     }
 }
 
-/// Whether an interrupt was pending, if its numbers say so. A plain call minds none.
-pub(crate) fn interrupt_of(call: AqsCall) -> Option<bool>
+// Whether an interrupt was pending, if its numbers say so. A plain call minds none.
+fn interrupt_of(call: AqsCall) -> Option<bool>
     ensures some { IfSome result (λ was. IsMinding was call) }
     ensures none { IfNone result ((was : _) → IsMinding was call → ⊥) }
 {
@@ -62,6 +62,29 @@ pub(crate) fn interrupt_of(call: AqsCall) -> Option<bool>
         (1, 2) => Some(true),
         _ => None,
     }
+}
+
+/// A call as its numbers say.
+#[derive(Clone, Copy)]
+pub(crate) struct Call {
+    pub(crate) request: Request,
+    pub(crate) how: How,
+    pub(crate) interrupted: bool,
+}
+
+/// The call of these numbers, if they are those of one.
+pub(crate) fn call_of(call: AqsCall) -> Option<Call>
+    ensures some { IfSome result (λ c. IsCallOf c.request c.how c.interrupted call) }
+    ensures none { IfNone result ((q : Request) (how : How) (was : _) → IsCallOf q how was call → ⊥) }
+{
+    let request = request_of(call)?;
+    let how = how_of(call)?;
+    let interrupted = interrupt_of(call)?;
+    Some(Call {
+        request,
+        how,
+        interrupted,
+    })
 }
 
 /// How a park ended, if it is the number of an end.

@@ -8,7 +8,7 @@ use crate::answers::{
     AqsAnswer, BUSY, IN_CALL, IN_NO_CALL, NO_CODE, NO_ENTRY, answer_of, entry_answer, nothing,
     turn_answer,
 };
-use crate::calls::{AqsCall, how_of, interrupt_of, request_of, woke_of};
+use crate::calls::{AqsCall, call_of, woke_of};
 use crate::steps::{AqsStep, step_of};
 use crate::text::text_of;
 use any_object::AnyHooks;
@@ -76,20 +76,16 @@ impl Seat {
         if self.waiting.is_some() {
             return nothing(IN_CALL, 0);
         }
-        let (Some(request), Some(how), Some(interrupted)) = (
-            request_of(call),
-            how_of(call),
-            interrupt_of(call),
-        ) else {
+        let Some(asked) = call_of(call) else {
             return nothing(NO_CODE, 0);
         };
         let turn = self.monitor.begin_quietly(
             &mut self.pass,
             &mut Empty {},
-            request,
-            how,
+            asked.request,
+            asked.how,
             call.moment,
-            interrupted,
+            asked.interrupted,
         );
         match turn {
             None => nothing(BUSY, 0),
