@@ -21,8 +21,10 @@ use Rattle.aqs_c.specs.declared.calls.AqsCall.{AqsCall}
 use Rattle.aqs_c.specs.declared.steps.AqsStep.{AqsStep}
 
 -- an answer of this kind, after which nothing has changed
-abbrev pub IsRefused : ℕ → Seated → AqsAnswer → Seated → Type 0
-IsRefused kind old a new = (a.kind ≡ kind) × (new ≡ old)
+pub record IsRefused (kind : ℕ) (old : Seated) (a : AqsAnswer) (new : Seated) : Type 0 where
+  pub kind_is : a.kind ≡ kind
+  pub pass : new.pass ≡ old.pass
+  pub waiting : new.waiting ≡ old.waiting
 
 -- one step of a seat, as the monitor promises it, and its answer in numbers
 pub record IsStepMade (old : Seated) (code : AqsStep) (a : AqsAnswer) (new : Seated) : Type 0 where
@@ -31,13 +33,16 @@ pub record IsStepMade (old : Seated) (code : AqsStep) (a : AqsAnswer) (new : Sea
   pub is_code : IsCodeOf step code
   pub is_answer : IsAnswerOf reply a
   pub made : IsStepNow old.pass step reply new.pass
-  pub idle : new.waiting ≡ None
+  pub waiting : new.waiting ≡ old.waiting
 
 -- A seat that is in no call makes the step of the code. Kind 4 says that there is no such step.
-abbrev pub IsSeatStep : Option Waiting → Seated → AqsStep → AqsAnswer → Seated → Type 0
-IsSeatStep (Some w) old code a new = IsRefused 8 old a new
-IsSeatStep None old code a new =
+abbrev pub IsStepped : Seated → AqsStep → AqsAnswer → Seated → Type 0
+IsStepped old code a new =
     (IsRefused 4 old a new × ((step : Step) → IsCodeOf step code → ⊥)) ⊎ IsStepMade old code a new
+
+abbrev pub IsSeatStep : Seated → AqsStep → AqsAnswer → Seated → Type 0
+IsSeatStep old code a new =
+    (IsSome old.waiting × IsRefused 8 old a new) ⊎ ((old.waiting ≡ None) × IsStepped old code a new)
 
 -- the first turn of a call, as the monitor promises it, and its answer in numbers
 pub record IsTurnBegun (old : Seated) (c : AqsCall) (a : AqsAnswer) (new : Seated) : Type 0 where
@@ -50,13 +55,17 @@ pub record IsTurnBegun (old : Seated) (c : AqsCall) (a : AqsAnswer) (new : Seate
   pub is_turn : IsTurnOf turn a
   pub waiting : new.waiting ≡ waiting_in turn.next
 
--- A seat that is in no call begins one, unless another call has the object.
-abbrev pub IsSeatBegun : Option Waiting → Seated → AqsCall → AqsAnswer → Seated → Type 0
-IsSeatBegun (Some w) old c a new = IsRefused 8 old a new
-IsSeatBegun None old c a new =
+-- A seat that is in no call begins one. Kind 4 says that these are the numbers of no call, and kind 3 that
+-- another call had the object.
+abbrev pub IsCallBegun : Seated → AqsCall → AqsAnswer → Seated → Type 0
+IsCallBegun old c a new =
     (IsRefused 4 old a new × ((q : Request) (how : How) (was : Bool) → IsCallOf q how was c → ⊥))
     ⊎ IsRefused 3 old a new
     ⊎ IsTurnBegun old c a new
+
+abbrev pub IsSeatBegun : Seated → AqsCall → AqsAnswer → Seated → Type 0
+IsSeatBegun old c a new =
+    (IsSome old.waiting × IsRefused 8 old a new) ⊎ ((old.waiting ≡ None) × IsCallBegun old c a new)
 
 -- the next turn of a call that waits
 pub record IsTurnMade (w : Waiting) (old : Seated) (number : ℕ) (a : AqsAnswer) (new : Seated) : Type 0 where
@@ -67,28 +76,30 @@ pub record IsTurnMade (w : Waiting) (old : Seated) (number : ℕ) (a : AqsAnswer
   pub is_turn : IsTurnOf turn a
   pub waiting : new.waiting ≡ waiting_in turn.next
 
-abbrev pub IsSeatGoneOn : Option Waiting → Seated → ℕ → AqsAnswer → Seated → Type 0
-IsSeatGoneOn None old number a new = IsRefused 9 old a new
-IsSeatGoneOn (Some w) old number a new =
+-- Kind 4 says that no park ends so.
+abbrev pub IsCallGoneOn : Waiting → Seated → ℕ → AqsAnswer → Seated → Type 0
+IsCallGoneOn w old number a new =
     (IsRefused 4 old a new × ((woke : Woke) → IsWoke woke number → ⊥))
     ⊎ IsRefused 3 old a new
     ⊎ IsTurnMade w old number a new
 
+abbrev pub IsSeatGoneOn : Seated → ℕ → AqsAnswer → Seated → Type 0
+IsSeatGoneOn old number a new =
+    ((old.waiting ≡ None) × IsRefused 9 old a new)
+    ⊎ ((w : Waiting) × (old.waiting ≡ Some w) × IsCallGoneOn w old number a new)
+
 -- The same of a pass, which may be empty: it stays so.
 abbrev pub IsPassStep : Option Seated → AqsStep → AqsAnswer → Option Seated → Type 0
 IsPassStep None code a new = (a.kind ≡ 5) × (new ≡ None)
-IsPassStep (Some old) code a new =
-    (seat : Seated) × (new ≡ Some seat) × IsSeatStep old.waiting old code a seat
+IsPassStep (Some old) code a new = (seat : Seated) × (new ≡ Some seat) × IsSeatStep old code a seat
 
 abbrev pub IsPassBegun : Option Seated → AqsCall → AqsAnswer → Option Seated → Type 0
 IsPassBegun None c a new = (a.kind ≡ 5) × (new ≡ None)
-IsPassBegun (Some old) c a new =
-    (seat : Seated) × (new ≡ Some seat) × IsSeatBegun old.waiting old c a seat
+IsPassBegun (Some old) c a new = (seat : Seated) × (new ≡ Some seat) × IsSeatBegun old c a seat
 
 abbrev pub IsPassGoneOn : Option Seated → ℕ → AqsAnswer → Option Seated → Type 0
 IsPassGoneOn None number a new = (a.kind ≡ 5) × (new ≡ None)
-IsPassGoneOn (Some old) number a new =
-    (seat : Seated) × (new ≡ Some seat) × IsSeatGoneOn old.waiting old number a seat
+IsPassGoneOn (Some old) number a new = (seat : Seated) × (new ≡ Some seat) × IsSeatGoneOn old number a seat
 
 -- the pass may have seen more, and nothing else has changed
 pub record IsSeatLook (old new : Seated) : Type 0 where
@@ -110,16 +121,16 @@ IsPassEntry None number a new = (a.kind ≡ 5) × (new ≡ None)
 IsPassEntry (Some old) number a new = (seat : Seated) × (new ≡ Some seat) × IsSeatEntry old number a seat
 
 -- the text of what a pass has seen
-abbrev pub text_seen : Seated → List ℕ
-text_seen seat = history_text seat.pass.seen.base seat.pass.seen.entries
+abbrev pub text_seen : Shown → List ℕ
+text_seen p = history_text p.seen.base p.seen.entries
 
 -- where the answer is 0, the length of the text, and the text where it fits
 abbrev pub IsPassText : Option Seated → ℕ → Option Seated → List ℕ → List ℕ → ℕ → Type 0
 IsPassText None kind new out written long = (kind ≡ 5) × (new ≡ None)
 IsPassText (Some old) kind new out written long =
     (seat : Seated) × (new ≡ Some seat) × ((seat ≡ old) ⊎ IsSeatLook old seat)
-    × (kind ≡ 0 → (long ≡ length (text_seen seat))
-    × (long ≤ length out → take long written ≡ text_seen seat))
+    × (kind ≡ 0 → (long ≡ length (text_seen seat.pass))
+    × (long ≤ length out → take long written ≡ text_seen seat.pass))
 
 -- a fold of so many entries, of which nothing else changes
 pub record IsSeatTrim (old : Seated) (count : ℕ) (new : Seated) : Type 0 where

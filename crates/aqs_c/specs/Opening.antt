@@ -9,7 +9,7 @@ use Rattle.history.specs.declared.header.Policy.TheVariants.{Fair, NonFair, Stri
 use Rattle.monitor.specs.Lawful.{blank}
 use Rattle.monitor.specs.Shown.{Shown, opening_passes}
 use Rattle.word_lock.specs.Ticket.{LockId}
-use Rattle.aqs_c.specs.Seated.{Seated}
+use Rattle.aqs_c.specs.Seated.{Seated, seated}
 use Rattle.aqs_c.specs.declared.opening.AqsHeader.{AqsHeader}
 use Rattle.aqs_c.specs.declared.pass.AqsPass.{AqsPass}
 
@@ -33,7 +33,7 @@ pub record IsHeaderOf (c : AqsHeader) (h : Header) : Type 0 where
 
 -- a seat that has seen nothing and is in no call
 abbrev pub idle : Shown → Option Seated
-idle p = Some (record { pass = p; waiting = None })
+idle p = Some (seated p None)
 
 -- each place has the pass of its seat
 pub record IsOpened (h : Header) (places : List AqsPass) : Type 0 where

@@ -10,6 +10,9 @@ pub record Seated : Type 0 where
   pub pass : Shown
   pub waiting : Option Waiting
 
+abbrev pub seated : Shown → Option Waiting → Seated
+seated p w = record { pass = p; waiting = w }
+
 abbrev pub waiting_in : Next → Option Waiting
 waiting_in (Ends reply again) = None
 waiting_in (Waits w) = Some w

@@ -7,6 +7,7 @@ ghost use Rattle.history.specs.declared.header.Header.{Header};
 ghost use Rattle.history.specs.declared.header.Object.{Object};
 ghost use Rattle.history.specs.declared.header.Policy.{Policy};
 ghost use Rattle.aqs_c.specs.Opening.{IsHeaderOf, IsObject, IsOpened, IsOpening, IsPolicy, idle};
+ghost use Rattle.aqs_c.specs.Seated.{seated};
 
 use crate::pass::AqsPass;
 use crate::seat::Seat;
@@ -105,7 +106,7 @@ fn open_seat(
     right: Pass,
 ) -> Result<Box<Seat>, Fault>
     requires own { right.lock ≡ arc_value shared.now }
-    ensures seat { IfOk result (λ seat. seat.value ≡ record { pass = right; waiting = None }) }
+    ensures seat { IfOk result (λ seat. seat.value ≡ seated right None) }
     ensures err { IfErr result (λ fault. fault ≡ OutOfMemory) }
 {
     let monitor = Arc::try_clone(shared)?;
