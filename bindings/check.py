@@ -84,7 +84,7 @@ def has(*tools):
 
 
 def check_c(tests):
-    if not tests.run("the C and C++ tests are built", ["make", "-s", "tests"], 120):
+    if not tests.run("the C and C++ tests are built", ["make", "-s", "tests"], 300):
         return
     kept = tests.histories("c")
     tests.run("each call of aqs.h", [OUT / "calls", kept])
@@ -122,7 +122,7 @@ def check_sanitizers(tests):
     if not has("valgrind"):
         tests.left_out("valgrind", "it is not installed")
         return
-    if tests.run("the tests are built for valgrind", ["make", "-s", "tests"], 120):
+    if tests.run("the tests are built for valgrind", ["make", "-s", "tests"], 300):
         kept = tests.histories("valgrind")
         words = ["valgrind", "-q", "--error-exitcode=9", "--leak-check=full"]
         tests.run("valgrind: calls", [*words, OUT / "calls", kept], 120, silent=True)

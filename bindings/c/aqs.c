@@ -395,24 +395,31 @@ static aqs_status_t open_seats(aqs_object_t *object, aqs_header_t header) {
     return answer == 0 ? AQS_OK : answer == AQS_FAULT_OUT_OF_MEMORY ? AQS_OUT_OF_MEMORY : AQS_OUT_OF_RANGE;
 }
 
-static aqs_status_t open_object(void **place, uint8_t kind, int32_t number, const aqs_options_t *options) {
+static aqs_status_t open_object(aqs_object_t *object, uint8_t kind, int32_t number, const aqs_options_t *options) {
     static const aqs_options_t defaults;
     if (!options) options = &defaults;
-    aqs_object_t *object = malloc(sizeof(aqs_object_t));
-    if (!object) return AQS_OUT_OF_MEMORY;
     object->trims = options->when_full == AQS_TRIM;
-    aqs_status_t status = open_seats(object, header_of(kind, number, options));
-    if (status == AQS_OK) *place = object;
-    else free(object);
-    return status;
+    return open_seats(object, header_of(kind, number, options));
 }
 
 static void close_object(aqs_object_t *object) {
-    if (!object) return;
     for (size_t i = 0; i < object->count; i++) aqs_drop(&object->seats[i].pass);
     free(object->seats);
-    free(object);
 }
+
+/* Opens an object of a type in memory of its own, and closes it. */
+#define OPEN(place, kind, number, options)                                                   \
+    do {                                                                                     \
+        if (!(*(place) = malloc(sizeof **(place)))) return AQS_OUT_OF_MEMORY;                \
+        aqs_status_t status_ = open_object(&(*(place))->object, (kind), (number), (options)); \
+        if (status_ != AQS_OK) free(*(place));                                               \
+        return status_;                                                                      \
+    } while (0)
+#define CLOSE(it)                            \
+    do {                                     \
+        if (it) close_object(&(it)->object); \
+        free(it);                            \
+    } while (0)
 
 /* The calls of aqs.h -------------------------------------------------------------------------------------------- */
 
@@ -420,9 +427,9 @@ enum { X = AQS_MODE_EXCLUSIVE, S = AQS_MODE_SHARED };
 enum { PLAIN = AQS_HOW_PLAIN, INTERRUPTIBLE = AQS_HOW_INTERRUPTIBLE, TIMED = AQS_HOW_TIMED };
 
 aqs_status_t aqs_lock_open(aqs_lock_t **lock, const aqs_options_t *options) {
-    return open_object((void **)lock, AQS_KIND_LOCK, 0, options);
+    OPEN(lock, AQS_KIND_LOCK, 0, options);
 }
-void aqs_lock_close(aqs_lock_t *lock) { close_object((aqs_object_t *)lock); }
+void aqs_lock_close(aqs_lock_t *lock) { CLOSE(lock); }
 aqs_status_t aqs_lock_lock(aqs_lock_t *lock) { return acquire(&lock->object, X, 1, PLAIN, 0, 1); }
 aqs_status_t aqs_lock_lock_interruptibly(aqs_lock_t *lock) {
     return acquire(&lock->object, X, 1, INTERRUPTIBLE, 0, 1);
@@ -445,9 +452,9 @@ aqs_status_t aqs_lock_signal_all(aqs_lock_t *lock, uint8_t condition) {
 }
 
 aqs_status_t aqs_rwlock_open(aqs_rwlock_t **lock, const aqs_options_t *options) {
-    return open_object((void **)lock, AQS_KIND_READ_WRITE, 0, options);
+    OPEN(lock, AQS_KIND_READ_WRITE, 0, options);
 }
-void aqs_rwlock_close(aqs_rwlock_t *lock) { close_object((aqs_object_t *)lock); }
+void aqs_rwlock_close(aqs_rwlock_t *lock) { CLOSE(lock); }
 aqs_status_t aqs_rwlock_rdlock(aqs_rwlock_t *lock) { return acquire(&lock->object, S, 1, PLAIN, 0, 1); }
 aqs_status_t aqs_rwlock_rdlock_interruptibly(aqs_rwlock_t *lock) {
     return acquire(&lock->object, S, 1, INTERRUPTIBLE, 0, 1);
@@ -483,9 +490,9 @@ aqs_status_t aqs_rwlock_signal_all(aqs_rwlock_t *lock, uint8_t condition) {
 }
 
 aqs_status_t aqs_sem_open(aqs_sem_t **semaphore, int32_t permits, const aqs_options_t *options) {
-    return open_object((void **)semaphore, AQS_KIND_SEMAPHORE, permits, options);
+    OPEN(semaphore, AQS_KIND_SEMAPHORE, permits, options);
 }
-void aqs_sem_close(aqs_sem_t *semaphore) { close_object((aqs_object_t *)semaphore); }
+void aqs_sem_close(aqs_sem_t *semaphore) { CLOSE(semaphore); }
 aqs_status_t aqs_sem_acquire(aqs_sem_t *semaphore, uint32_t n) {
     return acquire(&semaphore->object, S, n, PLAIN, 0, 0);
 }
@@ -506,9 +513,9 @@ aqs_status_t aqs_sem_drain(aqs_sem_t *semaphore, uint32_t *n) {
 }
 
 aqs_status_t aqs_latch_open(aqs_latch_t **latch, uint32_t count, const aqs_options_t *options) {
-    return open_object((void **)latch, AQS_KIND_LATCH, count <= INT32_MAX ? (int32_t)count : -1, options);
+    OPEN(latch, AQS_KIND_LATCH, count <= INT32_MAX ? (int32_t)count : -1, options);
 }
-void aqs_latch_close(aqs_latch_t *latch) { close_object((aqs_object_t *)latch); }
+void aqs_latch_close(aqs_latch_t *latch) { CLOSE(latch); }
 aqs_status_t aqs_latch_count_down(aqs_latch_t *latch) { return step(&latch->object, AQS_STEP_GIVE, S, 1, 0); }
 aqs_status_t aqs_latch_await(aqs_latch_t *latch) { return acquire(&latch->object, S, 1, PLAIN, 0, 0); }
 aqs_status_t aqs_latch_await_interruptibly(aqs_latch_t *latch) {

@@ -94,7 +94,8 @@ bool aqs_thread_interrupted(void);
 
 /* A reentrant lock with conditions ------------------------------------------------------------------------------ */
 
-/* Opens a lock. `lock` is where its pointer is put. AQS_OUT_OF_RANGE. */
+/* Opens a lock. `lock` is where its pointer is put; what is there after another status is of no use.
+   AQS_OUT_OF_RANGE. */
 aqs_status_t aqs_lock_open(aqs_lock_t **lock, const aqs_options_t *options);
 /* Closes it and frees its memory. NULL does nothing. */
 void aqs_lock_close(aqs_lock_t *lock);

@@ -20,12 +20,18 @@ static aqs_object_t *object_of(jint kind, jlong object) {
 }
 
 static aqs_status_t opened(jint kind, jint number, const aqs_options_t *options, void **object) {
+    aqs_status_t status;
+    aqs_lock_t *lock = NULL;
+    aqs_rwlock_t *rwlock = NULL;
+    aqs_sem_t *semaphore = NULL;
+    aqs_latch_t *latch = NULL;
     switch (kind) {
-        case LOCK: return aqs_lock_open((aqs_lock_t **)object, options);
-        case READ_WRITE: return aqs_rwlock_open((aqs_rwlock_t **)object, options);
-        case SEMAPHORE: return aqs_sem_open((aqs_sem_t **)object, number, options);
-        default: return aqs_latch_open((aqs_latch_t **)object, (uint32_t)number, options);
+        case LOCK: status = aqs_lock_open(&lock, options); *object = lock; break;
+        case READ_WRITE: status = aqs_rwlock_open(&rwlock, options); *object = rwlock; break;
+        case SEMAPHORE: status = aqs_sem_open(&semaphore, number, options); *object = semaphore; break;
+        default: status = aqs_latch_open(&latch, (uint32_t)number, options); *object = latch;
     }
+    return status;
 }
 
 NATIVE(jlong, open)(JNIEnv *env, jclass class, jint kind, jint number, jint policy, jboolean keeps, jint entries,

@@ -1,5 +1,5 @@
 -- What a call of C leaves, and what it is answered.
-use Rattle.std.specs.Prelude.{◌≡◌, ◌⊎◌, ◌≤◌, ℕ, Bool, List, Option, Some, None, IsSome, Result, Ok, length, take, reverse, slice_get}
+use Rattle.std.specs.Prelude.{◌≡◌, ◌⊎◌, ◌≤◌, ℕ, Bool, List, Option, Some, None, IsSome, Result, Ok, Err, length, take, reverse, slice_get}
 use Rattle.history.specs.declared.entry.Entry.{Entry}
 use Rattle.history.specs.declared.fault.Fault.{Fault}
 use Rattle.history.specs.declared.step.Step.{Step}
@@ -124,20 +124,31 @@ IsPassEntry (Some old) number a new = (seat : Seated) × (new ≡ Some seat) × 
 abbrev pub text_seen : Shown → List ℕ
 text_seen p = history_text p.seen.base p.seen.entries
 
--- where the answer is 0, the length of the text, and the text where it fits
+-- The object was busy; or a text was refused; or its length, and the text where it fits.
+abbrev pub IsSeatText : Seated → ℕ → Seated → List ℕ → List ℕ → ℕ → Type 0
+IsSeatText old kind new out written long =
+    ((kind ≡ 3) × (new ≡ old))
+    ⊎ ((kind ≡ 2) × IsSeatLook old new)
+    ⊎ ((kind ≡ 0) × IsSeatLook old new × (long ≡ length (text_seen new.pass))
+    × (long ≤ length out → take long written ≡ text_seen new.pass))
+
 abbrev pub IsPassText : Option Seated → ℕ → Option Seated → List ℕ → List ℕ → ℕ → Type 0
 IsPassText None kind new out written long = (kind ≡ 5) × (new ≡ None)
 IsPassText (Some old) kind new out written long =
-    (seat : Seated) × (new ≡ Some seat) × ((seat ≡ old) ⊎ IsSeatLook old seat)
-    × (kind ≡ 0 → (long ≡ length (text_seen seat.pass))
-    × (long ≤ length out → take long written ≡ text_seen seat.pass))
+    (seat : Seated) × (new ≡ Some seat) × IsSeatText old kind seat out written long
 
--- a fold of so many entries, of which nothing else changes
-pub record IsSeatTrim (old : Seated) (count : ℕ) (new : Seated) : Type 0 where
-  pub trimmed : IsTrim old.pass (Ok count) new.pass
+-- a fold, as the monitor promises it, of which nothing else changes
+pub record IsSeatTrim (old : Seated) (r : Result ℕ Fault) (new : Seated) : Type 0 where
+  pub trimmed : IsTrim old.pass r new.pass
   pub waiting : new.waiting ≡ old.waiting
+
+-- the object was busy, or it had too many entries, or so many were folded
+abbrev pub IsSeatFold : Seated → ℕ → ℕ → Seated → Type 0
+IsSeatFold old kind count new =
+    ((kind ≡ 3) × (new ≡ old))
+    ⊎ ((kind ≡ 2) × (f : Fault) × IsSeatTrim old (Err f) new)
+    ⊎ ((kind ≡ 0) × IsSeatTrim old (Ok count) new)
 
 abbrev pub IsPassTrim : Option Seated → ℕ → ℕ → Option Seated → Type 0
 IsPassTrim None kind count new = (kind ≡ 5) × (new ≡ None)
-IsPassTrim (Some old) kind count new =
-    (seat : Seated) × (new ≡ Some seat) × (kind ≡ 3 → seat ≡ old) × (kind ≡ 0 → IsSeatTrim old count seat)
+IsPassTrim (Some old) kind count new = (seat : Seated) × (new ≡ Some seat) × IsSeatFold old kind count seat

@@ -1,5 +1,5 @@
 //! A seat: a pass with the monitor that it is of, and the call in which it waits.
-ghost use Rattle.std.specs.Prelude.{◌≡◌, ◌⊎◌, Some, None, IfNone, IfSome, IfOk};
+ghost use Rattle.std.specs.Prelude.{◌≡◌, Some, None, IfNone, IfSome, IfOk};
 ghost use Rattle.std.specs.Arc.{arc_value};
 ghost use Rattle.monitor.specs.Waits.{Waits};
 ghost use Rattle.aqs_c.specs.Calls.{IsCallBegun, IsCallGoneOn, IsSeatBegun, IsSeatEntry, IsSeatGoneOn, IsSeatLook, IsSeatStep, IsSeatTrim, IsStepped, text_seen};
@@ -100,7 +100,8 @@ impl Seat {
 
     /// The text of the history since the last trim, unless another call has the object.
     pub(crate) fn text(&mut self, alloc: Global) -> Option<Result<Vec<u8>, Fault>>
-        ensures looked { (self.new ≡ self.old) ⊎ IsSeatLook self.old self.new }
+        ensures busy { IfNone result (self.new ≡ self.old) }
+        ensures looked { IfSome result (λ _. IsSeatLook self.old self.new) }
         ensures text { IfSome result (λ found. IfOk found (λ text. text.items ≡ text_seen self.new.pass)) }
     {
         self.monitor.read_quietly(&mut self.pass, |history: &History| text_of(alloc, history))
@@ -109,8 +110,7 @@ impl Seat {
     /// Folds all entries, unless another call has the object.
     pub(crate) fn trim(&mut self) -> Option<Result<u64, Fault>>
         ensures busy { IfNone result (self.new ≡ self.old) }
-        ensures trimmed { IfSome result (λ folded. IfOk folded (λ count.
-            IsSeatTrim self.old count self.new)) }
+        ensures trimmed { IfSome result (λ folded. IsSeatTrim self.old folded self.new) }
     {
         self.monitor.trim_quietly(&mut self.pass)
     }
