@@ -6,7 +6,9 @@
    - the calls: one line each.
    A fault in this file can lose a wake or answer a wrong status. It can't make a history illegal, nor let two
    threads have what the proved code gives to one. */
+#ifndef _GNU_SOURCE
 #define _GNU_SOURCE
+#endif
 #include "aqs.h"
 
 #include "aqs_core.h"
