@@ -104,7 +104,7 @@ void aqs_lock_close(aqs_lock_t *lock);
 aqs_status_t aqs_lock_lock(aqs_lock_t *lock);
 /* The same, unless the thread is interrupted. AQS_INTERRUPTED: it doesn't have the lock. */
 aqs_status_t aqs_lock_lock_interruptibly(aqs_lock_t *lock);
-/* The same, for at most so many milliseconds. AQS_TIMED_OUT, AQS_INTERRUPTED: it doesn't have the lock. */
+/* The same, for at most the given time. AQS_TIMED_OUT, AQS_INTERRUPTED: it doesn't have the lock. */
 aqs_status_t aqs_lock_timedlock(aqs_lock_t *lock, uint32_t milliseconds);
 /* Takes the lock if it is free, past those who wait, but not in a strict one. AQS_WOULD_BLOCK. */
 aqs_status_t aqs_lock_trylock(aqs_lock_t *lock);
@@ -117,7 +117,7 @@ aqs_status_t aqs_lock_unlock(aqs_lock_t *lock);
 aqs_status_t aqs_lock_wait(aqs_lock_t *lock, uint8_t condition);
 /* The same, unless the thread is interrupted. AQS_INTERRUPTED: it has the lock again. */
 aqs_status_t aqs_lock_wait_interruptibly(aqs_lock_t *lock, uint8_t condition);
-/* The same, for at most so many milliseconds. AQS_TIMED_OUT, AQS_INTERRUPTED: it has the lock again. */
+/* The same, for at most the given time. AQS_TIMED_OUT, AQS_INTERRUPTED: it has the lock again. */
 aqs_status_t aqs_lock_timedwait(aqs_lock_t *lock, uint8_t condition, uint32_t milliseconds);
 /* Moves the thread that has slept longest on the condition into the line for the lock. AQS_NOT_OWNER. */
 aqs_status_t aqs_lock_signal(aqs_lock_t *lock, uint8_t condition);
@@ -154,7 +154,7 @@ aqs_status_t aqs_rwlock_signal_all(aqs_rwlock_t *lock, uint8_t condition);
 
 /* A semaphore --------------------------------------------------------------------------------------------------- */
 
-/* Opens a semaphore with so many permits; they may be below 0. AQS_OUT_OF_RANGE. */
+/* Opens a semaphore with this number of permits, which may be below 0. AQS_OUT_OF_RANGE. */
 aqs_status_t aqs_sem_open(aqs_sem_t **semaphore, int32_t permits, const aqs_options_t *options);
 void aqs_sem_close(aqs_sem_t *semaphore);
 
@@ -162,7 +162,7 @@ void aqs_sem_close(aqs_sem_t *semaphore);
 aqs_status_t aqs_sem_acquire(aqs_sem_t *semaphore, uint32_t n);
 /* The same, unless the thread is interrupted. AQS_INTERRUPTED: nothing was taken. */
 aqs_status_t aqs_sem_acquire_interruptibly(aqs_sem_t *semaphore, uint32_t n);
-/* The same, for at most so many milliseconds. AQS_TIMED_OUT, AQS_INTERRUPTED: nothing was taken. */
+/* The same, for at most the given time. AQS_TIMED_OUT, AQS_INTERRUPTED: nothing was taken. */
 aqs_status_t aqs_sem_timedacquire(aqs_sem_t *semaphore, uint32_t n, uint32_t milliseconds);
 /* Takes n permits if they are free. AQS_WOULD_BLOCK. */
 aqs_status_t aqs_sem_tryacquire(aqs_sem_t *semaphore, uint32_t n);
@@ -173,7 +173,7 @@ aqs_status_t aqs_sem_drain(aqs_sem_t *semaphore, uint32_t *n);
 
 /* A latch ------------------------------------------------------------------------------------------------------- */
 
-/* Opens a latch that opens when it has been counted down so often. AQS_OUT_OF_RANGE: above 2147483647. */
+/* Opens a latch that opens when it has been counted down as often as `count` says. AQS_OUT_OF_RANGE: above 2147483647. */
 aqs_status_t aqs_latch_open(aqs_latch_t **latch, uint32_t count, const aqs_options_t *options);
 void aqs_latch_close(aqs_latch_t *latch);
 
@@ -183,7 +183,7 @@ aqs_status_t aqs_latch_count_down(aqs_latch_t *latch);
 aqs_status_t aqs_latch_await(aqs_latch_t *latch);
 /* The same, unless the thread is interrupted. AQS_INTERRUPTED. */
 aqs_status_t aqs_latch_await_interruptibly(aqs_latch_t *latch);
-/* The same, for at most so many milliseconds. AQS_TIMED_OUT, AQS_INTERRUPTED. */
+/* The same, for at most the given time. AQS_TIMED_OUT, AQS_INTERRUPTED. */
 aqs_status_t aqs_latch_timedawait(aqs_latch_t *latch, uint32_t milliseconds);
 
 /* Histories ----------------------------------------------------------------------------------------------------- */

@@ -1,4 +1,4 @@
--- Who waits behind the turns of its call, and behind what changes nothing of it.
+-- Who waits after the turns of its call, and after what changes nothing of it.
 use Rattle.std.proofs.Common.{◌≡◌, ◌⊎◌, inl, inr, ℕ, Bool, true, false, cond, is_some, List, Option, Some, None, Result, Ok, Err, refl, sym, ap, ◌∙◌, subst}
 use Rattle.history.specs.Awaiting.{ReturnsAs, lapsed}
 use Rattle.history.specs.Base.{Base, based}
@@ -95,7 +95,7 @@ step_waits Parks l woke = waits_within l woke
 step_waits Looks l woke = refl
 step_waits GivenUp l woke = refl
 
--- who waits behind a later turn
+-- who waits after a later turn
 waits_gone : (old new : Shown) (k : Cause) (w : Waiting) (s : Step) (r : Result Answer Fault) (n : Waiting) →
     turns.Turn old k s r new → (later_turn w s r).next ≡ next.Waits n → Waits new.seen old.seat
 waits_gone old new k w s (Ok answer.Sleep) n t is = (k, t.0)
@@ -121,7 +121,7 @@ stands_gone old new w woke t shows first same gone = by t.next refl
         (turn old new first.0 s gone.0 gone.1 shows first.1 (step_waits w.stage w.limits woke))
         (ap (λ (z : Turn). z.next) (sym gone.2) ∙ e))
 
--- who waits does so behind what adds no entry of its seat
+-- who waits still does after what adds no entry of its seat
 stands_later : (old new : Shown) (waiting : Option Waiting) → IsTrue old → IsTrue new → new.seat ≡ old.seat →
     Before old.seen new.seen → new.mine ≡ old.mine → StandsBy waiting old → StandsBy waiting new
 stands_later old new None was shows seat later mine stands = tt

@@ -142,7 +142,7 @@ pub record IsSeatTrim (old : Seated) (r : Result ℕ Fault) (new : Seated) : Typ
   pub trimmed : IsTrim old.pass r new.pass
   pub waiting : new.waiting ≡ old.waiting
 
--- the object was busy, or it had too many entries, or so many were folded
+-- the object was busy, or it had too many entries, or that number was folded
 abbrev pub IsSeatFold : Seated → ℕ → ℕ → Seated → Type 0
 IsSeatFold old kind count new =
     ((kind ≡ 3) × (new ≡ old))

@@ -2,7 +2,7 @@
 //!
 //! A static library can neither sleep nor wake. So a call that may wait is made of turns: the first by
 //! `aqs_begin`, each later one by `aqs_go_on`. An answer says what the caller does next, in this order: it unparks
-//! the seat that is named, sets its own interrupt again if it is told so, and parks if the call waits. All that
+//! the seat that is named, sets its own interrupt again if the answer says so, and parks if the call waits. All that
 //! decides is here, and proved: C parks, unparks and reads the clock (`bindings/c/aqs.c`).
 //!
 //! C holds each seat as an [`AqsPass`] of two words. It is empty, or owns a box with the seat and its share of

@@ -20,7 +20,7 @@ pub(crate) unsafe fn history(object: *mut sys::Object) -> Result<String, Error> 
     let mut text: Vec<u8> = Vec::new();
     loop {
         let mut length = 0;
-        // SAFETY: the object is open, and the buffer has so many bytes.
+        // SAFETY: the object is open, and the buffer has that length.
         let status = unsafe {
             sys::aqs_history_text(object, text.as_mut_ptr().cast(), text.len(), &mut length)
         };
