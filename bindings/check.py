@@ -1,10 +1,10 @@
 #!/usr/bin/env python3
 """Tests the callers of each language: check.py [c] [sanitizers] [rust] [python] [java].
 
-With no words it tests them all. It builds the library first, by make. What the machine has no tools for is left out,
-and told. Each test has a time limit, since a lost wake would hang. The histories that the tests leave are judged by
-`aqs audit`, if the program is built (crates/aqs/out/aqs, or AQS), and else by the rules in Python (checks/rules.py).
-The last line is 'N passed, M failed'.
+With no words it tests them all. It builds the library first, by make. What the machine has no tools for is left
+out, and told. Each test has a time limit, since a lost wake would hang. The histories that the tests leave are
+judged by `aqs audit`, if the program is built (crates/aqs/out/aqs, or AQS), and else by the rules in Python
+(checks/rules.py). The last line is 'N passed, M failed'.
 """
 import glob
 import os
@@ -117,8 +117,9 @@ def check_install(tests):
             return
         include, lib = f"{room}/usr/include", f"{room}/usr/lib"
         words = ["cc", "-std=gnu11", f"-I{include}", "-Itest", "test/calls.c", f"-L{lib}", "-laqs", "-pthread"]
-        if tests.run("a program links with what was installed", [*words, "-o", f"{room}/calls"]):
-            tests.run("it runs with libaqs.so", [f"{room}/calls", tests.histories("shared")], LD_LIBRARY_PATH=lib)
+        program, kept = f"{room}/calls", tests.histories("shared")
+        if tests.run("a program links with what was installed", [*words, "-o", program]):
+            tests.run("it runs with libaqs.so", [program, kept], LD_LIBRARY_PATH=lib)
 
 
 # What a sanitizer is given beside the sources. ThreadSanitizer wants addresses where it expects them.
@@ -138,21 +139,23 @@ def check_sanitizers(tests):
         kept = tests.histories("valgrind")
         words = ["valgrind", "-q", "--error-exitcode=9", "--leak-check=full"]
         tests.run("valgrind: calls", [*words, OUT / "calls", kept], 120, silent=True)
-        tests.run("valgrind: storms of 4 threads", [*words, OUT / "storms", kept, "4", "20"], 120, silent=True)
+        storm = [*words, OUT / "storms", kept, "4", "20"]
+        tests.run("valgrind: storms of 4 threads", storm, 120, silent=True)
 
 
 def check_sanitizer(tests, name, flag, environment):
     folder = tests.histories(flag.split(",")[0])
     library = [f"{OUT}/members.a"]
     built = ["gcc", "-std=gnu11", "-O1", "-g", f"-fsanitize={flag}", "-I.", "aqs.c"]
-    made = subprocess.run(["sh", "-c", f"cp out/libaqs.a {library[0]} && ar d {library[0]} aqs.o"], cwd=C, check=False)
-    if made.returncode:
+    without = f"cp out/libaqs.a {library[0]} && ar d {library[0]} aqs.o"
+    if subprocess.run(["sh", "-c", without], cwd=C, check=False).returncode:
         tests.left_out(name, "the library has no member aqs.o")
         return
     prefix = ["setarch", "-R"] if flag == "thread" and has("setarch") else []
     for test, words in (("calls", []), ("storms", ["4", "100"]), ("storms", ["16", "20"])):
         program = f"{folder}/{test}"
-        if not tests.run(f"{name}: {test} is built", [*built, f"test/{test}.c", *library, "-pthread", "-o", program], 120):
+        made = [*built, f"test/{test}.c", *library, "-pthread", "-o", program]
+        if not tests.run(f"{name}: {test} is built", made, 120):
             return
         shown = f"{name}: {test} {' '.join(words)}".strip()
         tests.run(shown, [*prefix, program, folder, *words], 120, silent=True, **environment)
@@ -176,7 +179,8 @@ def check_rust(tests):
 
 def check_python(tests):
     kept = tests.histories("python")
-    tests.run("Python", [sys.executable, "-B", "-m", "unittest", "-q", "test_aqs"], cwd=HERE / "python", AQS_HISTORIES=kept)
+    words = [sys.executable, "-B", "-m", "unittest", "-q", "test_aqs"]
+    tests.run("Python", words, cwd=HERE / "python", AQS_HISTORIES=kept)
     tests.audit("Python", kept)
 
 
@@ -192,7 +196,8 @@ def check_java(tests):
 
 
 PARTS = {
-    "c": check_c, "sanitizers": check_sanitizers, "rust": check_rust, "python": check_python, "java": check_java,
+    "c": check_c, "sanitizers": check_sanitizers, "rust": check_rust, "python": check_python,
+    "java": check_java,
 }
 
 

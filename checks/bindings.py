@@ -1,10 +1,10 @@
 #!/usr/bin/env python3
 """The callers in other languages: checks/bindings.py [PROGRAM].
 
-Builds the library over crates/aqs_c/out/libaqs_c.a, as rt ci leaves it, or by rt lib if it is missing, and runs
-`make check` in bindings/: the tests of C, C++, Rust, Python and Java, the sanitizers, and the audit of the histories
-by PROGRAM (crates/aqs/out/aqs). What the machine has no tools for is left out, and told. C and C++ must be there.
-The last line is 'N passed, M failed'.
+Builds the library over crates/aqs_c/out/libaqs_c.a, as rt ci leaves it, or by rt lib if it is missing, and
+runs `make check` in bindings/: the tests of C, C++, Rust, Python and Java, the sanitizers, and the audit of the
+histories by PROGRAM (crates/aqs/out/aqs). What the machine has no tools for is left out, and told. C and C++
+must be there. The last line is 'N passed, M failed'.
 """
 import os
 import re

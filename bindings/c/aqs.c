@@ -36,10 +36,11 @@ void __tsan_release(void *);
 #define __tsan_release(address) ((void)(address))
 #endif
 
-/* Parking ------------------------------------------------------------------------------------------------------- */
+/* Parking ------------------------------------------------------------------------------------------------ */
 
-/* The word of a place. Its thread shows SLEEPS before it reads the word for the last time, and sleeps only while the
-   word is what it read. A sender sets its signal in one step, which shows it SLEEPS. So no wake is lost. */
+/* The word of a place. Its thread shows SLEEPS before it reads the word for the last time, and sleeps only
+   while the word is what it read. A sender sets its signal in one step, which shows it SLEEPS. So no wake
+   is lost. */
 enum { PERMIT = 1, INTERRUPT = 2, SLEEPS = 4 };
 
 typedef struct {
@@ -122,14 +123,15 @@ static uint8_t park(place_t *place, const aqs_answer_t *answer) {
     }
 }
 
-/* Threads ------------------------------------------------------------------------------------------------------- */
+/* Threads ------------------------------------------------------------------------------------------------ */
 
 /* A bit for each number that a thread has. */
 static _Atomic uint64_t taken[AQS_THREADS / 64];
 static pthread_key_t at_end;
 static pthread_once_t once = PTHREAD_ONCE_INIT;
 static _Thread_local aqs_thread_t self = AQS_THREADS;
-/* How many holds of locks the thread has. One that ends with some keeps its number, and its holds, for good. */
+/* How many holds of locks the thread has. One that ends with some keeps its number, and its holds, for
+   good. */
 static _Thread_local uint64_t holds;
 
 static void give_number_back(void *number) {
@@ -176,7 +178,7 @@ bool aqs_thread_interrupted(void) {
     return thread < AQS_THREADS && take(&places[thread], INTERRUPT);
 }
 
-/* Turns --------------------------------------------------------------------------------------------------------- */
+/* Turns -------------------------------------------------------------------------------------------------- */
 
 /* Each seat's pass is used by the thread of its number alone, and lies in a line of the cache of its own. */
 typedef struct {
@@ -208,7 +210,8 @@ static void relax(void) {
 #endif
 }
 
-/* Another call has the object. A turn is short, so look often before others run, and sleep only if that doesn't help. */
+/* Another call has the object. A turn is short, so look often before others run, and sleep only if that
+   doesn't help. */
 static void back_off(unsigned *looks) {
     if (++*looks < 100) {
         relax();
@@ -279,7 +282,7 @@ static aqs_answer_t make_call(aqs_object_t *object, aqs_thread_t me, aqs_call_t 
     return answer;
 }
 
-/* Answers as statuses ------------------------------------------------------------------------------------------- */
+/* Answers as statuses ------------------------------------------------------------------------------------ */
 
 static aqs_status_t status_of_fault(uint8_t fault) {
     switch (fault) {
@@ -317,16 +320,17 @@ static aqs_status_t status_of(const aqs_answer_t *answer) {
 
 const char *aqs_status_name(aqs_status_t status) {
     static const char *const names[] = {
-        "AQS_OK", "AQS_TIMED_OUT", "AQS_INTERRUPTED", "AQS_WOULD_BLOCK", "AQS_NOT_OWNER", "AQS_TOO_MANY_HOLDS",
-        "AQS_TOO_MANY_PERMITS", "AQS_HOLDS_READ", "AQS_NO_SUCH_CONDITION", "AQS_BAD_AMOUNT", "AQS_HISTORY_FULL",
-        "AQS_OUT_OF_MEMORY", "AQS_OUT_OF_RANGE", "AQS_TOO_MANY_THREADS", "AQS_NO_SPACE", "AQS_IO_ERROR",
-        "AQS_MISUSE",
+        "AQS_OK", "AQS_TIMED_OUT", "AQS_INTERRUPTED", "AQS_WOULD_BLOCK", "AQS_NOT_OWNER",
+        "AQS_TOO_MANY_HOLDS", "AQS_TOO_MANY_PERMITS", "AQS_HOLDS_READ", "AQS_NO_SUCH_CONDITION",
+        "AQS_BAD_AMOUNT", "AQS_HISTORY_FULL", "AQS_OUT_OF_MEMORY", "AQS_OUT_OF_RANGE",
+        "AQS_TOO_MANY_THREADS", "AQS_NO_SPACE", "AQS_IO_ERROR", "AQS_MISUSE",
     };
     size_t number = (size_t)status;
     return number < sizeof names / sizeof names[0] ? names[number] : "no status";
 }
 
-/* One step of the calling thread, or one call. `owned` says by how many holds of a lock it changes the thread's. */
+/* One step of the calling thread, or one call. `owned` says by how many holds of a lock it changes the
+   thread's. */
 
 static aqs_status_t do_step(aqs_object_t *object, aqs_step_t step, int owned, uint32_t *n) {
     aqs_thread_t me = aqs_thread_self();
@@ -349,7 +353,8 @@ static aqs_status_t do_call(aqs_object_t *object, aqs_call_t call, int owned) {
     return status == AQS_WOULD_BLOCK ? AQS_TIMED_OUT : status;
 }
 
-static aqs_status_t acquire(aqs_object_t *object, uint8_t mode, uint32_t n, uint8_t how, uint32_t time, int owned) {
+static aqs_status_t acquire(
+    aqs_object_t *object, uint8_t mode, uint32_t n, uint8_t how, uint32_t time, int owned) {
     aqs_call_t call = {.kind = AQS_CALL_ACQUIRE, .mode = mode, .n = n, .how = how, .time = time};
     return do_call(object, call, owned);
 }
@@ -363,7 +368,7 @@ static aqs_status_t step(aqs_object_t *object, uint8_t code, uint8_t mode, uint3
     return do_step(object, (aqs_step_t){.n = n, .code = code, .mode = mode}, owned, NULL);
 }
 
-/* Opening and closing ------------------------------------------------------------------------------------------- */
+/* Opening and closing ------------------------------------------------------------------------------------ */
 
 enum { THREADS = 64, ENTRIES = 8192 };
 
@@ -397,7 +402,8 @@ static aqs_status_t open_seats(aqs_object_t *object, aqs_header_t header) {
     return answer == 0 ? AQS_OK : answer == AQS_FAULT_OUT_OF_MEMORY ? AQS_OUT_OF_MEMORY : AQS_OUT_OF_RANGE;
 }
 
-static aqs_status_t open_object(aqs_object_t *object, uint8_t kind, int32_t number, const aqs_options_t *options) {
+static aqs_status_t open_object(
+    aqs_object_t *object, uint8_t kind, int32_t number, const aqs_options_t *options) {
     static const aqs_options_t defaults;
     if (!options) options = &defaults;
     object->trims = options->when_full == AQS_TRIM;
@@ -423,7 +429,7 @@ static void close_object(aqs_object_t *object) {
         free(it);                            \
     } while (0)
 
-/* The calls of aqs.h -------------------------------------------------------------------------------------------- */
+/* The calls of aqs.h ------------------------------------------------------------------------------------- */
 
 enum { X = AQS_MODE_EXCLUSIVE, S = AQS_MODE_SHARED };
 enum { PLAIN = AQS_HOW_PLAIN, INTERRUPTIBLE = AQS_HOW_INTERRUPTIBLE, TIMED = AQS_HOW_TIMED };
@@ -436,10 +442,14 @@ aqs_status_t aqs_lock_lock(aqs_lock_t *lock) { return acquire(&lock->object, X, 
 aqs_status_t aqs_lock_lock_interruptibly(aqs_lock_t *lock) {
     return acquire(&lock->object, X, 1, INTERRUPTIBLE, 0, 1);
 }
-aqs_status_t aqs_lock_timedlock(aqs_lock_t *lock, uint32_t ms) { return acquire(&lock->object, X, 1, TIMED, ms, 1); }
+aqs_status_t aqs_lock_timedlock(aqs_lock_t *lock, uint32_t ms) {
+    return acquire(&lock->object, X, 1, TIMED, ms, 1);
+}
 aqs_status_t aqs_lock_trylock(aqs_lock_t *lock) { return step(&lock->object, AQS_STEP_TRY, X, 1, 1); }
 aqs_status_t aqs_lock_unlock(aqs_lock_t *lock) { return step(&lock->object, AQS_STEP_GIVE, X, 1, -1); }
-aqs_status_t aqs_lock_wait(aqs_lock_t *lock, uint8_t condition) { return await(&lock->object, condition, PLAIN, 0); }
+aqs_status_t aqs_lock_wait(aqs_lock_t *lock, uint8_t condition) {
+    return await(&lock->object, condition, PLAIN, 0);
+}
 aqs_status_t aqs_lock_wait_interruptibly(aqs_lock_t *lock, uint8_t condition) {
     return await(&lock->object, condition, INTERRUPTIBLE, 0);
 }
@@ -523,9 +533,11 @@ aqs_status_t aqs_latch_await(aqs_latch_t *latch) { return acquire(&latch->object
 aqs_status_t aqs_latch_await_interruptibly(aqs_latch_t *latch) {
     return acquire(&latch->object, S, 1, INTERRUPTIBLE, 0, 0);
 }
-aqs_status_t aqs_latch_timedawait(aqs_latch_t *latch, uint32_t ms) { return acquire(&latch->object, S, 1, TIMED, ms, 0); }
+aqs_status_t aqs_latch_timedawait(aqs_latch_t *latch, uint32_t ms) {
+    return acquire(&latch->object, S, 1, TIMED, ms, 0);
+}
 
-/* Histories ----------------------------------------------------------------------------------------------------- */
+/* Histories ---------------------------------------------------------------------------------------------- */
 
 aqs_object_t *aqs_lock_object(aqs_lock_t *lock) { return &lock->object; }
 aqs_object_t *aqs_rwlock_object(aqs_rwlock_t *lock) { return &lock->object; }

@@ -1,23 +1,25 @@
 /* aqs.h: the synchronisers of java.util.concurrent for C and C++.
 
-   A reentrant lock with conditions, a read-write lock, a semaphore and a latch. Who gets what, in which order, and
-   what each call answers is decided by proved code (aqs_core.h). Only parking and the clock are written in C.
+   A reentrant lock with conditions, a read-write lock, a semaphore and a latch. Who gets what, in which
+   order, and what each call answers is decided by proved code (aqs_core.h). Only parking and the clock are
+   written in C.
 
-   Threads. A thread needs no preparation: its first call of any object gives it a number, which it keeps until it
-   ends. At most AQS_THREADS threads that have made a call may live at a time. An object is opened for a number of
-   threads; a call by a thread with a higher number returns AQS_TOO_MANY_THREADS and does nothing. A thread that ends
-   while it owns a lock keeps its number for good, so that nobody is taken for the owner.
+   Threads. A thread needs no preparation: its first call of any object gives it a number, which it keeps
+   until it ends. At most AQS_THREADS threads that have made a call may live at a time. An object is opened
+   for a number of threads; a call by a thread with a higher number returns AQS_TOO_MANY_THREADS and does
+   nothing. A thread that ends while it owns a lock keeps its number for good, so that nobody is taken for
+   the owner.
 
-   Every object. Any thread may call it, at the same time as others. Before it is closed, no thread may be in a call
-   of it, and none may call it later. Each function returns AQS_OK or says in its comment what else it returns. Any
-   of them may return AQS_TOO_MANY_THREADS, AQS_OUT_OF_MEMORY or, where the history is full, AQS_HISTORY_FULL; then
-   nothing has happened. No call is made from a signal handler or from the forked child of a process with threads,
-   and no thread is cancelled or killed in a call.
+   Every object. Any thread may call it, at the same time as others. Before it is closed, no thread may be
+   in a call of it, and none may call it later. Each function returns AQS_OK or says in its comment what
+   else it returns. Any of them may return AQS_TOO_MANY_THREADS, AQS_OUT_OF_MEMORY or, where the history is
+   full, AQS_HISTORY_FULL; then nothing has happened. No call is made from a signal handler or from the
+   forked child of a process with threads, and no thread is cancelled or killed in a call.
 
    History. Each object records every call. The history is a text that the program `aqs` checks and draws
-   (`aqs audit`, `aqs draw`). An object that is opened with AQS_TRIM forgets the recorded entries when its history
-   is full, and runs on for good. One that is opened with AQS_REFUSE keeps them all, and refuses new calls when it
-   is full; calls under way and all releases still have room. */
+   (`aqs audit`, `aqs draw`). An object that is opened with AQS_TRIM forgets the recorded entries when its
+   history is full, and runs on for good. One that is opened with AQS_REFUSE keeps them all, and refuses new
+   calls when it is full; calls under way and unlocks still have room. */
 #ifndef AQS_H
 #define AQS_H
 
@@ -56,8 +58,8 @@ typedef enum {
 /* The name of a status, as "AQS_OK". Never NULL. */
 const char *aqs_status_name(aqs_status_t status);
 
-/* Which new calls stand behind those who wait: all but untimed tries (fair), none (not fair, the fastest), or all
-   (strict). A call of the owner never waits. */
+/* Which new calls stand behind those who wait: all but untimed tries (fair), none (not fair, the fastest),
+   or all (strict). A call of the owner never waits. */
 typedef enum { AQS_NONFAIR, AQS_FAIR, AQS_STRICT } aqs_policy_t;
 
 typedef enum { AQS_TRIM, AQS_REFUSE } aqs_when_full_t;
@@ -66,7 +68,8 @@ typedef enum { AQS_TRIM, AQS_REFUSE } aqs_when_full_t;
 typedef struct {
     aqs_policy_t policy;       /* default AQS_NONFAIR; a latch has none */
     aqs_when_full_t when_full; /* default AQS_TRIM */
-    uint32_t history;          /* most entries that are kept: default 8192, or 4294967295 with AQS_REFUSE; at least 16 */
+    uint32_t history;          /* most entries that are kept, at least 16: default 8192, or 4294967295 with
+                                  AQS_REFUSE */
     uint16_t threads;          /* 1 to AQS_THREADS: default 64 */
     uint8_t conditions;        /* 1 to 16, of a lock or a read-write lock: default 1 */
 } aqs_options_t;
@@ -77,7 +80,7 @@ typedef struct aqs_rwlock aqs_rwlock_t;
 typedef struct aqs_sem aqs_sem_t;
 typedef struct aqs_latch aqs_latch_t;
 
-/* Threads ------------------------------------------------------------------------------------------------------ */
+/* Threads ------------------------------------------------------------------------------------------------ */
 
 /* The number of a thread, from 0. A number is used again after its thread has ended. */
 typedef uint16_t aqs_thread_t;
@@ -85,14 +88,15 @@ typedef uint16_t aqs_thread_t;
 /* The calling thread's number, or AQS_THREADS if as many threads have one already. */
 aqs_thread_t aqs_thread_self(void);
 
-/* Interrupts a thread: its next interruptible or timed call, or the one in which it waits, returns AQS_INTERRUPTED.
-   Plain calls wait on, and leave the interrupt pending. Any thread may call it. AQS_OUT_OF_RANGE: no such number. */
+/* Interrupts a thread: its next interruptible or timed call, or the one in which it waits, returns
+   AQS_INTERRUPTED. Plain calls wait on, and leave the interrupt pending. Any thread may call it.
+   AQS_OUT_OF_RANGE: no such number. */
 aqs_status_t aqs_thread_interrupt(aqs_thread_t thread);
 
 /* Whether the calling thread has a pending interrupt. It is cleared. */
 bool aqs_thread_interrupted(void);
 
-/* A reentrant lock with conditions ------------------------------------------------------------------------------ */
+/* A reentrant lock with conditions ----------------------------------------------------------------------- */
 
 /* Opens a lock. `lock` is where its pointer is put; what is there after another status is of no use.
    AQS_OUT_OF_RANGE. */
@@ -111,9 +115,10 @@ aqs_status_t aqs_lock_trylock(aqs_lock_t *lock);
 /* Gives one hold back. The caller owes that it holds the lock; else AQS_NOT_OWNER, and nothing happens. */
 aqs_status_t aqs_lock_unlock(aqs_lock_t *lock);
 
-/* Gives up all holds, sleeps until the condition is signalled, and returns with the same holds. The caller owns the
-   lock; else AQS_NOT_OWNER. It never returns early by itself, but what it waits for may have changed again by
-   then, so the caller waits in a loop. AQS_NO_SUCH_CONDITION. Conditions are numbered from 0. */
+/* Gives up all holds, sleeps until the condition is signalled, and returns with the same holds. The caller
+   owns the lock; else AQS_NOT_OWNER. It never returns early by itself, but what it waits for may have
+   changed again by then, so the caller waits in a loop. AQS_NO_SUCH_CONDITION. Conditions are numbered from
+   0. */
 aqs_status_t aqs_lock_wait(aqs_lock_t *lock, uint8_t condition);
 /* The same, unless the thread is interrupted. AQS_INTERRUPTED: it has the lock again. */
 aqs_status_t aqs_lock_wait_interruptibly(aqs_lock_t *lock, uint8_t condition);
@@ -124,10 +129,11 @@ aqs_status_t aqs_lock_signal(aqs_lock_t *lock, uint8_t condition);
 /* Moves all of them. AQS_NOT_OWNER. */
 aqs_status_t aqs_lock_signal_all(aqs_lock_t *lock, uint8_t condition);
 
-/* A read-write lock --------------------------------------------------------------------------------------------- */
+/* A read-write lock -------------------------------------------------------------------------------------- */
 
-/* Many may read at a time, or one may write. Both sides are reentrant. A writer may read too, and keep the read side
-   when it gives back the write side. A reader that wants to write waits for itself: that is a deadlock. */
+/* Many may read at a time, or one may write. Both sides are reentrant. A writer may read too, and keep the
+   read side when it gives back the write side. A reader that wants to write waits for itself: that is a
+   deadlock. */
 aqs_status_t aqs_rwlock_open(aqs_rwlock_t **lock, const aqs_options_t *options);
 void aqs_rwlock_close(aqs_rwlock_t *lock);
 
@@ -152,7 +158,7 @@ aqs_status_t aqs_rwlock_timedwait(aqs_rwlock_t *lock, uint8_t condition, uint32_
 aqs_status_t aqs_rwlock_signal(aqs_rwlock_t *lock, uint8_t condition);
 aqs_status_t aqs_rwlock_signal_all(aqs_rwlock_t *lock, uint8_t condition);
 
-/* A semaphore --------------------------------------------------------------------------------------------------- */
+/* A semaphore -------------------------------------------------------------------------------------------- */
 
 /* Opens a semaphore with this number of permits, which may be below 0. AQS_OUT_OF_RANGE. */
 aqs_status_t aqs_sem_open(aqs_sem_t **semaphore, int32_t permits, const aqs_options_t *options);
@@ -171,9 +177,10 @@ aqs_status_t aqs_sem_release(aqs_sem_t *semaphore, uint32_t n);
 /* Takes all free permits, and puts their number into *n, if that isn't NULL. */
 aqs_status_t aqs_sem_drain(aqs_sem_t *semaphore, uint32_t *n);
 
-/* A latch ------------------------------------------------------------------------------------------------------- */
+/* A latch ------------------------------------------------------------------------------------------------ */
 
-/* Opens a latch that opens when it has been counted down as often as `count` says. AQS_OUT_OF_RANGE: above 2147483647. */
+/* Opens a latch that opens when it has been counted down as often as `count` says. AQS_OUT_OF_RANGE: above
+   2147483647. */
 aqs_status_t aqs_latch_open(aqs_latch_t **latch, uint32_t count, const aqs_options_t *options);
 void aqs_latch_close(aqs_latch_t *latch);
 
@@ -186,7 +193,7 @@ aqs_status_t aqs_latch_await_interruptibly(aqs_latch_t *latch);
 /* The same, for at most the given time. AQS_TIMED_OUT, AQS_INTERRUPTED. */
 aqs_status_t aqs_latch_timedawait(aqs_latch_t *latch, uint32_t milliseconds);
 
-/* Histories ----------------------------------------------------------------------------------------------------- */
+/* Histories ---------------------------------------------------------------------------------------------- */
 
 /* Any object as such, for the calls below. */
 aqs_object_t *aqs_lock_object(aqs_lock_t *lock);
@@ -194,13 +201,14 @@ aqs_object_t *aqs_rwlock_object(aqs_rwlock_t *lock);
 aqs_object_t *aqs_sem_object(aqs_sem_t *semaphore);
 aqs_object_t *aqs_latch_object(aqs_latch_t *latch);
 
-/* Puts the history since the last trim into a buffer of `size` bytes, with no 0 at its end, and its length into
-   *length. AQS_NO_SPACE: it needs *length bytes, and the buffer is as it was. `buffer` may be NULL if `size` is 0. */
+/* Puts the history since the last trim into a buffer of `size` bytes, with no 0 at its end, and its length
+   into *length. AQS_NO_SPACE: it needs *length bytes, and the buffer is as it was. `buffer` may be NULL if
+   `size` is 0. */
 aqs_status_t aqs_history_text(aqs_object_t *object, char *buffer, size_t size, size_t *length);
 /* Writes the history since the last trim to a file. AQS_IO_ERROR. */
 aqs_status_t aqs_history_write(aqs_object_t *object, FILE *file);
-/* Forgets the recorded entries, and puts their number into *count, if that isn't NULL. What the object does next is
-   the same as before. */
+/* Forgets the recorded entries, and puts their number into *count, if that isn't NULL. What the object does
+   next is the same as before. */
 aqs_status_t aqs_history_trim(aqs_object_t *object, uint64_t *count);
 
 #ifdef __cplusplus

@@ -1,10 +1,10 @@
 // aqs.hpp: the synchronisers of aqs.h for C++17. A header alone; link with aqs.
 //
-//   aqs::mutex mutex;                                // reentrant; std::lock_guard and std::unique_lock take it
+//   aqs::mutex mutex;                        // reentrant; std::lock_guard and std::unique_lock take it
 //   aqs::condition not_empty = mutex.condition();
 //   { std::unique_lock guard(mutex); not_empty.wait(guard, [&] { return !queue.empty(); }); }
 //
-//   aqs::shared_mutex table_mutex;                   // std::shared_lock too
+//   aqs::shared_mutex table_mutex;           // std::shared_lock too
 //   aqs::semaphore permits(3);
 //   aqs::latch ready(4);
 //
@@ -111,7 +111,8 @@ public:
     }
 
     template <class Rep, class Period, class Predicate>
-    bool wait_for(std::unique_lock<Lock> &guard, const std::chrono::duration<Rep, Period> &time, Predicate holds) {
+    bool wait_for(
+        std::unique_lock<Lock> &guard, const std::chrono::duration<Rep, Period> &time, Predicate holds) {
         auto moment = std::chrono::steady_clock::now() + time;
         while (!holds()) {
             if (!owned(guard).timed_wait(number_, detail::milliseconds_until(moment))) return holds();
@@ -120,7 +121,9 @@ public:
     }
 
     // False if the thread was interrupted.
-    bool wait_interruptibly(std::unique_lock<Lock> &guard) { return owned(guard).wait_interruptibly(number_); }
+    bool wait_interruptibly(std::unique_lock<Lock> &guard) {
+        return owned(guard).wait_interruptibly(number_);
+    }
 
     void notify_one() { lock_->signal(number_); }
     void notify_all() { lock_->signal_all(number_); }

@@ -1,14 +1,15 @@
-/* aqs_core.h: what the proved static library exports (crates/aqs_c). Programs call aqs.h, which stands over it.
+/* aqs_core.h: what the proved static library exports (crates/aqs_c). Programs call aqs.h, which stands over
+   it.
 
    A pass is the right of one seat. What C owes, since nothing checks it:
-   - A pass is all bytes 0 (AQS_NO_PASS), or was written by a call of this library. C neither reads nor changes
-     what is in it, and makes no copy: to move a pass, copy it and set the old one to AQS_NO_PASS.
-   - Each pass is used by one call at a time. It may go to another thread: a lock, a thread's start or join, or a
-     seq_cst atomic then orders its calls.
+   - A pass is all bytes 0 (AQS_NO_PASS), or was written by a call of this library. C neither reads nor
+     changes what is in it, and makes no copy: to move a pass, copy it and set the old one to AQS_NO_PASS.
+   - Each pass is used by one call at a time. It may go to another thread: a lock, a thread's start or join,
+     or a seq_cst atomic then orders its calls.
    - Pointers are aligned and not null, and what they point to is nobody else's during the call.
    - No call is made from a signal handler, nor from the forked child of a process with threads.
-   - malloc, realloc and free come from one allocator.
-   Everything else is tested: a number out of range has an answer, and changes nothing. */
+   - malloc, realloc and free come from one allocator. Everything else is tested: a number out of range has
+     an answer, and changes nothing. */
 #ifndef AQS_CORE_H
 #define AQS_CORE_H
 
@@ -63,9 +64,9 @@ enum { AQS_CALL_ACQUIRE, AQS_CALL_AWAIT };
 enum { AQS_HOW_PLAIN, AQS_HOW_INTERRUPTIBLE, AQS_HOW_TIMED };
 enum { AQS_WOKE_PERMIT, AQS_WOKE_DEADLINE, AQS_WOKE_INTERRUPT };
 
-/* What a call is answered: AQS_IS_ENTRY with the entry; AQS_IS_FAULT with the fault; AQS_IS_WAITING with how the
-   seat parks, if it parks before the next turn. If has_wakes, the seat `wakes` has to be unparked. If again, the
-   seat's own interrupt has to be set again. */
+/* What a call is answered: AQS_IS_ENTRY with the entry; AQS_IS_FAULT with the fault; AQS_IS_WAITING with
+   how the seat parks, if it parks before the next turn. If has_wakes, the seat `wakes` has to be unparked.
+   If again, the seat's own interrupt has to be set again. */
 typedef struct {
     uint64_t until;
     uint32_t n;
@@ -90,9 +91,9 @@ enum {
     AQS_FAULT_WRONG_MODE, AQS_FAULT_HISTORY_FULL, AQS_FAULT_OUT_OF_MEMORY, AQS_FAULT_TRIM_FULL
 };
 
-/* Opens an object, and writes the pass of each seat into its place: 0. Else no place has changed, and it returns
-   AQS_FAULT_OUT_OF_MEMORY, AQS_CORE_NOT_EMPTY if a place has a pass, or AQS_CORE_OUT_OF_RANGE if a number of the
-   header is out of range or `count` isn't the number of seats. */
+/* Opens an object, and writes the pass of each seat into its place: 0. Else no place has changed, and it
+   returns AQS_FAULT_OUT_OF_MEMORY, AQS_CORE_NOT_EMPTY if a place has a pass, or AQS_CORE_OUT_OF_RANGE if a
+   number of the header is out of range or `count` isn't the number of seats. */
 uint8_t aqs_open(aqs_header_t header, aqs_pass_t *places, size_t count);
 
 /* One step. AQS_IS_BUSY, from this and the calls below, says that another call had the object and nothing has
@@ -108,11 +109,13 @@ void aqs_go_on(aqs_pass_t *pass, uint8_t woke, aqs_answer_t *answer);
 /* The entry of a number since the last trim, counted from 0, or AQS_IS_NO_ENTRY. */
 void aqs_entry_now(aqs_pass_t *pass, uint64_t number, aqs_answer_t *answer);
 
-/* The text of the history since the last trim, as `aqs audit` reads it: 0, its length, and the text where it fits in
-   `size`. Else AQS_IS_BUSY, AQS_IS_FAULT or AQS_IS_NO_PASS. `out` is not null, even where `size` is 0. */
+/* The text of the history since the last trim, as `aqs audit` reads it: 0, its length, and the text where
+   it fits in `size`. Else AQS_IS_BUSY, AQS_IS_FAULT or AQS_IS_NO_PASS. `out` is not null, even where `size`
+   is 0. */
 uint8_t aqs_text_now(aqs_pass_t *pass, uint8_t *out, size_t size, uint64_t *length);
 
-/* Folds all entries, so that their room comes back: 0, and their number. Nothing else changes. Else as above. */
+/* Folds all entries, so that their room comes back: 0, and their number. Nothing else changes. Else as
+   above. */
 uint8_t aqs_trim_now(aqs_pass_t *pass, uint64_t *count);
 
 /* Gives a pass back. The object goes with the last of its passes. */

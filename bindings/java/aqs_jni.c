@@ -34,10 +34,11 @@ static aqs_status_t opened(jint kind, jint number, const aqs_options_t *options,
     return status;
 }
 
-NATIVE(jlong, open)(JNIEnv *env, jclass class, jint kind, jint number, jint policy, jboolean keeps, jint entries,
-                    jint threads, jint conditions) {
+NATIVE(jlong, open)(JNIEnv *env, jclass class, jint kind, jint number, jint policy, jboolean keeps,
+                    jint entries, jint threads, jint conditions) {
     (void)env, (void)class;
-    if (threads < 0 || threads > UINT16_MAX || conditions < 0 || conditions > UINT8_MAX) return -AQS_OUT_OF_RANGE;
+    bool in_range = 0 <= threads && threads <= UINT16_MAX && 0 <= conditions && conditions <= UINT8_MAX;
+    if (!in_range) return -AQS_OUT_OF_RANGE;
     aqs_options_t options = {
         .policy = (aqs_policy_t)policy,
         .when_full = keeps ? AQS_REFUSE : AQS_TRIM,
@@ -146,7 +147,8 @@ NATIVE(jint, self)(JNIEnv *env, jclass class) {
 
 NATIVE(jint, interrupt)(JNIEnv *env, jclass class, jint thread) {
     (void)env, (void)class;
-    return thread < 0 || thread >= AQS_THREADS ? AQS_OUT_OF_RANGE : aqs_thread_interrupt((aqs_thread_t)thread);
+    if (thread < 0 || thread >= AQS_THREADS) return AQS_OUT_OF_RANGE;
+    return aqs_thread_interrupt((aqs_thread_t)thread);
 }
 
 NATIVE(jboolean, interrupted)(JNIEnv *env, jclass class) {

@@ -10,15 +10,19 @@
     with table_lock.read:
         ...
 
-Calls go to libaqs.so by ctypes, which lets other threads run meanwhile. `make -C bindings/c` builds it; AQS_SO names
-another file. Times are in seconds, as elsewhere in Python. Interrupts and what can't be done raise exceptions.
+Calls go to libaqs.so by ctypes, which lets other threads run meanwhile. `make -C bindings/c` builds it; AQS_SO
+names another file. Times are in seconds, as elsewhere in Python. Interrupts and what can't be done raise
+exceptions.
 """
 import ctypes
 import enum
 import os
 import pathlib
 
-__all__ = ["Error", "Interrupted", "Latch", "Lock", "Policy", "RWLock", "Semaphore", "current_thread", "interrupt", "interrupted"]
+__all__ = [
+    "Error", "Interrupted", "Latch", "Lock", "Policy", "RWLock", "Semaphore", "current_thread", "interrupt",
+    "interrupted",
+]
 
 OK, TIMED_OUT, INTERRUPTED, WOULD_BLOCK = 0, 1, 2, 3
 NO_SPACE = 14
@@ -55,7 +59,8 @@ def _load():
     here = pathlib.Path(__file__).resolve().parent
     library = ctypes.CDLL(os.environ.get("AQS_SO", str(here.parent / "c" / "out" / "libaqs.so")))
     for kind, more in (("lock", []), ("rwlock", []), ("sem", [ctypes.c_int32]), ("latch", [ctypes.c_uint32])):
-        _declare(library, f"aqs_{kind}_open", [ctypes.POINTER(ctypes.c_void_p), *more, ctypes.POINTER(_Options)])
+        place, options = ctypes.POINTER(ctypes.c_void_p), ctypes.POINTER(_Options)
+        _declare(library, f"aqs_{kind}_open", [place, *more, options])
         _declare(library, f"aqs_{kind}_close", [ctypes.c_void_p], None)
         _declare(library, f"aqs_{kind}_object", [ctypes.c_void_p], ctypes.c_void_p)
     for name, more in _CALLS.items():
@@ -77,8 +82,8 @@ def _declare(library, name, arguments, result=ctypes.c_int):
 
 _N, _MS, _AT = ctypes.c_uint32, ctypes.c_uint32, ctypes.c_uint8
 _CALLS = {
-    "aqs_lock_lock": [], "aqs_lock_lock_interruptibly": [], "aqs_lock_timedlock": [_MS], "aqs_lock_trylock": [],
-    "aqs_lock_unlock": [], "aqs_lock_wait": [_AT], "aqs_lock_wait_interruptibly": [_AT],
+    "aqs_lock_lock": [], "aqs_lock_lock_interruptibly": [], "aqs_lock_timedlock": [_MS],
+    "aqs_lock_trylock": [], "aqs_lock_unlock": [], "aqs_lock_wait": [_AT], "aqs_lock_wait_interruptibly": [_AT],
     "aqs_lock_timedwait": [_AT, _MS], "aqs_lock_signal": [_AT], "aqs_lock_signal_all": [_AT],
     "aqs_rwlock_rdlock": [], "aqs_rwlock_rdlock_interruptibly": [], "aqs_rwlock_timedrdlock": [_MS],
     "aqs_rwlock_tryrdlock": [], "aqs_rwlock_rdunlock": [],
@@ -131,7 +136,9 @@ class _Object:
 
     _kind = ""
 
-    def __init__(self, *numbers, policy=Policy.NONFAIR, keep_history=False, most_entries=0, threads=0, conditions=0):
+    def __init__(
+        self, *numbers, policy=Policy.NONFAIR, keep_history=False, most_entries=0, threads=0, conditions=0
+    ):
         options = _Options(policy, int(keep_history), most_entries, threads, conditions)
         place = ctypes.c_void_p()
         self._place = None
@@ -191,7 +198,7 @@ class Lock(_Object):
         _check(self._call("unlock"))
 
     def wait(self, timeout=None, condition=0, interruptible=False):
-        """Gives the lock up, sleeps until it is notified, and has the lock again. False if the time was up."""
+        """Gives the lock up, sleeps until notified, and has the lock again. False if the time was up."""
         if timeout is not None:
             return _taken(self._call("timedwait", condition, _milliseconds(timeout)))
         _check(self._call("wait_interruptibly" if interruptible else "wait", condition))

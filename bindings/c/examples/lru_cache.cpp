@@ -1,8 +1,8 @@
 // lru_cache.cpp [FILE]: a cache that forgets what was used longest ago, for many threads.
 //
-// A value that is missing is loaded by one thread, outside the lock, and the others that ask for it wait for that.
-// The lock is an aqs::mutex, the rest is ordinary C++. The history of the lock is written to FILE, for `aqs audit`
-// and `aqs draw`.
+// A value that is missing is loaded by one thread, outside the lock, and the others that ask for it wait
+// for that. The lock is an aqs::mutex, the rest is ordinary C++. The history of the lock is written to
+// FILE, for `aqs audit` and `aqs draw`.
 #include "aqs.hpp"
 
 #include <fstream>

@@ -8,21 +8,21 @@
 #include <stdlib.h>
 #include <unistd.h>
 
-#define CHECK(fact)                                                            \
-    do {                                                                       \
-        if (!(fact)) {                                                         \
+#define CHECK(fact)                                                      \
+    do {                                                                 \
+        if (!(fact)) {                                                   \
             fprintf(stderr, "%s:%d: not so: %s\n", __FILE__, __LINE__, #fact); \
-            _Exit(1);                                                          \
-        }                                                                      \
+            _Exit(1);                                                    \
+        }                                                                \
     } while (0)
 
-#define IS(call, wanted)                                                                                      \
-    do {                                                                                                      \
-        aqs_status_t status_ = (call);                                                                        \
-        if (status_ != (wanted)) {                                                                            \
-            fprintf(stderr, "%s:%d: %s is %s\n", __FILE__, __LINE__, #call, aqs_status_name(status_));         \
-            _Exit(1);                                                                                         \
-        }                                                                                                     \
+#define IS(call, wanted)                                                                                \
+    do {                                                                                                \
+        aqs_status_t status_ = (call);                                                                  \
+        if (status_ != (wanted)) {                                                                      \
+            fprintf(stderr, "%s:%d: %s is %s\n", __FILE__, __LINE__, #call, aqs_status_name(status_));   \
+            _Exit(1);                                                                                   \
+        }                                                                                               \
     } while (0)
 
 /* Writes an object's history to a file in a folder, for `aqs audit`. */

@@ -109,7 +109,11 @@ static void readers() {
     over = true;
     for (auto &thread : threads) thread.join();
     std::shared_lock one(mutex), two(mutex);
-    std::thread([&] { CHECK(!mutex.try_lock() && !mutex.try_lock_for(5ms) && mutex.try_lock_shared_for(5ms)); mutex.unlock_shared(); }).join();
+    std::thread([&] {
+        CHECK(!mutex.try_lock() && !mutex.try_lock_for(5ms));
+        CHECK(mutex.try_lock_shared_for(5ms));
+        mutex.unlock_shared();
+    }).join();
     keep("guards-shared", mutex.history());
 }
 
@@ -135,7 +139,11 @@ static void errors() {
     CHECK(status_of([] { aqs::mutex mutex; mutex.unlock(); }) == AQS_NOT_OWNER);
     CHECK(status_of([] { aqs::mutex mutex; mutex.condition().notify_one(); }) == AQS_NOT_OWNER);
     CHECK(status_of([] { aqs::mutex mutex(aqs::options().most_threads(999)); }) == AQS_OUT_OF_RANGE);
-    CHECK(status_of([] { aqs::mutex mutex; std::unique_lock guard(mutex, std::defer_lock); mutex.condition().wait(guard); })
+    CHECK(status_of([] {
+              aqs::mutex mutex;
+              std::unique_lock guard(mutex, std::defer_lock);
+              mutex.condition().wait(guard);
+          })
           == AQS_NOT_OWNER);
     CHECK(status_of([] { aqs::semaphore permits(1); permits.acquire(3000000000u); }) == AQS_BAD_AMOUNT);
 }

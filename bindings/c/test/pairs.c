@@ -1,5 +1,6 @@
-/* pairs.c [MILLISECONDS]: pairs of lock and unlock a second, by 1, 2, 4 and 8 threads, beside pthread's. Each thread
-   changes one number under the lock. The processor time of a pair says more than the wall on a machine that is busy. */
+/* pairs.c [MILLISECONDS]: pairs of lock and unlock a second, by 1, 2, 4 and 8 threads, beside pthread's.
+   Each thread changes one number under the lock. The processor time of a pair says more than the wall on a
+   machine that is busy. */
 #include "aqs.h"
 
 #include <pthread.h>
@@ -101,8 +102,9 @@ static void measure(const contender_t *contender, int threads, unsigned millisec
     atomic_store(&is_over, true);
     for (int i = 0; i < threads; i++) pthread_join(workers[i], NULL);
     double count = (double)atomic_load(&pairs);
+    double wall = seconds() - begin;
     printf("%-34s %d threads %12.0f pairs/s %7.0f ns of processor a pair%s\n", contender->name, threads,
-           count / (seconds() - begin), (double)atomic_load(&nanoseconds) / count, number == (long)count ? "" : " WRONG");
+           count / wall, (double)atomic_load(&nanoseconds) / count, number == (long)count ? "" : " WRONG");
     contender->close();
 }
 

@@ -1,5 +1,6 @@
-/* storms.c FOLDER THREADS ROUNDS: many threads at one lock, read-write lock, semaphore and latch, with timeouts and
-   interrupts. Each checks that nobody has what another has. The histories are kept for `aqs audit`. */
+/* storms.c FOLDER THREADS ROUNDS: many threads at one lock, read-write lock, semaphore and latch, with
+   timeouts and interrupts. Each checks that nobody has what another has. The histories are kept for `aqs
+   audit`. */
 #include "check.h"
 
 #include <pthread.h>
@@ -26,7 +27,9 @@ static void *interrupt_all(void *none) {
 static void storm(void *(*work)(void *)) {
     pthread_t *workers = malloc(sizeof(pthread_t) * (size_t)threads), pest;
     atomic_store(&is_over, false);
-    for (size_t i = 0; i < (size_t)threads; i++) CHECK(pthread_create(&workers[i], NULL, work, (void *)i) == 0);
+    for (size_t i = 0; i < (size_t)threads; i++) {
+        CHECK(pthread_create(&workers[i], NULL, work, (void *)i) == 0);
+    }
     CHECK(pthread_create(&pest, NULL, interrupt_all, NULL) == 0);
     for (int i = 0; i < threads; i++) CHECK(pthread_join(workers[i], NULL) == 0);
     atomic_store(&is_over, true);
@@ -51,6 +54,13 @@ static void keep(aqs_object_t *object, const char *name) {
     CHECK(pthread_join(thread, NULL) == 0);
 }
 
+/* Whether a call has what it asked for. It may end without. */
+static bool is_taken(aqs_status_t status) {
+    CHECK(status == AQS_OK || status == AQS_TIMED_OUT || status == AQS_INTERRUPTED
+          || status == AQS_WOULD_BLOCK);
+    return status == AQS_OK;
+}
+
 /* A bounded buffer under a lock with two conditions. */
 
 enum { NOT_FULL, NOT_EMPTY };
@@ -67,8 +77,7 @@ static bool is_owned(unsigned kind) {
         case 2: status = aqs_lock_trylock(lock); break;
         default: status = aqs_lock_lock(lock);
     }
-    CHECK(status == AQS_OK || status == AQS_TIMED_OUT || status == AQS_INTERRUPTED || status == AQS_WOULD_BLOCK);
-    return status == AQS_OK;
+    return is_taken(status);
 }
 
 /* Waits until `count` isn't `bad`, or gives up. */
@@ -131,11 +140,12 @@ static void *read_and_write(void *number) {
         aqs_status_t status;
         switch (kind / 4 % 3) {
             case 0: status = writes ? aqs_rwlock_wrlock(rwlock) : aqs_rwlock_rdlock(rwlock); break;
-            case 1: status = writes ? aqs_rwlock_timedwrlock(rwlock, 1) : aqs_rwlock_timedrdlock(rwlock, 1); break;
+            case 1:
+                status = writes ? aqs_rwlock_timedwrlock(rwlock, 1) : aqs_rwlock_timedrdlock(rwlock, 1);
+                break;
             default: status = writes ? aqs_rwlock_wrlock_interruptibly(rwlock) : aqs_rwlock_tryrdlock(rwlock);
         }
-        CHECK(status == AQS_OK || status == AQS_TIMED_OUT || status == AQS_INTERRUPTED || status == AQS_WOULD_BLOCK);
-        if (status != AQS_OK) continue;
+        if (!is_taken(status)) continue;
         if (writes) {
             halves[0]++;
             halves[1]++;
@@ -176,8 +186,7 @@ static void *use_permits(void *number) {
             case 2: status = aqs_sem_acquire_interruptibly(semaphore, n); break;
             default: status = aqs_sem_tryacquire(semaphore, n);
         }
-        CHECK(status == AQS_OK || status == AQS_TIMED_OUT || status == AQS_INTERRUPTED || status == AQS_WOULD_BLOCK);
-        if (status != AQS_OK) continue;
+        if (!is_taken(status)) continue;
         CHECK(atomic_fetch_add(&inside, (int)n) + (int)n <= PERMITS);
         atomic_fetch_sub(&inside, (int)n);
         IS(aqs_sem_release(semaphore, n), AQS_OK);

@@ -1,16 +1,18 @@
 //! The synchronisers for C and whatever calls C: objects are opened, stepped and dropped by passes.
 //!
 //! A static library can neither sleep nor wake. So a call that may wait is made of turns: the first by
-//! `aqs_begin`, each later one by `aqs_go_on`. An answer says what the caller does next, in this order: it unparks
-//! the seat that is named, sets its own interrupt again if the answer says so, and parks if the call waits. All that
-//! decides is here, and proved: C parks, unparks and reads the clock (`bindings/c/aqs.c`).
+//! `aqs_begin`, each later one by `aqs_go_on`. An answer says what the caller does next, in this order: it
+//! unparks the seat that is named, sets its own interrupt again if the answer says so, and parks if the
+//! call waits. All that decides is here, and proved: C parks, unparks and reads the clock
+//! (`bindings/c/aqs.c`).
 //!
-//! C holds each seat as an [`AqsPass`] of two words. It is empty, or owns a box with the seat and its share of
-//! the object, so that threads share nothing that C could touch. No export requires anything of the numbers that
-//! C passes: each is tested, and has its answer. What C owes is said in `bindings/c/aqs_core.h`.
+//! C holds each seat as an [`AqsPass`] of two words. It is empty, or owns a box with the seat and its share
+//! of the object, so that threads share nothing that C could touch. No export requires anything of the
+//! numbers that C passes: each is tested, and has its answer. What C owes is said in
+//! `bindings/c/aqs_core.h`.
 //!
-//! A contract says of each call that its answer is the monitor's own clause, in numbers. `specs/Calls.antt` has
-//! them, and `specs/Codes.antt` the numbers.
+//! A contract says of each call that its answer is the monitor's own clause, in numbers. `specs/Calls.antt`
+//! has them, and `specs/Codes.antt` the numbers.
 #![tactic(auto)]
 
 ghost use Rattle.std.specs.Prelude.{◌≡◌, None};
@@ -40,8 +42,8 @@ use std::alloc::Global;
 
 /// Opens an object, and puts the pass of each seat into its place: 0.
 ///
-/// Else no place has changed, and it returns the number of a fault, or 254 if a place isn't empty, or 255 if a
-/// number of the header is out of range or there are not as many places as seats.
+/// Else no place has changed, and it returns the number of a fault, or 254 if a place isn't empty, or 255
+/// if a number of the header is out of range or there are not as many places as seats.
 #[unsafe(no_mangle)]
 pub extern "C" fn aqs_open(alloc: Global, header: AqsHeader, places: &mut [AqsPass]) -> u8
     ensures { IsOpening header places.old result places.new }
@@ -91,8 +93,8 @@ pub extern "C" fn aqs_begin(
     }
 }
 
-/// The next turn of a call that waits, if no other call has the object. `woke` says how its park ended: 0 by an
-/// unpark, 1 by its deadline, 2 by an interrupt.
+/// The next turn of a call that waits, if no other call has the object. `woke` says how its park ended: 0
+/// by an unpark, 1 by its deadline, 2 by an interrupt.
 #[unsafe(no_mangle)]
 pub extern "C" fn aqs_go_on(alloc: Global, pass: &mut AqsPass, woke: u8, answer: &mut AqsAnswer)
     ensures { IsPassGoneOn pass.old.held.value woke answer.new pass.new.held.value }
@@ -129,8 +131,8 @@ pub extern "C" fn aqs_entry_now(
     }
 }
 
-/// The text of the history since the last trim, if no other call has the object: 0, and `length` is its length.
-/// It is written if it fits. Else it returns the kind of an answer.
+/// The text of the history since the last trim, if no other call has the object: 0, and `length` is its
+/// length. It is written if it fits. Else it returns the kind of an answer.
 #[unsafe(no_mangle)]
 pub extern "C" fn aqs_text_now(
     alloc: Global,
@@ -158,8 +160,8 @@ pub extern "C" fn aqs_text_now(
     }
 }
 
-/// Folds all entries into the base, if no other call has the object, so that their room comes back: 0, and `count`
-/// is how many. Else it returns the kind of an answer.
+/// Folds all entries into the base, if no other call has the object, so that their room comes back: 0, and
+/// `count` is how many. Else it returns the kind of an answer.
 #[unsafe(no_mangle)]
 pub extern "C" fn aqs_trim_now(alloc: Global, pass: &mut AqsPass, count: &mut u64) -> u8
     ensures { IsPassTrim pass.old.held.value result count.new pass.new.held.value }

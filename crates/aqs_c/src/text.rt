@@ -9,8 +9,8 @@ use history::fault::Fault;
 use history_text::{fits, write_text};
 use std::alloc::Global;
 
-/// The text of a history that stands on a base. That of an object always does, and fits its header; this is tested,
-/// since the writer asks for it.
+/// The text of a history that stands on a base. That of an object always does, and fits its header; this is
+/// tested, since the writer asks for it.
 pub(crate) fn text_of(alloc: Global, history: &History) -> Result<Vec<u8>, Fault>
     ensures { IfOk result (λ text. IsTextOf history.now text.items) }
 {

@@ -1,8 +1,8 @@
 //! Reading and folding the history for a monitor in which nobody sleeps, as in a static library.
 //!
 //! A static library may neither sleep nor wake. Its steps are `step_quietly`, `begin_quietly` and
-//! `go_on_quietly`, and these two calls beside them. Each waits for nobody, and wakes nobody who waits for the
-//! object.
+//! `go_on_quietly`, and these two calls beside them. Each waits for nobody, and wakes nobody who waits for
+//! the object.
 ghost use Rattle.std.specs.Prelude.{◌≡◌, IfNone, IfSome, MatchOption};
 ghost use Rattle.std.specs.Fn.{FnOnceReturnsAt};
 ghost use Rattle.history.specs.Entries.{HistoryView};

@@ -18,7 +18,8 @@ final class AqsCondition implements Condition {
         this.lock = lock;
         this.number = number;
         wait = ofWriters ? Native.Call.WRITER_WAIT : Native.Call.WAIT;
-        waitInterruptibly = ofWriters ? Native.Call.WRITER_WAIT_INTERRUPTIBLY : Native.Call.WAIT_INTERRUPTIBLY;
+        waitInterruptibly =
+            ofWriters ? Native.Call.WRITER_WAIT_INTERRUPTIBLY : Native.Call.WAIT_INTERRUPTIBLY;
         timedWait = ofWriters ? Native.Call.WRITER_TIMED_WAIT : Native.Call.TIMED_WAIT;
         signal = ofWriters ? Native.Call.WRITER_SIGNAL : Native.Call.SIGNAL;
         signalAll = ofWriters ? Native.Call.WRITER_SIGNAL_ALL : Native.Call.SIGNAL_ALL;

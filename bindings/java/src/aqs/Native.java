@@ -10,8 +10,8 @@ final class Native {
     /** What a call does. The order is that of aqs_jni.c. */
     enum Call {
         LOCK, LOCK_INTERRUPTIBLY, TIMED_LOCK, TRY_LOCK, UNLOCK, WAIT, WAIT_INTERRUPTIBLY, TIMED_WAIT, SIGNAL,
-        SIGNAL_ALL, READ_LOCK, READ_LOCK_INTERRUPTIBLY, TIMED_READ_LOCK, TRY_READ_LOCK, READ_UNLOCK, WRITE_LOCK,
-        WRITE_LOCK_INTERRUPTIBLY, TIMED_WRITE_LOCK, TRY_WRITE_LOCK, WRITE_UNLOCK, WRITER_WAIT,
+        SIGNAL_ALL, READ_LOCK, READ_LOCK_INTERRUPTIBLY, TIMED_READ_LOCK, TRY_READ_LOCK, READ_UNLOCK,
+        WRITE_LOCK, WRITE_LOCK_INTERRUPTIBLY, TIMED_WRITE_LOCK, TRY_WRITE_LOCK, WRITE_UNLOCK, WRITER_WAIT,
         WRITER_WAIT_INTERRUPTIBLY, WRITER_TIMED_WAIT, WRITER_SIGNAL, WRITER_SIGNAL_ALL, ACQUIRE,
         ACQUIRE_INTERRUPTIBLY, TIMED_ACQUIRE, TRY_ACQUIRE, RELEASE, COUNT_DOWN, AWAIT, AWAIT_INTERRUPTIBLY,
         TIMED_AWAIT
@@ -24,7 +24,8 @@ final class Native {
     private Native() {}
 
     /** The object's handle, or the status, made negative. */
-    static native long open(int kind, int number, int policy, boolean keeps, int entries, int threads, int conditions);
+    static native long open(
+        int kind, int number, int policy, boolean keeps, int entries, int threads, int conditions);
 
     static native void close(int kind, long object);
 

@@ -1,7 +1,7 @@
 //! A thread pool over one mutex with a condition, a semaphore that bounds its queue, and a latch at its end.
 //!
-//! `cargo run --example thread_pool [FILE]` writes the history of the pool's lock to FILE, for `aqs audit` and
-//! `aqs draw`.
+//! `cargo run --example thread_pool [FILE]` writes the history of the pool's lock to FILE, for `aqs audit`
+//! and `aqs draw`.
 
 use aqs::{Condition, Error, Latch, Mutex, Options, Semaphore};
 use std::collections::VecDeque;

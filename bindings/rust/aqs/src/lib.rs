@@ -1,9 +1,9 @@
-//! The synchronisers of java.util.concurrent for Rust: a mutex with conditions, a read-write lock, a semaphore and a
-//! latch.
+//! The synchronisers of java.util.concurrent for Rust: a mutex with conditions, a read-write lock, a
+//! semaphore and a latch.
 //!
-//! Who gets what, in which order, and what each call answers is decided by proved code. Parking (`aqs.c`) and this
-//! crate are not proved. Each object records its calls, and [`history`](Mutex::history) returns them as the text
-//! that `aqs audit` checks and `aqs draw` draws.
+//! Who gets what, in which order, and what each call answers is decided by proved code. Parking (`aqs.c`)
+//! and this crate are not proved. Each object records its calls, and [`history`](Mutex::history) returns
+//! them as the text that `aqs audit` checks and `aqs draw` draws.
 //!
 //! ```
 //! use aqs::{Condition, Mutex};

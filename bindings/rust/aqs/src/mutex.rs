@@ -20,8 +20,8 @@ pub struct Condition(pub u8);
 
 /// A lock round a value. Who gets it, and in which order, is decided by proved code.
 ///
-/// [`lock`](Mutex::lock) lets one thread change the value. [`enter`](Mutex::enter) lets one thread read it, and a
-/// thread that has entered may enter again, as with a reentrant lock.
+/// [`lock`](Mutex::lock) lets one thread change the value. [`enter`](Mutex::enter) lets one thread read it,
+/// and a thread that has entered may enter again, as with a reentrant lock.
 ///
 /// ```
 /// use aqs::Mutex;
@@ -37,8 +37,8 @@ pub struct Condition(pub u8);
 ///
 /// # Panics
 ///
-/// Calls panic where they could never be right: a lock by the thread that has the value already, more threads than
-/// the mutex was opened for, a full history that is to be kept.
+/// Calls panic where they could never be right: a lock by the thread that has the value already, more
+/// threads than the mutex was opened for, a full history that is to be kept.
 pub struct Mutex<T: ?Sized> {
     lock: *mut sys::Lock,
     /// Whose the value is. Only that thread writes its own number, so a thread knows of itself.
@@ -115,7 +115,8 @@ impl<T: ?Sized> Mutex<T> {
         taken(unsafe { sys::aqs_lock_trylock(self.lock) }).then(|| self.guard())
     }
 
-    /// Takes the value, and waits for at most so long. [`Error::TimedOut`] or [`Error::Interrupted`] without it.
+    /// Takes the value, and waits for at most so long. [`Error::TimedOut`] or [`Error::Interrupted`]
+    /// without it.
     #[track_caller]
     pub fn try_lock_for(&self, time: Duration) -> Result<MutexGuard<'_, T>, Error> {
         self.refuse_owner();
@@ -195,8 +196,8 @@ pub struct MutexGuard<'m, T: ?Sized> {
 unsafe impl<T: ?Sized + Sync> Sync for MutexGuard<'_, T> {}
 
 impl<T: ?Sized> MutexGuard<'_, T> {
-    /// Gives the value up, sleeps until the condition is signalled, and has the value again. What it waits for may
-    /// have changed by then, so wait in a loop, or by [`wait_while`](MutexGuard::wait_while).
+    /// Gives the value up, sleeps until the condition is signalled, and has the value again. What it waits
+    /// for may have changed by then, so wait in a loop, or by [`wait_while`](MutexGuard::wait_while).
     #[track_caller]
     pub fn wait(&mut self, condition: Condition) {
         must(self.give_up(|lock| {

@@ -29,8 +29,8 @@ const NOBODY: u16 = u16::MAX;
 ///
 /// # Panics
 ///
-/// A read or write by the thread that writes already, and what panics at a [`Mutex`](crate::Mutex). A thread that
-/// reads and asks to write waits for itself.
+/// A read or write by the thread that writes already, and what panics at a [`Mutex`](crate::Mutex). A
+/// thread that reads and asks to write waits for itself.
 pub struct RwLock<T: ?Sized> {
     lock: *mut sys::RwLock,
     /// Who writes. Only that thread writes its own number, so a thread knows of itself.

@@ -77,6 +77,11 @@ extern "C" {
     pub fn aqs_latch_timedawait(latch: *mut Latch, milliseconds: u32) -> Status;
     pub fn aqs_latch_object(latch: *mut Latch) -> *mut Object;
 
-    pub fn aqs_history_text(object: *mut Object, buffer: *mut c_char, size: usize, length: *mut usize) -> Status;
+    pub fn aqs_history_text(
+        object: *mut Object,
+        buffer: *mut c_char,
+        size: usize,
+        length: *mut usize,
+    ) -> Status;
     pub fn aqs_history_trim(object: *mut Object, count: *mut u64) -> Status;
 }
