@@ -1,5 +1,7 @@
 -- What an observer leaves.
-use Rattle.std.specs.Prelude.{◌≡◌}
+use Rattle.std.specs.Prelude.{◌≡◌, Some}
+use Rattle.history.specs.Entries.{HistoryView}
+use Rattle.history.specs.declared.point.Point.{Point}
 use Rattle.word_lock.specs.Point.{Before}
 use Rattle.monitor.specs.Shown.{Shown}
 
@@ -10,3 +12,7 @@ pub record IsLook (old new : Shown) : Type 0 where
   pub begins : Before old.seen new.seen
   pub mine : new.mine ≡ old.mine
   pub share : new.share ≡ old.share
+
+-- the history has the base and the entries of a point
+abbrev pub IsHistoryOf : Point → HistoryView → Type 0
+IsHistoryOf p h = (h.base ≡ Some p.base) × (h.entries ≡ p.entries)

@@ -61,6 +61,7 @@ mod machine;
 mod monitor;
 mod observing;
 mod pass;
+mod quiet;
 mod step;
 mod trimming;
 mod waiting;

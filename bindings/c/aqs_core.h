@@ -1,0 +1,127 @@
+/* aqs_core.h: what the proved static library exports (crates/aqs_c). Programs call aqs.h, which stands over
+   it.
+
+   A pass is the right of one seat. What C owes, since nothing checks it:
+   - A pass is all bytes 0 (AQS_NO_PASS), or was written by a call of this library. C neither reads nor
+     changes what is in it, and makes no copy: to move a pass, copy it and set the old one to AQS_NO_PASS.
+   - Each pass is used by one call at a time. It may go to another thread: a lock, a thread's start or join,
+     or a seq_cst atomic then orders its calls.
+   - Pointers are aligned and not null, and what they point to is nobody else's during the call.
+   - No call is made from a signal handler, nor from the forked child of a process with threads.
+   - malloc, realloc and free come from one allocator. Everything else is tested: a number out of range has
+     an answer, and changes nothing. */
+#ifndef AQS_CORE_H
+#define AQS_CORE_H
+
+#include <stdbool.h>
+#include <stddef.h>
+#include <stdint.h>
+
+#ifdef __cplusplus
+extern "C" {
+#endif
+
+typedef struct {
+    void *at;
+    bool live;
+} aqs_pass_t;
+
+#define AQS_NO_PASS {NULL, false}
+
+/* kind: AQS_KIND_*. policy: AQS_CORE_*. number: a semaphore's permits, or a latch's count. */
+typedef struct {
+    int32_t number;
+    uint32_t cap;
+    uint16_t seats;
+    uint8_t conditions, kind, policy;
+} aqs_header_t;
+
+enum { AQS_KIND_LOCK, AQS_KIND_READ_WRITE, AQS_KIND_SEMAPHORE, AQS_KIND_LATCH };
+enum { AQS_CORE_FAIR, AQS_CORE_NONFAIR, AQS_CORE_STRICT };
+enum { AQS_CORE_NOT_EMPTY = 254, AQS_CORE_OUT_OF_RANGE = 255 };
+
+/* mode: AQS_MODE_*, or the number of a condition. */
+typedef struct {
+    uint32_t n;
+    uint8_t code, mode;
+} aqs_step_t;
+
+enum { AQS_MODE_EXCLUSIVE, AQS_MODE_SHARED };
+enum {
+    AQS_STEP_ACQUIRE, AQS_STEP_TRY, AQS_STEP_TRY_FAIR, AQS_STEP_ENTRY_INTERRUPT, AQS_STEP_GIVE, AQS_STEP_LOOK,
+    AQS_STEP_EXPIRE, AQS_STEP_INTERRUPT, AQS_STEP_AWAIT, AQS_STEP_SIGNAL, AQS_STEP_SIGNAL_ALL, AQS_STEP_DRAIN
+};
+
+/* A call that may wait. moment: what the clock shows, in milliseconds, from which `time` counts.
+   interrupted: 1 if the call isn't plain and an interrupt was pending, which was taken. */
+typedef struct {
+    uint64_t moment;
+    uint32_t n, time;
+    uint8_t kind, mode, how, interrupted;
+} aqs_call_t;
+
+enum { AQS_CALL_ACQUIRE, AQS_CALL_AWAIT };
+enum { AQS_HOW_PLAIN, AQS_HOW_INTERRUPTIBLE, AQS_HOW_TIMED };
+enum { AQS_WOKE_PERMIT, AQS_WOKE_DEADLINE, AQS_WOKE_INTERRUPT };
+
+/* What a call is answered: AQS_IS_ENTRY with the entry; AQS_IS_FAULT with the fault; AQS_IS_WAITING with
+   how the seat parks, if it parks before the next turn. If has_wakes, the seat `wakes` has to be unparked.
+   If again, the seat's own interrupt has to be set again. */
+typedef struct {
+    uint64_t until;
+    uint32_t n;
+    uint16_t seat, wakes;
+    uint8_t kind, word, mode, at, end, fault;
+    bool has_wakes, again, parks, has_until, interruptible;
+} aqs_answer_t;
+
+enum {
+    AQS_IS_ENTRY, AQS_IS_SLEEP, AQS_IS_FAULT, AQS_IS_BUSY, AQS_IS_NO_CODE, AQS_IS_NO_PASS, AQS_IS_NO_ENTRY,
+    AQS_IS_WAITING, AQS_IS_IN_CALL, AQS_IS_IN_NO_CALL
+};
+enum {
+    AQS_WORD_GOT, AQS_WORD_TRY_GOT, AQS_WORD_QUEUED, AQS_WORD_GRANTED, AQS_WORD_MISSED, AQS_WORD_LEFT,
+    AQS_WORD_GAVE, AQS_WORD_REFUSED, AQS_WORD_AWAIT, AQS_WORD_LAPSE, AQS_WORD_SIGNAL, AQS_WORD_SIGNAL_ALL,
+    AQS_WORD_BACK, AQS_WORD_COUNTED, AQS_WORD_DRAINED
+};
+enum { AQS_END_NONE, AQS_END_TIMEOUT, AQS_END_INTERRUPT, AQS_END_SIGNALLED };
+enum {
+    AQS_FAULT_NOT_OWNER = 1, AQS_FAULT_TOO_MANY_HOLDS, AQS_FAULT_TOO_MANY_PERMITS, AQS_FAULT_INTERRUPTED,
+    AQS_FAULT_HOLDS_READ, AQS_FAULT_OUT_OF_PHASE, AQS_FAULT_NO_SUCH_CONDITION, AQS_FAULT_BAD_AMOUNT,
+    AQS_FAULT_WRONG_MODE, AQS_FAULT_HISTORY_FULL, AQS_FAULT_OUT_OF_MEMORY, AQS_FAULT_TRIM_FULL
+};
+
+/* Opens an object, and writes the pass of each seat into its place: 0. Else no place has changed, and it
+   returns AQS_FAULT_OUT_OF_MEMORY, AQS_CORE_NOT_EMPTY if a place has a pass, or AQS_CORE_OUT_OF_RANGE if a
+   number of the header is out of range or `count` isn't the number of seats. */
+uint8_t aqs_open(aqs_header_t header, aqs_pass_t *places, size_t count);
+
+/* One step. AQS_IS_BUSY, from this and the calls below, says that another call had the object and nothing has
+   changed. AQS_IS_IN_CALL says that the seat is in a call that waits. */
+void aqs_step_now(aqs_pass_t *pass, aqs_step_t step, aqs_answer_t *answer);
+
+/* The first turn of a call that may wait. */
+void aqs_begin(aqs_pass_t *pass, aqs_call_t call, aqs_answer_t *answer);
+
+/* The next turn of a call that waits. woke: AQS_WOKE_*, how its park ended; any of them if it didn't park. */
+void aqs_go_on(aqs_pass_t *pass, uint8_t woke, aqs_answer_t *answer);
+
+/* The entry of a number since the last trim, counted from 0, or AQS_IS_NO_ENTRY. */
+void aqs_entry_now(aqs_pass_t *pass, uint64_t number, aqs_answer_t *answer);
+
+/* The text of the history since the last trim, as `aqs audit` reads it: 0, its length, and the text where
+   it fits in `size`. Else AQS_IS_BUSY, AQS_IS_FAULT or AQS_IS_NO_PASS. `out` is not null, even where `size`
+   is 0. */
+uint8_t aqs_text_now(aqs_pass_t *pass, uint8_t *out, size_t size, uint64_t *length);
+
+/* Folds all entries, so that their room comes back: 0, and their number. Nothing else changes. Else as
+   above. */
+uint8_t aqs_trim_now(aqs_pass_t *pass, uint64_t *count);
+
+/* Gives a pass back. The object goes with the last of its passes. */
+void aqs_drop(aqs_pass_t *pass);
+
+#ifdef __cplusplus
+}
+#endif
+#endif

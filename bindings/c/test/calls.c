@@ -1,0 +1,360 @@
+/* calls.c FOLDER: each call of aqs.h, each status that it returns, and what it leaves. */
+#include "check.h"
+
+#include "aqs_core.h"
+
+#include <pthread.h>
+#include <stdatomic.h>
+#include <string.h>
+
+static const char *folder;
+
+/* A call that another thread makes. */
+typedef struct {
+    aqs_status_t (*call)(void *object);
+    void *object;
+    aqs_status_t status;
+    _Atomic int thread; /* its number and 1, as soon as it has one */
+} other_t;
+
+static void *run(void *given) {
+    other_t *other = given;
+    atomic_store(&other->thread, aqs_thread_self() + 1);
+    other->status = other->call(other->object);
+    return NULL;
+}
+
+static pthread_t start(other_t *other) {
+    pthread_t thread;
+    atomic_store(&other->thread, 0);
+    CHECK(pthread_create(&thread, NULL, run, other) == 0);
+    while (atomic_load(&other->thread) == 0) usleep(100);
+    return thread;
+}
+
+static aqs_status_t ended(pthread_t thread, other_t *other) {
+    CHECK(pthread_join(thread, NULL) == 0);
+    return other->status;
+}
+
+static aqs_status_t in_other(aqs_status_t (*call)(void *), void *object) {
+    other_t other = {.call = call, .object = object};
+    return ended(start(&other), &other);
+}
+
+static aqs_status_t try_lock(void *lock) {
+    aqs_status_t status = aqs_lock_trylock(lock);
+    if (status == AQS_OK) IS(aqs_lock_unlock(lock), AQS_OK);
+    return status;
+}
+static aqs_status_t timed_lock(void *lock) { return aqs_lock_timedlock(lock, 20); }
+static aqs_status_t timeless_lock(void *lock) { return aqs_lock_timedlock(lock, 0); }
+static aqs_status_t unlock(void *lock) { return aqs_lock_unlock(lock); }
+static aqs_status_t lock_interruptibly(void *lock) { return aqs_lock_lock_interruptibly(lock); }
+static aqs_status_t lock_and_unlock(void *lock) {
+    IS(aqs_lock_lock(lock), AQS_OK);
+    return aqs_lock_unlock(lock);
+}
+
+static void locks(void) {
+    aqs_lock_t *lock;
+    aqs_options_t options = {.policy = AQS_FAIR, .when_full = AQS_REFUSE, .threads = 8, .conditions = 2};
+    IS(aqs_lock_open(&lock, &options), AQS_OK);
+    IS(aqs_lock_lock(lock), AQS_OK);
+    IS(aqs_lock_lock(lock), AQS_OK);
+    IS(aqs_lock_unlock(lock), AQS_OK);
+    IS(in_other(try_lock, lock), AQS_WOULD_BLOCK);
+    IS(in_other(timed_lock, lock), AQS_TIMED_OUT);
+    IS(in_other(timeless_lock, lock), AQS_TIMED_OUT);
+    IS(in_other(unlock, lock), AQS_NOT_OWNER);
+    other_t other = {.call = lock_interruptibly, .object = lock};
+    pthread_t thread = start(&other);
+    usleep(10000);
+    IS(aqs_thread_interrupt((aqs_thread_t)(atomic_load(&other.thread) - 1)), AQS_OK);
+    IS(ended(thread, &other), AQS_INTERRUPTED);
+    other.call = lock_and_unlock;
+    thread = start(&other);
+    usleep(10000);
+    IS(aqs_lock_unlock(lock), AQS_OK);
+    IS(ended(thread, &other), AQS_OK);
+    IS(in_other(try_lock, lock), AQS_OK);
+    IS(aqs_lock_unlock(lock), AQS_NOT_OWNER);
+    keep_history(aqs_lock_object(lock), folder, "calls-lock");
+    aqs_lock_close(lock);
+    aqs_lock_close(NULL);
+}
+
+static int signals;
+
+static aqs_status_t wait_for_signal(void *lock) {
+    IS(aqs_lock_lock(lock), AQS_OK);
+    aqs_status_t status = AQS_OK;
+    while (signals == 0 && status == AQS_OK) status = aqs_lock_wait_interruptibly(lock, 1);
+    if (status == AQS_OK) signals--;
+    IS(aqs_lock_unlock(lock), AQS_OK);
+    return status;
+}
+
+static void conditions(void) {
+    aqs_lock_t *lock;
+    aqs_options_t options = {.policy = AQS_FAIR, .when_full = AQS_REFUSE, .conditions = 2};
+    IS(aqs_lock_open(&lock, &options), AQS_OK);
+    IS(aqs_lock_wait(lock, 0), AQS_NOT_OWNER);
+    IS(aqs_lock_signal(lock, 0), AQS_NOT_OWNER);
+    IS(aqs_lock_signal_all(lock, 1), AQS_NOT_OWNER);
+    IS(aqs_lock_lock(lock), AQS_OK);
+    IS(aqs_lock_wait(lock, 2), AQS_NO_SUCH_CONDITION);
+    IS(aqs_lock_timedwait(lock, 0, 10), AQS_TIMED_OUT);
+    IS(aqs_lock_timedwait(lock, 0, 0), AQS_TIMED_OUT);
+    IS(aqs_lock_signal(lock, 0), AQS_OK);
+    IS(aqs_lock_unlock(lock), AQS_OK);
+    other_t waiters[3];
+    pthread_t threads[3];
+    for (int i = 0; i < 3; i++) {
+        waiters[i] = (other_t){.call = wait_for_signal, .object = lock};
+        threads[i] = start(&waiters[i]);
+        usleep(5000);
+    }
+    IS(aqs_lock_lock(lock), AQS_OK);
+    signals++;
+    IS(aqs_lock_signal(lock, 1), AQS_OK);
+    IS(aqs_lock_unlock(lock), AQS_OK);
+    IS(ended(threads[0], &waiters[0]), AQS_OK);
+    IS(aqs_thread_interrupt((aqs_thread_t)(atomic_load(&waiters[1].thread) - 1)), AQS_OK);
+    IS(ended(threads[1], &waiters[1]), AQS_INTERRUPTED);
+    IS(aqs_lock_lock(lock), AQS_OK);
+    signals++;
+    IS(aqs_lock_signal_all(lock, 1), AQS_OK);
+    IS(aqs_lock_unlock(lock), AQS_OK);
+    IS(ended(threads[2], &waiters[2]), AQS_OK);
+    keep_history(aqs_lock_object(lock), folder, "calls-conditions");
+    aqs_lock_close(lock);
+}
+
+static aqs_status_t try_read(void *lock) {
+    aqs_status_t status = aqs_rwlock_tryrdlock(lock);
+    if (status == AQS_OK) IS(aqs_rwlock_rdunlock(lock), AQS_OK);
+    return status;
+}
+static aqs_status_t try_write(void *lock) {
+    aqs_status_t status = aqs_rwlock_trywrlock(lock);
+    if (status == AQS_OK) IS(aqs_rwlock_wrunlock(lock), AQS_OK);
+    return status;
+}
+static aqs_status_t timed_read(void *lock) { return aqs_rwlock_timedrdlock(lock, 10); }
+static aqs_status_t timed_write(void *lock) { return aqs_rwlock_timedwrlock(lock, 10); }
+
+static void read_write_locks(void) {
+    aqs_rwlock_t *lock;
+    aqs_options_t options = {.when_full = AQS_REFUSE};
+    IS(aqs_rwlock_open(&lock, &options), AQS_OK);
+    IS(aqs_rwlock_rdlock(lock), AQS_OK);
+    IS(in_other(try_read, lock), AQS_OK);
+    IS(in_other(try_write, lock), AQS_WOULD_BLOCK);
+    IS(in_other(timed_write, lock), AQS_TIMED_OUT);
+    IS(aqs_rwlock_rdunlock(lock), AQS_OK);
+    IS(aqs_rwlock_rdunlock(lock), AQS_NOT_OWNER);
+    IS(aqs_rwlock_wrlock_interruptibly(lock), AQS_OK);
+    IS(in_other(timed_read, lock), AQS_TIMED_OUT);
+    IS(in_other(try_read, lock), AQS_WOULD_BLOCK);
+    IS(aqs_rwlock_timedwait(lock, 0, 5), AQS_TIMED_OUT);
+    IS(aqs_rwlock_signal(lock, 0), AQS_OK);
+    IS(aqs_rwlock_signal_all(lock, 0), AQS_OK);
+    IS(aqs_rwlock_rdlock_interruptibly(lock), AQS_OK);
+    IS(aqs_rwlock_wait(lock, 0), AQS_HOLDS_READ);
+    IS(aqs_rwlock_wrunlock(lock), AQS_OK);
+    IS(in_other(try_read, lock), AQS_OK);
+    IS(in_other(try_write, lock), AQS_WOULD_BLOCK);
+    IS(aqs_rwlock_rdunlock(lock), AQS_OK);
+    IS(aqs_rwlock_wrunlock(lock), AQS_NOT_OWNER);
+    keep_history(aqs_rwlock_object(lock), folder, "calls-rwlock");
+    aqs_rwlock_close(lock);
+}
+
+static aqs_status_t acquire_three(void *semaphore) { return aqs_sem_acquire(semaphore, 3); }
+
+static void semaphores(void) {
+    aqs_sem_t *semaphore;
+    uint32_t n = 99;
+    aqs_options_t options = {.policy = AQS_FAIR, .when_full = AQS_REFUSE};
+    IS(aqs_sem_open(&semaphore, 2, &options), AQS_OK);
+    IS(aqs_sem_tryacquire(semaphore, 3), AQS_WOULD_BLOCK);
+    IS(aqs_sem_acquire(semaphore, 1), AQS_OK);
+    IS(aqs_sem_timedacquire(semaphore, 2, 10), AQS_TIMED_OUT);
+    IS(aqs_sem_acquire(semaphore, 3000000000u), AQS_BAD_AMOUNT);
+    other_t other = {.call = acquire_three, .object = semaphore};
+    pthread_t thread = start(&other);
+    usleep(10000);
+    IS(aqs_sem_release(semaphore, 2), AQS_OK);
+    IS(ended(thread, &other), AQS_OK);
+    IS(aqs_sem_release(semaphore, 5), AQS_OK);
+    IS(aqs_sem_drain(semaphore, &n), AQS_OK);
+    CHECK(n == 5);
+    IS(aqs_sem_drain(semaphore, NULL), AQS_OK);
+    IS(aqs_sem_release(semaphore, 2147483647), AQS_OK);
+    IS(aqs_sem_release(semaphore, 1), AQS_TOO_MANY_PERMITS);
+    IS(aqs_thread_interrupt(aqs_thread_self()), AQS_OK);
+    IS(aqs_sem_acquire_interruptibly(semaphore, 1), AQS_INTERRUPTED);
+    IS(aqs_sem_acquire_interruptibly(semaphore, 1), AQS_OK);
+    keep_history(aqs_sem_object(semaphore), folder, "calls-semaphore");
+    aqs_sem_close(semaphore);
+}
+
+static aqs_status_t await_latch(void *latch) { return aqs_latch_await(latch); }
+
+static void latches(void) {
+    aqs_latch_t *latch;
+    aqs_options_t options = {.when_full = AQS_REFUSE};
+    IS(aqs_latch_open(&latch, 2, &options), AQS_OK);
+    other_t other = {.call = await_latch, .object = latch};
+    pthread_t thread = start(&other);
+    IS(aqs_latch_timedawait(latch, 10), AQS_TIMED_OUT);
+    IS(aqs_latch_count_down(latch), AQS_OK);
+    IS(aqs_thread_interrupt(aqs_thread_self()), AQS_OK);
+    CHECK(aqs_thread_interrupted());
+    CHECK(!aqs_thread_interrupted());
+    IS(aqs_thread_interrupt(aqs_thread_self()), AQS_OK);
+    IS(aqs_latch_await_interruptibly(latch), AQS_INTERRUPTED);
+    IS(aqs_latch_count_down(latch), AQS_OK);
+    IS(ended(thread, &other), AQS_OK);
+    IS(aqs_latch_await(latch), AQS_OK);
+    IS(aqs_latch_count_down(latch), AQS_OK);
+    keep_history(aqs_latch_object(latch), folder, "calls-latch");
+    aqs_latch_close(latch);
+}
+
+static aqs_status_t own_and_end(void *lock) { return aqs_lock_lock(lock); }
+
+/* A thread that ends as owner keeps its number: nobody is taken for the owner. */
+static void owners_that_end(void) {
+    aqs_lock_t *lock;
+    IS(aqs_lock_open(&lock, NULL), AQS_OK);
+    IS(in_other(own_and_end, lock), AQS_OK);
+    for (int i = 0; i < 3; i++) IS(in_other(try_lock, lock), AQS_WOULD_BLOCK);
+    aqs_lock_close(lock);
+}
+
+static void histories(void) {
+    aqs_lock_t *lock;
+    aqs_options_t options = {.history = 64, .threads = 2};
+    IS(aqs_lock_open(&lock, &options), AQS_OK);
+    for (int i = 0; i < 10000; i++) { /* it trims itself */
+        IS(aqs_lock_lock(lock), AQS_OK);
+        IS(aqs_lock_unlock(lock), AQS_OK);
+    }
+    aqs_object_t *object = aqs_lock_object(lock);
+    uint64_t count = 0;
+    size_t length = 0;
+    IS(aqs_history_text(object, NULL, 0, &length), AQS_NO_SPACE);
+    CHECK(length > 0);
+    char *text = malloc(length);
+    IS(aqs_history_text(object, text, length - 1, &length), AQS_NO_SPACE);
+    IS(aqs_history_text(object, text, length, &length), AQS_OK);
+    CHECK(memcmp(text, "aqs-history ", 12) == 0);
+    free(text);
+    keep_history(object, folder, "calls-trimmed");
+    IS(aqs_history_trim(object, &count), AQS_OK);
+    CHECK(count > 0);
+    IS(aqs_history_trim(object, &count), AQS_OK);
+    CHECK(count == 0);
+    IS(aqs_history_trim(object, NULL), AQS_OK);
+    aqs_lock_close(lock);
+    options.when_full = AQS_REFUSE;
+    IS(aqs_lock_open(&lock, &options), AQS_OK);
+    aqs_status_t status;
+    while ((status = aqs_lock_lock(lock)) == AQS_OK) IS(aqs_lock_unlock(lock), AQS_OK);
+    CHECK(status == AQS_HISTORY_FULL);
+    IS(aqs_history_trim(aqs_lock_object(lock), &count), AQS_OK);
+    IS(aqs_lock_lock(lock), AQS_OK);
+    aqs_lock_close(lock);
+}
+
+static void options_and_statuses(void) {
+    aqs_lock_t *lock;
+    aqs_latch_t *latch;
+    aqs_sem_t *semaphore;
+    IS(aqs_lock_open(&lock, &(aqs_options_t){.threads = 257}), AQS_OUT_OF_RANGE);
+    IS(aqs_lock_open(&lock, &(aqs_options_t){.conditions = 17}), AQS_OUT_OF_RANGE);
+    IS(aqs_lock_open(&lock, &(aqs_options_t){.history = 15}), AQS_OUT_OF_RANGE);
+    IS(aqs_lock_open(&lock, &(aqs_options_t){.policy = 3}), AQS_OUT_OF_RANGE);
+    IS(aqs_latch_open(&latch, 2147483648u, NULL), AQS_OUT_OF_RANGE);
+    IS(aqs_sem_open(&semaphore, 1, &(aqs_options_t){.conditions = 1}), AQS_OUT_OF_RANGE);
+    IS(aqs_lock_open(&lock, &(aqs_options_t){.threads = 1}), AQS_OK);
+    IS(in_other(try_lock, lock), AQS_TOO_MANY_THREADS);
+    aqs_lock_close(lock);
+    IS(aqs_thread_interrupt(AQS_THREADS), AQS_OUT_OF_RANGE);
+    CHECK(strcmp(aqs_status_name(AQS_OK), "AQS_OK") == 0);
+    CHECK(strcmp(aqs_status_name(AQS_MISUSE), "AQS_MISUSE") == 0);
+    CHECK(strcmp(aqs_status_name((aqs_status_t)99), "no status") == 0);
+}
+
+/* Whatever numbers C passes have an answer. */
+static void numbers(void) {
+    aqs_pass_t none = AQS_NO_PASS, passes[2] = {AQS_NO_PASS, AQS_NO_PASS};
+    aqs_header_t header = {.kind = AQS_KIND_LOCK, .policy = AQS_CORE_FAIR, .seats = 2, .cap = 100};
+    aqs_answer_t answer;
+    uint64_t number = 0;
+    uint8_t byte = 0;
+    CHECK(aqs_open(header, passes, 1) == AQS_CORE_OUT_OF_RANGE && !passes[0].live);
+    CHECK(aqs_open(header, passes, 2) == 0);
+    CHECK(aqs_open(header, passes, 2) == AQS_CORE_NOT_EMPTY);
+    aqs_step_now(&none, (aqs_step_t){.code = AQS_STEP_TRY}, &answer);
+    CHECK(answer.kind == AQS_IS_NO_PASS);
+    aqs_begin(&none, (aqs_call_t){.kind = AQS_CALL_ACQUIRE}, &answer);
+    CHECK(answer.kind == AQS_IS_NO_PASS);
+    CHECK(aqs_text_now(&none, &byte, 1, &number) == AQS_IS_NO_PASS);
+    CHECK(aqs_trim_now(&none, &number) == AQS_IS_NO_PASS);
+    aqs_drop(&none);
+    for (unsigned code = 12; code < 256; code++) {
+        aqs_step_now(&passes[0], (aqs_step_t){.code = (uint8_t)code}, &answer);
+        CHECK(answer.kind == AQS_IS_NO_CODE);
+    }
+    aqs_step_now(&passes[0], (aqs_step_t){.code = AQS_STEP_TRY, .mode = 2}, &answer);
+    CHECK(answer.kind == AQS_IS_NO_CODE);
+    aqs_begin(&passes[0], (aqs_call_t){.kind = 2}, &answer);
+    CHECK(answer.kind == AQS_IS_NO_CODE);
+    aqs_begin(&passes[0], (aqs_call_t){.n = 1, .how = 3}, &answer);
+    CHECK(answer.kind == AQS_IS_NO_CODE);
+    aqs_begin(&passes[0], (aqs_call_t){.n = 1, .interrupted = 1}, &answer);
+    CHECK(answer.kind == AQS_IS_NO_CODE);
+    aqs_go_on(&passes[0], AQS_WOKE_PERMIT, &answer);
+    CHECK(answer.kind == AQS_IS_IN_NO_CALL);
+    aqs_begin(&passes[0], (aqs_call_t){.n = 1}, &answer);
+    CHECK(answer.kind == AQS_IS_ENTRY && answer.word == AQS_WORD_GOT && answer.seat == 0);
+    aqs_begin(&passes[1], (aqs_call_t){.n = 1}, &answer);
+    CHECK(answer.kind == AQS_IS_WAITING && answer.parks && !answer.has_until && !answer.interruptible);
+    aqs_begin(&passes[1], (aqs_call_t){.n = 1}, &answer);
+    CHECK(answer.kind == AQS_IS_IN_CALL);
+    aqs_step_now(&passes[1], (aqs_step_t){.code = AQS_STEP_LOOK}, &answer);
+    CHECK(answer.kind == AQS_IS_IN_CALL);
+    aqs_go_on(&passes[1], 3, &answer);
+    CHECK(answer.kind == AQS_IS_NO_CODE);
+    aqs_go_on(&passes[1], AQS_WOKE_DEADLINE, &answer); /* it has no deadline, so it looks */
+    CHECK(answer.kind == AQS_IS_WAITING);
+    aqs_step_now(&passes[0], (aqs_step_t){.n = 1, .code = AQS_STEP_GIVE}, &answer);
+    CHECK(answer.kind == AQS_IS_ENTRY && answer.has_wakes && answer.wakes == 1);
+    aqs_go_on(&passes[1], AQS_WOKE_PERMIT, &answer);
+    CHECK(answer.kind == AQS_IS_ENTRY && answer.word == AQS_WORD_GRANTED && answer.seat == 1);
+    aqs_entry_now(&passes[0], 1000, &answer);
+    CHECK(answer.kind == AQS_IS_NO_ENTRY);
+    aqs_drop(&passes[0]);
+    aqs_drop(&passes[1]);
+    CHECK(!passes[0].live);
+}
+
+int main(int count, char **words) {
+    CHECK(count == 2);
+    folder = words[1];
+    alarm(60);
+    locks();
+    conditions();
+    read_write_locks();
+    semaphores();
+    latches();
+    owners_that_end();
+    histories();
+    options_and_statuses();
+    numbers();
+    puts("calls: good");
+    return 0;
+}

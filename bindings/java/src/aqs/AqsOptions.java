@@ -1,0 +1,46 @@
+package aqs;
+
+/** How an object is opened. What isn't set has its default (aqs.h). */
+public final class AqsOptions {
+    int policy;
+    boolean keeps;
+    int entries;
+    int threads;
+    int conditions;
+
+    /** New calls stand behind those who wait, but for tries without time. */
+    public AqsOptions fair() {
+        policy = 1;
+        return this;
+    }
+
+    /** New calls stand behind those who wait, tries too. */
+    public AqsOptions strict() {
+        policy = 2;
+        return this;
+    }
+
+    /** Keeps all entries of the history, and refuses new calls where it is full. */
+    public AqsOptions keepHistory() {
+        keeps = true;
+        return this;
+    }
+
+    /** The most entries that are kept, at least 16. */
+    public AqsOptions mostEntries(int most) {
+        entries = most;
+        return this;
+    }
+
+    /** How many threads may use it, 1 to 256. */
+    public AqsOptions threads(int number) {
+        threads = number;
+        return this;
+    }
+
+    /** How many conditions a lock has, 1 to 16. */
+    public AqsOptions conditions(int number) {
+        conditions = number;
+        return this;
+    }
+}

@@ -1,0 +1,144 @@
+"""Each class once: python3 -m unittest test_aqs. AQS_HISTORIES names a folder for the histories."""
+import os
+import threading
+import time
+import unittest
+
+import aqs
+
+
+def run_all(count, work):
+    threads = [threading.Thread(target=work, args=(number,)) for number in range(count)]
+    for thread in threads:
+        thread.start()
+    return threads
+
+
+def in_other(call):
+    """What a call returns in another thread."""
+    found = []
+    thread = threading.Thread(target=lambda: found.append(call()))
+    thread.start()
+    thread.join()
+    return found[0]
+
+
+class Objects(unittest.TestCase):
+    def keep(self, name, thing):
+        text = thing.history()
+        self.assertTrue(text.startswith("aqs-history "))
+        folder = os.environ.get("AQS_HISTORIES")
+        if folder:
+            with open(f"{folder}/python-{name}.history", "w", encoding="ascii") as file:
+                file.write(text)
+
+    def test_lock_lets_one_thread_in(self):
+        lock, counts = aqs.Lock(policy=aqs.Policy.FAIR, keep_history=True), [0]
+
+        def work(_number):
+            for _ in range(300):
+                with lock, lock:
+                    seen = counts[0]
+                    time.sleep(0)
+                    counts[0] = seen + 1
+
+        for thread in run_all(4, work):
+            thread.join()
+        self.assertEqual(counts, [1200])
+        with lock:
+            self.assertFalse(in_other(lambda: lock.acquire(blocking=False)))
+            self.assertFalse(in_other(lambda: lock.acquire(timeout=0.01)))
+        self.keep("lock", lock)
+        self.assertGreater(lock.trim(), 0)
+
+    def test_conditions_hand_items_over(self):
+        lock, items, got = aqs.Lock(conditions=2, keep_history=True), [], []
+
+        def take(_number):
+            for _ in range(200):
+                with lock:
+                    lock.wait_for(lambda: items)
+                    got.append(items.pop(0))
+                    lock.notify(condition=1)
+
+        threads = run_all(2, take)
+        for item in range(400):
+            with lock:
+                lock.wait_for(lambda: len(items) < 3, condition=1)
+                items.append(item)
+                lock.notify()
+        for thread in threads:
+            thread.join()
+        self.assertEqual(sorted(got), list(range(400)))
+        with lock:
+            self.assertFalse(lock.wait(timeout=0.01))
+            lock.notify_all()
+        self.keep("conditions", lock)
+
+    def test_interrupts_end_waits(self):
+        lock, told = aqs.Lock(keep_history=True), []
+
+        def wait(_number):
+            told.append(aqs.current_thread())
+            try:
+                lock.acquire(interruptible=True)
+            except aqs.Interrupted as error:
+                told.append(str(error))
+
+        with lock:
+            thread = run_all(1, wait)[0]
+            while not told:
+                time.sleep(0.001)
+            time.sleep(0.01)
+            aqs.interrupt(told[0])
+            thread.join()
+        self.assertEqual(told[1:], ["AQS_INTERRUPTED"])
+        aqs.interrupt(aqs.current_thread())
+        self.assertTrue(aqs.interrupted())
+        self.assertFalse(aqs.interrupted())
+        self.keep("interrupts", lock)
+
+    def test_read_write_lock(self):
+        lock = aqs.RWLock(keep_history=True)
+        with lock.read:
+            self.assertTrue(in_other(lambda: lock.read.acquire() and lock.read.release() is None))
+            self.assertFalse(in_other(lambda: lock.write.acquire(blocking=False)))
+        with lock.write:
+            self.assertFalse(in_other(lambda: lock.read.acquire(timeout=0.01)))
+        self.keep("rwlock", lock)
+
+    def test_semaphore(self):
+        permits = aqs.Semaphore(2, policy=aqs.Policy.STRICT, keep_history=True)
+        with permits:
+            self.assertFalse(permits.acquire(2, blocking=False))
+            self.assertFalse(permits.acquire(2, timeout=0.01))
+        permits.release(3)
+        self.assertEqual(permits.drain(), 5)
+        with self.assertRaises(aqs.Error) as raised:
+            permits.acquire(3_000_000_000)
+        self.assertEqual(str(raised.exception), "AQS_BAD_AMOUNT")
+        self.keep("semaphore", permits)
+
+    def test_latch(self):
+        latch = aqs.Latch(2, keep_history=True)
+        threads = run_all(2, lambda _number: latch.wait())
+        self.assertFalse(latch.wait(timeout=0.01))
+        latch.count_down()
+        latch.count_down()
+        for thread in threads:
+            thread.join()
+        self.assertTrue(latch.wait(timeout=10))
+        self.keep("latch", latch)
+
+    def test_refusals_raise(self):
+        with self.assertRaises(aqs.Error) as raised:
+            aqs.Lock().release()
+        self.assertEqual(str(raised.exception), "AQS_NOT_OWNER")
+        with self.assertRaises(aqs.Error):
+            aqs.Lock(threads=257)
+        with self.assertRaises(aqs.Error):
+            aqs.Latch(2**31)
+
+
+if __name__ == "__main__":
+    unittest.main()

@@ -1,0 +1,87 @@
+//! `aqs.h`, declared by hand. Nothing compares the two.
+
+use std::os::raw::{c_char, c_int};
+
+#[repr(C)]
+#[derive(Clone, Copy, Debug, Default)]
+pub struct Options {
+    pub policy: u32,
+    pub when_full: u32,
+    pub history: u32,
+    pub threads: u16,
+    pub conditions: u8,
+}
+
+macro_rules! opaque {
+    ($($name:ident)*) => {$(
+        #[repr(C)]
+        pub struct $name {
+            _private: [u8; 0],
+        }
+    )*};
+}
+
+opaque! { Object Lock RwLock Sem Latch }
+
+pub type Status = c_int;
+
+extern "C" {
+    pub fn aqs_status_name(status: Status) -> *const c_char;
+    pub fn aqs_thread_self() -> u16;
+    pub fn aqs_thread_interrupt(thread: u16) -> Status;
+    pub fn aqs_thread_interrupted() -> bool;
+
+    pub fn aqs_lock_open(lock: *mut *mut Lock, options: *const Options) -> Status;
+    pub fn aqs_lock_close(lock: *mut Lock);
+    pub fn aqs_lock_lock(lock: *mut Lock) -> Status;
+    pub fn aqs_lock_lock_interruptibly(lock: *mut Lock) -> Status;
+    pub fn aqs_lock_timedlock(lock: *mut Lock, milliseconds: u32) -> Status;
+    pub fn aqs_lock_trylock(lock: *mut Lock) -> Status;
+    pub fn aqs_lock_unlock(lock: *mut Lock) -> Status;
+    pub fn aqs_lock_wait(lock: *mut Lock, condition: u8) -> Status;
+    pub fn aqs_lock_wait_interruptibly(lock: *mut Lock, condition: u8) -> Status;
+    pub fn aqs_lock_timedwait(lock: *mut Lock, condition: u8, milliseconds: u32) -> Status;
+    pub fn aqs_lock_signal(lock: *mut Lock, condition: u8) -> Status;
+    pub fn aqs_lock_signal_all(lock: *mut Lock, condition: u8) -> Status;
+    pub fn aqs_lock_object(lock: *mut Lock) -> *mut Object;
+
+    pub fn aqs_rwlock_open(lock: *mut *mut RwLock, options: *const Options) -> Status;
+    pub fn aqs_rwlock_close(lock: *mut RwLock);
+    pub fn aqs_rwlock_rdlock(lock: *mut RwLock) -> Status;
+    pub fn aqs_rwlock_rdlock_interruptibly(lock: *mut RwLock) -> Status;
+    pub fn aqs_rwlock_timedrdlock(lock: *mut RwLock, milliseconds: u32) -> Status;
+    pub fn aqs_rwlock_tryrdlock(lock: *mut RwLock) -> Status;
+    pub fn aqs_rwlock_rdunlock(lock: *mut RwLock) -> Status;
+    pub fn aqs_rwlock_wrlock(lock: *mut RwLock) -> Status;
+    pub fn aqs_rwlock_wrlock_interruptibly(lock: *mut RwLock) -> Status;
+    pub fn aqs_rwlock_timedwrlock(lock: *mut RwLock, milliseconds: u32) -> Status;
+    pub fn aqs_rwlock_trywrlock(lock: *mut RwLock) -> Status;
+    pub fn aqs_rwlock_wrunlock(lock: *mut RwLock) -> Status;
+    pub fn aqs_rwlock_object(lock: *mut RwLock) -> *mut Object;
+
+    pub fn aqs_sem_open(semaphore: *mut *mut Sem, permits: i32, options: *const Options) -> Status;
+    pub fn aqs_sem_close(semaphore: *mut Sem);
+    pub fn aqs_sem_acquire(semaphore: *mut Sem, n: u32) -> Status;
+    pub fn aqs_sem_acquire_interruptibly(semaphore: *mut Sem, n: u32) -> Status;
+    pub fn aqs_sem_timedacquire(semaphore: *mut Sem, n: u32, milliseconds: u32) -> Status;
+    pub fn aqs_sem_tryacquire(semaphore: *mut Sem, n: u32) -> Status;
+    pub fn aqs_sem_release(semaphore: *mut Sem, n: u32) -> Status;
+    pub fn aqs_sem_drain(semaphore: *mut Sem, n: *mut u32) -> Status;
+    pub fn aqs_sem_object(semaphore: *mut Sem) -> *mut Object;
+
+    pub fn aqs_latch_open(latch: *mut *mut Latch, count: u32, options: *const Options) -> Status;
+    pub fn aqs_latch_close(latch: *mut Latch);
+    pub fn aqs_latch_count_down(latch: *mut Latch) -> Status;
+    pub fn aqs_latch_await(latch: *mut Latch) -> Status;
+    pub fn aqs_latch_await_interruptibly(latch: *mut Latch) -> Status;
+    pub fn aqs_latch_timedawait(latch: *mut Latch, milliseconds: u32) -> Status;
+    pub fn aqs_latch_object(latch: *mut Latch) -> *mut Object;
+
+    pub fn aqs_history_text(
+        object: *mut Object,
+        buffer: *mut c_char,
+        size: usize,
+        length: *mut usize,
+    ) -> Status;
+    pub fn aqs_history_trim(object: *mut Object, count: *mut u64) -> Status;
+}

@@ -1,0 +1,239 @@
+//! Each type once: what it lets through, what it refuses, and its history.
+//!
+//! AQS_HISTORIES names a folder where the histories are put, for `aqs audit`.
+
+use aqs::{interrupted, Condition, Error, Latch, Mutex, Options, RwLock, Semaphore, Thread};
+use std::sync::mpsc::channel;
+use std::time::{Duration, Instant};
+use std::{env, fs, panic, path::PathBuf, thread};
+
+const SHORT: Duration = Duration::from_millis(10);
+const LONG: Duration = Duration::from_secs(30);
+
+fn kept() -> Options {
+    Options::new().keep_history().fair()
+}
+
+fn keep(name: &str, history: String) {
+    assert!(history.starts_with("aqs-history "));
+    if let Some(folder) = env::var_os("AQS_HISTORIES") {
+        fs::write(PathBuf::from(folder).join(format!("rust-{name}.history")), history).unwrap();
+    }
+}
+
+#[test]
+fn mutex_lets_one_thread_in() {
+    let mutex = Mutex::with(0, kept()).unwrap();
+    thread::scope(|scope| {
+        for _ in 0..8 {
+            scope.spawn(|| {
+                for _ in 0..500 {
+                    *mutex.lock() += 1;
+                }
+            });
+        }
+    });
+    let guard = mutex.lock();
+    assert_eq!(*guard, 4000);
+    thread::scope(|scope| {
+        scope.spawn(|| {
+            assert!(mutex.try_lock().is_none());
+            assert_eq!(mutex.try_lock_for(SHORT).err(), Some(Error::TimedOut));
+        });
+    });
+    drop(guard);
+    keep("mutex", mutex.history().unwrap());
+    assert!(mutex.trim().unwrap() > 8000);
+}
+
+#[test]
+fn conditions_hand_items_over() {
+    const NOT_EMPTY: Condition = Condition(0);
+    const NOT_FULL: Condition = Condition(1);
+    let buffer = Mutex::with(Vec::new(), kept().conditions(2)).unwrap();
+    let sum = thread::scope(|scope| {
+        let consumers: Vec<_> = (0..2)
+            .map(|_| {
+                scope.spawn(|| {
+                    let mut sum = 0;
+                    for _ in 0..500 {
+                        let mut items = buffer.lock();
+                        items.wait_while(NOT_EMPTY, |items| items.is_empty());
+                        sum += items.pop().unwrap();
+                        items.notify_one(NOT_FULL);
+                    }
+                    sum
+                })
+            })
+            .collect();
+        for item in 0..1000u64 {
+            let mut items = buffer.lock();
+            items.wait_while(NOT_FULL, |items| items.len() == 4);
+            items.push(item);
+            items.notify_all(NOT_EMPTY);
+        }
+        consumers.into_iter().map(|it| it.join().unwrap()).sum::<u64>()
+    });
+    assert_eq!(sum, 999 * 1000 / 2);
+    let mut items = buffer.lock();
+    assert_eq!(items.wait_for(NOT_EMPTY, SHORT), Err(Error::TimedOut));
+    assert!(items.is_empty());
+    drop(items);
+    keep("conditions", buffer.history().unwrap());
+}
+
+#[test]
+fn who_has_entered_enters_again() {
+    let mutex = Mutex::new(5);
+    let (one, two) = (mutex.enter(), mutex.enter());
+    assert_eq!(*one + *two, 10);
+    thread::scope(|scope| {
+        scope.spawn(|| assert!(mutex.try_lock().is_none()));
+    });
+    drop(one);
+    thread::scope(|scope| {
+        scope.spawn(|| assert!(mutex.try_lock().is_none()));
+    });
+    drop(two);
+    *mutex.lock() += 1;
+    assert_eq!(*mutex.enter(), 6);
+}
+
+#[test]
+fn two_guards_never_alias() {
+    let mutex = Mutex::new(1);
+    let guard = mutex.lock();
+    assert!(panic::catch_unwind(panic::AssertUnwindSafe(|| drop(mutex.lock()))).is_err());
+    assert!(panic::catch_unwind(panic::AssertUnwindSafe(|| drop(mutex.enter()))).is_err());
+    drop(guard);
+    let entry = mutex.enter();
+    assert!(panic::catch_unwind(panic::AssertUnwindSafe(|| drop(mutex.lock()))).is_err());
+    drop(entry);
+    let lock = RwLock::new(1);
+    let writer = lock.write();
+    assert!(panic::catch_unwind(panic::AssertUnwindSafe(|| drop(lock.read()))).is_err());
+    assert!(panic::catch_unwind(panic::AssertUnwindSafe(|| drop(lock.write()))).is_err());
+    drop(writer);
+}
+
+#[test]
+fn interrupts_end_waits() {
+    let mutex = Mutex::with((), kept()).unwrap();
+    let guard = mutex.lock();
+    thread::scope(|scope| {
+        let (send, receive) = channel();
+        let waiter = scope.spawn(|| {
+            let sender = send;
+            sender.send(Thread::current()).unwrap();
+            mutex.lock_interruptibly().err()
+        });
+        let thread = receive.recv().unwrap();
+        thread::sleep(SHORT);
+        thread.interrupt().unwrap();
+        assert_eq!(waiter.join().unwrap(), Some(Error::Interrupted));
+    });
+    drop(guard);
+    Thread::current().interrupt().unwrap();
+    let begin = Instant::now();
+    let mut guard = mutex.lock();
+    assert_eq!(guard.wait_for(Condition(0), LONG), Err(Error::Interrupted));
+    assert!(begin.elapsed() < LONG);
+    assert!(!interrupted());
+    drop(guard);
+    keep("interrupts", mutex.history().unwrap());
+}
+
+#[test]
+fn read_write_lock_keeps_writers_alone() {
+    let lock = RwLock::with([0u64; 2], kept()).unwrap();
+    thread::scope(|scope| {
+        for _ in 0..4 {
+            scope.spawn(|| {
+                for _ in 0..300 {
+                    let halves = lock.read();
+                    assert_eq!(halves[0], halves[1]);
+                }
+            });
+        }
+        for _ in 0..2 {
+            scope.spawn(|| {
+                for _ in 0..100 {
+                    let mut halves = lock.write();
+                    halves[0] += 1;
+                    halves[1] += 1;
+                }
+            });
+        }
+    });
+    let writer = lock.write();
+    thread::scope(|scope| {
+        scope.spawn(|| {
+            assert!(lock.try_read().is_none() && lock.try_write().is_none());
+            assert_eq!(lock.try_read_for(SHORT).err(), Some(Error::TimedOut));
+        });
+    });
+    let reader = writer.downgrade();
+    thread::scope(|scope| {
+        scope.spawn(|| {
+            assert!(lock.try_read().is_some() && lock.try_write().is_none());
+            assert_eq!(lock.try_write_for(SHORT).err(), Some(Error::TimedOut));
+        });
+    });
+    assert_eq!(*reader, [200, 200]);
+    drop(reader);
+    keep("rwlock", lock.history().unwrap());
+}
+
+#[test]
+fn semaphore_counts_permits() {
+    let permits = Semaphore::with(3, kept().strict()).unwrap();
+    permits.acquire(2);
+    assert!(!permits.try_acquire(2) && permits.try_acquire(1));
+    assert_eq!(permits.try_acquire_for(1, SHORT), Err(Error::TimedOut));
+    Thread::current().interrupt().unwrap();
+    assert_eq!(permits.acquire_interruptibly(1), Err(Error::Interrupted));
+    thread::scope(|scope| {
+        scope.spawn(|| permits.release(4));
+        permits.acquire(4);
+    });
+    permits.release(6);
+    assert_eq!(permits.drain(), 6);
+    assert!(panic::catch_unwind(|| permits.acquire(3_000_000_000)).is_err());
+    keep("semaphore", permits.history().unwrap());
+}
+
+#[test]
+fn latch_opens_once() {
+    let latch = Latch::with(2, Options::new().keep_history()).unwrap();
+    assert_eq!(latch.wait_for(SHORT), Err(Error::TimedOut));
+    thread::scope(|scope| {
+        for _ in 0..3 {
+            scope.spawn(|| latch.wait());
+        }
+        latch.count_down();
+        latch.count_down();
+    });
+    latch.count_down();
+    latch.wait();
+    assert_eq!(latch.wait_interruptibly(), Ok(()));
+    keep("latch", latch.history().unwrap());
+}
+
+#[test]
+fn options_that_no_object_has_are_refused() {
+    let error = Mutex::with((), Options::new().threads(257)).err().unwrap();
+    assert_eq!(error.name(), "AQS_OUT_OF_RANGE");
+    assert_eq!(Latch::with(2_147_483_648, Options::new()).err(), Some(error));
+    assert_eq!(Semaphore::with(1, Options::new().conditions(1)).err(), Some(error));
+    assert_eq!(error.to_string(), "AQS_OUT_OF_RANGE");
+}
+
+#[test]
+fn trimmed_histories_never_fill() {
+    let mutex = Mutex::with(0, Options::new().most_entries(256)).unwrap();
+    for _ in 0..5000 {
+        *mutex.lock() += 1;
+    }
+    assert!(mutex.history().unwrap().lines().count() < 200);
+    keep("trimmed", mutex.history().unwrap());
+}

@@ -1,0 +1,17 @@
+"""How the step of the bindings reads what make check prints."""
+import unittest
+
+import bindings
+
+
+class Numbers(unittest.TestCase):
+    def test_the_last_line_counts(self):
+        self.assertEqual(bindings.numbers_of("ok: one\n3 passed, 1 failed\n"), (3, 1))
+
+    def test_a_run_that_stopped_counts_nothing(self):
+        self.assertIsNone(bindings.numbers_of("ok: one\n"))
+        self.assertIsNone(bindings.numbers_of(""))
+
+
+if __name__ == "__main__":
+    unittest.main()

@@ -1,0 +1,4 @@
+pub mod Values
+pub mod HeldValues
+pub mod SeatTurns
+pub mod Placing

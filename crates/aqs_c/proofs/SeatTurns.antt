@@ -1,0 +1,145 @@
+-- Who waits after the turns of its call, and after what changes nothing of it.
+use Rattle.std.proofs.Common.{◌≡◌, ◌⊎◌, inl, inr, ℕ, Bool, true, false, cond, is_some, List, Option, Some, None, Result, Ok, Err, refl, sym, ap, ◌∙◌, subst}
+use Rattle.history.specs.Awaiting.{ReturnsAs, lapsed}
+use Rattle.history.specs.Base.{Base, based}
+use Rattle.history.specs.Start.{Sleep}
+use Rattle.history.specs.declared.arrival.Arrival.{Arrival}
+use Rattle.history.specs.declared.entry.Entry.{Entry}
+use Rattle.history.specs.declared.fault.Fault.{Fault}
+use Rattle.history.specs.declared.step.Answer.{Answer}
+use Rattle.history.specs.declared.step.Answer.TheVariants as answer
+use Rattle.history.specs.declared.step.Step.{Step}
+use Rattle.history.specs.declared.step.Step.TheVariants as step
+use Rattle.permit.specs.Deed.{Deed}
+use Rattle.permit.specs.declared.parking.Woke.{Woke}
+use Rattle.permit.specs.declared.parking.Woke.TheVariants.{Permit, Deadline, Interrupted}
+use Rattle.history.specs.Phase.{waits}
+use Rattle.word_lock.specs.Point.{Agrees, Before}
+use Rattle.monitor.specs.Machine.{IsBegun, IsGoneOn, later_turn, next_behind, step_at, step_of_waiting, step_within}
+use Rattle.monitor.specs.Observing.{IsLook}
+use Rattle.monitor.specs.Shown.{Shown, IsTrue}
+use Rattle.monitor.specs.Stepping.{IsSame, IsStep, IsTrim, IsUnparked}
+use Rattle.monitor.specs.Waits.{Cause, Waits, WaitsAs, in_line, is_lapse, on_condition, on_way_back}
+use Rattle.monitor.specs.declared.how.How.{How}
+use Rattle.monitor.specs.declared.machine.Next.{Next}
+use Rattle.monitor.specs.declared.machine.Next.TheVariants as next
+use Rattle.monitor.specs.declared.machine.Request.{Request}
+use Rattle.monitor.specs.declared.machine.Turn.{Turn}
+use Rattle.monitor.specs.declared.machine.Waiting.{Waiting}
+use Rattle.monitor.specs.declared.waiting.Limits.{Limits}
+use Rattle.monitor.specs.declared.waiting.Stage.{Stage}
+use Rattle.monitor.specs.declared.waiting.Stage.TheVariants.{Expires, Parks, Looks, GivenUp}
+use Rattle.monitor.proofs.InLine.{IsEndBy}
+use Rattle.monitor.proofs.TurnByTurn.{begun_waits, never_waits, waits_now}
+use Rattle.monitor.proofs.Turns.{TurnMakes, still_waiting, turn}
+use Rattle.monitor.proofs.Turns as turns
+use Rattle.aqs_c.specs.Seated.{waiting_in}
+use Rattle.aqs_c.specs.Standing.{StandsBy}
+
+-- C is asked for no deed, so any will do
+abbrev any_deed : Deed → Type 0
+any_deed d = Unit {0}
+
+unparked_any : (named : Option ℕ) → IsUnparked any_deed named
+unparked_any None = tt
+unparked_any (Some j) = tt
+
+waits_begun : (old new : Shown) (q : Request) (how : How) (moment : ℕ) (was : Bool) (t : Turn) (w : Waiting) →
+    IsBegun old q how moment was t new → IsSame old new → t.next ≡ next.Waits w → Waits new.seen new.seat
+waits_begun old new q how moment true t w b same is = absurd (never_waits old new q how moment t w b is)
+waits_begun old new q how moment false t w b same is =
+    waits_now any_deed old new q how (λ minds. tt)
+    (begun_waits any_deed old new q how moment t w b (unparked_any t.named) is).0 same
+
+pub stands_begun : (old new : Shown) (q : Request) (how : How) (moment : ℕ) (was : Bool) (t : Turn) →
+    IsBegun old q how moment was t new → IsSame old new → StandsBy (waiting_in t.next) new
+stands_begun old new q how moment was t b same = by t.next refl
+  where
+    by : (n : Next) → t.next ≡ n → StandsBy (waiting_in n) new
+    by (next.Ends reply again) e = tt
+    by (next.Waits w) e = waits_begun old new q how moment was t w b same e
+
+-- what ends a wait in line, or a way back, is no lapse
+no_lapse : (s : Step) (i : ℕ) (a : Arrival) (e : Entry) → IsEndBy s i a e → is_lapse e.word ≡ false
+no_lapse step.Look i a e x = ap (λ (z : Entry). is_lapse z.word) x
+no_lapse step.Expire i a e (inl x) = ap (λ (z : Entry). is_lapse z.word) x
+no_lapse step.Expire i a e (inr x) = ap (λ (z : Entry). is_lapse z.word) x
+no_lapse step.Interrupt i a e x = ap (λ (z : Entry). is_lapse z.word) x
+no_lapse _ i a e x = absurd x
+
+-- who lapses is on its way back
+waits_lapsed : (b : Base) (l : List Entry) (i : ℕ) (k : Cause) (s : Step) (e : Entry) →
+    TurnMakes b l i k s e → is_lapse e.word ≡ true → Waits (record { base = b; entries = l }) i
+waits_lapsed b l i (in_line a) s e m q = let z = no_lapse s i a e m in cc
+waits_lapsed b l i (on_condition w) s e (inl m) q = let z = ap (λ (x : Entry). is_lapse x.word) m in cc
+waits_lapsed b l i (on_condition w) s e (inr m) q = (on_way_back (lapsed w m.0), m.3)
+waits_lapsed b l i (on_way_back w) s e m q = let z = ap (λ (x : Entry). is_lapse x.word) m in cc
+
+-- one who waits takes a step of one who waits
+waits_within : (l : Limits) (woke : Woke) → waits (step_within l woke) ≡ true
+waits_within l Permit = refl
+waits_within l Deadline = by (is_some l.until)
+  where
+    by : (b : Bool) → waits (cond b step.Expire step.Look) ≡ true
+    by true = refl
+    by false = refl
+waits_within l Interrupted = by l.interruptible
+  where
+    by : (b : Bool) → waits (cond b step.Interrupt step.Look) ≡ true
+    by true = refl
+    by false = refl
+
+step_waits : (stage : Stage) (l : Limits) (woke : Woke) → waits (step_at stage l woke) ≡ true
+step_waits Expires l woke = refl
+step_waits Parks l woke = waits_within l woke
+step_waits Looks l woke = refl
+step_waits GivenUp l woke = refl
+
+-- who waits after a later turn
+waits_gone : (old new : Shown) (k : Cause) (w : Waiting) (s : Step) (r : Result Answer Fault) (n : Waiting) →
+    turns.Turn old k s r new → (later_turn w s r).next ≡ next.Waits n → Waits new.seen old.seat
+waits_gone old new k w s (Ok answer.Sleep) n t is = (k, t.0)
+waits_gone old new k w s (Err f) n t is = absurd t
+waits_gone old new k w s (Ok (answer.Recorded e name)) n t is = by (is_lapse e.word) refl is
+  where
+    by : (b : Bool) → is_lapse e.word ≡ b → next_behind b w s e ≡ next.Waits n → Waits new.seen old.seat
+    by true q u = waits_lapsed new.seen.base new.seen.entries old.seat k s e t q
+    by false q u = cc
+
+pub stands_gone : (old new : Shown) (w : Waiting) (woke : Woke) (t : Turn) → IsTrue old →
+    Waits old.seen old.seat → IsSame old new → IsGoneOn old w woke t new → StandsBy (waiting_in t.next) new
+stands_gone old new w woke t shows first same gone = by t.next refl
+  where
+    s : Step
+    s = step_of_waiting w woke
+
+    by : (n : Next) → t.next ≡ n → StandsBy (waiting_in n) new
+    by (next.Ends reply again) e = tt
+    by (next.Waits v) e =
+        subst (λ (i : ℕ). Waits new.seen i) (sym same.seat)
+        (waits_gone old new first.0 w s gone.0 v
+        (turn old new first.0 s gone.0 gone.1 shows first.1 (step_waits w.stage w.limits woke))
+        (ap (λ (z : Turn). z.next) (sym gone.2) ∙ e))
+
+-- who waits still does after what adds no entry of its seat
+stands_later : (old new : Shown) (waiting : Option Waiting) → IsTrue old → IsTrue new → new.seat ≡ old.seat →
+    Before old.seen new.seen → new.mine ≡ old.mine → StandsBy waiting old → StandsBy waiting new
+stands_later old new None was shows seat later mine stands = tt
+stands_later old new (Some w) was shows seat later mine stands =
+    let here : WaitsAs new.seen old.seat stands.0 =
+    still_waiting old.seen new.seen old.seat old.mine stands.0 was.lawful shows.lawful later was.agrees
+    (subst (λ (i : ℕ). Agrees new.seen i old.mine) seat
+    (subst (λ (es : List Entry). Agrees new.seen new.seat es) mine shows.agrees)) stands.1 in (
+      stands.0,
+      subst (λ (i : ℕ). WaitsAs new.seen i stands.0) (sym seat) here,
+    )
+
+pub stands_looked : (old new : Shown) (waiting : Option Waiting) → IsTrue old → IsTrue new → IsLook old new →
+    StandsBy waiting old → StandsBy waiting new
+stands_looked old new waiting was shows look stands =
+    stands_later old new waiting was shows look.seat look.begins look.mine stands
+
+pub stands_trimmed : (old new : Shown) (waiting : Option Waiting) (r : Result ℕ Fault) → IsTrue old →
+    IsTrue new → IsSame old new → IsTrim old r new → StandsBy waiting old → StandsBy waiting new
+stands_trimmed old new waiting r was shows same trim stands =
+    stands_later old new waiting was shows same.seat trim.after trim.mine stands

@@ -1,0 +1,12 @@
+use Rattle.std.proofs.Common.{Option, sym, subst}
+use Rattle.monitor.specs.declared.machine.Waiting.{Waiting}
+use Rattle.aqs_c.specs.Standing.{StandsBy}
+use Rattle.aqs_c.proofs.SeatTurns.{stands_begun}
+use Rattle.aqs_c.proofs.seat.begin_idle.Goals as goal
+
+pub returns-clause-stands : goal.returns-clause-stands
+returns-clause-stands c =
+    subst (λ (w : Option Waiting). StandsBy w c.begin_quietly-turn.new.pass) (sym c.waiting_in.ensures)
+    (stands_begun c.args.pass.now c.begin_quietly-turn.new.pass c.in-Some.asked.request c.in-Some.asked.how
+    c.args.call.moment c.in-Some.asked.interrupted c.in-Some-2.turn c.in-Some-2.ensures.begun
+    c.begin_quietly-turn.ensures.same)

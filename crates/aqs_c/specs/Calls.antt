@@ -1,0 +1,154 @@
+-- What a call of C leaves, and what it is answered.
+use Rattle.std.specs.Prelude.{◌≡◌, ◌⊎◌, ◌≤◌, ℕ, Bool, List, Option, Some, None, IsSome, Result, Ok, Err, length, take, reverse, slice_get}
+use Rattle.history.specs.declared.entry.Entry.{Entry}
+use Rattle.history.specs.declared.fault.Fault.{Fault}
+use Rattle.history.specs.declared.step.Step.{Step}
+use Rattle.history_text.specs.Pieces.{history_text}
+use Rattle.monitor.specs.Machine.{IsBegun, IsGoneOn}
+use Rattle.monitor.specs.Observing.{IsLook}
+use Rattle.monitor.specs.Shown.{Shown}
+use Rattle.monitor.specs.Stepping.{IsStepNow, IsTrim}
+use Rattle.monitor.specs.declared.how.How.{How}
+use Rattle.monitor.specs.declared.machine.Request.{Request}
+use Rattle.monitor.specs.declared.machine.Turn.{Turn}
+use Rattle.monitor.specs.declared.machine.Waiting.{Waiting}
+use Rattle.monitor.specs.declared.step.Now.{Now}
+use Rattle.permit.specs.declared.parking.Woke.{Woke}
+use Rattle.aqs_c.specs.Codes.{IsAnswerOf, IsCallOf, IsCodeOf, IsEntry, IsTurnOf, IsWoke}
+use Rattle.aqs_c.specs.Seated.{Seated, waiting_in}
+use Rattle.aqs_c.specs.declared.answers.AqsAnswer.{AqsAnswer}
+use Rattle.aqs_c.specs.declared.calls.AqsCall.{AqsCall}
+use Rattle.aqs_c.specs.declared.steps.AqsStep.{AqsStep}
+
+-- an answer of this kind, after which nothing has changed
+pub record IsRefused (kind : ℕ) (old : Seated) (a : AqsAnswer) (new : Seated) : Type 0 where
+  pub kind_is : a.kind ≡ kind
+  pub pass : new.pass ≡ old.pass
+  pub waiting : new.waiting ≡ old.waiting
+
+-- one step of a seat, as the monitor promises it, and its answer in numbers
+pub record IsStepMade (old : Seated) (code : AqsStep) (a : AqsAnswer) (new : Seated) : Type 0 where
+  pub step : Step
+  pub reply : Result Now Fault
+  pub is_code : IsCodeOf step code
+  pub is_answer : IsAnswerOf reply a
+  pub made : IsStepNow old.pass step reply new.pass
+  pub waiting : new.waiting ≡ old.waiting
+
+-- A seat that is in no call makes the step of the code. Kind 4 says that there is no such step.
+abbrev pub IsStepped : Seated → AqsStep → AqsAnswer → Seated → Type 0
+IsStepped old code a new =
+    (IsRefused 4 old a new × ((step : Step) → IsCodeOf step code → ⊥)) ⊎ IsStepMade old code a new
+
+abbrev pub IsSeatStep : Seated → AqsStep → AqsAnswer → Seated → Type 0
+IsSeatStep old code a new =
+    (IsSome old.waiting × IsRefused 8 old a new) ⊎ ((old.waiting ≡ None) × IsStepped old code a new)
+
+-- the first turn of a call, as the monitor promises it, and its answer in numbers
+pub record IsTurnBegun (old : Seated) (c : AqsCall) (a : AqsAnswer) (new : Seated) : Type 0 where
+  pub request : Request
+  pub how : How
+  pub was : Bool
+  pub turn : Turn
+  pub is_call : IsCallOf request how was c
+  pub begun : IsBegun old.pass request how c.moment was turn new.pass
+  pub is_turn : IsTurnOf turn a
+  pub waiting : new.waiting ≡ waiting_in turn.next
+
+-- A seat that is in no call begins one. Kind 4 says that these are the numbers of no call, and kind 3 that
+-- another call had the object.
+abbrev pub IsCallBegun : Seated → AqsCall → AqsAnswer → Seated → Type 0
+IsCallBegun old c a new =
+    (IsRefused 4 old a new × ((q : Request) (how : How) (was : Bool) → IsCallOf q how was c → ⊥))
+    ⊎ IsRefused 3 old a new
+    ⊎ IsTurnBegun old c a new
+
+abbrev pub IsSeatBegun : Seated → AqsCall → AqsAnswer → Seated → Type 0
+IsSeatBegun old c a new =
+    (IsSome old.waiting × IsRefused 8 old a new) ⊎ ((old.waiting ≡ None) × IsCallBegun old c a new)
+
+-- the next turn of a call that waits
+pub record IsTurnMade (w : Waiting) (old : Seated) (number : ℕ) (a : AqsAnswer) (new : Seated) : Type 0 where
+  pub woke : Woke
+  pub turn : Turn
+  pub is_woke : IsWoke woke number
+  pub gone_on : IsGoneOn old.pass w woke turn new.pass
+  pub is_turn : IsTurnOf turn a
+  pub waiting : new.waiting ≡ waiting_in turn.next
+
+-- Kind 4 says that no park ends so.
+abbrev pub IsCallGoneOn : Waiting → Seated → ℕ → AqsAnswer → Seated → Type 0
+IsCallGoneOn w old number a new =
+    (IsRefused 4 old a new × ((woke : Woke) → IsWoke woke number → ⊥))
+    ⊎ IsRefused 3 old a new
+    ⊎ IsTurnMade w old number a new
+
+abbrev pub IsSeatGoneOn : Seated → ℕ → AqsAnswer → Seated → Type 0
+IsSeatGoneOn old number a new =
+    ((old.waiting ≡ None) × IsRefused 9 old a new)
+    ⊎ ((w : Waiting) × (old.waiting ≡ Some w) × IsCallGoneOn w old number a new)
+
+-- The same of a pass, which may be empty: it stays so.
+abbrev pub IsPassStep : Option Seated → AqsStep → AqsAnswer → Option Seated → Type 0
+IsPassStep None code a new = (a.kind ≡ 5) × (new ≡ None)
+IsPassStep (Some old) code a new = (seat : Seated) × (new ≡ Some seat) × IsSeatStep old code a seat
+
+abbrev pub IsPassBegun : Option Seated → AqsCall → AqsAnswer → Option Seated → Type 0
+IsPassBegun None c a new = (a.kind ≡ 5) × (new ≡ None)
+IsPassBegun (Some old) c a new = (seat : Seated) × (new ≡ Some seat) × IsSeatBegun old c a seat
+
+abbrev pub IsPassGoneOn : Option Seated → ℕ → AqsAnswer → Option Seated → Type 0
+IsPassGoneOn None number a new = (a.kind ≡ 5) × (new ≡ None)
+IsPassGoneOn (Some old) number a new = (seat : Seated) × (new ≡ Some seat) × IsSeatGoneOn old number a seat
+
+-- the pass may have seen more, and nothing else has changed
+pub record IsSeatLook (old new : Seated) : Type 0 where
+  pub looked : IsLook old.pass new.pass
+  pub waiting : new.waiting ≡ old.waiting
+
+-- an entry, or none of that number
+abbrev pub IsEntryAt : Option Entry → AqsAnswer → Type 0
+IsEntryAt None a = a.kind ≡ 6
+IsEntryAt (Some e) a = IsEntry e a
+
+abbrev pub IsSeatEntry : Seated → ℕ → AqsAnswer → Seated → Type 0
+IsSeatEntry old number a new =
+    IsRefused 3 old a new
+    ⊎ (IsSeatLook old new × IsEntryAt (slice_get (reverse new.pass.seen.entries) number) a)
+
+abbrev pub IsPassEntry : Option Seated → ℕ → AqsAnswer → Option Seated → Type 0
+IsPassEntry None number a new = (a.kind ≡ 5) × (new ≡ None)
+IsPassEntry (Some old) number a new = (seat : Seated) × (new ≡ Some seat) × IsSeatEntry old number a seat
+
+-- the text of what a pass has seen
+abbrev pub text_seen : Shown → List ℕ
+text_seen p = history_text p.seen.base p.seen.entries
+
+-- The object was busy; or a text was refused; or its length, and the text where it fits.
+abbrev pub IsSeatText : Seated → ℕ → Seated → List ℕ → List ℕ → ℕ → Type 0
+IsSeatText old kind new out written long =
+    ((kind ≡ 3) × (new ≡ old))
+    ⊎ ((kind ≡ 2) × IsSeatLook old new)
+    ⊎ ((kind ≡ 0) × IsSeatLook old new × (long ≡ length (text_seen new.pass))
+    × (long ≤ length out → take long written ≡ text_seen new.pass))
+
+abbrev pub IsPassText : Option Seated → ℕ → Option Seated → List ℕ → List ℕ → ℕ → Type 0
+IsPassText None kind new out written long = (kind ≡ 5) × (new ≡ None)
+IsPassText (Some old) kind new out written long =
+    (seat : Seated) × (new ≡ Some seat) × IsSeatText old kind seat out written long
+
+-- a fold, as the monitor promises it, of which nothing else changes
+pub record IsSeatTrim (old : Seated) (r : Result ℕ Fault) (new : Seated) : Type 0 where
+  pub trimmed : IsTrim old.pass r new.pass
+  pub waiting : new.waiting ≡ old.waiting
+
+-- the object was busy, or it had too many entries, or that number was folded
+abbrev pub IsSeatFold : Seated → ℕ → ℕ → Seated → Type 0
+IsSeatFold old kind count new =
+    ((kind ≡ 3) × (new ≡ old))
+    ⊎ ((kind ≡ 2) × (f : Fault) × IsSeatTrim old (Err f) new)
+    ⊎ ((kind ≡ 0) × IsSeatTrim old (Ok count) new)
+
+abbrev pub IsPassTrim : Option Seated → ℕ → ℕ → Option Seated → Type 0
+IsPassTrim None kind count new = (kind ≡ 5) × (new ≡ None)
+IsPassTrim (Some old) kind count new = (seat : Seated) × (new ≡ Some seat) × IsSeatFold old kind count seat

@@ -1,0 +1,33 @@
+//! A history as a text, and a text in memory of C's.
+ghost use Rattle.std.specs.Prelude.{◌≡◌, ◌≤◌, length, take, Some, IfOk};
+ghost use Rattle.std.specs.Option.{IsSomeAnd};
+ghost use Rattle.history_text.specs.Pieces.{history_text};
+ghost use Rattle.aqs_c.specs.Texts.{IsTextOf};
+
+use history::entries::History;
+use history::fault::Fault;
+use history_text::{fits, write_text};
+use std::alloc::Global;
+
+/// The text of a history that stands on a base. That of an object always does, and fits its header; this is
+/// tested, since the writer asks for it.
+pub(crate) fn text_of(alloc: Global, history: &History) -> Result<Vec<u8>, Fault>
+    ensures { IfOk result (λ text. IsTextOf history.now text.items) }
+{
+    let Some(base) = history.base() else {
+        return Err(Fault::OutOfPhase);
+    };
+    if !base.header.in_range() || !fits(&base.header, history) {
+        return Err(Fault::OutOfPhase);
+    }
+    write_text(alloc, &base.header, history)
+}
+
+/// Writes the text where it fits, and else nothing.
+pub(crate) fn put_text(out: &mut [u8], text: &[u8])
+    ensures { length text.now ≤ length out.old → take (length text.now) out.new ≡ text.now }
+{
+    if text.len() <= out.len() {
+        out[..text.len()].copy_from_slice(text);
+    }
+}
