@@ -1,6 +1,7 @@
 //! An acquire, which may wait in line.
 ghost use Rattle.std.specs.Prelude.{◌≡◌, ◌≤◌, true};
 ghost use Rattle.word_lock.specs.Point.{Before};
+ghost use Rattle.monitor.specs.Settled.{IsSettled};
 ghost use Rattle.monitor.specs.Load.{holds_of};
 ghost use Rattle.monitor.specs.Shown.{IsTrue};
 ghost use Rattle.monitor.specs.Stepping.{IsSame};
@@ -147,6 +148,7 @@ impl<H: Hooks + Drop, L: Load> Monitor<H, L> {
         ensures begins { Before pass.old.seen pass.new.seen }
         ensures shows { IsTrue pass.new }
         ensures made { IsCall (P.did parking.now) pass.old request how result pass.new }
+        ensures settled { IsSettled result }
         ensures carries { L.carries load.new (holds_of pass.new) }
     {
         pass.is_true();
