@@ -116,7 +116,8 @@ impl<T: Drop> RwMutex<T> {
         ensures value { IfOk result (λ r.
             Rests (slot_of r.1) (counts (start_on self.lock.header r.0.history) r.0.history.entries)) }
         ensures lawful { IfOk result (λ r. IsLawful (left_by self.lock r.0.history)) }
-        ensures within { IfOk result (λ r. All (λ p. IsWithin (left_by self.lock r.0.history) p) passes.items) }
+        ensures within { IfOk result (λ r.
+            All (λ p. IsWithin (left_by self.lock r.0.history) p) passes.items) }
         ensures base { IfOk result (λ r. IsBased self.lock r.0.history) }
         ensures good { IfOk result (λ r. IsBasedWell self.lock.header r.0.history.base) }
         ensures seated { IfOk result (λ r.
