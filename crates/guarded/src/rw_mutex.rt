@@ -2,6 +2,7 @@
 ghost use Rattle.std.specs.Prelude.{◌≡◌, ◌<◌, ◌≤◌, ◌+◌, All, IfOk, IfErr};
 ghost use Rattle.std.specs.Borrow.{sem, RestsIfErr};
 ghost use Rattle.std.specs.Fn.{FnOnceReturnsAt};
+ghost use Rattle.deciding.specs.Balance.{balance};
 ghost use Rattle.frame.specs.Core.{header_of};
 ghost use Rattle.history.specs.Counts.{counts};
 ghost use Rattle.history.specs.Entries.{IsBasedWell, start_on};
@@ -13,7 +14,9 @@ ghost use Rattle.history.specs.declared.step.Step.TheVariants.{Give};
 ghost use Rattle.history.specs.declared.header.Object.TheVariants.{ReadWrite};
 ghost use Rattle.monitor.specs.contracts.pass.Pass.{the_row};
 ghost use Rattle.monitor.specs.declared.how.How.TheVariants.{Plain, Interruptible, Timed};
-ghost use Rattle.monitor.specs.Lawful.{blank};
+ghost use Rattle.monitor.specs.Closing.{IsBased, IsMissing, IsWithin, left_by, passes_of, shares};
+ghost use Rattle.monitor.specs.declared.closing.CloseFault.TheVariants.{MissingPass};
+ghost use Rattle.monitor.specs.Lawful.{IsLawful, blank};
 ghost use Rattle.monitor.specs.Observing.{IsLook};
 ghost use Rattle.monitor.specs.Shown.{IsTrue, opening_passes};
 ghost use Rattle.monitor.specs.Stepping.{IsSame};
@@ -112,11 +115,23 @@ impl<T: Drop> RwMutex<T> {
         requires is_of { All (λ p. p.lock ≡ self.lock) passes.items }
         ensures value { IfOk result (λ r.
             Rests (slot_of r.1) (counts (start_on self.lock.header r.0.history) r.0.history.entries)) }
+        ensures lawful { IfOk result (λ r. IsLawful (left_by self.lock r.0.history)) }
+        ensures within { IfOk result (λ r.
+            All (λ p. IsWithin (left_by self.lock r.0.history) p) passes.items) }
+        ensures base { IfOk result (λ r. IsBased self.lock r.0.history) }
         ensures good { IfOk result (λ r. IsBasedWell self.lock.header r.0.history.base) }
         ensures seated { IfOk result (λ r.
             AreSeated (start_on self.lock.header r.0.history) r.0.history.entries) }
+        ensures cap { IfOk result (λ r. r.0.history.cap ≡ self.lock.header.cap) }
+        ensures each { IfOk result (λ _. (seat : _)
+            → seat < self.lock.header.seats → passes_of seat passes.items ≡ 1) }
+        ensures share { IfOk result (λ r. r.0.share ≡ shares passes.items) }
         ensures calls { IfOk result (λ r.
             r.0.share ≡ calls (start_on self.lock.header r.0.history) r.0.history.entries) }
+        ensures balance { IfOk result (λ r.
+            r.0.balance ≡ balance (start_on self.lock.header r.0.history) r.0.history.entries) }
+        ensures missing { IfErr result (λ r.
+            (r.2 ≡ MissingPass) × IsMissing self.lock.header.seats passes.items) }
         ensures back { IfErr result (λ r. (r.0 ≡ self) × (r.1 ≡ passes)) }
     {
         match self.mutex.close(rt, passes) {

@@ -1,8 +1,9 @@
 //! Interrupts that a parking told a call.
-ghost use Rattle.std.specs.Prelude.{◌≡◌, ◌<◌, ◌≤◌, false, true, is_some, IfSome, IsSome};
+ghost use Rattle.std.specs.Prelude.{◌≡◌, ◌≢◌, ◌<◌, ◌≤◌, false, true, is_some, IfSome, IsSome};
 ghost use Rattle.monitor.specs.Acquire.{is_interruptible};
 ghost use Rattle.monitor.specs.Interrupts.{ends_interrupted, refuses_interrupted, tells_interrupt};
 ghost use Rattle.monitor.specs.Machine.{limits_at, step_of_waiting};
+ghost use Rattle.monitor.specs.Settled.{IsSettled};
 ghost use Rattle.monitor.specs.Waits.{ComesOf};
 ghost use Rattle.permit.specs.Deed.{interrupted, parked, took_interrupt};
 ghost use Rattle.permit.specs.declared.parking.Woke.TheVariants.{Deadline, Interrupted};
@@ -27,7 +28,8 @@ pub(crate) struct Interrupts {
 impl Interrupts {
     /// None so far.
     pub(crate) fn none(seat: u16) -> Interrupts
-        ensures { result.seat ≡ seat }
+        ensures seat { result.seat ≡ seat }
+        ensures fresh { result.taken ≡ false }
     {
         Interrupts { seat, taken: false }
     }
@@ -66,6 +68,7 @@ impl Interrupts {
         ensures noted { IsSome (limits_at waiting.stage waiting.limits) → result ≡ Interrupted
             → self.new.taken ≡ true }
         ensures kept { self.old.taken ≡ true → self.new.taken ≡ true }
+        ensures otherwise { result ≢ Interrupted → self.new.taken ≡ self.old.taken }
     {
         match waiting.limits() {
             Some(limits) => self.park(rt, parking, limits),
@@ -81,6 +84,7 @@ impl Interrupts {
         ensures interrupted { result ≡ Interrupted → limits.interruptible ≡ true }
         ensures noted { result ≡ Interrupted → self.new.taken ≡ true }
         ensures kept { self.old.taken ≡ true → self.new.taken ≡ true }
+        ensures otherwise { result ≢ Interrupted → self.new.taken ≡ self.old.taken }
     {
         let woke = parking.park(rt, self.seat, limits.until, limits.interruptible);
         match woke {
@@ -92,9 +96,12 @@ impl Interrupts {
     }
 
     /// The call ends with this reply. An interrupt that it doesn't tell is pending again.
+    #[tactic(auto, using(crate::specs::Settled::settled))]
     pub(crate) fn settle<P: Parking>(self, parking: &P, reply: Result<Entry, Fault>)
         requires place { self.seat < P.seats parking.now }
-        ensures { self.taken ≡ true → tells_interrupt reply ≡ false → P.did parking.now (interrupted self.seat) }
+        ensures again { self.taken ≡ true → tells_interrupt reply ≡ false
+            → P.did parking.now (interrupted self.seat) }
+        ensures settled { IsSettled reply }
     {
         let Interrupts { seat, taken } = self;
         if taken && !tells_interrupt(reply) {

@@ -97,14 +97,17 @@ fn answer_all<P: Parking, R: Abort + Wait + Clock>(rt: &R, parking: &P, rows: &[
     }
 }
 
-/// An interrupt comes before a permit, and a permit before a deadline. A permit doesn't count. Signals of a
-/// seat are nothing to its neighbours.
-static IN_ORDER: [Row; 23] = deeds![
+/// An interrupt comes before a permit, and a permit before a deadline. A permit doesn't count. Who takes a
+/// permit leaves an interrupt, and the other way round. Signals of a seat are nothing to its neighbours.
+static IN_ORDER: [Row; 31] = deeds![
     Interrupt(0) => NONE, Unpark(0) => NONE, Unpark(0) => NONE, Park(0, None, true) => INTERRUPTED,
     Take(0) => NOT_SET, Park(0, None, false) => PERMIT, Park(0, Some(1), false) => DEADLINE,
     Interrupt(0) => NONE, Park(0, Some(2), false) => DEADLINE, Park(0, Some(0), true) => INTERRUPTED,
     Interrupt(0) => NONE, Take(0) => WAS_SET, Take(0) => NOT_SET, Unpark(0) => NONE,
-    Park(0, Some(0), true) => PERMIT, Park(0, Some(0), true) => DEADLINE, Unpark(254) => NONE,
+    Park(0, Some(0), true) => PERMIT, Park(0, Some(0), true) => DEADLINE,
+    Interrupt(1) => NONE, Unpark(1) => NONE, Park(1, None, false) => PERMIT, Take(1) => WAS_SET,
+    Interrupt(1) => NONE, Unpark(1) => NONE, Take(1) => WAS_SET, Park(1, Some(0), true) => PERMIT,
+    Unpark(254) => NONE,
     Interrupt(254) => NONE, Park(253, Some(0), true) => DEADLINE, Park(255, Some(0), true) => DEADLINE,
     Take(255) => NOT_SET, Park(254, Some(0), true) => INTERRUPTED, Park(254, Some(0), true) => PERMIT,
 ];

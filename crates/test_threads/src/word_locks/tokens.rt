@@ -132,6 +132,33 @@ fn two_add<R: Abort + Threads + Wait + Clock + Sync>(
     lock.join(x, y)
 }
 
+/// Two threads add entries while a third one does, and all tokens are joined.
+fn three_add<R: Abort + Threads + Wait + Clock + Sync>(
+    rt: &R,
+    lock: &WordLock<Notes>,
+    a: Token,
+    b: Token,
+    c: Token,
+) -> Token
+    requires one { IsReady lock.now 0 a }
+    requires two { IsReady lock.now 1 b }
+    requires three { IsReady lock.now 2 c }
+    ensures { (result.lock ≡ lock.now) × (result.free ≡ true) }
+{
+    let (two, z) = join(
+        rt,
+        move || -> Token
+            requires { IsReady lock.now 0 a × IsReady lock.now 1 b }
+            ensures { (result.lock ≡ lock.entry.now) × (result.free ≡ true) }
+        { two_add(rt, lock, a, b, (HOLDS, COMES)) },
+        move || -> Token
+            requires { IsReady lock.now 2 c }
+            ensures { IsReady lock.entry.now 2 result }
+        { add_all(rt, lock, c, 2, COMES_LATER) },
+    );
+    lock.join(two, z)
+}
+
 const MANY: Turns = Turns {
     count: 1000,
     before: 0,
@@ -174,6 +201,12 @@ const COMES: Turns = Turns {
     within: 0,
 };
 
+const COMES_LATER: Turns = Turns {
+    count: 1,
+    before: 150,
+    within: 0,
+};
+
 /// So much of a processor's time the two threads use at most, in milliseconds.
 const USED: u64 = 60;
 
@@ -188,6 +221,21 @@ fn one_who_sleeps_is_woken(rt: HostRuntime) {
         .saturating_sub(before);
     assert_eq!(rt; (notes.count_of(0), notes.count_of(1)), (1, 1));
     assert!(rt; used < Duration::from_millis(USED), "{used:?}");
+}
+
+/// Two sleep while a third one has the lock. Who is woken first wakes the other.
+#[test]
+fn who_was_woken_wakes_the_next(rt: HostRuntime) {
+    let notes = Notes::with_room(rt.alloc(), 0).expect(&rt, "memory");
+    let Ok((lock, mut tokens)) = WordLock::open(rt.alloc(), notes, 3) else {
+        panic!(rt; "memory")
+    };
+    let c = last(&lock, &mut tokens, 2);
+    let b = last(&lock, &mut tokens, 1);
+    let a = last(&lock, &mut tokens, 0);
+    let token = three_add(&rt, &lock, a, b, c);
+    let notes = lock.close(&rt, token);
+    assert_eq!(rt; notes.list.len(), 3);
 }
 
 /// Opens a lock, which has a token for each seat.

@@ -29,4 +29,4 @@ returns-clause-made g c =
     c.requires.interrupted c.args.request 0 c.begin-refusal.result c.in-Ends.reply _ c.begin-refusal.ensures.begun
     c.unpark.ensures
     (λ untold. subst (λ i. g.P.Parking.did c.args.parking.now (interrupted i)) c.requires.taken.0
-    (c.settle.ensures c.requires.taken.1 untold)) c.in-Ends.is
+    (c.settle.ensures.again c.requires.taken.1 untold)) c.in-Ends.is

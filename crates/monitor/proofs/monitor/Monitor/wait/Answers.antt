@@ -17,7 +17,7 @@ loop-init g c = (
   waits_first (g.P.Parking.did c.args.parking.now) c.args.pass.now c.args.waiting.stage c.args.waiting.limits
       c.is_true.ensures,
   refl,
-  c.none-interrupts.ensures ∙ c.seat.ensures,
+  c.none-interrupts.ensures.seat ∙ c.seat.ensures,
   c.requires.carries,
   λ _. refl,
 )
