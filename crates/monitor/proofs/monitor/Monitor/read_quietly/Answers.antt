@@ -1,4 +1,5 @@
-use Rattle.std.proofs.Common.{◌≡◌, Some, sym, ap, ◌∙◌}
+use Rattle.std.proofs.Common.{◌≡◌, Some, refl, sym, ap, ◌∙◌}
+use Rattle.std.proofs.lemmas.Fn.{gave_at}
 use Rattle.history.specs.declared.point.Point.{Point}
 use Rattle.word_lock.specs.Held.{held_ticket}
 use Rattle.monitor.specs.Lawful.{point_of}
@@ -26,11 +27,12 @@ returns-clause-shows g c = (looked g c).shows
 
 pub returns-clause-saw : goal.returns-clause-saw
 returns-clause-saw g c =
-    let seen = sym (looked g c).seen in (
-      c.history.result,
+    let core = ap point_of c.core.ensures in
+    let seen = core ∙ sym (looked g c).seen in (
+      c.history.result.now,
       (
         c.history.ensures.base ∙ ap (λ (p : Point). Some p.base) seen,
         c.history.ensures.entries ∙ ap (λ (p : Point). p.entries) seen,
       ),
-      (c.history.result-entry, c.read-answer.ensures, _),
+      gave_at g.F.FnOnce c.read-answer.ensures refl,
     )

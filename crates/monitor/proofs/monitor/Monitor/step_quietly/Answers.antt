@@ -112,7 +112,3 @@ returns-clause-moves g c =
     (free_of c.args.pass.now) (free_of new) before after
     (section_frees _ _ _ _ _ _ _ _ _ (went g c) ∙ ap (λ (z : ℤ). z +ℤ after) (ap free_of c.pass.view_is))
     c.step-answer.ensures.moves
-
-pub returns-in_default-clause-moves : goal.returns-in_default-clause-moves
-returns-in_default-clause-moves g c =
-    moves_none g.L.Load.is_counted g.L.Load.amount c.args.load.now (free_of c.args.pass.now)
