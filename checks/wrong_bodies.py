@@ -13,8 +13,8 @@ in the way, is tried once more without that one, and then alone, by rt's own rul
 one function's body.
 
 --anew           tries all, with a valid line or without
---sample SEED    tries some of those with a valid line again, by themselves, in an order that the seed decides, until
-                 the sample has taken five minutes of processor time
+--sample SEED    tries some of those with a valid line again, by themselves, in an order that the seed decides. None is
+                 begun after 150 seconds of processor time; with those under way it comes to some five minutes
 --built          the libraries stand as rt ci has just left them, and nothing else that earlier checks kept is taken
 --write          writes the ledger: a line for each that was refused now, or stands by its line. It needs --built
 A file that is no wrong body, a wrong body without a line and a line without a wrong body fail. The last line is
@@ -37,7 +37,7 @@ from trial import ONE_JOB, seconds, tried, tried_by_itself
 
 MEMORY = 2_000_000_000  # of a crate's checks, one at a time
 FEW = 5  # wrong bodies of a crate that are tried each by itself: more go into one check
-SAMPLE = 300  # processor seconds of the sample
+SAMPLE = 150  # processor seconds, after which no more of the sample are begun
 
 
 def tell(text):
