@@ -191,7 +191,7 @@ impl Queue {
         ensures joined { self.new.joined ≡ self.old.joined }
         ensures seats { self.new.seats ≡ self.old.seats }
     {
-        // The waiters keep their nodes.
+        // Those who wait stay where they stand.
         free_cancelled(&mut self.nodes);
     }
 

@@ -34,7 +34,7 @@ impl Ledger {
         self.holds.owner.is_none_or(|owner| owner == seat)
     }
 
-    /// Returns whether a call never has to queue up behind the waiters.
+    /// Returns whether the queue never holds this call back.
     fn is_reentrant(&self, seat: u16, mode: Mode) -> bool
         requires { seat < length self.now.holds.shared.items }
         ensures { (s : Start) (h : List Entry) → LedgerStand s h self.now →

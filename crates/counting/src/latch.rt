@@ -84,7 +84,7 @@ impl Hooks for LatchHooks {
     fn restore(&mut self, _who: u16, _holds: u32)
         ensures same { self.new ≡ self.old }
     {
-        // No seat of a latch waits on a condition, so none comes back with holds.
+        // No seat of a latch sleeps, so none comes back with holds.
     }
 
     fn drain(&mut self) -> u32 {

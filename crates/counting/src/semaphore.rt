@@ -99,7 +99,7 @@ impl Hooks for SemaphoreHooks {
     fn restore(&mut self, _who: u16, _holds: u32)
         ensures same { self.new ≡ self.old }
     {
-        // No seat of a semaphore waits on a condition, so none comes back with holds.
+        // No seat of a semaphore sleeps, so none comes back with holds.
     }
 
     fn drain(&mut self) -> u32 {

@@ -64,7 +64,7 @@ pub trait Hooks {
     fn at_limit(&self, who: u16, mode: Mode) -> bool
         ensures { (k : Counts) → agrees self.now k → result ≡ limit k who mode };
 
-    /// Returns whether a new call has to queue up behind the waiters.
+    /// Returns whether the queue holds a new call back.
     fn holds_back(&self, who: u16, mode: Mode, line: Line) -> bool
         ensures { (k : Counts) → agrees self.now k → result ≡ held_back k (line_mode line) who mode };
 

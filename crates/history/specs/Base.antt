@@ -25,8 +25,8 @@ pub record Base : Type 0 where
   pub seats : List SeatBase  -- what each seat has, in order
   pub unheld : ℕ  -- permits released beyond what was held
   pub count : ℕ  -- the count of a latch
-  pub line : List Standing  -- who waits in line
-  pub sleepers : List (List Sleeper)  -- who sleeps on each condition, in order
+  pub line : List Standing  -- who waits in the queue
+  pub sleepers : List (List Sleeper)  -- who waits on each condition, in order
 
 -- a value for each number below n
 abbrev pub each_below : {A : Type 0} → ℕ → (ℕ → A) → List A

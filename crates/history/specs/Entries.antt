@@ -9,7 +9,7 @@ use Rattle.history.specs.Start.{Start}
 
 pub record HistoryView : Type 0 where
   pub cap : ℕ  -- the greatest number of entries
-  pub base : Option Base  -- what the entries that were folded left, where it began on a base
+  pub base : Option Base  -- what the folded entries left, if it began on a base
   pub entries : List Entry  -- the newest first
   pub owed : ℕ  -- for how many entries more room stays reserved
   pub places : ℕ  -- how many entries the reserved memory holds

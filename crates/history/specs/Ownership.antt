@@ -32,7 +32,7 @@ pub record IsOwned (s : Start) (h : List Entry) : Type 0 where
   pub exclusive : (i : ℕ) → held s h i X ≤ most_exclusive s.header.object
   pub shared : total s.header.seats (λ i. held s h i S) ≤ most_shared s.header.object
 
--- a seat that sleeps, or is on its way back from a condition
+-- a seat that waits on a condition, or is on its way back from one
 abbrev pub is_away : Phase → Bool
 is_away Idle = false
 is_away (InLine a) = a.back

@@ -26,8 +26,8 @@ pub record Start : Type 0 where
   pub unheld : ℕ  -- permits released beyond what was held
   pub free : ℤ  -- free permits
   pub counted : ℕ  -- how often a latch was counted down
-  pub line : List Arrival  -- who waits in line
-  pub sleepers : ℕ → List ℕ  -- who sleeps on each condition
+  pub line : List Arrival  -- who waits in the queue
+  pub sleepers : ℕ → List ℕ  -- who waits on each condition
   pub last_sleep : ℕ → Sleep  -- the last sleep of each seat
   pub calls : ℕ  -- the calls that had ended
 

@@ -228,7 +228,7 @@ impl History {
     /// Folds all entries into the base, and returns how many there were. It allocates nothing. What is
     /// reserved and what is owed stay.
     ///
-    /// `TrimFull`: the base can't take so many entries more. Then nothing has changed.
+    /// `TrimFull`: the base's limit of folded entries would be passed. Then nothing has changed.
     pub fn fold(&mut self) -> Result<u64, Fault>
         // It began on a base, and its entries are legal from there.
         requires { IsSomeAnd self.old.base (λ base. MayFold base self.old.entries) }

@@ -17,12 +17,12 @@ use Rattle.history_text.specs.declared.base_line.BaseLine.TheVariants.{Folded, R
 pub record Told : Type 0 where
   pub entries : ℕ  -- how many entries were folded; 0 before the first line
   pub unheld : ℕ
-  pub seats : ℕ  -- how many seats were told
+  pub seats : ℕ  -- how many seats were read
   pub calls : ℕ  -- the calls that these ended, and their holds
   pub exclusive : ℕ
   pub shared : ℕ
-  pub waits : List Bool  -- whether a seat stands in line or sleeps
-  pub asleep : Bool  -- whether a sleeper was told, and on which condition the last one sleeps
+  pub waits : List Bool  -- whether a seat waits, in the queue or on a condition
+  pub asleep : Bool  -- whether a condition's waiter was read, and on which condition the last one waits
   pub condition : ℕ
 
 -- before any line

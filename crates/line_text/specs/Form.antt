@@ -7,7 +7,7 @@ use Rattle.history.specs.Text.{ended}
 pub record Form (H I : Type 0) : Type 1 where
   pub IsHeader : H → Type 0  -- the headers that have a line
   pub header_line : H → List ℕ
-  pub IsItem : H → List I → I → Type 0  -- the items that have a line under a header, behind these items
+  pub IsItem : H → List I → I → Type 0  -- the items that have a line under a header, after these items
   pub item_line : I → List ℕ
   pub MayEnd : H → List I → Type 0  -- the items that the end line may follow
   pub end_line : List I → List ℕ

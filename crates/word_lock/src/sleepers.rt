@@ -3,8 +3,8 @@
 //! | bits | meaning |
 //! |---|---|
 //! | 0 to 31 | how many wakes were sent, which the system compares as it puts a thread to sleep |
-//! | 32 | one who was woken is on the way |
-//! | 33 and up | how many threads are enlisted and no wake was sent for |
+//! | 32 | a woken thread is on its way |
+//! | 33 and up | how many threads are enlisted for which no wake was sent |
 //!
 //! **No wake is lost.** A thread enlists, reads the lock once more, and then sleeps unless a wake was sent
 //! since it enlisted. So there are never more threads asleep than enlisted. A thread that unlocks takes one

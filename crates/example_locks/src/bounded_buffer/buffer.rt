@@ -122,7 +122,7 @@ pub fn produce<P: Parking, R: Wait + Clock>(
     Ok(pass)
 }
 
-/// Takes so many numbers, and adds them up.
+/// Takes `items` numbers, and adds them up.
 pub fn consume<P: Parking, R: Wait + Clock>(
     rt: &R,
     parking: &P,

@@ -2,7 +2,6 @@
 //!
 //! Nearly all steps are of this kind. They move nobody and name nobody, so they need no more of the queue and
 //! the conditions. All other steps take the general path.
-//! who sleep for more than that. All other steps go the general way.
 
 ghost use Rattle.std.specs.Prelude.{◌≡◌, ◌<◌, [], true, not, is_none, int_lt, pos, ◌+ℤ◌, IfSome, IfNone, IsTrue};
 ghost use Rattle.deciding.specs.Balance.{available};

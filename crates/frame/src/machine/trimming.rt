@@ -14,7 +14,7 @@ impl<H: Hooks + Drop> Core<H> {
     ///
     /// Only base and list change. Who holds, who waits and which room is owed stays.
     ///
-    /// `TrimFull`: the base can't take so many entries more. Then nothing has changed.
+    /// `TrimFull`: the base's limit of folded entries would be passed. Then nothing has changed.
     pub fn trim(&mut self) -> Result<u64, Fault>
         ensures count { IfOk result (λ count. count ≡ length self.old.entries) }
         ensures trimmed { OnOk result (self.new ≡ trimmed self.old) }
