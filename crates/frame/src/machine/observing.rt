@@ -71,7 +71,6 @@ impl<H: Hooks + Drop> Core<H> {
     /// queue is overtaken. What is owed has room and places, and the history's length fits in 32 bits. The
     /// head of the queue is marked if it could go, no seat outside the queue is marked, and each seat has one
     /// mark.
-
     pub fn recall_lawful(&self)
         ensures header { self.now.base.header ≡ self.now.header }
         ensures may_fold { MayFold self.now.base self.now.entries }
