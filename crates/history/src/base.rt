@@ -177,7 +177,7 @@ fn calls_at(seats: &[SeatBase], seat: u16) -> u64
     }
 }
 
-/// The number that a latch counts down from.
+/// Returns the number that a latch counts down from, or 0 for any other object.
 pub fn opening_count(object: Object) -> u32
     ensures { result ≡ opening_count object }
 {

@@ -66,7 +66,7 @@ impl BaseUnderWay {
         })
     }
 
-    /// States that a base doesn't have more lines.
+    /// States how many lines a base has at most.
     fn recall_few(&self)
         ensures { length self.now.lines ≤ 513 }
     {

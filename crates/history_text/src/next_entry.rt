@@ -42,7 +42,7 @@ pub fn head_of(text: &[u8]) -> Result<(Head, &[u8]), TextFault>
     }
 }
 
-/// The same for a text that doesn't begin with the first line of a history without a base.
+/// As `head_of`, for a text whose first line isn't of format 1.
 fn based_head(text: &[u8]) -> Result<(Head, &[u8]), TextFault>
     requires { (fault : TextFault) × LacksHeader (codes "aqs-history 1 ") text.now fault }
     ensures ok { IfOk result (λ r. Begins history_form text.now r.0 [] r.1.now) }

@@ -1,4 +1,4 @@
-//! A parking that records what a monitor asks of it, and whose parks end when a test wants it.
+//! A parking that records what a monitor asks of it, and whose parks end when the test lets them.
 ghost use Rattle.std.specs.Prelude.{◌≡◌, ◌<◌};
 
 use history::fault::Fault;

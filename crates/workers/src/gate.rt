@@ -18,7 +18,7 @@ pub trait Gate {
     fn before<R: Wait + Clock>(&self, rt: &R, worker: u16, call: u64) -> bool
         ensures { answers self.now worker call result };
 
-    /// The call has returned.
+    /// Is called after the worker's call has returned.
     fn after<R: Wait + Clock>(&self, rt: &R, worker: u16, call: u64);
 }
 
