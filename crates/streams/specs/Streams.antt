@@ -36,14 +36,14 @@ pub record AreReadAhead {H I : Type 0} (form : Form H I) (text left : List ℕ) 
   pub begins : Begins form text header items (window ++ left)
   pub few : length window ≤ room
 
--- only the lines of items and at most a window's bytes were read, if the text is such that reads can be
--- counted
+-- only the lines of items and at most a window's bytes were read, unless the text has more bytes than reads
+-- that can be counted
 abbrev pub IsReadNoFurther : {H I : Type 0} → Form H I → Option (List ℕ) → Option (List ℕ) → Type 0
 IsReadNoFurther form text left =
     IfSome text (λ t. IsTooLong t ⊎ IsSomeAnd left (λ rest. (rest ≡ t) ⊎ AreReadAhead form t rest))
 
--- on success, and after a fault of the text, the source was read to its end before anything was written;
--- after a failed allocation nothing more is read
+-- the source was read to its end before anything was written, also after a fault of the text; after a failed
+-- allocation nothing more is read
 abbrev pub IsReadOut : {H I T : Type 0} → Form H I → Option (List ℕ) → Result T StreamFault →
     Option (List ℕ) →
     Type 0
