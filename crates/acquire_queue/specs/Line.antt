@@ -1,4 +1,4 @@
--- The line as contracts see it, and how the fields of a queue hold it.
+-- The wait queue as contracts see it, and how the fields of a queue represent it.
 use Rattle.std.specs.Prelude.{◌≡◌, ℕ, ◌+◌, ◌<◌, ◌≤◌, ◌^◌, ◌==◌, Bool, false, not, ◌&&◌, if◌then◌else◌, List, [], ◌∷◌, length, filter, slice_get, slice_index_or, Option, Some, None, nat_lt}
 use Rattle.history.specs.declared.arrival.Arrival.{Arrival}
 use Rattle.history.specs.Line.{place_of}
@@ -6,15 +6,15 @@ use Rattle.node_arena.specs.declared.node.NodeNo.{NodeNo}
 use Rattle.node_arena.specs.declared.node.Standing.{Standing}
 use Rattle.node_arena.specs.NodeList.{Nodes, StandApart, cancel_at, standing_before}
 
--- Who stands in line, the longest waiter first, how many seats there are, how often anybody joined, and the
--- nodes that stand, those of seats that left among them.
+-- The number of seats, how many ever joined, the waiters (the longest waiting first), and all nodes, with the
+-- cancelled ones.
 pub record Line : Type 0 where
   pub seats : ℕ
   pub joined : ℕ
   pub arrivals : List Arrival
   pub nodes : List Standing
 
--- each seat stands in line once at most
+-- each seat is in the queue at most once
 abbrev pub StandOnce : List Arrival → Type 0
 StandOnce [] = Unit {0}
 StandOnce (a ∷ rest) = (place_of a.seat rest ≡ None) × StandOnce rest
@@ -23,19 +23,19 @@ StandOnce (a ∷ rest) = (place_of a.seat rest ≡ None) × StandOnce rest
 abbrev pub is_live : Standing → Bool
 is_live x = not x.node.cancelled
 
--- what the nodes ask for that aren't cancelled, in order
+-- the arrivals of the nodes that aren't cancelled, in order
 abbrev pub live : List Standing → List Arrival
 live [] = []
 live (x ∷ rest) = if x.node.cancelled then live rest else x.node.arrival ∷ live rest
 
--- the number of a seat's node that isn't cancelled
+-- the number of a seat's node, if it isn't cancelled
 abbrev pub number_of : ℕ → List Standing → Option NodeNo
 number_of i [] = None
 number_of i (x ∷ rest) =
     if x.node.cancelled then number_of i rest
     else (if x.node.arrival.seat == i then Some x.number else number_of i rest)
 
--- the nodes from the first on that isn't cancelled
+-- the nodes from the first one on that isn't cancelled
 abbrev pub trimmed : List Standing → List Standing
 trimmed [] = []
 trimmed (x ∷ rest) = if x.node.cancelled then trimmed rest else x ∷ rest
@@ -44,17 +44,17 @@ trimmed (x ∷ rest) = if x.node.cancelled then trimmed rest else x ∷ rest
 abbrev pub swept : List Standing → List Standing
 swept = filter is_live
 
--- whether the first that waits is of a seat
+-- whether the first waiter is this seat
 abbrev pub is_first : ℕ → List Arrival → Bool
 is_first i [] = false
 is_first i (a ∷ rest) = a.seat == i
 
--- the nodes without the cancelled ones right before the node of a seat that waits
+-- the nodes without the cancelled ones right before a waiter's
 abbrev pub tidied : ℕ → List Standing → List Standing
 tidied i [] = []
 tidied i (x ∷ rest) = if x.node.cancelled && is_first i (live rest) then tidied i rest else x ∷ tidied i rest
 
--- what stands right before the node of a seat that waits isn't cancelled
+-- the node right before a waiter's isn't cancelled
 abbrev pub IsTidy : ℕ → List Standing → Type 0
 IsTidy i nodes = (k : ℕ) (before x : Standing) → standing_before nodes k ≡ Some before →
     slice_get nodes k ≡ Some x →
@@ -65,20 +65,20 @@ abbrev pub LiveHead : List Standing → Type 0
 LiveHead [] = Unit {0}
 LiveHead (x ∷ rest) = x.node.cancelled ≡ false
 
--- the nodes once a node leaves: the head goes with the cancelled ones behind it, any other is marked
+-- the nodes after one leaves: the head is freed with the cancelled ones after it, any other node is marked
 abbrev pub left_by : NodeNo → List Standing → List Standing
 left_by number [] = []
 left_by number (x ∷ rest) =
     if x.number.place == number.place then trimmed rest else cancel_at number.place (x ∷ rest)
 
--- How many nodes stand once a seat leaves from between others: as many as before, or those who wait alone,
--- where more than `seats` cancelled ones would stand.
+-- How many nodes are left when a seat leaves from between others: as many as before. If more than `seats` of
+-- them would be cancelled, only the waiters' nodes are left.
 abbrev pub standing_behind : ℕ → ℕ → ℕ → ℕ
 standing_behind seats waiting standing = if nat_lt (waiting + seats) standing then waiting else standing
 
--- The table has the number of the node of each seat in line, at most one node is cancelled for each seat, and
--- there are two places for each seat. Since a seat stands in line once at most, a place is free for one that
--- doesn't.
+-- The table has the number of each waiter's node. There are at most as many cancelled nodes as seats, and two
+-- places for each seat. A seat is in the queue at most once, so there is a free place for a seat that isn't
+-- in it.
 pub record IsKept (seats waiting : ℕ) (n : Nodes) (table : List (Option NodeNo)) : Type 0 where
   pub once : StandOnce (live n.nodes)
   pub tabled : (i : ℕ) → slice_index_or table i None ≡ number_of i n.nodes

@@ -1,8 +1,8 @@
-//! The line of a synchroniser: those who wait to acquire, the longest waiter first.
+//! The wait queue of a synchroniser: the threads that wait to acquire, the longest waiting first.
 //!
-//! A queue is seen as a list of arrivals with at most one a seat, and as the nodes that hold them, those of
-//! seats that left among them. All its places are reserved when it is opened, so nothing that happens later
-//! needs memory.
+//! Contracts see a queue as a list of arrivals, at most one for each seat, and as the nodes that hold them,
+//! with the cancelled nodes of seats that left. All places are reserved when the queue is opened, so nothing
+//! later allocates.
 #![tactic(auto)]
 
 pub mod queue;

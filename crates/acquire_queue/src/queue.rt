@@ -14,18 +14,18 @@ use node_arena::node_list::NodeList;
 use std::alloc::Global;
 use std::marker::Model;
 
-/// The line of an object: one place at most for each of its seats, the longest waiter first.
+/// The wait queue of an object: at most one place for each of its seats, the longest waiting first.
 ///
-/// A seat that leaves from between others leaves its node behind, marked as cancelled, so nobody has to be
-/// looked for and nothing is moved. A cancelled node is freed once it comes to the head, or once the next
-/// seat that waits looks. All of them are freed as soon as more stand than there are seats.
+/// A seat that leaves from between others leaves its node in place, marked as cancelled. So nothing is
+/// searched and nothing is moved. A cancelled node is freed when it comes to the head, or when the waiter
+/// after it retries. All cancelled nodes are freed when there are more of them than seats.
 #[derive(Drop)]
 pub struct Queue {
     seats: u16,
     /// How many nodes aren't cancelled.
     waiting: u16,
     nodes: NodeList,
-    /// The number of the node of each seat in line, so that nobody has to be looked for.
+    /// The number of each waiter's node, so that no node is searched for.
     table: Vec<Option<NodeNo>>,
 }
 
@@ -45,8 +45,8 @@ impl Model for Queue {
 }
 
 impl Queue {
-    /// An empty line for so many seats. It reserves all that the line will ever take; `OutOfMemory` is
-    /// the only fault.
+    /// Returns an empty queue for `seats` seats. It reserves all that the queue will ever need. The only
+    /// fault is `OutOfMemory`.
     pub fn open(alloc: Global, seats: u16) -> Result<Queue, Fault>
         ensures empty { IfOk result (λ queue. queue.arrivals ≡ []) }
         ensures seats { IfOk result (λ queue. queue.seats ≡ seats) }
@@ -64,7 +64,7 @@ impl Queue {
         })
     }
 
-    /// Puts a seat that doesn't stand in line at its end. It takes no memory.
+    /// Puts a seat that isn't in the queue at its end. It allocates nothing.
     pub fn join(&mut self, arrival: Arrival)
         requires seat { arrival.seat < self.old.seats }
         requires absent { place_of arrival.seat self.old.arrivals ≡ None }
@@ -82,29 +82,29 @@ impl Queue {
         self.waiting += 1;
     }
 
-    /// How often anybody joined since the opening, those moved here from a condition too.
+    /// Returns how many joined since the opening, with those that were moved here from a condition.
     pub fn joined(&self) -> u64
         ensures { result ≡ self.now.joined }
     {
         self.nodes.placed()
     }
 
-    /// The longest waiter.
+    /// Returns the head of the queue: the longest waiter.
     pub fn first(&self) -> Option<Arrival>
         ensures { result ≡ first_of self.now.arrivals }
     {
         Some(self.nodes.first()?.node.arrival)
     }
 
-    /// Takes the longest waiter out of the line.
+    /// Removes the head of the queue and returns it.
     pub fn take_first(&mut self) -> Option<Arrival>
         ensures first { result ≡ first_of self.old.arrivals }
         ensures line { self.new.arrivals ≡ drop 1 self.old.arrivals }
 
-        // Its node goes with those of seats that left right behind it.
+        // Its node is freed, with the cancelled ones right after it.
         ensures nodes { self.new.nodes ≡ trimmed (drop 1 self.old.nodes) }
 
-        // The same, by its seat.
+        // The same, as the removal of its seat.
         ensures left { IfSome result (λ first.
             self.new.arrivals ≡ filter (λ a. not (first.seat == a.seat)) self.old.arrivals) }
         ensures joined { self.new.joined ≡ self.old.joined }
@@ -119,7 +119,7 @@ impl Queue {
         Some(arrival)
     }
 
-    /// Takes a seat out of the line, wherever it stands, and tells whether it stood there.
+    /// Takes a seat out of the queue, wherever it is, and returns whether it was there.
     pub fn leave(&mut self, seat: u16) -> bool
         ensures stood { result ≡ is_some (place_of seat self.old.arrivals) }
         ensures line { self.new.arrivals ≡ filter (λ a. not (seat == a.seat)) self.old.arrivals }
@@ -144,7 +144,7 @@ impl Queue {
         true
     }
 
-    /// How many stand before a seat; `None` where it doesn't stand in line.
+    /// Returns how many wait before a seat, or `None` if it isn't in the queue.
     pub fn position(&self, seat: u16) -> Option<u16>
         ensures position { result ≡ position (λ a. a.seat == seat) self.now.arrivals }
         ensures stands { is_some result ≡ is_some (place_of seat self.now.arrivals) }
@@ -153,7 +153,7 @@ impl Queue {
         place_in(&self.nodes, seat)
     }
 
-    /// What a seat in line asks for, found in one step.
+    /// Returns what a seat in the queue asks for, in constant time.
     pub fn arrival_of(&self, seat: u16) -> Option<Arrival>
         ensures { result ≡ place_of seat self.now.arrivals }
     {
@@ -161,7 +161,7 @@ impl Queue {
         Some(self.nodes.get(number)?.arrival)
     }
 
-    /// The number of a seat's node.
+    /// Returns the number of a seat's node.
     fn number_of(&self, seat: u16) -> Option<NodeNo>
         ensures number { result ≡ number_of seat self.now.nodes }
         ensures live { self.now.arrivals ≡ live self.now.nodes }
@@ -169,7 +169,7 @@ impl Queue {
         *self.table.get(seat as usize)?
     }
 
-    /// How many stand in line.
+    /// Returns how many seats wait.
     pub fn live_len(&self) -> u16
         ensures len { result ≡ length self.now.arrivals }
         ensures once { StandOnce self.now.arrivals }
@@ -184,7 +184,7 @@ impl Queue {
         self.waiting == 0
     }
 
-    /// Gives back what those who left still take up. The line is as it was.
+    /// Frees all cancelled nodes. The queue is as before.
     pub fn sweep(&mut self)
         ensures nodes { self.new.nodes ≡ swept self.old.nodes }
         ensures line { self.new.arrivals ≡ self.old.arrivals }
@@ -195,12 +195,12 @@ impl Queue {
         free_cancelled(&mut self.nodes);
     }
 
-    /// Frees the nodes of those who left right before a seat that waits. The line is as it was.
+    /// Frees the cancelled nodes right before a waiter. The queue is as before.
     pub fn tidy_before(&mut self, seat: u16)
         ensures nodes { self.new.nodes ≡ tidied seat self.old.nodes }
         ensures tidy { IsTidy seat self.new.nodes }
 
-        // Nothing changes if none left right before it, or if the seat doesn't wait.
+        // Nothing changes if no cancelled node is right before it, or if the seat doesn't wait.
         ensures kept { IsTidy seat self.old.nodes → self.new ≡ self.old }
         ensures absent { place_of seat self.old.arrivals ≡ None → self.new ≡ self.old }
         ensures number { number_of seat self.new.nodes ≡ number_of seat self.old.nodes }
@@ -213,7 +213,7 @@ impl Queue {
         }
     }
 
-    /// How many nodes stand, those of seats that left among them.
+    /// Returns how many nodes there are, with the cancelled ones.
     pub fn standing(&self) -> u16
         requires { self.now.seats < 2 ^ 15 }
         ensures standing { result ≡ length self.now.nodes }
@@ -223,7 +223,7 @@ impl Queue {
     }
 }
 
-/// The head's node leaves with the cancelled ones behind it, any other one is marked and stays.
+/// Takes out a node. The head is freed with the cancelled nodes after it; any other node is marked and stays.
 fn leave_node(nodes: &mut NodeList, number: NodeNo)
     requires { IsSome (under number nodes.old.nodes) }
     ensures nodes { nodes.new.nodes ≡ left_by number nodes.old.nodes }
@@ -255,7 +255,7 @@ fn free_head(nodes: &mut NodeList)
     }
 }
 
-/// Frees the cancelled nodes right before the node of a seat that waits.
+/// Frees the cancelled nodes right before a waiter's node.
 fn free_before(nodes: &mut NodeList, seat: u16, number: NodeNo)
     requires number { number_of seat nodes.old.nodes ≡ Some number }
     requires once { StandOnce (live nodes.old.nodes) }
@@ -287,7 +287,7 @@ fn free_cancelled(nodes: &mut NodeList)
     }
 }
 
-/// How many that aren't cancelled stand before a seat.
+/// Returns how many nodes that aren't cancelled are before a seat's.
 fn place_in(nodes: &NodeList, seat: u16) -> Option<u16>
     requires { length (live nodes.now.nodes) < 2 ^ 16 }
     ensures { result ≡ position (λ a. a.seat == seat) (live nodes.now.nodes) }

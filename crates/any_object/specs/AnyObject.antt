@@ -1,4 +1,4 @@
--- What the hooks of any object stand for: what the hooks of its kind stand for.
+-- What the hooks of any object represent: the same as the hooks of its kind.
 use Rattle.std.specs.Prelude.{◌≡◌, ℕ}
 use Rattle.history.specs.declared.header.Object.{Object}
 use Rattle.history.specs.declared.header.Object.TheVariants as object

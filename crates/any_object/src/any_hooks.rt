@@ -1,4 +1,4 @@
-//! The hooks of any object, by the hooks of its kind.
+//! The hooks of any object: one enum over the hooks of each kind.
 
 ghost use Rattle.std.specs.Prelude.{◌≡◌, IfOk, OnErr, Err};
 ghost use Rattle.any_object.specs.AnyObject.{object_of, IsOpened, IsReadWrite};
@@ -23,12 +23,12 @@ pub enum AnyHooks {
 }
 
 impl AnyHooks {
-    /// The hooks of a header's object, as opened for its seats.
+    /// Returns the hooks of a header's object, as opened for its seats.
     ///
     /// # Errors
     ///
-    /// [`Fault::OutOfMemory`] if the table of a read-write lock's seats is refused. The hooks of the other
-    /// objects take no memory.
+    /// [`Fault::OutOfMemory`] if the table of a read-write lock's seats can't be allocated. The hooks of the
+    /// other objects allocate nothing.
     pub fn open(alloc: Global, header: &Header) -> Result<AnyHooks, Fault>
         ensures object { IfOk result (λ hooks. object_of hooks ≡ header.now.object) }
         ensures opened { IfOk result (λ hooks. IsOpened hooks header.now.seats) }
@@ -132,7 +132,7 @@ impl Hooks for AnyHooks {
         match self {
             AnyHooks::Lock(hooks) => hooks.restore(who, holds),
             AnyHooks::ReadWrite(hooks) => hooks.restore(who, holds),
-            // No seat of these sleeps, so none comes back with holds.
+            // No seat of these waits on a condition, so none comes back with holds.
             AnyHooks::Semaphore(hooks) => hooks.restore(who, holds),
             AnyHooks::Latch(hooks) => hooks.restore(who, holds),
         }

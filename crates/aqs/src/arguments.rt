@@ -18,7 +18,7 @@ pub struct Asked {
     pub file: Option<String>,
 }
 
-/// What the parser's error is to the program.
+/// Returns the program's fault for a parser's error.
 fn fault_of(error: Error) -> Fault {
     match error.kind() {
         ErrorKind::OutOfMemory => Fault::Memory,
@@ -26,7 +26,7 @@ fn fault_of(error: Error) -> Fault {
     }
 }
 
-/// The number that an option gives, or none where it isn't there.
+/// Returns the number that an option gives, or None if the option is missing.
 fn number_in(asked: &ArgMatches<'_>, name: &str, bad: Fault) -> Result<Option<u64>, Fault> {
     match asked.get_str(name) {
         None => Ok(None),
@@ -37,7 +37,7 @@ fn number_in(asked: &ArgMatches<'_>, name: &str, bad: Fault) -> Result<Option<u6
     }
 }
 
-/// Which entries are asked for: the first may not stand behind the last.
+/// Returns which entries are chosen. The first may not come after the last.
 fn choice_in(asked: &ArgMatches<'_>) -> Result<Choice, Fault> {
     let from = number_in(asked, "from", Fault::BadFrom)?;
     let to = number_in(asked, "to", Fault::BadTo)?;
@@ -47,30 +47,30 @@ fn choice_in(asked: &ArgMatches<'_>) -> Result<Choice, Fault> {
     }
 }
 
-/// An option `--NAME`.
+/// Returns an option `--NAME`.
 fn option<'a>(alloc: Global, name: &'a str, action: ArgAction) -> Arg<'a> {
     Arg::new(alloc, name).long(name).action(action)
 }
 
-/// A command that reads a text: `NAME [FILE]`.
+/// Returns a command that reads a text: `NAME [FILE]`.
 fn reader<'a>(alloc: Global, name: &'a str) -> Result<Command<'a>, AllocError> {
     Command::new(alloc, name).arg(Arg::new(alloc, "file"))
 }
 
-/// `replay [--history] [FILE]`
+/// Returns `replay [--history] [FILE]`.
 fn replay<'a>(alloc: Global) -> Result<Command<'a>, AllocError> {
     let replay = reader(alloc, "replay")?;
     replay.arg(option(alloc, "history", ArgAction::SetTrue))
 }
 
-/// `draw [--from NUMBER] [--to NUMBER] [FILE]`
+/// Returns `draw [--from NUMBER] [--to NUMBER] [FILE]`.
 fn draw<'a>(alloc: Global) -> Result<Command<'a>, AllocError> {
     let draw = reader(alloc, "draw")?;
     let draw = draw.arg(option(alloc, "from", ArgAction::Set))?;
     draw.arg(option(alloc, "to", ArgAction::Set))
 }
 
-/// The program with one command more.
+/// Adds a command to the program.
 fn with<'a>(
     program: Command<'a>,
     command: Result<Command<'a>, AllocError>,
@@ -78,7 +78,7 @@ fn with<'a>(
     program.subcommand(command?)
 }
 
-/// The program with all its commands.
+/// Returns the program with all its commands.
 fn program<'a>(alloc: Global) -> Result<Command<'a>, AllocError> {
     let program = with(Command::new(alloc, "aqs"), replay(alloc))?;
     let program = with(program, reader(alloc, "audit"))?;
@@ -86,7 +86,7 @@ fn program<'a>(alloc: Global) -> Result<Command<'a>, AllocError> {
     with(program, draw(alloc))
 }
 
-/// What a command with these options is to do.
+/// Returns what a command with these options is to do.
 fn job_of(name: &str, options: &ArgMatches<'_>) -> Result<Job, Fault> {
     Ok(match name {
         "run" => Job::Run,
@@ -97,7 +97,7 @@ fn job_of(name: &str, options: &ArgMatches<'_>) -> Result<Job, Fault> {
     })
 }
 
-/// The file that a command names, if it names one.
+/// Returns the file that a command names, if it names one.
 fn file_in(alloc: Global, options: &ArgMatches<'_>) -> Result<Option<String>, Fault> {
     match options.get_str("file") {
         None => Ok(None),
@@ -107,7 +107,7 @@ fn file_in(alloc: Global, options: &ArgMatches<'_>) -> Result<Option<String>, Fa
     }
 }
 
-/// What the parsed words ask for. Without a command, standard input is replayed.
+/// Returns what the parsed words ask for. Without a command, standard input is replayed.
 fn asked_by(alloc: Global, words: &ArgMatches<'_>) -> Result<Asked, Fault> {
     let Some((name, options)) = words.subcommand() else {
         return Ok(Asked {
@@ -120,7 +120,7 @@ fn asked_by(alloc: Global, words: &ArgMatches<'_>) -> Result<Asked, Fault> {
     Ok(Asked { job, file })
 }
 
-/// What the words of a command line ask for, the program's name first.
+/// Returns what the words of a command line ask for. The first word is the program's name.
 pub fn arguments<S: AsStr>(alloc: Global, words: &[S]) -> Result<Asked, Fault> {
     let program = program(alloc)?;
     let words = program.try_get_matches_from(words).map_err(fault_of)?;

@@ -2,10 +2,10 @@
 
 use std::io::{self, Read};
 
-/// Where the text comes from. As one type, so that what answers it is compiled once and into one loop.
+/// The source of the text. It is one type, so that the code which reads it is compiled once.
 #[derive(Drop)]
 pub enum Input<I, F> {
-    /// What is given to a program where no file is named.
+    /// Standard input, if no file is named.
     Given(I),
     /// The file that was named.
     Named(F),

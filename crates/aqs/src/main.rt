@@ -1,13 +1,13 @@
 //! The program `aqs`: replays the steps of a synchroniser's seats, audits and draws histories, and runs
 //! threads.
 //!
-//! `aqs replay [FILE]` reads a steps text, from standard input where no file is named, and writes its
-//! replay text to standard output, or with `--history` its history text. `aqs audit [FILE]` reads a history
-//! text and writes its audit text; the status is 1 where the history isn't legal. `aqs draw [FILE]` writes a
-//! picture of a history as an SVG document, with the same status; `--from` and `--to` choose entries. `aqs
-//! run [FILE]` reads a script, runs its threads, and writes the history of each of its objects with what the
-//! audit says of it. With no words at all it replays. A fault is one line on standard error, and nothing has
-//! been written then, but for a fault of writing itself.
+//! `aqs replay [FILE]` reads a steps text, from standard input if no file is named. It writes the replay text
+//! to standard output, or with `--history` the history text. `aqs audit [FILE]` reads a history text and
+//! writes its audit text. The exit status is 1 if the history isn't legal. `aqs draw [FILE]` writes a picture
+//! of a history as an SVG document, with the same status. `--from` and `--to` choose entries. `aqs run
+//! [FILE]` reads a script and runs its threads. It writes the history of each of its objects, with the
+//! audit's lines on it. Without any words the program replays. A fault is printed on standard error, in one
+//! line. Nothing has been written then, unless writing itself failed.
 #![tactic(auto)]
 
 mod arguments;
@@ -32,7 +32,7 @@ use tasks::run_script::run_script;
 use tasks::task::Job;
 use tasks::told::told;
 
-/// Does a job with what a reader gives.
+/// Does a job, with the text from a reader.
 fn finish<R: AllocGlobal + Threads + Wait + Clock + Sync, I: Read + Drop, O: Write + Drop>(
     rt: &R,
     job: Job,
@@ -47,7 +47,7 @@ fn finish<R: AllocGlobal + Threads + Wait + Clock + Sync, I: Read + Drop, O: Wri
     }
 }
 
-/// Does what the words ask for, with a file's text or else with what is given.
+/// Does what the words ask for, with the text of a file or else of standard input.
 fn run<
     R: Files + AllocGlobal + Threads + Wait + Clock + Sync,
     S: AsStr,
@@ -65,7 +65,7 @@ fn run<
     finish(rt, job, input, output)
 }
 
-/// The words of the command line.
+/// Returns the words of the command line.
 fn words<R: Env + AllocGlobal>(rt: &R) -> Result<Vec<String>, Fault> {
     match env::args(rt) {
         Ok(words) => Ok(words.collect(rt.alloc())?),

@@ -1,4 +1,4 @@
--- What an auditor knows of the entries so far.
+-- What an auditor knows about the entries so far.
 use Rattle.std.specs.Prelude.{◌≡◌, ◌<◌, ◌+◌, ◌^◌, ℕ, List, length, Option, None, Some}
 use Rattle.history.specs.declared.entry.Entry.{Entry}
 use Rattle.history.specs.Legal.{IsLegal}
@@ -8,17 +8,17 @@ use Rattle.audit.specs.declared.ledger.Ledger.{Ledger}
 use Rattle.audit.specs.Ledger.{LedgerStand}
 use Rattle.audit.specs.Verdict.{IsFirstWrong}
 
--- they are legal and the ledger stands for them, or this is the first that isn't legal
+-- they are legal and the ledger represents them, or this is the first illegal one
 abbrev pub IsSoFar : Start → List Entry → Ledger → Option ℕ → Type 0
 IsSoFar s h ledger None = LedgerStand s h ledger
 IsSoFar s h ledger (Some number) = IsFirstWrong s h number × (IsLegal s h → ⊥)
 
--- these entries behind a start were followed
+-- these entries after a start were judged
 pub record HasJudged (s : Start) (h : List Entry) (a : Auditor) : Type 0 where
   pub count : a.count ≡ length h
   pub so_far : IsSoFar s h a.ledger a.wrong
 
--- one that has followed some entries, of which there may be one more, of one of the seats
+-- one that has judged some entries, after which one more of one of the seats may come
 pub record CanFollow (a : Auditor) (e : Entry) : Type 0 where
   pub start : Start
   pub entries : List Entry
@@ -26,7 +26,7 @@ pub record CanFollow (a : Auditor) (e : Entry) : Type 0 where
   pub seat : e.seat < start.header.seats
   pub room : length entries + 1 < 2 ^ 32
 
--- one that has followed some entries
+-- one that has judged some entries
 pub record IsAuditor (a : Auditor) : Type 0 where
   pub start : Start
   pub entries : List Entry

@@ -1,4 +1,4 @@
--- What the audit's tables of holds stand for.
+-- What the audit's tables of holds represent.
 use Rattle.std.specs.Prelude.{◌≡◌, ◌≢◌, ℕ, ◌*◌, ◌<◌, ◌≤◌, List, length, slice_index, true, Option, Some, None, nat_lt, if◌then◌else◌}
 use Rattle.deciding.specs.Holds.{most_held}
 use Rattle.history.specs.declared.entry.Entry.{Entry}
@@ -20,10 +20,10 @@ pub record HoldsStand (s : Start) (h : List Entry) (holds : Holds) : Type 0 wher
   pub exclusive_bound : (i : ℕ) → held s h i X ≤ most_held most_permits h
   pub shared_bound : readers (counts s h) ≤ most_held (most_permits * 256) h
 
--- whoever has exclusive holds is the only one
+-- a seat that has exclusive holds is the only one
 abbrev pub IsOnlyOwner : Start → List Entry → Type 0
 IsOnlyOwner s h = (i j : ℕ) → 0 < held s h i X → i ≢ j → held s h j X ≡ 0
 
--- the owner, once a seat has so many exclusive holds
+-- the owner after a seat has `has` exclusive holds
 abbrev pub owner_after : Option ℕ → ℕ → ℕ → Option ℕ
 owner_after owner i has = if nat_lt 0 has then Some i else if is_seat owner i then None else owner

@@ -1,4 +1,4 @@
--- What the audit's ledger stands for: a legal front of a history.
+-- What the audit's ledger represents: the first entries of a legal history.
 use Rattle.std.specs.Prelude.{◌≡◌, ◌<◌, ◌+◌, ◌^◌, ℕ, List, length, Ok, Some}
 use Rattle.history.specs.declared.entry.Entry.{Entry}
 use Rattle.history.specs.declared.step.Step.{Step}
@@ -17,7 +17,7 @@ pub record LedgerStand (s : Start) (h : List Entry) (l : Ledger) : Type 0 where
   pub numbers : AreAmounts s h l.amounts
   pub past : IsHistory s h
 
--- a ledger that stands for some front with room for one more entry, and one of its seats
+-- a ledger of some entries, after which one more may come, and one of its seats
 pub record HasSeat (l : Ledger) (i : ℕ) : Type 0 where
   pub start : Start
   pub front : List Entry
@@ -25,13 +25,13 @@ pub record HasSeat (l : Ledger) (i : ℕ) : Type 0 where
   pub seat : i < start.header.seats
   pub room : length front + 1 < 2 ^ 32
 
--- a ledger that stands for some front
+-- a ledger of some entries
 pub record IsLedger (l : Ledger) : Type 0 where
   pub start : Start
   pub front : List Entry
   pub stand : LedgerStand start front l
   pub room : length front < 2 ^ 32
 
--- whether some step of its seat makes an entry behind a front
+-- whether some step of its seat makes an entry after these entries
 abbrev pub IsNext : Start → List Entry → Entry → Type 0
 IsNext s h e = (step : Step) × (entry_for s h e.seat step ≡ Ok (Some e))

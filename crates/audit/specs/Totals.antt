@@ -1,4 +1,4 @@
--- What a history adds up to.
+-- The totals of a history.
 use Rattle.std.specs.Prelude.{List, length, ℤ, pos, ◌+ℤ◌, ◌-ℤ◌}
 use Rattle.history.specs.declared.entry.Entry.{Entry}
 use Rattle.history.specs.declared.entry.Mode.TheVariants.{X, S}
@@ -51,7 +51,7 @@ totals_by (Latch opening) s h = record no_totals { line = pos (length (line s h)
 abbrev pub totals_of : Start → List Entry → Totals
 totals_of s h = totals_by s.header.object s h
 
--- the numbers of a balance, as totals of an object's kind
+-- the numbers of a balance as the totals of an object of this kind
 abbrev pub lock_numbers : Balance → Totals
 lock_numbers b =
     record no_totals {

@@ -1,4 +1,4 @@
--- The fronts of a history, and the first entry that isn't legal.
+-- The first entries of a history, and its first illegal entry.
 use Rattle.std.specs.Prelude.{◌≡◌, ◌<◌, ℕ, ◌+◌, ◌-◌, List, length, drop}
 use Rattle.audit.specs.declared.verdict.Judgement.{Judgement}
 use Rattle.audit.specs.declared.verdict.Judgement.TheVariants.{Legal, NotLegal}
@@ -9,17 +9,17 @@ use Rattle.history.specs.declared.entry.Entry.{Entry}
 use Rattle.history.specs.Legal.{IsLegal}
 use Rattle.history.specs.Start.{Start}
 
--- the first n entries, which stand last in the list
+-- the first n entries, which are the last in the list
 abbrev pub front : ℕ → List Entry → List Entry
 front n h = drop (length h - n) h
 
--- the entries before an entry's number are legal, and with it they aren't
+-- the entries before this one are legal, and with this one they aren't
 pub record IsFirstWrong (s : Start) (h : List Entry) (no : ℕ) : Type 0 where
   pub stands : no < length h
   pub legal : IsLegal s (front no h)
   pub wrong : IsLegal s (front (no + 1) h) → ⊥
 
--- the history is legal and adds up to this, or this is its first entry that isn't legal
+-- the history is legal and these are its totals, or this is its first illegal entry
 abbrev pub IsJudgement : Start → List Entry → Judgement → Type 0
 IsJudgement s h (Legal totals) = IsLegal s h × (totals ≡ totals_of s h)
 IsJudgement s h (NotLegal number) = IsFirstWrong s h number × (IsLegal s h → ⊥)

@@ -1,4 +1,4 @@
--- What the audit's line and sleepers stand for.
+-- What the audit's queue and waiters represent.
 use Rattle.std.specs.Prelude.{◌≡◌, ◌<◌, ◌≤◌, ◌+◌, ℕ, true, List, [], length, map, slice_index_or, slice_set, Option, Some, None}
 use Rattle.std.specs.List.{AllByRecursion}
 use Rattle.history.specs.declared.entry.Entry.{Entry}
@@ -17,18 +17,18 @@ use Rattle.deciding.specs.Sleep.{sleep_of}
 use Rattle.deciding.specs.declared.sleep.LastSleep.{LastSleep}
 use Rattle.audit.specs.declared.waiting.Waiting.{Waiting}
 
--- what one who falls asleep by an await saves
+-- what a seat saves at an await
 abbrev pub sleep_by : Entry → LastSleep
 sleep_by e = record { condition = e.at; holds = e.n; how = end.Signalled }
 
--- a sleep that is ended in some way
+-- a sleep that ended in this way
 abbrev pub ended_by : End → LastSleep → LastSleep
 ended_by how was = record { condition = was.condition; holds = was.holds; how = how }
 
 abbrev pub never_slept : LastSleep
 never_slept = record { condition = 0; holds = 0; how = end.None }
 
--- the table of last sleeps behind an entry
+-- the table of last sleeps after an entry
 abbrev pub saved_by : Word → Entry → List LastSleep → List LastSleep
 saved_by Await e table = slice_set table e.seat (sleep_by e)
 saved_by Lapse e table = slice_set table e.seat (ended_by e.end (slice_index_or table e.seat never_slept))
@@ -39,21 +39,21 @@ abbrev pub or_kept : Option Sleep → Sleep → Sleep
 or_kept None was = was
 or_kept (Some found) was = found
 
--- the seats that sleep on a condition of a base
+-- the seats that wait on a condition of a base
 abbrev pub sleeping_seats : Base → ℕ → List ℕ
 sleeping_seats b c = map (λ x. x.seat) (sleepers_of b c)
 
--- none of these seats sleeps
+-- none of these seats waits on a condition
 abbrev pub AreAwake : List ℕ → Sleepers → Type 0
 AreAwake seats waiters = (i : ℕ) → has i seats ≡ true → sleeper_of waiters i ≡ None
 
--- Who sleeps on a base is one of so many seats, and sleeps once.
+-- The waiters of a base's conditions are among the first `seats` seats, and each waits once.
 pub record AreSleepers (seats : ℕ) (b : Base) : Type 0 where
   pub seated : (c : ℕ) → AllByRecursion (λ x. x.seat < seats) (sleepers_of b c)
   pub once : (c i : ℕ) → times i (sleeping_seats b c) ≤ 1
   pub apart : (c d i : ℕ) → has i (sleeping_seats b c) ≡ true → has i (sleeping_seats b d) ≡ true → c ≡ d
 
--- Nobody waits, and nobody slept, of an object with this header.
+-- Nobody waits, and nobody ever did, at an object with this header.
 pub record NobodyWaits (k : Header) (w : Waiting) : Type 0 where
   pub line : w.line.arrivals ≡ []
   pub joined : w.line.joined ≡ 0

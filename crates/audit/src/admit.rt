@@ -1,4 +1,4 @@
-//! Whether an entry may come next.
+//! Which entries may come next.
 
 ghost use Rattle.std.specs.Prelude.{◌≡◌, ◌↔◌, List, IsTrue, Ok, Some};
 ghost use Rattle.history.specs.Start.{Start};
@@ -12,7 +12,7 @@ use deciding::decide::entry_for;
 use history::entry::Entry;
 use history::step::Step;
 
-/// Whether two entries are the same.
+/// Returns whether two entries are the same.
 fn is_same(one: Entry, other: Entry) -> bool
     ensures { IsTrue result ↔ (one ≡ other) }
 {
@@ -20,7 +20,7 @@ fn is_same(one: Entry, other: Entry) -> bool
 }
 
 impl Ledger {
-    /// Whether a step of its seat makes the entry.
+    /// Returns whether this step of the entry's seat makes the entry.
     fn makes(&self, step: Step, entry: Entry) -> bool
         requires { HasSeat self.now entry.seat }
         ensures { (s : Start) (h : List Entry) → LedgerStand s h self.now →
@@ -33,7 +33,7 @@ impl Ledger {
         }
     }
 
-    /// Whether any step of its seat makes the entry.
+    /// Returns whether any step of the entry's seat makes the entry.
     pub(crate) fn admits(&self, entry: Entry) -> bool
         requires { HasSeat self.now entry.seat }
         ensures { (s : Start) (h : List Entry) → LedgerStand s h self.now → IsTrue result ↔ IsNext s h entry }

@@ -1,4 +1,4 @@
-//! The entries of a history, judged one after another.
+//! Judging the entries of a history one after another.
 
 ghost use Rattle.std.specs.Prelude.{◌≡◌, ◌<◌, ◌∷◌, [], List, IfOk, IsOkUnless};
 ghost use Rattle.history.specs.Base.{based};
@@ -20,7 +20,7 @@ use std::alloc::Global;
 
 /// Judges a history whose entries come one after another, and keeps none of them.
 ///
-/// What follows the first wrong entry is counted, and not looked at.
+/// Entries after the first illegal one are counted, and not judged.
 #[derive(Drop)]
 pub struct Auditor {
     ledger: Ledger,
@@ -29,8 +29,7 @@ pub struct Auditor {
 }
 
 impl Auditor {
-    /// Judges an object as opened, to which nothing has happened. Where memory is refused the answer is
-    /// `OutOfMemory`.
+    /// Returns an auditor of an object as opened. If an allocation fails, returns `OutOfMemory`.
     pub fn open(alloc: Global, header: Header) -> Result<Self, Fault>
         requires { IsInRange header }
         ensures judged { IfOk result (HasJudged (opening header) []) }
@@ -42,8 +41,7 @@ impl Auditor {
         }
     }
 
-    /// Judges an object that begins on a base, to which nothing has happened since. Where memory is refused
-    /// the answer is `OutOfMemory`.
+    /// Returns an auditor of an object that begins on a base. If an allocation fails, returns `OutOfMemory`.
     pub fn open_on(alloc: Global, base: &Base) -> Result<Self, Fault>
         requires range { IsInRange base.now.header }
         requires good { IsGood base.now }
@@ -56,7 +54,7 @@ impl Auditor {
         }
     }
 
-    /// An auditor with this ledger, which has seen no entry.
+    /// Returns an auditor with this ledger, which has seen no entry.
     fn new(ledger: Ledger) -> Self
         ensures { (s : Start) → LedgerStand s [] ledger → HasJudged s [] result }
     {
@@ -67,7 +65,7 @@ impl Auditor {
         }
     }
 
-    /// Follows one more entry of one of the seats. It takes no memory.
+    /// Judges one more entry, of one of the seats. It allocates nothing.
     #[inline(always)]
     pub fn follow(&mut self, entry: Entry)
         requires { CanFollow self.old entry }
@@ -85,7 +83,7 @@ impl Auditor {
         self.count += 1;
     }
 
-    /// The judgement on the entries so far.
+    /// Returns the judgement on the entries so far.
     pub fn judgement(&self) -> Judgement
         requires { IsAuditor self.now }
         ensures { (s : Start) (h : List Entry) → HasJudged s h self.now → IsJudgement s h result }

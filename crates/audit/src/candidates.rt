@@ -8,7 +8,8 @@ use history::entry::{Entry, Word};
 use history::fault::Fault;
 use history::step::Step;
 
-/// Three steps, some of them the same. If any step of its seat makes an entry, one of its candidates does.
+/// Three steps, some of which may be the same. If any step of its seat makes an entry, one of its candidates
+/// does.
 #[derive(Clone, Copy, Drop)]
 pub(crate) struct Candidates {
     pub(crate) first: Step,
@@ -16,7 +17,7 @@ pub(crate) struct Candidates {
     pub(crate) third: Step,
 }
 
-/// The candidates of an entry.
+/// Returns the candidates of an entry.
 pub(crate) fn possible_steps(entry: Entry) -> Candidates
     ensures { result ≡ candidates entry }
 {
@@ -37,8 +38,8 @@ pub(crate) fn possible_steps(entry: Entry) -> Candidates
     }
 }
 
-/// A call on a condition by a seat that isn't the owner is refused as an await of condition 0 is, which each
-/// object with conditions has.
+/// A call on a condition by a seat that isn't the owner is refused. An await of condition 0 is refused in the
+/// same way, and each object with conditions has a condition 0.
 fn refusal_candidates(fault: Fault, entry: Entry) -> Candidates
     ensures { result ≡ refusal_candidates fault entry.mode entry.n }
 {

@@ -1,4 +1,4 @@
-//! The holds of each seat, who owns and how many read.
+//! The holds of each seat, the owner, and the number of readers.
 
 ghost use Rattle.std.specs.Prelude.{◌≡◌, ◌≢◌, ℕ, ◌+◌, ◌*◌, ◌<◌, ◌≤◌, ◌^◌, ◌∷◌, List, IfOk, get_or, length, map, slice_index, true, [], IsOkUnless};
 ghost use Rattle.history.specs.Base.{based, holds_of, nothing, seat_of};
@@ -20,7 +20,7 @@ use history::header::Object;
 use history::holds::holds_after;
 use std::alloc::Global;
 
-/// The holds of each seat by mode. Of a lock also the owner, so that asking for it needs no walk.
+/// The holds of each seat by mode. For a lock also the owner, so that no table is searched for it.
 #[derive(Drop)]
 pub(crate) struct Holds {
     pub(crate) exclusive: Vec<u128>,
@@ -30,7 +30,7 @@ pub(crate) struct Holds {
 }
 
 impl Holds {
-    /// Nobody holds anything.
+    /// Returns tables in which nobody holds anything.
     pub(crate) fn open(alloc: Global, seats: u16) -> Result<Self, Fault>
         ensures stand { IfOk result (λ holds. (k : Header) → k.seats ≡ seats →
             HoldsStand (opening k) [] holds) }
@@ -46,7 +46,7 @@ impl Holds {
         })
     }
 
-    /// The seats hold what they hold on a base.
+    /// Returns tables in which the seats hold what they hold on a base.
     pub(crate) fn open_on(alloc: Global, base: &Base) -> Result<Self, Fault>
         requires range { IsInRange base.now.header }
         requires good { IsGood base.now }
@@ -66,7 +66,7 @@ impl Holds {
         })
     }
 
-    /// Follows one more entry of one of the seats.
+    /// Updates the tables for one more entry of one of the seats.
     pub(crate) fn note(&mut self, object: Object, entry: Entry)
         requires seat { entry.seat < length self.old.exclusive.items
             × (entry.seat < length self.old.shared.items) }
@@ -93,7 +93,7 @@ impl Holds {
     }
 }
 
-/// The seat of a base that holds exclusively, if any.
+/// Returns the seat of a base that has exclusive holds, if any.
 fn owner_of(seats: &[SeatBase]) -> Option<u16>
     requires { length seats.now ≤ 65535 }
     ensures { result ≡ seat_with (length seats.now) (λ i. (get_or seats.now i nothing).exclusive) }
@@ -107,7 +107,7 @@ fn owner_of(seats: &[SeatBase]) -> Option<u16>
     owner
 }
 
-/// The owner, once this seat has so many exclusive holds.
+/// Returns the owner after this seat has `has` exclusive holds.
 fn owner_after(owner: Option<u16>, seat: u16, has: u128) -> Option<u16>
     ensures { result ≡ owner_after owner seat has }
 {

@@ -1,4 +1,4 @@
-//! All that a front of a history says, kept so that each question about the next entry is one step.
+//! The state after a part of a history, from which each question about the next entry is answered at once.
 
 ghost use Rattle.std.specs.Prelude.{◌≡◌, ◌<◌, ◌∷◌, [], List, IfOk, IsOkUnless};
 ghost use Rattle.history.specs.Base.{based};
@@ -17,10 +17,10 @@ use history::fault::Fault;
 use history::header::Header;
 use std::alloc::Global;
 
-/// What a front of a legal history says: who holds what, who waits and who sleeps, and the numbers of
+/// The state after the first entries of a legal history: who holds what, who waits, and the numbers of
 /// permits.
 ///
-/// It is opened for no entries, or for those that a base has folded, and follows one more with each
+/// It is opened for no entries, or for those that a base has folded, and takes one more with each
 /// [`note`](Ledger::note). It keeps no history: each question about the next entry is answered from its
 /// counts and lists.
 #[derive(Drop)]
@@ -32,8 +32,7 @@ pub struct Ledger {
 }
 
 impl Ledger {
-    /// The ledger of an object as opened, to which nothing has happened. Where memory is refused the answer
-    /// is `OutOfMemory`.
+    /// Returns the ledger of an object as opened. If an allocation fails, returns `OutOfMemory`.
     pub fn open(alloc: Global, header: Header) -> Result<Self, Fault>
         requires { IsInRange header }
         ensures stand { IfOk result (λ ledger. LedgerStand (opening header) [] ledger) }
@@ -49,8 +48,7 @@ impl Ledger {
         })
     }
 
-    /// The ledger of a base, behind which nothing has happened. Where memory is refused the answer is
-    /// `OutOfMemory`.
+    /// Returns the ledger of a base with no entry after it. If an allocation fails, returns `OutOfMemory`.
     pub fn open_on(alloc: Global, base: &Base) -> Result<Self, Fault>
         requires range { IsInRange base.now.header }
         requires good { IsGood base.now }
@@ -68,8 +66,7 @@ impl Ledger {
         })
     }
 
-    /// Follows one more entry where a step of its seat makes it, and passes over any other. It takes no
-    /// memory.
+    /// Takes one more entry if a step of its seat makes it, and ignores any other. It allocates nothing.
     pub fn note(&mut self, entry: Entry)
         requires { HasSeat self.old entry.seat }
         ensures follows { (s : Start) (h : List Entry) → LedgerStand s h self.old →
@@ -82,7 +79,7 @@ impl Ledger {
         }
     }
 
-    /// Follows one more entry, which a step of its seat makes. It takes no memory.
+    /// Takes one more entry, which a step of its seat makes. It allocates nothing.
     #[inline(always)]
     pub(crate) fn follow(&mut self, entry: Entry)
         requires seat { HasSeat self.old entry.seat }

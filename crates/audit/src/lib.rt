@@ -1,19 +1,17 @@
-//! Judges a history: whether each entry is the one that a step of its seat makes, and what it adds up to.
+//! Judges a history: whether each entry is the one that a step of its seat makes, and what the totals are.
 //!
-//! - [`judge`](verdict::judge) says that a history is legal and what it adds up to, or names its first entry
-//!   that isn't.
+//! - [`judge`](verdict::judge) returns the totals of a legal history, or the first illegal entry.
 //! - [`Auditor`](auditor::Auditor) judges entries as they come, and keeps none of them.
-//! - [`check`](verdict::check) gives the verdict alone, and [`totals`](totals::totals) the sums alone.
-//! - [`Ledger`](ledger::Ledger) is what is kept of the entries so far.
+//! - [`check`](verdict::check) returns only the verdict, and [`totals`](totals::totals) only the totals.
+//! - [`Ledger`](ledger::Ledger) is the state after the entries so far.
 //!
-//! The audit stands on `deciding`, `history` and the queues, and on no core. It keeps counts, a queue and
-//! waiters of its own, entry by entry, and asks of each entry whether some step of its seat makes it: so it
-//! judges histories of any source. A history is only read, in one pass, and no entry costs more where there
-//! are many seats.
+//! The audit uses `deciding`, `history` and the queues, but no core. It has its own counts, queue and
+//! waiters, and updates them entry by entry. For each entry it checks whether some step of its seat makes it.
+//! So it judges histories of any source. A history is read once, in order, and the cost of an entry doesn't
+//! grow with the number of seats.
 //!
-//! All memory is reserved at the opening: tables with a place for each seat, the queue and the waiters. Where
-//! it is refused the answer is [`OutOfMemory`](history::fault::Fault::OutOfMemory), and there is no other
-//! fault.
+//! All memory is reserved at the opening: tables with a place for each seat, the queue and the waiters. The
+//! only fault is [`OutOfMemory`](history::fault::Fault::OutOfMemory), if an allocation fails.
 #![tactic(auto)]
 
 mod admit;

@@ -1,4 +1,4 @@
-//! What the ledger answers to a decision.
+//! The ledger's answers to the questions of a decision.
 
 ghost use Rattle.std.specs.Prelude.{◌≡◌, ◌<◌, List, length};
 ghost use Rattle.history.specs.Could.{is_none_or, is_reentrant, is_seat, line_blocks};
@@ -34,7 +34,7 @@ impl Ledger {
         self.holds.owner.is_none_or(|owner| owner == seat)
     }
 
-    /// Whether a call never waits behind the line.
+    /// Returns whether the queue never holds this call back.
     fn is_reentrant(&self, seat: u16, mode: Mode) -> bool
         requires { seat < length self.now.holds.shared.items }
         ensures { (s : Start) (h : List Entry) → LedgerStand s h self.now →
@@ -50,7 +50,7 @@ impl Ledger {
         }
     }
 
-    /// Whether the line holds back a new call that isn't reentrant.
+    /// Returns whether the queue holds back a new call that isn't reentrant.
     fn line_blocks(&self, mode: Mode) -> bool
         ensures { (s : Start) (h : List Entry) → LedgerStand s h self.now →
             result ≡ line_blocks s.header.object mode (first_mode s h) }

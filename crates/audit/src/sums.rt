@@ -1,4 +1,4 @@
-//! What a history adds up to.
+//! The totals of a history.
 
 ghost use Rattle.std.specs.Prelude.{◌≡◌, ◌<◌, ◌^◌, List, pos, ◌+ℤ◌, ◌-ℤ◌};
 ghost use Rattle.history.specs.Start.{Start};
@@ -12,22 +12,22 @@ use crate::ledger::Ledger;
 use deciding::balance::{Balance, balance_of};
 use history::header::Object;
 
-/// The numbers behind a history's last entry. Those that an object of the header's kind doesn't have are 0.
+/// The totals after a history's last entry. Those that an object of the header's kind doesn't have are 0.
 #[derive(Clone, Copy, Debug, Drop, PartialEq, Eq)]
 pub struct Totals {
     /// The exclusive holds of all seats of a lock or read-write lock.
     pub x: i128,
     /// The shared holds of all seats of a lock or read-write lock.
     pub s: i128,
-    /// How many stand in line.
+    /// How many seats are in the queue.
     pub line: i128,
-    /// How many sleep, on any condition.
+    /// How many seats wait on conditions.
     pub sleepers: i128,
     /// The permits that all seats of a semaphore hold.
     pub held: i128,
-    /// The free permits of a semaphore, which may be below 0.
+    /// The free permits of a semaphore, which may be negative.
     pub free: i128,
-    /// The permits that a semaphore was made with, which may be below 0.
+    /// The permits with which a semaphore was opened, which may be negative.
     pub created: i128,
     /// The permits that were released by seats which didn't hold them.
     pub unheld: i128,
@@ -36,8 +36,8 @@ pub struct Totals {
 }
 
 impl Totals {
-    /// What an object comes to, as the numbers of its kind. The permits of a semaphore that were released
-    /// unheld are those held and free beyond those that it was made with.
+    /// Returns the totals of an object of this kind. The unheld permits of a semaphore are those held and
+    /// free, less those that it was opened with.
     pub fn of(object: Object, numbers: &Balance) -> Totals
         requires exclusive { numbers.now.exclusive < 2 ^ 126 }
         requires shared { numbers.now.shared < 2 ^ 126 }
@@ -72,7 +72,7 @@ impl Totals {
 }
 
 impl Ledger {
-    /// What the entries so far come to.
+    /// Returns the totals of the entries so far.
     pub(crate) fn add_up(&self) -> Totals
         requires { IsLedger self.now }
         ensures { (s : Start) (h : List Entry) → LedgerStand s h self.now → result ≡ totals_of s h }
@@ -81,7 +81,7 @@ impl Ledger {
     }
 }
 
-/// The permits held and free beyond those created.
+/// Returns the permits held and free beyond those created.
 fn unheld(held: u128, free: i64, created: i32) -> i128
     requires { held < 2 ^ 126 }
     ensures { result ≡ (pos held +ℤ free) -ℤ created }

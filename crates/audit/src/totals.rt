@@ -1,4 +1,4 @@
-//! What a legal history adds up to.
+//! The totals of a legal history.
 
 ghost use Rattle.std.specs.Prelude.{◌≡◌, IfOk, IsOkUnless};
 ghost use Rattle.history.specs.Entries.{IsBasedWell, start_on};
@@ -13,9 +13,9 @@ use history::fault::Fault;
 use history::header::Header;
 use std::alloc::Global;
 
-/// Adds up a history that [`check`](crate::verdict::check) found legal.
+/// Returns the totals of a history that [`check`](crate::verdict::check) found legal.
 ///
-/// Where memory for what it counts is refused the answer is `OutOfMemory`.
+/// If an allocation fails, returns `OutOfMemory`.
 pub fn totals(alloc: Global, header: &Header, history: &History) -> Result<Totals, Fault>
     requires range { IsInRange header.now }
     requires based { IsBasedWell header.now history.now.base }

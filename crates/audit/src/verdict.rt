@@ -15,16 +15,16 @@ use history::fault::Fault;
 use history::header::Header;
 use std::alloc::Global;
 
-/// What an audit says of a history.
+/// The verdict of an audit on a history.
 #[derive(Clone, Copy, Debug, Drop, PartialEq, Eq)]
 pub enum Verdict {
-    /// Each entry is one that a step of its seat makes, at its place.
+    /// Each entry is one that a step of its seat makes after the entries before it.
     Legal,
-    /// The number of the first entry that no step of its seat makes, counted from 0.
+    /// The number of the first entry that no step of its seat makes. The first entry has number 0.
     NotLegal(u64),
 }
 
-/// A verdict, and of a legal history what it adds up to.
+/// A verdict, and the totals of a legal history.
 #[derive(Clone, Copy, Debug, Drop, PartialEq, Eq)]
 pub enum Judgement {
     Legal(Totals),
@@ -32,7 +32,7 @@ pub enum Judgement {
 }
 
 impl Judgement {
-    /// The verdict alone.
+    /// Returns the verdict without the totals.
     pub fn verdict(&self) -> Verdict
         ensures { result ≡ verdict_of self.now }
     {
@@ -43,15 +43,15 @@ impl Judgement {
     }
 }
 
-/// Judges a history of the header's object, whatever its source, and adds it up if it is legal.
+/// Judges a history of the header's object, whatever its source, and adds up its totals if it is legal.
 ///
-/// It begins on its base, or where it has none as the object is opened. It is legal exactly where each entry
-/// is the one that some step of its seat makes behind the entries before it. Room and whom an entry names are
-/// no part of that. What follows the first wrong entry isn't looked at, and each entry before it is looked at
+/// It begins on its base, or, if it has none, as the object is opened. It is legal if and only if each entry
+/// is the one that some step of its seat makes after the entries before it. Room and the waiters that entries
+/// name play no part. Entries after the first illegal one aren't judged, and each entry before it is judged
 /// once.
 ///
-/// The header is in range, the base is a good one of this header, and each entry is of one of its seats.
-/// Where memory for what it counts is refused the answer is `OutOfMemory`.
+/// The header must be in range, the base a good one of this header, and each entry of one of its seats. If an
+/// allocation fails, returns `OutOfMemory`.
 pub fn judge(alloc: Global, header: &Header, history: &History) -> Result<Judgement, Fault>
     requires range { IsInRange header.now }
     requires based { IsBasedWell header.now history.now.base }
@@ -69,7 +69,7 @@ pub fn judge(alloc: Global, header: &Header, history: &History) -> Result<Judgem
     Ok(auditor.judgement())
 }
 
-/// An auditor that has seen what a history begins from, and none of its entries.
+/// Returns an auditor of what a history begins from, which has seen none of its entries.
 fn begun(alloc: Global, header: &Header, history: &History) -> Result<Auditor, Fault>
     requires range { IsInRange header.now }
     requires based { IsBasedWell header.now history.now.base }
@@ -82,7 +82,7 @@ fn begun(alloc: Global, header: &Header, history: &History) -> Result<Auditor, F
     }
 }
 
-/// The verdict on a history, as [`judge`] finds it.
+/// Returns the verdict on a history, as [`judge`] finds it.
 pub fn check(alloc: Global, header: &Header, history: &History) -> Result<Verdict, Fault>
     requires range { IsInRange header.now }
     requires based { IsBasedWell header.now history.now.base }

@@ -1,4 +1,4 @@
-//! Who stands in line, who sleeps on which condition, and what each sleeper gave up.
+//! Who is in the queue, who waits on which condition, and what each waiter of a condition gave up.
 
 ghost use Rattle.std.specs.Prelude.{◌≡◌, ◌<◌, ◌∷◌, [], List, IfOk, IsOkUnless, length};
 ghost use Rattle.history.specs.Base.{based};
@@ -21,7 +21,7 @@ use history::fault::Fault;
 use history::header::Header;
 use std::alloc::Global;
 
-/// The line, the sleepers of each condition, and the last sleep of each seat.
+/// The queue, the waiters of each condition, and the last sleep of each seat.
 #[derive(Drop)]
 pub(crate) struct Waiting {
     pub(crate) line: Queue,
@@ -30,7 +30,7 @@ pub(crate) struct Waiting {
 }
 
 impl Waiting {
-    /// Nobody waits.
+    /// Returns tables in which nobody waits.
     pub(crate) fn open(alloc: Global, header: Header) -> Result<Self, Fault>
         ensures nobody { IfOk result (NobodyWaits header) }
         ensures stand { IfOk result (WaitingStand (opening header) []) }
@@ -56,7 +56,7 @@ impl Waiting {
         })
     }
 
-    /// Those of a base wait.
+    /// Returns tables with the waiters of a base.
     pub(crate) fn open_on(alloc: Global, base: &Base) -> Result<Self, Fault>
         requires range { IsInRange base.now.header }
         requires good { IsGood base.now }
@@ -79,7 +79,7 @@ impl Waiting {
         })
     }
 
-    /// Follows one more entry of one of the seats. It takes no memory.
+    /// Updates the tables for one more entry of one of the seats. It allocates nothing.
     #[inline(always)]
     pub(crate) fn note(&mut self, entry: Entry)
         requires seat { entry.seat < length self.old.last_sleep.items }
@@ -92,7 +92,7 @@ impl Waiting {
     }
 }
 
-/// What a seat gives up at an await, and how its sleep ends, is kept until it comes back.
+/// Keeps what a seat gives up at an await, and how its wait on the condition ends, until it comes back.
 fn save(last_sleep: &mut Vec<LastSleep>, entry: Entry)
     requires { entry.seat < length last_sleep.old.items }
     ensures { last_sleep.new.items ≡ saved_by entry.word entry last_sleep.old.items }

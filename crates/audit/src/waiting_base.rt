@@ -1,4 +1,4 @@
-//! How those who wait on a base stand in line, sleep, and come back.
+//! Taking over the waiters of a base.
 
 ghost use Rattle.std.specs.Prelude.{◌≡◌, ◌<◌, ◌≤◌, ◌==◌, ℕ, List, [], length, map, true, false, None, slice_index_or, if◌then◌else◌};
 ghost use Rattle.std.specs.List.{AllByRecursion};
@@ -16,7 +16,7 @@ use deciding::sleep::LastSleep;
 use history::base::{Base, Sleeper, Standing};
 use history::entry::End;
 
-/// Lets these stand in an empty line, in their order.
+/// Puts these waiters into an empty queue, in their order.
 pub(crate) fn stand_in(line: &mut Queue, standing: &[Standing])
     requires empty { line.old.arrivals ≡ [] }
     requires joined { line.old.joined ≡ 0 }
@@ -32,7 +32,7 @@ pub(crate) fn stand_in(line: &mut Queue, standing: &[Standing])
     }
 }
 
-/// Lets the sleepers of each condition sleep, where nobody sleeps yet.
+/// Adds the waiters of all conditions, which have none yet.
 pub(crate) fn lay_down(asleep: &mut Waiters, base: &Base)
     requires empty { (c : ℕ) → asleep_on asleep.old c ≡ [] }
     requires awake { (i : ℕ) → sleeper_of asleep.old i ≡ None }
@@ -49,7 +49,7 @@ pub(crate) fn lay_down(asleep: &mut Waiters, base: &Base)
     }
 }
 
-/// Lets these sleep on a condition on which nobody sleeps yet, in their order.
+/// Adds these waiters to a condition that has none yet, in their order.
 fn lay_on(asleep: &mut Waiters, condition: u8, sleepers: &[Sleeper])
     requires condition { condition < asleep.old.conditions }
     requires empty { asleep_on asleep.old condition ≡ [] }
@@ -68,7 +68,7 @@ fn lay_on(asleep: &mut Waiters, condition: u8, sleepers: &[Sleeper])
     }
 }
 
-/// Keeps the sleeps of those who sleep on the base, which a signal will end.
+/// Keeps the sleeps of the waiters of a base's conditions, as a signal will end them.
 pub(crate) fn save_sleepers(last_sleep: &mut Vec<LastSleep>, base: &Base)
     requires { (c : ℕ) → AllByRecursion (λ x. x.seat < length last_sleep.old.items) (sleepers_of base.now c) }
     ensures seats { length last_sleep.new.items ≡ length last_sleep.old.items }
@@ -81,7 +81,7 @@ pub(crate) fn save_sleepers(last_sleep: &mut Vec<LastSleep>, base: &Base)
     }
 }
 
-/// Keeps the sleeps of those who sleep on a condition.
+/// Keeps the sleeps of the waiters of a condition.
 fn save_on(last_sleep: &mut Vec<LastSleep>, condition: u8, sleepers: &[Sleeper])
     requires { AllByRecursion (λ x. x.seat < length last_sleep.old.items) sleepers.now }
     ensures seats { length last_sleep.new.items ≡ length last_sleep.old.items }
@@ -89,7 +89,7 @@ fn save_on(last_sleep: &mut Vec<LastSleep>, condition: u8, sleepers: &[Sleeper])
         ≡ or_kept (sleep_on condition i sleepers.now)
         (sleep_of (slice_index_or last_sleep.old.items i never_slept)) }
 {
-    // The first of a seat counts, so it is written last.
+    // If a seat is there twice its first sleep counts, so it is written last.
     for place in (0..sleepers.len()).rev() {
         let sleeper = sleepers[place];
         last_sleep[sleeper.seat as usize] = LastSleep {
@@ -100,7 +100,7 @@ fn save_on(last_sleep: &mut Vec<LastSleep>, condition: u8, sleepers: &[Sleeper])
     }
 }
 
-/// Keeps the sleeps of those in line who come back from a condition.
+/// Keeps the sleeps of the waiters in the queue that come back from a condition.
 pub(crate) fn save_returning(last_sleep: &mut Vec<LastSleep>, line: &[Standing])
     requires { AllByRecursion (λ p. p.who.seat < length last_sleep.old.items) line.now }
     ensures seats { length last_sleep.new.items ≡ length last_sleep.old.items }
@@ -108,7 +108,7 @@ pub(crate) fn save_returning(last_sleep: &mut Vec<LastSleep>, line: &[Standing])
         ≡ or_kept (sleep_in_line i line.now)
         (sleep_of (slice_index_or last_sleep.old.items i never_slept)) }
 {
-    // The first of a seat counts, so it is written last.
+    // If a seat is there twice its first sleep counts, so it is written last.
     for place in (0..line.len()).rev() {
         let standing = line[place];
         if standing.who.back {

@@ -1,6 +1,6 @@
 //! Pairs of lock and unlock by 1 to 8 threads, under the word lock and under std's mutex.
 //!
-//! Each thread makes a few pairs, and the pairs that were counted under each lock are printed. With the word
+//! Each thread makes a few pairs, and the number of counted pairs is printed for each lock. With the word
 //! `measure` each makes a million, and the thousands of pairs a second are printed.
 
 mod mutex;
@@ -32,7 +32,7 @@ impl Counted {
     }
 }
 
-/// The pairs of so many threads under the word lock.
+/// Returns the pairs of `threads` threads under the word lock.
 fn under_word_lock<R: AllocGlobal + Threads + Wait + Clock + Sync>(
     rt: &R,
     threads: u16,
@@ -46,7 +46,7 @@ fn under_word_lock<R: AllocGlobal + Threads + Wait + Clock + Sync>(
     Ok(Counted { pairs, time })
 }
 
-/// The pairs of so many threads under std's mutex.
+/// Returns the pairs of `threads` threads under std's mutex.
 fn under_mutex<R: AllocGlobal + Threads + Wait + Clock + Sync>(
     rt: &R,
     threads: u16,

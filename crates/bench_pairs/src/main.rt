@@ -15,7 +15,7 @@ use std::thread::Threads;
 use std::time::Clock;
 use std::{env, io};
 
-/// The word at a place, if there are so many.
+/// Returns the word at a place, if there is one.
 fn word_at(words: &[String], place: usize) -> Option<&str> {
     words.get(place).map(|word| word.as_str())
 }

@@ -1,8 +1,8 @@
 //! Pairs of acquire and release by 1 to 8 threads, on monitors of each kind.
 //!
 //! Each thread makes a few pairs, and pairs and calls are printed. With the words `measure MS` the threads of
-//! a line make pairs for so many milliseconds, and the line says how many a second: `NAME hist THREADS
-//! PAIRS_PER_SECOND`. The history keeps two entries of each pair, and more of one that had to wait.
+//! a line make pairs for `MS` milliseconds, and the line has the pairs a second: `NAME hist THREADS
+//! PAIRS_PER_SECOND`. The history keeps two entries of each pair, and more if the pair had to wait.
 
 mod kind;
 mod pairs;
@@ -20,7 +20,7 @@ const THREADS: [u16; 4] = [1, 2, 4, 8];
 
 const FEW_PAIRS: u64 = 200;
 
-/// How long the threads of a line work, if nothing else is said.
+/// How long the threads of a line work by default.
 const MILLISECONDS: u64 = 60;
 
 /// Makes the pairs, and prints a line for each kind of monitor and each number of threads.

@@ -1,4 +1,5 @@
--- That queue and waiters stand for a history, what an entry makes of them, and what it asks of them.
+-- When wait queue and conditions represent a history, how an entry changes them, and what it requires of
+-- them.
 use Rattle.std.specs.Prelude.{◌≡◌, ◌≤◌, ◌<◌, ◌+◌, ◌*◌, ◌^◌, ℕ, ◌==◌, not, true, false, List, [], ◌∷◌, ◌++◌, if◌then◌else◌, filter, map, take, length, Option, Some, None}
 use Rattle.acquire_queue.specs.Line.{Line}
 use Rattle.condition_queue.specs.declared.sleeper.Sleeper.{Sleeper}
@@ -12,11 +13,12 @@ use Rattle.history.specs.Sleepers.{has, sleepers}
 use Rattle.history.specs.Start.{Start}
 use Rattle.history.specs.Steps.{at_most_one}
 
--- No more have joined the line than so many entries can have let join: their seats, and all who slept.
+-- At most as many have joined the queue as n entries can add: each adds its seat, or all waiters of a
+-- condition.
 abbrev pub JoinedBy : ℕ → Line → Type 0
 JoinedBy n queue = queue.joined ≤ 257 * n
 
--- The line and the sleepers are those of the history.
+-- The queue and the conditions' waiters are those of the history.
 pub record Keeps (s : Start) (h : List Entry) (queue : Line) (waiters : Sleepers) : Type 0 where
   pub line : queue.arrivals ≡ line s h
   pub places : queue.seats ≡ s.header.seats
@@ -27,7 +29,7 @@ pub record Keeps (s : Start) (h : List Entry) (queue : Line) (waiters : Sleepers
 abbrev pub line_without : ℕ → List Arrival → List Arrival
 line_without i arrivals = filter (λ a. not (i == a.seat)) arrivals
 
--- the line behind an entry, by the line and by the sleepers of its condition
+-- the queue after an entry, from the queue and the waiters of the entry's condition
 abbrev pub line_behind : Word → Entry → List Arrival → List ℕ → List Arrival
 line_behind Queued e arrivals seats =
     arrivals ++ record { seat = e.seat; mode = e.mode; n = e.n; back = false } ∷ []
@@ -39,7 +41,7 @@ line_behind Signal e arrivals seats = arrivals ++ map coming_back (take e.n seat
 line_behind SignalAll e arrivals seats = arrivals ++ map coming_back seats
 line_behind _ e arrivals seats = arrivals
 
--- what a seat sleeps on behind an entry, by the sleepers of its condition and by what the seat slept on
+-- what a seat waits on after an entry, from the waiters of the entry's condition and from what it waited on
 abbrev pub sleeper_behind : Word → Entry → List ℕ → ℕ → Option Sleeper → Option Sleeper
 sleeper_behind Await e seats i was = if e.seat == i then Some (record { condition = e.at; holds = e.n })
     else was
@@ -48,23 +50,23 @@ sleeper_behind Signal e seats i was = if has i (take e.n seats) then None else w
 sleeper_behind SignalAll e seats i was = if has i seats then None else was
 sleeper_behind _ e seats i was = was
 
--- a seat that is to join the line
+-- a seat that may join the queue
 pub record MayJoin (e : Entry) (queue : Line) : Type 0 where
   pub seat : e.seat < queue.seats
   pub absent : place_of e.seat queue.arrivals ≡ None
 
--- a seat that is to sleep
+-- a seat that may begin to wait on a condition
 pub record MaySleep (e : Entry) (waiters : Sleepers) : Type 0 where
   pub condition : e.at < waiters.conditions
   pub seat : e.seat < waiters.seats
   pub awake : (c : ℕ) → has e.seat (asleep_on waiters c) ≡ false
 
--- a sleeper that is to join the line
+-- a waiter of a condition that may join the queue
 pub record MayLapse (e : Entry) (queue : Line) (waiters : Sleepers) : Type 0 where
   pub join : MayJoin e queue
   pub asleep : has e.seat (asleep_on waiters e.at) ≡ true
 
--- sleepers that are to be moved, so many
+-- n waiters of a condition that may be moved
 pub record MayMove (n : ℕ) (e : Entry) (queue : Line) (waiters : Sleepers) : Type 0 where
   pub condition : e.at < waiters.conditions
   pub apart : (i : ℕ) → has i (asleep_on waiters e.at) ≡ true → place_of i queue.arrivals ≡ None
@@ -78,7 +80,7 @@ IsMovableBy Signal e queue waiters = MayMove (at_most_one (length (asleep_on wai
 IsMovableBy SignalAll e queue waiters = MayMove (length (asleep_on waiters e.at)) e queue waiters
 IsMovableBy _ e queue waiters = Unit {0}
 
--- what an entry asks of those who wait
+-- what an entry requires of the waiters
 pub record IsMovable (e : Entry) (queue : Line) (waiters : Sleepers) : Type 0 where
   pub by_word : IsMovableBy e.word e queue waiters
   pub seats : waiters.seats ≤ queue.seats

@@ -1,11 +1,11 @@
--- What moving sleepers from a condition to the line changes, and what it leaves.
+-- What changes, and what stays, when waiters move from a condition to the wait queue.
 use Rattle.std.specs.Prelude.{◌≡◌, ℕ, ◌+◌, ◌==◌, if◌then◌else◌, ◌++◌, map, take, drop, None}
 use Rattle.history.specs.Line.{coming_back}
 use Rattle.history.specs.Sleepers.{has}
 use Rattle.acquire_queue.specs.Line.{Line}
 use Rattle.condition_queue.specs.Sleepers.{Sleepers, asleep_on, sleeper_of}
 
--- The n longest sleepers of a condition joined the end of the line, in order.
+-- The n longest waiters of a condition joined the end of the queue, in order.
 pub record Moves (c n : ℕ) (old new : Sleepers) (before after : Line) : Type 0 where
   pub arrivals : after.arrivals ≡ before.arrivals ++ map coming_back (take n (asleep_on old c))
   pub lists : (d : ℕ) → asleep_on new d ≡ (if c == d then drop n (asleep_on old d) else asleep_on old d)

@@ -1,4 +1,4 @@
-//! What an entry makes of those who wait: in line, or asleep on a condition.
+//! How an entry changes the wait queue and the conditions' lists.
 
 ghost use Rattle.std.specs.Prelude.{◌≡◌, ◌≤◌, ◌+◌, ◌==◌, if◌then◌else◌, length, ℕ};
 ghost use Rattle.history.specs.Sleepers.{sleepers_after};
@@ -10,7 +10,7 @@ use acquire_queue::queue::Queue;
 use deciding::arrivals::{coming_back, queued};
 use history::entry::{Entry, Word};
 
-/// Has those join, leave and move of whom an entry says so. It takes no memory.
+/// Updates the wait queue and the conditions' lists for one entry. It allocates nothing.
 #[inline(always)]
 pub fn move_waiters(queue: &mut Queue, waiters: &mut Waiters, entry: Entry)
     requires movable { IsMovable entry queue.old waiters.old }

@@ -1,9 +1,9 @@
-//! Those who sleep on the conditions of a lock, until a signal, a timeout or an interrupt.
+//! The waiters of a lock's conditions, until a signal, a timeout or an interrupt.
 //!
-//! The waiters are seen as a list of seats for each condition, the longest sleeper first, and for each
-//! sleeper the holds that it gave up. A signal moves sleepers to the end of the acquire queue, in order.
-//! All places are reserved at the opening, so neither falling asleep nor moving needs memory.
-//! [`move_waiters`](following::move_waiters) has queue and waiters follow an entry.
+//! Contracts see a list of seats for each condition, the longest waiting first, and for each waiter the holds
+//! that it gave up. A signal moves waiters to the end of the wait queue, in order. All places are reserved at
+//! the opening, so neither a wait nor a signal allocates. [`move_waiters`](following::move_waiters) updates
+//! the wait queue and the conditions for an entry.
 #![tactic(auto)]
 
 pub mod following;

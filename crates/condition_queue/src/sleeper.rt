@@ -1,6 +1,6 @@
-//! One who sleeps.
+//! A waiter of a condition.
 
-/// The condition that a seat sleeps on, and the holds that it gave up for that.
+/// The condition that a seat waits on, and the holds that it gave up for that.
 #[derive(Clone, Copy, Debug, PartialEq, Eq)]
 pub struct Sleeper {
     pub condition: u8,

@@ -1,4 +1,4 @@
-//! The sleepers of all conditions of one object.
+//! The waiters of all conditions of one object.
 
 ghost use Rattle.std.specs.Prelude.{◌≡◌, false, true, ℕ, ◌+◌, ◌^◌, ◌<◌, ◌≤◌, ◌==◌, if◌then◌else◌, [], ◌∷◌, ◌++◌, length, slice_get, is_some, Some, None, IfOk, IfErr, IfSome};
 ghost use Rattle.std.specs.Bool.{OnFalse};
@@ -16,16 +16,16 @@ use node_arena::linked_lists::LinkedLists;
 use std::alloc::Global;
 use std::marker::Model;
 
-/// The sleepers of each condition of an object, the longest sleeper first. A seat sleeps on one condition
-/// at most.
+/// The waiters of each condition of an object, the longest waiting first. A seat waits on at most one
+/// condition.
 #[derive(Drop)]
 pub struct Waiters {
     seats: u16,
-    /// The seats that sleep on each condition, linked by one record for each seat.
+    /// The seats that wait on each condition, linked by one record for each seat.
     lists: LinkedLists,
-    /// How many sleep on each condition.
+    /// How many seats wait on each condition.
     counts: Vec<u16>,
-    /// What each seat sleeps on, so that nobody has to be looked for.
+    /// What each seat waits on, so that no list is searched.
     table: Vec<Option<Sleeper>>,
 }
 
@@ -46,8 +46,8 @@ impl Model for Waiters {
 }
 
 impl Waiters {
-    /// Nobody asleep, for so many conditions and seats. It reserves all that will ever be needed;
-    /// `OutOfMemory` is the only fault.
+    /// Returns no waiters, with places for these conditions and seats. It reserves all that will ever be
+    /// needed. The only fault is `OutOfMemory`.
     pub fn open(alloc: Global, conditions: u8, seats: u16) -> Result<Waiters, Fault>
         ensures empty { IfOk result (λ waiters. (c : ℕ) → asleep_on waiters c ≡ []) }
         ensures awake { IfOk result (λ waiters. (i : ℕ) → sleeper_of waiters i ≡ None) }
@@ -66,7 +66,7 @@ impl Waiters {
         })
     }
 
-    /// Puts a seat to sleep on a condition, with the holds that it gave up. It takes no memory.
+    /// Adds a seat to a condition's waiters, with the holds that it gave up. It allocates nothing.
     pub fn join(&mut self, c: u8, seat: u16, holds: u32)
         requires condition { c < self.old.conditions }
         requires seat { seat < self.old.seats }
@@ -86,14 +86,14 @@ impl Waiters {
         self.counts[c as usize] += 1;
     }
 
-    /// Takes a seat away from the condition that it sleeps on, and tells whether it slept.
+    /// Removes a seat from the waiters of its condition, and returns whether it was one.
     pub fn leave(&mut self, seat: u16) -> bool
         ensures slept { result ≡ is_some (sleeper_of self.old seat) }
         ensures lists { (d : ℕ) → asleep_on self.new d
             ≡ (if sleeps_on d (sleeper_of self.old seat) then without seat (asleep_on self.old d)
             else asleep_on self.old d) }
 
-        // The same, whatever it slept on.
+        // The same, whatever it waited on.
         ensures left { (d : ℕ) → asleep_on self.new d ≡ without seat (asleep_on self.old d) }
         ensures sleepers { (i : ℕ) → sleeper_of self.new i
             ≡ (if seat == i then None else sleeper_of self.old i) }
@@ -112,8 +112,8 @@ impl Waiters {
         }
     }
 
-    /// Moves the longest sleeper of a condition to the end of the line, from where it will come back, and
-    /// answers how many it moved: 1, or 0 where nobody sleeps. It takes no memory.
+    /// Moves the longest waiter of a condition to the end of the wait queue, from where it will come back.
+    /// Returns how many it moved: 1, or 0 if nobody waits. It allocates nothing.
     pub fn move_first(&mut self, c: u8, queue: &mut Queue) -> u32
         requires condition { c < self.old.conditions }
         requires seats { self.old.seats ≤ queue.old.seats }
@@ -133,8 +133,8 @@ impl Waiters {
         }
     }
 
-    /// Moves all sleepers of a condition to the end of the line, in their order, and answers how many. It
-    /// takes no memory.
+    /// Moves all waiters of a condition to the end of the wait queue, in their order, and returns how many.
+    /// It allocates nothing.
     pub fn move_all(&mut self, c: u8, queue: &mut Queue) -> u32
         requires condition { c < self.old.conditions }
         requires seats { self.old.seats ≤ queue.old.seats }
@@ -151,7 +151,7 @@ impl Waiters {
         u32::from(sleepers)
     }
 
-    /// How many sleep on a condition; 0 for one that the object doesn't have.
+    /// Returns how many seats wait on a condition; 0 if the object lacks it.
     pub fn len(&self, c: u8) -> u16
         ensures len { result ≡ length (asleep_on self.now c) }
         ensures once { SleepOnce (asleep_on self.now c) }
@@ -162,7 +162,7 @@ impl Waiters {
         }
     }
 
-    /// What a seat sleeps on, found in one step; `None` where it is awake.
+    /// Returns what a seat waits on, in constant time, or `None` if it waits on no condition.
     pub fn sleeper_of(&self, seat: u16) -> Option<Sleeper>
         ensures sleeper { result ≡ sleeper_of self.now seat }
         ensures listed { (c : ℕ) → has seat (asleep_on self.now c) ≡ sleeps_on c result }
@@ -171,7 +171,7 @@ impl Waiters {
         *self.table.get(seat as usize)?
     }
 
-    /// The longest sleeper of a condition.
+    /// Returns the longest waiter of a condition.
     fn first_on(&self, c: u8) -> Option<u16>
         requires { c < self.now.conditions }
         ensures first { result ≡ slice_get (asleep_on self.now c) 0 }

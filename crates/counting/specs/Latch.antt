@@ -1,4 +1,4 @@
--- What the fields of a latch's hooks stand for: the count alone.
+-- What the fields of a latch's hooks represent: the count alone.
 use Rattle.std.proofs.Common.{◌≡◌, ℕ, pos, refl, sym, ◌∙◌}
 use Rattle.std.proofs.Math.Nat.{sub-zero}
 use Rattle.history.specs.declared.header.Object.{Object}

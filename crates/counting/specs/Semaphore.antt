@@ -1,4 +1,4 @@
--- What the fields of a semaphore's hooks stand for: the free permits alone.
+-- What the fields of a semaphore's hooks represent: the free permits alone.
 use Rattle.std.proofs.Common.{◌≡◌, ℕ, ℤ, refl, ap, sym, ◌∙◌}
 use Rattle.history.specs.declared.header.Object.{Object}
 use Rattle.history.specs.declared.header.Object.TheVariants.{Semaphore}
@@ -8,7 +8,7 @@ use Rattle.history.specs.Object.{is_semaphore}
 use Rattle.frame.specs.Hooks.{AreAlike, opening_counts}
 use Rattle.counting.specs.declared.semaphore.SemaphoreHooks.{SemaphoreHooks}
 
--- The counts are those of a semaphore with so many free permits, whoever holds the others.
+-- The counts are those of a semaphore with this number of free permits, whoever holds the others.
 pub record StandsBy (p : Policy) (permits free : ℤ) (k : Counts) : Type 0 where
   pub object : k.object ≡ Semaphore p permits
   pub level : k.free ≡ free

@@ -8,10 +8,10 @@ use history::entry::Mode;
 use history::fault::Fault;
 use history::header::Object;
 
-/// The hooks of a latch: as in CountDownLatch, the state is the count, and the gate is open at 0.
+/// The hooks of a latch. As in CountDownLatch, the state is the count, and the gate is open at 0.
 #[derive(Drop)]
 pub struct LatchHooks {
-    /// As opened.
+    /// The count at the opening.
     opening: u32,
     count: u32,
 }
@@ -19,7 +19,7 @@ pub struct LatchHooks {
 impl LatchHooks {
     ghost use Rattle.counting.specs.Latch.{latch_of, IsOpened};
 
-    /// The hooks of a latch that was never counted down, for any number of seats.
+    /// Returns the hooks of a latch that was never counted down, for any number of seats.
     pub fn open(count: u32) -> LatchHooks
         ensures object { latch_of result ≡ Latch count }
         ensures opened { (seats : ℕ) → IsOpened result seats }

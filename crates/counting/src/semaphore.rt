@@ -11,12 +11,12 @@ use history::header::{Object, Policy};
 /// The greatest number of free permits.
 const MAX_PERMITS: i64 = 2_147_483_647;
 
-/// The hooks of a semaphore: as in Java's Semaphore, the state is the number of free permits, which may
-/// begin below 0. Who holds them isn't kept.
+/// The hooks of a semaphore. As in Java's Semaphore, the state is the number of free permits, which may be
+/// negative at the opening. Who holds permits isn't kept.
 #[derive(Drop)]
 pub struct SemaphoreHooks {
     policy: Policy,
-    /// As opened.
+    /// The number at the opening.
     permits: i32,
     free: i32,
 }
@@ -24,7 +24,7 @@ pub struct SemaphoreHooks {
 impl SemaphoreHooks {
     ghost use Rattle.counting.specs.Semaphore.{semaphore_of, IsOpened};
 
-    /// The hooks of a semaphore with all its permits free, for any number of seats.
+    /// Returns the hooks of a semaphore with all its permits free, for any number of seats.
     pub fn open(policy: Policy, permits: i32) -> SemaphoreHooks
         ensures object { semaphore_of result ≡ Semaphore policy permits }
         ensures opened { (seats : ℕ) → IsOpened result seats }
@@ -76,7 +76,7 @@ impl Hooks for SemaphoreHooks {
         self.policy.is_strict()
     }
 
-    // Never Last: a request of 0 could be granted where nothing is free.
+    // Never Last: a request for 0 could be granted even if no permit is free.
     fn take(&mut self, _who: u16, _mode: Mode, n: u32) -> Taken {
         let free = i64::from(self.free) - i64::from(n);
         self.free = free as i32;

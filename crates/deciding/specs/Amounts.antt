@@ -1,4 +1,4 @@
--- What the numbers of permits and of a latch stand for.
+-- What the numbers of permits and countdowns mean.
 use Rattle.std.specs.Prelude.{◌≡◌, ◌+◌, ◌*◌, ◌≤◌, List, length, nat_abs, FitsSigned}
 use Rattle.std.specs.Int.{w128}
 use Rattle.history.specs.declared.entry.Entry.{Entry}

@@ -1,4 +1,4 @@
--- What an object comes to, in numbers.
+-- An object's totals.
 use Rattle.std.specs.Prelude.{if◌then◌else◌, ◌<◌, ◌^◌, ℕ, List, length, ℤ, pos}
 use Rattle.history.specs.declared.entry.Entry.{Entry}
 use Rattle.history.specs.declared.entry.Mode.{Mode}
@@ -10,7 +10,7 @@ use Rattle.history.specs.Sleepers.{sleepers}
 use Rattle.history.specs.Start.{Start}
 use Rattle.deciding.specs.declared.balance.Balance.{Balance}
 
--- the free permits of a semaphore, and 0 of any other object
+-- the free permits of a semaphore, and 0 for any other object
 abbrev pub available : Start → List Entry → ℤ
 available s h = if is_semaphore s.header.object then free s h else pos 0
 
@@ -18,7 +18,7 @@ available s h = if is_semaphore s.header.object then free s h else pos 0
 abbrev pub held_by_all : Start → List Entry → Mode → ℕ
 held_by_all s h m = total s.header.seats (λ i. held s h i m)
 
--- the sleepers of all conditions
+-- how many seats wait, over all conditions
 abbrev pub all_asleep : Start → List Entry → ℕ
 all_asleep s h = total s.header.conditions (λ c. length (sleepers s h c))
 
@@ -33,6 +33,6 @@ balance s h =
       count = count s h;
     }
 
--- a state that stands for some history, whose entries have numbers of 32 bits
+-- a state that represents some history of fewer than 2^32 entries
 abbrev pub HasShortHistory : {A : Type 0} → (Start → List Entry → A → Type 0) → A → Type 0
 HasShortHistory stands state = (s : Start) × (h : List Entry) × stands s h state × (length h < 2 ^ 32)

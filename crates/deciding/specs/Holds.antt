@@ -1,7 +1,7 @@
--- How many holds a history may say that there are.
+-- A bound on all holds of a history.
 use Rattle.std.specs.Prelude.{ℕ, ◌+◌, ◌*◌, List, length}
 use Rattle.history.specs.declared.entry.Entry.{Entry}
 
--- a bound of all holds, where there were so many at first: each entry adds at most 32 bits
+-- the bound, if there were `first` holds at first: each entry adds less than 2^32
 abbrev pub most_held : ℕ → List Entry → ℕ
 most_held first h = first + 4294967295 * length h

@@ -1,4 +1,4 @@
--- What a state of an object stands for: a history.
+-- What a state of an object represents: a history.
 use Rattle.std.specs.Prelude.{◌≡◌, ◌<◌, ℕ, List}
 use Rattle.history.specs.declared.entry.Entry.{Entry}
 use Rattle.history.specs.Base.{Base, based}
@@ -7,7 +7,7 @@ use Rattle.history.specs.Header.{IsInRange}
 use Rattle.history.specs.Legal.{IsLegal, AreSeated}
 use Rattle.history.specs.Start.{Start}
 
--- A legal history from a good base. That of the object as it is opened is one.
+-- A legal history from a good base. The base of an object as opened is one.
 pub record IsHistory (s : Start) (h : List Entry) : Type 0 where
   pub base : Base
   pub good : IsGood base
@@ -16,7 +16,7 @@ pub record IsHistory (s : Start) (h : List Entry) : Type 0 where
   pub legal : IsLegal s h
   pub seated : AreSeated s h
 
--- a state that stands for some history
+-- a state that represents some history
 abbrev pub HasHistory : {A : Type 0} → (Start → List Entry → A → Type 0) → A → Type 0
 HasHistory stands state = (s : Start) × (h : List Entry) × stands s h state
 

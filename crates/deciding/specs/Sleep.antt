@@ -1,4 +1,4 @@
--- What is kept of a sleep, as histories speak of it.
+-- A wait on a condition in the terms of histories.
 use Rattle.history.specs.Start.{Sleep}
 use Rattle.deciding.specs.declared.sleep.LastSleep.{LastSleep}
 

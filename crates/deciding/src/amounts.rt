@@ -16,7 +16,7 @@ use history::base::{Base, opening_count};
 use history::entry::{Entry, Word};
 use history::header::Object;
 
-/// What a history says of the permits that are free, and of how often a latch was counted down.
+/// The free permits and the countdowns that a history determines.
 #[derive(Drop)]
 pub struct Amounts {
     pub free: i128,
@@ -24,7 +24,7 @@ pub struct Amounts {
 }
 
 impl Amounts {
-    /// The opening numbers.
+    /// Returns the opening numbers.
     pub fn open(object: Object) -> Self
         ensures { (k : Header) → k.object ≡ object → AreAmounts (opening k) [] result }
     {
@@ -34,7 +34,7 @@ impl Amounts {
         }
     }
 
-    /// The numbers of a base, of whose permits the seats hold so many together.
+    /// Returns the numbers of a base. `held` is how many permits all its seats hold.
     pub fn open_on(base: &Base, held: u128) -> Self
         requires range { IsInRange base.now.header }
         requires good { IsGood base.now }
@@ -48,7 +48,7 @@ impl Amounts {
         }
     }
 
-    /// Follows one more entry.
+    /// Updates the numbers for one more entry.
     #[inline(always)]
     pub fn note(&mut self, entry: Entry)
         requires { (s : Start) × (h : List Entry) × AreAmounts s h self.old × (length h + 1 < 2 ^ 32) }
@@ -60,7 +60,7 @@ impl Amounts {
     }
 }
 
-/// The permits that a semaphore was made with.
+/// Returns the permits with which a semaphore was opened.
 fn created(object: Object) -> i128
     ensures { result ≡ created object }
 {
@@ -70,7 +70,7 @@ fn created(object: Object) -> i128
     }
 }
 
-/// The permits that are free of those created and those released unheld, where so many are held.
+/// Returns the free permits: those created and those released unheld, less those held.
 fn left_free(created: i128, unheld: u128, held: u128) -> i128
     requires created { nat_abs created ≤ 2147483648 }
     requires unheld { unheld ≤ 10000000000000000000000000 }
@@ -80,7 +80,7 @@ fn left_free(created: i128, unheld: u128, held: u128) -> i128
     created + unheld as i128 - held as i128
 }
 
-/// The free permits after an entry.
+/// Returns the free permits after an entry.
 fn free_after(word: Word, n: u32, had: i128) -> i128
     requires { nat_abs had ≤ 36893488147419103232 }
     ensures is { result ≡ free_after word n had }
@@ -93,7 +93,7 @@ fn free_after(word: Word, n: u32, had: i128) -> i128
     }
 }
 
-/// How often an entry counts a latch down.
+/// Returns how often an entry counts a latch down.
 fn counted_by(word: Word) -> u64
     ensures is { (n : ℕ) → n + result ≡ counted_after word n }
     ensures bound { result ≤ 1 }

@@ -1,4 +1,4 @@
-//! Who comes to stand in line.
+//! Arrivals in the wait queue.
 
 ghost use Rattle.std.specs.Prelude.{◌≡◌, false};
 ghost use Rattle.history.specs.Line.{coming_back};
@@ -6,7 +6,7 @@ ghost use Rattle.history.specs.Line.{coming_back};
 use history::arrival::Arrival;
 use history::entry::{Entry, Mode};
 
-/// A new acquire, in line.
+/// Returns the arrival of a new acquire.
 pub fn queued(entry: Entry) -> Arrival
     ensures { result ≡ record { seat = entry.seat; mode = entry.mode; n = entry.n; back = false } }
 {
@@ -18,7 +18,7 @@ pub fn queued(entry: Entry) -> Arrival
     }
 }
 
-/// One that slept on a condition asks for X again.
+/// Returns the arrival of a waiter that comes back from a condition: it asks for X and 1.
 pub fn coming_back(seat: u16) -> Arrival
     ensures { result ≡ coming_back seat }
 {

@@ -1,4 +1,4 @@
-//! What an object comes to, in numbers.
+//! An object's totals.
 
 ghost use Rattle.std.specs.Prelude.{◌≡◌, ◌<◌, ◌^◌, List};
 ghost use Rattle.history.specs.Start.{Start};
@@ -14,19 +14,20 @@ use history::header::Object;
 pub struct Balance {
     /// The exclusive holds of all seats.
     pub exclusive: u128,
-    /// The shared holds of all seats; of a semaphore the permits that they hold.
+    /// The shared holds of all seats; for a semaphore the permits that they hold.
     pub shared: u128,
-    /// How many stand in line.
+    /// How many seats are in the queue.
     pub line: u16,
-    /// How many sleep, on any condition.
+    /// How many seats wait on conditions.
     pub sleepers: u32,
-    /// The free permits of a semaphore, which may be below 0; else 0.
+    /// The free permits of a semaphore, which may be negative; else 0.
     pub available: i64,
     /// The count of a latch; else 0.
     pub count: u32,
 }
 
-/// What a state says of all seats and all conditions. It asks each of them, and takes no memory.
+/// Returns the totals of a state over all seats and all conditions. It visits each of them, and allocates
+/// nothing.
 pub fn balance_of<T: Situation>(state: &T) -> Balance
     requires { HasShortHistory T.stands state.now }
     ensures balance { (s : Start) (h : List Entry) → T.stands s h state.now → result ≡ balance s h }
@@ -43,7 +44,7 @@ pub fn balance_of<T: Situation>(state: &T) -> Balance
     }
 }
 
-/// The holds of all seats in a mode.
+/// Returns the holds of all seats in a mode.
 fn held_by_all<T: Situation>(state: &T, mode: Mode) -> u128
     requires { HasShortHistory T.stands state.now }
     ensures held { (s : Start) (h : List Entry) → T.stands s h state.now → result ≡ held_by_all s h mode }
@@ -56,7 +57,7 @@ fn held_by_all<T: Situation>(state: &T, mode: Mode) -> u128
     all
 }
 
-/// The sleepers of all conditions.
+/// Returns how many seats wait, over all conditions.
 fn all_asleep<T: Situation>(state: &T) -> u32
     ensures { (s : Start) (h : List Entry) → T.stands s h state.now → result ≡ all_asleep s h }
 {
@@ -67,7 +68,7 @@ fn all_asleep<T: Situation>(state: &T) -> u32
     all
 }
 
-/// The free permits of a semaphore, else 0.
+/// Returns the free permits of a semaphore, else 0.
 fn available<T: Situation>(state: &T) -> i64
     requires { HasShortHistory T.stands state.now }
     ensures { (s : Start) (h : List Entry) → T.stands s h state.now → result ≡ available s h }

@@ -1,4 +1,4 @@
-//! The steps that are refused and not recorded, whatever the history says.
+//! The steps that fail and aren't recorded, in whatever state.
 
 ghost use Rattle.std.specs.Prelude.{◌≡◌};
 ghost use Rattle.history.specs.Faults.{is_wrong_mode, is_no_condition, is_bad_amount, is_bad_number, lacks_mode};
@@ -11,7 +11,8 @@ use history::fault::Fault;
 use history::header::{Header, Object};
 use history::step::Step;
 
-/// The fault of a step that the object doesn't have: its mode, its condition, its amount, in this order.
+/// Returns the fault of a step that the object doesn't have. The mode is checked first, then the condition,
+/// then the amount.
 pub fn refused_as(header: &Header, step: Step) -> Option<Fault>
     ensures { result ≡ refused_as header.now step }
 {
@@ -26,14 +27,15 @@ pub fn refused_as(header: &Header, step: Step) -> Option<Fault>
     }
 }
 
-/// Whether a step is for one who stands in line or sleeps.
+/// Returns whether a step is for a waiter.
 pub fn waits(step: Step) -> bool
     ensures { result ≡ waits step }
 {
     matches!(step, Step::Look | Step::Expire | Step::Interrupt)
 }
 
-/// Whether the object is owned, has conditions, and keeps room for each hold: a lock or a read-write lock.
+/// Returns whether the object is a lock or a read-write lock: it has an owner and conditions, and keeps room
+/// for each hold.
 pub fn is_lock(object: Object) -> bool
     ensures { result ≡ is_lock object }
 {

@@ -28,7 +28,7 @@ use history::step::Step;
 /// The most free permits.
 const MAX_PERMITS: i64 = 2_147_483_647;
 
-/// The seat of the first in line, if it could take what it asks for.
+/// Returns the seat of the head of the queue, if it could acquire what it asks for.
 pub fn ready<T: Situation>(state: &T) -> Option<u16>
     requires { HasHistory T.stands state.now }
     ensures ready { (s : Start) (h : List Entry) → T.stands s h state.now → result ≡ ready s h }
@@ -47,7 +47,8 @@ pub fn ready<T: Situation>(state: &T) -> Option<u16>
     }
 }
 
-/// Whether the seat is the first in line and could take what it asks for, so that a look would let it go.
+/// Returns whether the seat is the head of the queue and could acquire what it asks for, so that a retry
+/// succeeds.
 fn is_ready<T: Situation>(state: &T, seat: u16) -> bool
     requires { HasSeat T.stands state.now seat }
     ensures { (s : Start) (h : List Entry) → T.stands s h state.now → result ≡ is_seat (ready s h) seat }
@@ -107,7 +108,7 @@ fn tried_fairly<T: Situation>(state: &T, seat: u16, mode: Mode, n: u32) -> Word
     }
 }
 
-/// The free permits of a semaphore.
+/// Returns the free permits of a semaphore.
 fn free_permits<T: Situation>(state: &T) -> i64
     requires { (s : Start) × (h : List Entry) × T.stands s h state.now
         × (is_semaphore s.header.object ≡ true) }
@@ -117,7 +118,7 @@ fn free_permits<T: Situation>(state: &T) -> i64
     state.free()
 }
 
-/// What a give makes: a hold must be the giver's own, permits mustn't pass the greatest number.
+/// Returns what a release makes. A hold must be the seat's own. Permits must not pass the greatest number.
 #[inline(always)]
 fn gave<T: Situation>(state: &T, seat: u16, mode: Mode, n: u32) -> Word
     requires { HasSeat T.stands state.now seat }
@@ -143,7 +144,7 @@ fn gave<T: Situation>(state: &T, seat: u16, mode: Mode, n: u32) -> Word
     }
 }
 
-/// All the exclusive holds of a seat of a lock. Who has any is its owner.
+/// Returns all exclusive holds of a seat of a lock. A seat that has any is the owner.
 fn exclusive_holds<T: Situation>(state: &T, seat: u16) -> u32
     requires seat { HasSeat T.stands state.now seat }
     requires lock { (s : Start) (h : List Entry) → T.stands s h state.now
@@ -156,7 +157,8 @@ fn exclusive_holds<T: Situation>(state: &T, seat: u16) -> u32
     state.held(seat, Mode::X) as u32
 }
 
-/// An await is the owner's, without read holds, and gives up all its exclusive holds.
+/// Returns the entry of an await. Only the owner may await, and only without read holds. It gives up all its
+/// exclusive holds.
 fn awaits<T: Situation>(state: &T, seat: u16, condition: u8) -> Entry
     requires seat { HasSeat T.stands state.now seat }
     requires lock { (s : Start) (h : List Entry) → T.stands s h state.now
@@ -181,7 +183,8 @@ fn awaits<T: Situation>(state: &T, seat: u16, condition: u8) -> Entry
     }
 }
 
-/// A signal is the owner's, and has the number of sleepers that it moves.
+/// Returns the entry of a signal. Only the owner may signal. The entry has the number of waiters that it
+/// moves.
 fn signals<T: Situation>(state: &T, seat: u16, word: Word, moved: u16, condition: u8) -> Entry
     requires seat { HasSeat T.stands state.now seat }
     requires lock { (s : Start) (h : List Entry) → T.stands s h state.now
@@ -202,7 +205,7 @@ fn signals<T: Situation>(state: &T, seat: u16, word: Word, moved: u16, condition
     }
 }
 
-/// The entry of an idle seat's step.
+/// Returns the entry that a step of an idle seat makes.
 #[inline(always)]
 fn idle_entry<T: Situation>(state: &T, seat: u16, step: Step) -> Entry
     requires seat { HasSeat T.stands state.now seat }
@@ -239,7 +242,7 @@ fn idle_entry<T: Situation>(state: &T, seat: u16, step: Step) -> Entry
     }
 }
 
-/// The entry of one in line, or sleep.
+/// Returns the entry that a step of a waiter in the queue makes, or `None` for sleep.
 fn line_entry<T: Situation>(state: &T, seat: u16, arrival: Arrival, step: Step) -> Option<Entry>
     requires seat { HasSeat T.stands state.now seat }
     requires stands { (s : Start) (h : List Entry) → T.stands s h state.now
@@ -257,7 +260,7 @@ fn line_entry<T: Situation>(state: &T, seat: u16, arrival: Arrival, step: Step) 
     }
 }
 
-/// The entry of an admitted step by the phase of its seat: in line, asleep or idle.
+/// Returns the entry of a step that the object has, by the phase of its seat: in the queue, asleep or idle.
 #[inline(always)]
 fn entry_in_phase<T: Situation>(state: &T, seat: u16, step: Step) -> Result<Option<Entry>, Fault>
     requires seat { HasSeat T.stands state.now seat }
@@ -287,8 +290,8 @@ fn entry_in_phase<T: Situation>(state: &T, seat: u16, step: Step) -> Result<Opti
     }
 }
 
-/// The one entry that a step of the seat makes as the next one; `None` is sleep, and a fault is one that
-/// isn't recorded.
+/// Returns the one entry that a step of the seat makes next. `None` is sleep, and a fault is one that isn't
+/// recorded.
 #[inline(always)]
 pub fn entry_for<T: Situation>(state: &T, seat: u16, step: Step) -> Result<Option<Entry>, Fault>
     requires { HasSeat T.stands state.now seat }

@@ -13,7 +13,7 @@ use history::arrival::Arrival;
 use history::entry::{End, Entry, Mode, Word};
 use history::step::Step;
 
-/// An entry of no condition and no wait.
+/// Returns an entry that concerns no condition and ends no wait.
 pub fn plain(seat: u16, word: Word, mode: Mode, n: u32) -> Entry
     ensures { result ≡ plain seat word mode n }
 {
@@ -27,7 +27,7 @@ pub fn plain(seat: u16, word: Word, mode: Mode, n: u32) -> Entry
     }
 }
 
-/// The entry by which an acquire leaves the line.
+/// Returns the entry by which an acquire leaves the queue.
 fn ended(seat: u16, word: Word, arrival: Arrival, end: End) -> Entry
     ensures { result ≡ ended seat word arrival end }
 {
@@ -41,7 +41,7 @@ fn ended(seat: u16, word: Word, arrival: Arrival, end: End) -> Entry
     }
 }
 
-/// What a queued acquire makes of a step, whether it may go or not; `None` is sleep.
+/// Returns what a step of an acquire in the queue makes, by whether it may go. `None` is sleep.
 pub fn queued_entry(goes: bool, seat: u16, arrival: Arrival, step: Step) -> Option<Entry>
     ensures { result ≡ queued_entry goes seat arrival step }
 {
@@ -65,7 +65,7 @@ pub fn queued_entry(goes: bool, seat: u16, arrival: Arrival, step: Step) -> Opti
     }
 }
 
-/// The end of an await: all that was given up is held again.
+/// Returns the entry that ends an await: all holds that were given up are held again.
 pub fn back(seat: u16, sleep: LastSleep) -> Entry
     ensures { (s : Start) (h : List Entry) → sleep_of sleep ≡ last_sleep s h seat → result ≡ back s h seat }
 {
@@ -79,7 +79,7 @@ pub fn back(seat: u16, sleep: LastSleep) -> Entry
     }
 }
 
-/// What a sleeper makes of a step; `None` is sleep.
+/// Returns what a step of a seat on a condition makes. `None` is sleep.
 pub fn sleeping_entry(seat: u16, sleep: LastSleep, step: Step) -> Option<Entry>
     ensures { (s : Start) (h : List Entry) → sleep_of sleep ≡ last_sleep s h seat
         → result ≡ sleeping_entry s h seat step }
@@ -99,7 +99,7 @@ pub fn sleeping_entry(seat: u16, sleep: LastSleep, step: Step) -> Option<Entry>
     })
 }
 
-/// Whom an entry names, by who was ready before it and who is behind it.
+/// Returns the waiter that an entry of `seat` names, from who was ready before it and who is ready after it.
 pub fn named(before: Option<u16>, after: Option<u16>, seat: u16) -> Option<u16>
     ensures { result ≡ named_by before after seat }
 {

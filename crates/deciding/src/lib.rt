@@ -1,9 +1,8 @@
-//! Which entry a step makes, and what an entry makes of the holds, of the reserved room and of the line.
+//! Decides which entry a step makes, and how an entry changes permits, reserved room and queue.
 //!
-//! [`entry_for`](decide::entry_for) decides over any state that answers the questions of the trait
-//! [`Situation`](situation::Situation), and [`balance_of`](balance::balance_of) adds up what such a state says.
-//! The core and the audit each answer them by a state of their own. The other functions depend on their arguments
-//! alone.
+//! [`entry_for`](decide::entry_for) decides for any state that implements the trait
+//! [`Situation`](situation::Situation), and [`balance_of`](balance::balance_of) adds up such a state. The
+//! core and the audit each have such a state. The other functions depend on their arguments alone.
 #![tactic(auto)]
 
 pub mod amounts;

@@ -1,4 +1,4 @@
-//! The room that stays owed behind an entry.
+//! The room that is owed after an entry.
 
 ghost use Rattle.std.specs.Prelude.{◌≡◌, ◌+◌, ◌-◌, ◌<◌, ◌≤◌, ◌^◌};
 ghost use Rattle.history.specs.Room.{reserves, releases};
@@ -7,8 +7,8 @@ use crate::checks::is_lock;
 use history::entry::{Entry, Word};
 use history::header::Object;
 
-/// For how many entries room is owed behind an entry, where it is owed for so many before it: what the entry
-/// reserves comes to it, and what it releases goes.
+/// Returns how many entries are owed after `entry`: `owed` plus what the entry reserves, minus what it
+/// releases.
 #[inline(always)]
 pub fn owed_behind(object: Object, entry: Entry, owed: u64) -> u64
     requires few { owed + 2 < 2 ^ 64 }

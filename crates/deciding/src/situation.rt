@@ -1,4 +1,4 @@
-//! What a decision asks of the present state of an object.
+//! The questions that a decision asks about the state of an object.
 
 ghost use Rattle.std.specs.Prelude.{◌≡◌, List, length, true};
 ghost use Rattle.history.specs.Could.{could, held_back, limit};
@@ -18,81 +18,82 @@ use history::arrival::Arrival;
 use history::entry::Mode;
 use history::header::Header;
 
-/// What a decision asks of the present state of an object.
+/// The questions that a decision asks about the state of an object.
 ///
-/// A state stands for a history: what it answers is what the definitions compute from that.
+/// A state represents a history. Its answers are what the definitions compute from that history.
 pub trait Situation {
-    /// The state is the one behind this history.
+    /// The state is the one after this history.
     ghost stands: { Start → List Entry → Self → Type 0 };
 
     fn header(&self) -> &Header
         ensures { (s : Start) (h : List Entry) → stands s h self.now → result.now ≡ s.header };
 
-    /// Whether a line holds back tries too.
+    /// Returns whether the queue holds back tries too.
     fn is_strict(&self) -> bool
         ensures { (s : Start) (h : List Entry) → stands s h self.now → result ≡ is_strict s.header.object };
 
-    /// Whether the line holds a new call back.
+    /// Returns whether the queue holds a new call back.
     fn is_held_back(&self, seat: u16, mode: Mode) -> bool
         requires { HasSeat stands self.now seat }
         ensures { (s : Start) (h : List Entry) → stands s h self.now
             → result ≡ held_back (counts s h) (first_mode s h) seat mode };
 
-    /// Whether the seat has as many holds as it may have.
+    /// Returns whether the seat has the greatest number of holds.
     fn is_at_limit(&self, seat: u16, mode: Mode) -> bool
         requires { HasSeat stands self.now seat }
         ensures { (s : Start) (h : List Entry) → stands s h self.now
             → result ≡ limit (counts s h) seat mode };
 
-    /// Whether the seat could take now.
+    /// Returns whether the seat could acquire now.
     fn could_take(&self, seat: u16, mode: Mode, n: u32) -> bool
         requires { HasSeat stands self.now seat }
         ensures { (s : Start) (h : List Entry) → stands s h self.now
             → result ≡ could (counts s h) seat mode n };
 
-    /// The holds of the seat in a mode.
+    /// Returns the holds of the seat in a mode.
     fn held(&self, seat: u16, mode: Mode) -> u128
         requires { HasSeat stands self.now seat }
         ensures { (s : Start) (h : List Entry) → stands s h self.now → result ≡ held s h seat mode };
 
-    /// The free permits of a semaphore, which may be below 0.
+    /// Returns the free permits of a semaphore, which may be negative.
     fn free(&self) -> i64
         requires { (s : Start) × (h : List Entry) × stands s h self.now
             × (is_semaphore s.header.object ≡ true) }
         ensures { (s : Start) (h : List Entry) → stands s h self.now → result ≡ free s h };
 
-    /// The count of a latch, down from its opening number; else 0.
+    /// Returns the count of a latch, which falls from its opening number; else 0.
     fn latch_count(&self) -> u32
         ensures { (s : Start) (h : List Entry) → stands s h self.now → result ≡ count s h };
 
-    /// How many stand in line.
+    /// Returns how many seats are in the queue.
     fn line_length(&self) -> u16
         ensures { (s : Start) (h : List Entry) → stands s h self.now → result ≡ length (line s h) };
 
-    /// The longest waiter in line.
+    /// Returns the head of the queue, which has waited longest.
     fn first(&self) -> Option<Arrival>
         ensures { (s : Start) (h : List Entry) → stands s h self.now → result ≡ first_of (line s h) };
 
-    /// What the seat asks for in line.
+    /// Returns what the seat asks for in the queue, if it is there.
     fn place_of(&self, seat: u16) -> Option<Arrival>
         ensures { (s : Start) (h : List Entry) → stands s h self.now → result ≡ place_of seat (line s h) };
 
-    /// Whether the seat sleeps on a condition.
+    /// Returns whether the seat waits on a condition.
     fn sleeps(&self, seat: u16) -> bool
         ensures { (s : Start) (h : List Entry) → stands s h self.now
             → result ≡ sleeps_below s.header.conditions s h seat };
 
-    /// How many sleep on a condition.
+    /// Returns how many seats wait on a condition.
     fn sleepers(&self, condition: u8) -> u16
         ensures { (s : Start) (h : List Entry) → stands s h self.now
             → result ≡ length (sleepers s h condition) };
 
-    /// What the seat gave up when it last slept, where it sleeps or is on its way back.
+    /// Returns what the seat gave up when it last began to wait on a condition, if it is still within that
+    /// await.
     fn last_sleep(&self, seat: u16) -> LastSleep
         requires { HasSeat stands self.now seat }
         ensures { (s : Start) (h : List Entry) → stands s h self.now → is_away (phase s h seat) ≡ true
             → sleep_of result ≡ last_sleep s h seat };
 
-    /// A state stands only for legal histories from a good base.
+    /// A state represents only legal histories from a good base.
     ghost is_history: { (s : Start) (h : List Entry) (state : Self) → stands s h state → IsHistory s h };
 }

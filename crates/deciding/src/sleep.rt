@@ -1,8 +1,8 @@
-//! What is kept of a sleep on a condition.
+//! A wait on a condition, as it is kept.
 
 use history::entry::End;
 
-/// What a seat gave up when it last slept on a condition, and how that await ends.
+/// What a seat gave up when it last began to wait on a condition, and how that wait ended.
 #[derive(Clone, Copy, Debug, PartialEq, Eq)]
 pub struct LastSleep {
     pub condition: u8,

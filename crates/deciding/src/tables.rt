@@ -1,4 +1,4 @@
-//! Tables of what the seats hold, by mode.
+//! Tables of the seats' holds in one mode.
 
 ghost use Rattle.std.specs.Prelude.{◌≡◌, ℕ, ◌<◌, ◌≤◌, ◌^◌, IfOk, length, map, slice_index};
 ghost use Rattle.history.specs.Base.{holds_of};
@@ -9,7 +9,7 @@ use history::base::SeatBase;
 use history::entry::Mode;
 use std::alloc::{AllocError, Global};
 
-/// What each seat of a base holds in a mode.
+/// Returns what each seat of a base holds in a mode.
 pub fn held_in(alloc: Global, seats: &[SeatBase], mode: Mode) -> Result<Vec<u128>, AllocError>
     ensures { IfOk result (λ held. held.items ≡ map (λ has. holds_of has mode) seats.now) }
 {
@@ -20,7 +20,6 @@ pub fn held_in(alloc: Global, seats: &[SeatBase], mode: Mode) -> Result<Vec<u128
     Ok(held)
 }
 
-/// What a seat holds in a mode.
 fn holds_of(has: SeatBase, mode: Mode) -> u128
     ensures { result ≡ holds_of has mode }
 {
@@ -30,7 +29,7 @@ fn holds_of(has: SeatBase, mode: Mode) -> u128
     }
 }
 
-/// The sum of what the seats hold.
+/// Returns the sum of the numbers.
 pub fn sum(numbers: &[u128]) -> u128
     requires each { (i : ℕ) → slice_index numbers.now i ≤ most_permits }
     requires few { length numbers.now ≤ 65536 }

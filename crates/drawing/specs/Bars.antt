@@ -6,7 +6,8 @@ use Rattle.history.specs.Start.{Start}
 use Rattle.drawing.specs.declared.bar.Bar.{Bar}
 use Rattle.drawing.specs.Levels.{Track, level_of, tracks}
 
--- For how many entries, back from the newest and not before the one of a number, a track has had a level.
+-- For how many entries a track has kept its level, counted back from the newest entry, but not before entry
+-- `from`.
 abbrev pub lasting : Start → ℕ → List Entry → Track → ℕ → ℕ
 lasting s from [] t n = 0
 lasting s from (e ∷ h) t n =
@@ -14,7 +15,7 @@ lasting s from (e ∷ h) t n =
     else if level_of s (e ∷ h) t == n then lasting s from h t n + 1
     else 0
 
--- the bar of a track that the newest entry belongs to, where it has a level
+-- the bar of a track that the newest entry belongs to, if the track has a level
 abbrev pub bar_at : Start → ℕ → List Entry → Track → List Bar
 bar_at s from h t =
     if level_of s h t == 0 then []
@@ -28,7 +29,7 @@ bar_at s from h t =
     } ∷ []
     else []
 
--- the same where one more entry changes the level, so that the bar ends before it
+-- the same bar, if one more entry changes the level and so ends it
 abbrev pub ended_by : Start → ℕ → Entry → List Entry → Track → List Bar
 ended_by s from e h t = if level_of s (e ∷ h) t == level_of s h t then [] else bar_at s from h t
 
@@ -37,6 +38,6 @@ abbrev pub ended : Start → ℕ → List Entry → List Bar
 ended s from [] = []
 ended s from (e ∷ h) = ended s from h ++ flat_map (ended_by s from e h) (tracks s.header)
 
--- all bars, of which the last ones reach the newest entry
+-- all bars; the last ones reach the newest entry
 abbrev pub bars : Start → ℕ → List Entry → List Bar
 bars s from h = ended s from h ++ flat_map (bar_at s from h) (tracks s.header)

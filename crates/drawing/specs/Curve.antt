@@ -6,7 +6,7 @@ use Rattle.history.specs.declared.header.Object.TheVariants.{Lock, ReadWrite, Se
 use Rattle.history.specs.Counts.{count, free}
 use Rattle.history.specs.Start.{Start}
 
--- the number behind a history whose curve is drawn; locks have none
+-- the number after a history whose curve is drawn; locks have none
 abbrev pub amount_of : Object → Start → List Entry → Option ℤ
 amount_of (Lock policy) s h = None
 amount_of (ReadWrite policy) s h = None
@@ -17,7 +17,7 @@ abbrev pub point : Option ℤ → List ℤ
 point None = []
 point (Some z) = z ∷ []
 
--- the number behind each entry from one on, in their order
+-- the number after each entry, from entry `from` on, in order
 abbrev pub curve : Start → ℕ → List Entry → List ℤ
 curve s from [] = []
 curve s from (e ∷ h) =

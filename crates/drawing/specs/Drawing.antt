@@ -1,4 +1,4 @@
--- What a drawing knows of the entries so far.
+-- What a drawing knows about the entries so far.
 use Rattle.std.specs.Prelude.{◌≡◌, ◌<◌, ◌+◌, ◌^◌, ℕ, List, length}
 use Rattle.deciding.specs.Amounts.{AreAmounts}
 use Rattle.history.specs.declared.entry.Entry.{Entry}
@@ -10,7 +10,7 @@ use Rattle.drawing.specs.Marks.{marks}
 use Rattle.drawing.specs.Standings.{AreStanding}
 use Rattle.drawing.specs.Stretches.{stretches}
 
--- these entries behind a start were followed, and are drawn from one of them on
+-- these entries after a start were taken, and are drawn from entry `from` on
 pub record HasDrawn (s : Start) (from : ℕ) (h : List Entry) (d : Drawing) : Type 0 where
   pub header : d.header ≡ s.header
   pub begins : d.from ≡ from
@@ -22,7 +22,7 @@ pub record HasDrawn (s : Start) (from : ℕ) (h : List Entry) (d : Drawing) : Ty
   pub marked : d.marks.items ≡ marks from h
   pub points : d.curve.items ≡ curve s from h
 
--- one that has followed some entries, of which there may be one more, of one of the seats
+-- one that has taken some entries, after which one more of one of the seats may come
 pub record CanDraw (d : Drawing) (e : Entry) : Type 0 where
   pub start : Start
   pub from : ℕ
@@ -31,7 +31,7 @@ pub record CanDraw (d : Drawing) (e : Entry) : Type 0 where
   pub seat : e.seat < start.header.seats
   pub room : length entries + 1 < 2 ^ 32
 
--- one that has followed some entries
+-- one that has taken some entries
 pub record IsDrawing (d : Drawing) : Type 0 where
   pub start : Start
   pub from : ℕ

@@ -7,23 +7,23 @@ use Rattle.drawing.specs.declared.kind.Kind.{Kind}
 use Rattle.drawing.specs.declared.kind.Kind.TheVariants.{Exclusive, Shared, InLine, Asleep}
 use Rattle.drawing.specs.Levels.{level}
 
--- the entries up to the one of a number: the newest stands first, and numbers count from the oldest, from 0
+-- the entries up to the one of a number; the newest is first in the list, and the oldest has number 0
 abbrev pub up_to : ℕ → List Entry → List Entry
 up_to number h = drop (length h - (number + 1)) h
 
--- the level of a seat behind the entry of a number
+-- the level of a seat after the entry of a number
 abbrev pub level_behind : Start → List Entry → ℕ → Kind → ℕ → ℕ
 level_behind s h i kind number = level s (up_to number h) i kind
 
--- the kinds of an object with so many conditions
+-- the kinds of an object with `conditions` conditions
 abbrev pub IsKind : ℕ → Kind → Type 0
 IsKind conditions Exclusive = Unit {0}
 IsKind conditions Shared = Unit {0}
 IsKind conditions InLine = Unit {0}
 IsKind conditions (Asleep c) = c < conditions
 
--- A bar of the entries from a number on: a stretch of entries behind each of which the seat has these holds,
--- as many as the bar says and at least one, and which is part of no longer one.
+-- A bar of the entries from a number on: a longest stretch of entries after each of which the seat has the
+-- bar's level, which is at least 1.
 pub record IsBar (s : Start) (from : ℕ) (h : List Entry) (b : Bar) : Type 0 where
   pub seat : b.seat < s.header.seats
   pub kind : IsKind s.header.conditions b.kind

@@ -1,4 +1,4 @@
--- What a history says of a seat, as a number for each kind of bar.
+-- The state of a seat after a history, as a number for each kind of bar.
 use Rattle.std.specs.Prelude.{ℕ, zero, suc, Bool, true, false, if◌then◌else◌, List, [], ◌∷◌, ◌++◌, Option, Some, None}
 use Rattle.history.specs.declared.arrival.Arrival.{Arrival}
 use Rattle.history.specs.declared.entry.Entry.{Entry}
@@ -18,15 +18,15 @@ is_there (Some a) = true
 abbrev pub one_if : Bool → ℕ
 one_if b = if b then 1 else 0
 
--- The level of a seat behind a history: its holds of the kind, or 1 where it stands in line, or where it
--- sleeps on the condition, and 0 where it doesn't.
+-- The level of a seat after a history. For holds it is their number. For the queue, or for a condition, it is
+-- 1 if the seat waits there, and 0 if not.
 abbrev pub level : Start → List Entry → ℕ → Kind → ℕ
 level s h i Exclusive = held s h i X
 level s h i Shared = held s h i S
 level s h i InLine = one_if (is_there (place_of i (line s h)))
 level s h i (Asleep c) = one_if (has i (sleepers s h c))
 
--- A seat and a kind: for each of these a picture has bars.
+-- A seat and a kind: a picture has bars for each such pair.
 pub record Track : Type 0 where
   pub seat : ℕ
   pub kind : Kind
@@ -37,7 +37,7 @@ track i kind = record { seat = i; kind = kind }
 abbrev pub level_of : Start → List Entry → Track → ℕ
 level_of s h t = level s h t.seat t.kind
 
--- the kinds of so many conditions
+-- the kinds of the first n conditions
 abbrev pub asleep_tracks : ℕ → ℕ → List Track
 asleep_tracks i zero = []
 asleep_tracks i (suc c) = asleep_tracks i c ++ track i (Asleep c) ∷ []
@@ -50,6 +50,6 @@ abbrev pub tracks_below : ℕ → ℕ → List Track
 tracks_below conditions zero = []
 tracks_below conditions (suc i) = tracks_below conditions i ++ tracks_of_seat conditions i
 
--- all of an object's, seat by seat
+-- all tracks of an object, seat by seat
 abbrev pub tracks : Header → List Track
 tracks k = tracks_below k.conditions k.seats

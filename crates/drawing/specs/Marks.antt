@@ -7,7 +7,7 @@ use Rattle.drawing.specs.declared.mark.Mark.{Mark}
 use Rattle.drawing.specs.declared.mark.Sign.{Sign}
 use Rattle.drawing.specs.declared.mark.Sign.TheVariants as sign
 
--- what a mark tells of an entry's word; most words have none
+-- what a mark shows of an entry's word; most words have no mark
 abbrev pub sign_of : Word → Option Sign
 sign_of word.Missed = Some sign.Missed
 sign_of (word.Refused fault) = Some sign.Refused
@@ -17,7 +17,7 @@ sign_of word.Drained = Some sign.Drained
 sign_of word.Counted = Some sign.Counted
 sign_of _ = None
 
--- the mark of the entry of a number, where it has one
+-- the mark of the entry of a number, if it has one
 abbrev pub mark_of : ℕ → ℕ → Option Sign → List Mark
 mark_of number i None = []
 mark_of number i (Some s) = record { number = number; seat = i; sign = s } ∷ []

@@ -1,4 +1,4 @@
--- What the tables of holds, of the line and of sleepers stand for, and what an entry makes of them.
+-- What the tables of holds, of the queue and of waiters represent, and how an entry changes them.
 use Rattle.std.specs.Prelude.{◌≡◌, ℕ, ◌<◌, ◌≤◌, Bool, true, false, List, [], length, map, if◌then◌else◌, slice_index, slice_index_or, slice_set}
 use Rattle.std.specs.List.{All}
 use Rattle.deciding.specs.Holds.{most_held}
@@ -18,14 +18,14 @@ use Rattle.history.specs.Start.{Start}
 use Rattle.drawing.specs.declared.standings.Standings.{Standings}
 use Rattle.drawing.specs.Levels.{is_there}
 
--- a table of holds behind an entry of its mode, and a table of a mode behind any entry
+-- a table of holds after an entry of its mode, and a table of a mode after any entry
 abbrev pub table_by : Object → Entry → List ℕ → List ℕ
 table_by o e table = slice_set table e.seat (holds_after o e.word e.n (slice_index table e.seat))
 
 abbrev pub holds_by : Mode → Object → Entry → List ℕ → List ℕ
 holds_by m o e table = if same_mode e.mode m then table_by o e table else table
 
--- who stands in line behind an entry, whom it wakes left aside
+-- who is in the queue after an entry, apart from the waiters that it moves there
 abbrev pub line_by : Word → ℕ → List Bool → List Bool
 line_by Queued i table = slice_set table i true
 line_by Lapse i table = slice_set table i true
@@ -34,7 +34,7 @@ line_by Left i table = slice_set table i false
 line_by Back i table = slice_set table i false
 line_by _ i table = table
 
--- the seats that sleep on a condition of a base
+-- the seats that wait on a condition of a base
 abbrev pub sleeping_seats : Base → ℕ → List ℕ
 sleeping_seats b c = map (λ x. x.seat) (sleepers_of b c)
 

@@ -1,4 +1,4 @@
--- The stretches that a drawing keeps, one for each track, and what an entry makes of them.
+-- The stretches that a drawing keeps, one for each track, and how an entry changes them.
 use Rattle.std.specs.Prelude.{ℕ, ◌-◌, ◌==◌, nat_lt, if◌then◌else◌, List, [], ◌∷◌, length, map}
 use Rattle.history.specs.declared.entry.Entry.{Entry}
 use Rattle.history.specs.Start.{Start}
@@ -11,7 +11,7 @@ use Rattle.drawing.specs.Bars.{lasting}
 abbrev pub fresh : ℕ → Track → Stretch
 fresh from t = record { seat = t.seat; kind = t.kind; first = from; holds = 0 }
 
--- the level of a track, and the number of the entry since which it has been the same
+-- the level of a track, and the number of the entry from which on it has been the same
 abbrev pub stretch : Start → ℕ → List Entry → Track → Stretch
 stretch s from h t =
     if nat_lt from (length h) then
@@ -26,18 +26,18 @@ stretch s from h t =
 abbrev pub stretches : Start → ℕ → List Entry → List Stretch
 stretches s from h = map (stretch s from h) (tracks s.header)
 
--- the bar of a stretch that ends before the entry of a number, where it is one of holds
+-- the bar of a stretch that ends before the entry of a number, if the stretch has holds
 abbrev pub bar_of : ℕ → Stretch → List Bar
 bar_of number x =
     if x.holds == 0 then []
     else
     record { seat = x.seat; kind = x.kind; first = x.first; last = number - 1; holds = x.holds } ∷ []
 
--- the level behind a history, in place of which a stretch has another, or the same
+-- the level after a history of the stretch's seat and kind
 abbrev pub level_now : Start → List Entry → Stretch → ℕ
 level_now s h x = level s h x.seat x.kind
 
--- a stretch behind the entry of a number, which is the newest, and the bar that ends with it
+-- a stretch after the newest entry, which has this number, and the bar that ends before it
 abbrev pub going_on : Start → List Entry → ℕ → Stretch → Stretch
 going_on s h number x =
     if level_now s h x == x.holds then x

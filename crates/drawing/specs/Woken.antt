@@ -1,9 +1,9 @@
--- Whom an entry wakes.
+-- Which waiters an entry moves to the queue.
 use Rattle.std.specs.Prelude.{ℕ, List, [], take}
 use Rattle.history.specs.declared.entry.Word.{Word}
 use Rattle.history.specs.declared.entry.Word.TheVariants.{Signal, SignalAll}
 
--- the sleepers of its condition whom an entry moves to the line
+-- the waiters of its condition that an entry moves to the queue
 abbrev pub woken : Word → ℕ → List ℕ → List ℕ
 woken Signal n seats = take n seats
 woken SignalAll n seats = seats

@@ -10,7 +10,7 @@ use deciding::amounts::Amounts;
 use history::header::Object;
 use std::alloc::AllocError;
 
-/// Adds the number whose curve is drawn, where the object has one.
+/// Adds the number whose curve is drawn, if the object has one.
 pub(crate) fn put_point(
     amounts: &Amounts,
     object: Object,

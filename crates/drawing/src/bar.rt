@@ -6,20 +6,20 @@ ghost use Rattle.drawing.specs.Stretches.{bar_of};
 use crate::kind::Kind;
 use std::alloc::AllocError;
 
-/// For how long a seat was at something: from its first entry until before the entry behind its last.
+/// A bar: a seat, what it did, and the first and last entry of that stretch.
 #[derive(Clone, Copy, Debug, PartialEq, Eq)]
 pub struct Bar {
     pub seat: u16,
     pub kind: Kind,
-    /// The number of the first entry behind which it was so.
+    /// The number of the first entry of the stretch.
     pub first: u64,
-    /// The number of the last one.
+    /// The number of the last entry of the stretch.
     pub last: u64,
-    /// How many holds there were; 1 where the seat waits or sleeps.
+    /// How many holds there were; 1 if the seat waits.
     pub holds: u128,
 }
 
-/// A seat's number of holds of a kind, and the number of the entry since which it has been the same.
+/// A seat's number of holds of a kind, and the number of the entry from which on it has been the same.
 #[derive(Clone, Copy, Debug, PartialEq, Eq)]
 pub(crate) struct Stretch {
     pub(crate) seat: u16,
@@ -28,7 +28,7 @@ pub(crate) struct Stretch {
     pub(crate) holds: u128,
 }
 
-/// Adds the bar of a stretch that ends before the entry of a number, where it is one of holds.
+/// Adds the bar of a stretch that ends before the entry of a number, if the stretch has holds.
 pub(crate) fn put_bar(bars: &mut Vec<Bar>, stretch: Stretch, number: u64) -> Result<(), AllocError>
     requires { 0 < stretch.holds → 0 < number }
     ensures { OnOk result (bars.new.items ≡ bars.old.items ++ bar_of number stretch) }

@@ -1,4 +1,4 @@
-//! What is drawn of a history whose entries come one after another.
+//! Drawing a history whose entries come one after another.
 
 ghost use Rattle.std.specs.Prelude.{◌≡◌, ℕ, ◌+◌, ◌<◌, ◌^◌, ◌∷◌, [], List, IfOk, OnOk};
 ghost use Rattle.history.specs.Header.{IsInRange};
@@ -28,14 +28,14 @@ use std::alloc::{AllocError, Global};
 /// What is drawn of a history.
 #[derive(Drop)]
 pub struct Drawn {
-    /// By their last entries, then by seats and kinds.
+    /// The bars, in the order of their last entries, then of seats and kinds.
     pub bars: Vec<Bar>,
     pub marks: Vec<Mark>,
-    /// A semaphore's free permits, or a latch's count, behind each entry; nothing of a lock.
+    /// A semaphore's free permits, or a latch's count, after each entry; nothing for a lock.
     pub curve: Vec<i128>,
 }
 
-/// Follows the entries of a history one after another, and keeps what is drawn from one of them on.
+/// Takes the entries of a history one after another, and keeps what is drawn from entry `from` on.
 #[derive(Drop)]
 pub struct Drawing {
     pub(crate) header: Header,
@@ -50,7 +50,7 @@ pub struct Drawing {
 }
 
 impl Drawing {
-    /// What is drawn of an object as opened, from the entry of a number on.
+    /// Returns a drawing of an object as opened, from the entry of a number on.
     pub fn open(alloc: Global, header: Header, from: u64) -> Result<Self, AllocError>
         ensures { IfOk result (HasDrawn (opening header) from []) }
     {
@@ -58,7 +58,7 @@ impl Drawing {
         begin(alloc, header, from, standings, Amounts::open(header.object))
     }
 
-    /// What is drawn of an object that begins on a base, from the entry of a number on.
+    /// Returns a drawing of an object that begins on a base, from the entry of a number on.
     pub fn open_on(alloc: Global, base: &Base, from: u64) -> Result<Self, AllocError>
         requires range { IsInRange base.now.header }
         requires good { IsGood base.now }
@@ -69,8 +69,7 @@ impl Drawing {
         begin(alloc, base.header, from, standings, amounts)
     }
 
-    /// Follows one more entry of one of the seats, whether it is legal or not. Behind an Err nothing more can
-    /// be drawn.
+    /// Takes one more entry of one of the seats, legal or not. After an error nothing more can be drawn.
     pub fn follow(&mut self, entry: Entry) -> Result<(), AllocError>
         requires { CanDraw self.old entry }
         ensures { OnOk result ((s : Start) (from : ℕ) (h : List Entry) → HasDrawn s from h self.old →
@@ -90,7 +89,7 @@ impl Drawing {
         Ok(())
     }
 
-    /// What is drawn of the entries that were followed.
+    /// Returns what is drawn of the entries so far.
     pub fn finish(self) -> Result<Drawn, AllocError>
         requires { IsDrawing self }
         ensures bars { IfOk result (λ drawn. (s : Start) (from : ℕ) (h : List Entry) →
@@ -110,7 +109,7 @@ impl Drawing {
     }
 }
 
-/// A drawing that has seen no entry.
+/// Returns a drawing that has seen no entry.
 fn begin(
     alloc: Global,
     header: Header,

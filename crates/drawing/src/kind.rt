@@ -1,4 +1,4 @@
-//! What a seat may be doing for a while.
+//! What a seat can be doing for a while.
 
 /// What a bar shows of a seat.
 #[derive(Clone, Copy, Debug, PartialEq, Eq)]
@@ -7,8 +7,8 @@ pub enum Kind {
     Exclusive,
     /// It has shared holds or permits.
     Shared,
-    /// It stands in line.
+    /// It waits in the queue.
     InLine,
-    /// It sleeps on this condition.
+    /// It waits on this condition.
     Asleep(u8),
 }

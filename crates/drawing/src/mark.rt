@@ -6,18 +6,18 @@ ghost use Rattle.drawing.specs.Marks.{mark_of, sign_of};
 use history::entry::{Entry, Word};
 use std::alloc::AllocError;
 
-/// What a mark tells of an entry.
+/// What a mark shows of an entry.
 #[derive(Clone, Copy, Debug, PartialEq, Eq)]
 pub enum Sign {
     Missed,
     Refused,
-    /// A signal of one or of all.
+    /// A signal, of one waiter or of all.
     Signal,
     Drained,
     Counted,
 }
 
-/// The entry of a number, and the seat that made it.
+/// An entry's mark: the number of the entry, its seat, and what is shown.
 #[derive(Clone, Copy, Debug, PartialEq, Eq)]
 pub struct Mark {
     pub number: u64,
@@ -25,7 +25,7 @@ pub struct Mark {
     pub sign: Sign,
 }
 
-/// Adds the mark of the entry of a number, where it has one.
+/// Adds the mark of the entry of a number, if it has one.
 pub(crate) fn put_mark(marks: &mut Vec<Mark>, number: u64, entry: Entry) -> Result<(), AllocError>
     ensures { OnOk result (marks.new.items
         ≡ marks.old.items ++ mark_of number entry.seat (sign_of entry.word)) }
@@ -43,7 +43,7 @@ pub(crate) fn put_mark(marks: &mut Vec<Mark>, number: u64, entry: Entry) -> Resu
     Ok(())
 }
 
-/// What a mark tells of a word.
+/// Returns what a mark shows of a word.
 fn sign_of(word: Word) -> Option<Sign>
     ensures { result ≡ sign_of word }
 {

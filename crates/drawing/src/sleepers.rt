@@ -1,4 +1,4 @@
-//! The sleepers of one condition, and who of them joins the line.
+//! The waiters of one condition, and which of them join the queue.
 
 ghost use Rattle.std.specs.Prelude.{◌≡◌, ℕ, ◌<◌, ◌≤◌, ◌||◌, [], false, length, drop, map, slice_index_or, IfOk, OnOk};
 ghost use Rattle.std.specs.List.{All};
@@ -10,7 +10,7 @@ use history::entry::{Entry, Word};
 use std::alloc::{AllocError, Global};
 use std::marker::Model;
 
-/// The seats that sleep on one condition, the longest sleeper first.
+/// The seats that wait on one condition, the longest waiting first.
 #[derive(Drop)]
 pub(crate) struct Sleepers {
     seats: Vec<u16>,
@@ -25,7 +25,7 @@ impl Model for Sleepers {
 }
 
 impl Sleepers {
-    /// Nobody sleeps.
+    /// Returns a list without waiters.
     pub(crate) fn open(alloc: Global) -> Self
         ensures { result ≡ [] }
     {
@@ -34,7 +34,7 @@ impl Sleepers {
         }
     }
 
-    /// Those sleep who sleep on a condition of a base.
+    /// Returns the waiters of a condition of a base.
     pub(crate) fn of(alloc: Global, sleepers: &[Sleeper]) -> Result<Self, AllocError>
         ensures { IfOk result (λ asleep. asleep ≡ map (λ x. x.seat) sleepers.now) }
     {
@@ -45,14 +45,14 @@ impl Sleepers {
         Ok(Sleepers { seats })
     }
 
-    /// Whether a seat sleeps there.
+    /// Returns whether a seat waits there.
     pub(crate) fn contains(&self, seat: u16) -> bool
         ensures { result ≡ has seat self.now }
     {
         self.seats.contains(&seat)
     }
 
-    /// Follows an entry on the condition, and has those whom it wakes stand in line.
+    /// Takes an entry on the condition, and marks the waiters that it moves to the queue.
     pub(crate) fn note(&mut self, in_line: &mut Vec<bool>, entry: Entry) -> Result<(), AllocError>
         requires { All (λ i. i < length in_line.old.items) self.old }
         ensures sleepers { OnOk result (self.new ≡ sleepers_after entry.word entry.seat entry.n self.old) }
@@ -78,14 +78,14 @@ impl Sleepers {
     }
 }
 
-/// Lets a seat leave a list.
+/// Removes a seat from a list.
 fn leave(seats: &mut Vec<u16>, leaver: u16)
     ensures { seats.new.items ≡ without leaver seats.old.items }
 {
     seats.retain(|seat| *seat != leaver);
 }
 
-/// Removes so many seats from the front of a list.
+/// Removes the first `most` seats of a list.
 fn drop_front(seats: &mut Vec<u16>, most: usize)
     requires { most ≤ length seats.old.items }
     ensures { seats.new.items ≡ drop most seats.old.items }
@@ -95,7 +95,7 @@ fn drop_front(seats: &mut Vec<u16>, most: usize)
     }
 }
 
-/// Has all these seats stand in line.
+/// Marks all these seats as in the queue.
 fn mark_all(in_line: &mut Vec<bool>, seats: &[u16])
     requires { All (λ i. i < length in_line.old.items) seats.now }
     ensures marked { (i : ℕ) → slice_index_or in_line.new.items i false

@@ -1,4 +1,4 @@
-//! What a front of a history says of each seat.
+//! The state of each seat after the first entries of a history.
 
 ghost use Rattle.std.specs.Prelude.{◌≡◌, ℕ, ◌+◌, ◌<◌, ◌≤◌, ◌^◌, ◌||◌, ◌∷◌, [], List, IfOk, OnOk, false, length, map, replicate, slice_index, slice_index_or};
 ghost use Rattle.std.specs.List.{AllByRecursion};
@@ -21,10 +21,10 @@ use history::header::Object;
 use history::holds::holds_after;
 use std::alloc::{AllocError, Global};
 
-/// An entry has so many conditions to name.
+/// How many conditions an entry can name.
 const CONDITIONS: usize = 256;
 
-/// The holds of each seat by mode, who stands in line, and who sleeps on which condition.
+/// The holds of each seat by mode, who is in the queue, and who waits on which condition.
 #[derive(Drop)]
 pub(crate) struct Standings {
     pub(crate) exclusive: Vec<u128>,
@@ -34,7 +34,7 @@ pub(crate) struct Standings {
 }
 
 impl Standings {
-    /// Nobody holds anything, waits or sleeps.
+    /// Returns the state in which nobody holds or waits.
     pub(crate) fn open(alloc: Global, seats: u16) -> Result<Self, AllocError>
         ensures { IfOk result (λ standings. (k : Header) → k.seats ≡ seats →
             AreStanding (opening k) [] standings) }
@@ -51,7 +51,7 @@ impl Standings {
         })
     }
 
-    /// The seats hold what they hold on a base, and wait and sleep as there.
+    /// Returns the state of a base.
     pub(crate) fn open_on(alloc: Global, base: &Base) -> Result<Self, AllocError>
         requires { IsGood base.now }
         ensures { IfOk result (AreStanding (based base.now) []) }
@@ -69,7 +69,7 @@ impl Standings {
         })
     }
 
-    /// Follows one more entry of one of the seats.
+    /// Takes one more entry of one of the seats.
     pub(crate) fn note(&mut self, object: Object, entry: Entry) -> Result<(), AllocError>
         requires { (s : Start) × (h : List Entry) × AreStanding s h self.old × (entry.seat < s.header.seats)
             × (length h + 1 < 2 ^ 32) }
@@ -81,7 +81,7 @@ impl Standings {
         self.asleep[entry.at as usize].note(&mut self.in_line, entry)
     }
 
-    /// The level of a seat of a kind.
+    /// Returns the level of a seat and a kind.
     pub(crate) fn level(&self, seat: u16, kind: Kind) -> u128
         requires { (s : Start) × (h : List Entry) × AreStanding s h self.now × (seat < s.header.seats) }
         ensures { (s : Start) (h : List Entry) → AreStanding s h self.now → result ≡ level s h seat kind }
@@ -95,7 +95,7 @@ impl Standings {
     }
 }
 
-/// What an entry makes of the holds of its seat in its mode.
+/// Updates the holds of the entry's seat in the entry's mode.
 fn note_holds(exclusive: &mut Vec<u128>, shared: &mut Vec<u128>, object: Object, entry: Entry)
     requires exclusive { entry.seat < length exclusive.old.items }
     requires shared { entry.seat < length shared.old.items }
@@ -110,7 +110,7 @@ fn note_holds(exclusive: &mut Vec<u128>, shared: &mut Vec<u128>, object: Object,
     }
 }
 
-/// What an entry makes of a table of holds.
+/// Updates a table of holds for an entry.
 fn note_table(table: &mut Vec<u128>, object: Object, entry: Entry)
     requires seat { entry.seat < length table.old.items }
     requires few { slice_index table.old.items entry.seat + 4294967295 < 2 ^ 128 }
@@ -121,7 +121,7 @@ fn note_table(table: &mut Vec<u128>, object: Object, entry: Entry)
     table[seat] = holds_after(object, entry, had);
 }
 
-/// What an entry makes of its own seat's place in line.
+/// Updates whether the entry's own seat is in the queue.
 fn note_line(in_line: &mut Vec<bool>, entry: Entry)
     requires { entry.seat < length in_line.old.items }
     ensures { in_line.new.items ≡ line_by entry.word entry.seat in_line.old.items }
@@ -134,7 +134,7 @@ fn note_line(in_line: &mut Vec<bool>, entry: Entry)
     }
 }
 
-/// A list for each condition that an entry may name.
+/// Returns an empty list for each condition that an entry can name.
 fn nobody_asleep(alloc: Global) -> Result<Vec<Sleepers>, AllocError>
     ensures { IfOk result (λ asleep. asleep.items ≡ replicate 256 []) }
 {
@@ -145,7 +145,7 @@ fn nobody_asleep(alloc: Global) -> Result<Vec<Sleepers>, AllocError>
     Ok(asleep)
 }
 
-/// A list for each condition that an entry may name, of those who sleep there on a base.
+/// Returns the list of a base's waiters for each condition that an entry can name.
 fn all_asleep(alloc: Global, base: &Base) -> Result<Vec<Sleepers>, AllocError>
     ensures { IfOk result (λ asleep. asleep.items ≡ each_below 256 (sleeping_seats base.now)) }
 {
@@ -156,7 +156,7 @@ fn all_asleep(alloc: Global, base: &Base) -> Result<Vec<Sleepers>, AllocError>
     Ok(asleep)
 }
 
-/// Has all these stand in line.
+/// Marks all these waiters as in the queue.
 fn mark_standing(in_line: &mut Vec<bool>, line: &[Standing])
     requires { AllByRecursion (λ p. p.who.seat < length in_line.old.items) line.now }
     ensures marked { (i : ℕ) → slice_index_or in_line.new.items i false

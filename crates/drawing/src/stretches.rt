@@ -14,7 +14,7 @@ use crate::standings::Standings;
 use history::header::Header;
 use std::alloc::{AllocError, Global};
 
-/// Goes on with all stretches behind the entry of a number, and adds the bars of those that it ends.
+/// Continues all stretches after the entry of a number, and adds the bars of those that it ends.
 pub(crate) fn go_on(
     stretches: &mut Vec<Stretch>,
     bars: &mut Vec<Bar>,
@@ -45,7 +45,7 @@ pub(crate) fn go_on(
     Ok(())
 }
 
-/// Adds the bars of all stretches, none of which reaches the entry of a number.
+/// Adds the bars of all stretches. They end before the entry of a number.
 pub(crate) fn end_all(
     stretches: &[Stretch],
     bars: &mut Vec<Bar>,
@@ -60,7 +60,7 @@ pub(crate) fn end_all(
     Ok(())
 }
 
-/// The stretches of all seats and kinds, as they begin.
+/// Returns the stretches of all seats and kinds, as they begin.
 pub(crate) fn begin_all(
     alloc: Global,
     header: Header,
@@ -94,7 +94,7 @@ fn begin_seat(
     Ok(())
 }
 
-/// Adds a stretch that begins.
+/// Adds a new stretch.
 fn begin(stretches: &mut Vec<Stretch>, seat: u16, kind: Kind, from: u64) -> Result<(), AllocError>
     ensures { OnOk result (stretches.new.items ≡ stretches.old.items ++ fresh from (track seat kind) ∷ []) }
 {

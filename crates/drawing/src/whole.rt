@@ -1,4 +1,4 @@
-//! What is drawn of a whole history.
+//! Drawing a whole history.
 
 ghost use Rattle.std.specs.Prelude.{◌≡◌, ◌<◌, ◌^◌, [], IfOk, IfSome, length, reverse};
 ghost use Rattle.std.specs.List.{All};
@@ -17,7 +17,7 @@ use history::entry::Entry;
 use history::header::Header;
 use std::alloc::{AllocError, Global};
 
-/// What is drawn of an object's entries behind a base, the oldest first, from the entry of a number on.
+/// Returns the drawing of an object's entries after a base, the oldest first, from the entry of a number on.
 /// Without a base the object begins as opened.
 pub fn drawn_of(
     alloc: Global,
@@ -43,7 +43,7 @@ pub fn drawn_of(
     drawing.finish()
 }
 
-/// A drawing of an object that begins on a base, or as opened.
+/// Returns a drawing of an object that begins on a base, or as opened.
 fn begun(
     alloc: Global,
     header: Header,

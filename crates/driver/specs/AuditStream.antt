@@ -12,13 +12,13 @@ use Rattle.driver.specs.declared.verdict_text.VerdictText.{VerdictText}
 use Rattle.driver.specs.AuditText.{audit_text}
 use Rattle.streams.specs.Streams.{IsReadOut, Streams}
 
--- the history is legal from its base on, or this is its first entry that isn't, counted from the base
+-- the history is legal from its base on, or this is its first illegal entry, counted from the base
 abbrev pub IsVerdict : Base → List Entry → Verdict → Type 0
 IsVerdict b entries Legal = IsLegal (based b) entries
 IsVerdict b entries (NotLegal number) = IsFirstWrong (based b) entries number
 
--- The text is the history text of a base and these entries, the newest first; this is the verdict on them,
--- and of what is told of both, this is written.
+-- The text is the history text of a base and these entries, the newest first. The verdict on them is this
+-- one, and this is written for them.
 pub record IsToldOf (Tells : Base → List Entry → Verdict → List ℕ) (text : List ℕ) (verdict : Verdict)
     (Written : List ℕ → Type 0) : Type 0 where
   pub base : Base
@@ -27,7 +27,7 @@ pub record IsToldOf (Tells : Base → List Entry → Verdict → List ℕ) (text
   pub judged : IsVerdict base entries verdict
   pub written : Written (Tells base entries verdict)
 
--- of what is left of a text this is told, with this text
+-- if what is left of a text is known, this verdict and text are those for it
 abbrev pub IsTold : (Base → List Entry → Verdict → List ℕ) → Option (List ℕ) → VerdictText → Type 0
 IsTold Tells left told =
     IfSome left (λ text. IsToldOf Tells text told.verdict (λ written. told.text.items ≡ written))

@@ -37,11 +37,11 @@ totals_line (Latch opening) t = count_line t
 abbrev pub number_line : List ℕ → ℕ → List ℕ
 number_line name number = name ++ decimal number
 
--- how many entries were folded, where some were
+-- how many entries were folded, if any were
 abbrev pub base_line : ℕ → List ℕ
 base_line folded = if nat_lt 0 folded then ended (number_line (codes "base ") folded) else []
 
--- of a legal history: how many of its entries were folded, all entries, those that end a call, and its totals
+-- for a legal history: how many entries were folded, how many there are, how many end a call, and its totals
 abbrev pub legal_text : Object → ℕ → ℕ → ℕ → Totals → List ℕ
 legal_text object folded entries calls totals =
     ended (codes "legal")
@@ -50,15 +50,15 @@ legal_text object folded entries calls totals =
     ++ ended (number_line (codes "calls ") calls)
     ++ ended (totals_line object totals)
 
--- What is said of a history on a base, whose entries stand newest first. An entry's number counts those that
--- were folded too.
+-- The audit text of a history on a base, with its entries newest first. The number of an entry counts the
+-- folded ones too.
 abbrev pub audit_text : Base → List Entry → Verdict → List ℕ
 audit_text b entries Legal =
     legal_text b.header.object b.entries (b.entries + length entries) (calls (based b) entries)
     (totals_of (based b) entries)
 audit_text b entries (NotLegal number) = ended (number_line (codes "not legal at ") (b.entries + number))
 
--- how many entries stand before the first that isn't legal, if one isn't
+-- how many entries are before the first illegal one, if there is one
 abbrev pub before_wrong : Verdict → ℕ
 before_wrong Legal = 0
 before_wrong (NotLegal number) = number

@@ -1,4 +1,4 @@
--- A base that is read from a source, line by line.
+-- Reading a base from a source, line by line.
 use Rattle.std.specs.Prelude.{◌≡◌, ℕ, ◌+◌, ◌≤◌, Bool, true, false, List, [], length, map, Option, Result, Ok, Err, IfSome, IsSomeAnd}
 use Rattle.std.specs.Io.KnownBytes.{Keeps, prepend_known}
 use Rattle.history.specs.declared.entry.Entry.{Entry}
@@ -14,27 +14,27 @@ use Rattle.line_text.specs.UnderWay.{SoFar}
 use Rattle.streams.specs.declared.stream_fault.StreamFault.{StreamFault}
 use Rattle.driver.specs.TextReader.{IsFaultOf, WereRead, reader_at}
 
--- what is known of lines that were read: which they are
+-- what is known after these lines were read: exactly these
 abbrev pub lines_known : Head → List Line → SoFar Head Line
 lines_known h lines = record { header = h; count = length lines; known = λ all. all ≡ lines }
 
--- these lines of a text were read, by a reader that holds these bytes, and whose source has this left
+-- these lines of a text were read; the reader holds these bytes, and this is left in its source
 abbrev pub LinesBehind : Option (List ℕ) → Head → List Line → List ℕ → Option (List ℕ) → Type 0
 LinesBehind text h lines bytes left = WereRead history_form text (reader_at (lines_known h lines) bytes
     left) lines
 
--- the first line alone was
+-- only the first line was read
 abbrev pub HeadRead : Option (List ℕ) → Head → List ℕ → Option (List ℕ) → Type 0
 HeadRead text h bytes left = LinesBehind text h [] bytes left
 
--- the base that the text tells was read, and these entries behind it, the oldest first; the reader is there
+-- the text's base was read, and these entries after it, the oldest first; the reader's position is after them
 abbrev pub EntriesBehind : Option (List ℕ) → Head → Base → List Entry → Place → List ℕ → Option (List ℕ) →
     Type 0
 EntriesBehind text h b es place bytes left =
     IfSome text (λ t. IsSomeAnd (prepend_known bytes left) (AreEntriesRead t h b es place))
 
--- A line of a base was taken up; or the base was told whole, and the next line, which stands whole in the
--- window, is none of a base; or this is the fault, whatever the text.
+-- A line of a base was read. Or the base is complete, and the next line is whole in the window and isn't one
+-- of a base. Or this is the fault, whatever the text.
 abbrev pub IsLineTaken : LinesRead → List ℕ → Option (List ℕ) → Result Bool StreamFault → LinesRead → List ℕ →
     Option (List ℕ) → Type 0
 IsLineTaken old bytes left (Ok true) new grown after =
@@ -49,14 +49,14 @@ IsLineTaken old bytes left (Err fault) new grown after =
     (text : Option (List ℕ)) (h : Head) → h.is_based ≡ true → h.header ≡ old.header →
     LinesBehind text h (map Based old.lines) bytes left → IsFaultOf history_form text after fault
 
--- a place right behind a base
+-- a position right after a base
 pub record IsPlacedBehind (b : Base) (place : Place) : Type 0 where
   pub lines : place.lines ≤ 1024
   pub folded : place.folded ≡ b.entries
   pub count : place.count ≡ 0
   pub calls : place.calls ≡ (based b).calls
 
--- what is read behind the first line, whatever the text
+-- what is read after the first line, whatever the text
 abbrev pub IsBaseRead : Head → List ℕ → Option (List ℕ) → Result (Base × Place) StreamFault → List ℕ →
     Option (List ℕ) → Type 0
 IsBaseRead h old left (Ok read) new after =
@@ -65,7 +65,7 @@ IsBaseRead h old left (Ok read) new after =
 IsBaseRead h old left (Err fault) new after =
     (text : Option (List ℕ)) → HeadRead text h old left → IsFaultOf history_form text after fault
 
--- the same where the lines of a base needn't follow
+-- the same if base lines may be missing
 abbrev pub IsBeginningRead : Head → List ℕ → Option (List ℕ) → Result (Option Base × Place) StreamFault →
     List ℕ → Option (List ℕ) → Type 0
 IsBeginningRead h old left (Ok read) new after =

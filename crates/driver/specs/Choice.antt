@@ -6,11 +6,11 @@ abbrev pub or_zero : Option ℕ → ℕ
 or_zero None = 0
 or_zero (Some number) = number
 
--- how many entries stand before the first, behind so many that were folded
+-- how many unfolded entries are before the first one to draw
 abbrev pub first_of : Choice → ℕ → ℕ
 first_of c folded = or_zero c.from - folded
 
--- how many stand before the end: where nobody asks for some, the first 2,000 are drawn
+-- how many are before the end of those to draw; if none are chosen, the first 2,000 are drawn
 abbrev pub end_between : Option ℕ → Option ℕ → ℕ → ℕ
 end_between from (Some number) folded = min (number + 1) (2 ^ 64 - 1) - folded
 end_between (Some number) None folded = 2 ^ 64 - 1
@@ -19,7 +19,7 @@ end_between None None folded = 2000
 abbrev pub end_of : Choice → ℕ → ℕ
 end_of c folded = end_between c.from c.to folded
 
--- some are left out though nobody asked for some
+-- some are left out although none were chosen
 abbrev pub is_cut_between : Option ℕ → Option ℕ → ℕ → Bool
 is_cut_between (Some from) to entries = false
 is_cut_between None (Some to) entries = false

@@ -1,4 +1,4 @@
--- What is drawn of a history text.
+-- What is drawn for a history text.
 use Rattle.std.specs.Prelude.{ℕ, ◌+◌, List, Option, Some, None, Result, length, reverse, take}
 use Rattle.audit.specs.declared.verdict.Verdict.{Verdict}
 use Rattle.audit.specs.declared.verdict.Verdict.TheVariants.{Legal, NotLegal}
@@ -16,17 +16,18 @@ use Rattle.driver.specs.declared.choice.Choice.{Choice}
 use Rattle.driver.specs.AuditStream.{IsToldOf}
 use Rattle.driver.specs.Choice.{end_of, first_of, is_cut}
 
--- the entries before the first that isn't legal, of some that stand oldest first
+-- the entries before the first illegal one, of entries that are oldest first
 abbrev pub legal_front : Verdict → List Entry → List Entry
 legal_front Legal entries = entries
 legal_front (NotLegal number) entries = take number entries
 
--- the number of the first entry that isn't legal, behind so many that were folded
+-- the number of the first illegal entry, if `folded` entries were folded
 abbrev pub wrong_of : ℕ → Verdict → Option ℕ
 wrong_of folded Legal = None
 wrong_of folded (NotLegal number) = Some (folded + number)
 
--- a picture of some entries, the oldest first, with which so many behind a base begin
+-- a picture of some entries, oldest first; the history has `count` entries after its base, and begins with
+-- these
 abbrev pub pictured : Base → Choice → ℕ → Verdict → List Entry → View
 pictured b choice count verdict drawn =
     record {
@@ -42,7 +43,7 @@ pictured b choice count verdict drawn =
       curve = curve (based b) (first_of choice b.entries) (reverse drawn);
     }
 
--- the picture of a history on a base, whose entries stand newest first
+-- the picture of a history on a base, with its entries newest first
 abbrev pub picture_of : Choice → Base → List Entry → Verdict → View
 picture_of choice b entries verdict =
     pictured b choice (length entries) verdict

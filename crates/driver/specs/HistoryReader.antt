@@ -1,4 +1,4 @@
--- A history text that is read from a source as its entries are asked for.
+-- Reading a history text from a source, one entry at a time.
 use Rattle.std.specs.Prelude.{◌≡◌, ◌-◌, ◌<◌, ◌≤◌, ℕ, List, [], ◌∷◌, ◌++◌, drop, length, Option, Some, None, Result, Ok, Err, IfSome}
 use Rattle.history.specs.declared.entry.Entry.{Entry}
 use Rattle.history.specs.declared.header.Header.{Header}
@@ -12,8 +12,8 @@ use Rattle.streams.specs.declared.stream_fault.StreamFault.{StreamFault}
 use Rattle.driver.specs.BaseReader.{EntriesBehind, IsPlacedBehind}
 use Rattle.driver.specs.TextReader.{IsFaultOf}
 
--- What a reader of entries has: the header, the base that the text tells, if it tells one, where it stands,
--- the bytes behind that which it holds, and how many places its memory has.
+-- What a reader of entries has: the header, the text's base if there is one, its position, the bytes after
+-- that which it holds, and how many places its memory has.
 pub record EntriesHeld : Type 0 where
   pub header : Header
   pub base : Option Base
@@ -25,7 +25,7 @@ pub record EntriesHeld : Type 0 where
 abbrev pub base_held : EntriesHeld → Base
 base_held held = or_opening held.header held.base
 
--- the same after one more entry, behind which so many bytes are left
+-- the reader after one more entry, with `left` bytes after it
 abbrev pub entry_passed : Entry → ℕ → EntriesHeld → EntriesHeld
 entry_passed e left held =
     record {
@@ -46,12 +46,12 @@ AreCounted old None new = new.place ≡ old.place
 AreCounted old (Some e) new =
     (new.place ≡ behind old.place e) × (new.place.count ≤ old.header.cap) × (e.seat < old.header.seats)
 
--- these entries of the text were read, the oldest first, by a reader whose source has this left
+-- these entries of the text were read, the oldest first; this is left in the reader's source
 abbrev pub EntriesRead : Option (List ℕ) → EntriesHeld → Option (List ℕ) → List Entry → Type 0
 EntriesRead text held left es =
     EntriesBehind text (head_of (base_held held)) (base_held held) es held.place held.bytes left
 
--- Whatever entries were read: one more was, or they are all, or this is the fault of the text or of its
+-- After whatever entries: one more was read, or they are all, or this is the fault of the text or of its
 -- source, which has this left.
 abbrev pub IsEntryNext : EntriesHeld → Option (List ℕ) → Result (Option Entry) StreamFault → EntriesHeld →
     Option (List ℕ) → Type 0
@@ -65,11 +65,11 @@ IsEntryNext old left (Err fault) new after =
     (text : Option (List ℕ)) (es : List Entry) → EntriesRead text old left es →
     IsFaultOf history_form text after fault
 
--- of a text of which what stands before the entries was read, and nothing more, P holds
+-- P holds for each text whose header and base were read, and no entry yet
 abbrev pub OfHistory : EntriesHeld → Option (List ℕ) → (List ℕ → Type 0) → Type 0
 OfHistory held left P = (text : Option (List ℕ)) → EntriesRead text held left [] → IfSome text P
 
--- the faults behind it, whatever the text
+-- the faults after that, whatever the text
 abbrev pub IsFaultBehindBase : EntriesHeld → Option (List ℕ) → Option (List ℕ) → StreamFault → Type 0
 IsFaultBehindBase held left after fault =
     (text : Option (List ℕ)) → EntriesRead text held left [] → IsFaultOf history_form text after fault

@@ -1,4 +1,4 @@
--- The entries of a history text, judged as they are read.
+-- Judging the entries of a history text as they are read.
 use Rattle.std.specs.Prelude.{◌≡◌, ℕ, ◌<◌, ◌^◌, nat_lt, if◌then◌else◌, List, [], ◌∷◌, ◌++◌, length, reverse, take, Option}
 use Rattle.std.specs.List.{All}
 use Rattle.audit.specs.Verdict.{IsJudgement}
@@ -9,12 +9,12 @@ use Rattle.history_text.specs.HistoryText.{IsHistoryText}
 use Rattle.driver.specs.declared.judged.Judged.{Judged}
 use Rattle.driver.specs.HistoryReader.{EntriesHeld, OfHistory, base_held}
 
--- the entries that were kept with one more, of this number
+-- the kept entries with one more, which has this number
 abbrev pub kept_with : List Entry → Entry → ℕ → ℕ → List Entry
 kept_with kept e number end = if nat_lt number end then kept ++ e ∷ [] else kept
 
--- The text is a history text on the base that was read, whose entries were judged so; the reader has counted
--- them, and so many of them, the oldest first, were kept.
+-- The text is a history text on the base that was read, and its entries have this judgement. The reader has
+-- counted them, and kept the first `kept` of them.
 pub record IsJudged (first : EntriesHeld) (left : Option (List ℕ)) (now : EntriesHeld) (kept : ℕ)
     (j : Judged) : Type 0 where
   pub entries : List Entry

@@ -1,4 +1,4 @@
--- What is kept of the answers to acts, beside the history of the core.
+-- What is kept of the answers to acts, besides the core's history.
 use Rattle.std.specs.Prelude.{◌≡◌, ◌≢◌, ◌+◌, ℕ, List, [], ◌∷◌, ◌++◌, length, reverse, Result, Ok, Err}
 use Rattle.frame.specs.declared.acts.Act.{Act}
 use Rattle.frame.specs.declared.acts.Act.TheVariants.{Do, Trim}
@@ -20,7 +20,7 @@ pub record Logged : Type 0 where
 abbrev pub logged : Log → Logged
 logged log = record { past = log.past.items; remarks = log.remarks.items }
 
--- how many entries there are, those that were folded among them
+-- how many entries there are, with those that were folded
 abbrev pub count_of : CoreView → Logged → ℕ
 count_of core log = length log.past + length core.entries
 
@@ -29,7 +29,7 @@ abbrev pub gone : Result ℕ Fault → List Entry → List Entry
 gone (Ok count) entries = reverse entries
 gone (Err fault) entries = []
 
--- a step was answered, not by want of memory, and the answer was kept
+-- a step was answered, and not by OutOfMemory, and the answer was kept
 abbrev pub IsStepLogged : CoreView → Logged → ℕ → Step → CoreView → Logged → Type 0
 IsStepLogged old log i step new log' =
     (r : Result Answer Fault) × IsAnswered old i step r new × (r ≢ Err OutOfMemory) × (log'.past ≡ log.past)

@@ -1,4 +1,4 @@
--- Answers told by the entries that were recorded, and by remarks on what no entry says.
+-- Answers as recorded entries, with remarks for what no entry has.
 use Rattle.std.specs.Prelude.{◌≡◌, ℕ, ◌+◌, ◌-◌, List, [], ◌∷◌, ◌++◌, Option, Some, None, Result, Ok, Err, drop, take, slice_get}
 use Rattle.history.specs.declared.entry.Entry.{Entry}
 use Rattle.history.specs.declared.fault.Fault.{Fault}
@@ -11,7 +11,7 @@ use Rattle.driver.specs.declared.remark.Said.{Said}
 use Rattle.driver.specs.declared.remark.Said.TheVariants.{IsNamed, Sleeps, Fails, Folds, FoldsNone}
 use Rattle.driver.specs.ReplayText.{answer_line, trim_line}
 
--- what there is to remark of an answer
+-- the remark on an answer
 abbrev pub remark_of : ℕ → ℕ → Result Answer Fault → Option Remark
 remark_of before seat (Ok (Recorded e None)) = None
 remark_of before seat (Ok (Recorded e (Some named))) =
@@ -19,18 +19,17 @@ remark_of before seat (Ok (Recorded e (Some named))) =
 remark_of before seat (Ok Sleep) = Some (record { before = before; seat = seat; said = Sleeps })
 remark_of before seat (Err fault) = Some (record { before = before; seat = seat; said = Fails fault })
 
--- and of a trim, which is of no seat
+-- the remark on a trim, which has no seat
 abbrev pub trim_remark : ℕ → Result ℕ Fault → Remark
 trim_remark before (Ok count) = record { before = before; seat = 0; said = Folds count }
 trim_remark before (Err fault) = record { before = before; seat = 0; said = FoldsNone fault }
 
--- a remark is added where there is one
+-- a remark is added, if there is one
 abbrev pub IsKept : List Remark → Option Remark → List Remark → Type 0
 IsKept old None new = new ≡ old
 IsKept old (Some r) new = new ≡ old ++ r ∷ []
 
--- the line of an answer of which this is said of a seat or of a trim, at a number, where an entry with that
--- number may stand
+-- the line of an answer with this remark on a seat or a trim; IsNamed needs the entry with this number
 abbrev pub said_line : Said → ℕ → ℕ → Option Entry → List ℕ
 said_line IsNamed number seat (Some e) = ended (answer_line number seat (Ok (Recorded e (Some seat))))
 said_line IsNamed number seat None = []
@@ -47,7 +46,7 @@ entries_said (Fails fault) = 0
 entries_said (Folds count) = 0
 entries_said (FoldsNone fault) = 0
 
--- the lines from a number on: those of the entries of which nothing is remarked, and those of the remarks
+-- the lines from a number on: those of entries without remarks, and those of the remarks
 abbrev pub told_lines : List Entry → ℕ → List Remark → List ℕ
 told_lines entries number [] = entry_lines number (drop number entries)
 told_lines entries number (r ∷ remarks) =

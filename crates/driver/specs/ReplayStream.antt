@@ -18,7 +18,7 @@ use Rattle.driver.specs.ReplayText.{behind_acts, replay_text}
 use Rattle.driver.specs.TextReader.{Progress, OfText}
 use Rattle.streams.specs.Streams.{IsReadOut, Streams}
 
--- the history text of what acts leave, behind the last trim
+-- the history text after these acts, with the base of the last trim
 abbrev pub left_text : Outcome → List ℕ
 left_text o = history_text o.base o.entries
 
@@ -26,15 +26,16 @@ abbrev pub answer_text : Form → StepsHeader → List Act → List ℕ
 answer_text Replay h acts = replay_text h acts
 answer_text History h acts = left_text (behind_acts h acts)
 
--- The list of entries is legal from its base; nobody in line is passed by who was granted after it, and in a
--- fair or strict object by no new acquire that isn't reentrant, in a strict one by no such try.
+-- The entries are legal from their base. Nobody in the queue is overtaken by a waiter that joined later.
+-- Nobody is overtaken by a new acquire that isn't reentrant in a fair or strict object, nor by such a try in
+-- a strict one.
 pub record IsLawful (b : Base) (h : List Entry) : Type 0 where
   pub legal : IsLegal (based b) h
   pub seated : AreSeated (based b) h
   pub in_order : IsInOrder (based b) h
   pub in_fair_order : IsFairOrder (based b) h
 
--- The text is a steps text, and this is written for it. The history that its acts leave is lawful.
+-- The text is a steps text, and this is written for it. The history after its acts is lawful.
 pub record Replayed (form : Form) (text : List ℕ) (Written : List ℕ → Type 0) : Type 0 where
   pub header : StepsHeader
   pub acts : List Act
@@ -42,15 +43,15 @@ pub record Replayed (form : Form) (text : List ℕ) (Written : List ℕ → Type
   pub lawful : IsLawful (behind_acts header acts).base (behind_acts header acts).entries
   pub written : Written (answer_text form header acts)
 
--- this is what is written for the text, where it is known
+-- this is what is written for the text, if the text is known
 abbrev pub IsAnswerTo : Form → Option (List ℕ) → List ℕ → Type 0
 IsAnswerTo form text answer = IfSome text (λ t. Replayed form t (λ written. answer ≡ written))
 
--- the same of a text of which the header was read
+-- the same for each text whose header was read
 abbrev pub IsAnswerBehind : Form → Progress StepsHeader Act → List ℕ → Type 0
 IsAnswerBehind form p answer = OfText steps_form p (λ t. Replayed form t (λ written. answer ≡ written))
 
--- in each form, what is written of the answers is what is to be written for the text
+-- in each form, what is written for these answers is what must be written for the text
 abbrev pub AreAnswersTo : Option (List ℕ) → AllAnswers → Type 0
 AreAnswersTo text answers = (form : Form) → IsAnswerTo form text (answers_text form answers)
 

@@ -18,7 +18,7 @@ use Rattle.steps.specs.declared.header.Format.{Format}
 use Rattle.steps.specs.declared.header.Format.TheVariants.{One, Two}
 use Rattle.steps.specs.declared.header.StepsHeader.{StepsHeader}
 
--- the answer is of the format of the steps
+-- the replay text has the format of the steps text
 abbrev pub name_of : Format → List ℕ
 name_of One = codes "aqs-replay 1 "
 name_of Two = codes "aqs-replay 2 "
@@ -26,7 +26,7 @@ name_of Two = codes "aqs-replay 2 "
 abbrev pub header_line : StepsHeader → List ℕ
 header_line h = name_of h.format ++ part_of h.header
 
--- the line of an answer to a seat, where so many entries stand before it
+-- the line of an answer to a seat, if `number` entries are before it
 abbrev pub answer_line : ℕ → ℕ → Result Answer Fault → List ℕ
 answer_line number seat (Ok (Recorded e None)) = entry_line number e
 answer_line number seat (Ok (Recorded e (Some named))) =
@@ -39,8 +39,7 @@ abbrev pub trim_line : Result ℕ Fault → List ℕ
 trim_line (Ok count) = codes "- trim " ++ decimal count
 trim_line (Err fault) = codes "- " ++ fault_name fault
 
--- The line of an act, where so many entries stand before it. No step is answered by a count, and no trim by
--- an answer.
+-- The line of an act, if `number` entries are before it. No step returns a count, and no trim an answer.
 abbrev pub done_line : ℕ → Act → Result Done Fault → List ℕ
 done_line number (Do seat step) (Ok (Answered answer)) = answer_line number seat (Ok answer)
 done_line number (Do seat step) (Ok (Trimmed count)) = []
@@ -55,7 +54,7 @@ entries_of (Ok (Recorded e named)) = 1
 entries_of (Ok Sleep) = 0
 entries_of (Err fault) = 0
 
--- a trim adds none, so that the numbers go on behind it
+-- a trim adds none, so the numbers continue after it
 abbrev pub entries_done : Result Done Fault → ℕ
 entries_done (Ok (Answered answer)) = entries_of (Ok answer)
 entries_done (Ok (Trimmed count)) = 0
@@ -68,11 +67,11 @@ done_lines number (act ∷ acts) [] = []
 done_lines number (act ∷ acts) (r ∷ done) =
     ended (done_line number act r) ++ done_lines (number + entries_done r) acts done
 
--- what acts leave of an object as opened, and what they are answered
+-- the state and the results after these acts, from the object as opened
 abbrev pub behind_acts : StepsHeader → List Act → Outcome
 behind_acts h acts = outcome (opening_base h.header) [] acts
 
--- the end line has the number of entries, and of those that end a call, those that were folded among them
+-- the end line has the number of all entries, also the folded ones, and of those that end a call
 abbrev pub end_line : Outcome → List ℕ
 end_line o = counts_line (o.base.entries + length o.entries) (calls (based o.base) o.entries)
 

@@ -1,4 +1,4 @@
--- A text that is read from a source as its items are asked for.
+-- Reading a text from a source, one item at a time.
 use Rattle.std.specs.Prelude.{◌≡◌, ◌≢◌, ◌+◌, ◌≤◌, ℕ, List, [], ◌∷◌, ◌++◌, length, Option, Some, None, Result, Ok, Err, IfSome, IsSomeAnd}
 use Rattle.std.specs.Io.KnownBytes.{IsAtEnd, Keeps, prepend_known}
 use Rattle.line_text.specs.Form.{Form}
@@ -10,52 +10,52 @@ use Rattle.streams.specs.declared.stream_fault.StreamFault.TheVariants.{Text, Re
 use Rattle.streams.specs.Streams.{IsReadNoFurther}
 use Rattle.streams.specs.Window.{StaysAhead}
 
--- A text under way: what is known of it so far, and all that follows the items that were read, where it is
--- known.
+-- The progress of reading a text: what is known of it so far, and all that follows the items that were read,
+-- if that is known.
 pub record Progress (H I : Type 0) : Type 1 where
   pub so_far : SoFar H I
   pub ahead : Option (List ℕ)
 
--- where a reader is that holds these bytes, and whose source has this left
+-- the progress of a reader that holds these bytes; `left` is what its source still has
 abbrev pub reader_at : {H I : Type 0} → SoFar H I → List ℕ → Option (List ℕ) → Progress H I
 reader_at so_far bytes left = record { so_far = so_far; ahead = prepend_known bytes left }
 
--- these items of the text were read, the oldest first, where the text is known
+-- these items of the text were read, the oldest first, if the text is known
 abbrev pub WereRead : {H I : Type 0} → Form H I → Option (List ℕ) → Progress H I → List I → Type 0
 WereRead form text p items = IfSome text (λ t. IsSomeAnd p.ahead (AreRead form t p.so_far items))
 
--- of a text of which the header and nothing more was read, P holds
+-- P holds for each text whose header was read, and no item yet
 abbrev pub OfText : {H I : Type 0} → Form H I → Progress H I → (List ℕ → Type 0) → Type 0
 OfText form p P = (text : Option (List ℕ)) → WereRead form text p [] → IfSome text P
 
--- what is left of a text is no longer than it
+-- what is left of a text is no longer than the text
 abbrev pub IsPartLeft : Option (List ℕ) → Option (List ℕ) → Type 0
 IsPartLeft None left = Unit {0}
 IsPartLeft (Some text) None = ⊥
 IsPartLeft (Some text) (Some left) = length left ≤ length text
 
--- the faults of a text, where it is known, and of its source, which has this left behind them
+-- the faults of a text, if it is known, and of its source, which has this left then
 abbrev pub IsFaultOf : {H I : Type 0} → Form H I → Option (List ℕ) → Option (List ℕ) → StreamFault → Type 0
 IsFaultOf form text left (Text fault) = IfSome text (λ t. IsReading form t (Err fault)) × IsPartLeft text left
 IsFaultOf form text left ReadFailed = Unit {0}
 IsFaultOf form text left Memory = IsReadNoFurther form text left
 IsFaultOf form text left WriteFailed = ⊥
 
--- the faults behind a header, whatever the text
+-- the faults after a header, whatever the text
 abbrev pub IsFaultBehind : {H I : Type 0} → Form H I → Progress H I → Option (List ℕ) → StreamFault → Type 0
 IsFaultBehind form p left fault =
     (text : Option (List ℕ)) → WereRead form text p [] → IsFaultOf form text left fault
 
--- the faults behind whatever items were read
+-- the faults after whatever items were read
 abbrev pub IsFaultOn : {H I : Type 0} → Form H I → Progress H I → Option (List ℕ) → StreamFault → Type 0
 IsFaultOn {H} {I} form p left fault =
     (text : Option (List ℕ)) (items : List I) → WereRead form text p items → IsFaultOf form text left fault
 
--- there is no text of which so much was read
+-- there is no text of which these items were read
 abbrev pub IsOfNoText : {H I : Type 0} → Form H I → Progress H I → Type 0
 IsOfNoText {H} {I} form p = (text : List ℕ) (items : List I) → WereRead form (Some text) p items → ⊥
 
--- what stands behind the end line of so many items: nothing, or what makes the line after it a bad one
+-- what follows the end line after `count` items: nothing, or what makes the next line a bad one
 abbrev pub IsBehindEnd : {I : Type 0} → ℕ → Option (List ℕ) → Result (Option I) StreamFault → Type 0
 IsBehindEnd count left (Ok (Some item)) = ⊥
 IsBehindEnd count left (Ok None) = IsAtEnd left
@@ -64,8 +64,8 @@ IsBehindEnd count left (Err ReadFailed) = Unit {0}
 IsBehindEnd count left (Err Memory) = ⊥
 IsBehindEnd count left (Err WriteFailed) = ⊥
 
--- Whatever items were read: one more was, or they are all, or this is the fault of the text or of its source,
--- which has this left.
+-- After whatever items: one more was read, or they are all, or this is the fault of the text or of its
+-- source, which has this left.
 abbrev pub IsNext : {H I : Type 0} → Form H I → Progress H I → Result (Option I) StreamFault →
     Progress H I → Option (List ℕ) → Type 0
 IsNext {H} {I} form old (Ok (Some item)) new left =
@@ -77,8 +77,9 @@ IsNext {H} {I} form old (Ok None) new left =
 IsNext {H} {I} form old (Err fault) new left =
     (text : Option (List ℕ)) (items : List I) → WereRead form text old items → IsFaultOf form text left fault
 
--- Where a reader stands that gave no item, by what it held and holds and what its source had left and has:
--- where it stood. Behind a fault bytes of a line that is longer than any good one may be gone.
+-- The position of a reader that returned no item: it is as before. After a fault, bytes of a line that is
+-- longer than any good one may be gone. The arguments are what the reader held and holds, and what its source
+-- had left and has left.
 abbrev pub Stands : {I : Type 0} → List ℕ → Option (List ℕ) → Result (Option I) StreamFault → List ℕ →
     Option (List ℕ) → Type 0
 Stands old left (Ok (Some item)) new after = Unit {0}

@@ -11,7 +11,8 @@ use history::pieces::{put_byte, put_bytes};
 use history::step::Answer;
 use history_text::entry_line::spell_entry;
 
-/// Puts the line of an answer from a place on, over bytes that are there, and returns the place behind it.
+/// Writes the line of an answer from position `at` on, over bytes that are there. Returns the position after
+/// it.
 #[inline(always)]
 pub fn spell_answer(
     line: &mut [u8],
@@ -47,7 +48,8 @@ pub fn spell_answer(
     }
 }
 
-/// Puts whom an entry names from a place on, and returns the place behind it: nothing where it names nobody.
+/// Writes which waiter an entry names, from position `at` on, or nothing if it names none. Returns the
+/// position after it.
 #[inline(always)]
 fn put_waking(line: &mut [u8], at: usize, named: Option<u16>) -> usize
     requires { at + 27 ≤ length line.old }
@@ -65,7 +67,7 @@ fn put_waking(line: &mut [u8], at: usize, named: Option<u16>) -> usize
     }
 }
 
-/// Puts the line of a trim from a place on, over bytes that are there, and returns the place behind it.
+/// Writes the line of a trim from position `at` on, over bytes that are there. Returns the position after it.
 pub fn spell_trim(line: &mut [u8], at: usize, answer: &Result<u64, Fault>) -> usize
     requires { at + 136 ≤ length line.old }
     ensures end { result ≤ at + 136 }

@@ -1,4 +1,4 @@
-//! The answers to the steps and trims of a text, kept short until they are written.
+//! The answers to the steps and trims of a text, kept in short form until they are written.
 
 ghost use Rattle.std.specs.Prelude.{◌≡◌, ◌↔◌, ◌-◌, ◌++◌, ◌≤◌, [], false, All, IfOk, IfErr, IsErr, IsErrOf, IsTrue, OnErr, OnOk, drop, length, reverse, slice_get, take};
 ghost use Rattle.std.specs.Io.KnownBytes.{Appends};
@@ -34,8 +34,8 @@ use streams::whole::write_all;
 
 /// The answers of an object to all steps and trims of a text.
 ///
-/// An entry says almost all of the answer that it is: so the history is kept, with the entries that were
-/// folded before, and a remark where there is more to say.
+/// An entry has almost all of the answer that recorded it. So the history is kept, with the entries that were
+/// folded before, and a remark for each answer with more in it.
 #[derive(Drop)]
 pub struct Answers {
     header: StepsHeader,
@@ -87,7 +87,7 @@ impl Answers {
         }
     }
 
-    /// Writes the answers. All memory is found before the first piece is written.
+    /// Writes the answers. All memory is reserved before the first piece is written.
     pub fn write<W: Sink>(
         &self,
         alloc: Global,
@@ -107,7 +107,7 @@ impl Answers {
         }
     }
 
-    /// Writes the lines of all entries, piece by piece, those that were folded among them.
+    /// Writes the lines of all entries, piece by piece, with those that were folded.
     fn write_lines<W: Sink>(
         &self,
         alloc: Global,
@@ -143,7 +143,7 @@ impl Answers {
         }
     }
 
-    /// The remarks that stand in a text of the form.
+    /// Returns the remarks that a text of the form has.
     fn remarks_in(&self, form: Form) -> &[Remark]
         ensures { result.now ≡ remarks_in form self.now.remarks }
     {
@@ -153,7 +153,7 @@ impl Answers {
         }
     }
 
-    /// The entry of a number, those that were folded among them.
+    /// Returns the entry of a number, also if it was folded.
     #[inline(always)]
     fn entry(&self, number: u64) -> Option<Entry>
         ensures { result ≡ slice_get (all_of self.now) number }
@@ -165,14 +165,14 @@ impl Answers {
         self.history.get(number - past)
     }
 
-    /// How many entries there are, those that were folded among them.
+    /// Returns how many entries there are, with those that were folded.
     fn count(&self) -> u64
         ensures { result ≡ length (all_of self.now) }
     {
         self.past.len() as u64 + self.history.len()
     }
 
-    /// How many of all entries end a call.
+    /// Returns how many of all entries end a call.
     fn calls(&self) -> u64
         ensures { result ≡ ended_calls (all_of self.now) }
     {
@@ -180,7 +180,7 @@ impl Answers {
         self.history.calls()
     }
 
-    /// Writes what was gathered, and all that follows the first line. No memory is taken.
+    /// Writes the gathered bytes, and all that follows the first line. It allocates nothing.
     pub fn put_all<W: Sink>(
         &self,
         lines: &mut LineWriter,
@@ -202,7 +202,7 @@ impl Answers {
     }
 }
 
-/// What the first line of a replay text begins with.
+/// Returns the beginning of a replay text's first line.
 fn name_of(format: Format) -> &'static [u8]
     ensures { result.now ≡ name_of format }
 {
@@ -212,7 +212,7 @@ fn name_of(format: Format) -> &'static [u8]
     }
 }
 
-/// The first line of what is written.
+/// Returns the first line of what is written.
 pub fn first_line(alloc: Global, form: Form, header: &StepsHeader) -> Result<Vec<u8>, StreamFault>
     requires { IsInRange header.now.header }
     ensures ok { IfOk result (λ out. out.items ≡ ended (first_line form header.now)) }
@@ -253,7 +253,7 @@ fn put_lines<W: Sink>(
     put_entries(lines, writer, answers, number, answers.count())
 }
 
-/// Adds the lines of the entries from a number up to another, of which nothing is remarked.
+/// Adds the lines of the entries from one number up to another. None of them has a remark.
 #[inline(always)]
 fn put_entries<W: Sink>(
     lines: &mut LineWriter,

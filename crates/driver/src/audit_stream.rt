@@ -1,4 +1,4 @@
-//! A history text is answered by an audit text.
+//! From a history text to an audit text.
 
 ghost use Rattle.std.specs.Prelude.{◌≡◌, ◌↔◌, false, IsTrue, IfErr, IfOk, IsErrOf, OnOk};
 ghost use Rattle.std.specs.Io.KnownBytes.{IsAtEnd};
@@ -18,13 +18,14 @@ use streams::sink::Sink;
 use streams::source::Source;
 use streams::stream_fault::StreamFault;
 
-/// Reads a history text, judges the history from its base on, and writes what an audit says of it. The
-/// verdict is answered too; it counts entries from the base, and the text counts those before it too.
+/// Reads a history text, judges the history from its base on, and writes the audit text. Returns the verdict
+/// as well. The verdict's number counts entries from the base on; the number in the text counts the folded
+/// ones too.
 ///
-/// Each entry is judged as its line is read, and none is kept. Of a base the places of its seats are. As in
-/// [`replay_stream`](crate::replay_stream::replay_stream) all is read before anything is written, and nothing
-/// is written where the text has a fault, where reading fails or where memory is refused. A text is read to
-/// its end where it is answered, and where it has a fault; where memory is refused nothing more is read.
+/// Each entry is judged as its line is read, and none is kept. A base is kept with places for all its seats.
+/// As in [`replay_stream`](crate::replay_stream::replay_stream) all is read before anything is written.
+/// Nothing is written if the text has a fault, if reading fails or if an allocation fails. On success, and
+/// after a fault of the text, the source is read to its end. After a failed allocation nothing more is read.
 pub fn audit_stream<R: Source, W: Sink>(
     alloc: Global,
     reader: &mut R,
@@ -41,7 +42,7 @@ pub fn audit_stream<R: Source, W: Sink>(
     tell(reader, writer, told)
 }
 
-/// What is said of the history text that a source has.
+/// Returns the audit text of the history text that a source has.
 fn audit_of<R: Source>(alloc: Global, reader: &mut R) -> Result<VerdictText, StreamFault>
     requires { R.failed reader.old ≡ false }
     ensures ok { IfOk result (IsTold audit_text (R.left reader.old)) }

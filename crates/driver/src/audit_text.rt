@@ -17,8 +17,8 @@ use history::number::put_number;
 use itoa::Buffer;
 use std::alloc::{AllocError, Global};
 
-/// What is said of a history with this judgement: of its entries so many were folded, so many there are with
-/// these, and so many end a call.
+/// Returns the audit text for this judgement. `folded` counts the entries that were folded, `entries` all
+/// entries with these, and `calls` the entries that end a call.
 pub fn audit_text(
     alloc: Global,
     object: Object,
@@ -43,7 +43,7 @@ pub fn audit_text(
     }
 }
 
-/// What is said of a legal history with these totals.
+/// Returns the audit text of a legal history with these totals.
 fn legal_text(
     alloc: Global,
     object: Object,
@@ -63,7 +63,8 @@ fn legal_text(
     Ok(out)
 }
 
-/// Appends the line of a base of so many entries, if there are some, or a front of it.
+/// Appends the line of a base, if entries were folded. On an error only its first bytes may have been
+/// appended.
 fn put_base(out: &mut Vec<u8>, folded: u64) -> Result<(), AllocError>
     ensures { OnOk result (out.new.items ≡ out.old.items ++ base_line folded) }
 {
@@ -73,7 +74,7 @@ fn put_base(out: &mut Vec<u8>, folded: u64) -> Result<(), AllocError>
     Ok(())
 }
 
-/// Appends a line of a name and a number, or a front of it.
+/// Appends a line of a name and a number. On an error only its first bytes may have been appended.
 pub fn put_line(out: &mut Vec<u8>, name: &[u8], number: u64) -> Result<(), AllocError>
     ensures { OnOk result (out.new.items ≡ out.old.items ++ ended (number_line name.now number)) }
 {
@@ -83,7 +84,7 @@ pub fn put_line(out: &mut Vec<u8>, name: &[u8], number: u64) -> Result<(), Alloc
     Ok(())
 }
 
-/// Appends the totals of the object's kind, or a front of them.
+/// Appends the totals of the object's kind. On an error only their first bytes may have been appended.
 fn put_totals(out: &mut Vec<u8>, object: Object, totals: &Totals) -> Result<(), AllocError>
     ensures { OnOk result (out.new.items ≡ out.old.items ++ totals_line object totals.now) }
 {
@@ -124,7 +125,8 @@ fn put_count(out: &mut Vec<u8>, totals: &Totals) -> Result<(), AllocError>
     Ok(())
 }
 
-/// Appends a name and a number, with a sign where it is below 0, or a front of them.
+/// Appends a name and a number, with a minus sign if it is negative. On an error only the first bytes may
+/// have been appended.
 fn put_total(out: &mut Vec<u8>, name: &[u8], total: &i128) -> Result<(), AllocError>
     ensures { OnOk result (out.new.items ≡ out.old.items ++ name.now ++ signed_decimal total.now) }
 {

@@ -1,4 +1,4 @@
-//! The lines of a base, read from their source one after another.
+//! Reading the lines of a base from their source, one after another.
 
 ghost use Rattle.std.specs.Prelude.{◌≡◌, ◌≤◌, ◌↔◌, false, length, true, IsTrue, IsErrOf, IfOk};
 ghost use Rattle.history.specs.GoodBase.{IsBaseOf};
@@ -14,8 +14,8 @@ use streams::source::Source;
 use streams::stream_fault::StreamFault;
 use streams::window::Window;
 
-/// The base that the lines behind the first one say, and where a reader stands behind them. The window goes
-/// on with what follows.
+/// Reads the base that follows the first line, and returns it with the reader's position after it. The window
+/// continues with what follows.
 pub(crate) fn read_base<R: Source>(
     alloc: Global,
     head: &Head,
@@ -42,8 +42,8 @@ pub(crate) fn read_base<R: Source>(
     Ok(base.finish())
 }
 
-/// Takes up the next line of a base, and says whether there was one: if not, the base was told whole, and the
-/// line stands whole in the window.
+/// Reads the next line of a base, and returns whether it was one. If not, the base is complete, and the whole
+/// line is still in the window.
 fn take_line<R: Source>(
     window: &mut Window,
     reader: &mut R,

@@ -3,20 +3,20 @@
 ghost use Rattle.std.specs.Prelude.{◌≡◌};
 ghost use Rattle.driver.specs.Choice.{end_of, first_of, is_cut};
 
-/// So many entries are drawn where nobody asks for some.
+/// How many entries are drawn if none are chosen.
 const UNCHOSEN: u64 = 2000;
 
-/// The first and the last entry that are asked for, by their numbers, which count those that were folded.
+/// The first and the last entry to draw, by their numbers. The numbers count folded entries too.
 #[derive(Clone, Copy, Debug, PartialEq, Eq)]
 pub struct Choice {
     /// None: from the beginning.
     pub from: Option<u64>,
-    /// None: to the end, or where no first entry is asked for, either, to the 2,000th that wasn't folded.
+    /// None: to the end. If `from` is None too: to the 2,000th entry that wasn't folded.
     pub to: Option<u64>,
 }
 
 impl Choice {
-    /// How many entries stand before the first, of those behind so many that were folded.
+    /// Returns how many unfolded entries are before the first one to draw, if `folded` entries were folded.
     pub(crate) fn first(self, folded: u64) -> u64
         ensures { result ≡ first_of self folded }
     {
@@ -26,7 +26,8 @@ impl Choice {
         }
     }
 
-    /// How many entries stand before the end of those that are asked for, behind so many that were folded.
+    /// Returns how many unfolded entries are before the end of those to draw, if `folded` entries were
+    /// folded.
     pub(crate) fn end(self, folded: u64) -> u64
         ensures { result ≡ end_of self folded }
     {
@@ -39,7 +40,7 @@ impl Choice {
         }
     }
 
-    /// Whether entries of so many are left out though nobody asked for some.
+    /// Returns whether entries are left out although none were chosen.
     pub(crate) fn is_cut(self, entries: u64) -> bool
         ensures { result ≡ is_cut self entries }
     {

@@ -1,4 +1,4 @@
-//! A history text is answered by a picture of the history.
+//! From a history text to a picture of the history.
 
 ghost use Rattle.std.specs.Prelude.{◌≡◌, ◌+◌, ◌<◌, ◌^◌, ◌↔◌, IsTrue, IfErr, IfOk, IsErrOf, OnOk, false, length, reverse, take};
 ghost use Rattle.std.specs.List.{All};
@@ -27,12 +27,12 @@ use streams::sink::Sink;
 use streams::source::Source;
 use streams::stream_fault::StreamFault;
 
-/// Reads a history text, judges the history from its base on, and writes a picture of the chosen entries. The
-/// verdict is answered too. A history that isn't legal is drawn up to its first entry that isn't.
+/// Reads a history text, judges the history from its base on, and writes a picture of the chosen entries.
+/// Returns the verdict as well. A history that isn't legal is drawn up to its first illegal entry.
 ///
-/// The entries up to the last that is drawn are kept, and none behind it. As in
-/// [`audit_stream`](crate::audit_stream::audit_stream) all is read, and all memory found, before anything is
-/// written.
+/// Entries are kept up to the last one that is drawn. As in
+/// [`audit_stream`](crate::audit_stream::audit_stream) all is read, and all memory reserved, before anything
+/// is written.
 pub fn draw_stream<R: Source, W: Sink>(
     alloc: Global,
     reader: &mut R,
@@ -50,7 +50,7 @@ pub fn draw_stream<R: Source, W: Sink>(
     tell(reader, writer, told)
 }
 
-/// What is drawn of the history text that a source has.
+/// Returns the picture of the history text that a source has.
 fn sketch_of<R: Source>(
     alloc: Global,
     reader: &mut R,
@@ -71,7 +71,7 @@ fn sketch_of<R: Source>(
     Ok(VerdictText { verdict, text })
 }
 
-/// The text of the picture of the entries that were kept, of those that were read.
+/// Returns the text of the picture. `kept` are those of the read entries that were kept.
 fn drawn_text(
     alloc: Global,
     entries: &HistoryReader,
@@ -106,7 +106,7 @@ fn drawn_text(
     svg_text(alloc, &picture)
 }
 
-/// The entries before the first that isn't legal.
+/// Returns the entries before the first illegal one.
 fn legal_front(entries: &[Entry], verdict: Verdict) -> &[Entry]
     ensures { result.now ≡ legal_front verdict entries.now }
 {
@@ -122,7 +122,7 @@ fn legal_front(entries: &[Entry], verdict: Verdict) -> &[Entry]
     }
 }
 
-/// The number of the first entry that isn't legal, behind so many that were folded.
+/// Returns the number of the first illegal entry, if `folded` entries were folded.
 fn wrong_of(folded: u64, verdict: Verdict) -> Option<u64>
     requires { folded + before_wrong verdict < 2 ^ 64 }
     ensures { result ≡ wrong_of folded verdict }

@@ -1,4 +1,4 @@
-//! What stands behind the end line of a text.
+//! What follows the end line of a text.
 
 ghost use Rattle.std.specs.Prelude.{◌≡◌, ◌<◌, ◌≤◌, ◌+◌, ◌^◌, ◌↔◌, false, length, None, Ok, IsTrue, IsErrOf};
 ghost use Rattle.std.specs.Io.KnownBytes.{IsAtEnd, Keeps, prepend_known};
@@ -10,7 +10,7 @@ use streams::source::Source;
 use streams::stream_fault::StreamFault;
 use streams::window::Window;
 
-/// Behind the end line of so many items, which the window still holds: nothing may follow it.
+/// Checks that nothing follows the end line, which the window still holds.
 pub(crate) fn end_of<T, R: Source>(
     window: &mut Window,
     reader: &mut R,

@@ -1,6 +1,6 @@
-//! What is written of a replay.
+//! The form in which the answers of a replay are written.
 
-/// What is written of a replay.
+/// The form in which the answers of a replay are written.
 #[derive(Clone, Copy, Debug, PartialEq, Eq)]
 pub enum Form {
     /// The replay text: a line for the answer to each step.

@@ -1,4 +1,4 @@
-//! The entries of a history text, read from its source as they are asked for.
+//! Reading the entries of a history text from its source, one at a time.
 
 ghost use Rattle.std.specs.Prelude.{◌≡◌, ◌<◌, ◌≤◌, ◌↔◌, [], false, length, None, Ok, IsTrue, IsErrOf, IfOk, IfErr, IfSome, OnErr};
 ghost use Rattle.std.specs.Option.{option_copied};
@@ -29,8 +29,8 @@ use streams::source::Source;
 use streams::stream_fault::StreamFault;
 use streams::window::Window;
 
-/// A history text of which the header, the lines of a base, if there are some, and so many entries behind
-/// them were read.
+/// A reader of a history text. It has read the header, the base if there is one, and the entries that were
+/// asked for.
 #[derive(Drop)]
 pub struct HistoryReader {
     header: Header,
@@ -65,7 +65,7 @@ impl Model for HistoryReader {
 }
 
 impl HistoryReader {
-    /// Reads the header of a text, and the lines of a base that follow it in a text of format 2.
+    /// Reads the header of a text, and the base that follows it in a text of format 2.
     pub fn open<R: Source>(alloc: Global, reader: &mut R) -> Result<Self, StreamFault>
         requires { R.failed reader.old ≡ false }
         ensures ok { IfOk result (λ entries. EntriesRead (R.left reader.old) entries (R.left reader.new) []) }
@@ -90,7 +90,7 @@ impl HistoryReader {
         })
     }
 
-    /// The header that the text began with.
+    /// Returns the header that the text began with.
     pub fn header(&self) -> Header
         ensures value { result ≡ self.now.header }
         ensures range { IsInRange self.now.header }
@@ -99,7 +99,7 @@ impl HistoryReader {
         self.header
     }
 
-    /// The base that the text tells, if it tells one.
+    /// Returns the base, if the text has one.
     pub fn base(&self) -> Option<&Base>
         ensures value { option_copied result ≡ self.now.base }
         ensures well { IsBasedWell self.now.header self.now.base }
@@ -107,7 +107,7 @@ impl HistoryReader {
         self.base.as_ref()
     }
 
-    /// How many entries were folded into the base.
+    /// Returns how many entries were folded into the base.
     pub fn folded(&self) -> u64
         ensures value { result ≡ self.now.place.folded }
         ensures few { result ≤ most_folded }
@@ -115,7 +115,7 @@ impl HistoryReader {
         self.place.folded
     }
 
-    /// How many entries were read behind the base.
+    /// Returns how many entries were read after the base.
     pub fn count(&self) -> u64
         ensures value { result ≡ self.now.place.count }
         ensures few { result ≤ self.now.header.cap }
@@ -123,14 +123,14 @@ impl HistoryReader {
         self.place.count
     }
 
-    /// How many calls ended, those before the base among them.
+    /// Returns how many calls ended, with those before the base.
     pub fn calls(&self) -> u64
         ensures { result ≡ self.now.place.calls }
     {
         self.place.calls
     }
 
-    /// Counts one more entry, which ends where so many bytes are left.
+    /// Counts one more entry. `left` is the number of bytes after its line.
     #[inline(always)]
     fn pass(&mut self, entry: Entry, left: usize)
         requires { (left ≤ length self.old.bytes) × (self.old.place.count < self.old.header.cap) }
@@ -140,7 +140,7 @@ impl HistoryReader {
         self.window.keep_last(left);
     }
 
-    /// The next entry, where a whole line isn't in the window yet.
+    /// As `next`, if the window doesn't hold a whole line yet.
     #[inline(never)]
     fn next_after_reading<R: Source>(
         &mut self,
@@ -176,10 +176,10 @@ impl HistoryReader {
         Ok(Some(entry))
     }
 
-    /// The next entry, or None behind the last: nothing follows the end line.
+    /// Returns the next entry, or None after the last. Then nothing follows the end line.
     ///
-    /// Behind None, and behind a fault, the reader stands where it stood: only bytes of a line that is longer
-    /// than any good one may be gone.
+    /// After None or a fault the reader's position is as before. Only bytes of a line that is longer than any
+    /// good one may be gone.
     #[inline(always)]
     pub fn next<R: Source>(&mut self, reader: &mut R) -> Result<Option<Entry>, StreamFault>
         requires { R.failed reader.old ≡ false }
@@ -217,8 +217,8 @@ impl HistoryReader {
     }
 }
 
-/// The base that the lines behind the first one say, if the first one says that they do, and where a reader
-/// stands behind them.
+/// Reads the base lines of a format-2 text, if there are any. Returns the base and the reader's position
+/// after it.
 fn base_of<R: Source>(
     alloc: Global,
     head: &Head,

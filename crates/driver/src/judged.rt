@@ -1,4 +1,4 @@
-//! The entries of a history text, judged as their lines are read.
+//! Judging the entries of a history text as their lines are read.
 
 ghost use Rattle.std.specs.Prelude.{◌≡◌, ◌↔◌, IsTrue, IfErr, IfOk, IsErrOf, IsOkUnless, OnOk, [], false};
 ghost use Rattle.std.specs.Option.{option_copied};
@@ -22,15 +22,14 @@ use std::alloc::{AllocError, Global};
 use streams::source::Source;
 use streams::stream_fault::StreamFault;
 
-/// The judgement on the entries of a text, and those of them that were kept.
+/// The judgement on the entries of a text, and the entries that were kept.
 #[derive(Drop)]
 pub(crate) struct Judged {
     pub(crate) judgement: Judgement,
     pub(crate) entries: Vec<Entry>,
 }
 
-/// The judgement on the entries of a text from its base on, each of which is followed as its line is read.
-/// The first so many of them are kept: none where it is 0.
+/// Judges the entries of a text from its base on, each as its line is read. Keeps the first `most` of them.
 #[inline(always)]
 pub(crate) fn judged_of<R: Source>(
     alloc: Global,
@@ -65,7 +64,7 @@ pub(crate) fn judged_of<R: Source>(
     })
 }
 
-/// An auditor that has seen no entry of an object that begins on a base, or as opened.
+/// Returns an auditor that has seen no entry of an object on a base, or as opened.
 fn auditor_on(alloc: Global, header: &Header, base: Option<&Base>) -> Result<Auditor, Fault>
     requires range { IsInRange header.now }
     requires based { IsBasedWell header.now (option_copied base) }
@@ -78,7 +77,7 @@ fn auditor_on(alloc: Global, header: &Header, base: Option<&Base>) -> Result<Aud
     }
 }
 
-/// Keeps the entry of a number, if it stands before the end.
+/// Keeps the entry, if its number is below the end.
 #[inline(always)]
 fn keep(kept: &mut Vec<Entry>, entry: Entry, number: u64, end: u64) -> Result<(), AllocError>
     ensures { OnOk result (kept.new.items ≡ kept_with kept.old.items entry number end) }

@@ -1,9 +1,9 @@
-//! From bytes to bytes: what a stream's text asks for is answered by a text.
+//! From bytes to bytes: a stream function reads a text and writes another.
 //!
-//! A stream reads all and finds all its memory before it writes, so that nothing is written for a text that
-//! is refused. A replay answers each line as it is read, and keeps the answers short until they are written;
-//! an audit judges each line as it is read, and keeps none; a drawing keeps the entries that are drawn.
-//! Sources and sinks tell their bytes to the contracts, where these are known.
+//! It reads all, and reserves all memory, before it writes. So nothing is written for a text that is refused.
+//! A replay performs each line as it is read, and keeps the answers in short form until they are written. An
+//! audit judges each line as it is read, and keeps no entry. A drawing keeps the entries that it draws. The
+//! contracts refer to the bytes of sources and sinks, if these are known.
 #![tactic(auto)]
 
 mod answer_line;

@@ -1,4 +1,4 @@
-//! Lines on their way to a sink.
+//! Gathering lines for a sink.
 
 ghost use Rattle.std.specs.Prelude.{◌≡◌, ◌+◌, ◌++◌, ◌≤◌, ◌↔◌, [], false, length, IsErr, IsTrue, IfOk, OnErr, OnOk};
 ghost use Rattle.std.specs.Io.KnownBytes.{Appends};
@@ -20,14 +20,14 @@ use streams::sink::Sink;
 use streams::source::DeviceFailed;
 use streams::whole::write_all;
 
-/// No line has more bytes.
+/// The most bytes of a line.
 const MOST_BYTES: usize = 136;
 
-/// So many bytes are gathered, and then written at once.
+/// How many bytes are gathered before they are written at once.
 const PIECE: usize = 65_536;
 
-/// Lines that are gathered over blank bytes, and written piece by piece. No line takes memory, and nothing is
-/// written while there is room for another.
+/// Lines that are gathered in bytes reserved before, and written piece by piece. No line allocates. Nothing
+/// is written while there is room for another line.
 #[derive(Drop)]
 pub struct LineWriter {
     bytes: Vec<u8>,
@@ -47,7 +47,7 @@ impl Model for LineWriter {
 }
 
 impl LineWriter {
-    /// A writer that begins with this line, and has all the memory that it will want.
+    /// Returns a writer that begins with this line, with all the memory that it will need.
     pub fn open(alloc: Global, first: &[u8]) -> Result<Self, AllocError>
         ensures first { IfOk result (λ lines. lines.bytes ≡ first.now) }
         ensures room { IfOk result (λ lines. lines.room ≡ 65536) }
@@ -61,7 +61,7 @@ impl LineWriter {
         })
     }
 
-    /// Writes what was gathered. Where that fails it stays gathered.
+    /// Writes the gathered bytes. On an error they stay gathered.
     #[inline(never)]
     pub fn flush<W: Sink>(&mut self, writer: &mut W) -> Result<(), DeviceFailed>
         requires { W.failed writer.old ≡ false }
@@ -78,7 +78,7 @@ impl LineWriter {
         Ok(())
     }
 
-    /// Makes room for a line. Where writing fails, all stays gathered.
+    /// Makes room for a line. On an error all bytes stay gathered.
     #[inline(always)]
     fn make_room<W: Sink>(&mut self, writer: &mut W) -> Result<(), DeviceFailed>
         requires { W.failed writer.old ≡ false }
@@ -96,8 +96,8 @@ impl LineWriter {
         self.flush(writer)
     }
 
-    /// Adds the line of the answer to a seat's step. The places for bytes stay as many as they were. Where
-    /// writing fails, all stays gathered, and nothing is added.
+    /// Adds the line of the answer to a seat's step. The number of reserved bytes stays. On an error all
+    /// bytes stay gathered, and nothing is added.
     #[inline(always)]
     pub fn put_answer<W: Sink>(
         &mut self,
@@ -120,7 +120,7 @@ impl LineWriter {
         Ok(())
     }
 
-    /// Adds the line of a trim, with how many entries it folded or its fault.
+    /// Adds the line of a trim: how many entries it folded, or its fault.
     pub fn put_trim<W: Sink>(
         &mut self,
         writer: &mut W,
@@ -139,7 +139,7 @@ impl LineWriter {
         Ok(())
     }
 
-    /// Adds the end line of so many entries, of which so many end a call.
+    /// Adds the end line, with the number of entries and of those that end a call.
     pub fn put_counts<W: Sink>(
         &mut self,
         writer: &mut W,
@@ -159,7 +159,7 @@ impl LineWriter {
         Ok(())
     }
 
-    /// Adds the line of an answer, for which there is room.
+    /// Adds the line of an answer. There is room for it.
     #[inline(always)]
     fn spell_answer(&mut self, number: u64, seat: u16, answer: &Result<Answer, Fault>)
         requires spelt { HasLine answer.now }
@@ -171,7 +171,7 @@ impl LineWriter {
         self.at = spell_answer(line, self.at, &mut self.numbering, number, seat, answer);
     }
 
-    /// Adds the line of a trim, for which there is room.
+    /// Adds the line of a trim. There is room for it.
     fn spell_trim(&mut self, answer: &Result<u64, Fault>)
         requires { 136 ≤ self.old.room }
         ensures bytes { self.new.bytes ≡ self.old.bytes ++ ended (trim_line answer.now) }
@@ -181,7 +181,7 @@ impl LineWriter {
         self.at = spell_trim(line, self.at, answer);
     }
 
-    /// Adds an end line, for which there is room.
+    /// Adds the end line. There is room for it.
     fn spell_counts(&mut self, entries: u64, calls: u64)
         requires { 136 ≤ self.old.room }
         ensures bytes { self.new.bytes ≡ self.old.bytes ++ ended (counts_line entries calls) }

@@ -1,4 +1,4 @@
-//! What the answers to steps and trims say beside the entries.
+//! What the answers to steps and trims have beyond the entries.
 
 ghost use Rattle.std.specs.Prelude.{◌≡◌, ◌<◌, ◌^◌, IfOk};
 ghost use Rattle.driver.specs.Remarks.{entries_said, remark_of, trim_remark};
@@ -6,33 +6,33 @@ ghost use Rattle.driver.specs.Remarks.{entries_said, remark_of, trim_remark};
 use history::fault::Fault;
 use history::step::Answer;
 
-/// What an answer says that no entry says.
+/// The part of an answer that isn't in any entry.
 #[derive(Clone, Copy, Debug)]
 pub struct Remark {
-    /// How many entries there were before, those that were folded among them.
+    /// How many entries there were before, with those that were folded.
     pub before: u32,
-    /// The seat that is spoken of: 0 of a trim, which has none.
+    /// The seat that the remark is about; 0 for a trim, which has none.
     pub seat: u16,
     pub said: Said,
 }
 
-/// What is said of a seat, or of a trim.
+/// What a remark says of its seat, or of a trim.
 #[derive(Clone, Copy, Debug)]
 pub enum Said {
-    /// The entry that the step made names it.
+    /// The entry of the step names this seat.
     IsNamed,
-    /// Its step let it sleep, and made no entry.
+    /// The step made no entry, and its seat keeps waiting.
     Sleeps,
-    /// Its step had this fault, and made no entry.
+    /// The step had this fault, and made no entry.
     Fails(Fault),
-    /// A trim folded so many entries.
+    /// A trim folded this many entries.
     Folds(u32),
     /// A trim had this fault, and folded none.
     FoldsNone(Fault),
 }
 
 impl Remark {
-    /// How many entries were added.
+    /// Returns how many entries were added.
     pub fn entries(&self) -> u64
         ensures { result ≡ entries_said self.now.said }
     {
@@ -43,7 +43,7 @@ impl Remark {
     }
 }
 
-/// What there is to remark of the answer to a seat's step.
+/// Returns the remark on the answer to a seat's step, if there is one.
 #[inline(always)]
 pub fn remark_on(before: u32, seat: u16, answer: &Result<Answer, Fault>) -> Option<Remark>
     ensures { result ≡ remark_of before seat answer.now }
@@ -57,7 +57,7 @@ pub fn remark_on(before: u32, seat: u16, answer: &Result<Answer, Fault>) -> Opti
     Some(Remark { before, seat, said })
 }
 
-/// What there is to remark of a trim.
+/// Returns the remark on a trim.
 pub fn remark_on_trim(before: u32, answer: &Result<u64, Fault>) -> Remark
     requires { IfOk answer.now (λ count. count < 2 ^ 32) }
     ensures { result ≡ trim_remark before answer.now }

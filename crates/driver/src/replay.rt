@@ -30,10 +30,10 @@ use std::alloc::Global;
 use streams::source::Source;
 use streams::stream_fault::StreamFault;
 
-/// No good text has more acts.
+/// The most acts of a good text.
 const MOST_ACTS: u64 = 4_294_967_295;
 
-/// What is kept of the answers beside the history of the core.
+/// What is kept of the answers besides the core's history.
 #[derive(Drop)]
 pub struct Log {
     /// The entries that trims folded.
@@ -41,7 +41,7 @@ pub struct Log {
     pub remarks: Vec<Remark>,
 }
 
-/// Whether a step was refused for want of memory.
+/// Returns whether a step failed because of a failed allocation.
 #[inline(always)]
 fn lacks_memory(answer: &Result<Answer, Fault>) -> bool
     ensures { IsTrue result ↔ (answer.now ≡ Err Fault.OutOfMemory) }
@@ -49,7 +49,7 @@ fn lacks_memory(answer: &Result<Answer, Fault>) -> bool
     matches!(answer, Err(Fault::OutOfMemory))
 }
 
-/// Keeps a remark, where there is one.
+/// Keeps a remark, if there is one.
 #[inline(always)]
 fn keep(remarks: &mut Vec<Remark>, remark: Option<Remark>) -> Result<(), StreamFault>
     ensures ok { OnOk result (IsKept remarks.old.items remark remarks.new.items) }
@@ -61,7 +61,7 @@ fn keep(remarks: &mut Vec<Remark>, remark: Option<Remark>) -> Result<(), StreamF
     Ok(())
 }
 
-/// How many entries there are, those that were folded among them.
+/// Returns how many entries there are, with those that were folded.
 #[inline(always)]
 fn count_of(past: &[Entry], history: &History) -> u32
     requires { length past.now + length history.now.entries < 2 ^ 32 }
@@ -70,7 +70,7 @@ fn count_of(past: &[Entry], history: &History) -> u32
     (past.len() as u64 + history.len()) as u32
 }
 
-/// Has a core answer a step, and keeps what there is to remark.
+/// Performs a step, and keeps its remark.
 #[inline(always)]
 fn answer_step<H: Hooks + Drop>(
     core: &mut Core<H>,
@@ -91,7 +91,7 @@ fn answer_step<H: Hooks + Drop>(
     keep(&mut log.remarks, remark_on(before, seat, &answer))
 }
 
-/// Keeps the entries of a history behind those that were folded before.
+/// Appends the entries of a history to those that were folded before.
 fn keep_entries(past: &mut Vec<Entry>, history: &History) -> Result<(), StreamFault>
     ensures ok { OnOk result (past.new.items ≡ past.old.items ++ reverse history.now.entries) }
     ensures err { IfErr result (λ fault. fault ≡ Memory) }
@@ -127,7 +127,7 @@ fn trim_keeping<H: Hooks + Drop>(
     }
 }
 
-/// Trims a core, and keeps what there is to tell of it.
+/// Trims a core, and keeps the folded entries and the remark.
 #[inline(never)]
 fn answer_trim<H: Hooks + Drop>(core: &mut Core<H>, log: &mut Log) -> Result<(), StreamFault>
     requires { length log.old.past.items + length core.old.entries < 2 ^ 32 }
@@ -141,7 +141,7 @@ fn answer_trim<H: Hooks + Drop>(core: &mut Core<H>, log: &mut Log) -> Result<(),
     Ok(())
 }
 
-/// Has a core do an act, and keeps what there is to tell of it beside the history.
+/// Performs an act, and keeps what isn't in the history.
 #[inline(always)]
 fn answer_act<H: Hooks + Drop>(
     core: &mut Core<H>,
@@ -160,12 +160,12 @@ fn answer_act<H: Hooks + Drop>(
     }
 }
 
-/// Has a fresh core do the acts of a text, each as its line is read, and answers what is to be told beside
-/// the history that it has then.
+/// Performs the acts of a text on a new core, each as its line is read. Returns what is to be written besides
+/// the core's history.
 ///
-/// A fault of the text or of its source ends the replay, and so does a step that is refused for want of
-/// memory. A text with more acts than a good one has is read to its fault, and they are not answered: so all
-/// entries can be counted.
+/// A fault of the text or of its source ends the replay. So does a step that returns `OutOfMemory`. If a text
+/// has more acts than a good one may have, the rest is read up to its fault and not performed. So the entries
+/// can always be counted.
 pub fn replay<H: Hooks + Drop, R: Source>(
     alloc: Global,
     core: &mut Core<H>,

@@ -1,4 +1,4 @@
-//! A steps text is answered by a replay text, or by a history text.
+//! From a steps text to a replay text or a history text.
 
 ghost use Rattle.std.specs.Prelude.{◌≡◌, ◌↔◌, false, IsTrue, IfErr, IfOk, IsErrOf, OnOk};
 ghost use Rattle.std.specs.Io.KnownBytes.{IsAtEnd};
@@ -26,12 +26,12 @@ use streams::source::Source;
 use streams::stream_fault::StreamFault;
 use streams::whole::told_at_the_end;
 
-/// Reads a steps text, and writes what a fresh object of its header answers to the steps and trims.
+/// Reads a steps text, performs its steps and trims on a new object of its header, and writes the answers.
 ///
-/// Each line is answered as it is read, and nothing is written before all was answered and all memory was
-/// found: nothing at all where the text has a fault, where reading fails or where memory is refused, to a
-/// step too. A text is read to its end where it is answered, and where it has a fault; where memory is
-/// refused nothing more is read.
+/// Each line is performed as it is read. Nothing is written before all are performed and all memory is
+/// reserved. So nothing is written if the text has a fault, if reading fails or if an allocation fails, also
+/// one for a step. On success, and after a fault of the text, the source is read to its end. After a failed
+/// allocation nothing more is read.
 pub fn replay_stream<R: Source, W: Sink>(
     alloc: Global,
     reader: &mut R,
@@ -51,7 +51,7 @@ pub fn replay_stream<R: Source, W: Sink>(
     }
 }
 
-/// The answers to the text that a source has.
+/// Returns the answers to the text that a source has.
 fn answers_to<R: Source>(alloc: Global, reader: &mut R) -> Result<Answers, StreamFault>
     requires { R.failed reader.old ≡ false }
     ensures ok { IfOk result (AreAnswersTo (R.left reader.old)) }
@@ -64,7 +64,7 @@ fn answers_to<R: Source>(alloc: Global, reader: &mut R) -> Result<Answers, Strea
     answers_behind(alloc, &mut steps, reader)
 }
 
-/// The answers of a fresh core of these hooks.
+/// Returns the answers of a new core with these hooks.
 fn answered<H: Hooks + Drop, R: Source>(
     alloc: Global,
     hooks: H,
@@ -91,7 +91,7 @@ fn answered<H: Hooks + Drop, R: Source>(
     Ok(Answers::new(text, core.into_history(), log))
 }
 
-/// The answers of a fresh object of the text's header.
+/// Returns the answers of a new object with the text's header.
 fn answers_behind<R: Source>(
     alloc: Global,
     steps: &mut StepReader,

@@ -1,4 +1,4 @@
-//! The steps of a text, and the trims between them, read from their source as they are asked for.
+//! Reading the steps and trims of a text from their source, one at a time.
 
 ghost use Rattle.std.specs.Prelude.{◌≡◌, ◌⊎◌, ◌+◌, ◌^◌, ◌<◌, ◌≤◌, ◌∷◌, ◌++◌, ◌↔◌, ◌-◌, [], false, length, None, Ok, IsErr, IsTrue, IsErrOf, IfOk, IfErr, IfSome, OnErr, OnOk};
 ghost use Rattle.std.specs.Io.KnownBytes.{IsAtEnd};
@@ -23,10 +23,10 @@ use streams::source::Source;
 use streams::stream_fault::StreamFault;
 use streams::window::Window;
 
-/// Acts are counted up to here: a text with more is answered by want of memory.
+/// The most acts that are counted. If a text has more, `OutOfMemory` is returned.
 const MOST: u64 = 18_446_744_073_709_551_612;
 
-/// A steps text of which the header, and so many acts, were read.
+/// A reader of a steps text. It has read the header, and the acts that were asked for.
 #[derive(Drop)]
 pub struct StepReader {
     header: StepsHeader,
@@ -76,7 +76,7 @@ impl StepReader {
         })
     }
 
-    /// The header that the text began with.
+    /// Returns the header that the text began with.
     pub fn header(&self) -> StepsHeader
         ensures value { result ≡ self.now.header }
         ensures range { IsInRange self.now.header.header }
@@ -85,14 +85,14 @@ impl StepReader {
         self.header
     }
 
-    /// How many acts were read.
+    /// Returns how many acts were read.
     pub fn count(&self) -> u64
         ensures { result ≡ self.now.count }
     {
         self.count
     }
 
-    /// Counts one more act, whose line ends where so many bytes are left.
+    /// Counts one more act. `left` is the number of bytes after its line.
     #[inline(always)]
     fn pass(&mut self, left: usize) -> Result<(), StreamFault>
         requires { left ≤ length self.old.bytes }
@@ -111,7 +111,7 @@ impl StepReader {
         Ok(())
     }
 
-    /// The next act, where a whole line isn't in the window yet.
+    /// As `next`, if the window doesn't hold a whole line yet.
     #[inline(never)]
     fn next_after_reading<R: Source>(&mut self, reader: &mut R) -> Result<Option<Act>, StreamFault>
         requires { R.failed reader.old ≡ false }
@@ -141,10 +141,10 @@ impl StepReader {
         Ok(Some(act))
     }
 
-    /// The next act, or None behind the last: nothing follows the end line.
+    /// Returns the next act, or None after the last. Then nothing follows the end line.
     ///
-    /// Behind None, and behind a fault, the reader stands where it stood: only bytes of a line that is longer
-    /// than any good one may be gone.
+    /// After None or a fault the reader's position is as before. Only bytes of a line that is longer than any
+    /// good one may be gone.
     #[inline(always)]
     pub fn next<R: Source>(&mut self, reader: &mut R) -> Result<Option<Act>, StreamFault>
         requires { R.failed reader.old ≡ false }
@@ -177,8 +177,8 @@ impl StepReader {
         }
     }
 
-    /// Reads what is left of a text of which more acts were read than a good one has: so it has a fault, and
-    /// that is found.
+    /// Reads the rest of a text after more acts than a good one may have. So it has a fault, which this
+    /// returns.
     #[inline(never)]
     pub fn read_to_fault<R: Source>(&mut self, reader: &mut R) -> Result<(), StreamFault>
         requires reader { R.failed reader.old ≡ false }

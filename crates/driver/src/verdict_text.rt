@@ -1,4 +1,4 @@
-//! A verdict on a history, and what is written of both.
+//! A verdict on a history, and the text that is written for it.
 
 ghost use Rattle.std.specs.Prelude.{◌≡◌, ◌↔◌, ℕ, List, Option, IsTrue, IfErr, IfOk, IfSome, IsErrOf, OnOk, false};
 ghost use Rattle.std.specs.Io.KnownBytes.{IsAtEnd};
@@ -16,15 +16,15 @@ use streams::source::Source;
 use streams::stream_fault::StreamFault;
 use streams::whole::{told_at_the_end, write_all};
 
-/// A verdict, and the text that tells it.
+/// A verdict, and the text that is written for it.
 #[derive(Drop)]
 pub(crate) struct VerdictText {
     pub(crate) verdict: Verdict,
     pub(crate) text: Vec<u8>,
 }
 
-/// Writes what is told of a history text that was read, and answers the verdict. Behind a fault of the text
-/// the rest of it is read, and nothing is written.
+/// Writes the text, and returns the verdict. After a fault of the history text the rest of the source is
+/// read, and nothing is written.
 pub(crate) fn tell<R: Source, W: Sink>(
     reader: &mut R,
     writer: &mut W,

@@ -13,7 +13,7 @@ use history::fault::Fault;
 use history::header::Header;
 use std::alloc::Global;
 
-/// The totals of a history if it is legal, from its base on where it has one.
+/// Returns the totals of a history, from its base on if it has one, or None if it isn't legal.
 pub fn totals_if_legal(
     alloc: Global,
     header: &Header,

@@ -18,7 +18,7 @@ use history::header::Policy;
 use reentrant::lock::LockHooks;
 use std::alloc::Global;
 
-/// A fair lock with two conditions, that nobody has.
+/// Returns a fair lock with two conditions, which nobody holds.
 pub fn fair_lock(alloc: Global, seats: u16, cap: u32) -> Result<Core<LockHooks>, Fault>
     requires some { 1 ≤ seats }
     requires few { seats ≤ 256 }
@@ -30,8 +30,8 @@ pub fn fair_lock(alloc: Global, seats: u16, cap: u32) -> Result<Core<LockHooks>,
     Core::open(alloc, LockHooks::open(Policy::Fair), seats, 2, cap)
 }
 
-/// Acquires an object exclusively for a thread, and answers how many exclusive holds the thread has then: 0
-/// if it doesn't have the object.
+/// Acquires an object exclusively for a thread, and returns how many exclusive holds the thread has then: 0
+/// if it doesn't hold the object.
 pub fn acquire<H: Hooks + Drop>(core: &mut Core<H>, seat: u16) -> Result<u128, Fault>
     requires { seat < core.old.header.seats }
     ensures holds { IfOk result (λ holds. holds ≡ held (start_of core.new) core.new.entries seat X) }

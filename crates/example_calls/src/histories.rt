@@ -7,8 +7,8 @@ use history::entries::History;
 use history::entry::Entry;
 use history::fault::Fault;
 
-/// Adds the entry of a lock's acquire. Room for the entry of its release is reserved with it, so the release
-/// can be recorded whatever happens in between.
+/// Adds the entry of a lock's acquire. Room for the entry of its release is reserved at the same time, so the
+/// release can be recorded whatever happens in between.
 pub fn add_acquire(history: &mut History, entry: Entry) -> Result<(), Fault>
     ensures added { OnOk result (history.new.entries ≡ entry ∷ history.old.entries) }
     ensures owed { OnOk result (history.new.owed ≡ history.old.owed + 1) }

@@ -15,10 +15,10 @@ use streams::memory_sink::MemorySink;
 use streams::memory_source::MemorySource;
 use streams::stream_fault::StreamFault;
 
-/// How many bytes a read or a write moves at most.
+/// The most bytes of a read or a write.
 const PIECE: usize = 4096;
 
-/// Replays a steps text. The sink that comes back holds the history text, in at most so many bytes.
+/// Replays a steps text. Returns a sink that holds the history text, which may have at most `most` bytes.
 pub fn history_of(alloc: Global, steps: Vec<u8>, most: usize) -> Result<MemorySink, StreamFault>
     ensures { IfOk result (λ sink. Replayed Form.History steps.items (Appends (Some []) (Some sink.held))) }
 {
@@ -28,7 +28,7 @@ pub fn history_of(alloc: Global, steps: Vec<u8>, most: usize) -> Result<MemorySi
     Ok(sink)
 }
 
-/// The verdict on a history text.
+/// Returns the verdict on a history text.
 pub fn verdict_on(alloc: Global, history: Vec<u8>) -> Result<Verdict, StreamFault>
     ensures { IfOk result (λ verdict. Audited history.items verdict (λ _. Unit {0})) }
 {

@@ -6,7 +6,7 @@ ghost use Rattle.script.specs.Reading.{IsFault};
 use script::{ScriptFault, read_script};
 use std::alloc::Global;
 
-/// How many threads the script of a text has.
+/// Returns how many threads the script of a text has.
 pub fn threads_of(alloc: Global, text: &[u8]) -> Result<usize, ScriptFault>
     ensures ok { IfOk result (λ threads. (1 ≤ threads) × (threads ≤ 256)) }
     ensures err { IfErr result (IsFault text.now) }

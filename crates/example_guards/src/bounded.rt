@@ -1,4 +1,4 @@
-//! A queue with few places.
+//! A queue with two places.
 ghost use Rattle.std.specs.Prelude.{◌≡◌, ◌<◌, ◌≤◌, ◌==◌};
 ghost use Rattle.std.specs.VecDeque.{deque_len};
 
@@ -36,7 +36,7 @@ impl Bounded {
         self.items.len() == 0
     }
 
-    /// Puts an item behind the others. `Err(OutOfMemory)` where memory for it is refused.
+    /// Appends an item. Returns `OutOfMemory` if an allocation fails.
     pub fn push(&mut self, item: u64) -> Result<(), Fault>
         requires { deque_len self.old.items < 2 }
     {
@@ -46,7 +46,7 @@ impl Bounded {
         }
     }
 
-    /// The first item, if there is one.
+    /// Removes the first item and returns it, if there is one.
     pub fn pop(&mut self) -> Option<u64> {
         self.items.pop_front()
     }

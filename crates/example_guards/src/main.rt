@@ -1,7 +1,8 @@
-//! A bounded buffer that a fair lock guards: one thread puts, another takes. Who owns the lock has the buffer.
+//! A bounded buffer guarded by a fair lock: one thread puts, another takes. The owner of the lock has the
+//! buffer.
 //!
-//! The history of the lock has few places, and is folded whenever it is full. Prints the sum of what was taken,
-//! and what became of the history.
+//! The history of the lock has few places, and is folded whenever it is full. Prints the sum of what was
+//! taken, and what happened to the history.
 #![tactic(auto)]
 
 ghost use Rattle.std.specs.Prelude.{◌≡◌, ◌≤◌, All, IfOk, IfSome, length};
@@ -36,10 +37,10 @@ const CAP: u32 = 16;
 /// Why there is no sum.
 #[derive(Clone, Copy, Debug, PartialEq, Eq, Error)]
 enum Failure {
-    /// A call ended with this fault, or memory was refused.
+    /// A call returned this fault, or an allocation failed.
     #[error("{0}")]
     Call(Fault),
-    /// The system refused the producer its thread. Nobody put or took.
+    /// The system refused the producer's thread. Nobody put or took.
     #[error("producer not started")]
     NotStarted,
     /// A pass is missing, so the lock stays open.
@@ -55,7 +56,7 @@ impl From<Fault> for Failure {
     }
 }
 
-/// That the producer comes back with its pass.
+/// The promise that the producer returns its pass.
 #[derive(Drop)]
 struct ComesBack {
     producer: Snapshot<Pass>,
@@ -68,10 +69,10 @@ impl Promise<Result<Pass, Fault>> for ComesBack {
     ghost kept_by = { λ p back. IfOk back (IsSame p.producer.value) };
 }
 
-/// What the producer and the consumer end with.
+/// The results of the producer and the consumer.
 type Exchanged = (Result<Pass, Fault>, Result<(Pass, u64), Fault>);
 
-/// Both threads. None if the system refuses the producer its thread: then nobody waits for what it would put.
+/// Runs both threads. Returns None if the system refuses the producer's thread: then nobody waits for items.
 fn exchange<R: Threads + Wait + Clock + Sync>(
     rt: &R,
     parking: &ThreadParking,
@@ -116,7 +117,7 @@ fn exchange<R: Threads + Wait + Clock + Sync>(
     )
 }
 
-/// Both threads with the passes of a lock as it is opened. Gives the passes back, and the sum of what was taken.
+/// Runs both threads with the passes of a new lock. Returns the passes, and the sum of what was taken.
 fn exchange_all<R: Threads + Wait + Clock + Sync>(
     rt: &R,
     parking: &ThreadParking,
@@ -176,7 +177,7 @@ fn close<R: Wait>(
     }
 }
 
-/// Plays with a new lock, and closes it.
+/// Runs the example with a new lock, and closes it.
 fn play<R: Threads + Wait + Clock + Sync>(rt: &R, alloc: Global) -> Result<Told, Failure> {
     let parking = ThreadParking::open(rt, alloc, 2)?;
     let opened = Mutex::open(

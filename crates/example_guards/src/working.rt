@@ -12,16 +12,17 @@ use std::sync::Wait;
 use std::sync::atomic::{AtomicBool, Ordering};
 use std::time::Clock;
 
-/// The condition of those who wait for a free place.
+/// The condition on which threads wait for a free place.
 const NOT_FULL: u8 = 0;
 
-/// The condition of those who wait for an item.
+/// The condition on which threads wait for an item.
 const NOT_EMPTY: u8 = 1;
 
-/// How long a wait lasts at most, in milliseconds, before it is looked whether the other thread has stopped.
+/// The most milliseconds that a wait lasts before it checks whether the other thread has stopped.
 const MOMENT: u32 = 100;
 
-/// Waits for a free place, and puts an item there: whether it did. It doesn't if the other thread has stopped.
+/// Waits for a free place, puts an item there, and returns true. Returns false if the other thread has
+/// stopped.
 fn put<P: Parking, R: Wait + Clock>(
     rt: &R,
     parking: &P,
@@ -51,7 +52,7 @@ fn put<P: Parking, R: Wait + Clock>(
     unreachable!()
 }
 
-/// Waits for an item, and takes it. None if the other thread has stopped.
+/// Waits for an item, and takes it. Returns None if the other thread has stopped.
 fn take<P: Parking, R: Wait + Clock>(
     rt: &R,
     parking: &P,
@@ -107,7 +108,7 @@ pub fn produce<P: Parking, R: Wait + Clock>(
     Ok(pass)
 }
 
-/// Takes so many numbers, and adds them up. A fault stops the other thread.
+/// Takes `items` numbers, and adds them up. A fault stops the other thread.
 pub fn consume<P: Parking, R: Wait + Clock>(
     rt: &R,
     parking: &P,

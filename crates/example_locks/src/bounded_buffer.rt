@@ -1,6 +1,6 @@
-//! A bounded buffer: one thread puts, another takes, and a fair lock with two conditions stands between them.
+//! A bounded buffer: one thread puts, another takes, under a fair lock with two conditions.
 //!
-//! Prints the sum of what was taken, and what the audit says of the history of the lock.
+//! Prints the sum of what was taken, and the audit's verdict on the history of the lock.
 
 ghost use Rattle.std.specs.Prelude.{◌≡◌, ◌≤◌, All, IfOk, IfSome, length};
 ghost use Rattle.frame.specs.Core.{header_of};
@@ -35,13 +35,13 @@ const HEADER: Header = Header {
     cap: 10_000,
 };
 
-/// Why nothing is told.
+/// Why the example has no result.
 #[derive(Clone, Copy, Debug, PartialEq, Eq, Error)]
 enum Failure {
-    /// A call ended with this fault, or memory was refused.
+    /// A call returned this fault, or an allocation failed.
     #[error("{0}")]
     Call(Fault),
-    /// The system refused the producer its thread. Nobody put or took.
+    /// The system refused the producer's thread. Nobody put or took.
     #[error("producer not started")]
     NotStarted,
 }
@@ -54,7 +54,7 @@ impl From<Fault> for Failure {
     }
 }
 
-/// That the producer comes back with its pass.
+/// The promise that the producer returns its pass.
 #[derive(Drop)]
 struct ComesBack {
     producer: Snapshot<Pass>,
@@ -67,10 +67,10 @@ impl Promise<Result<Pass, Fault>> for ComesBack {
     ghost kept_by = { λ p back. IfOk back (IsSame p.producer.value) };
 }
 
-/// What the producer and the consumer end with.
+/// The results of the producer and the consumer.
 type Exchanged = (Result<Pass, Fault>, Result<(Pass, u64), Fault>);
 
-/// Both threads. None if the system refuses the producer its thread: then nobody waits for what it would put.
+/// Runs both threads. Returns None if the system refuses the producer's thread: then nobody waits for items.
 fn exchange<R: Threads + Wait + Clock + Sync>(
     rt: &R,
     parking: &ThreadParking,
@@ -113,8 +113,7 @@ fn exchange<R: Threads + Wait + Clock + Sync>(
     )
 }
 
-/// Both threads with the passes of a lock as it is opened. Gives the passes back, and the sum of what was
-/// taken.
+/// Runs both threads with the passes of a new lock. Returns the passes, and the sum of what was taken.
 fn exchange_all<R: Threads + Wait + Clock + Sync>(
     rt: &R,
     parking: &ThreadParking,
@@ -144,7 +143,7 @@ fn exchange_all<R: Threads + Wait + Clock + Sync>(
     Ok((passes, sum))
 }
 
-/// What is told at the end.
+/// What is printed at the end.
 #[derive(Clone, Copy)]
 struct Told {
     sum: u64,
@@ -152,7 +151,7 @@ struct Told {
     verdict: Verdict,
 }
 
-/// Closes the lock and has its history judged.
+/// Closes the lock and judges its history.
 fn close<R: Wait>(
     rt: &R,
     alloc: Global,
@@ -176,7 +175,7 @@ fn close<R: Wait>(
     }
 }
 
-/// Plays with a new lock, closes it and has its history judged.
+/// Runs the example with a new lock, closes it and judges its history.
 fn play<R: Threads + Wait + Clock + Sync>(rt: &R, alloc: Global) -> Result<Told, Failure> {
     let parking = ThreadParking::open(rt, alloc, HEADER.seats)?;
     let hooks = LockHooks::open(Policy::Fair);
@@ -191,7 +190,7 @@ fn play<R: Threads + Wait + Clock + Sync>(rt: &R, alloc: Global) -> Result<Told,
     Ok(close(rt, alloc, monitor, passes, sum)?)
 }
 
-/// Runs both threads, and prints what came of it.
+/// Runs both threads, and prints the results.
 pub fn run<R: Print + AllocGlobal + Threads + Wait + Clock + Sync>(rt: &R) -> io::Result<()> {
     let told = match play(rt, rt.alloc()) {
         Ok(told) => told,

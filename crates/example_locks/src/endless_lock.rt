@@ -1,17 +1,17 @@
 //! A lock that runs on past the cap of its history.
 //!
 //! Two threads, as seats of a core, take turns at a lock, in rounds of four calls: seat 0 acquires, seat 1
-//! joins the queue, seat 0 releases, seat 1 is granted and releases. Whenever so many entries stand in the
-//! history, its text is printed, and the entries are folded into the base. So the lock makes any number of
-//! calls in the memory of one part, and each part is a history text that `aqs audit` judges by itself: the
-//! lines of its base are what the parts before it left.
+//! joins the queue, seat 0 releases, seat 1 is granted and releases. Whenever the history has as many entries
+//! as a part, its text is printed, and the entries are folded into the base. So the lock makes any number of
+//! calls in the memory of one part. Each part is a history text, which `aqs audit` judges by itself: the
+//! lines of its base are the state that the parts before it left.
 //!
 //! `example_locks endless_lock` makes 12 rounds in parts of 17 entries. `example_locks endless_lock ROUNDS
-//! ENTRIES` makes so many rounds in parts of so many entries: `example_locks endless_lock 25000000 1000000`
-//! makes 100,000,000 calls in 125 parts. `checks/parts.py` audits the parts one after the other.
+//! ENTRIES` chooses both numbers: `example_locks endless_lock 25000000 1000000` makes 100,000,000 calls in
+//! 125 parts. `checks/parts.py` audits the parts one after the other.
 //!
-//! Proved of a writer whose bytes are known: where `play` ends without a failure, it has written five entries
-//! a round and nothing else, in parts that are legal, and each part stands on the fold of those before it.
+//! Proved for a writer whose bytes are known: if `play` returns without a failure, it has written exactly
+//! five entries for each round. The parts are legal, and each part begins on the fold of those before it.
 
 mod failure;
 mod parts;
@@ -29,7 +29,7 @@ const FEWEST: u64 = 8;
 
 const MOST: u64 = 4_000_000_000;
 
-/// The rounds and the entries of a part. They are the words after the name of the example.
+/// Reads the rounds and the entries of a part. They are the words after the name of the example.
 fn asked(words: &[String]) -> (u64, u64)
     ensures { (8 ≤ result.1) × (result.1 ≤ 4000000000) }
 {
@@ -45,7 +45,7 @@ fn asked(words: &[String]) -> (u64, u64)
     }
 }
 
-/// Runs the lock as the words say. The first word is the name of the example.
+/// Runs the lock as the words ask. The first word is the name of the example.
 pub fn run<R: Print + Eprint + AllocGlobal>(rt: &R, words: &[String]) -> io::Result<()> {
     let (rounds, entries) = asked(words);
     let mut out = io::writer(rt);

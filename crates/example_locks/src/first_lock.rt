@@ -1,6 +1,6 @@
 //! A first program: a fair lock, and an acquire that gives up after 50 milliseconds.
 //!
-//! With one thread nobody else has the lock, so it is entered at once.
+//! With one thread nobody else holds the lock, so the acquire succeeds at once.
 
 ghost use Rattle.std.specs.Prelude.{◌≡◌, ◌≤◌};
 
@@ -40,7 +40,7 @@ fn play<R: Wait + Clock>(rt: &R, alloc: Global) -> Result<bool, Fault> {
     enter(rt, &parking, &ReentrantLock::of(&monitor), &mut pass)
 }
 
-/// Plays, and prints whether the lock was entered.
+/// Runs the example, and prints whether the lock was acquired.
 pub fn run<R: Print + AllocGlobal + Wait + Clock>(rt: &R) -> io::Result<()> {
     match play(rt, rt.alloc()) {
         Ok(entered) => println!(rt; "entered: {entered}"),

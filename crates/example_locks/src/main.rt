@@ -1,8 +1,8 @@
-//! Example programs at locks.
+//! Example programs with locks.
 //!
 //! - `first_lock`: a fair lock, and an acquire that gives up after 50 milliseconds.
 //! - `bounded_buffer`: a lock with two conditions between a thread that puts and a thread that takes.
-//! - `read_mostly_table`: a read-write lock, and writers that go on as readers.
+//! - `read_mostly_table`: a read-write lock, and writers that downgrade to readers.
 //! - `endless_lock`: a lock that runs on past the cap of its history.
 //! - `small_calls`: the callers of the pages `CALLING.md`, each called once.
 //!

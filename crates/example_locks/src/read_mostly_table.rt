@@ -1,7 +1,7 @@
-//! A table that is mostly read: readers share it, and a writer has it alone under a read-write lock.
+//! A table that is mostly read, under a read-write lock: readers share it, and a writer has it alone.
 //!
-//! A writer changes the whole table, goes on as a reader without a gap, and looks at what it wrote. Prints
-//! how many updates and looks there were, and what the audit says of the history of the lock.
+//! A writer changes the whole table, downgrades to a reader, and reads what it wrote. Prints how many updates
+//! and reads there were, and the audit's verdict on the history of the lock.
 
 ghost use Rattle.std.specs.Prelude.{◌≡◌, ◌≤◌, All, IfOk};
 
@@ -48,7 +48,7 @@ fn work_in_threads<R: Threads + Wait + Clock + Sync>(
     Ok(passes)
 }
 
-/// All threads work with these passes, and give them back. Says what they did and saw.
+/// Runs all threads with these passes. Returns the passes, and what the threads did and saw.
 fn work_at<R: Threads + Wait + Clock + Sync>(
     rt: &R,
     parking: &ThreadParking,
@@ -67,14 +67,14 @@ fn work_at<R: Threads + Wait + Clock + Sync>(
     }
 }
 
-/// What is told at the end.
+/// What is printed at the end.
 #[derive(Clone, Copy)]
 struct Told {
     outcome: Outcome,
     findings: Findings,
 }
 
-/// Plays, closes the lock and has its history judged.
+/// Runs the example, closes the lock and judges its history.
 fn play<R: Threads + Wait + Clock + Sync>(rt: &R, alloc: Global) -> Result<Told, Fault> {
     let parking = ThreadParking::open(rt, alloc, HEADER.seats)?;
     let (monitor, passes) = open_read_write_lock(
@@ -89,7 +89,7 @@ fn play<R: Threads + Wait + Clock + Sync>(rt: &R, alloc: Global) -> Result<Told,
     Ok(Told { outcome, findings })
 }
 
-/// Runs all threads, and prints what came of it.
+/// Runs all threads, and prints the results.
 pub fn run<R: Print + AllocGlobal + Threads + Wait + Clock + Sync>(rt: &R) -> io::Result<()> {
     let Ok(told) = play(rt, rt.alloc()) else {
         return println!(rt; "out of memory");

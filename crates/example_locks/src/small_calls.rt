@@ -1,8 +1,7 @@
 //! The callers of the pages `CALLING.md`, each called once.
 //!
-//! They are functions of `example_calls`: of a history, of a core, of an audit, of both streams in memory, and of a
-//! script.
-//! Prints what each of them gives.
+//! They are functions of `example_calls`: for a history, a core, an audit, both streams in memory, and a
+//! script. Prints what each of them returns.
 
 use audit::verdict::Verdict;
 use example_calls::audits::totals_if_legal;
@@ -43,14 +42,14 @@ const NOT_LEGAL: &[u8] =
 const SCRIPT: &[u8] = br#"{"objects": [["a", "lock fair seats 2 conditions 0 cap 16"]],
  "threads": [{"repeat": 1, "calls": ["a acquire x 1"]}, {"repeat": 1, "calls": []}]}"#;
 
-/// How many entries a history has after an acquire, and for how many it has reserved room.
+/// Returns how many entries a history has after an acquire, and for how many it has reserved room.
 fn added(alloc: Global) -> (u64, u64) {
     let mut history = History::open(alloc, LOCK.cap);
     let _ = add_acquire(&mut history, ENTRY);
     (history.len(), history.owed())
 }
 
-/// How many holds each of two threads has after both asked for a lock.
+/// Returns how many holds each of two threads has after both asked for a lock.
 fn holds(alloc: Global) -> (u128, u128) {
     let Ok(mut core) = fair_lock(alloc, 2, 64) else {
         return (0, 0);
@@ -60,13 +59,13 @@ fn holds(alloc: Global) -> (u128, u128) {
     (first, second)
 }
 
-/// Whether the audit finds an empty history legal.
+/// Returns whether the audit finds an empty history legal.
 fn is_empty_legal(alloc: Global) -> bool {
     let history = History::open(alloc, LOCK.cap);
     matches!(totals_if_legal(alloc, &LOCK, &history), Ok(Some(_)))
 }
 
-/// What the audit says of a history text.
+/// Returns the verdict of the audit on a history text.
 fn says(alloc: Global, text: &[u8]) -> &'static str {
     let Ok(text) = Vec::from_slice(alloc, text) else {
         return "out of memory";
@@ -90,7 +89,7 @@ fn print_replay<R: Print + AllocGlobal>(rt: &R) -> io::Result<()> {
     }
 }
 
-/// Makes all calls, and prints what they give.
+/// Makes all calls, and prints what they return.
 pub fn run<R: Print + AllocGlobal>(rt: &R) -> io::Result<()> {
     let (entries, reserved) = added(rt.alloc());
     println!(rt; "entries {entries}, reserved {reserved}")?;

@@ -1,4 +1,4 @@
--- What a core is to its callers, and how its fields stand for it.
+-- A core as its callers see it, and how its fields represent that.
 use Rattle.std.specs.Prelude.{◌≡◌, Bool, ◌⊎◌, ◌≤◌, ◌<◌, ℕ, ◌+◌, max, true, false, List, [], ◌∷◌, length, slice_index_or, slice_set, Result, Ok, Err, Option, Some, IfSome, IfOk, IsOk, OnErr, ◌++◌}
 use Rattle.acquire_queue.specs.Line.{Line}
 use Rattle.condition_queue.specs.Following.{JoinedBy, Keeps}
@@ -35,8 +35,8 @@ use Rattle.frame.specs.Seat.{IsSeat, marks_in, no_holds}
 abbrev pub header_of : Object → ℕ → ℕ → ℕ → Header
 header_of o seats conditions cap = record { object = o; seats = seats; conditions = conditions; cap = cap }
 
--- A header that stays, a base, a history that only grows or is folded into the base, the newest entry first,
--- and a mark of each seat.
+-- A header that never changes, a base, a history that only grows or is folded into the base (the newest entry
+-- first), and a mark for each seat.
 pub record CoreView : Type 0 where
   pub header : Header
   pub base : Base
@@ -49,18 +49,18 @@ abbrev pub with_history : Header → HistoryView → List Bool → CoreView
 with_history k kept told =
     record { header = k; base = base_on k kept; entries = kept.entries; places = kept.places; told = told }
 
--- what stood before the first entry
+-- the state before the first entry
 abbrev pub start_of : CoreView → Start
 start_of v = based v.base
 
--- the one history that a core stands for, which is legal
+-- the one history of a core, which is legal
 pub record StandsFor (s : Start) (h : List Entry) (v : CoreView) : Type 0 where
   pub start : s ≡ start_of v
   pub header : s.header ≡ v.header
   pub entries : h ≡ v.entries
   pub past : IsHistory s h
 
--- what the history says in numbers, and of its line
+-- the numbers that the history determines, and the mode that the head of its queue asks for
 abbrev pub counts_of : CoreView → Counts
 counts_of v = counts (start_of v) v.entries
 
@@ -74,12 +74,12 @@ ready_of v = ready (start_of v) v.entries
 abbrev pub marks_of : CoreView → ℕ → Bool
 marks_of v i = slice_index_or v.told i false
 
--- the marks behind an answer are those that the definitions give
+-- the marks after an answer are those that the definitions give
 abbrev pub IsTold : CoreView → ℕ → Result Answer Fault → CoreView → Type 0
 IsTold old i r new = marks_of new ≡ marks_after (start_of old) old.entries i r (marks_of old)
 
--- The fields stand for the history on its base: hooks, line, sleepers and seats are as its entries make them,
--- room is kept as it asks, and whoever is first in line and could go is marked.
+-- The fields represent the history on its base. Hooks, queue, conditions and seats are as its entries make
+-- them, room is kept as it asks, and the head of the queue is marked if it could go.
 pub record Stands (agrees : Counts → Type 0) (k : Header) (kept : HistoryView) (queue : Line)
     (waiters : Sleepers) (table : List Seat) : Type 0 where
   pub range : IsInRange k
@@ -97,15 +97,15 @@ pub record Stands (agrees : Counts → Type 0) (k : Header) (kept : HistoryView)
   pub owed : kept.owed ≡ owed (start_on k kept) kept.entries
   pub room : length kept.entries + kept.owed ≤ k.cap
 
--- the places that an entry takes, with all that is owed before it and behind it
+-- the places for an entry, with all that is owed before it and after it
 abbrev pub places_for : CoreView → Entry → ℕ
 places_for v e = length v.entries + 1 + owed (start_of v) (e ∷ v.entries)
 
--- an entry's places are whole pages, and those that stand are kept
+-- an entry's places are whole pages, and never fewer than there were
 abbrev pub places_with : CoreView → Entry → ℕ
 places_with v e = max v.places (whole_pages (places_for v e))
 
--- the places behind an answer: only an entry reserves any
+-- the places after an answer: only an entry reserves any
 abbrev pub places_behind : CoreView → Result Answer Fault → ℕ
 places_behind v (Ok (Recorded e named)) = places_with v e
 places_behind v (Ok Sleep) = v.places
@@ -117,8 +117,8 @@ pub record IsNext (v : CoreView) (e : Entry) : Type 0 where
   pub step : Step
   pub made : entry_for (start_of v) v.entries e.seat step ≡ Ok (Some e)
 
--- An entry was added and names whom it names, or there was no room, or no memory. What was owed finds both.
--- Memory is lacking only where places are.
+-- An entry was added with the waiter that it names, or there was no room, or no memory. What was owed finds
+-- both. Memory is lacking only if places are.
 abbrev pub IsAdded : CoreView → Entry → Result (Option ℕ) Fault → CoreView → Type 0
 IsAdded old e (Ok name) new =
     (has_room (start_of old) old.entries e ≡ true)
@@ -132,8 +132,8 @@ IsAdded old e (Err OutOfMemory) new =
     × (old.places < places_for old e)
 IsAdded old e (Err _) new = ⊥
 
--- Memory was refused to an entry that has room, for which places lack and which was owed to nobody, and
--- nothing has changed.
+-- An allocation failed for an entry that has room, for which places are lacking and which was not owed.
+-- Nothing has changed.
 pub record LacksMemory (old : CoreView) (made : Result (Option Entry) Fault) (new : CoreView) : Type 0 where
   pub entry : Entry
   pub is : made ≡ Ok (Some entry)
@@ -142,7 +142,7 @@ pub record LacksMemory (old : CoreView) (made : Result (Option Entry) Fault) (ne
   pub not_owed : was_owed old.header.object entry ≡ false
   pub unchanged : new ≡ old
 
--- the answer and the history behind it are those that the definitions give, and so are its places
+-- the answer, the history and the places after it are those that the definitions give
 pub record IsAnswer (old : CoreView) (given : Result Answer Fault × List Entry) (r : Result Answer Fault)
     (new : CoreView) : Type 0 where
   pub answer : r ≡ given.0
@@ -151,18 +151,17 @@ pub record IsAnswer (old : CoreView) (given : Result Answer Fault × List Entry)
   pub base : new.base ≡ old.base
   pub places : new.places ≡ places_behind old r
 
--- an entry's answer, or want of memory
+-- an entry's answer, or lack of memory
 abbrev pub IsRecorded : CoreView → Entry → Result Answer Fault → CoreView → Type 0
 IsRecorded old e r new =
     IsAnswer old (recorded (start_of old) old.entries e) r new
     ⊎ ((r ≡ Err OutOfMemory) × LacksMemory old (Ok (Some e)) new)
 
--- with a seat's mark cleared
+-- the same core with a seat's mark cleared
 abbrev pub unmarked_at : ℕ → CoreView → CoreView
 unmarked_at i v = record v { told = slice_set v.told i false }
 
--- a refusal is one entry more, and no holding has changed; a sleep clears the seat's mark and changes nothing
--- else
+-- a refusal is one entry more, and the holds stay; a sleep clears the seat's mark and changes nothing else
 abbrev pub KeepsHolds : CoreView → ℕ → Answer → CoreView → Type 0
 KeepsHolds old i (Recorded e named) new =
     (fault : Fault) → e.word ≡ Refused fault →
@@ -176,7 +175,7 @@ made_by (Ok (Recorded e named)) = e ∷ []
 made_by (Ok Sleep) = []
 made_by (Err fault) = []
 
--- an answer's entry is of a seat, and it names one of so many seats
+-- an answer's entry is of the seat, and it names one of the object's seats
 abbrev pub IsOf : ℕ → Answer → Type 0
 IsOf i (Recorded e named) = e.seat ≡ i
 IsOf i Sleep = Unit {0}
@@ -191,13 +190,13 @@ MakesOwed v i step =
     (e : Entry) × (entry_for (start_of v) v.entries i step ≡ Ok (Some e)) ×
     (was_owed v.header.object e ≡ true)
 
--- a step's answer, or want of memory
+-- a step's answer, or lack of memory
 abbrev pub IsAnswered : CoreView → ℕ → Step → Result Answer Fault → CoreView → Type 0
 IsAnswered old i step r new =
     IsAnswer old (answer (start_of old) old.entries i step) r new
     ⊎ ((r ≡ Err OutOfMemory) × LacksMemory old (entry_for (start_of old) old.entries i step) new)
 
--- the numbers of entries that were folded, and of those behind, are more together than may be folded
+-- folding the entries would pass the greatest number of folded entries
 abbrev pub IsTrimFull : CoreView → Type 0
 IsTrimFull v = most_folded < v.base.entries + length v.entries
 
@@ -205,12 +204,12 @@ IsTrimFull v = most_folded < v.base.entries + length v.entries
 abbrev pub trimmed : CoreView → CoreView
 trimmed v = record v { base = folded v.base v.entries; entries = [] }
 
--- Entries were folded and counted, or there were too many, and nothing has changed.
+-- All entries were folded and counted, or there were too many and nothing has changed.
 abbrev pub IsTrimmed : CoreView → Result ℕ Fault → CoreView → Type 0
 IsTrimmed old (Ok count) new = (IsTrimFull old → ⊥) × (count ≡ length old.entries) × (new ≡ trimmed old)
 IsTrimmed old (Err fault) new = IsTrimFull old × (fault ≡ TrimFull) × (new ≡ old)
 
--- a step was answered, with all that is known of it
+-- a step was answered; all that is known of it
 pub record IsStepped (old : CoreView) (i : ℕ) (step : Step) (r : Result Answer Fault) (new : CoreView)
     : Type 0 where
   pub answered : IsAnswered old i step r new

@@ -1,4 +1,4 @@
--- What an entry makes of the counts, and what it asks of them.
+-- How an entry changes the counts, and what it requires of them.
 use Rattle.std.specs.Prelude.{◌≡◌, ◌<◌, ℕ, Bool, true, false, Ok}
 use Rattle.history.specs.declared.entry.Entry.{Entry}
 use Rattle.history.specs.declared.entry.Word.{Word}
@@ -21,12 +21,12 @@ counts_after Back k e = restored k e.seat e.n
 counts_after Drained k e = drained k e.seat e.n
 counts_after _ k e = k
 
--- a seat that could take
+-- a seat that could acquire
 pub record IsTakeable (k : Counts) (e : Entry) : Type 0 where
   pub seat : e.seat < k.seats
   pub could : could k e.seat e.mode e.n ≡ true
 
--- the counts are such that the hooks can do what the entry says
+-- the counts allow the hooks to do what the entry says
 abbrev pub IsAllowed : Word → Counts → Entry → Type 0
 IsAllowed Got k e = IsTakeable k e
 IsAllowed TryGot k e = IsTakeable k e
@@ -38,16 +38,16 @@ IsAllowed Back k e = IsRestorable k e.seat e.n
 IsAllowed Drained k e = (is_semaphore k.object ≡ true) × (e.n ≡ drain_answer k)
 IsAllowed _ k e = Unit {0}
 
--- Nobody but the entry's seat could take behind it who couldn't before. Where the seat leaves the line with
--- holds another is first, and nobody but the seat could take at all. It is never said of one who leaves with
--- none.
+-- Nobody except the entry's seat could acquire after it who couldn't before. When a seat leaves the queue
+-- with holds, another waiter becomes its head, and nobody except the seat could acquire at all. For an entry
+-- `Left` it isn't required.
 abbrev pub OpensNobody : Word → Counts → Counts → ℕ → Type 0
 OpensNobody Granted old new i = NobodyElse new i
 OpensNobody Back old new i = NobodyElse new i
 OpensNobody Left old new i = ⊥
 OpensNobody _ old new i = NobodyElseNew old new i
 
--- the words of the entries that can name somebody
+-- the words of the entries that can name a waiter
 abbrev pub may_name : Word → Bool
 may_name Granted = true
 may_name Left = true
@@ -56,7 +56,7 @@ may_name Counted = true
 may_name Await = true
 may_name _ = false
 
--- Those before which it is to be known who is ready. Before a grant it is the one who is granted.
+-- The words for which it matters who was ready before. Before a grant it is the seat that is granted.
 abbrev pub asks_before : Word → Bool
 asks_before Left = true
 asks_before Gave = true

@@ -1,4 +1,4 @@
--- What the hooks' answers mean.
+-- What the hooks' results mean.
 use Rattle.std.specs.Prelude.{◌≡◌, ◌≢◌, ℕ, ◌<◌, ◌≤◌, ◌==◌, nat_lt, Bool, true, false, ◌||◌, not, if◌then◌else◌, Option, Some, None, Result, Ok, Err, [], ℤ, pos}
 use Rattle.history.specs.declared.entry.Mode.{Mode}
 use Rattle.history.specs.declared.entry.Mode.TheVariants.{X, S}
@@ -21,13 +21,13 @@ use Rattle.frame.specs.declared.hooks.Gave.TheVariants as gave_answers
 use Rattle.frame.specs.declared.hooks.Taken.{Taken}
 use Rattle.frame.specs.declared.hooks.Taken.TheVariants as take_answers
 
--- the mode that the first in line asks for
+-- the mode that the head of the queue asks for
 abbrev pub line_mode : Line → Option Mode
 line_mode Empty = None
 line_mode FirstX = Some X
 line_mode FirstS = Some S
 
--- Counts that say the same of what their object has: free permits count for a semaphore alone.
+-- Counts that are alike in what their object has: free permits count for a semaphore alone.
 pub record AreAlike (k l : Counts) : Type 0 where
   pub object : l.object ≡ k.object
   pub seats : l.seats ≡ k.seats
@@ -39,38 +39,39 @@ pub record AreAlike (k l : Counts) : Type 0 where
 abbrev pub opening_counts : Object → ℕ → Counts
 opening_counts o seats = counts (opening (record { object = o; seats = seats; conditions = 0; cap = 0 })) []
 
--- Nobody but a seat could take anything, or something in a mode. Anybody is a seat 0 to 255 that asks for
--- an amount 0 to 2147483647.
+-- Nobody except a seat could acquire in a mode, or in any mode. This is required of the seats 0 to 255 and
+-- the amounts 0 to 2147483647.
 abbrev pub NobodyElseIn : Mode → Counts → ℕ → Type 0
 NobodyElseIn m k who = (j n : ℕ) → j < 256 → n ≤ max_amount → j ≢ who → could k j m n ≡ false
 
 abbrev pub NobodyElse : Counts → ℕ → Type 0
 NobodyElse k who = (m : Mode) → NobodyElseIn m k who
 
--- nobody could who couldn't before
+-- nobody could acquire who couldn't before
 abbrev pub NobodyNew : Counts → Counts → Type 0
 NobodyNew old new =
     (j : ℕ) (m : Mode) (n : ℕ) → j < 256 → n ≤ max_amount → could old j m n ≡ false → could new j m n ≡ false
 
--- nobody but a seat could who couldn't before
+-- nobody except a seat could acquire who couldn't before
 abbrev pub NobodyElseNew : Counts → Counts → ℕ → Type 0
 NobodyElseNew old new who =
     (j : ℕ) (m : Mode) (n : ℕ) → j < 256 → n ≤ max_amount → j ≢ who → could old j m n ≡ false →
     could new j m n ≡ false
 
--- the word of a give that was made, and of one that was refused
+-- the word of a release that succeeded, and of one that failed
 abbrev pub gives_of : Word → Result Gave Fault → Type 0
 gives_of word.Gave (Ok g) = Unit {0}
 gives_of word.Counted (Ok g) = Unit {0}
 gives_of w (Ok g) = ⊥
 gives_of w (Err f) = w ≡ word.Refused f
 
--- a give is made or refused as its word says
+-- a release succeeds or fails as its word says
 abbrev pub gives : Counts → ℕ → Mode → ℕ → Result Gave Fault → Type 0
 gives k i m n r = gives_of (gave k.object k i m n) r
 
--- What a take answers, by the counts behind it: a lock, and who writes, is alone; after a read nobody else
--- reads where the reads are at their limit or the reader owns; permits and gates may be asked for by 0.
+-- What an acquire returns, by the counts after it. It is Last for a lock and for a write. It is also Last for
+-- a read if all seats together are at the limit of reads, or if the reader owns. It is More for permits and
+-- gates, since a request may be for 0.
 abbrev pub take_answer_of : Object → Counts → ℕ → Mode → Taken
 take_answer_of (Lock policy) k i m = take_answers.Last
 take_answer_of (ReadWrite policy) k i X = take_answers.Last
@@ -85,8 +86,8 @@ take_answer k i m = take_answer_of k.object k i m
 abbrev pub open_where : Bool → Gave
 open_where b = if b then gave_answers.Open else gave_answers.Kept
 
--- What a give answers, by the counts before it: a hold opens at the last one, a read also below the limit of
--- reads, permits always, a latch at its last count.
+-- What a release returns, by the counts before it. It is Open at the last hold, for a read also at the limit
+-- of reads, for permits always, for a latch at its last count.
 abbrev pub give_answer_of : Object → Counts → ℕ → Mode → ℕ → Gave
 give_answer_of (Lock policy) k i m n = open_where (k.held i m == 1)
 give_answer_of (ReadWrite policy) k i X n = open_where (k.held i X == 1)
@@ -97,7 +98,7 @@ give_answer_of (Latch opening) k i m n = open_where (k.count == 1)
 abbrev pub give_answer : Counts → ℕ → Mode → ℕ → Gave
 give_answer k i m n = give_answer_of k.object k i m n
 
--- what an owner gives up to sleep, and why it can't
+-- how many holds an owner releases to wait on a condition, or why it can't
 abbrev pub let_go_answer : Counts → ℕ → Result ℕ Fault
 let_go_answer k i =
     if not (is_lock k.object) then Err fault.NotOwner
@@ -111,7 +112,7 @@ hold_limit (Lock policy) = max_holds
 hold_limit (ReadWrite policy) = max_shared
 hold_limit _ = 0
 
--- a seat that could take X and has no hold of it may have its holds back
+-- a seat that could acquire X, has no hold of it, and may have its holds again
 pub record IsRestorable (k : Counts) (i n : ℕ) : Type 0 where
   pub seat : i < k.seats
   pub could : could k i X 1 ≡ true

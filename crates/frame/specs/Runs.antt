@@ -1,4 +1,4 @@
--- What a list of steps is answered, and what it leaves.
+-- What a list of steps returns, and the state after it.
 use Rattle.std.specs.Prelude.{◌≡◌, ◌≢◌, ℕ, List, [], ◌∷◌, Result, Err}
 use Rattle.std.specs.List.{AllByRecursion}
 use Rattle.history.specs.declared.fault.Fault.{Fault}
@@ -9,7 +9,7 @@ use Rattle.history.specs.Answers.{results}
 use Rattle.history.specs.Marks.{marks}
 use Rattle.frame.specs.Core.{CoreView, marks_of, start_of, IsAnswered, IsTold}
 
--- each step is answered in turn, from what the one before it left
+-- each step is answered in turn, on the state after the one before
 abbrev pub AreAnswered : CoreView → List (ℕ × Step) → List (Result Answer Fault) → CoreView → Type 0
 AreAnswered old [] [] new = new ≡ old
 AreAnswered old (s ∷ steps) (r ∷ answers) new =
@@ -17,7 +17,7 @@ AreAnswered old (s ∷ steps) (r ∷ answers) new =
 AreAnswered old [] (r ∷ answers) new = ⊥
 AreAnswered old (s ∷ steps) [] new = ⊥
 
--- memory was never refused
+-- no step lacked memory
 abbrev pub NoneLacksMemory : List (Result Answer Fault) → Type 0
 NoneLacksMemory answers = AllByRecursion (λ r. r ≢ Err OutOfMemory) answers
 

@@ -1,4 +1,4 @@
--- What the core keeps of a seat, and what that tells of it.
+-- What the core keeps of a seat, and what it means.
 use Rattle.std.specs.Prelude.{◌≡◌, ℕ, Bool, true, false, if◌then◌else◌, List, map, Option, Some, None, slice_index_or, slice_set}
 use Rattle.history.specs.declared.entry.End.TheVariants as end
 use Rattle.history.specs.declared.entry.Entry.{Entry}
@@ -31,7 +31,7 @@ abbrev pub holds_in : Mode → Seat → ℕ
 holds_in X seat = seat.exclusive
 holds_in S seat = seat.shared
 
--- an await saves the condition and the holds, and who lapses comes back with the lapse's end
+-- an await saves the condition and the holds; a seat that lapses comes back with the end of its lapse
 abbrev pub sleep_behind : Word → Entry → LastSleep → LastSleep
 sleep_behind Await e was = record { condition = e.at; holds = e.n; how = end.Signalled }
 sleep_behind Lapse e was = record { condition = was.condition; holds = was.holds; how = e.end }
@@ -46,15 +46,15 @@ seat_after o e was =
       told = own_mark e.word was.told;
     }
 
--- what an entry makes of its seat in a table
+-- the record of an entry's seat after the entry
 abbrev pub seat_behind : Object → Entry → List Seat → Seat
 seat_behind o e seats = seat_after o e (slice_index_or seats e.seat no_holds)
 
--- a table whose seat is marked, or not
+-- a table with a seat's mark set to this value
 abbrev pub with_mark : Bool → ℕ → List Seat → List Seat
 with_mark told i seats = slice_set seats i (record (slice_index_or seats i no_holds) { told = told })
 
--- a table that tells whom an entry names
+-- a table with the waiter marked that an entry names
 abbrev pub telling : Option ℕ → List Seat → List Seat
 telling None seats = seats
 telling (Some i) seats = with_mark true i seats
@@ -66,7 +66,8 @@ told_in seats = map (λ (seat : Seat). seat.told) seats
 abbrev pub marks_in : List Seat → ℕ → Bool
 marks_in seats i = (slice_index_or seats i no_holds).told
 
--- It holds what the history says, and where it is away its last sleep is that of the history.
+-- The record has the holds that the history gives. If the seat is within an await, its last sleep is that of
+-- the history.
 pub record IsSeat (s : Start) (h : List Entry) (i : ℕ) (x : Seat) : Type 0 where
   pub exclusive : x.exclusive ≡ held s h i X
   pub shared : x.shared ≡ held s h i S

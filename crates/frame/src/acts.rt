@@ -1,4 +1,4 @@
-//! Running a list of steps with trims between.
+//! Running a list of steps, with trims between them.
 
 ghost use Rattle.std.specs.Prelude.{◌≡◌, All, IfErr, IfOk};
 ghost use Rattle.history.specs.declared.fault.Fault.TheVariants.{OutOfMemory};
@@ -10,7 +10,7 @@ use history::fault::Fault;
 use history::step::{Answer, Step};
 use std::alloc::Global;
 
-/// One of the things that a list has done.
+/// One act of a list.
 #[derive(Clone, Copy, Debug, PartialEq, Eq)]
 pub enum Act {
     /// A step of a seat.
@@ -19,7 +19,7 @@ pub enum Act {
     Trim,
 }
 
-/// What an act is answered where there is no unrecorded fault.
+/// What an act returns, unless it returns an unrecorded fault.
 #[derive(Clone, Copy, Debug, PartialEq, Eq)]
 pub enum Done {
     /// The answer to a step.
@@ -28,10 +28,10 @@ pub enum Done {
     Trimmed(u64),
 }
 
-/// Steps of seats and trims, one after another, with the answer to each.
+/// Performs steps and trims, one after another, and returns what each returned.
 ///
-/// The list of answers is reserved first: where that is refused, which is the one fault, nothing has been
-/// done. A step that is answered `OutOfMemory` changes nothing, and the next act goes on from there.
+/// The list of results is reserved first. If that fails, `OutOfMemory` is returned and no act was performed;
+/// there is no other fault. A step that returns `OutOfMemory` changes nothing, and the next act follows it.
 pub fn run_acts<H: Hooks + Drop>(
     alloc: Global,
     core: &mut Core<H>,
@@ -39,7 +39,7 @@ pub fn run_acts<H: Hooks + Drop>(
 ) -> Result<Vec<Result<Done, Fault>>, Fault>
     requires { All (IsOfSeats core.old.header.seats) acts.now }
     ensures done { IfOk result (λ done. AreDone core.old acts.now done.items core.new) }
-    // Where memory is never refused, answers, base, history and marks are those of the definitions.
+    // If no step lacked memory, answers, base, history and marks are those of the definitions.
     ensures outcome { IfOk result (λ done.
         NoneLacks done.items → IsOutcome core.old acts.now done.items core.new) }
     ensures header { core.new.header ≡ core.old.header }
@@ -53,7 +53,7 @@ pub fn run_acts<H: Hooks + Drop>(
     Ok(done)
 }
 
-/// A step of a seat, or a trim.
+/// Performs a step or a trim.
 fn perform<H: Hooks + Drop>(core: &mut Core<H>, act: Act) -> Result<Done, Fault>
     requires { IsOfSeats core.old.header.seats act }
     ensures done { IsDone core.old act result core.new }

@@ -1,4 +1,4 @@
-//! What an entry makes of the hooks.
+//! How an entry changes the hooks.
 
 ghost use Rattle.std.specs.Prelude.{◌≡◌, true, false, if◌then◌else◌, None};
 ghost use Rattle.history.specs.Counts.{Counts};
@@ -11,7 +11,7 @@ use acquire_queue::queue::Queue;
 use deciding::entries::named;
 use history::entry::{Entry, Word};
 
-/// Has the hooks take, give and the like what an entry says, and tells whether somebody might be named by it.
+/// Applies an entry to the hooks. Returns whether the entry may let another waiter go on.
 #[inline(always)]
 pub fn change<H: Hooks>(hooks: &mut H, entry: Entry) -> bool
     requires { (k : Counts) × H.agrees hooks.old k × IsAllowed entry.word k entry }
@@ -48,7 +48,7 @@ pub fn change<H: Hooks>(hooks: &mut H, entry: Entry) -> bool
     }
 }
 
-/// The seat of the first in a line, if the hooks say that it could take what it asks for.
+/// Returns the seat of the head of the queue, if it could acquire what it asks for.
 #[inline(always)]
 pub fn first_ready<H: Hooks>(hooks: &H, queue: &Queue) -> Option<u16>
     ensures { (k : Counts) → H.agrees hooks.now k → result ≡ ready_by k (first_of queue.now.arrivals) }
@@ -61,7 +61,8 @@ pub fn first_ready<H: Hooks>(hooks: &H, queue: &Queue) -> Option<u16>
     }
 }
 
-/// Whom an entry of a seat names, by who was ready before it and what stands behind it.
+/// Returns the waiter that a seat's entry names, from the waiter that was ready before it and the state after
+/// it.
 #[inline(always)]
 pub fn whom_named<H: Hooks>(
     may_name: bool,

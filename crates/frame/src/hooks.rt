@@ -1,8 +1,8 @@
-//! What an object answers of the holds, permits and counts that it keeps.
+//! The trait of an object: the holds, permits and counts that it keeps, and what it answers about them.
 //!
-//! The hooks of an object keep as little as decides what can be taken: a lock its owner, a semaphore its
-//! free permits. What they stand for is said by a relation to the counts of a history, so the core, which
-//! keeps the history, can ask them in its place.
+//! The hooks of an object keep only what decides who can acquire: a lock its owner, a semaphore its free
+//! permits. A relation ties their state to the counts of a history. So the core, which keeps the history, can
+//! ask the hooks instead.
 
 ghost use Rattle.std.specs.Prelude.{◌≡◌, ◌≢◌, ℕ, ◌<◌, ◌≤◌, ◌↔◌, IsTrue, IfOk, OnOk, OnErr, Ok, false};
 ghost use Rattle.history.specs.Changes.{took, given, let_go, restored, drained};
@@ -18,7 +18,7 @@ use history::entry::Mode;
 use history::fault::Fault;
 use history::header::Object;
 
-/// Whether somebody stands in line, and what the first asks for.
+/// Whether somebody is in the queue, and which mode its head asks for.
 #[derive(Clone, Copy, Debug, PartialEq, Eq)]
 pub enum Line {
     Empty,
@@ -26,53 +26,53 @@ pub enum Line {
     FirstS,
 }
 
-/// Whether anybody else could still take a shared hold after a take.
+/// Whether another seat could still take a shared hold after an acquire.
 #[derive(Clone, Copy, Debug, PartialEq, Eq)]
 pub enum Taken {
-    /// Nobody else could.
+    /// No other seat could.
     Last,
-    /// Somebody else might.
+    /// Another seat might.
     More,
 }
 
-/// Whether somebody else might be able to take, after a give, who wasn't before.
+/// Whether a release may let another seat acquire that couldn't before.
 #[derive(Clone, Copy, Debug, PartialEq, Eq)]
 pub enum Gave {
-    /// Nobody.
+    /// It lets no other seat acquire.
     Kept,
-    /// Somebody might.
+    /// It may let another seat acquire.
     Open,
 }
 
 /// The hooks of an object, as `tryAcquire`, `tryRelease` and their shared twins are those of
 /// AbstractQueuedSynchronizer.
 pub trait Hooks {
-    /// The hooks stand for these counts.
+    /// Whether the hooks agree with these counts.
     ghost agrees: { Self → Counts → Type 0 };
 
     /// The object, with its opening numbers.
     ghost object_of: { Self → Object };
 
-    /// The hooks are as an open makes them, for so many seats.
+    /// The hooks are as at the opening, for this number of seats.
     ghost is_opened: { Self → ℕ → Type 0 };
 
-    /// Whether a seat could take now.
+    /// Returns whether a seat could acquire now.
     fn could(&self, who: u16, mode: Mode, n: u32) -> bool
         ensures { (k : Counts) → agrees self.now k → result ≡ could k who mode n };
 
-    /// Whether the seat has as many holds as it may have.
+    /// Returns whether the seat has the greatest number of holds.
     fn at_limit(&self, who: u16, mode: Mode) -> bool
         ensures { (k : Counts) → agrees self.now k → result ≡ limit k who mode };
 
-    /// Whether a new call stands behind a line rather than pass it.
+    /// Returns whether the queue holds a new call back.
     fn holds_back(&self, who: u16, mode: Mode, line: Line) -> bool
         ensures { (k : Counts) → agrees self.now k → result ≡ held_back k (line_mode line) who mode };
 
-    /// Whether a new call that only tries stands behind a line too.
+    /// Returns whether a new call that only tries is held back too.
     fn strict(&self) -> bool
         ensures { result ≡ is_strict (object_of self.now) };
 
-    /// Takes. The caller has asked whether the seat could.
+    /// Acquires. The caller has checked `could`.
     fn take(&mut self, who: u16, mode: Mode, n: u32) -> Taken
         requires { (k : Counts) × agrees self.old k × (who < k.seats) × IsTrue (could k who mode n) }
         ensures taken { (k : Counts) → agrees self.old k → who < k.seats
@@ -80,19 +80,19 @@ pub trait Hooks {
         ensures answer { (k : Counts) → agrees self.old k → who < k.seats
             → result ≡ take_answer (took k who mode n) who mode }
         ensures object { object_of self.new ≡ object_of self.old }
-        // A take of X is alone: nobody else could take anything after it.
+        // After an acquire of X no other seat could acquire anything.
         ensures alone { mode ≡ X → (k : Counts) → agrees self.old k → who < k.seats
             → NobodyElse (took k who mode n) who }
-        // No take makes anybody able who wasn't.
+        // An acquire lets no seat acquire that couldn't before.
         ensures nobody { (k : Counts) → agrees self.old k → who < k.seats → NobodyNew k (took k who mode n) }
-        // After a take of S nobody else could take X.
+        // After an acquire of S no other seat could acquire X.
         ensures shared { mode ≡ S → (k : Counts) → agrees self.old k → who < k.seats
             → NobodyElseIn X (took k who mode n) who }
-        // After Last nobody else could take S.
+        // After `Last` no other seat could acquire S.
         ensures last { result ≡ Taken.Last → (k : Counts) → agrees self.old k → who < k.seats
             → NobodyElseIn S (took k who mode n) who };
 
-    /// Gives a hold or permits back, or counts down. A refusal changes nothing.
+    /// Releases a hold or permits, or counts down. On an error nothing has changed.
     fn give(&mut self, who: u16, mode: Mode, n: u32) -> Result<Gave, Fault>
         ensures word { (k : Counts) → agrees self.old k → gives k who mode n result }
         ensures ok { OnOk result ((k : Counts) → agrees self.old k → agrees self.new (given k who mode n)) }
@@ -100,18 +100,18 @@ pub trait Hooks {
             (k : Counts) → agrees self.old k → gave ≡ give_answer k who mode n) }
         ensures object { object_of self.new ≡ object_of self.old }
         ensures err { OnErr result (self.new ≡ self.old) }
-        // After Kept nobody else could who couldn't before.
+        // After `Kept` no other seat could acquire that couldn't before.
         ensures kept { result ≡ Ok Gave.Kept → (k : Counts) → agrees self.old k
             → NobodyElseNew k (given k who mode n) who };
 
-    /// Gives up all exclusive holds of the owner, and answers their number. A refusal changes nothing.
+    /// Releases all exclusive holds of the owner, and returns their number. On an error nothing has changed.
     fn let_go_all(&mut self, who: u16) -> Result<u32, Fault>
         ensures answer { (k : Counts) → agrees self.old k → result ≡ let_go_answer k who }
         ensures ok { OnOk result ((k : Counts) → agrees self.old k → agrees self.new (let_go k who)) }
         ensures object { object_of self.new ≡ object_of self.old }
         ensures err { OnErr result (self.new ≡ self.old) };
 
-    /// Gives a seat as many exclusive holds as it had let go.
+    /// Gives a seat the exclusive holds again that it had released to wait.
     fn restore(&mut self, who: u16, holds: u32)
         requires { (k : Counts) × agrees self.old k × IsRestorable k who holds }
         ensures restored { (k : Counts) → agrees self.old k → IsRestorable k who holds
@@ -120,35 +120,36 @@ pub trait Hooks {
         ensures alone { (k : Counts) → agrees self.old k → IsRestorable k who holds
             → NobodyElse (restored k who holds) who };
 
-    /// Takes all free permits of a semaphore, and answers their number; 0 elsewhere, and nothing changes.
+    /// Takes all free permits of a semaphore, and returns their number. For other objects it returns 0 and
+    /// changes nothing.
     fn drain(&mut self) -> u32
         ensures answer { (k : Counts) → agrees self.old k → result ≡ drain_answer k }
         ensures drained { (k : Counts) (who : ℕ) → agrees self.old k
             → agrees self.new (drained k who result) }
         ensures object { object_of self.new ≡ object_of self.old };
 
-    /// Whether the hooks are as an open makes them, for so many seats.
+    /// Returns whether the hooks are as at the opening, for this number of seats.
     fn as_opened(&self, seats: u16) -> bool
         ensures { IsTrue result ↔ is_opened self.now seats };
 
-    /// The object, with its opening numbers.
+    /// Returns the object, with its opening numbers.
     fn object(&self) -> Object
         ensures { result ≡ object_of self.now };
 
-    /// The free permits of a semaphore, the count of a latch, else 0.
+    /// Returns the free permits of a semaphore or the count of a latch, else 0.
     fn level(&self) -> i64
         ensures { (k : Counts) → agrees self.now k → result ≡ level_of k };
 
-    /// What an open makes stands for the counts of an object as opened.
+    /// Hooks as at the opening agree with the counts of an object as opened.
     ghost opens: { (s : Self) (seats : ℕ) → is_opened s seats
         → agrees s (opening_counts (object_of s) seats) };
 
-    /// The counts that the hooks stand for are of their object.
+    /// The counts that the hooks agree with are those of their object.
     ghost same_object: { (s : Self) (k : Counts) → agrees s k → k.object ≡ object_of s };
 
-    /// Hooks that stand for counts stand for those that say the same of what the object has.
+    /// Hooks that agree with counts agree with all counts that are alike in what the object has.
     ghost alike: { (s : Self) (k l : Counts) → AreAlike k l → agrees s k → agrees s l };
 
-    /// All hooks stand for some counts.
+    /// All hooks agree with some counts.
     ghost stands: { (s : Self) → (k : Counts) × agrees s k };
 }

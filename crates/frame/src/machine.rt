@@ -26,10 +26,11 @@ use history::header::Header;
 use std::alloc::Global;
 use std::marker::Model;
 
-/// An object of some hooks with its line, its sleepers, the holds and marks of its seats and its history.
+/// An object with its hooks, its queue, the waiters of its conditions, its history, and the holds and mark of
+/// each seat.
 ///
-/// Each step of a seat is one change: it records the one entry that the step makes, or nothing. What it
-/// needs to know it keeps, so it never looks back into the history.
+/// Each step of a seat is one change: it records the one entry that the step makes, or nothing. The core
+/// keeps what a step needs, so no step searches the history.
 #[derive(Drop)]
 pub struct Core<H: Hooks + Drop> {
     hooks: H,
@@ -52,7 +53,7 @@ impl<H: Hooks + Drop> Model for Core<H> {
 }
 
 impl<H: Hooks + Drop> Core<H> {
-    /// A core with an empty history. It reserves all that it keeps but the history's places.
+    /// Returns a core with an empty history. All memory is reserved here, except the history's.
     pub fn open(
         alloc: Global,
         hooks: H,

@@ -11,10 +11,10 @@ use history::fault::Fault;
 use history::step::{Answer, Step};
 use std::alloc::Global;
 
-/// Steps of seats, one after another, with the answer to each.
+/// Performs steps, one after another, and returns the answer to each.
 ///
-/// The list of answers is reserved first: where that is refused, which is the one fault, no step has been
-/// made. A step that is answered `OutOfMemory` changes nothing, and the next goes on from there.
+/// The list of answers is reserved first. If that fails, `OutOfMemory` is returned and no step was made;
+/// there is no other fault. A step that returns `OutOfMemory` changes nothing, and the next step follows it.
 pub fn run<H: Hooks + Drop>(
     alloc: Global,
     core: &mut Core<H>,
@@ -22,7 +22,7 @@ pub fn run<H: Hooks + Drop>(
 ) -> Result<Vec<Result<Answer, Fault>>, Fault>
     requires { All (λ step. step.0 < core.old.header.seats) steps.now }
     ensures answered { IfOk result (λ answers. AreAnswered core.old steps.now answers.items core.new) }
-    // Where memory is never refused, answers, history and marks are those of the definitions.
+    // If no step lacked memory, answers, history and marks are those of the definitions.
     ensures results { IfOk result (λ answers.
         NoneLacksMemory answers.items → AreResults core.old steps.now answers.items core.new) }
     ensures header { core.new.header ≡ core.old.header }

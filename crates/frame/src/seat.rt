@@ -12,14 +12,14 @@ use history::holds::holds_after;
 #[derive(Clone, Copy, Debug, PartialEq, Eq)]
 pub struct Seat {
     pub exclusive: u32,
-    /// Shared holds; those of a semaphore may pass 64 bits.
+    /// Shared holds. Those of a semaphore may pass 64 bits.
     pub shared: u128,
     pub sleep: LastSleep,
     pub told: bool,
 }
 
 impl Seat {
-    /// A seat that holds nothing and never slept.
+    /// Returns a seat that holds nothing and never slept.
     pub fn free() -> Seat
         ensures { result ≡ no_holds }
     {
@@ -44,7 +44,7 @@ impl Seat {
         }
     }
 
-    /// Follows an entry of its own.
+    /// Updates the record for an entry of its seat.
     #[inline(always)]
     pub fn follow(&mut self, object: Object, entry: Entry)
         requires exclusive { (seat_after object entry self.old).exclusive < 2 ^ 32 }
@@ -75,7 +75,7 @@ impl Seat {
     }
 }
 
-/// Has a table of seats tell what an entry makes of its seat.
+/// Updates the record of the entry's seat in a table.
 #[inline(always)]
 pub fn update(seats: &mut Vec<Seat>, object: Object, entry: Entry)
     requires seat { entry.seat < length seats.old.items }
@@ -87,7 +87,7 @@ pub fn update(seats: &mut Vec<Seat>, object: Object, entry: Entry)
     seats[entry.seat as usize].follow(object, entry);
 }
 
-/// Has a table of seats tell whom an entry names.
+/// Marks the waiter that an entry names, if it names one.
 #[inline(always)]
 pub fn tell(seats: &mut Vec<Seat>, name: Option<u16>)
     requires { IfSome name (λ seat. seat < length seats.old.items) }
@@ -98,7 +98,7 @@ pub fn tell(seats: &mut Vec<Seat>, name: Option<u16>)
     }
 }
 
-/// Has a table of seats forget that a seat was told.
+/// Clears the mark of a seat.
 #[inline(always)]
 pub fn untell(seats: &mut Vec<Seat>, seat: u16)
     requires { seat < length seats.old.items }

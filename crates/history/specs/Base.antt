@@ -1,7 +1,7 @@
--- A base: what entries that were folded leave, as numbers and lists, and the start that it is.
+-- A base: the numbers and lists that folded entries leave, and the start that they make.
 --
--- A history may stand on a base in place of its first entries. All that the definitions ask of these entries
--- is in the base.
+-- A history may begin with a base in place of its first entries. The base has all that the definitions ask of
+-- these entries.
 use Rattle.std.specs.Prelude.{ℕ, zero, suc, ◌+◌, ◌-◌, ◌==◌, ◌&&◌, if◌then◌else◌, List, [], ◌∷◌, ◌++◌, map, length, get_or, Option, Some, None, pos, ◌+ℤ◌, ◌-ℤ◌}
 use Rattle.history.specs.declared.arrival.Arrival.{Arrival}
 use Rattle.history.specs.declared.base.SeatBase.{SeatBase}
@@ -25,15 +25,15 @@ pub record Base : Type 0 where
   pub seats : List SeatBase  -- what each seat has, in order
   pub unheld : ℕ  -- permits released beyond what was held
   pub count : ℕ  -- the count of a latch
-  pub line : List Standing  -- who waits in line
-  pub sleepers : List (List Sleeper)  -- who sleeps on each condition, in order
+  pub line : List Standing  -- who waits in the queue
+  pub sleepers : List (List Sleeper)  -- who waits on each condition, in order
 
 -- a value for each number below n
 abbrev pub each_below : {A : Type 0} → ℕ → (ℕ → A) → List A
 each_below zero f = []
 each_below (suc n) f = each_below n f ++ f n ∷ []
 
--- what a seat has that did nothing yet
+-- a seat that did nothing yet
 abbrev pub nothing : SeatBase
 nothing = record { calls = 0; exclusive = 0; shared = 0 }
 
@@ -50,7 +50,7 @@ opening_base k =
       sleepers = each_below k.conditions (λ c. []);
     }
 
--- what a base has of a seat, and of a condition
+-- what a base has for a seat, and for a condition
 abbrev pub seat_of : Base → ℕ → SeatBase
 seat_of b i = get_or b.seats i nothing
 
@@ -61,7 +61,7 @@ abbrev pub holds_of : SeatBase → Mode → ℕ
 holds_of has X = has.exclusive
 holds_of has S = has.shared
 
--- the sleep from which a seat comes back that stands in line
+-- the sleep from which a seat in the queue comes back
 abbrev pub sleep_in_line : ℕ → List Standing → Option Sleep
 sleep_in_line i [] = None
 sleep_in_line i (p ∷ rest) =
@@ -69,7 +69,7 @@ sleep_in_line i (p ∷ rest) =
     Some (record { condition = p.condition; holds = p.holds; how = p.how })
     else sleep_in_line i rest
 
--- the sleep of a seat on a condition, and on one of so many; a signal ends it unless it lapses before
+-- the sleep of a seat on condition c, and on any of the first n; a signal ends it unless it lapses before
 abbrev pub sleep_on : ℕ → ℕ → List Sleeper → Option Sleep
 sleep_on c i [] = None
 sleep_on c i (x ∷ rest) =
@@ -88,7 +88,7 @@ abbrev pub or_awake : Option Sleep → Sleep
 or_awake None = awake
 or_awake (Some w) = w
 
--- The start that a base is. The free permits are those created and those released unheld, less those held.
+-- A base as a start. The free permits are those created and those released unheld, less those held.
 abbrev pub based : Base → Start
 based b =
     record {
@@ -104,7 +104,7 @@ based b =
       calls = total b.header.seats (λ i. (seat_of b i).calls);
     }
 
--- the calls that a seat ended, those before the base among them
+-- the number of calls that a seat ended, with those before the base
 abbrev pub calls_of : Base → List Entry → ℕ → ℕ
 calls_of b [] i = (seat_of b i).calls
 calls_of b (e ∷ h) i = calls_of b h i + (if (e.seat == i) && ends_call e.word then 1 else 0)
@@ -113,7 +113,7 @@ abbrev pub seat_after : Base → List Entry → ℕ → SeatBase
 seat_after b h i =
     record { calls = calls_of b h i; exclusive = held (based b) h i X; shared = held (based b) h i S }
 
--- one in line, with its sleep if it comes back from one
+-- a waiter in the queue, with its sleep if it comes back from one
 abbrev pub stands_from : Arrival → Sleep → Standing
 stands_from a w = record { who = a; condition = w.condition; holds = w.holds; how = w.how }
 
@@ -123,7 +123,7 @@ standing_after b h a = stands_from a (if a.back then last_sleep (based b) h a.se
 abbrev pub sleeper_after : Base → List Entry → ℕ → Sleeper
 sleeper_after b h i = record { seat = i; holds = (last_sleep (based b) h i).holds }
 
--- A base and entries behind it, folded: the base with what the definitions say after these entries.
+-- A base with entries after it, folded: the base that has what the definitions say after these entries.
 abbrev pub folded : Base → List Entry → Base
 folded b h =
     record {

@@ -1,11 +1,12 @@
--- What an entry needs so that a base takes it up in the places that it has.
+-- What a base needs to take up an entry in the places that it has.
 use Rattle.std.specs.Prelude.{◌≡◌, ◌<◌, ◌≤◌, ◌+◌, ◌^◌, length}
 use Rattle.history.specs.declared.entry.Entry.{Entry}
 use Rattle.history.specs.declared.entry.Word.TheVariants.{Await}
 use Rattle.history.specs.Base.{Base, seat_of, sleepers_of}
 use Rattle.history.specs.NextBase.{next_base, seat_then}
 
--- Its seat is there, the line and the sleepers have room, and the numbers behind it fit their fields.
+-- The entry's seat exists, the queue and the conditions' lists have room, and the new numbers fit their
+-- fields.
 pub record HasPlaces (b : Base) (e : Entry) : Type 0 where
   pub seat : e.seat < length b.seats
   pub line : length (next_base b e).line ≤ b.header.seats

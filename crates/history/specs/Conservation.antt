@@ -1,4 +1,4 @@
--- That no permit of a semaphore is lost or made but by the releases that are counted.
+-- The permits of a semaphore are conserved: only counted releases make new ones.
 use Rattle.std.specs.Prelude.{◌≡◌, ℕ, List, pos, ◌+ℤ◌}
 use Rattle.history.specs.declared.entry.Entry.{Entry}
 use Rattle.history.specs.declared.entry.Mode.TheVariants.{S}
@@ -10,6 +10,6 @@ use Rattle.history.specs.Start.{Start}
 abbrev pub permits_held : Start → List Entry → ℕ
 permits_held s h = total s.header.seats (λ i. held s h i S)
 
--- the permits held and free are those created and those that were released by seats that didn't hold them
+-- the permits held and free are those created and those released by seats that didn't hold them
 abbrev pub IsConserved : Start → List Entry → Type 0
 IsConserved s h = pos (permits_held s h) +ℤ free s h ≡ created s.header.object +ℤ pos (unheld s h)

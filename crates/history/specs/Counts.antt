@@ -1,7 +1,7 @@
--- What a history says in numbers.
+-- The numbers that a history determines.
 --
--- A history is the list of its entries, the newest first: `e ∷ h` is the entry e behind the front h, and
--- the number of e, counted from 0, is the length of h.
+-- A history is the list of its entries, the newest first: `e ∷ h` is the entry e after the history h. The
+-- number of e, counted from 0, is the length of h.
 use Rattle.std.specs.Prelude.{ℕ, zero, suc, ◌+◌, ◌-◌, ◌==◌, nat_lt, ◌&&◌, if◌then◌else◌, List, [], ◌∷◌, Option, Some, None, ℤ, pos, ◌+ℤ◌, ◌-ℤ◌}
 use Rattle.history.specs.declared.entry.Entry.{Entry}
 use Rattle.history.specs.declared.entry.Mode.{Mode}
@@ -13,7 +13,8 @@ use Rattle.history.specs.Entry.{same_mode}
 use Rattle.history.specs.Object.{in_holds, is_semaphore, opening_count}
 use Rattle.history.specs.Start.{Start}
 
--- the holds of a seat after an entry of its own, in that entry's mode; a give takes no more than is held
+-- the holds of a seat after one of its entries, in that entry's mode; a release takes away no more than is
+-- held
 abbrev pub holds_after : Object → Word → ℕ → ℕ → ℕ
 holds_after o Got n had = had + in_holds o n
 holds_after o TryGot n had = had + in_holds o n
@@ -31,18 +32,18 @@ held s (e ∷ h) i m =
     if (e.seat == i) && same_mode e.mode m then holds_after s.header.object e.word e.n (held s h i m)
     else held s h i m
 
--- the part of a give that is above what its seat held
+-- how much a release is above what its seat held
 abbrev pub beyond : Word → ℕ → ℕ → ℕ
 beyond Gave n had = n - had
 beyond _ n had = 0
 
--- the permits of a semaphore that were released by seats which didn't hold them
+-- the permits of a semaphore that were released by seats that didn't hold them
 abbrev pub unheld : Start → List Entry → ℕ
 unheld s [] = s.unheld
 unheld s (e ∷ h) =
     unheld s h + (if is_semaphore s.header.object then beyond e.word e.n (held s h e.seat e.mode) else 0)
 
--- the free permits: those at the start, less what was taken, and what was given
+-- the free permits after an entry: what was acquired is taken off, what was released is added
 abbrev pub free_after : Word → ℕ → ℤ → ℤ
 free_after Got n had = had -ℤ pos n
 free_after TryGot n had = had -ℤ pos n
@@ -68,7 +69,7 @@ counted s (e ∷ h) = counted_after e.word (counted s h)
 abbrev pub count : Start → List Entry → ℕ
 count s h = opening_count s.header.object - counted s h
 
--- The numbers that decide what can be taken, however they are kept.
+-- The numbers that decide what can be acquired, in whatever way they are kept.
 pub record Counts : Type 0 where
   pub object : Object
   pub seats : ℕ
@@ -76,7 +77,7 @@ pub record Counts : Type 0 where
   pub free : ℤ
   pub count : ℕ
 
--- those of a history
+-- the counts of a history
 abbrev pub counts : Start → List Entry → Counts
 counts s h =
     record {
@@ -87,12 +88,12 @@ counts s h =
       count = count s h;
     }
 
--- the seat, of so many, for which a number is above 0
+-- the seat, of the first n, for which f is above 0
 abbrev pub seat_with : ℕ → (ℕ → ℕ) → Option ℕ
 seat_with zero f = None
 seat_with (suc n) f = if nat_lt 0 (f n) then Some n else seat_with n f
 
--- the sum of a number over so many seats
+-- the sum of f over the first n seats
 abbrev pub total : ℕ → (ℕ → ℕ) → ℕ
 total zero f = 0
 total (suc n) f = total n f + f n

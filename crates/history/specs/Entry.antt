@@ -15,14 +15,14 @@ same_mode S S = true
 same_mode X S = false
 same_mode S X = false
 
--- the entries by which a seat leaves the line
+-- the entries by which a seat leaves the queue
 abbrev pub ends_arrival : Word → Bool
 ends_arrival Granted = true
 ends_arrival Left = true
 ends_arrival Back = true
 ends_arrival _ = false
 
--- the entries that end a call: all but those that leave it waiting
+-- the entries that end a call: all but those after which the seat waits
 abbrev pub ends_call : Word → Bool
 ends_call Queued = false
 ends_call Await = false

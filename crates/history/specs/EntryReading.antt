@@ -1,4 +1,4 @@
--- What the readers of an entry answer, from the words that are left to the words after.
+-- What the readers of an entry return: what they read, and the words that are left.
 use Rattle.std.specs.Prelude.{ℕ, List, [], ◌∷◌, Option, None, Some, codes, bytes_eq, if◌then◌else◌}
 use Rattle.history.specs.declared.limits.TheConstants.{LAST_CONDITION, MOST_AMOUNT}
 use Rattle.history.specs.Reading.{Words, ◌>>=◌, keyword_at, number_at, mode_at}
@@ -12,14 +12,14 @@ use Rattle.history.specs.declared.entry.Word.TheVariants as word
 use Rattle.history.specs.declared.fault.Fault.{Fault}
 use Rattle.history.specs.declared.fault.Fault.TheVariants as fault
 
--- how a call gave up
+-- how an acquire gave up
 abbrev pub given_up_at : Words → Option (End × Words)
 given_up_at [] = None
 given_up_at (w ∷ ws) = if bytes_eq w (codes "timeout") then Some (end.Timeout, ws)
     else if bytes_eq w (codes "interrupt") then Some (end.Interrupt, ws)
     else None
 
--- how a call came back
+-- how an await ended
 abbrev pub come_back_at : Words → Option (End × Words)
 come_back_at [] = None
 come_back_at (w ∷ ws) = if bytes_eq w (codes "signalled") then Some (end.Signalled, ws)
@@ -54,7 +54,7 @@ sleepers_at words = do
   n ← number_at 0 MOST_AMOUNT c.1
   Some ((c.0, n.0), n.1)
 
--- the entries that spell a mode and an amount, and those that spell a condition and an amount
+-- the entries with a mode and an amount, and those with a condition and an amount
 abbrev pub in_mode : ℕ → Word → Mode × ℕ → Entry
 in_mode seat word asked =
     record { seat = seat; word = word; mode = asked.0; n = asked.1; at = 0; end = end.None }
@@ -93,14 +93,14 @@ back_at seat words = do
   e ← come_back_at s.1
   Some (record { seat = seat; word = word.Back; mode = X; n = s.0.1; at = s.0.0; end = e.0 }, e.1)
 
--- one of a shared object, with an amount in this range
+-- an entry of an object that has shared mode alone, with an amount in this range
 unfoldable pub shared_at : ℕ → Word → ℕ → ℕ → Words → Option (Entry × Words)
 shared_at seat word least most words = do
   s ← keyword_at (codes "s") words
   n ← number_at least most s.1
   Some (in_mode seat word (S, n.0), n.1)
 
--- an entry of a seat, behind its name
+-- the rest of a seat's entry, after its name
 unfoldable pub named_entry_at : ℕ → List ℕ → Words → Option (Entry × Words)
 named_entry_at seat w ws = if bytes_eq w (codes "left") then left_at seat ws
     else if bytes_eq w (codes "refused") then refused_at seat ws

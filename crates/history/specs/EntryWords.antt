@@ -1,4 +1,4 @@
--- The words that spell an entry behind its seat.
+-- The words that spell an entry, after its seat.
 use Rattle.std.specs.Prelude.{◌≡◌, ◌≤◌, ℕ, List, [], ◌∷◌, codes, decimal}
 use Rattle.history.specs.declared.limits.TheConstants.{LAST_CONDITION, MOST_AMOUNT}
 use Rattle.history.specs.declared.entry.Entry.{Entry}
@@ -14,7 +14,7 @@ abbrev pub mode_word : Mode → List ℕ
 mode_word X = codes "x"
 mode_word S = codes "s"
 
--- no line has the word of an end that is none
+-- an end that is None has no word in any line
 abbrev pub end_word : End → List ℕ
 end_word end.None = []
 end_word end.Timeout = codes "timeout"
@@ -38,7 +38,7 @@ spelt word.Back m n at e = codes "back" ∷ decimal at ∷ decimal n ∷ end_wor
 spelt word.Counted m n at e = codes "counted" ∷ mode_word m ∷ decimal n ∷ []
 spelt word.Drained m n at e = codes "drained" ∷ mode_word m ∷ decimal n ∷ []
 
--- the words of asking and giving: a mode and an amount follow, and nothing else
+-- the words with a mode and an amount, and nothing else
 abbrev pub IsAsked : Word → Type 0
 IsAsked word.Got = Unit {0}
 IsAsked word.TryGot = Unit {0}
@@ -48,7 +48,7 @@ IsAsked word.Missed = Unit {0}
 IsAsked word.Gave = Unit {0}
 IsAsked _ = ⊥
 
--- the words of sleeping on a condition and of being woken there
+-- the words with a condition and an amount
 abbrev pub IsOfCondition : Word → Type 0
 IsOfCondition word.Await = Unit {0}
 IsOfCondition word.Lapse = Unit {0}
@@ -60,7 +60,7 @@ IsOfCondition _ = ⊥
 abbrev pub entry_words : Entry → List (List ℕ)
 entry_words e = spelt e.word e.mode e.n e.at e.end
 
--- how a call ends that waited, and in no other way
+-- the ways in which a waiting acquire can give up
 abbrev pub GaveUp : End → Type 0
 GaveUp end.None = ⊥
 GaveUp end.Timeout = Unit {0}
@@ -73,7 +73,7 @@ CameBack end.Timeout = Unit {0}
 CameBack end.Interrupt = Unit {0}
 CameBack end.Signalled = Unit {0}
 
--- which entries have a spelling: the fields that no word spells are fixed
+-- which entries have a spelling: each field that the words leave out has one fixed value
 abbrev pub HasWords : Word → Mode → ℕ → ℕ → End → Type 0
 HasWords word.Left m n at e = (at ≡ 0) × GaveUp e
 HasWords (word.Refused f) m n at e = (at ≡ 0) × (e ≡ end.None) × IsRecorded f
@@ -89,7 +89,7 @@ HasWords w m n at e = (at ≡ 0) × (e ≡ end.None)
 abbrev pub IsSpelt : Entry → Type 0
 IsSpelt e = HasWords e.word e.mode e.n e.at e.end
 
--- an entry as a history text may have it
+-- an entry that a history text may have
 pub record IsWritten (e : Entry) : Type 0 where
   pub words : IsSpelt e
   pub amount : e.n ≤ MOST_AMOUNT

@@ -1,5 +1,5 @@
--- The steps that are refused and not recorded, whatever the history says: a mode or step that the object
--- lacks, a condition that it lacks, an amount that it doesn't count in.
+-- The steps that fail and aren't recorded, in whatever state: the object lacks the mode, the step or the
+-- condition, or doesn't count in such an amount.
 use Rattle.std.specs.Prelude.{ℕ, ◌==◌, nat_lt, nat_le, Bool, false, ◌&&◌, ◌||◌, not}
 use Rattle.history.specs.declared.limits.TheConstants.{MOST_AMOUNT}
 use Rattle.history.specs.declared.entry.Mode.{Mode}
@@ -11,7 +11,7 @@ use Rattle.history.specs.declared.step.Step.TheVariants.{Acquire, Try, TryFair, 
 use Rattle.history.specs.Entry.{is_exclusive}
 use Rattle.history.specs.Object.{is_lock, is_semaphore, is_latch}
 
--- a lock is exclusive alone, a semaphore and a latch are shared alone
+-- a lock has exclusive mode alone, a semaphore and a latch have shared mode alone
 abbrev pub lacks_mode : Object → Mode → Bool
 lacks_mode (Lock policy) m = not (is_exclusive m)
 lacks_mode (ReadWrite policy) m = false
@@ -40,7 +40,7 @@ is_no_condition k _ = false
 abbrev pub max_amount : ℕ
 max_amount = MOST_AMOUNT
 
--- only a semaphore counts in other amounts than 1
+-- only a semaphore counts in amounts other than 1
 abbrev pub is_bad_number : Object → ℕ → Bool
 is_bad_number o n = nat_lt MOST_AMOUNT n || (not (is_semaphore o) && not (n == 1))
 

@@ -6,7 +6,7 @@ use Rattle.history.specs.GoodBase.{IsModest}
 use Rattle.history.specs.Header.{IsInRange}
 use Rattle.history.specs.Point.{CanFold}
 
--- The base can fold them, and its numbers are those that entries may have moved since an opening.
+-- The base has room for these entries, and its numbers are such as entries after an opening can leave.
 pub record MayFold (b : Base) (h : List Entry) : Type 0 where
   pub range : IsInRange b.header
   pub modest : IsModest b

@@ -1,4 +1,4 @@
--- What the readers of a header's words answer.
+-- What the readers of a header's words return.
 use Rattle.std.specs.Prelude.{ℕ, List, [], ◌∷◌, Option, None, Some, codes, bytes_eq, nat_le, ◌==◌, ◌&&◌, if◌then◌else◌, ℤ, pos, neg_ℤ}
 use Rattle.history.specs.declared.header.Header.{Header}
 use Rattle.history.specs.declared.header.Object.{Object}
@@ -27,7 +27,7 @@ permits_at words = do
   z ← permits_from w.0
   Some (z, w.1)
 
--- the rest of a lock's header or a read-write lock's
+-- the rest of a lock's or read-write lock's header
 unfoldable pub lock_at : (Policy → Object) → Words → Option (Header × Words)
 lock_at object words = do
   policy ← policy_at words

@@ -6,12 +6,12 @@ use Rattle.history.specs.Entry.{ends_call}
 use Rattle.history.specs.Start.{Start}
 use Rattle.history.specs.Steps.{entry_for}
 
--- each entry is the one entry of some step of its seat, at its place
+-- each entry is the one that some step of its seat makes after the entries before it
 abbrev pub IsLegal : Start → List Entry → Type 0
 IsLegal s [] = Unit {0}
 IsLegal s (e ∷ h) = ((step : Step) × (entry_for s h e.seat step ≡ Ok (Some e))) × IsLegal s h
 
--- each entry is of one of the object's seats
+-- the seat of each entry is one of the object's
 abbrev pub AreSeated : Start → List Entry → Type 0
 AreSeated s [] = Unit {0}
 AreSeated s (e ∷ h) = (e.seat < s.header.seats) × AreSeated s h

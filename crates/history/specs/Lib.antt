@@ -34,7 +34,7 @@ pub mod Fold
 pub mod Numbering
 pub mod Awaiting
 pub mod Marks
--- Private contracts alone cite these.
+-- Only private contracts cite these.
 pub mod HeaderReading
 pub mod Paged
 pub mod BasePlaces

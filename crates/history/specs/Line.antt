@@ -1,4 +1,4 @@
--- Who arrived in line, what ended each wait, and who still stands there.
+-- The wait queue: who joined it, what ended each wait, and who still waits.
 use Rattle.std.specs.Prelude.{ℕ, ◌==◌, nat_le, Bool, true, false, ◌&&◌, if◌then◌else◌, List, [], ◌∷◌, ◌++◌, map, filter, length, take, Option, Some, None}
 use Rattle.history.specs.declared.arrival.Arrival.{Arrival}
 use Rattle.history.specs.declared.entry.Entry.{Entry}
@@ -10,11 +10,11 @@ use Rattle.history.specs.Entry.{ends_arrival}
 use Rattle.history.specs.Sleepers.{sleepers}
 use Rattle.history.specs.Start.{Start}
 
--- one that comes back from a condition asks for X again
+-- a waiter that comes back from a condition asks for X and 1
 abbrev pub coming_back : ℕ → Arrival
 coming_back i = record { seat = i; mode = X; n = 1; back = true }
 
--- who arrives by an entry behind a front: who is queued, who is signalled, who lapses
+-- who joins the queue by an entry after a history: a queued acquire, the signalled waiters, a lapsed waiter
 abbrev pub arrivals_by : Start → Word → Entry → List Entry → List Arrival
 arrivals_by s Queued e h = record { seat = e.seat; mode = e.mode; n = e.n; back = false } ∷ []
 arrivals_by s Signal e h = map coming_back (take e.n (sleepers s h e.at))
@@ -30,22 +30,22 @@ pub record Arrived : Type 0 where
 abbrev pub arrived_at : ℕ → Arrival → Arrived
 arrived_at place who = record { place = place; who = who }
 
--- all that ever arrived, in order; those who stood in line at the start came before any entry
+-- all arrivals ever, in order; the waiters of the start came before any entry
 abbrev pub arrivals : Start → List Entry → List Arrived
 arrivals s [] = map (arrived_at 0) s.line
 arrivals s (e ∷ h) = arrivals s h ++ map (arrived_at (length h)) (arrivals_by s e.word e h)
 
--- An entry that ended what a seat waited for: its number and its word.
+-- An entry that ended a seat's wait: its number and its word.
 pub record Ending : Type 0 where
   pub place : ℕ
   pub word : Word
 
--- the ending so far stays, else this one where it is one
+-- the ending found so far, or else this one if it is one
 abbrev pub first_ending : Option Ending → Bool → Ending → Option Ending
 first_ending (Some x) b y = Some x
 first_ending None b y = if b then Some y else None
 
--- a seat's first entry from a number on by which it left the line
+-- the first entry, from a number on, by which a seat left the queue
 abbrev pub ending : List Entry → ℕ → ℕ → Option Ending
 ending [] i from = None
 ending (e ∷ h) i from =
@@ -60,7 +60,7 @@ is_open (Some x) = false
 abbrev pub stands : List Entry → Arrived → Bool
 stands h a = is_open (ending h a.who.seat a.place)
 
--- the line: the arrivals that haven't ended, in order of arriving
+-- the queue: the arrivals that haven't ended, in their order
 abbrev pub line : Start → List Entry → List Arrival
 line s h = map (λ a. a.who) (filter (stands h) (arrivals s h))
 
@@ -72,11 +72,11 @@ abbrev pub mode_of : Option Arrival → Option Mode
 mode_of None = None
 mode_of (Some a) = Some a.mode
 
--- the mode that the first in line asks for
+-- the mode that the head of the queue asks for
 abbrev pub first_mode : Start → List Entry → Option Mode
 first_mode s h = mode_of (first_of (line s h))
 
--- what a seat asks for in line
+-- what a seat in the queue asks for
 abbrev pub place_of : ℕ → List Arrival → Option Arrival
 place_of i [] = None
 place_of i (a ∷ rest) = if a.seat == i then Some a else place_of i rest

@@ -1,4 +1,4 @@
--- Whom an entry names: the first in line, where it could go and couldn't before.
+-- Which waiter an entry names: the head of the queue, if it could go and couldn't before.
 use Rattle.std.specs.Prelude.{ℕ, ◌==◌, ◌&&◌, not, if◌then◌else◌, List, ◌∷◌, Option, Some, None}
 use Rattle.history.specs.declared.arrival.Arrival.{Arrival}
 use Rattle.history.specs.declared.entry.Entry.{Entry}
@@ -11,11 +11,11 @@ abbrev pub ready_by : Counts → Option Arrival → Option ℕ
 ready_by k None = None
 ready_by k (Some a) = if could k a.seat a.mode a.n then Some a.seat else None
 
--- the seat of the first in line, where that could take what it asks for
+-- the seat of the head of the queue, if it could acquire what it asks for
 abbrev pub ready : Start → List Entry → Option ℕ
 ready s h = ready_by (counts s h) (first_of (line s h))
 
--- who is ready now is named, unless it was ready before or made the entry itself
+-- the waiter that is ready now is named, unless it was ready before or made the entry itself
 abbrev pub named_by : Option ℕ → Option ℕ → ℕ → Option ℕ
 named_by before None i = None
 named_by before (Some j) i = if not (j == i) && not (is_seat before j) then Some j else None

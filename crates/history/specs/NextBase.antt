@@ -1,5 +1,5 @@
--- What one entry makes of a base, part by part. It is the fold of that entry alone, and so the way in which a
--- fold goes on from entry to entry.
+-- What one entry changes in a base, part by part. This is the fold of that entry alone. A fold of more
+-- entries repeats it.
 use Rattle.std.specs.Prelude.{ℕ, ◌+◌, ◌-◌, ◌==◌, Bool, false, ◌&&◌, not, if◌then◌else◌, List, [], ◌∷◌, ◌++◌, map, filter, take, drop, set}
 use Rattle.history.specs.declared.base.SeatBase.{SeatBase}
 use Rattle.history.specs.declared.base.Sleeper.{Sleeper}
@@ -17,7 +17,7 @@ use Rattle.history.specs.Line.{coming_back}
 use Rattle.history.specs.Object.{is_semaphore}
 use Rattle.history.specs.Start.{awake}
 
--- what the entry's seat has
+-- the calls and holds of the entry's seat
 abbrev pub seat_then : Object → Entry → SeatBase → SeatBase
 seat_then o e has =
     record {
@@ -31,16 +31,16 @@ abbrev pub count_then : Word → ℕ → ℕ
 count_then Counted n = n - 1
 count_then _ n = n
 
--- who stays in line
+-- whether a waiter stays in the queue
 abbrev pub stays_there : Entry → Standing → Bool
 stays_there e p = not (ends_arrival e.word && (e.seat == p.who.seat))
 
--- one who was signalled on a condition
+-- a waiter that was signalled on a condition
 abbrev pub signalled_on : ℕ → Sleeper → Standing
 signalled_on c x =
     record { who = coming_back x.seat; condition = c; holds = x.holds; how = end.Signalled }
 
--- who joins the line, where these sleep on the entry's condition
+-- who joins the queue, if xs are the waiters of the entry's condition
 abbrev pub joins_from : Word → Entry → List Sleeper → List Standing
 joins_from Queued e xs =
     stands_from (record { seat = e.seat; mode = e.mode; n = e.n; back = false }) awake ∷ []
@@ -59,7 +59,7 @@ joins_from _ e xs = []
 abbrev pub joins_line : Base → Word → Entry → List Standing
 joins_line b w e = joins_from w e (sleepers_of b e.at)
 
--- who sleeps on the entry's condition
+-- the waiters of the entry's condition
 abbrev pub sleepers_then : Word → Entry → List Sleeper → List Sleeper
 sleepers_then Await e xs = xs ++ record { seat = e.seat; holds = e.n } ∷ []
 sleepers_then Lapse e xs = filter (λ x. not (x.seat == e.seat)) xs

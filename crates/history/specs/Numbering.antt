@@ -1,4 +1,4 @@
--- What one who numbers lines keeps.
+-- What a speller of rising numbers keeps.
 use Rattle.std.specs.Prelude.{ℕ}
 
 -- the number without its last two digits

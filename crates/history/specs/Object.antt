@@ -1,17 +1,17 @@
--- What the four objects have, and with what they open.
+-- What the four objects have, and the numbers with which they open.
 use Rattle.std.specs.Prelude.{ℕ, Bool, true, false, ℤ, pos}
 use Rattle.history.specs.declared.header.Object.{Object}
 use Rattle.history.specs.declared.header.Object.TheVariants.{Lock, ReadWrite, Semaphore, Latch}
 use Rattle.history.specs.declared.header.Policy.{Policy}
 use Rattle.history.specs.declared.header.Policy.TheVariants.{Fair, NonFair, Strict}
 
--- the policies in which no new timed or untimed acquire passes those who wait
+-- the policies in which no new acquire, timed or untimed, barges
 abbrev pub is_fair_policy : Policy → Bool
 is_fair_policy Fair = true
 is_fair_policy NonFair = false
 is_fair_policy Strict = true
 
--- the policy in which no try does either
+-- the policy in which no try barges either
 abbrev pub is_strict_policy : Policy → Bool
 is_strict_policy Fair = false
 is_strict_policy NonFair = false
@@ -30,7 +30,7 @@ is_strict (ReadWrite policy) = is_strict_policy policy
 is_strict (Semaphore policy permits) = is_strict_policy policy
 is_strict (Latch count) = false
 
--- a lock or a read-write lock, which are owned, have conditions and keep room for each hold
+-- a lock or a read-write lock: it has an owner and conditions, and keeps room for each hold
 abbrev pub is_lock : Object → Bool
 is_lock (Lock policy) = true
 is_lock (ReadWrite policy) = true
@@ -45,7 +45,7 @@ abbrev pub is_latch : Object → Bool
 is_latch (Latch count) = true
 is_latch _ = false
 
--- the permits that a semaphore was made with
+-- the permits with which a semaphore was opened
 abbrev pub created : Object → ℤ
 created (Semaphore policy permits) = permits
 created _ = pos 0
@@ -55,7 +55,7 @@ abbrev pub opening_count : Object → ℕ
 opening_count (Latch count) = count
 opening_count _ = 0
 
--- what a request for n is in holds: one hold of a lock, n permits, nothing of a latch
+-- how many holds a request for n is: one of a lock, n of a semaphore, none of a latch
 abbrev pub in_holds : Object → ℕ → ℕ
 in_holds (Lock policy) n = 1
 in_holds (ReadWrite policy) n = 1

@@ -1,4 +1,4 @@
--- That a lock or read-write lock has one owner, and nobody reads beside it.
+-- A lock or read-write lock has one owner, and nobody else reads at the same time.
 use Rattle.std.specs.Prelude.{◌≡◌, ◌<◌, ◌≤◌, ℕ, Bool, true, false, List}
 use Rattle.history.specs.declared.limits.TheConstants.{MOST_HOLDS, MOST_READ_WRITE_HOLDS}
 use Rattle.history.specs.declared.entry.Entry.{Entry}
@@ -24,21 +24,22 @@ most_shared (ReadWrite policy) = MOST_READ_WRITE_HOLDS
 most_shared (Semaphore policy permits) = 0
 most_shared (Latch opening) = 0
 
--- Whoever has exclusive holds is the one seat that has any, and the one that may also have shared ones.
--- The holds are within the limits.
+-- At most one seat has exclusive holds. While it has, no other seat has shared ones. The holds are within the
+-- limits.
 pub record IsOwned (s : Start) (h : List Entry) : Type 0 where
   pub one : (i j : ℕ) → 0 < held s h i X → 0 < held s h j X → i ≡ j
   pub alone : (i j : ℕ) → 0 < held s h i X → 0 < held s h j S → i ≡ j
   pub exclusive : (i : ℕ) → held s h i X ≤ most_exclusive s.header.object
   pub shared : total s.header.seats (λ i. held s h i S) ≤ most_shared s.header.object
 
--- a seat that sleeps, or is on its way back from a condition
+-- a seat that waits on a condition, or is on its way back from one
 abbrev pub is_away : Phase → Bool
 is_away Idle = false
 is_away (InLine a) = a.back
 is_away Sleeping = true
 
--- Whoever gave up its holds to sleep holds nothing, and will have back as many as one seat may hold.
+-- A seat that gave up its holds to wait on a condition holds nothing, and will have back at most as many as a
+-- seat may hold.
 pub record IsSaved (s : Start) (h : List Entry) (i : ℕ) : Type 0 where
   pub nothing : (m : Mode) → held s h i m ≡ 0
   pub some : 1 ≤ (last_sleep s h i).holds

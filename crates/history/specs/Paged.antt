@@ -1,4 +1,4 @@
--- How the entries of a history stand in pages. A page is full before the next begins.
+-- How the entries of a history are kept in pages. A page is full before the next begins.
 use Rattle.std.specs.Prelude.{◌≡◌, ◌⊎◌, ℕ, zero, suc, ◌+◌, ◌*◌, ◌<◌, ◌≤◌, ◌^◌, List, [], ◌∷◌, ◌++◌, length, reverse}
 use Rattle.history.specs.declared.entry.Entry.{Entry}
 use Rattle.history.specs.Entries.{ended_calls}
@@ -13,21 +13,21 @@ abbrev pub in_pages : List (List Entry) → List Entry
 in_pages [] = []
 in_pages (page ∷ pages) = page ++ in_pages pages
 
--- n of these pages are full, and then all are empty
+-- n of these pages are full, and those after them are empty
 abbrev pub AreFull : ℕ → List (List Entry) → Type 0
 AreFull zero [] = Unit {0}
 AreFull zero (page ∷ pages) = (page ≡ []) × AreFull zero pages
 AreFull (suc n) [] = ⊥
 AreFull (suc n) (page ∷ pages) = (length page ≡ 1024) × AreFull n pages
 
--- What stands in the pages is so. Without a page at hand there is none.
+-- The pages are kept in this way. While no page is at hand, there is no other page.
 pub record AreKept (others : List (List Entry)) (full : ℕ) (hand : List Entry) (room : ℕ) : Type 0 where
   pub full_first : AreFull full others
   pub fits : length hand ≤ room
   pub page : (room ≡ 1024) ⊎ ((room ≡ 0) × (others ≡ []))
   pub few : 1024 * length others + room < 2 ^ 33
 
--- What a history keeps beside its pages is so.
+-- What a history keeps besides its pages agrees with them.
 pub record IsKept (pages : PagesView) (cap owed calls : ℕ) : Type 0 where
   pub reserved : length pages.entries + owed ≤ pages.places
   pub within_cap : length pages.entries + owed ≤ cap

@@ -1,4 +1,4 @@
--- A seat is idle, stands in line or sleeps, and each step is for one who waits or for one who is idle.
+-- A seat is idle, in the queue, or asleep on a condition. Each step is for a waiter or for an idle seat.
 use Rattle.std.specs.Prelude.{ℕ, Bool, true, false, not, List, Option, Some, None}
 use Rattle.history.specs.declared.arrival.Arrival.{Arrival}
 use Rattle.history.specs.declared.entry.Entry.{Entry}
@@ -21,7 +21,7 @@ phase_by None false = Idle
 abbrev pub phase : Start → List Entry → ℕ → Phase
 phase s h i = phase_by (place_of i (line s h)) (sleeps_below s.header.conditions s h i)
 
--- the steps of one who waits
+-- the steps of a waiter
 abbrev pub waits : Step → Bool
 waits Look = true
 waits Expire = true

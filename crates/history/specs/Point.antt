@@ -1,4 +1,4 @@
--- What is seen of a history that may be folded: a base, and the entries behind it.
+-- A history that may be folded, as somebody has seen it: a base, and the entries after it.
 use Rattle.std.specs.Prelude.{◌≡◌, ◌⊎◌, ℕ, ◌+◌, ◌==◌, true, List, [], ◌++◌, filter}
 use Rattle.history.specs.declared.entry.Entry.{Entry}
 use Rattle.history.specs.declared.entry.Mode.{Mode}
@@ -13,23 +13,23 @@ use Rattle.history.specs.Phase.{phase}
 use Rattle.history.specs.Sleepers.{last_sleep}
 use Rattle.history.specs.Start.{opening}
 
--- more entries behind the same base
+-- the same base, with more entries after it
 abbrev pub Grows : Point → Point → Type 0
 Grows p q = (p.base ≡ q.base) × ((more : List Entry) × (q.entries ≡ more ++ p.entries))
 
--- Entries that a good base may fold: legal, and each of one of the object's seats.
+-- Entries that a good base may fold: they are legal, and each is of one of the object's seats.
 pub record CanFold (b : Base) (h : List Entry) : Type 0 where
   pub good : IsGood b
   pub seated : AreSeated (based b) h
   pub legal : IsLegal (based b) h
 
--- a fold of these entries, and of more behind them
+-- q is the fold of p with more entries
 pub record IsFolded (p q : Point) : Type 0 where
   pub more : List Entry
   pub can : CanFold p.base (more ++ p.entries)
   pub base : q.base ≡ folded p.base (more ++ p.entries)
 
--- whoever sees the second point later has seen no other history
+-- q continues the history that p shows: with more entries, or folded
 abbrev pub ComesBefore : Point → Point → Type 0
 ComesBefore p q = Grows p q ⊎ IsFolded p q
 
@@ -37,9 +37,9 @@ ComesBefore p q = Grows p q ⊎ IsFolded p q
 abbrev pub entries_of : ℕ → List Entry → List Entry
 entries_of i h = filter (λ e. e.seat == i) h
 
--- What a point has of all entries of a seat: the newest of them, and in its base the calls that the others
--- ended. The seat holds there what all its entries come to, those that were folded among them. Where the
--- entries can be folded and the seat sleeps or comes back, its last sleep is the one of which all say.
+-- How a point agrees with all entries of a seat. It has the newest of them, and its base has the number of
+-- calls that the others ended. The seat's holds in it are what all its entries come to, also the folded ones.
+-- If the entries can be folded and the seat is within an await, its last sleep is that of all its entries.
 pub record Agrees (p : Point) (i : ℕ) (all : List Entry) : Type 0 where
   pub older : List Entry
   pub newest : all ≡ entries_of i p.entries ++ older
@@ -49,8 +49,8 @@ pub record Agrees (p : Point) (i : ℕ) (all : List Entry) : Type 0 where
       CanFold p.base p.entries → is_away (phase (based p.base) p.entries i) ≡ true →
       last_sleep (based p.base) p.entries i ≡ last_sleep (opening p.base.header) all i
 
--- The second point follows the first by some entries: they were added to its list, or nothing was added and
--- the list was folded.
+-- The second point follows the first by the entries `added`: they were added to its list, or nothing was
+-- added and the list was folded.
 abbrev pub FollowsBy : Point → Point → List Entry → Type 0
 FollowsBy p q added =
     ((q.base ≡ p.base) × (q.entries ≡ added ++ p.entries))

@@ -1,4 +1,4 @@
--- What the readers of words answer, from the words that are left to the words after.
+-- What the readers of words return: what they read, and the words that are left.
 use Rattle.std.specs.Prelude.{ℕ, ◌^◌, List, [], ◌∷◌, Option, None, Some, codes, decimal, bytes_eq, nat_lt, nat_le, ◌&&◌, if◌then◌else◌}
 use Rattle.std.specs.Str.Parse.{digits_value}
 use Rattle.history.specs.declared.entry.Mode.{Mode}
@@ -12,7 +12,7 @@ abbrev pub ◌>>=◌ : {A B : Type 0} → Option A → (A → Option B) → Opti
 (Some x) >>= f = f x
 None >>= f = None
 
--- what a call answered, with the words after it
+-- what a reader returns, with the words that are left
 abbrev pub with_rest : {A : Type 0} → Option A → Words → Option (A × Words)
 with_rest None rest = None
 with_rest (Some x) rest = Some (x, rest)
@@ -21,7 +21,7 @@ abbrev pub word_at : Words → Option (List ℕ × Words)
 word_at [] = None
 word_at (w ∷ ws) = Some (w, ws)
 
--- this very word
+-- exactly this word
 abbrev pub keyword_at : List ℕ → Words → Option (Unit {0} × Words)
 keyword_at word [] = None
 keyword_at word (w ∷ ws) = if bytes_eq w word then Some (tt, ws) else None

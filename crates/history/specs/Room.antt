@@ -17,17 +17,17 @@ abbrev pub sum_of : {A : Type 0} → (A → ℕ) → List A → ℕ
 sum_of f [] = 0
 sum_of f (x ∷ xs) = f x + sum_of f xs
 
--- one for each hold of a lock or read-write lock: it will be given back
+-- one entry for each hold of a lock or read-write lock, which will be released
 abbrev pub holds_owe : Start → List Entry → ℕ
 holds_owe s h = if is_lock s.header.object then total s.header.seats (λ i. held s h i X + held s h i S) else 0
 
--- a queued acquire will take or leave, and what it takes of a lock it will give back; one on its way back
--- will come back and give up all its saved holds
+-- the entries of a waiter in the queue. An acquire will succeed or leave, and will release what it acquires
+-- of a lock. A waiter on its way back will come back and release all its saved holds.
 abbrev pub arrival_owes : Start → List Entry → Arrival → ℕ
 arrival_owes s h a =
     if a.back then (last_sleep s h a.seat).holds + 1 else if is_lock s.header.object then 2 else 1
 
--- a sleeper will lapse, come back, and give up all its saved holds
+-- a waiter of a condition will lapse, come back, and release all its saved holds
 abbrev pub sleeper_owes : Start → List Entry → ℕ → ℕ
 sleeper_owes s h i = (last_sleep s h i).holds + 2
 
@@ -39,16 +39,17 @@ sleepers_owe (suc c) s h = sleepers_owe c s h + sum_of (sleeper_owes s h) (sleep
 abbrev pub owed : Start → List Entry → ℕ
 owed s h = holds_owe s h + sum_of (arrival_owes s h) (line s h) + sleepers_owe s.header.conditions s h
 
--- an entry has room where it fits with all that is owed behind it
+-- an entry has room if it fits together with all that is owed after it
 abbrev pub has_room : Start → List Entry → Entry → Bool
 has_room s h e = nat_le (length h + 1 + owed s (e ∷ h)) s.header.cap
 
--- the entries of a history and those that it owes fit in its cap
+-- the entries of a history, with those that it owes, fit in its cap
 abbrev pub Fits : Start → List Entry → Type 0
 Fits s h = length h + owed s h ≤ s.header.cap
 
--- For how many entries more room is reserved by an entry, and what it releases. A hold of a lock is given
--- back, an acquire in line takes or leaves and gives back, a sleeper lapses or is moved, and comes back.
+-- How many more entries an entry reserves, and how many it releases. A hold of a lock will be released. An
+-- acquire in the queue succeeds or leaves, and what it acquires will be released. A waiter of a condition
+-- lapses or is signalled, and comes back.
 abbrev pub reserved_by : Object → Word → ℕ
 reserved_by o word.Got = if is_lock o then 1 else 0
 reserved_by o word.TryGot = if is_lock o then 1 else 0
@@ -72,8 +73,8 @@ reserves o e = reserved_by o e.word
 abbrev pub releases : Object → Entry → ℕ
 releases o e = released_by o e.word e.n
 
--- The entries that were owed before they came: a hold of a lock is given back, one who waits goes on or
--- leaves, and a signal moves somebody.
+-- The entries that were owed before they came: the release of a hold of a lock, the entry by which a waiter
+-- goes on or leaves, and a signal that moves a waiter.
 abbrev pub was_owed_by : Object → Word → ℕ → Bool
 was_owed_by o word.Granted n = true
 was_owed_by o word.Left n = true

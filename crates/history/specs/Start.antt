@@ -1,6 +1,6 @@
--- What stood before the first entry of a history.
+-- The state before the first entry of a history.
 --
--- Every definition begins from a start, and only its clause of the empty list reads one. An object as
+-- Every definition begins with a start, and reads it only in its clause for the empty list. An object as
 -- opened starts with nothing held, nobody waiting and its opening number.
 use Rattle.std.specs.Prelude.{ℕ, List, [], ℤ}
 use Rattle.history.specs.declared.arrival.Arrival.{Arrival}
@@ -10,7 +10,7 @@ use Rattle.history.specs.declared.entry.Mode.{Mode}
 use Rattle.history.specs.declared.header.Header.{Header}
 use Rattle.history.specs.Object.{created}
 
--- What a seat gave up when it last went to sleep, and how it will come back.
+-- What a seat gave up when it last began to wait on a condition, and how it will come back.
 pub record Sleep : Type 0 where
   pub condition : ℕ
   pub holds : ℕ
@@ -26,8 +26,8 @@ pub record Start : Type 0 where
   pub unheld : ℕ  -- permits released beyond what was held
   pub free : ℤ  -- free permits
   pub counted : ℕ  -- how often a latch was counted down
-  pub line : List Arrival  -- who waits in line
-  pub sleepers : ℕ → List ℕ  -- who sleeps on each condition
+  pub line : List Arrival  -- who waits in the queue
+  pub sleepers : ℕ → List ℕ  -- who waits on each condition
   pub last_sleep : ℕ → Sleep  -- the last sleep of each seat
   pub calls : ℕ  -- the calls that had ended
 

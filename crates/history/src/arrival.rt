@@ -1,9 +1,9 @@
-//! A place in line.
+//! A place in the wait queue.
 
 use crate::entry::Mode;
 
-/// One who stands in line: its seat and what it asks for. One on its way back from a condition
-/// asks for X and 1.
+/// A waiter in the queue: its seat and what it asks for. A waiter that comes back from a condition asks for X
+/// and 1.
 #[derive(Clone, Copy, Debug, PartialEq, Eq)]
 pub struct Arrival {
     pub seat: u16,

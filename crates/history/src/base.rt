@@ -1,4 +1,4 @@
-//! The base of a history: what is left of entries that were folded.
+//! The base of a history: the state that folded entries leave.
 
 ghost use Rattle.std.specs.Prelude.{◌≡◌, ◌+◌, ◌≤◌, ◌↔◌, [], get_or, length, map, min, All, IfOk, IfErr, IsTrue, vec_capacity};
 ghost use Rattle.history.specs.declared.limits.TheConstants.{MOST_FOLDED};
@@ -22,7 +22,7 @@ use crate::limits::MOST_FOLDED;
 use std::alloc::Global;
 use std::marker::Model;
 
-/// The calls that a seat ended, and what it holds.
+/// How many calls a seat ended, and what it holds.
 #[derive(Clone, Copy, Debug, PartialEq, Eq)]
 pub struct SeatBase {
     pub calls: u64,
@@ -30,8 +30,8 @@ pub struct SeatBase {
     pub shared: u128,
 }
 
-/// One who stands in line. Of one that comes back from a condition the base keeps which condition it is, the
-/// holds that it gave up to sleep, and how it comes back. These are 0, 0 and `None` for an acquire.
+/// A waiter in the queue. For a waiter that comes back from a condition the base keeps the condition, the
+/// holds that it gave up, and how its wait there ended. These are 0, 0 and `None` for an acquire.
 #[derive(Clone, Copy, Debug, PartialEq, Eq)]
 pub struct Standing {
     pub who: Arrival,
@@ -40,30 +40,30 @@ pub struct Standing {
     pub how: End,
 }
 
-/// One who sleeps on a condition, and the holds that it gave up.
+/// A seat that waits on a condition, and the holds that it gave up.
 #[derive(Clone, Copy, Debug, PartialEq, Eq)]
 pub struct Sleeper {
     pub seat: u16,
     pub holds: u32,
 }
 
-/// What entries that were folded leave of an object: all that the definitions ask of them.
+/// The state of an object after entries that were folded: all that the definitions ask of these entries.
 ///
-/// All places are reserved at the opening, so that a fold takes no memory.
+/// All places are reserved at the opening, so a fold allocates nothing.
 #[derive(Debug, Drop)]
 pub struct Base {
     pub header: Header,
     /// How many entries were folded.
     pub entries: u128,
-    /// What each seat has, in order.
+    /// The calls and holds of each seat, by its number.
     pub seats: Vec<SeatBase>,
     /// Permits released by seats that did not hold them.
     pub unheld: u128,
     /// The count of a latch.
     pub count: u32,
-    /// Who waits in line.
+    /// The waiters in the queue, the first one first.
     pub line: Vec<Standing>,
-    /// Who sleeps on each condition, in order.
+    /// The waiters of each condition, the longest waiting first.
     pub sleepers: Vec<Vec<Sleeper>>,
 }
 
@@ -83,12 +83,12 @@ impl Model for Base {
       sleepers = map (λ list. list.items) a.sleepers.items;
     } };
 
-    // Each seat has a place in line, and one on each condition. No more memory is kept.
+    // The queue and each condition's list have a place for each seat. No more memory is kept.
     ghost invariant = { λ a. (vec_capacity a.line ≡ a.header.seats)
         × All (λ list. vec_capacity list ≡ a.header.seats) a.sleepers.items };
 }
 
-/// What a seat has that did nothing yet.
+/// A seat that did nothing yet.
 const NOTHING: SeatBase = SeatBase {
     calls: 0,
     exclusive: 0,
@@ -96,7 +96,8 @@ const NOTHING: SeatBase = SeatBase {
 };
 
 impl Base {
-    /// The base of an object as it is opened. It reserves all places; `OutOfMemory` is the only fault.
+    /// Returns the base of an object as it is opened, with all places reserved. The only fault is
+    /// `OutOfMemory`.
     pub fn open(alloc: Global, header: &Header) -> Result<Base, Fault>
         ensures opened { IfOk result (λ base. base ≡ opening_base header.now) }
         ensures may_fold { IsInRange header.now → IfOk result (λ base. MayFold base []) }
@@ -116,21 +117,21 @@ impl Base {
         })
     }
 
-    /// Who sleeps on a condition, in order; nobody sleeps on one that the object lacks.
+    /// Returns the waiters of a condition, the longest waiting first; none if the object lacks the condition.
     pub fn sleepers_of(&self, condition: u8) -> &[Sleeper]
         ensures { result.now ≡ sleepers_of self.now condition }
     {
         sleepers_on(&self.sleepers, condition)
     }
 
-    /// The calls that its seats ended, all together, or `u64::MAX` if there are more.
+    /// Returns the number of calls that all seats ended, or `u64::MAX` if there are more.
     pub fn calls(&self) -> u64
         ensures { result ≡ min (based self.now).calls u64.MAX }
     {
         calls_of(&self.seats, self.header.seats)
     }
 
-    /// Whether so many entries more may be folded.
+    /// Returns whether `more` entries more may be folded.
     pub(crate) fn may_fold(&self, more: u64) -> bool
         requires { self.now.entries ≤ MOST_FOLDED }
         ensures { IsTrue result ↔ (self.now.entries + more ≤ MOST_FOLDED) }
@@ -138,7 +139,7 @@ impl Base {
         u128::from(more) <= MOST_FOLDED - self.entries
     }
 
-    /// Takes up one entry more, as a fold goes on. It takes no memory.
+    /// Folds one entry more into the base. It allocates nothing.
     pub(crate) fn add(&mut self, entry: Entry)
         requires { HasPlaces self.old entry }
         ensures { self.new ≡ next_base self.old entry }
@@ -156,7 +157,7 @@ impl Base {
     }
 }
 
-/// The calls that the first `count` seats ended, all together, or `u64::MAX` if there are more.
+/// Returns the number of calls that the first `count` seats ended, or `u64::MAX` if there are more.
 fn calls_of(seats: &[SeatBase], count: u16) -> u64
     ensures { result ≡ min (total count (λ i. (get_or seats.now i nothing).calls)) u64.MAX }
 {
@@ -176,7 +177,7 @@ fn calls_at(seats: &[SeatBase], seat: u16) -> u64
     }
 }
 
-/// The number that a latch counts down from.
+/// Returns the number that a latch counts down from, or 0 for any other object.
 pub fn opening_count(object: Object) -> u32
     ensures { result ≡ opening_count object }
 {
@@ -186,7 +187,7 @@ pub fn opening_count(object: Object) -> u32
     }
 }
 
-/// An empty list for each condition, with a place for each seat.
+/// Returns an empty list for each condition, with a place for each seat.
 fn no_sleepers(alloc: Global, conditions: u8, seats: u16) -> Result<Vec<Vec<Sleeper>>, Fault>
     ensures empty { IfOk result (λ lists. map (λ list. list.items) lists.items
         ≡ each_below conditions (λ c. [])) }

@@ -1,4 +1,4 @@
-//! What one entry makes of each part of a base.
+//! What one entry changes in each part of a base.
 
 ghost use Rattle.std.specs.Prelude.{◌≡◌, ℕ, ◌+◌, ◌<◌, ◌≤◌, ◌^◌, [], ◌∷◌, ◌++◌, length, map, drop, filter, get_or, set, All, if◌then◌else◌, vec_len, vec_capacity};
 ghost use Rattle.history.specs.declared.entry.Word.TheVariants.{Await, Lapse, Queued};
@@ -16,7 +16,7 @@ use crate::entry::{End, Entry, Mode, Word};
 use crate::header::Object;
 use crate::holds::holds_after;
 
-/// What the entry's seat has behind it.
+/// Returns the calls and holds of the entry's seat after the entry.
 pub(crate) fn seat_then(object: Object, entry: Entry, has: SeatBase) -> SeatBase
     requires calls { has.calls + 1 < 2 ^ 64 }
     requires exclusive { (seat_then object entry has).exclusive < 2 ^ 32 }
@@ -32,7 +32,6 @@ pub(crate) fn seat_then(object: Object, entry: Entry, has: SeatBase) -> SeatBase
     then
 }
 
-/// The holds of a seat in a mode.
 fn holds_of(has: SeatBase, mode: Mode) -> u128
     ensures { result ≡ holds_of has mode }
 {
@@ -42,7 +41,7 @@ fn holds_of(has: SeatBase, mode: Mode) -> u128
     }
 }
 
-/// The permits that an entry releases beyond those that its seat held.
+/// Returns how many permits the entry releases beyond those that its seat held.
 pub(crate) fn beyond(object: Object, entry: Entry, has: SeatBase) -> u128
     ensures { result
         ≡ (if is_semaphore object then beyond entry.word entry.n (holds_of has entry.mode) else 0) }
@@ -55,7 +54,7 @@ pub(crate) fn beyond(object: Object, entry: Entry, has: SeatBase) -> u128
     }
 }
 
-/// The count of a latch behind an entry.
+/// Returns the count of a latch after an entry with this word.
 pub(crate) fn count_then(word: Word, count: u32) -> u32
     ensures { result ≡ count_then word count }
 {
@@ -65,14 +64,14 @@ pub(crate) fn count_then(word: Word, count: u32) -> u32
     }
 }
 
-/// Whether a seat leaves the line by an entry of this word.
+/// Returns whether an entry with this word takes its seat out of the queue.
 fn ends_arrival(word: Word) -> bool
     ensures { result ≡ ends_arrival word }
 {
     matches!(word, Word::Granted | Word::Left | Word::Back)
 }
 
-/// Lets the entry's seat leave the line where the entry ends its wait.
+/// Takes the entry's seat out of the queue, if the entry ends its wait there.
 pub(crate) fn leave_line(line: &mut Vec<Standing>, entry: Entry)
     ensures items { line.new.items ≡ filter (stays_there entry) line.old.items }
     ensures capacity { vec_capacity line.new ≡ vec_capacity line.old }
@@ -81,7 +80,7 @@ pub(crate) fn leave_line(line: &mut Vec<Standing>, entry: Entry)
     line.retain(|standing| !(leaves && entry.seat == standing.who.seat));
 }
 
-/// Has those stand in line whom the entry puts there, of the sleepers on its condition.
+/// Appends the waiters that the entry adds to the queue. `asleep` are the waiters of its condition.
 pub(crate) fn join_line(line: &mut Vec<Standing>, asleep: &[Sleeper], entry: Entry)
     requires { length (line.old.items ++ joins_from entry.word entry asleep.now) ≤ vec_capacity line.old }
     ensures items { line.new.items ≡ line.old.items ++ joins_from entry.word entry asleep.now }
@@ -99,7 +98,7 @@ pub(crate) fn join_line(line: &mut Vec<Standing>, asleep: &[Sleeper], entry: Ent
     }
 }
 
-/// One that waits for what its acquire asks for.
+/// Returns the waiter that a `Queued` entry adds.
 fn queued(entry: Entry) -> Standing
     ensures { result ∷ [] ≡ joins_from Queued entry [] }
 {
@@ -116,7 +115,7 @@ fn queued(entry: Entry) -> Standing
     }
 }
 
-/// One that comes back from a condition asks for X and 1.
+/// Returns a waiter that comes back from a condition: it asks for X and 1.
 fn coming_back(seat: u16) -> Arrival
     ensures { result ≡ coming_back seat }
 {
@@ -128,7 +127,8 @@ fn coming_back(seat: u16) -> Arrival
     }
 }
 
-/// One whose sleep ended by a timeout or an interrupt.
+/// Returns the waiter that a `Lapse` entry adds: its wait on the condition ended by a timeout or an
+/// interrupt.
 fn lapsed(entry: Entry, asleep: &[Sleeper]) -> Standing
     ensures { result ∷ [] ≡ joins_from Lapse entry asleep.now }
 {
@@ -140,7 +140,7 @@ fn lapsed(entry: Entry, asleep: &[Sleeper]) -> Standing
     }
 }
 
-/// The holds that a sleeper gave up.
+/// Returns the holds that a seat gave up to wait on the condition.
 fn gave_up(asleep: &[Sleeper], seat: u16) -> u32
     ensures { (c : ℕ) → result ≡ (or_awake (sleep_on c seat asleep.now)).holds }
 {
@@ -152,7 +152,7 @@ fn gave_up(asleep: &[Sleeper], seat: u16) -> u32
     0
 }
 
-/// Has these sleepers of a condition stand in line, in their order.
+/// Appends these waiters of a condition to the queue, in their order.
 fn stand_signalled(line: &mut Vec<Standing>, condition: u8, woken: &[Sleeper])
     requires { vec_len line.old + length woken.now ≤ vec_capacity line.old }
     ensures items { line.new.items ≡ line.old.items ++ map (signalled_on condition) woken.now }
@@ -168,7 +168,7 @@ fn stand_signalled(line: &mut Vec<Standing>, condition: u8, woken: &[Sleeper])
     }
 }
 
-/// Who sleeps on a condition; nobody sleeps on one that the object lacks.
+/// Returns the waiters of a condition; none if the object lacks the condition.
 pub(crate) fn sleepers_on(sleepers: &[Vec<Sleeper>], condition: u8) -> &[Sleeper]
     ensures { result.now ≡ get_or (map (λ list. list.items) sleepers.now) condition [] }
 {
@@ -178,9 +178,9 @@ pub(crate) fn sleepers_on(sleepers: &[Vec<Sleeper>], condition: u8) -> &[Sleeper
     }
 }
 
-/// Has the lists of sleepers follow an entry.
+/// Updates the lists of the conditions for one entry.
 pub(crate) fn follow_sleepers(sleepers: &mut Vec<Vec<Sleeper>>, entry: Entry)
-    // Where it goes to sleep, each list has a number of places above that of those who sleep there.
+    // If the entry adds a waiter, each list has more places than the condition has waiters.
     requires { entry.word ≡ Await → (n : ℕ)
         × (length (get_or (map (λ list. list.items) sleepers.old.items) entry.at []) < n)
         × All (λ list. vec_capacity list ≡ n) sleepers.old.items }
@@ -196,7 +196,7 @@ pub(crate) fn follow_sleepers(sleepers: &mut Vec<Vec<Sleeper>>, entry: Entry)
     }
 }
 
-/// Has those who sleep on the entry's condition follow it.
+/// Updates the list of the entry's condition.
 fn follow_asleep(asleep: &mut Vec<Sleeper>, entry: Entry)
     requires { entry.word ≡ Await → vec_len asleep.old < vec_capacity asleep.old }
     ensures items { asleep.new.items ≡ sleepers_then entry.word entry asleep.old.items }
@@ -214,7 +214,7 @@ fn follow_asleep(asleep: &mut Vec<Sleeper>, entry: Entry)
     }
 }
 
-/// Removes so many sleepers, or all where there are fewer, from the front of a list.
+/// Removes the first `most` waiters of a list, or all if there are fewer.
 fn drop_front(asleep: &mut Vec<Sleeper>, most: usize)
     ensures items { asleep.new.items ≡ drop most asleep.old.items }
     ensures capacity { vec_capacity asleep.new ≡ vec_capacity asleep.old }

@@ -23,11 +23,11 @@ const _: () = prove!(size_of::<Entry>() <= 12);
 
 /// The entries of a history in their order, at most `cap` of them.
 ///
-/// They stand in pages of 1,024 places. A page is reserved once, and neither moves nor grows: only the list
-/// of pages does. So no call ever copies an entry again.
+/// They are kept in pages of 1,024 places. A page is reserved once, and neither moves nor grows: only the
+/// list of pages does. So no call ever copies an entry again.
 ///
-/// Before an entry is added, [`make_room`](History::make_room) reserves its place. Room for `owed` entries
-/// more stays reserved: those which the history owes to the calls that it has let in, so that none of them
+/// Before an entry is added, [`make_room`](History::make_room) reserves its place. Room for `owed` more
+/// entries stays reserved. These are the entries by which the calls already let in will end, so none of them
 /// ever lacks a place or memory.
 #[derive(Debug, Drop)]
 pub struct History {
@@ -58,7 +58,7 @@ impl Model for History {
 }
 
 impl History {
-    /// An empty history. It takes no memory.
+    /// Returns an empty history. It allocates nothing.
     pub fn open(alloc: Global, cap: u32) -> Self
         ensures { result ≡ record { cap = cap; base = None; entries = []; owed = 0; places = 0 } }
     {
@@ -71,7 +71,7 @@ impl History {
         }
     }
 
-    /// An empty history on a base. It takes no memory.
+    /// Returns an empty history on a base. It allocates nothing.
     pub fn open_on(cap: u32, base: Base) -> Self
         ensures { result ≡ record { cap = cap; base = Some base; entries = []; owed = 0; places = 0 } }
     {
@@ -81,14 +81,14 @@ impl History {
         history
     }
 
-    /// What the entries that were folded left, where the history began on a base.
+    /// Returns the state that the folded entries left, if the history began on a base.
     pub fn base(&self) -> Option<&Base>
         ensures { option_copied result ≡ self.now.base }
     {
         self.base.as_ref()
     }
 
-    /// How many entries there are.
+    /// Returns how many entries there are.
     pub fn len(&self) -> u64
         ensures value { result ≡ length self.now.entries }
         ensures within_cap { result ≤ self.now.cap }
@@ -103,14 +103,14 @@ impl History {
         self.pages.len() == 0
     }
 
-    /// The greatest number of entries.
+    /// Returns the greatest number of entries.
     pub fn cap(&self) -> u32
         ensures { result ≡ self.now.cap }
     {
         self.cap
     }
 
-    /// For how many entries more room stays reserved.
+    /// Returns for how many more entries room stays reserved.
     pub fn owed(&self) -> u64
         ensures value { result ≡ self.now.owed }
         ensures reserved { length self.now.entries + result ≤ self.now.places }
@@ -119,8 +119,8 @@ impl History {
         self.owed
     }
 
-    /// The number of entries that the reserved memory holds, those that stand in it among them. These are
-    /// whole pages, so it may be above the cap, by less than a page.
+    /// Returns the number of entries that the reserved memory holds, with those that are in it. Memory is
+    /// reserved in whole pages, so the number may pass the cap by less than a page.
     pub fn places(&self) -> u64
         ensures value { result ≡ self.now.places }
         ensures bounded { result < self.now.cap + 1024 }
@@ -128,8 +128,8 @@ impl History {
         self.pages.places()
     }
 
-    /// The number of calls that ended: those of the base, and those of the entries. It is `u64::MAX` if there
-    /// are more, which there never are on a good base.
+    /// Returns the number of calls that ended: those of the base, and those of the entries. It is `u64::MAX`
+    /// if there are more, which a good base rules out.
     pub fn calls(&self) -> u64
         ensures { result ≡ min (all_calls self.now) u64.MAX }
     {
@@ -139,21 +139,21 @@ impl History {
         }
     }
 
-    /// The entry of a number, counted from 0, the oldest.
+    /// Returns the entry of a number. The oldest has number 0.
     pub fn get(&self, number: u64) -> Option<Entry>
         ensures { result ≡ slice_get (reverse self.now.entries) number }
     {
         self.pages.get(number)
     }
 
-    /// Reserves places for as many entries more, beside those owed: as many pages as all these take, and no
-    /// more.
+    /// Reserves places for `needed` more entries, beyond those owed, in no more pages than all these take.
     ///
     /// - `HistoryFull`: they don't fit within the cap.
-    /// - `OutOfMemory`: a page, or the list of pages, was refused. It comes only where places lack.
+    /// - `OutOfMemory`: a page, or the list of pages, was refused. It is returned only if places were
+    ///   lacking.
     ///
-    /// After a fault nothing has changed, and no page is kept. Where no place lacks, as with 0, no memory is
-    /// taken.
+    /// After a fault nothing has changed, and no page is kept. If no place was lacking, as with 0, nothing is
+    /// allocated.
     pub fn make_room(&mut self, needed: u64) -> Result<(), Fault>
         ensures full { IsErrOf result HistoryFull
             ↔ (self.old.cap < length self.old.entries + self.old.owed + needed) }
@@ -181,7 +181,7 @@ impl History {
         self.reserve(taken + needed)
     }
 
-    /// Reserves the pages that so many entries take, those that stand among them.
+    /// Reserves the pages that the first `entries` entries take, with those that are there already.
     fn reserve(&mut self, entries: u64) -> Result<(), Fault>
         requires { entries ≤ self.old.cap }
         ensures places { OnOk result (self.new.places ≡ max self.old.places (whole_pages entries)) }
@@ -196,8 +196,8 @@ impl History {
         }
     }
 
-    /// Adds an entry at a place that is reserved, and says how much room stays owed from then on. It takes
-    /// no memory.
+    /// Adds an entry at a place that is reserved, and sets how much room is owed after it. It allocates
+    /// nothing.
     #[inline(always)]
     pub fn add(&mut self, entry: Entry, owed: u64)
         requires reserved { length self.old.entries + 1 + owed ≤ self.old.places }
@@ -212,7 +212,7 @@ impl History {
         self.add_on_next_page(entry, owed);
     }
 
-    /// Adds an entry where the page at hand is full.
+    /// Adds an entry when the page at hand is full.
     #[cold]
     #[inline(never)]
     fn add_on_next_page(&mut self, entry: Entry, owed: u64)
@@ -225,10 +225,10 @@ impl History {
         self.calls += u64::from(ends_call(entry.word));
     }
 
-    /// Folds all entries into the base, and answers how many. It takes no memory. What is reserved and what
-    /// is owed stay.
+    /// Folds all entries into the base, and returns how many there were. It allocates nothing. What is
+    /// reserved and what is owed stay.
     ///
-    /// `TrimFull`: more entries would be folded than there may be. Then nothing has changed.
+    /// `TrimFull`: the base's limit of folded entries would be passed. Then nothing has changed.
     pub fn fold(&mut self) -> Result<u64, Fault>
         // It began on a base, and its entries are legal from there.
         requires { IsSomeAnd self.old.base (λ base. MayFold base self.old.entries) }
@@ -238,7 +238,7 @@ impl History {
           entries = [];
         }) }
 
-        // The base may fold what comes next.
+        // The base may fold the entries that come next.
         ensures goes_on { OnOk result (IsSomeAnd self.new.base (λ base. MayFold base [])) }
         ensures full { IsErrOf result TrimFull
             ↔ IsSomeAnd self.old.base (λ base. MOST_FOLDED < base.entries + length self.old.entries) }
@@ -254,7 +254,7 @@ impl History {
     }
 }
 
-/// Whether the word ends a call: all but those that leave its seat waiting.
+/// Returns whether an entry with this word ends a call. All do but those after which the seat waits.
 pub fn ends_call(word: Word) -> bool
     ensures { result ≡ ends_call word }
 {

@@ -2,8 +2,8 @@
 
 use crate::fault::Fault;
 
-/// How something is asked for and held: a lock and the write side of a read-write lock are held
-/// exclusively (X), its read side, permits and a latch's gate are shared (S).
+/// How an object is asked for and held. A lock and the write side of a read-write lock are held exclusively
+/// (X). The read side, the permits of a semaphore and a latch's gate are shared (S).
 #[derive(Clone, Copy, Debug, PartialEq, Eq)]
 pub enum Mode {
     X,
@@ -19,34 +19,34 @@ pub enum End {
     Signalled,
 }
 
-/// What happened.
+/// The kind of an entry.
 #[derive(Clone, Copy, Debug, PartialEq, Eq)]
 pub enum Word {
-    /// A new acquire, timed or untimed, took at once.
+    /// A new acquire, timed or untimed, succeeded at once.
     Got,
-    /// An untimed try took at once.
+    /// An untimed try succeeded at once.
     TryGot,
-    /// A new acquire joined the line.
+    /// A new acquire joined the queue.
     Queued,
-    /// An acquire that stood in line took.
+    /// An acquire that waited in the queue succeeded.
     Granted,
-    /// A try, or an acquire with no time to wait, took nothing.
+    /// A try, or an acquire with a timeout of zero, failed.
     Missed,
-    /// An acquire that stood in line gave up, by a timeout or an interrupt.
+    /// An acquire that waited in the queue gave up, by a timeout or an interrupt.
     Left,
-    /// A hold, or `n` permits, were given back.
+    /// A hold, or `n` permits, were released.
     Gave,
     /// A call was refused, and no holding changed.
     Refused(Fault),
-    /// All exclusive holds, `n` of them, were given up, and the seat sleeps on a condition.
+    /// All exclusive holds, `n` of them, were released, and the seat waits on a condition.
     Await,
-    /// A sleeper joined the line by a timeout or an interrupt.
+    /// A wait on a condition ended by a timeout or an interrupt, and the waiter joined the queue.
     Lapse,
-    /// The longest sleeper of a condition was moved to the line; `n` is 0 where nobody slept.
+    /// The longest waiter of a condition moved to the queue; `n` is 0 if nobody waited there.
     Signal,
-    /// All `n` sleepers of a condition were moved to the line.
+    /// All `n` waiters of a condition moved to the queue.
     SignalAll,
-    /// An await ended with its `n` holds restored.
+    /// An await ended, and its `n` holds are held again.
     Back,
     /// A latch's count was lowered, or stayed at 0.
     Counted,
@@ -54,16 +54,16 @@ pub enum Word {
     Drained,
 }
 
-/// What one seat did, and what came of it.
+/// One event of a history: what a seat did, and how it ended.
 #[derive(Clone, Copy, Debug, PartialEq, Eq)]
 pub struct Entry {
-    /// Permits, holds or sleepers, as the word says; 1 for the acquires and gives of a lock.
+    /// The number of permits, holds or waiters, by the word. For an acquire or a release of a lock it is 1.
     pub n: u32,
     /// The thread, as a number from 0.
     pub seat: u16,
     pub word: Word,
     pub mode: Mode,
-    /// The condition of the five words of conditions, 0 elsewhere.
+    /// The condition, for the five words that concern one; 0 for all others.
     pub at: u8,
     pub end: End,
 }

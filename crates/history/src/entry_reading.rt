@@ -1,4 +1,4 @@
-//! Entries read from the words of a line.
+//! Reading entries from the words of a line.
 
 ghost use Rattle.std.specs.Prelude.{◌≡◌, ◌≤◌, ◌∷◌, ◌++◌, [], ℕ, List, codes, decimal, bytes_eq, false, IfSome, IfNone, MatchOption};
 ghost use Rattle.history.specs.declared.entry.End.TheVariants as end;
@@ -16,7 +16,7 @@ use crate::fault::Fault;
 use crate::limits::{LAST_CONDITION, MOST_AMOUNT};
 use crate::words::Words;
 
-/// How a call gave up.
+/// Reads how an acquire gave up.
 #[inline(always)]
 fn given_up(words: &mut Words<'_>) -> Option<End>
     ensures is { with_rest result words.new ≡ given_up_at words.old }
@@ -32,7 +32,7 @@ fn given_up(words: &mut Words<'_>) -> Option<End>
     }
 }
 
-/// How a call came back.
+/// Reads how an await ended.
 #[inline(always)]
 fn come_back(words: &mut Words<'_>) -> Option<End>
     ensures is { with_rest result words.new ≡ come_back_at words.old }
@@ -50,7 +50,7 @@ fn come_back(words: &mut Words<'_>) -> Option<End>
     }
 }
 
-/// A fault that is recorded.
+/// Reads a fault that is recorded.
 fn recorded(words: &mut Words<'_>) -> Option<Fault>
     ensures is { with_rest result words.new ≡ recorded_at words.old }
     ensures found { IfSome result (λ f. IsRecorded f × (words.old ≡ fault_name f ∷ words.new)) }
@@ -71,7 +71,7 @@ fn recorded(words: &mut Words<'_>) -> Option<Fault>
     }
 }
 
-/// A mode and an amount.
+/// Reads a mode and an amount.
 #[tactic(auto, unfolding(crate::specs::EntryReading::asked_at))]
 #[inline(always)]
 fn asked(words: &mut Words<'_>) -> Option<(Mode, u32)>
@@ -93,7 +93,7 @@ fn condition(words: &mut Words<'_>) -> Option<u8>
     Some(words.number(0, LAST_CONDITION as u64)? as u8)
 }
 
-/// A condition and an amount.
+/// Reads a condition and an amount.
 #[tactic(auto, unfolding(crate::specs::EntryReading::sleepers_at))]
 #[inline(always)]
 fn sleepers(words: &mut Words<'_>) -> Option<(u8, u32)>
@@ -106,7 +106,7 @@ fn sleepers(words: &mut Words<'_>) -> Option<(u8, u32)>
     Some((at, n as u32))
 }
 
-/// An entry that spells a mode and an amount.
+/// Returns the entry with this mode and amount.
 #[inline(always)]
 fn in_mode(seat: u16, word: Word, asked: (Mode, u32)) -> Entry
     ensures { result ≡ in_mode seat word asked }
@@ -122,7 +122,7 @@ fn in_mode(seat: u16, word: Word, asked: (Mode, u32)) -> Entry
     }
 }
 
-/// An entry that spells a condition and an amount.
+/// Returns the entry with this condition and amount.
 #[inline(always)]
 fn on_condition(seat: u16, word: Word, slept: (u8, u32)) -> Entry
     ensures { result ≡ on_condition seat word slept }
@@ -203,7 +203,7 @@ fn back(words: &mut Words<'_>, seat: u16) -> Option<Entry>
     })
 }
 
-/// An entry of an object that is held shared alone, with an amount in this range.
+/// Reads an entry of an object that has shared mode alone, with an amount in this range.
 #[tactic(auto, unfolding(crate::specs::EntryReading::shared_at))]
 fn shared(words: &mut Words<'_>, seat: u16, word: Word, least: u64, most: u64) -> Option<Entry>
     requires { most ≤ MOST_AMOUNT }
@@ -216,7 +216,7 @@ fn shared(words: &mut Words<'_>, seat: u16, word: Word, least: u64, most: u64) -
     Some(in_mode(seat, word, (Mode::S, n as u32)))
 }
 
-/// What an entry says that spells a condition and an amount alone, by its name.
+/// Returns the word that this name spells, if a condition and an amount follow that word.
 #[tactic(auto, unfolding(crate::specs::EntryReading::named_entry_at))]
 #[inline(always)]
 fn waking(name: &[u8]) -> Option<Word>
@@ -238,7 +238,7 @@ fn waking(name: &[u8]) -> Option<Word>
     }
 }
 
-/// An entry of this seat, behind its name: those with words of their own.
+/// Reads the rest of an entry after its name, for the words with a form of their own.
 #[tactic(auto, unfolding(crate::specs::EntryReading::named_entry_at))]
 fn named_entry(words: &mut Words<'_>, seat: u16, name: &[u8]) -> Option<Entry>
     ensures is { with_rest result words.new ≡ named_entry_at seat name.now words.old }
@@ -265,7 +265,7 @@ fn named_entry(words: &mut Words<'_>, seat: u16, name: &[u8]) -> Option<Entry>
     }
 }
 
-/// What an entry says that spells a mode and an amount alone, by its name.
+/// Returns the word that this name spells, if a mode and an amount follow that word.
 #[tactic(auto, unfolding(crate::specs::EntryReading::entry_at))]
 #[inline(always)]
 fn asking(name: &[u8]) -> Option<Word>
@@ -298,7 +298,7 @@ impl<'a> Words<'a> {
     ghost use Rattle.history.specs.EntryWords.{entry_words, IsWritten};
     ghost use Rattle.history.specs.Reading.{with_rest};
 
-    /// Takes the words of an entry, if they come next; it is then one of this seat.
+    /// Takes the words of an entry of this seat, if they come next.
     #[tactic(auto, unfolding(crate::specs::EntryReading::entry_at))]
     pub fn entry(&mut self, seat: u16) -> Option<Entry>
         ensures is { with_rest result self.new ≡ entry_at seat self.old }
@@ -319,7 +319,7 @@ impl Entry {
     ghost use Rattle.history.specs.EntryWords.{entry_words, IsWritten};
     ghost use Rattle.history.specs.Text.{line_of};
 
-    /// The entry of this seat whose words the bytes are.
+    /// Returns the entry of this seat that the bytes spell.
     pub fn read_words(seat: u16, bytes: &[u8]) -> Option<Entry>
         ensures found { IfSome result (λ e. IsWritten e × (e.seat ≡ seat)
             × (bytes.now ≡ line_of (entry_words e))) }

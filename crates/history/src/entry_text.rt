@@ -1,4 +1,4 @@
-//! The words of an entry.
+//! Writing the words of an entry.
 
 ghost use Rattle.std.specs.Prelude.{◌≡◌, ◌+◌, ◌≤◌, ◌∷◌, ◌++◌, [], take, drop, length, codes, decimal};
 ghost use Rattle.history.specs.Text.{line_of};
@@ -10,7 +10,7 @@ use crate::limits::{LAST_CONDITION, MOST_AMOUNT};
 use crate::number::spell;
 use crate::pieces::{put_byte, put_bytes};
 
-/// No entry has more bytes of words.
+/// The most bytes that the words of an entry have.
 const MOST_WORDS: usize = 64;
 
 impl Mode {
@@ -25,7 +25,7 @@ impl Mode {
         matches!(self, Mode::X)
     }
 
-    /// The word for it in a text, with a space on either side.
+    /// Returns its word in a text, with a space on either side.
     #[inline(always)]
     fn spaced(self) -> &'static [u8]
         ensures { result.now ≡ 32 ∷ mode_word self ++ 32 ∷ [] }
@@ -48,21 +48,21 @@ impl End {
         matches!(self, End::None)
     }
 
-    /// Whether a call gave up in this way.
+    /// Returns whether an acquire can give up in this way.
     fn gave_up(self) -> bool
         ensures { IsTrue result ↔ GaveUp self }
     {
         matches!(self, End::Timeout | End::Interrupt)
     }
 
-    /// Whether an await came back in this way.
+    /// Returns whether an await can end in this way.
     fn came_back(self) -> bool
         ensures { IsTrue result ↔ CameBack self }
     {
         !matches!(self, End::None)
     }
 
-    /// The word for it in a text, with a space before it.
+    /// Returns its word in a text, with a space before it.
     #[inline(always)]
     fn behind_space(self) -> &'static [u8]
         ensures { result.now ≡ 32 ∷ end_word self }
@@ -81,7 +81,8 @@ impl Entry {
     ghost use Rattle.history.specs.Text.{line_of};
     ghost use Rattle.history.specs.EntryWords.{entry_words, IsAsked, IsOfCondition, IsSpelt, IsWritten};
 
-    /// Whether words spell it: the fields that the words of its kind leave out are as they take them to be.
+    /// Returns whether the words of an entry spell it: each field that they leave out has the value that a
+    /// reader gives it.
     pub fn is_spelt(&self) -> bool
         ensures { IsTrue result ↔ IsSpelt self.now }
     {
@@ -107,14 +108,15 @@ impl Entry {
         }
     }
 
-    /// Whether it may stand in a history text: it is spelt, and its amount and condition are within the limits.
+    /// Returns whether a history text may have it: words spell it, and its amount and condition are within
+    /// the limits.
     pub fn is_written(&self) -> bool
         ensures { IsTrue result ↔ IsWritten self.now }
     {
         self.is_spelt() && self.n <= MOST_AMOUNT && self.at <= LAST_CONDITION
     }
 
-    /// Appends the words that stand behind the seat.
+    /// Appends the words that follow the seat.
     pub fn write_words(&self, out: &mut Vec<u8>) -> Result<(), Fault>
         requires { IsSpelt self.now }
         ensures ok { OnOk result (out.new.items ≡ out.old.items ++ line_of (entry_words self.now)) }
@@ -132,7 +134,7 @@ impl Entry {
         }
     }
 
-    /// Puts the words that stand behind the seat from a place on, and returns the place behind them.
+    /// Writes the words that follow the seat, from position `at` on. Returns the position after them.
     #[tactic(auto, using(crate::proofs::PieceFronts::rest_behind))]
     #[inline(always)]
     pub fn spell_words(&self, line: &mut [u8], at: usize) -> usize
@@ -171,7 +173,7 @@ impl Entry {
         }
     }
 
-    /// The same of asking and giving: a mode and an amount follow the word.
+    /// As `spell_words`, for the words with a mode and an amount.
     #[tactic(auto, using(crate::proofs::PieceFronts::rest_behind))]
     #[inline(always)]
     fn spell_asked(&self, line: &mut [u8], at: usize) -> usize
@@ -194,7 +196,7 @@ impl Entry {
         }
     }
 
-    /// The same of sleeping on a condition and of being woken there.
+    /// As `spell_words`, for the words with a condition and an amount.
     #[tactic(auto, using(crate::proofs::PieceFronts::rest_behind))]
     #[inline(always)]
     fn spell_slept(&self, line: &mut [u8], at: usize) -> usize
@@ -224,7 +226,8 @@ impl Entry {
     }
 }
 
-/// Puts a name, a mode and an amount from a place on: what is asked for most, X of 1, in one piece.
+/// Writes a name, a mode and an amount from position `at` on. The most frequent case, X and 1, is written in
+/// one piece.
 #[tactic(auto, using(crate::proofs::PieceFronts::rest_behind))]
 #[inline(always)]
 fn put_asked(line: &mut [u8], at: usize, name: &[u8], once: &[u8], mode: Mode, n: u32) -> usize
@@ -241,7 +244,7 @@ fn put_asked(line: &mut [u8], at: usize, name: &[u8], once: &[u8], mode: Mode, n
     put_amount(line, at, name, mode, n)
 }
 
-/// Puts a name, a mode and an amount from a place on, each by itself.
+/// Writes a name, a mode and an amount from position `at` on, one after another.
 #[tactic(auto, using(crate::proofs::PieceFronts::rest_behind))]
 #[inline(never)]
 fn put_amount(line: &mut [u8], at: usize, name: &[u8], mode: Mode, n: u32) -> usize
@@ -256,7 +259,7 @@ fn put_amount(line: &mut [u8], at: usize, name: &[u8], mode: Mode, n: u32) -> us
     spell(line, amount_at, u64::from(n))
 }
 
-/// Puts a name with its space, a condition and an amount from a place on.
+/// Writes a name with its space, a condition and an amount from position `at` on.
 #[tactic(auto, using(crate::proofs::PieceFronts::rest_behind))]
 #[inline(never)]
 fn put_at(line: &mut [u8], at: usize, name: &[u8], condition: u8, n: u32) -> usize

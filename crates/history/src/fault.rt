@@ -1,16 +1,16 @@
-//! Why a step was refused.
+//! Why a step failed.
 
 use std::alloc::AllocError;
 use std::error::Error;
 use std::fmt;
 
-/// A fault of a step or a call. The first five are recorded as an entry `Refused`; after the others
-/// nothing has changed and nothing is recorded.
+/// The error of a step or a call. The first five are recorded as an entry `Refused`. After any other nothing
+/// has changed and nothing is recorded.
 #[derive(Clone, Copy, Debug, PartialEq, Eq)]
 pub enum Fault {
-    /// A give, await or signal by a seat without the hold.
+    /// A release, await or signal by a seat without the hold.
     NotOwner,
-    /// A hold limit.
+    /// The seat, or all seats together, have the greatest number of holds.
     TooManyHolds,
     /// A release past `MOST_AMOUNT` free permits.
     TooManyPermits,
@@ -18,7 +18,7 @@ pub enum Fault {
     Interrupted,
     /// An await by an owner with read holds.
     HoldsRead,
-    /// A step that isn't one of the seat's phase.
+    /// A step that doesn't fit the seat's phase.
     OutOfPhase,
     /// A condition that the object doesn't have.
     NoSuchCondition,
@@ -28,9 +28,9 @@ pub enum Fault {
     WrongMode,
     /// The history has no room for the entry and for what it would owe.
     HistoryFull,
-    /// Memory was refused.
+    /// An allocation failed.
     OutOfMemory,
-    /// More entries would be folded into a base than there may be.
+    /// The base would have more folded entries than the limit allows.
     TrimFull,
 }
 
@@ -38,7 +38,7 @@ impl Fault {
     ghost use Rattle.std.specs.Prelude.{◌≡◌};
     ghost use Rattle.history.specs.Fault.{fault_number, fault_name};
 
-    /// Its number in the table of faults, from 1; 1 to 5 are recorded.
+    /// Returns its number in the table of faults, from 1. Faults 1 to 5 are recorded.
     pub fn number(self) -> u8
         ensures { result ≡ fault_number self }
     {
@@ -58,7 +58,7 @@ impl Fault {
         }
     }
 
-    /// Its name, the word for it in a text.
+    /// Returns its name, which is also its word in a text.
     pub fn name(self) -> &'static str
         ensures { result.now ≡ fault_name self }
     {

@@ -1,4 +1,4 @@
-//! Entries, folded into a base.
+//! Folding entries into a base.
 
 ghost use Rattle.std.specs.Prelude.{◌≡◌, ◌+◌, ◌<◌, ◌≤◌, ◌↔◌, ◌++◌, length, reverse, IsSomeAnd, IsTrue, IsFalse};
 ghost use Rattle.std.specs.Option.{option_map};
@@ -12,8 +12,8 @@ use crate::entry::Entry;
 use crate::page::Page;
 use crate::pages::Pages;
 
-/// Folds all these entries, `count` of them, into the base. Returns false, and changes nothing, if there is no
-/// base or more would be folded than may be.
+/// Folds all `count` entries into the base. Returns false, and changes nothing, if there is no base or its
+/// limit would be passed.
 pub(crate) fn fold_onto(base: &mut Option<Base>, entries: &Pages, count: u64) -> bool
     requires may { IsSomeAnd base.old (λ base. MayFold base (reverse entries.now.entries)) }
     requires count { count ≡ length (reverse entries.now.entries) }
@@ -35,7 +35,7 @@ pub(crate) fn fold_onto(base: &mut Option<Base>, entries: &Pages, count: u64) ->
     }
 }
 
-/// Folds the entries of pages into a base, and then those at hand.
+/// Folds the entries of these pages into a base, and then those at hand.
 fn fold_parts(base: &mut Base, pages: &[Page], hand: &[Entry])
     requires may { MayFold base.old (reverse (in_pages pages.now ++ hand.now)) }
     requires few { base.old.entries + length (reverse (in_pages pages.now ++ hand.now)) ≤ MOST_FOLDED }
@@ -45,7 +45,7 @@ fn fold_parts(base: &mut Base, pages: &[Page], hand: &[Entry])
     fold_entries(base, hand);
 }
 
-/// Folds the entries of pages into a base, page by page.
+/// Folds the entries of these pages into a base, page by page.
 fn fold_pages(base: &mut Base, pages: &[Page])
     requires may { MayFold base.old (reverse (in_pages pages.now)) }
     requires few { base.old.entries + length (reverse (in_pages pages.now)) ≤ MOST_FOLDED }

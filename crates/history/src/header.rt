@@ -1,17 +1,17 @@
-//! What a history is about.
+//! The header of a history: the object and its numbers.
 
 ghost use Rattle.std.specs.Prelude.{◌↔◌, IsTrue};
 
 use crate::limits::{LEAST_CAP, MOST_AMOUNT, MOST_CONDITIONS, MOST_SEATS};
 
-/// Which new calls stand behind those who wait. A reentrant call never does.
+/// Which new calls queue up while others wait. A reentrant call never does.
 #[derive(Clone, Copy, Debug, PartialEq, Eq)]
 pub enum Policy {
-    /// Acquires, timed or not. An untimed try passes those who wait, as in Java.
+    /// Acquires, timed or not. An untimed try barges past the waiters, as in Java.
     Fair,
-    /// None, but for a read where the first in line asks to write.
+    /// None, except a read while the first waiter asks to write.
     NonFair,
-    /// Acquires and tries: nobody passes. Java has no such policy.
+    /// Acquires and tries: nobody barges. Java has no such policy.
     Strict,
 }
 
@@ -19,7 +19,7 @@ impl Policy {
     ghost use Rattle.std.specs.Prelude.{◌≡◌};
     ghost use Rattle.history.specs.Object.{is_fair_policy, is_strict_policy};
 
-    /// Whether a line holds back each new acquire, timed or not, that isn't reentrant.
+    /// Returns whether a new acquire, timed or not, queues up while others wait, unless it is reentrant.
     #[inline(always)]
     pub fn is_fair(self) -> bool
         ensures { result ≡ is_fair_policy self }
@@ -30,7 +30,7 @@ impl Policy {
         }
     }
 
-    /// Whether a line holds back an untimed try too.
+    /// Returns whether an untimed try fails while others wait.
     #[inline(always)]
     pub fn is_strict(self) -> bool
         ensures { result ≡ is_strict_policy self }
@@ -42,8 +42,7 @@ impl Policy {
     }
 }
 
-/// A synchroniser with its opening number: a semaphore's permits, which may be below 0, or a
-/// latch's count.
+/// A synchroniser with its opening number: a semaphore's permits, which may be negative, or a latch's count.
 #[derive(Clone, Copy, Debug, PartialEq, Eq)]
 pub enum Object {
     Lock(Policy),
@@ -52,8 +51,7 @@ pub enum Object {
     Latch(u32),
 }
 
-/// An object, the number of its seats and of its conditions, and the greatest number of entries
-/// of its history.
+/// An object, the numbers of its seats and conditions, and the greatest number of entries of its history.
 #[derive(Clone, Copy, Debug, PartialEq, Eq)]
 pub struct Header {
     pub object: Object,
@@ -69,7 +67,7 @@ impl Object {
     ghost use Rattle.std.specs.Prelude.{◌≡◌};
     ghost use Rattle.history.specs.Object.{is_strict};
 
-    /// Whether a line holds back an untimed try. A latch has no policy, and no tries.
+    /// Returns whether an untimed try fails while others wait. A latch has no policy, and no tries.
     #[inline(always)]
     pub fn is_strict(&self) -> bool
         ensures { result ≡ is_strict self.now }
@@ -86,7 +84,7 @@ impl Object {
 impl Header {
     ghost use Rattle.history.specs.Header.{IsInRange};
 
-    /// Whether each number is one that an object may have.
+    /// Returns whether each number is within the limits of the object.
     pub fn in_range(&self) -> bool
         ensures { IsTrue result ↔ IsInRange self.now }
     {

@@ -19,7 +19,7 @@ use std::alloc::AllocError;
 
 const LARGEST_CAP: u64 = 4_294_967_295;
 
-/// The rest of a lock's header, or a read-write lock's.
+/// Reads the rest of a lock's or read-write lock's header.
 #[tactic(auto, unfolding(crate::specs::HeaderReading::lock_at))]
 fn lock(words: &mut Words<'_>, read_write: bool) -> Option<Header>
     ensures is { with_rest result words.new ≡ lock_at (if read_write then ReadWrite else Lock) words.old }
@@ -104,7 +104,7 @@ impl Header {
     ghost use Rattle.history.specs.Spelling.{part_of};
     ghost use Rattle.history.specs.declared.header.Header.{Header};
 
-    /// The header whose object part the bytes are.
+    /// Returns the header whose object part the bytes are.
     pub fn read_part(part: &[u8]) -> Option<Header>
         ensures found { IfSome result (λ h. IsInRange h × (part.now ≡ part_of h)) }
         ensures none { IfNone result ((h : Header) → IsInRange h → part.now ≢ part_of h) }
@@ -117,7 +117,7 @@ impl Header {
         }
     }
 
-    /// Appends the object part. On an error, which is OutOfMemory, the bytes are as they were.
+    /// Appends the object part. On an error, which is `OutOfMemory`, the bytes are as before.
     pub fn write_part(&self, out: &mut Vec<u8>) -> Result<(), Fault>
         requires { IsInRange self.now }
         ensures ok { OnOk result (out.new.items ≡ out.old.items ++ part_of self.now) }
@@ -134,7 +134,7 @@ impl Header {
         }
     }
 
-    /// Appends the object part, or a front of it.
+    /// Appends the object part. On an error only its first bytes may have been appended.
     fn put_part(&self, out: &mut Vec<u8>) -> Result<(), AllocError>
         ensures ok { OnOk result (out.new.items ≡ out.old.items ++ part_of self.now) }
         ensures err { OnErr result (take (length out.old.items) out.new.items ≡ out.old.items) }
@@ -166,7 +166,7 @@ impl Header {
     }
 }
 
-/// Appends a name with its spaces and a number, or a front of them.
+/// Appends a name with its spaces and a number. On an error only the first bytes may have been appended.
 #[inline(always)]
 fn put_named(out: &mut Vec<u8>, name: &[u8], number: u64) -> Result<(), AllocError>
     ensures ok { OnOk result (out.new.items ≡ out.old.items ++ name.now ++ decimal number) }
@@ -176,7 +176,7 @@ fn put_named(out: &mut Vec<u8>, name: &[u8], number: u64) -> Result<(), AllocErr
     put_number(out, number)
 }
 
-/// Appends the conditions and the cap, or a front of them.
+/// Appends the conditions and the cap. On an error only the first bytes may have been appended.
 fn put_conditions(out: &mut Vec<u8>, conditions: u8, cap: u32) -> Result<(), AllocError>
     ensures ok { OnOk result (out.new.items ≡ out.old.items ++ 32
         ∷ line_of (codes "conditions" ∷ decimal conditions ∷ codes "cap" ∷ decimal cap ∷ [])) }
@@ -186,7 +186,7 @@ fn put_conditions(out: &mut Vec<u8>, conditions: u8, cap: u32) -> Result<(), All
     put_named(out, b" cap ", u64::from(cap))
 }
 
-/// Appends a semaphore's permits and the cap, or a front of them.
+/// Appends a semaphore's permits and the cap. On an error only the first bytes may have been appended.
 fn put_opening_permits(out: &mut Vec<u8>, permits: i32, cap: u32) -> Result<(), AllocError>
     ensures ok { OnOk result (out.new.items ≡ out.old.items ++ 32
         ∷ line_of (codes "permits" ∷ signed_decimal permits ∷ codes "cap" ∷ decimal cap ∷ [])) }
@@ -197,7 +197,7 @@ fn put_opening_permits(out: &mut Vec<u8>, permits: i32, cap: u32) -> Result<(), 
     put_named(out, b" cap ", u64::from(cap))
 }
 
-/// Appends a latch's count and the cap, or a front of them.
+/// Appends a latch's count and the cap. On an error only the first bytes may have been appended.
 fn put_count(out: &mut Vec<u8>, count: u32, cap: u32) -> Result<(), AllocError>
     ensures ok { OnOk result (out.new.items ≡ out.old.items ++ 32
         ∷ line_of (codes "count" ∷ decimal count ∷ codes "cap" ∷ decimal cap ∷ [])) }
@@ -207,7 +207,8 @@ fn put_count(out: &mut Vec<u8>, count: u32, cap: u32) -> Result<(), AllocError>
     put_named(out, b" cap ", u64::from(cap))
 }
 
-/// Appends an object's name with its space, a policy and the seats, or a front of them.
+/// Appends an object's name with its space, a policy and the seats. On an error only the first bytes may have
+/// been appended.
 #[inline(always)]
 fn put_kind(out: &mut Vec<u8>, name: &[u8], policy: Policy, seats: u16) -> Result<(), AllocError>
     ensures ok { OnOk result (out.new.items ≡ out.old.items ++ name.now
@@ -223,7 +224,7 @@ impl Policy {
     ghost use Rattle.std.specs.Prelude.{◌≡◌};
     ghost use Rattle.history.specs.Spelling.{policy_word};
 
-    /// The word for it in a text.
+    /// Returns its word in a text.
     #[inline(always)]
     pub(crate) fn word(self) -> &'static [u8]
         ensures { result.now ≡ policy_word self }

@@ -1,4 +1,4 @@
-//! The holds of a seat behind an entry of its own. A base may have more of them than fit in 64 bits.
+//! The holds of a seat after one of its entries. A base may have more of them than fit in 64 bits.
 
 ghost use Rattle.std.specs.Prelude.{◌≡◌, ◌<◌, ◌^◌};
 ghost use Rattle.history.specs.Counts.{holds_after};
@@ -7,7 +7,7 @@ ghost use Rattle.history.specs.Object.{in_holds};
 use crate::entry::{Entry, Word};
 use crate::header::Object;
 
-/// The holds behind an entry, of those before it in its mode.
+/// Returns the holds of the entry's seat in the entry's mode, after the entry. Before it they were `had`.
 #[inline(always)]
 pub fn holds_after(object: Object, entry: Entry, had: u128) -> u128
     requires { holds_after object entry.word entry.n had < 2 ^ 128 }
@@ -22,7 +22,7 @@ pub fn holds_after(object: Object, entry: Entry, had: u128) -> u128
     }
 }
 
-/// What a request for n is in holds.
+/// Returns how many holds a request for `n` is.
 #[inline(always)]
 fn in_holds(object: Object, n: u32) -> u128
     ensures { result ≡ in_holds object n }

@@ -1,4 +1,4 @@
-//! What the definitions say of every spelling.
+//! What the definitions say about every spelling.
 //!
 //! Each of these functions does nothing: its contract is the law.
 
@@ -10,7 +10,7 @@ ghost use Rattle.history.specs.Header.{IsInRange};
 ghost use Rattle.history.specs.Spelling.{part_of};
 ghost use Rattle.history.specs.Text.{line_of};
 
-/// No two headers have one spelling.
+/// No two headers have the same spelling.
 pub fn one_header()
     ensures { (g h : Header) → IsInRange g → IsInRange h → part_of g ≡ part_of h → g ≡ h }
 {}

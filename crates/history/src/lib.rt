@@ -1,7 +1,7 @@
 //! The entries of a synchroniser's history, its header, the list that keeps them, and their spelling.
 //!
-//! Every other crate speaks of an object by the history of its entries. What a history says, which
-//! entry a step makes and which histories are legal is defined in `specs/`, and nowhere else.
+//! Every other crate describes an object by the history of its entries. What a history means, which entry a
+//! step makes, and which histories are legal is defined in `specs/`, and nowhere else.
 #![tactic(auto)]
 
 pub mod arrival;

@@ -15,7 +15,7 @@ pub const MOST_SEATS: u16 = 256;
 /// The greatest number of conditions of a lock or read-write lock.
 pub const MOST_CONDITIONS: u8 = 16;
 
-/// The last of so many conditions. They are numbered from 0.
+/// The greatest number of a condition. Conditions are numbered from 0.
 pub const LAST_CONDITION: u8 = MOST_CONDITIONS - 1;
 
 /// The least cap of a history. The greatest is `u32::MAX`.
@@ -24,5 +24,6 @@ pub const LEAST_CAP: u32 = 16;
 /// The greatest number of entries that may be folded.
 pub const MOST_FOLDED: u128 = 1_000_000_000_000_000;
 
-/// The greatest number of permits that a seat of a base holds, or that were released unheld before one.
+/// The greatest number of permits that a seat of a base holds, or that were released unheld in the folded
+/// entries.
 pub const MOST_BASE_PERMITS: u128 = 10_000_000_000_000_000_000_000_000;

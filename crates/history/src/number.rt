@@ -1,4 +1,4 @@
-//! Numbers in decimal, each with one spelling.
+//! Numbers in decimal. Each number has one spelling.
 
 ghost use Rattle.history.specs.HeaderReading.{permits_from};
 ghost use Rattle.history.specs.Reading.{number_from, wide_from};
@@ -14,10 +14,10 @@ use std::alloc::AllocError;
 use std::marker::Model;
 use std::str::from_utf8;
 
-/// No number below 2^64 has more digits.
+/// The most digits of a number below 2^64.
 const MOST_DIGITS: usize = 20;
 
-/// The number that the bytes spell, one below 2^64.
+/// Returns the number below 2^64 that the bytes spell.
 #[inline(always)]
 fn decimal_value(bytes: &[u8]) -> Option<u64>
     ensures found { IfSome result (λ n. (bytes.now ≡ decimal n) × (n < 2 ^ 64)) }
@@ -41,7 +41,7 @@ fn decimal_value(bytes: &[u8]) -> Option<u64>
     Some(number)
 }
 
-/// The number below 2^64 that the bytes spell: digits alone, with no 0 before another.
+/// Returns the number below 2^64 that the bytes spell: digits alone, with no leading 0.
 #[inline(always)]
 pub fn number_of(bytes: &[u8]) -> Option<u64>
     ensures is { result ≡ number_from bytes.now }
@@ -51,7 +51,7 @@ pub fn number_of(bytes: &[u8]) -> Option<u64>
     decimal_value(bytes)
 }
 
-/// The number of 32 bits that the bytes spell, with a sign where it is below 0.
+/// Returns the number of 32 bits that the bytes spell, with a minus sign if it is negative.
 #[tactic(auto, unfolding(crate::specs::HeaderReading::permits_from))]
 pub(crate) fn permits_of(bytes: &[u8]) -> Option<i32>
     ensures is { result ≡ permits_from bytes.now }
@@ -78,7 +78,7 @@ pub(crate) fn permits_of(bytes: &[u8]) -> Option<i32>
     }
 }
 
-/// The number below 2^128 that the bytes spell: digits alone, with no 0 before another.
+/// Returns the number below 2^128 that the bytes spell: digits alone, with no leading 0.
 pub fn wide_of(bytes: &[u8]) -> Option<u128>
     ensures is { result ≡ wide_from bytes.now }
     ensures found { IfSome result (λ n. bytes.now ≡ decimal n) }
@@ -87,7 +87,8 @@ pub fn wide_of(bytes: &[u8]) -> Option<u128>
     wide_value(bytes)
 }
 
-/// The number that the bytes spell, one below 2^128: they are compared with its one spelling.
+/// Returns the number below 2^128 that the bytes spell. The bytes are compared with that number's one
+/// spelling.
 fn wide_value(bytes: &[u8]) -> Option<u128>
     ensures found { IfSome result (λ n. (bytes.now ≡ decimal n) × (n < 2 ^ 128)) }
     ensures none { IfNone result ((n : ℕ) → n < 2 ^ 128 → bytes.now ≢ decimal n) }
@@ -106,7 +107,7 @@ fn wide_value(bytes: &[u8]) -> Option<u128>
     }
 }
 
-/// Appends a number of 128 bits, or a front of it.
+/// Appends a number of 128 bits. On an error only its first digits may have been appended.
 pub fn put_wide(out: &mut Vec<u8>, number: u128) -> Result<(), AllocError>
     ensures ok { OnOk result (out.new.items ≡ out.old.items ++ decimal number) }
     ensures err { OnErr result (out.new.items ≡ out.old.items) }
@@ -127,7 +128,7 @@ pub fn put_number(out: &mut Vec<u8>, number: u64) -> Result<(), AllocError>
     Ok(())
 }
 
-/// Puts the number from a place on, and returns the place behind it.
+/// Writes the number from position `at` on, and returns the position after it.
 #[tactic(auto, using(crate::proofs::PieceFronts::rest_behind))]
 #[inline(always)]
 pub fn spell(line: &mut [u8], at: usize, number: u64) -> usize
@@ -146,7 +147,7 @@ pub fn spell(line: &mut [u8], at: usize, number: u64) -> usize
     spell_long(line, at, number)
 }
 
-/// The same of a number with more digits than two.
+/// As `spell`, for a number with three digits or more.
 #[tactic(auto, using(crate::proofs::PieceFronts::rest_behind))]
 #[inline(never)]
 fn spell_long(line: &mut [u8], at: usize, number: u64) -> usize
@@ -159,7 +160,7 @@ fn spell_long(line: &mut [u8], at: usize, number: u64) -> usize
     put_bytes(line, at, buffer.format(number).as_bytes())
 }
 
-/// Spells numbers of which most have the same digits but for the last two: those are found once and kept.
+/// Spells numbers that mostly differ in their last two digits: the digits before these are kept.
 #[derive(Debug, Drop)]
 pub struct Numbering {
     hundreds: u64,
@@ -179,7 +180,7 @@ impl Model for Numbering {
 }
 
 impl Numbering {
-    /// What keeps no digits but those of 0.
+    /// Returns a new one, which keeps the digits of 0.
     pub fn new() -> Self
         ensures { result ≡ record { hundreds = 0 } }
     {
@@ -190,7 +191,7 @@ impl Numbering {
         }
     }
 
-    /// Puts the number from a place on, and returns the place behind it.
+    /// Writes the number from position `at` on, and returns the position after it.
     #[tactic(auto, using(crate::proofs::PieceFronts::rest_behind))]
     #[inline(always)]
     pub fn spell(&mut self, line: &mut [u8], at: usize, number: u64) -> usize
@@ -204,7 +205,7 @@ impl Numbering {
             return spell(line, at, number);
         }
         self.keep(hundreds);
-        // A copy of its own: the line then can't alias it, and it is moved at once, not byte by byte.
+        // A copy of its own: it can't alias the line, so it is moved at once, not byte by byte.
         let front = self.front;
         put_bytes(line, at, &front);
         let last_two = (number % 100) as u8;
@@ -212,7 +213,7 @@ impl Numbering {
         put_byte(line, last_at, b'0' + last_two % 10)
     }
 
-    /// Keeps the digits before the last two.
+    /// Keeps the digits before the last two, unless they are kept already.
     #[inline(always)]
     fn keep(&mut self, hundreds: u64)
         ensures { self.new.hundreds ≡ hundreds }
@@ -234,7 +235,8 @@ impl Numbering {
     }
 }
 
-/// Appends a number of 32 bits, with a sign where it is below 0, or a front of it.
+/// Appends a number of 32 bits, with a minus sign if it is negative. On an error only its first bytes may
+/// have been appended.
 pub fn put_permits(out: &mut Vec<u8>, permits: i32) -> Result<(), AllocError>
     ensures ok { OnOk result (out.new.items ≡ out.old.items ++ signed_decimal permits) }
     ensures err { OnErr result (out.new.items ≡ out.old.items) }

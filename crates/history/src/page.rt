@@ -28,7 +28,7 @@ impl Model for Page {
 }
 
 impl Page {
-    /// Reserves a page, with nothing in it.
+    /// Reserves an empty page.
     pub(crate) fn reserve(alloc: Global) -> Result<Page, AllocError>
         ensures { IfOk result (λ page. page ≡ []) }
     {
@@ -36,21 +36,21 @@ impl Page {
         Ok(Page { entries })
     }
 
-    /// The entry at a place, counted from 0.
+    /// Returns the entry at a place. Places are counted from 0.
     pub(crate) fn get(&self, place: usize) -> Option<Entry>
         ensures { result ≡ slice_get self.now place }
     {
         self.entries.get(place).copied()
     }
 
-    /// The entries in their order.
+    /// Returns the entries in their order.
     pub(crate) fn entries(&self) -> &[Entry]
         ensures { result.now ≡ self.now }
     {
         &self.entries
     }
 
-    /// Exchanges its entries for others, which stand in memory for as many.
+    /// Exchanges its entries for others, whose memory has room for as many.
     pub(crate) fn exchange(&mut self, entries: &mut Vec<Entry>)
         requires { vec_capacity entries.old ≡ 1024 }
         ensures put { self.new ≡ entries.old.items }
@@ -60,7 +60,7 @@ impl Page {
         swap(&mut self.entries, entries);
     }
 
-    /// Gives up its entries, with their memory.
+    /// Returns its entries with their memory.
     pub(crate) fn into_entries(self) -> Vec<Entry>
         ensures items { result.items ≡ self }
         ensures capacity { vec_capacity result ≡ 1024 }
@@ -76,7 +76,7 @@ impl Page {
     }
 }
 
-/// Removes the entries of these pages.
+/// Removes all entries of these pages.
 pub(crate) fn clear_pages(pages: &mut [Page])
     ensures { pages.new ≡ map (λ page. []) pages.old }
 {
@@ -85,7 +85,7 @@ pub(crate) fn clear_pages(pages: &mut [Page])
     }
 }
 
-/// Reserves so many pages behind those that stand, or none.
+/// Appends `more` empty pages to the list, or none.
 #[cold]
 #[inline(never)]
 pub(crate) fn reserve_pages(pages: &mut Vec<Page>, more: usize) -> Result<(), AllocError>

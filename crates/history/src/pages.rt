@@ -1,4 +1,4 @@
-//! Entries in pages, one of them at hand.
+//! Entries in pages, one of which is at hand.
 
 ghost use Rattle.std.specs.Prelude.{◌≡◌, ◌+◌, ◌*◌, ◌^◌, ◌<◌, ◌≤◌, ◌++◌, max, [], ◌∷◌, length, set, get_or, slice_get, IsFalse, IsOk, IsTrue, OnOk, OnErr, vec_capacity};
 ghost use Rattle.history.specs.Pages.{whole_pages};
@@ -11,19 +11,19 @@ use std::marker::Model;
 
 /// Entries in their order, in pages that are reserved once, and neither move nor grow.
 ///
-/// The page at hand has the newest entries. While it has room, an entry more is one store there. A page that
-/// is full gives way to the next one that is reserved.
+/// The page at hand has the newest entries. While it has room, adding an entry is one store there. When it is
+/// full, the next reserved page takes its place.
 #[derive(Debug, Drop)]
 pub(crate) struct Pages {
-    /// All pages but the one at hand: those that are full, and then those that are empty.
+    /// All other pages: first those that are full, then those that are empty.
     others: Vec<Page>,
-    /// How many are full.
+    /// How many of the other pages are full.
     full: usize,
-    /// The page at hand. It has no memory as long as no page is reserved.
+    /// The page at hand. It has no memory until a page is reserved.
     hand: Vec<Entry>,
     /// How many entries there are.
     len: u64,
-    /// How many the reserved pages hold.
+    /// How many entries the reserved pages can hold.
     places: u64,
 }
 
@@ -44,7 +44,7 @@ impl Model for Pages {
 }
 
 impl Pages {
-    /// No pages. They take no memory.
+    /// Returns no pages. It allocates nothing.
     pub(crate) fn open(alloc: Global) -> Self
         ensures { result ≡ record { entries = []; places = 0 } }
     {
@@ -57,7 +57,7 @@ impl Pages {
         }
     }
 
-    /// How many entries there are.
+    /// Returns how many entries there are.
     pub(crate) fn len(&self) -> u64
         ensures value { result ≡ length self.now.entries }
         ensures within { result ≤ self.now.places }
@@ -66,7 +66,7 @@ impl Pages {
         self.len
     }
 
-    /// The number of entries that the reserved memory holds.
+    /// Returns the number of entries that the reserved memory can hold.
     pub(crate) fn places(&self) -> u64
         ensures value { result ≡ self.now.places }
         ensures few { result < 2 ^ 33 }
@@ -74,7 +74,7 @@ impl Pages {
         self.places
     }
 
-    /// The entry of a number, counted from 0, the oldest.
+    /// Returns the entry of a number. The oldest has number 0.
     pub(crate) fn get(&self, number: u64) -> Option<Entry>
         ensures { result ≡ slice_get self.now.entries number }
     {
@@ -88,7 +88,8 @@ impl Pages {
         }
     }
 
-    /// Reserves the pages that so many entries take, those that stand among them, or none.
+    /// Reserves the pages that `entries` entries take, with those that are there already. On an error it
+    /// reserves none.
     pub(crate) fn reserve(&mut self, entries: u64) -> Result<(), AllocError>
         requires { entries < 2 ^ 32 }
         ensures places { OnOk result (self.new.places ≡ max self.old.places (whole_pages entries)) }
@@ -111,7 +112,7 @@ impl Pages {
         Ok(())
     }
 
-    /// Adds an entry at a place that is reserved, if the page at hand has one, and returns whether it did.
+    /// Adds an entry if the page at hand has a place, and returns whether it did.
     #[inline(always)]
     pub(crate) fn add_at_hand(&mut self, entry: Entry) -> bool
         requires { length self.old.entries < self.old.places }
@@ -126,7 +127,7 @@ impl Pages {
         false
     }
 
-    /// Adds an entry at a place that is reserved, on whichever page it is.
+    /// Adds an entry at a place that is reserved, on this page or the next.
     pub(crate) fn add(&mut self, entry: Entry)
         requires { length self.old.entries < self.old.places }
         ensures { self.new ≡ record self.old { entries = self.old.entries ++ entry ∷ [] } }
@@ -146,7 +147,7 @@ impl Pages {
         self.len = 0;
     }
 
-    /// The entries of the other pages, and those at hand.
+    /// Returns the other pages, and the entries at hand.
     pub(crate) fn parts(&self) -> (&[Page], &[Entry])
         ensures { self.now.entries ≡ in_pages result.0.now ++ result.1.now }
     {
@@ -154,7 +155,7 @@ impl Pages {
     }
 }
 
-/// Has a page at hand that has a place, where one of all pages has.
+/// Makes sure that the page at hand has a free place, if any page has one.
 fn find_place(others: &mut Vec<Page>, full: &mut usize, hand: &mut Vec<Entry>)
     requires kept { AreKept others.old.items full.old hand.old.items (vec_capacity hand.old) }
     requires place { length (in_pages others.old.items ++ hand.old.items)
@@ -173,7 +174,7 @@ fn find_place(others: &mut Vec<Page>, full: &mut usize, hand: &mut Vec<Entry>)
     *full += 1;
 }
 
-/// Takes the next page to hand, in place of one that is full.
+/// Takes the next page to hand, in place of the full one.
 fn turn_page(others: &mut Vec<Page>, next: usize, hand: &mut Vec<Entry>)
     requires next { next < length others.old.items }
     requires capacity { vec_capacity hand.old ≡ 1024 }

@@ -1,10 +1,10 @@
-//! Pieces of a line, each put behind the one before it, over bytes that are there already.
+//! Writing a line piece by piece, over bytes that are there already.
 //!
-//! A piece says where it ends. No memory is asked for between two of them.
+//! Each function returns the position after its piece. None allocates.
 
 ghost use Rattle.std.specs.Prelude.{◌≡◌, ◌+◌, ◌<◌, ◌≤◌, [], ◌∷◌, ◌++◌, length, take, drop};
 
-/// Puts a byte at a place, and returns the place behind it.
+/// Writes a byte at a position, and returns the position after it.
 #[inline(always)]
 pub fn put_byte(line: &mut [u8], at: usize, byte: u8) -> usize
     requires { at < length line.old }
@@ -16,7 +16,7 @@ pub fn put_byte(line: &mut [u8], at: usize, byte: u8) -> usize
     at + 1
 }
 
-/// Puts bytes from a place on, and returns the place behind them.
+/// Writes bytes from a position on, and returns the position after them.
 #[inline(always)]
 pub fn put_bytes(line: &mut [u8], at: usize, bytes: &[u8]) -> usize
     requires { at + length bytes.now ≤ length line.old }

@@ -1,42 +1,42 @@
-//! The steps of a seat and what they are answered.
+//! The steps of a seat, and their answers.
 
 use crate::entry::{Entry, Mode};
 
 /// What a thread asks of an object in one critical section.
 #[derive(Clone, Copy, Debug, PartialEq, Eq)]
 pub enum Step {
-    /// Takes, or joins the line.
+    /// Acquires, or joins the queue.
     Acquire(Mode, u32),
-    /// Takes or misses, past any line: an untimed try barges, but in a strict object.
+    /// Acquires or fails at once. An untimed try barges past the queue, except in a strict object.
     Try(Mode, u32),
-    /// Takes or misses, as an acquire with no time to wait: in a fair or strict object not past
-    /// the line.
+    /// Acquires or fails at once, as an acquire with a timeout of zero. It doesn't barge in a fair or strict
+    /// object.
     TryFair(Mode, u32),
-    /// Is refused, for an interrupt was pending at the entry of an acquire or await.
+    /// Fails, because an interrupt was pending when an acquire or await began.
     EntryInterrupt(Mode, u32),
-    /// Gives back a hold or permits, or lowers a latch's count.
+    /// Releases a hold or permits, or lowers a latch's count.
     Give(Mode, u32),
-    /// One who waits looks whether it may go.
+    /// A waiter retries.
     Look,
-    /// The time of one who waits is up.
+    /// The timeout of a waiter has passed.
     Expire,
-    /// One who waits was interrupted.
+    /// A waiter was interrupted.
     Interrupt,
-    /// The owner gives up all its holds and sleeps on a condition.
+    /// The owner releases all its holds and waits on a condition.
     Await(u8),
-    /// Moves the longest sleeper of a condition to the line.
+    /// Moves the longest waiter of a condition to the queue.
     Signal(u8),
-    /// Moves all sleepers of a condition to the line.
+    /// Moves all waiters of a condition to the queue.
     SignalAll(u8),
     /// Takes all free permits.
     Drain,
 }
 
-/// What a step is answered where there is no unrecorded fault.
+/// What a step returns, unless it returns an unrecorded fault.
 #[derive(Clone, Copy, Debug, PartialEq, Eq)]
 pub enum Answer {
-    /// The entry that was recorded, and the seat that it names: one that could go now and couldn't before.
+    /// The entry that was recorded, and the seat that it names: a waiter that can go now and couldn't before.
     Recorded(Entry, Option<u16>),
-    /// Nothing was recorded, and the seat waits on.
+    /// Nothing was recorded, and the seat keeps waiting.
     Sleep,
 }

@@ -17,7 +17,7 @@ use std::marker::Model;
 
 /// The words of a line that are still to be read.
 ///
-/// A call that answers None has refused the line: how many words are left is then not said.
+/// A call that returns None has refused the line. How many words are left then is not specified.
 #[derive(Drop)]
 pub struct Words<'a> {
     rest: Option<&'a [u8]>,
@@ -33,7 +33,7 @@ impl<'a> Model for Words<'a> {
 }
 
 impl<'a> Words<'a> {
-    /// The words of a line, cut at each space: two spaces together have an empty word between them.
+    /// Returns the words of a line, cut at each space. Two spaces together have an empty word between them.
     #[inline(always)]
     pub fn of(line: &'a [u8]) -> Self
         ensures { result ≡ words_of line.now }
@@ -41,7 +41,7 @@ impl<'a> Words<'a> {
         Words { rest: Some(line) }
     }
 
-    /// The first of the words that are left, or None where none is.
+    /// Takes the next word, or returns None if no word is left.
     #[inline(always)]
     pub fn next(&mut self) -> Option<&'a [u8]>
         ensures { MatchOption result (self.old ≡ [] × self.new ≡ [])
@@ -69,7 +69,7 @@ impl<'a> Words<'a> {
         if self.next()? == word { Some(()) } else { None }
     }
 
-    /// Takes a number that is neither too small nor too large, if one comes next.
+    /// Takes a number within these limits, if one comes next.
     #[inline(always)]
     pub fn number(&mut self, least: u64, most: u64) -> Option<u64>
         ensures is { with_rest result self.new ≡ number_at least most self.old }
@@ -83,7 +83,7 @@ impl<'a> Words<'a> {
         }
     }
 
-    /// Takes a number of 128 bits that is neither too small nor too large, if one comes next.
+    /// Takes a number of 128 bits within these limits, if one comes next.
     pub fn wide(&mut self, least: u128, most: u128) -> Option<u128>
         ensures is { with_rest result self.new ≡ wide_at least most self.old }
         ensures found { IfSome result (λ n. (self.old ≡ decimal n ∷ self.new) × (least ≤ n) × (n ≤ most)) }

@@ -7,12 +7,12 @@ use Rattle.history.specs.Object.{opening_count}
 use Rattle.history_text.specs.declared.base_line.BaseLine.{BaseLine}
 use Rattle.history_text.specs.BaseRules.{MayFollow, Told, told, with_line}
 
--- of a base whose seats are all there
+-- in a base that has all its seats
 abbrev pub AllFollow : Base → Told → List BaseLine → Type 0
 AllFollow b t [] = Unit {0}
 AllFollow b t (x ∷ xs) = MayFollow t b x × AllFollow b (told t x) xs
 
--- of a base that is read
+-- in a base that is being read
 abbrev pub AllRead : Base → Told → List BaseLine → Type 0
 AllRead b t [] = Unit {0}
 AllRead b t (x ∷ xs) = MayFollow t b x × AllRead (with_line b x) (told t x) xs
@@ -32,13 +32,13 @@ IsCountedFor (ReadWrite policy) b = (b.unheld ≡ 0) × (b.count ≡ 0)
 IsCountedFor (Semaphore policy permits) b = b.count ≡ 0
 IsCountedFor (Latch opening) b = b.unheld ≡ 0
 
--- It has what each seat has and who sleeps on each condition, and nothing that its lines do not spell.
+-- It has an entry for each seat and a list for each condition, and nothing that its lines don't spell.
 pub record HasShape (b : Base) : Type 0 where
   pub seats : length b.seats ≡ b.header.seats
   pub conditions : length b.sleepers ≡ b.header.conditions
   pub counted : IsCountedFor b.header.object b
 
--- nothing was folded into it, and it is that of an object as it is opened, part by part
+-- no entry was folded into it, and each part is as the opening makes it
 pub record IsUnused (b : Base) : Type 0 where
   pub entries : b.entries ≡ 0
   pub unheld : b.unheld ≡ 0
@@ -47,7 +47,7 @@ pub record IsUnused (b : Base) : Type 0 where
   pub seats : (length b.seats ≡ b.header.seats) × All (λ has. has ≡ nothing) b.seats
   pub sleepers : (length b.sleepers ≡ b.header.conditions) × All (λ list. list ≡ []) b.sleepers
 
--- whether these lines followed what was told, and what is told with them
+-- whether these lines may follow those that were read, and the sums with them
 abbrev pub HaveFollowed : Bool → Base → Told → Told → List BaseLine → Type 0
 HaveFollowed true b t new xs = AllFollow b t xs × (new ≡ after_told t xs)
 HaveFollowed false b t new xs = AllFollow b t xs → ⊥

@@ -1,4 +1,4 @@
--- The lines that tell a base, in the order in which a history text has them.
+-- The lines of a base, in the order in which a history text has them.
 use Rattle.std.specs.Prelude.{◌≡◌, ℕ, ◌+◌, ◌≤◌, Bool, true, false, List, [], ◌∷◌, ◌++◌, map, codes, decimal}
 use Rattle.history.specs.declared.base.SeatBase.{SeatBase}
 use Rattle.history.specs.declared.base.Sleeper.{Sleeper}
@@ -16,7 +16,7 @@ use Rattle.history.specs.Text.{line_of}
 use Rattle.history_text.specs.declared.base_line.BaseLine.{BaseLine}
 use Rattle.history_text.specs.declared.base_line.BaseLine.TheVariants.{Folded, Released, CountedDown, Seat, Stands, Sleeps}
 
--- the entry whose words say for what one in line waits
+-- the entry whose words spell what a waiter waits for
 abbrev pub waiting_by : Bool → Standing → Entry
 waiting_by true p =
     record { seat = p.who.seat; word = Back; mode = X; n = p.holds; at = p.condition; end = p.how }
@@ -40,7 +40,7 @@ base_words (Sleeps c x) = codes "sleeper" ∷ decimal c ∷ decimal x.seat ∷ d
 abbrev pub base_line : BaseLine → List ℕ
 base_line x = line_of (base_words x)
 
--- one that waits for what its acquire asks for, and one that comes back from a condition
+-- a waiter that waits for what its acquire asks for, and one that comes back from a condition
 abbrev pub queued : Entry → Standing
 queued e =
     record {
@@ -63,7 +63,7 @@ abbrev pub stood_by : Bool → Entry → Standing
 stood_by true e = comes_back e
 stood_by false e = queued e
 
--- the numbers that a line may have, and what no word spells is as it always is
+-- the numbers are within a line's limits, and what no word spells has its fixed value
 abbrev pub IsBaseLine : BaseLine → Type 0
 IsBaseLine (Folded t) = (1 ≤ t) × (t ≤ most_folded)
 IsBaseLine (Released t u) = (1 ≤ t) × (t ≤ most_folded) × (u ≤ most_permits)

@@ -1,4 +1,4 @@
--- What the readers of the lines of a base answer, from the words that are left to the words after.
+-- What the readers of base lines return: what they read, and the words that are left.
 use Rattle.std.specs.Prelude.{ℕ, [], ◌∷◌, Option, None, Some, codes, bytes_eq, if◌then◌else◌}
 use Rattle.history.specs.declared.base.Standing.{Standing}
 use Rattle.history.specs.declared.entry.Entry.{Entry}
@@ -11,7 +11,7 @@ use Rattle.history_text.specs.declared.base_line.BaseLine.{BaseLine}
 use Rattle.history_text.specs.declared.base_line.BaseLine.TheVariants.{Folded, Released, CountedDown, Seat, Stands, Sleeps}
 use Rattle.history_text.specs.BaseLines.{comes_back, queued}
 
--- what follows how many entries were folded
+-- what follows the number of folded entries
 unfoldable pub beside_at : ℕ → Words → Option (BaseLine × Words)
 beside_at entries [] = Some (Folded entries, [])
 beside_at entries (w ∷ ws) =
@@ -35,7 +35,7 @@ has_at words = do
   shared ← wide_at 0 most_permits name.1
   Some (Seat i.0 (record { calls = calls.0; exclusive = exclusive.0; shared = shared.0 }), shared.1)
 
--- one in line, from the entry whose words say for what it waits
+-- the waiter in the queue, from the entry whose words spell what it waits for
 abbrev pub standing_of : Word → Entry → Option Standing
 standing_of Queued e = Some (queued e)
 standing_of Back e = Some (comes_back e)

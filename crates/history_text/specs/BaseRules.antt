@@ -13,19 +13,19 @@ use Rattle.history.specs.Steps.{at_least_none}
 use Rattle.history_text.specs.declared.base_line.BaseLine.{BaseLine}
 use Rattle.history_text.specs.declared.base_line.BaseLine.TheVariants.{Folded, Released, CountedDown, Seat, Stands, Sleeps}
 
--- What the lines of a base say so far, in numbers.
+-- The sums over the lines of a base that were read.
 pub record Told : Type 0 where
   pub entries : ℕ  -- how many entries were folded; 0 before the first line
   pub unheld : ℕ
-  pub seats : ℕ  -- how many seats were told
+  pub seats : ℕ  -- how many seats were read
   pub calls : ℕ  -- the calls that these ended, and their holds
   pub exclusive : ℕ
   pub shared : ℕ
-  pub waits : List Bool  -- whether a seat stands in line or sleeps
-  pub asleep : Bool  -- whether a sleeper was told, and on which condition the last one sleeps
+  pub waits : List Bool  -- whether a seat waits, in the queue or on a condition
+  pub asleep : Bool  -- whether a condition's waiter was read, and on which condition the last one waits
   pub condition : ℕ
 
--- nothing was told
+-- before any line
 abbrev pub untold : Told
 untold =
     record {
@@ -40,7 +40,7 @@ untold =
       condition = 0;
     }
 
--- one line more
+-- after one more line
 abbrev pub told : Told → BaseLine → Told
 told t (Folded entries) = record t { entries = entries }
 told t (Released entries unheld) = record t { entries = entries; unheld = unheld }
@@ -55,9 +55,9 @@ told t (Seat i has) =
 told t (Stands p) = record t { waits = set t.waits p.who.seat true }
 told t (Sleeps c x) = record t { waits = set t.waits x.seat true; asleep = true; condition = c }
 
--- What the next seat may hold, beside those before it. One seat alone has exclusive holds of a lock, and no
--- other has shared ones. The free permits of a semaphore are no fewer than none or than it was made with, and
--- behind the last seat no more than there may be.
+-- What the next seat may hold, after those before it. Only one seat has exclusive holds of a lock, and then
+-- no other has shared ones. The free permits of a semaphore are never fewer than the smaller of 0 and its
+-- opening number. After the last seat they are within the limit.
 abbrev pub MayHold : Object → ℕ → Told → SeatBase → Type 0
 MayHold (Lock policy) seats t has =
     (has.exclusive ≤ max_holds) × (has.shared ≡ 0) × ((t.exclusive ≡ 0) ⊎ (has.exclusive ≡ 0))
@@ -86,7 +86,7 @@ pub record IsSeated (k : Header) (t : Told) (i : ℕ) (has : SeatBase) : Type 0 
   pub calls : t.calls + has.calls ≤ t.entries
   pub holds : MayHold k.object k.seats t has
 
--- all seats were told
+-- all seats were read
 pub record AllSeated (k : Header) (t : Told) : Type 0 where
   pub begun : 1 ≤ t.entries
   pub seats : t.seats ≡ k.seats
@@ -95,7 +95,7 @@ pub record AllSeated (k : Header) (t : Told) : Type 0 where
 abbrev pub IsFree : Told → ℕ → Type 0
 IsFree t i = get_or t.waits i false ≡ false
 
--- The line may follow those that told this, of a base with these seats.
+-- The line may follow those that were read, in a base with these seats.
 abbrev pub MayFollow : Told → Base → BaseLine → Type 0
 MayFollow t b (Folded entries) = IsFirst t entries × (is_lock b.header.object ≡ true)
 MayFollow t b (Released entries unheld) =
@@ -108,7 +108,7 @@ MayFollow t b (Stands p) =
 MayFollow t b (Sleeps c x) =
     AllSeated b.header t × (t.condition ≤ c) × IsFree t x.seat × SleepsWell b c x
 
--- one line more of a base that is read; its seats stand as places from the beginning
+-- one more line of a base that is being read; all its seats have places from the beginning
 abbrev pub with_line : Base → BaseLine → Base
 with_line b (Folded entries) = record b { entries = entries }
 with_line b (Released entries unheld) = record b { entries = entries; unheld = unheld }

@@ -1,4 +1,4 @@
--- Lines that tell a base from its first line on.
+-- The lines of a base, from its first line on.
 use Rattle.std.specs.Prelude.{List}
 use Rattle.history.specs.declared.header.Header.{Header}
 use Rattle.history.specs.Base.{Base, opening_base}
@@ -6,7 +6,7 @@ use Rattle.history_text.specs.declared.base_line.BaseLine.{BaseLine}
 use Rattle.history_text.specs.BaseFollowing.{AllRead, after_told, with_lines}
 use Rattle.history_text.specs.BaseRules.{Told, untold}
 
--- what lines tell, and the base that they give
+-- the sums of these lines, and the base that they give
 abbrev pub told_by : List BaseLine → Told
 told_by xs = after_told untold xs
 

@@ -1,4 +1,4 @@
--- What is written of a base.
+-- The text that is written for a base.
 use Rattle.std.specs.Prelude.{◌≡◌, ℕ, ◌+◌, ◌≤◌, List, [], ◌∷◌, ◌++◌}
 use Rattle.history.specs.declared.base.SeatBase.{SeatBase}
 use Rattle.history.specs.Base.{Base}
@@ -13,12 +13,12 @@ abbrev pub lines_text : List BaseLine → List ℕ
 lines_text [] = []
 lines_text (x ∷ xs) = ended (base_line x) ++ lines_text xs
 
--- the calls that all seats ended
+-- the number of calls that all seats ended
 abbrev pub calls_sum : List SeatBase → ℕ
 calls_sum [] = 0
 calls_sum (has ∷ rest) = has.calls + calls_sum rest
 
--- The first line and those of a base were written, with these sums.
+-- The first line and the lines of a base were written, and these are its sums.
 pub record IsHeadPut (b : Base) (old new : List ℕ) (n c : ℕ) : Type 0 where
   pub lines : new ≡ old ++ (ended (head_line (head_of b)) ++ lines_text (lines_told b))
   pub folded : n ≡ b.entries

@@ -1,4 +1,4 @@
--- A base that is read line by line: what it and the sums of its lines say of them.
+-- A base that is read line by line: how the base and the sums determine the lines that were read.
 use Rattle.std.specs.Prelude.{◌≡◌, ℕ, zero, suc, List, [], ◌∷◌, ◌++◌, length, map, take}
 use Rattle.history.specs.Base.{Base}
 use Rattle.history.specs.Header.{IsInRange}
@@ -8,7 +8,7 @@ use Rattle.history_text.specs.BaseLines.{first_line, seat_lines, sleeper_lines}
 use Rattle.history_text.specs.BaseRules.{Told}
 use Rattle.history_text.specs.BaseTelling.{Follow, base_by, told_by}
 
--- the lines of a base as far as they were told
+-- the lines of a base, as far as they were read
 abbrev pub lines_so_far : Told → Base → List BaseLine
 lines_so_far t b =
     first_line b.header.object b
@@ -21,7 +21,7 @@ lines_by (suc n) t b = lines_so_far t b
 abbrev pub lines_read : Told → Base → List BaseLine
 lines_read t b = lines_by t.entries t b
 
--- They were read in this order, and each could follow those before it.
+-- The lines were read in this order, and each could follow those before it.
 pub record IsUnderWay (t : Told) (b : Base) (lines : ℕ) : Type 0 where
   pub range : IsInRange b.header
   pub follow : Follow b.header (lines_read t b)

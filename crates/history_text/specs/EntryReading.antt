@@ -1,4 +1,4 @@
--- What the readers of lines answer, from the words that are left to the words after.
+-- What the readers of lines return: what they read, and the words that are left.
 use Rattle.std.specs.Prelude.{ℕ, ◌-◌, Option, Some, codes}
 use Rattle.history.specs.declared.entry.Entry.{Entry}
 use Rattle.history.specs.EntryReading.{entry_at}
@@ -11,7 +11,7 @@ counts_at entries calls words = do
   c ← number_at calls calls e.1
   Some (tt, c.1)
 
--- the number, the seat and the words of an entry, at this number and of so many seats
+-- the number, the seat and the words of an entry; the number is this one, and the seat one of the object's
 unfoldable pub line_at : ℕ → ℕ → Words → Option (Entry × Words)
 line_at number seats words = do
   k ← number_at number number words

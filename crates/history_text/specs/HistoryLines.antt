@@ -1,4 +1,4 @@
--- The first line of a history text, and which lines of its base follow.
+-- The first line of a history text, and the lines of its base.
 use Rattle.std.specs.Prelude.{ℕ, Bool, nat_lt, if◌then◌else◌, List, [], ◌++◌, codes}
 use Rattle.history.specs.Base.{Base}
 use Rattle.history.specs.Spelling.{part_of}
@@ -12,7 +12,7 @@ name_of is_based = if is_based then codes "aqs-history 2 " else codes "aqs-histo
 abbrev pub head_line : Head → List ℕ
 head_line h = name_of h.is_based ++ part_of h.header
 
--- the first line of a history on a base, and the lines of the base: none where no entry was folded into it
+-- the first line of a history on a base, and the lines of the base: none if no entry was folded into it
 abbrev pub head_of : Base → Head
 head_of b = record { is_based = nat_lt 0 b.entries; header = b.header }
 

@@ -1,4 +1,4 @@
--- What the next line of a history text says.
+-- What the next line of a history text spells.
 use Rattle.std.specs.Prelude.{◌≡◌, ◌≢◌, ℕ, ◌+◌, ◌≤◌, ◌<◌, ◌^◌, true, if◌then◌else◌, List, [], ◌∷◌, ◌++◌, length, map, Option, Some, None, Result, Ok, Err}
 use Rattle.history.specs.declared.entry.Entry.{Entry}
 use Rattle.history.specs.declared.header.Header.{Header}
@@ -21,7 +21,7 @@ use Rattle.history_text.specs.ToldBases.{GoodBeginsSo, GoodHas}
 use Rattle.history_text.specs.TextLines.{Based, IsHistoryOf, calls_told, lines_on, sum_of}
 use Rattle.history_text.specs.HistoryText.{IsRead, history_form}
 
--- a line begins the bytes, and so many follow it
+-- the bytes begin with a line, and this many bytes follow it
 abbrev pub LineAhead : List ℕ → List ℕ → ℕ → Type 0
 LineAhead rest line left = (after : List ℕ) × (rest ≡ ended line ++ after) × (length after ≡ left)
 
@@ -33,7 +33,7 @@ pub record HasShortLine (rest : List ℕ) : Type 0 where
   pub whole : HasNoBreak line
   pub few : length line < 256
 
--- the first line of these bytes is no line of a base
+-- the first line of these bytes isn't a line of a base
 abbrev pub LacksBaseLine : List ℕ → Type 0
 LacksBaseLine rest =
     (line : List ℕ) (after : List ℕ) (x : BaseLine) → rest ≡ line ++ 10 ∷ after → HasNoBreak line →
@@ -41,13 +41,14 @@ LacksBaseLine rest =
 
 -- ---- the lines of a base
 
--- A base of an object that is read: the lines that were read of it.
+-- A base that is being read: the lines of it that were read.
 pub record LinesRead : Type 0 where
   pub header : Header
   pub lines : List BaseLine
 
--- What the next line says of a base of which these lines were read: a good base begins with them and it; or
--- it is no line of a base, and they are those of a good one; or it is bad, whatever stands before.
+-- The next line of a base of which these lines were read. Either a good base begins with these lines and this
+-- one; or it isn't a line of a base, and these lines are those of a good base; or it is bad, whatever is
+-- before.
 abbrev pub IsBaseLineNext : LinesRead → List ℕ → Result (Option (BaseLine × ℕ)) TextFault → Type 0
 IsBaseLineNext read rest (Ok (Some found)) =
     GoodBeginsSo read.header (read.lines ++ found.0 ∷ []) × LineAhead rest (base_line found.0) found.1
@@ -56,14 +57,14 @@ IsBaseLineNext read rest (Err fault) =
     (text : List ℕ) (h : Head) → h.is_based ≡ true → h.header ≡ read.header →
     Begins history_form text h (map Based read.lines) rest → IsReading history_form text (Err fault)
 
--- the same where the line is taken up
+-- the same, if the line is taken
 abbrev pub IsBaseLineTaken : LinesRead → List ℕ → Result (Option ℕ) TextFault → LinesRead → Type 0
 IsBaseLineTaken old rest (Ok (Some left)) new =
     (x : BaseLine) × (new.lines ≡ old.lines ++ x ∷ []) × IsBaseLineNext old rest (Ok (Some (x, left)))
 IsBaseLineTaken old rest (Ok None) new = (new ≡ old) × IsBaseLineNext old rest (Ok None)
 IsBaseLineTaken old rest (Err fault) new = (new ≡ old) × IsBaseLineNext old rest (Err fault)
 
--- ---- entries behind a base
+-- ---- entries after a base
 
 abbrev pub behind : Place → Entry → Place
 behind p e =
@@ -74,14 +75,14 @@ behind p e =
       calls = p.calls + (if ends_call e.word then 1 else 0);
     }
 
--- The numbers of a place are those of a base and entries behind it.
+-- The numbers of a position are those of a base and entries after it.
 pub record IsPlaceOf (b : Base) (es : List Entry) (p : Place) : Type 0 where
   pub lines : p.lines ≡ length (lines_told b)
   pub folded : p.folded ≡ b.entries
   pub count : p.count ≡ length es
   pub calls : p.calls ≡ sum_of calls_told (lines_on b es)
 
--- A base and entries behind it, the oldest first, were read of a text, and this follows them.
+-- A base and entries after it, the oldest first, were read from a text, and this follows them.
 pub record AreEntriesRead (text : List ℕ) (h : Head) (b : Base) (es : List Entry) (p : Place)
     (rest : List ℕ) : Type 0 where
   pub history : IsHistoryOf h b es
@@ -89,8 +90,8 @@ pub record AreEntriesRead (text : List ℕ) (h : Head) (b : Base) (es : List Ent
   pub place : IsPlaceOf b es p
   pub behind : h.is_based ≡ true → es ≡ [] → LacksBaseLine rest
 
--- what the next line says at a place: an entry with its number, or that there are no more, or a fault,
--- whatever base and entries stand before
+-- what the next line at a position spells: an entry with its number, or that there are no more, or a fault;
+-- whatever base and entries are before
 abbrev pub IsEntryBehind : Header → Place → List ℕ → Result (Option (Entry × ℕ)) TextFault → Type 0
 IsEntryBehind k p rest (Ok (Some found)) =
     HasLine k found.0 × LineAhead rest (entry_line (p.folded + p.count) found.0) found.1
@@ -99,21 +100,21 @@ IsEntryBehind k p rest (Err fault) =
     (text : List ℕ) (h : Head) (b : Base) (es : List Entry) → h.header ≡ k →
     AreEntriesRead text h b es p rest → IsReading history_form text (Err fault)
 
--- of a text that begins with this head and goes on so, behind the lines of the base so many bytes are left
+-- for a text that begins with this head and continues with `ahead`: what is read of its base
 abbrev pub IsBaseAhead : Head → List ℕ → Result (Option Base × Place × ℕ) ReadFault → Type 0
 IsBaseAhead h ahead result =
     (text : List ℕ) → Begins history_form text h [] ahead →
     reading.Reads history_form (λ r. (rest : List ℕ) × (length rest ≡ r.2)
     × AreEntriesRead text h (or_opening h.header r.0) [] r.1 rest) text result
 
--- numbers that a reader has behind the lines of a base
+-- the numbers of a position right after the lines of a base are small
 pub record IsEarly (p : Place) : Type 0 where
   pub lines : p.lines < 2 ^ 62
   pub folded : p.folded ≤ most_folded
   pub count : p.count ≡ 0
   pub calls : p.calls ≤ most_folded
 
--- what a text spells that goes on so behind the lines of its base
+-- what a text spells that continues in this way after the lines of its base
 abbrev pub AreAllRead : Head → Option Base → List ℕ → Place → Result HistoryView ReadFault → Type 0
 AreAllRead h base ahead place result =
     (text : List ℕ) → AreEntriesRead text h (or_opening h.header base) [] place ahead →

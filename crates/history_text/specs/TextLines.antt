@@ -1,4 +1,4 @@
--- The lines behind the first one of a history text: those of a base, and entries behind them.
+-- The lines after the first one of a history text: those of a base, and entries after them.
 use Rattle.std.specs.Prelude.{◌≡◌, ℕ, ◌+◌, ◌≤◌, if◌then◌else◌, List, [], ◌∷◌, ◌++◌, length, map}
 use Rattle.std.specs.List.{AllByRecursion}
 use Rattle.history.specs.declared.entry.Entry.{Entry}
@@ -23,7 +23,7 @@ line_text (Entered number e) = entry_line number e
 
 -- ---- what lines count
 
--- how many entries a line tells of
+-- the number of entries that a line stands for
 abbrev pub entries_told : Line → ℕ
 entries_told (Based (Folded t)) = t
 entries_told (Based (Released t u)) = t
@@ -31,7 +31,7 @@ entries_told (Based (CountedDown t q)) = t
 entries_told (Based x) = 0
 entries_told (Entered number e) = 1
 
--- how many calls ended by them
+-- the number of calls that ended by them
 abbrev pub calls_told : Line → ℕ
 calls_told (Based (Seat i has)) = has.calls
 calls_told (Based x) = 0
@@ -41,30 +41,30 @@ abbrev pub sum_of : (Line → ℕ) → List Line → ℕ
 sum_of f [] = 0
 sum_of f (x ∷ xs) = f x + sum_of f xs
 
--- the end line: how many entries there are, those folded among them, and how many calls ended
+-- the end line: how many entries there are, with the folded ones, and how many calls ended
 abbrev pub end_of : List Line → List ℕ
 end_of lines = counts_line (sum_of entries_told lines) (sum_of calls_told lines)
 
 -- ---- the lines of a history
 
--- entries with their numbers, from one on
+-- entries with their numbers, from n on
 abbrev pub numbered : ℕ → List Entry → List Line
 numbered n [] = []
 numbered n (e ∷ es) = Entered n e ∷ numbered (n + 1) es
 
--- those of a base, and of entries behind it, the oldest first
+-- the lines of a base, and of entries after it, the oldest first
 abbrev pub lines_on : Base → List Entry → List Line
 lines_on b es = map Based (lines_told b) ++ numbered b.entries es
 
--- A history behind a first line: entries of its object's seats, no more than its cap, on the opening base or
--- a good one.
+-- A history with this first line: entries of its object's seats, at most as many as its cap, on the opening
+-- base or a good one.
 pub record IsHistoryOf (h : Head) (b : Base) (es : List Entry) : Type 0 where
   pub base : IsBaseOf h.header b
   pub head : head_of b ≡ h
   pub few : length es ≤ h.header.cap
   pub each : AllByRecursion (HasLine h.header) es
 
--- there is a history whose lines begin so
+-- there is a history whose lines begin with these
 abbrev pub SomeBeginsSo : Head → List Line → Type 0
 SomeBeginsSo h lines =
     (b : Base) × (es : List Entry) × (more : List Line) × IsHistoryOf h b es × (lines_on b es ≡ lines ++ more)

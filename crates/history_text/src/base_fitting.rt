@@ -15,7 +15,7 @@ use crate::base_writing::first_line;
 use history::base::{Base, Sleeper, Standing, opening_count};
 use history::header::Object;
 
-/// Whether the base is that of its object as it is opened.
+/// Returns whether the base is that of its object as it is opened.
 pub(crate) fn is_opening(base: &Base) -> bool
     ensures { IsTrue result ↔ (base.now ≡ opening_base base.now.header) }
 {
@@ -54,7 +54,7 @@ fn all_empty(lists: &[Vec<Sleeper>]) -> bool
     lists.iter().all(|list| list.is_empty())
 }
 
-/// Whether the base is a good one of some entries.
+/// Returns whether the base is a good one with folded entries.
 pub(crate) fn is_good(base: &Base) -> bool
     requires { IsInRange base.now.header }
     ensures { IsTrue result ↔ ((1 ≤ base.now.entries) × IsGood base.now) }
@@ -80,7 +80,7 @@ fn is_counted_for(base: &Base) -> bool
     }
 }
 
-/// Whether each line of the base may follow those before it.
+/// Returns whether each line of the base may follow those before it.
 fn follows(base: &Base) -> bool
     requires range { IsInRange base.now.header }
     requires shape { HasShape base.now }
@@ -99,7 +99,7 @@ fn follows(base: &Base) -> bool
     follow_sleepers(&mut so_far, base)
 }
 
-/// Takes up a line, if it may follow.
+/// Takes a line, if it may follow.
 fn follow(so_far: &mut BaseSoFar, base: &Base, line: &BaseLine) -> bool
     requires { IsInRange base.now.header }
     ensures { HaveFollowed result base.now so_far.old so_far.new (line.now ∷ []) }

@@ -1,4 +1,4 @@
-//! A line that tells a part of a base.
+//! A line of a base.
 
 ghost use Rattle.std.specs.Prelude.{◌≡◌, ◌++◌, OnOk, codes, decimal};
 ghost use Rattle.history.specs.EntryWords.{IsWritten};
@@ -10,24 +10,24 @@ use history::entry::{End, Entry, Mode, Word};
 use history::number::{put_number, put_wide};
 use std::alloc::AllocError;
 
-/// What one line says of a base.
+/// One line of a base.
 #[derive(Clone, Copy, Debug, PartialEq, Eq)]
 pub enum BaseLine {
-    /// How many entries of a lock or a read-write lock were folded.
+    /// The number of folded entries of a lock or a read-write lock.
     Folded(u128),
-    /// How many of a semaphore, and the permits released by seats that did not hold them.
+    /// The number of folded entries of a semaphore, and the permits released by seats that did not hold them.
     Released(u128, u128),
-    /// How many of a latch, and its count.
+    /// The number of folded entries of a latch, and its count.
     CountedDown(u128, u32),
-    /// What a seat has.
+    /// A seat, with its calls and holds.
     Seat(u16, SeatBase),
-    /// One in line.
+    /// A waiter in the queue.
     Stands(Standing),
-    /// One who sleeps on a condition.
+    /// A waiter of a condition.
     Sleeps(u8, Sleeper),
 }
 
-/// The entry whose words say for what one in line waits.
+/// Returns the entry whose words spell what a waiter waits for.
 pub(crate) fn waiting_entry(standing: &Standing) -> Entry
     ensures { result ≡ waiting_entry standing.now }
 {
@@ -57,7 +57,7 @@ pub(crate) fn waiting_entry(standing: &Standing) -> Entry
     }
 }
 
-/// Appends the words of a line, or a front of them.
+/// Appends the words of a line. On an error only the first bytes may have been appended.
 pub fn put_base_line(out: &mut Vec<u8>, line: &BaseLine) -> Result<(), AllocError>
     requires { IsBaseLine line.now }
     ensures { OnOk result (out.new.items ≡ out.old.items ++ base_line line.now) }
@@ -95,7 +95,7 @@ fn put_seat(out: &mut Vec<u8>, seat: u16, has: &SeatBase) -> Result<(), AllocErr
     put_wide(out, has.shared)
 }
 
-/// A seat and the calls that it ended.
+/// Appends a seat and the number of calls that it ended.
 fn put_calls(out: &mut Vec<u8>, seat: u16, calls: u64) -> Result<(), AllocError>
     ensures { OnOk result (out.new.items
         ≡ out.old.items ++ codes "seat " ++ decimal seat ++ codes " calls " ++ decimal calls) }

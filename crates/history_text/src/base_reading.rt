@@ -1,4 +1,4 @@
-//! A line of a base, read.
+//! Reading a line of a base.
 
 ghost use Rattle.std.specs.Prelude.{◌≡◌, ◌≢◌, ◌≤◌, ◌∷◌, ◌++◌, codes, decimal, IfSome, IfNone};
 ghost use Rattle.history.specs.GoodBase.{most_folded};
@@ -13,7 +13,7 @@ use history::base::{SeatBase, Sleeper, Standing};
 use history::entry::{End, Entry, Mode, Word};
 use history::words::Words;
 
-/// The greatest number of entries folded, of permits, of holds of a lock, of a seat and of a condition.
+/// The greatest number of folded entries, of permits, of holds of a lock, of a seat and of a condition.
 const MOST_FOLDED: u128 = 1_000_000_000_000_000;
 
 const MOST_PERMITS: u128 = 10_000_000_000_000_000_000_000_000;
@@ -24,7 +24,7 @@ const LAST_SEAT: u64 = 255;
 
 const LAST_CONDITION: u64 = 15;
 
-/// What follows how many entries were folded.
+/// Reads what follows the number of folded entries.
 #[tactic(auto, unfolding(crate::specs::BaseReading::beside_at))]
 fn beside(words: &mut Words<'_>, entries: u128) -> Option<BaseLine>
     requires { (1 ≤ entries) × (entries ≤ most_folded) }
@@ -77,7 +77,7 @@ fn has(words: &mut Words<'_>) -> Option<BaseLine>
     Some(BaseLine::Seat(seat as u16, has))
 }
 
-/// One in line, from the entry whose words say for what it waits.
+/// Returns the waiter in the queue, from the entry whose words spell what it waits for.
 fn standing_of(entry: &Entry) -> Option<Standing>
     ensures { result ≡ standing_of entry.now.word entry.now }
 {
@@ -156,7 +156,7 @@ fn base_line(words: &mut Words<'_>) -> Option<BaseLine>
     }
 }
 
-/// What a line says of a base.
+/// Returns the line of a base that these bytes spell.
 pub(crate) fn base_line_of(line: &[u8]) -> Option<BaseLine>
     ensures found { IfSome result (λ x. IsBaseLine x × (line.now ≡ base_line x)) }
     ensures none { IfNone result ((x : BaseLine) → IsBaseLine x → line.now ≢ base_line x) }

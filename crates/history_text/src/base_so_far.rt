@@ -1,4 +1,4 @@
-//! What the lines of a base say so far, and which line may come next.
+//! The part of a base that has been read, and which line may come next.
 
 ghost use Rattle.std.specs.Prelude.{◌≡◌, ◌⊎◌, ◌↔◌, ◌≤◌, ◌<◌, ◌+◌, IsTrue};
 ghost use Rattle.history.specs.declared.header.Object.TheVariants.{Semaphore};
@@ -22,7 +22,7 @@ const MOST_HOLDS: u32 = 2_147_483_647;
 
 const MOST_SHARED: u128 = 65_535;
 
-/// The sums of what the lines of a base told, and who waits.
+/// The sums over the lines of a base that were read, and who waits.
 #[derive(Debug, Drop)]
 pub struct BaseSoFar {
     entries: u128,
@@ -60,7 +60,7 @@ impl Model for BaseSoFar {
 }
 
 impl BaseSoFar {
-    /// Nothing was told.
+    /// Returns the sums before any line.
     pub fn new() -> Self
         ensures { result ≡ untold }
     {
@@ -79,7 +79,7 @@ impl BaseSoFar {
 }
 
 impl BaseSoFar {
-    /// Whether the line may follow those that were told, of a base with these seats.
+    /// Returns whether the line may follow those that were read, in a base with these seats.
     pub fn allows(&self, base: &Base, line: &BaseLine) -> bool
         requires { IsInRange base.now.header }
         ensures { IsTrue result ↔ MayFollow self.now base.now line.now }
@@ -108,7 +108,7 @@ impl BaseSoFar {
         self.entries == 0 && 1 <= entries && entries <= MOST_FOLDED
     }
 
-    /// Whether this seat is the next, and may have this.
+    /// Returns whether this seat is the next one, and may have these calls and holds.
     fn seats_next(&self, header: &Header, seat: u16, has: &SeatBase) -> bool
         requires { IsInRange header.now }
         ensures { IsTrue result ↔ IsSeated header.now self.now seat has.now }
@@ -204,14 +204,14 @@ impl BaseSoFar {
         self.is_free(seat) && gave_up(base, seat, condition, sleeper.holds)
     }
 
-    /// Whether the base was told whole: all its seats were.
+    /// Returns whether the base is complete: all its seats were read.
     pub fn is_whole(&self, header: &Header) -> bool
         ensures { IsTrue result ↔ AllSeated header.now self.now }
     {
         self.all_seated(header)
     }
 
-    /// How many entries were folded, and how many calls their seats ended.
+    /// Returns how many entries were folded, and how many calls their seats ended.
     pub fn sums(&self) -> (u64, u64)
         ensures sums { (result.0 ≡ self.now.entries) × (result.1 ≡ self.now.calls) }
         ensures few { (self.now.entries ≤ most_folded) × (self.now.calls ≤ most_folded) }
@@ -219,7 +219,7 @@ impl BaseSoFar {
         (self.entries as u64, self.calls)
     }
 
-    /// Takes up a line that may follow.
+    /// Takes a line that may follow.
     pub fn pass(&mut self, base: &Base, line: &BaseLine)
         requires range { IsInRange base.now.header }
         requires follows { MayFollow self.old base.now line.now }

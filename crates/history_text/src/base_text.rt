@@ -1,4 +1,4 @@
-//! The lines of a base, read one after another.
+//! Reading the lines of a base, one after another.
 
 ghost use Rattle.std.specs.Prelude.{◌≡◌, ◌≤◌, false, true, length, IfOk, None};
 ghost use Rattle.history.specs.Header.{IsInRange};
@@ -10,8 +10,8 @@ use history::base::Base;
 use line_text::fault::ReadFault;
 use std::alloc::Global;
 
-/// The base that the lines behind the first one say, where the reader then stands, and how many bytes are
-/// left. Without such lines it is none.
+/// Reads the base lines after the first line of a text. Returns the base, the reader's position after it and
+/// the number of bytes left. The base is None if the text has no such lines.
 pub fn base_behind(
     alloc: Global,
     head: &Head,

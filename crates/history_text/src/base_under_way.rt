@@ -28,10 +28,10 @@ use line_text::fault::TextFault;
 use std::alloc::Global;
 use std::marker::Model;
 
-/// No good line of a text has as many bytes.
+/// The most bytes of a good line.
 const MOST_BYTES: usize = 256;
 
-/// A base of an object as far as its lines were read: there is a good base whose lines begin so.
+/// A base of an object, as far as its lines were read. There is a good base whose lines begin with these.
 #[derive(Drop)]
 pub struct BaseUnderWay {
     base: Base,
@@ -51,8 +51,8 @@ impl Model for BaseUnderWay {
 }
 
 impl BaseUnderWay {
-    /// A base of which no line was read. It takes all memory that the base will need; `OutOfMemory` is the
-    /// only fault.
+    /// Returns a base of which no line was read. It reserves all memory that the base will need. The only
+    /// fault is `OutOfMemory`.
     pub fn open(alloc: Global, header: &Header) -> Result<Self, Fault>
         requires { IsInRange header.now }
         ensures opened { IfOk result (λ base. base ≡ record { header = header.now; lines = [] }) }
@@ -66,15 +66,15 @@ impl BaseUnderWay {
         })
     }
 
-    /// No base has more lines.
+    /// States how many lines a base has at most.
     fn recall_few(&self)
         ensures { length self.now.lines ≤ 513 }
     {
         let _lines = &self.lines;
     }
 
-    /// What the next line says of the base, and how many bytes follow it; or None where the base was told
-    /// whole, and the line is none of a base.
+    /// Returns the next line of the base, and how many bytes follow it. Returns None if the base is complete,
+    /// and the line isn't one of a base.
     fn next(&self, rest: &[u8]) -> Result<Option<(BaseLine, usize)>, TextFault>
         ensures line { IsBaseLineNext self.now rest.now result }
         ensures cut { IsErrOf result CutShort → HasNoBreak rest.now }
@@ -109,7 +109,7 @@ impl BaseUnderWay {
         }
     }
 
-    /// Takes up a line with which a good base begins. It takes no memory.
+    /// Takes a line with which a good base can go on. It allocates nothing.
     fn take(&mut self, line: &BaseLine)
         requires { GoodBeginsSo self.old.header (self.old.lines ++ line.now ∷ []) }
         ensures taken { self.new ≡ record { header = self.old.header; lines = self.old.lines ++ line.now ∷ [] } }
@@ -120,8 +120,8 @@ impl BaseUnderWay {
         self.lines += 1;
     }
 
-    /// Takes up the next line, if a good base begins with it, and says how many bytes follow it; or None
-    /// where the base was told whole, and the line is none of a base.
+    /// Takes the next line, if a good base can go on with it, and returns how many bytes follow it. Returns
+    /// None if the base is complete, and the line isn't one of a base.
     pub fn take_next(&mut self, rest: &[u8]) -> Result<Option<usize>, TextFault>
         ensures line { IsBaseLineTaken self.old rest.now result self.new }
         ensures header { self.new.header ≡ self.old.header }
@@ -140,7 +140,7 @@ impl BaseUnderWay {
         }
     }
 
-    /// The base, where all its lines were read, and the place behind them.
+    /// Returns the base after all its lines were read, and the position after them.
     pub fn finish(self) -> (Base, Place)
         requires { GoodHas self.header self.lines }
         ensures base { IsToldBase self.header result.0 × (base_lines result.0 ≡ self.lines) }
@@ -162,7 +162,7 @@ impl BaseUnderWay {
     }
 }
 
-/// Takes up a line that may follow, in a base that is read. It takes no memory.
+/// Adds a line that may follow to a base that is being read. It allocates nothing.
 fn take_line(base: &mut Base, line: &BaseLine)
     requires seats { (i : ℕ) (has : SeatBase) → line.now ≡ Seat i has → i < length base.old.seats }
     requires line { (p : Standing) → line.now ≡ Stands p → length base.old.line < base.old.header.seats }
@@ -190,7 +190,7 @@ fn take_line(base: &mut Base, line: &BaseLine)
     }
 }
 
-/// Has one more sleep on a condition, behind the others.
+/// Adds a waiter to a condition, after the others.
 fn put_asleep(sleepers: &mut Vec<Vec<Sleeper>>, condition: u8, sleeper: Sleeper)
     requires condition { condition < length sleepers.old.items }
     requires places { (n : ℕ)

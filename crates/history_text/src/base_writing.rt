@@ -1,4 +1,4 @@
-//! The lines of a base, written.
+//! Writing the lines of a base.
 
 ghost use Rattle.std.specs.Prelude.{◌≡◌, ◌∷◌, ◌++◌, ◌<◌, ◌≤◌, ◌^◌, [], OnOk, length, map};
 ghost use Rattle.std.specs.List.{AllByRecursion};
@@ -11,7 +11,7 @@ use history::base::{Base, SeatBase, Sleeper, Standing};
 use history::header::Object;
 use std::alloc::AllocError;
 
-/// Appends the lines of a base, or a front of them.
+/// Appends the lines of a base. On an error only the first bytes may have been appended.
 pub(crate) fn put_base(out: &mut Vec<u8>, base: &Base) -> Result<(), AllocError>
     requires conditions { length base.now.sleepers ≤ 16 }
     requires each { AllByRecursion IsBaseLine (base_lines base.now) }
@@ -23,7 +23,7 @@ pub(crate) fn put_base(out: &mut Vec<u8>, base: &Base) -> Result<(), AllocError>
     put_sleepers(out, &base.sleepers)
 }
 
-/// How many entries were folded, and what else the object counts.
+/// Returns the first line: how many entries were folded, and what else the object counts.
 pub(crate) fn first_line(base: &Base) -> BaseLine
     ensures { result ≡ first_line base.now.header.object base.now }
 {
@@ -34,7 +34,7 @@ pub(crate) fn first_line(base: &Base) -> BaseLine
     }
 }
 
-/// A line and its break.
+/// Appends a line and its break.
 fn put_line(out: &mut Vec<u8>, line: &BaseLine) -> Result<(), AllocError>
     requires { IsBaseLine line.now }
     ensures { OnOk result (out.new.items ≡ out.old.items ++ lines_text (line.now ∷ [])) }
@@ -86,7 +86,7 @@ fn put_asleep(out: &mut Vec<u8>, condition: u8, list: &[Sleeper]) -> Result<(), 
     Ok(())
 }
 
-/// The calls that all seats ended.
+/// Returns the number of calls that all seats ended.
 pub(crate) fn calls_of(seats: &[SeatBase]) -> u64
     requires { calls_sum seats.now < 2 ^ 64 }
     ensures { result ≡ calls_sum seats.now }

@@ -1,4 +1,4 @@
-//! The commonest lines of entries, read without cutting them into words.
+//! Reading the most frequent lines of entries without cutting them into words.
 
 ghost use Rattle.std.specs.Prelude.{◌≡◌, ◌≤◌, ◌∷◌, ◌++◌, drop, length, IfSome, decimal};
 ghost use Rattle.history.specs.EntryWords.{IsAsked};
@@ -13,11 +13,11 @@ use line_text::at_once::{behind_byte, behind_four, behind_three};
 use line_text::once::mode_of_once;
 use line_text::seat::seat_of;
 
-/// No number and space have more bytes.
+/// The most bytes of a number and a space.
 const MOST_BYTES: usize = 23;
 
-/// The word that begins the text, if a mode and an amount follow such a word, and what stands behind it and
-/// a space.
+/// Returns the word that begins the text, and what follows it and a space, if a mode and an amount follow
+/// such a word.
 #[inline(always)]
 fn asked_word(text: &[u8]) -> Option<(Word, &[u8])>
     ensures { IfSome result (λ r. IsAsked r.0 × (text.now ≡ asked_name r.0 ++ 32 ∷ r.1.now)) }
@@ -41,7 +41,7 @@ fn asked_word(text: &[u8]) -> Option<(Word, &[u8])>
     Some((Word::TryGot, behind_three(*b"ot ", rest)?))
 }
 
-/// An entry of 1, of no condition.
+/// Returns an entry with amount 1 that concerns no condition.
 #[inline(always)]
 fn once(seat: u16, word: Word, mode: Mode, end: End) -> Entry
     ensures { result ≡ once seat word mode end }
@@ -56,7 +56,7 @@ fn once(seat: u16, word: Word, mode: Mode, end: End) -> Entry
     }
 }
 
-/// A call that took nothing and waits no more, in words that no mode and amount end.
+/// Reads the words of an acquire that gave up or was interrupted at its start. No mode and amount end them.
 #[inline(always)]
 fn gone_without(text: &[u8], seat: u16) -> Option<(Entry, usize)>
     ensures seat { IfSome result (λ r. r.0.seat ≡ seat) }
@@ -75,8 +75,8 @@ fn gone_without(text: &[u8], seat: u16) -> Option<(Entry, usize)>
     ))
 }
 
-/// The entry of this seat whose words and break begin the text, if it is one of the commonest, and how many
-/// bytes follow.
+/// Returns the entry of this seat whose words and line break begin the text, if it is one of the most
+/// frequent, and how many bytes follow.
 #[inline(always)]
 fn common_words(text: &[u8], seat: u16) -> Option<(Entry, usize)>
     ensures seat { IfSome result (λ r. r.0.seat ≡ seat) }
@@ -89,7 +89,7 @@ fn common_words(text: &[u8], seat: u16) -> Option<(Entry, usize)>
     gone_without(text, seat)
 }
 
-/// Where the text goes on behind this number and a space.
+/// Returns the position after this number and a space, if the text begins with them.
 #[inline(always)]
 fn behind_number(text: &[u8], numbering: &mut Numbering, number: u64) -> Option<usize>
     ensures number { IfSome result (λ at. text.now ≡ decimal number ++ 32 ∷ drop at text.now) }
@@ -102,10 +102,10 @@ fn behind_number(text: &[u8], numbering: &mut Numbering, number: u64) -> Option<
     Some(end)
 }
 
-/// The entry whose line begins the text, if it has this number and is one of the commonest, and how many
-/// bytes follow.
+/// Returns the entry whose line begins the text, if it has this number and is one of the most frequent, and
+/// how many bytes follow.
 ///
-/// A number in place of what follows: it stays in a register.
+/// The rest is returned as a number of bytes, which stays in a register.
 #[inline(always)]
 pub fn common_entry(
     text: &[u8],

@@ -20,7 +20,7 @@ fn counts(words: &mut Words<'_>, entries: u64, calls: u64) -> Option<()>
     Some(())
 }
 
-/// Whether the line ends a text of so many entries, of which so many end a call.
+/// Returns whether the line ends a text with this number of entries, of which `calls` end a call.
 pub fn is_end(line: &[u8], entries: u64, calls: u64) -> bool
     ensures { IsTrue result ↔ (line.now ≡ counts_line entries calls) }
 {

@@ -1,4 +1,4 @@
-//! A line of an entry, and the end line.
+//! Writing a line of an entry, and the end line.
 
 ghost use Rattle.std.specs.Prelude.{◌≡◌, ◌+◌, ◌≤◌, ◌++◌, OnOk, OnErr, length, take, drop};
 ghost use Rattle.history.specs.EntryWords.{IsSpelt};
@@ -9,7 +9,7 @@ use history::number::{Numbering, put_number, spell};
 use history::pieces::put_byte;
 use std::alloc::AllocError;
 
-/// No entry's line has more bytes.
+/// The most bytes of an entry's line.
 const MOST_BYTES: usize = 108;
 
 /// Appends an entry's number, its seat and its words.
@@ -30,7 +30,8 @@ pub fn put_entry(
     Ok(())
 }
 
-/// Puts an entry's number, its seat and its words from a place on, and returns the place behind them.
+/// Writes an entry's number, its seat and its words from position `at` on, and returns the position after
+/// them.
 #[inline(always)]
 pub fn spell_entry(
     line: &mut [u8],
@@ -52,7 +53,8 @@ pub fn spell_entry(
     entry.spell_words(line, words_at)
 }
 
-/// Appends the end line of so many entries, of which so many end a call, or a front of it.
+/// Appends the end line, with the number of entries and of those that end a call. On an error only its first
+/// bytes may have been appended.
 pub fn put_counts(out: &mut Vec<u8>, entries: u64, calls: u64) -> Result<(), AllocError>
     ensures ok { OnOk result (out.new.items ≡ out.old.items ++ counts_line entries calls) }
     ensures err { OnErr result (take (length out.old.items) out.new.items ≡ out.old.items) }

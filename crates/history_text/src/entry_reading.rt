@@ -1,4 +1,4 @@
-//! A line of an entry, read.
+//! Reading a line of an entry.
 
 ghost use Rattle.std.specs.Prelude.{◌≡◌, ◌≢◌, ◌∷◌, ◌++◌, ◌≤◌, decimal, IfSome, IfNone};
 ghost use Rattle.history.specs.declared.entry.Entry.{Entry};
@@ -12,7 +12,7 @@ use history::entry::Entry;
 use history::header::Header;
 use history::words::Words;
 
-/// The entry of a line with this number, of an object with so many seats.
+/// Reads the number, which must be this one, the seat, which must be one of the object's, and the entry.
 #[tactic(auto, unfolding(crate::specs::EntryReading::line_at))]
 fn numbered_entry(words: &mut Words<'_>, number: u64, header: &Header) -> Option<Entry>
     requires { IsInRange header.now }
@@ -25,7 +25,7 @@ fn numbered_entry(words: &mut Words<'_>, number: u64, header: &Header) -> Option
     words.entry(seat as u16)
 }
 
-/// The entry of a line, with this number and under this header.
+/// Returns the entry that a line spells, with this number and under this header.
 pub fn entry_of(line: &[u8], number: u64, header: &Header) -> Option<Entry>
     requires { IsInRange header.now }
     ensures found { IfSome result (λ e. HasLine header.now e × (line.now ≡ entry_line number e)) }

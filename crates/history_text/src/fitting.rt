@@ -12,8 +12,8 @@ use history::entries::History;
 use history::entry::Entry;
 use history::header::Header;
 
-/// Whether the cap is the header's, the base is its opening one or a good one, and each entry is of one of
-/// its seats and has a line of a history text.
+/// Returns whether the cap is the header's, the base is its opening one or a good one, and each entry is of
+/// one of its seats and can be written in a history text.
 pub fn fits(header: &Header, history: &History) -> bool
     ensures { IsTrue result ↔ Fits header.now history.now }
 {
@@ -40,7 +40,7 @@ fn has_base_text(header: &Header, base: Option<&Base>) -> bool
     }
 }
 
-/// Whether the base is the header's opening one, or a good one of a header in range.
+/// Returns whether the base is the header's opening one, or a good one and the header is in range.
 fn has_lines(header: &Header, base: &Base) -> bool
     ensures { IsTrue result ↔ HasBaseText header.now base.now }
 {

@@ -1,4 +1,4 @@
-//! The text of a history, written.
+//! Writing the text of a history.
 
 ghost use Rattle.std.specs.Prelude.{◌≡◌, ◌≤◌, ◌++◌, All, IfOk, IfErr, OnOk, reverse};
 ghost use Rattle.std.specs.Option.{option_copied};
@@ -21,13 +21,13 @@ use history::header::Header;
 use history::number::Numbering;
 use std::alloc::{AllocError, Global};
 
-/// More than the length of most entries' lines: the text is made for lines of this length.
+/// More than the length of most entries' lines. Memory is reserved for lines of this length.
 const LINE_LENGTH: usize = 32;
 
-/// The text of a history under its header, which is its base's.
+/// Returns the text of a history under its header, which is its base's header.
 ///
-/// It is a history text, and is read again, where the history [`fits`](crate::fitting::fits) its header;
-/// to be written, its base need only be good, and its entries be spelt.
+/// If the history [`fits`](crate::fitting::fits) its header, this is a history text and can be read again. To
+/// be written, its base need only be good, and its entries be spelt.
 pub fn write_text(alloc: Global, header: &Header, history: &History) -> Result<Vec<u8>, Fault>
     requires range { IsInRange header.now }
     requires base { IsBaseOf header.now (base_on header.now history.now) }
@@ -64,8 +64,8 @@ fn written(alloc: Global, header: &Header, history: &History) -> Result<Vec<u8>,
     Ok(out)
 }
 
-/// Appends the first line and the lines of a base, and returns how many entries were folded, and how many
-/// calls ended by them.
+/// Appends the first line and the lines of a base. Returns how many entries were folded, and how many calls
+/// they ended.
 pub fn put_head(
     out: &mut Vec<u8>,
     header: &Header,
@@ -96,7 +96,7 @@ fn put_base_head(out: &mut Vec<u8>, header: &Header, base: &Base) -> Result<(u64
     Ok((base.entries as u64, calls_of(&base.seats)))
 }
 
-/// Appends the name of a format and the object part, with the line's break.
+/// Appends the name of a format, the object part and the line break.
 fn put_first_line(out: &mut Vec<u8>, name: &[u8], header: &Header) -> Result<(), AllocError>
     requires { IsInRange header.now }
     ensures { OnOk result (out.new.items ≡ out.old.items ++ ended (name.now ++ part_of header.now)) }

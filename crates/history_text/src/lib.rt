@@ -1,15 +1,15 @@
 //! The history text: a header, the entries of a history with their numbers, and two counts. In format 2 the
-//! lines of the base on which the history stands come before its entries.
+//! lines of the history's base come before its entries.
 //!
 //! Each text is a history text, with one base and one list of entries, or it has one first fault:
-//! [`one_reading`]. What begins a history text and isn't all of it is cut short: [`cut_short`]. A history
-//! that fits its header is read as it was written: [`written_is_read`]. Each legal history on a good base
-//! fits: [`legal_histories_fit`]. A text needn't be of a legal history to be read, and what is read fits:
+//! [`one_reading`]. A proper beginning of a history text is cut short: [`cut_short`]. A history that fits its
+//! header is read as it was written: [`written_is_read`]. Each legal history on a good base fits:
+//! [`legal_histories_fit`]. A text can be read even if its history isn't legal, and what is read fits:
 //! [`what_is_read_fits`].
 //!
-//! A line is good exactly if some history begins with it and the lines before it: a history on the opening
-//! base or on a good one (`specs/HistoryText.antt`). So a line of a base is read where some good base begins
-//! so, and bad where none does.
+//! A line is good exactly if some history begins with the lines before it and this line. The history is on
+//! the opening base or on a good one (`specs/HistoryText.antt`). So a line of a base is good if some good
+//! base begins with these lines, and bad if none does.
 #![tactic(auto)]
 
 mod base_fitting;

@@ -1,4 +1,4 @@
-//! The lines of a history text behind its base, one after another.
+//! Reading the lines of a history text after its base, one after another.
 
 ghost use Rattle.std.specs.Prelude.{◌≡◌, ◌+◌, ◌<◌, ◌≤◌, ◌^◌, [], codes, Err, length, IfOk, IfSome, IfErr, IsErrOf};
 ghost use Rattle.history.specs.GoodBase.{most_folded};
@@ -22,7 +22,7 @@ use history::text::first_line;
 use line_text::fault::TextFault;
 use line_text::header_line::first_header;
 
-/// What the first line of a text says, and what follows it.
+/// Reads the first line of a text, and returns it with what follows.
 pub fn head_of(text: &[u8]) -> Result<(Head, &[u8]), TextFault>
     ensures ok { IfOk result (λ r. Begins history_form text.now r.0 [] r.1.now) }
     ensures err { IfErr result (λ fault. IsReading history_form text.now (Err fault)) }
@@ -42,7 +42,7 @@ pub fn head_of(text: &[u8]) -> Result<(Head, &[u8]), TextFault>
     }
 }
 
-/// The same of a text that begins with no header of a history without a base.
+/// As `head_of`, for a text whose first line isn't of format 1.
 fn based_head(text: &[u8]) -> Result<(Head, &[u8]), TextFault>
     requires { (fault : TextFault) × LacksHeader (codes "aqs-history 1 ") text.now fault }
     ensures ok { IfOk result (λ r. Begins history_form text.now r.0 [] r.1.now) }
@@ -63,7 +63,7 @@ fn based_head(text: &[u8]) -> Result<(Head, &[u8]), TextFault>
     }
 }
 
-/// The next line, word by word.
+/// As `next_entry`, word by word.
 #[inline(never)]
 fn entry_by_words(
     rest: &[u8],
@@ -100,8 +100,8 @@ fn entry_by_words(
     }
 }
 
-/// The entry of the next line, and how many bytes follow it; or None where that is the end line, and nothing
-/// follows.
+/// Returns the entry of the next line, and how many bytes follow it. Returns None if that is the end line,
+/// and nothing follows it.
 #[inline(always)]
 pub fn next_entry(
     rest: &[u8],

@@ -1,4 +1,4 @@
-//! Where a reader of a history text stands.
+//! The position of a reader in a history text.
 
 ghost use Rattle.std.specs.Prelude.{◌≡◌, ◌+◌, ◌<◌, ◌^◌};
 ghost use Rattle.history_text.specs.NextLine.{behind};
@@ -7,15 +7,15 @@ use history::entries::ends_call;
 use history::entry::Entry;
 use history::header::Header;
 
-/// What the first line of a text says: a header, and whether the lines of a base follow.
+/// The first line of a text: a header, and whether the lines of a base follow.
 #[derive(Clone, Copy, Debug, PartialEq, Eq)]
 pub struct Head {
     pub is_based: bool,
     pub header: Header,
 }
 
-/// How many lines of a base were read, how many entries were folded, how many were read behind the base, and
-/// how many calls ended by all of them.
+/// How many lines of a base were read, how many entries were folded, how many entries were read after the
+/// base, and how many calls all of these ended.
 #[derive(Clone, Copy, Debug, PartialEq, Eq)]
 pub struct Place {
     pub lines: u64,
@@ -25,7 +25,7 @@ pub struct Place {
 }
 
 impl Place {
-    /// Behind one entry more.
+    /// Returns the position after one more entry.
     #[inline(always)]
     pub fn behind(self, entry: &Entry) -> Place
         requires { (self.count + 1 < 2 ^ 64) × (self.calls + 1 < 2 ^ 64) }

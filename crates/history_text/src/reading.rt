@@ -1,4 +1,4 @@
-//! The reading of a history text.
+//! Reading a history text.
 
 ghost use Rattle.std.specs.Prelude.{◌≡◌, [], None};
 ghost use Rattle.history.specs.Entries.{or_opening};
@@ -16,10 +16,10 @@ use history::number::Numbering;
 use line_text::fault::ReadFault;
 use std::alloc::Global;
 
-/// The header and the history that a text spells, or its first fault, or want of memory.
+/// Returns the header and the history that a text spells, or its first fault, or lack of memory.
 ///
-/// No room is owed in what is read, which fits its header (`what_is_read_fits`) and needn't be legal. Behind
-/// format 1 it has no base.
+/// No room is owed in what is read. It fits its header (`what_is_read_fits`) and needn't be legal. From a
+/// text of format 1 it has no base.
 pub fn read_text(alloc: Global, text: &[u8]) -> Result<(Header, History), ReadFault>
     ensures { Reads text.now result }
 {
@@ -32,7 +32,7 @@ pub fn read_text(alloc: Global, text: &[u8]) -> Result<(Header, History), ReadFa
     }
 }
 
-/// An empty history on a base, or on none.
+/// Returns an empty history on a base, or on none.
 fn empty_on(alloc: Global, cap: u32, base: Option<Base>) -> History
     ensures { result ≡ record { cap = cap; base = base; entries = []; owed = 0; places = 0 } }
 {
@@ -42,7 +42,7 @@ fn empty_on(alloc: Global, cap: u32, base: Option<Base>) -> History
     }
 }
 
-/// The entries of a text from a place on, behind an empty history.
+/// Reads the entries of a text from a position on, into an empty history.
 fn read_entries(
     empty: History,
     ahead: &[u8],

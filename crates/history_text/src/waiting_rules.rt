@@ -13,7 +13,7 @@ use history::base::{Base, SeatBase, Standing};
 use history::entry::{End, Mode};
 use history::header::Object;
 
-/// Whether it is a lock or a read-write lock.
+/// Returns whether it is a lock or a read-write lock.
 pub(crate) fn is_lock(object: Object) -> bool
     ensures { result ≡ is_lock object }
 {
@@ -23,14 +23,14 @@ pub(crate) fn is_lock(object: Object) -> bool
     }
 }
 
-/// The number, or 0 where it is below.
+/// Returns the number, or 0 if it is negative.
 pub(crate) fn above_none(permits: i32) -> u128
     ensures { result ≡ at_least_none permits }
 {
     if permits < 0 { 0 } else { permits as u128 }
 }
 
-/// How far the number is below 0.
+/// Returns how far the number is below 0, or 0 if it isn't.
 pub(crate) fn below_none(permits: i32) -> u128
     ensures { result ≡ at_least_none (neg_ℤ permits) }
 {
@@ -41,7 +41,7 @@ pub(crate) fn below_none(permits: i32) -> u128
     }
 }
 
-/// What a seat has.
+/// Returns the calls and holds of a seat.
 fn seat_of(base: &Base, seat: u16) -> SeatBase
     ensures { result ≡ seat_of base.now seat }
 {
@@ -85,7 +85,7 @@ fn most_exclusive(object: Object) -> u32
     }
 }
 
-/// Whether the seat may have given up so many holds to sleep on the condition.
+/// Returns whether the seat may have given up this number of holds to wait on the condition.
 pub(crate) fn gave_up(base: &Base, seat: u16, condition: u8, holds: u32) -> bool
     ensures { IsTrue result ↔ GaveUp base.now seat condition holds }
 {
@@ -105,7 +105,7 @@ fn holds_nothing(has: SeatBase) -> bool
     has.exclusive == 0 && has.shared == 0
 }
 
-/// Whether an acquire in line asks for what the object has, and is from no sleep.
+/// Returns whether an acquire in the queue asks for what the object has, and comes back from no sleep.
 fn asks(base: &Base, standing: &Standing) -> bool
     ensures { IsTrue result ↔ Asks base.now standing.now }
 {
@@ -126,7 +126,8 @@ fn is_none(how: End) -> bool
     matches!(how, End::None)
 }
 
-/// Whether one that comes back from a condition gave up its holds, and its await has an end.
+/// Returns whether a waiter that comes back from a condition gave up its holds, and its wait there has an
+/// end.
 fn returns(base: &Base, standing: &Standing) -> bool
     requires { standing.now.who.back ≡ true }
     ensures { IsTrue result ↔ Returns base.now standing.now }
@@ -138,7 +139,7 @@ fn returns(base: &Base, standing: &Standing) -> bool
         && !is_none(standing.how)
 }
 
-/// Whether one may stand in line so.
+/// Returns whether this waiter may be in the queue.
 pub(crate) fn stands_well(base: &Base, standing: &Standing) -> bool
     ensures { IsTrue result ↔ StandsWell base.now standing.now }
 {

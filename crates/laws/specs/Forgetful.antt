@@ -1,4 +1,4 @@
--- Bases that are spoilt: each forgets something that its entries left, and a next entry shows it.
+-- Spoilt bases: each lacks something that its entries left, and a next entry shows it.
 use Rattle.std.specs.Prelude.{List, [], ◌∷◌, map, pos, reverse}
 use Rattle.history.specs.declared.base.SeatBase.{SeatBase}
 use Rattle.history.specs.declared.entry.End.TheVariants as end
@@ -11,7 +11,7 @@ use Rattle.history.specs.Base.{Base, folded, opening_base}
 use Rattle.history.specs.Steps.{plain}
 use Rattle.laws.specs.OutOfTurn.{of}
 
--- A lock of three seats with a condition: seat 0 sleeps there, and seat 1 owns and signals.
+-- A lock of three seats with a condition: seat 0 waits there, and seat 1 owns and signals.
 abbrev pub opened_lock : Base
 opened_lock = opening_base (record { object = Lock Fair; seats = 3; conditions = 1; cap = 64 })
 
@@ -26,7 +26,7 @@ moved = record { seat = 1; word = word.Signal; mode = X; n = 1; at = 0; end = en
 abbrev pub forgets_a_sleeper : Base
 forgets_a_sleeper = record (folded opened_lock slept) { sleepers = [] ∷ [] }
 
--- Seats 1 and 2 stand in line, and the owner gave back.
+-- Seats 1 and 2 are in the queue, and the owner released.
 abbrev pub two_in_line : List Entry
 two_in_line = of 0 word.Gave ∷ of 2 word.Queued ∷ of 1 word.Queued ∷ of 0 word.Got ∷ []
 
@@ -56,7 +56,7 @@ forgets_a_read =
       seats = map without_shared (folded opened_read_write read_held).seats;
     }
 
--- A semaphore without permits: one is released by a seat that has none, and taken.
+-- A semaphore without permits: one is released by a seat that has none, and acquired.
 abbrev pub opened_semaphore : Base
 opened_semaphore =
     opening_base (record { object = Semaphore NonFair (pos 0); seats = 2; conditions = 0; cap = 64 })
@@ -70,7 +70,7 @@ took_a_permit = plain 1 word.Got S 1 ∷ []
 abbrev pub forgets_a_permit : Base
 forgets_a_permit = record (folded opened_semaphore released_unheld) { unheld = 0 }
 
--- A latch that was counted down, and is passed.
+-- A latch that was counted down, and is open.
 abbrev pub opened_latch : Base
 opened_latch = opening_base (record { object = Latch 1; seats = 2; conditions = 0; cap = 64 })
 
@@ -83,7 +83,7 @@ passes = plain 1 word.Got S 1 ∷ []
 abbrev pub forgets_the_count : Base
 forgets_the_count = record (folded opened_latch counted_out) { count = 1 }
 
--- A seat that the object lacks takes: the entry is legal, but a base has no place for what it leaves.
+-- A seat that the object lacks acquires: the entry is legal, but a base has no place for its result.
 abbrev pub opened_for_one : Base
 opened_for_one = opening_base (record { object = Lock Fair; seats = 1; conditions = 0; cap = 64 })
 

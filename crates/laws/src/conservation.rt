@@ -1,4 +1,4 @@
-//! Permits of a semaphore.
+//! Laws of a semaphore's permits.
 
 ghost use Rattle.std.specs.Prelude.{◌≡◌, ◌*◌, ◌≤◌, ◌≤ℤ◌, List, ℕ, true, pos, length, FitsSigned};
 ghost use Rattle.std.specs.Int.{w32};
@@ -15,14 +15,14 @@ ghost use Rattle.history.specs.Object.{is_semaphore};
 ghost use Rattle.history.specs.Start.{opening};
 ghost use Rattle.laws.specs.Breaks.{drained_too_many, permit_slept_away, released_too_many, semaphore};
 
-/// The permits held and free are those that the semaphore was made with and those that were released
-/// by seats which didn't hold them.
+/// The permits held and free are those with which the semaphore was opened and those that were released by
+/// seats which didn't hold them.
 pub fn permits_are_conserved()
     ensures { (k : Header) (h : List Entry) → is_semaphore k.object ≡ true →
         IsLegal (opening k) h → AreSeated (opening k) h → IsConserved (opening k) h }
 {}
 
-/// Free permits are never more than `MOST_AMOUNT`, nor fewer than a number of 32 bits may be.
+/// The free permits are at most `MOST_AMOUNT`, and at least the least number of 32 bits.
 pub fn free_permits_stay_in_range()
     ensures at_most { (k : Header) (h : List Entry) →
         IsInRange k → is_semaphore k.object ≡ true → IsLegal (opening k) h →
@@ -39,7 +39,7 @@ pub fn permits_held_stay_in_range()
         (seat : ℕ) (mode : Mode) → held (opening k) h seat mode ≤ MOST_AMOUNT * length h }
 {}
 
-/// A permit that is given up to sleep is lost. That isn't legal.
+/// A permit that is given up for a wait on a condition would be lost. That isn't legal.
 pub fn a_permit_is_not_slept_away()
     ensures lost { IsConserved (opening semaphore) permit_slept_away → ⊥ }
     ensures illegal { IsLegal (opening semaphore) permit_slept_away → ⊥ }
@@ -51,7 +51,7 @@ pub fn no_release_goes_past_the_range()
     ensures illegal { IsLegal (opening semaphore) released_too_many → ⊥ }
 {}
 
-/// A drain of more permits than there may be isn't legal.
+/// A drain of more permits than the limit isn't legal.
 pub fn no_drain_goes_past_the_range()
     ensures past { held (opening semaphore) drained_too_many 0 S ≤ MOST_AMOUNT * length drained_too_many → ⊥ }
     ensures illegal { IsLegal (opening semaphore) drained_too_many → ⊥ }

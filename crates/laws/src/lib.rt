@@ -1,7 +1,7 @@
-//! What holds of every legal history, and a history that breaks each law and isn't legal.
+//! Laws of every legal history, each with a counterexample: a history that violates it and isn't legal.
 //!
-//! A law is the contract of a function with no parameters and an empty body. It speaks of the
-//! definitions of `history` alone, so it holds of whatever meets them.
+//! A law is the contract of a function with no parameters and an empty body. It uses the definitions of
+//! `history` alone, so it holds for whatever satisfies them.
 #![tactic(auto)]
 
 pub mod bases;

@@ -1,4 +1,4 @@
-//! Order: the line is served in turn.
+//! Laws of order: the wait queue is served first come, first served.
 
 ghost use Rattle.std.specs.Prelude.{List};
 ghost use Rattle.history.specs.declared.entry.Entry.{Entry};
@@ -9,32 +9,32 @@ ghost use Rattle.history.specs.Start.{opening};
 ghost use Rattle.laws.specs.OutOfTurn.{fair_lock, got_past_the_line, granted_out_of_turn};
 ghost use Rattle.laws.specs.OutOfTurn.{strict_lock, tried_past_the_line};
 
-/// Nobody in line is passed: whoever is granted, or comes back from a condition, finds that the waits of
-/// all who arrived in line before it have ended.
+/// Nobody in the queue is overtaken. When a waiter is granted, or comes back from a condition, the waits of
+/// all who joined before it have ended.
 pub fn nobody_in_line_is_passed()
     ensures { (k : Header) (h : List Entry) → IsLegal (opening k) h → IsInOrder (opening k) h }
 {}
 
-/// In a fair or strict object a new acquire, timed or untimed, that isn't reentrant takes only where nobody
-/// waits: the waits of all who ever arrived have ended. In a strict object so does an untimed try, which
-/// barges in a fair one.
+/// In a fair or strict object a new acquire, timed or untimed, that isn't reentrant succeeds only while
+/// nobody waits: the waits of all who ever joined have ended. In a strict object the same holds for an
+/// untimed try, which barges in a fair one.
 pub fn fair_mode_lets_nobody_pass()
     ensures { (k : Header) (h : List Entry) → IsLegal (opening k) h → IsFairOrder (opening k) h }
 {}
 
-/// A history in which the second in line is granted before the first isn't legal.
+/// A history in which the second waiter is granted before the first isn't legal.
 pub fn a_grant_out_of_turn_is_not_legal()
     ensures passed { IsInOrder (opening fair_lock) granted_out_of_turn → ⊥ }
     ensures illegal { IsLegal (opening fair_lock) granted_out_of_turn → ⊥ }
 {}
 
-/// A history of a fair lock in which a new call takes past one in line isn't legal.
+/// A history of a fair lock in which a new call overtakes a waiter isn't legal.
 pub fn a_fair_take_past_the_line_is_not_legal()
     ensures passed { IsFairOrder (opening fair_lock) got_past_the_line → ⊥ }
     ensures illegal { IsLegal (opening fair_lock) got_past_the_line → ⊥ }
 {}
 
-/// A history of a strict lock in which a try takes past one in line isn't legal.
+/// A history of a strict lock in which a try overtakes a waiter isn't legal.
 pub fn a_strict_try_past_the_line_is_not_legal()
     ensures passed { IsFairOrder (opening strict_lock) tried_past_the_line → ⊥ }
     ensures illegal { IsLegal (opening strict_lock) tried_past_the_line → ⊥ }

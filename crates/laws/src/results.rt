@@ -1,4 +1,4 @@
-//! Results: whatever is asked, in whatever order, the history that is left is legal.
+//! Laws of results: any steps, in any order, leave a legal history.
 
 ghost use Rattle.std.specs.Prelude.{List, [], ℕ};
 ghost use Rattle.history.specs.declared.entry.Entry.{Entry};
@@ -9,8 +9,8 @@ ghost use Rattle.history.specs.Legal.{IsLegal};
 ghost use Rattle.history.specs.Start.{Start, opening};
 ghost use Rattle.laws.specs.OutOfTurn.{fair_lock, gave_first};
 
-/// A list of steps of any seats leaves a legal history: of an object as opened, and of one with a legal
-/// history, whatever stood before that.
+/// A list of steps of any seats leaves a legal history, if the object is as opened or has a legal history,
+/// from whatever start.
 pub fn results_are_legal()
     ensures opened { (k : Header) (steps : List (ℕ × Step)) →
         IsLegal (opening k) (results (opening k) [] steps).1 }
@@ -18,7 +18,7 @@ pub fn results_are_legal()
         IsLegal s (results s h steps).1 }
 {}
 
-/// A history that begins with a give isn't legal.
+/// A history that begins with a release isn't legal.
 pub fn a_give_of_nothing_is_not_legal()
     ensures { IsLegal (opening fair_lock) gave_first → ⊥ }
 {}

@@ -1,4 +1,4 @@
-//! Room: what must be given back finds room, whatever else was recorded.
+//! Laws of room: what must be released finds room, whatever else was recorded.
 
 ghost use Rattle.std.specs.Prelude.{◌≡◌, ◌≢◌, ◌+◌, List, [], ◌∷◌, ℕ, true, false};
 ghost use Rattle.history.specs.declared.entry.Entry.{Entry};
@@ -17,27 +17,28 @@ pub fn each_entry_changes_what_is_owed()
         owed (opening k) (e ∷ h) + releases k.object e ≡ owed (opening k) h + reserves k.object e }
 {}
 
-/// A hold of a lock is given back, one in line takes or leaves, a sleeper lapses or is moved, and one
-/// that slept comes back: for each of these entries there is room where there was room for what was owed.
+/// These entries always have room, if there was room for what was owed: the release of a hold of a lock, the
+/// entry by which a waiter succeeds or leaves, a lapse, a signal that moves a waiter, and the end of an
+/// await.
 pub fn room_is_never_lacking()
     ensures { (k : Header) (e : Entry) (h : List Entry) →
         IsLegal (opening k) (e ∷ h) → AreSeated (opening k) (e ∷ h) → Fits (opening k) h →
         was_owed k.object e ≡ true → has_room (opening k) h e ≡ true }
 {}
 
-/// An answer leaves room for what is owed where there was room before.
+/// An answer leaves room for what is owed, if there was room before.
 pub fn answers_keep_room()
     ensures { (s : Start) (h : List Entry) (seat : ℕ) (step : Step) →
         Fits s h → Fits s (answer s h seat step).1 }
 {}
 
-/// Behind any steps since the opening, entries and what is owed fit in the cap.
+/// After any steps since the opening, the entries and what is owed fit in the cap.
 pub fn owed_fits()
     ensures { (k : Header) (steps : List (ℕ × Step)) → Fits (opening k) (results (opening k) [] steps).1 }
 {}
 
-/// One who leaves the line without having stood there releases what was never reserved, and in a full
-/// history has no room. That isn't legal.
+/// If a seat left the queue without having been in it, it would release what was never reserved, and in a
+/// full history its entry has no room. That isn't legal.
 pub fn who_never_waited_may_lack_room()
     ensures fits { Fits (opening lock) full }
     ensures owed { was_owed lock.object leaves_unseen ≡ true }

@@ -1,6 +1,6 @@
 -- How a text begins.
 use Rattle.std.specs.Prelude.{◌≢◌, ℕ, List, ◌++◌}
 
--- nothing that begins with these bytes is the text
+-- the text doesn't begin with these bytes
 abbrev pub BeginsOtherwise : List ℕ → List ℕ → Type 0
 BeginsOtherwise beginning text = (rest : List ℕ) → text ≢ beginning ++ rest

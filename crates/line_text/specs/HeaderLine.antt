@@ -8,11 +8,11 @@ use Rattle.history.specs.Text.{HasNoBreak, ended}
 use Rattle.line_text.specs.declared.fault.TextFault.{TextFault}
 use Rattle.line_text.specs.declared.fault.TextFault.TheVariants.{BadHeader, BadLine, CutShort}
 
--- the line of this header, behind the name, begins the text, and this follows it
+-- the line of this header, after the name, begins the text, and this follows it
 abbrev pub BeginsWithHeader : List ℕ → List ℕ → Header × Bor (List ℕ) → Type 0
 BeginsWithHeader name text found = IsInRange found.0 × (text ≡ ended (name ++ part_of found.0) ++ found.1.now)
 
--- no header's line, behind the name, begins the text: it has no whole line, or its first is another
+-- the text doesn't begin with the name and a header's line: it has no whole line, or another first line
 abbrev pub LacksHeader : List ℕ → List ℕ → TextFault → Type 0
 LacksHeader name text CutShort = HasNoBreak text
 LacksHeader name text BadHeader =

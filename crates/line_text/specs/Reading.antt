@@ -1,4 +1,4 @@
--- Which texts are of a form, and the first fault of a text that is not, line by line.
+-- Which texts have a form, and the first fault of a text that doesn't, line by line.
 use Rattle.std.specs.Prelude.{◌≡◌, ◌≢◌, ℕ, ◌+◌, List, [], ◌∷◌, ◌++◌, length, Result, Ok, Err, ◌⊎◌}
 use Rattle.line_text.specs.declared.fault.TextFault.{TextFault}
 use Rattle.line_text.specs.declared.fault.TextFault.TheVariants.{BadHeader, BadLine, CutShort}
@@ -31,7 +31,7 @@ HasBadHeader {H} form text =
     (line : List ℕ) × (rest : List ℕ) × (text ≡ line ++ 10 ∷ rest) × HasNoBreak line
     × ((h : H) → form.IsHeader h → line ≢ form.header_line h)
 
--- Behind these items this line is neither an item nor the right end line.
+-- After these items this line is neither an item nor the right end line.
 pub record IsBadLine {H I : Type 0} (form : Form H I) (h : H)
     (items : List I) (line : List ℕ) : Type 0 where
   pub whole : HasNoBreak line
@@ -48,7 +48,7 @@ HasBadLine {H} {I} form text number =
     × Begins form text h items (ended (form.end_line items) ++ rest) × form.MayEnd h items
     × (rest ≢ []) × (number ≡ length items + 3))
 
--- what a text says, or its first fault
+-- what a text spells, or its first fault
 abbrev pub Reading : Type 0 → Type 0 → Type 0
 Reading H I = Result (H × List I) TextFault
 
@@ -58,8 +58,8 @@ IsReading form text (Err CutShort) = IsCutShort form text
 IsReading form text (Err BadHeader) = HasBadHeader form text
 IsReading form text (Err (BadLine number)) = HasBadLine form text number
 
--- what a call answers that keeps what it reads: what it keeps is as it is to be, or this is the first fault
--- of the text, or memory was refused
+-- what a call returns that keeps what it reads: this is right, or this is the first fault of the text, or an
+-- allocation failed
 abbrev pub Reads : {H I T : Type 0} → Form H I → (T → Type 0) → List ℕ → Result T ReadFault → Type 0
 Reads form Keeps text (Ok kept) = Keeps kept
 Reads form Keeps text (Err (Text fault)) = IsReading form text (Err fault)

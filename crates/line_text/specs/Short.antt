@@ -2,7 +2,7 @@
 use Rattle.std.specs.Prelude.{ℕ, ◌<◌, List, [], length}
 use Rattle.line_text.specs.Form.{Form, AreItems}
 
--- each line that a text of the form has, without its break, has fewer bytes than so many
+-- each line of a text of the form, without its break, has fewer than `bound` bytes
 pub record HasShortLines {H I : Type 0} (form : Form H I) (bound : ℕ) : Type 0 where
   pub header : (h : H) → form.IsHeader h → length (form.header_line h) < bound
   pub item : (h : H) (before : List I) (x : I) → form.IsHeader h → AreItems form h [] before →

@@ -1,4 +1,4 @@
--- A text under way: what was read of it, and what the next line says.
+-- A text that is being read: what was read of it, and what the next line spells.
 use Rattle.std.specs.Prelude.{◌≡◌, ℕ, List, [], ◌++◌, length, Option, Some, None, Result, Ok, Err}
 use Rattle.std.specs.Borrow.{Bor}
 use Rattle.history.specs.Text.{ended}
@@ -19,14 +19,14 @@ pub record AreRead {H I : Type 0} (form : Form H I) (text : List ℕ) (so_far : 
   pub count : so_far.count ≡ length items
   pub known : so_far.known items
 
--- what follows whatever items were read begins with the line of the next, and goes on with this
+-- whatever items were read, the line of the next item begins the rest, and this follows it
 pub record IsAhead {H I : Type 0} (form : Form H I) (so_far : SoFar H I) (rest : List ℕ) (item : I)
     (after : List ℕ) : Type 0 where
   pub fits : (items : List I) → so_far.count ≡ length items → so_far.known items →
       form.IsItem so_far.header items item
   pub parts : rest ≡ ended (form.item_line item) ++ after
 
--- whatever items were read, they are all
+-- whatever items were read, there are no more
 abbrev pub AllRead : {H I : Type 0} → Form H I → List ℕ → SoFar H I → List ℕ → Type 0
 AllRead {H} {I} form text so_far rest =
     (items : List I) → AreRead form text so_far items rest → IsText form text so_far.header items
@@ -36,8 +36,8 @@ abbrev pub HasFault : {H I : Type 0} → Form H I → List ℕ → SoFar H I →
 HasFault {H} {I} form text so_far rest fault =
     (items : List I) → AreRead form text so_far items rest → IsReading form text (Err fault)
 
--- what the next line says: an item, behind whose line so many bytes are left, or that there is none, or a
--- fault
+-- what the next line spells: an item, with how many bytes are left after its line, or that there is none, or
+-- a fault
 abbrev pub IsLineOf : {H I : Type 0} → Form H I → List ℕ → SoFar H I → List ℕ →
     Result (Option (I × ℕ)) TextFault → Type 0
 IsLineOf form text so_far rest (Ok (Some line)) =
@@ -45,7 +45,7 @@ IsLineOf form text so_far rest (Ok (Some line)) =
 IsLineOf form text so_far rest (Ok None) = AllRead form text so_far rest
 IsLineOf form text so_far rest (Err fault) = HasFault form text so_far rest fault
 
--- the same of these bytes, whatever stands before them
+-- the same for these bytes, whatever is before them
 abbrev pub IsLineBehind : {H I : Type 0} → Form H I → SoFar H I → List ℕ →
     Result (Option (I × ℕ)) TextFault → Type 0
 IsLineBehind form so_far rest result = (text : List ℕ) → IsLineOf form text so_far rest result

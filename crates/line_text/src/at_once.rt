@@ -1,10 +1,10 @@
-//! Four bytes of a text as one number, so that they are compared at once.
+//! Four bytes of a text as one number, to compare them at once.
 
 ghost use Rattle.std.specs.Prelude.{◌≡◌, ◌<◌, ◌∷◌, [], ◌++◌, MatchOption, length};
 ghost use Rattle.std.specs.Int.{w32, to_le_bytes};
 ghost use Rattle.line_text.specs.AtOnce.{BeginsOtherwise};
 
-/// Four bytes, the first the lowest of the number.
+/// Returns four bytes as a number. The first is the lowest.
 #[inline(always)]
 pub(crate) fn four(bytes: [u8; 4]) -> u32
     ensures { to_le_bytes w32 result ≡ bytes }
@@ -12,7 +12,7 @@ pub(crate) fn four(bytes: [u8; 4]) -> u32
     u32::from_le_bytes(bytes)
 }
 
-/// The first four bytes of a text, and what follows them. None where it has fewer.
+/// Returns the first four bytes of a text, and what follows them, or None if it has fewer.
 #[inline(always)]
 pub(crate) fn first_four(text: &[u8]) -> Option<(u32, &[u8])>
     ensures { MatchOption result (length text.now < 4) (λ r. text.now ≡ to_le_bytes w32 r.0 ++ r.1.now) }
@@ -23,7 +23,7 @@ pub(crate) fn first_four(text: &[u8]) -> Option<(u32, &[u8])>
     }
 }
 
-/// What stands behind these four bytes. None where the text begins otherwise.
+/// Returns what follows these four bytes, or None if the text begins otherwise.
 #[inline(always)]
 pub fn behind_four(beginning: [u8; 4], text: &[u8]) -> Option<&[u8]>
     ensures { MatchOption result (BeginsOtherwise beginning text.now)
@@ -37,7 +37,7 @@ pub fn behind_four(beginning: [u8; 4], text: &[u8]) -> Option<&[u8]>
     }
 }
 
-/// What stands behind this byte. None where the text begins otherwise.
+/// Returns what follows this byte, or None if the text begins otherwise.
 #[inline(always)]
 pub fn behind_byte(byte: u8, text: &[u8]) -> Option<&[u8]>
     ensures { MatchOption result (BeginsOtherwise (byte ∷ []) text.now) (λ rest. text.now ≡ byte ∷ rest.now) }
@@ -48,7 +48,7 @@ pub fn behind_byte(byte: u8, text: &[u8]) -> Option<&[u8]>
     }
 }
 
-/// What stands behind these three bytes. None where the text begins otherwise.
+/// Returns what follows these three bytes, or None if the text begins otherwise.
 #[inline(always)]
 pub fn behind_three(beginning: [u8; 3], text: &[u8]) -> Option<&[u8]>
     ensures { MatchOption result (BeginsOtherwise beginning text.now)

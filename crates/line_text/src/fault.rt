@@ -12,10 +12,10 @@ pub enum TextFault {
     /// The first line is no header of this form of text.
     #[error("bad header")]
     BadHeader,
-    /// This line, counted from 1, is no item and not the end line, or follows the end line.
+    /// This line, counted from 1, is neither an item nor the end line, or it follows the end line.
     #[error("bad line {0}")]
     BadLine(u64),
-    /// The text ends before its end line has.
+    /// The text ends before its end line does.
     #[error("cut short")]
     CutShort,
 }
@@ -26,7 +26,7 @@ pub enum ReadFault {
     /// The text has this fault.
     #[error("{0}")]
     Text(TextFault),
-    /// Memory was refused; the text may be good.
+    /// An allocation failed; the text may be good.
     #[error("out of memory")]
     OutOfMemory,
 }

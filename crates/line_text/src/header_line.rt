@@ -10,7 +10,7 @@ use crate::fault::TextFault;
 use history::header::Header;
 use history::text::{behind, first_line};
 
-/// The header whose line this is, behind the name and version of its form of text.
+/// Returns the header that this line spells after the name and version of its form of text.
 fn header_behind(name: &[u8], line: &[u8]) -> Option<Header>
     ensures found { IfSome result (λ h. IsInRange h × (line.now ≡ name.now ++ part_of h)) }
     ensures none { IfNone result ((h : Header) → IsInRange h → line.now ≢ name.now ++ part_of h) }
@@ -18,7 +18,8 @@ fn header_behind(name: &[u8], line: &[u8]) -> Option<Header>
     Header::read_part(behind(name, line)?)
 }
 
-/// The header that a text begins with, behind the name and version of its form, and what follows its line.
+/// Returns the header that a text begins with, after the name and version of its form, and what follows its
+/// line.
 pub fn first_header<'a>(name: &[u8], text: &'a [u8]) -> Result<(Header, &'a [u8]), TextFault>
     ensures ok { IfOk result (BeginsWithHeader name.now text.entry.now) }
     ensures err { IfErr result (LacksHeader name.now text.entry.now) }

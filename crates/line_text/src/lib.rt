@@ -1,10 +1,11 @@
-//! Texts of lines: a header line, a line for each item, an end line, and nothing behind it.
+//! Texts of lines: a header line, a line for each item, an end line, and nothing after it.
 //!
-//! A form of text says what each line spells (`specs/Form.antt`); which texts are of a form, and the first
-//! fault of one that isn't, follows from the spellings alone (`specs/Reading.antt`). What was read of a text
-//! under way, and what its next line says, is stated of any form (`specs/UnderWay.antt`). Of a form whose
-//! lines hold no line break, spell one value each and can't be taken for another line, each text has exactly
-//! one reading, and each proper beginning of a good text is cut short (`proofs/`).
+//! A form of text defines what each line spells (`specs/Form.antt`). Which texts have a form, and the first
+//! fault of one that doesn't, follows from the spellings alone (`specs/Reading.antt`). For a text that is
+//! being read, what was read and what the next line spells are defined for any form (`specs/UnderWay.antt`).
+//! Suppose that the lines of a form have no line break, spell one value each and can't be mistaken for
+//! another line. Then each text has exactly one reading, and each proper beginning of a good text is cut
+//! short (`proofs/`).
 #![tactic(auto)]
 
 pub mod at_once;

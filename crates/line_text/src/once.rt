@@ -1,4 +1,4 @@
-//! The end of a line that asks for 1: a mode, the amount and the break.
+//! The end of a line that asks for 1: a mode, the amount and the line break.
 
 ghost use Rattle.std.specs.Prelude.{◌≡◌, ◌≢◌, ◌∷◌, [], ◌++◌, ℕ, IfSome, IfNone, codes};
 ghost use Rattle.std.specs.Int.{w32, to_le_bytes};
@@ -8,7 +8,7 @@ ghost use Rattle.line_text.specs.Once.{AsksOnce, asking_once};
 use crate::at_once::{first_four, four};
 use history::entry::Mode;
 
-/// The mode in these four bytes. None where they spell none.
+/// Returns the mode that these four bytes spell, if they spell one.
 #[inline(always)]
 fn mode_of_four(bytes: u32) -> Option<Mode>
     ensures found { IfSome result (λ mode. to_le_bytes w32 bytes ≡ asking_once mode) }
@@ -23,8 +23,7 @@ fn mode_of_four(bytes: u32) -> Option<Mode>
     }
 }
 
-/// The mode that begins the text, if 1 and a break stand behind it, and how many bytes follow them. None
-/// where the text begins otherwise.
+/// Returns the mode that begins the text, if 1 and a line break follow it, and how many bytes follow those.
 #[inline(always)]
 pub fn mode_of_once(text: &[u8]) -> Option<(Mode, usize)>
     ensures found { IfSome result (AsksOnce text.now) }

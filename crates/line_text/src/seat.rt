@@ -1,11 +1,11 @@
-//! The seat that begins a line, read without cutting the line into words.
+//! Reading the seat that begins a line, without cutting the line into words.
 
 ghost use Rattle.std.specs.Prelude.{◌≡◌, ◌≢◌, ◌+◌, ◌*◌, ◌<◌, ◌≤◌, ◌^◌, ◌∷◌, [], ◌++◌, List, ℕ, drop, length, IfSome, IfNone, decimal};
 
 use history::number::number_of;
 use history::text::place_of;
 
-/// The value of a digit. None of another byte.
+/// Returns the value of a digit, or None for another byte.
 #[inline(always)]
 fn digit_of(byte: u8) -> Option<u64>
     ensures found { IfSome result (λ digit. (digit < 10) × (byte ≡ 48 + digit)) }
@@ -18,7 +18,7 @@ fn digit_of(byte: u8) -> Option<u64>
     }
 }
 
-/// The one byte before the first space.
+/// Returns the one byte before the first space.
 #[inline(always)]
 fn one_byte(text: &[u8]) -> Option<u8>
     ensures seat { IfSome result (λ byte. text.now ≡ byte ∷ 32 ∷ drop 2 text.now) }
@@ -31,7 +31,7 @@ fn one_byte(text: &[u8]) -> Option<u8>
     }
 }
 
-/// The two bytes before the first space.
+/// Returns the two bytes before the first space.
 #[inline(always)]
 fn two_bytes(text: &[u8]) -> Option<(u8, u8)>
     ensures seat { IfSome result (λ r. text.now ≡ r.0 ∷ r.1 ∷ 32 ∷ drop 3 text.now) }
@@ -45,7 +45,7 @@ fn two_bytes(text: &[u8]) -> Option<(u8, u8)>
     }
 }
 
-/// The number that two digits spell.
+/// Returns the number that two digits spell.
 #[inline(always)]
 fn number_of_two(first: u8, second: u8) -> Option<u64>
     ensures found { IfSome result (λ number. decimal number ≡ first ∷ second ∷ []) }
@@ -59,8 +59,8 @@ fn number_of_two(first: u8, second: u8) -> Option<u64>
     Some(10 * tens + ones)
 }
 
-/// The number before the first space, and where the text goes on behind the space: most seats have a digit or
-/// two. None where no such number begins the text.
+/// Returns the number before the first space, and the position after the space, or None if no such number
+/// begins the text. Most seats have one or two digits.
 #[inline(always)]
 pub fn seat_of(text: &[u8]) -> Option<(u64, usize)>
     ensures seat { IfSome result (λ r. text.now ≡ decimal r.0 ++ 32 ∷ drop r.1 text.now) }

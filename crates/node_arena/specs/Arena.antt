@@ -6,8 +6,8 @@ use Rattle.node_arena.specs.declared.node.NodeNo.{NodeNo}
 use Rattle.node_arena.specs.declared.node.Standing.{Standing}
 use Rattle.node_arena.specs.declared.arena.Slot.{Slot}
 
--- What stands at each place, how many nodes may stand at once, below what every place is, and how many nodes
--- were placed since the opening.
+-- What is at each place, how many nodes there may be at once, a bound of all places, and how many nodes were
+-- placed since the opening.
 pub record Places : Type 0 where
   pub slots : List (Option Slot)
   pub places : ℕ
@@ -17,7 +17,7 @@ pub record Places : Type 0 where
 abbrev pub slot_at : Places → ℕ → Option Slot
 slot_at a place = slice_index_or a.slots place None
 
--- what a place without a node is taken for
+-- the stand-in for the node of an empty place
 abbrev pub no_node : Node
 no_node = record { arrival = record { seat = 0; mode = X; n = 0; back = false }; cancelled = false }
 
@@ -30,7 +30,7 @@ abbrev pub standing_in : ℕ → Option Slot → Option Standing
 standing_in place None = None
 standing_in place (Some s) = Some (standing_by place (Some s))
 
--- the node of a slot, where it is of this generation
+-- the node of a slot, if it is of this generation
 abbrev pub of_generation : ℕ → Option Slot → Option Node
 of_generation generation None = None
 of_generation generation (Some s) = if s.generation == generation then Some s.node else None
@@ -43,14 +43,14 @@ find a number = of_generation number.generation (slot_at a number.place)
 abbrev pub taken : Places → ℕ
 taken a = count_by is_some a.slots
 
--- one place has this now, and every other place has what it had
+-- one place now has this slot, and every other place has what it had
 pub record Changes (old new : Places) (place : ℕ) (slot : Option Slot) : Type 0 where
   pub changed : slot_at new place ≡ slot
   pub others : (other : ℕ) → other ≢ place → slot_at new other ≡ slot_at old other
   pub places : new.places ≡ old.places
   pub limit : new.limit ≡ old.limit
 
--- each node was placed before now
+-- the generation of each node is below the number of nodes placed
 abbrev pub AllPlaced : ℕ → List (Option Slot) → Type 0
 AllPlaced placed slots =
     (place : ℕ) (s : Slot) → slice_index_or slots place None ≡ Some s → s.generation < placed

@@ -1,4 +1,4 @@
--- What a contract sees of `LinkedLists`.
+-- `LinkedLists` as contracts see it.
 use Rattle.std.specs.Prelude.{◌≡◌, ◌≢◌, ◌⊎◌, ℕ, List, [], ◌∷◌, length, Option, Some, None, not, ◌==◌, filter, slice_index_or, slice_get, zero, suc}
 
 -- the keys of each list from first to last, and the list of each key that has room
@@ -18,7 +18,7 @@ list_of s key = slice_index_or s.owners key None
 abbrev pub list_count : LinkedLists → ℕ
 list_count s = length s.lists
 
--- each key below this has room
+-- each key below this has a link
 abbrev pub key_limit : LinkedLists → ℕ
 key_limit s = length s.owners
 
@@ -26,7 +26,7 @@ key_limit s = length s.owners
 abbrev pub without : ℕ → List ℕ → List ℕ
 without key keys = filter (λ other. not (other == key)) keys
 
--- what stands right before a place of a list
+-- the key right before a position of a list
 abbrev pub one_before : List ℕ → ℕ → Option ℕ
 one_before keys zero = None
 one_before keys (suc k) = slice_get keys k

@@ -4,7 +4,7 @@ use Rattle.std.specs.List.{range_with_len}
 use Rattle.node_arena.specs.LinkedLists.{LinkedLists, IsIn, IsApart}
 use Rattle.node_arena.specs.declared.linked_lists.Link.{Link}
 
--- what a read past the links gives
+-- the stand-in for a link beyond the last one
 abbrev pub no_link : Link
 no_link = record { prev = 0; next = 0 }
 
@@ -16,7 +16,7 @@ next_of links at = (slice_index_or links at no_link).next
 abbrev pub prev_of : List Link → ℕ → ℕ
 prev_of links at = (slice_index_or links at no_link).prev
 
--- the new links lead from this place to that one, and from every other place where the old ones do
+-- `next` now leads from one place to another; from every other place it leads where it did
 pub record Joins (old new : ℕ → ℕ) (from to : ℕ) : Type 0 where
   pub here : new from ≡ to
   pub others : (at : ℕ) → at ≢ from → new at ≡ old at
@@ -26,8 +26,7 @@ pub record Skips (old new : List Link) (at : ℕ) : Type 0 where
   pub next : Joins (next_of old) (next_of new) (prev_of old at) (next_of old at)
   pub prev : Joins (prev_of old) (prev_of new) (next_of old at) (prev_of old at)
 
--- the new links put a place between two others, and lead from every other place where the old ones
--- do
+-- the new links put a place between two others; every other link is as before
 pub record Inserts (next prev next' prev' : ℕ → ℕ) (before at after : ℕ) : Type 0 where
   pub into : next' before ≡ at
   pub out : next' at ≡ after
@@ -36,7 +35,7 @@ pub record Inserts (next prev next' prev' : ℕ → ℕ) (before at after : ℕ)
   pub nexts : (other : ℕ) → other ≢ before → other ≢ at → next' other ≡ next other
   pub prevs : (other : ℕ) → other ≢ after → other ≢ at → prev' other ≡ prev other
 
--- the first place now stands just before the second
+-- the first place is now right before the second
 abbrev pub Splices : List Link → List Link → ℕ → ℕ → Type 0
 Splices old new at after =
     Inserts (next_of old) (prev_of old) (next_of new) (prev_of new) (prev_of old after) at after
@@ -46,7 +45,7 @@ abbrev pub is_list : ℕ → Option ℕ → Bool
 is_list list None = false
 is_list list (Some owner) = owner == list
 
--- so many keys, read off the links after a place
+-- the next `count` keys that the links lead to from a place
 abbrev pub walk : (ℕ → ℕ) → ℕ → ℕ → ℕ → List ℕ
 walk next heads zero from = []
 walk next heads (suc count) from = (next from - heads) ∷ walk next heads count (next from)
@@ -58,8 +57,7 @@ module _ (next prev : ℕ → ℕ) (heads : ℕ) where
   IsChain from (key ∷ keys) to =
       (next from ≡ heads + key) × (prev (heads + key) ≡ from) × IsChain (heads + key) keys to
 
-  -- the ring through the head of a list holds these keys, each once, which are the keys that it
-  -- owns
+  -- the ring through the head of a list holds these keys, each once; they are the keys that the list owns
   pub record IsRing (owner : ℕ → Option ℕ) (list : ℕ) (keys : List ℕ) : Type 0 where
     pub chained : IsChain list keys list
     pub apart : IsApart keys
@@ -71,7 +69,7 @@ module _ (links : List Link) (owners : List (Option ℕ)) (heads : ℕ) where
   unfoldable pub keys_of : ℕ → List ℕ
   keys_of list = walk (next_of links) heads (count_by (is_list list) owners) list
 
-  -- what a contract sees
+  -- `LinkedLists` as contracts see it
   abbrev pub lists_of : LinkedLists
   lists_of = record { lists = map keys_of (range_with_len 0 heads); owners = owners }
 

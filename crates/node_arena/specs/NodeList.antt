@@ -7,7 +7,7 @@ use Rattle.node_arena.specs.declared.node.Standing.{Standing}
 use Rattle.node_arena.specs.Arena.{Places, slot_at, taken, standing_by}
 use Rattle.node_arena.specs.LinkedLists.{LinkedLists, items, list_of, list_count, key_limit, IsIn, IsApart}
 
--- The nodes from head to tail, each with its number, how many may stand at once, below what each place is,
+-- The nodes from head to tail, each with its number, how many there may be at once, a bound of all places,
 -- and how many were placed since the opening.
 pub record Nodes : Type 0 where
   pub nodes : List Standing
@@ -19,11 +19,11 @@ pub record Nodes : Type 0 where
 abbrev pub standing_at : List (Option Slot) → ℕ → Standing
 standing_at slots place = standing_by place (slice_index_or slots place None)
 
--- whether a node stands at a place
+-- whether a node is at a place
 abbrev pub is_at : ℕ → Standing → Bool
 is_at place x = x.number.place == place
 
--- the first of these nodes that stands at a place
+-- the first of these nodes that is at a place
 abbrev pub at_place : ℕ → List Standing → Option Standing
 at_place place [] = None
 at_place place (x ∷ rest) = if is_at place x then Some x else at_place place rest
@@ -48,17 +48,17 @@ cancelled x = record { number = x.number; node = record { arrival = x.node.arriv
 abbrev pub cancel_at : ℕ → List Standing → List Standing
 cancel_at place = map (λ x. if is_at place x then cancelled x else x)
 
--- no two nodes stand at one place
+-- no two nodes are at one place
 abbrev pub StandApart : List Standing → Type 0
 StandApart [] = Unit {0}
 StandApart (x ∷ rest) = (at_place x.number.place rest ≡ None) × StandApart rest
 
--- what stands right before a place in a list
+-- the node right before a position in a list
 abbrev pub standing_before : List Standing → ℕ → Option Standing
 standing_before nodes zero = None
 standing_before nodes (suc k) = slice_get nodes k
 
--- the list of a place with this in it
+-- the list that a place with this slot is in
 abbrev pub list_by : Option Slot → Option ℕ
 list_by None = None
 list_by (Some s) = Some 0
@@ -66,7 +66,7 @@ list_by (Some s) = Some 0
 abbrev pub nodes_of : Places → LinkedLists → List Standing
 nodes_of a l = map (standing_at a.slots) (items l 0)
 
--- The one list links the places where a node is.
+-- The list links exactly the places that have a node.
 pub record IsLinked (a : Places) (l : LinkedLists) : Type 0 where
   pub linked : (place : ℕ) → list_of l place ≡ list_by (slot_at a place)
   pub stands : (place : ℕ) → IsIn place (items l 0) → IsSome (slot_at a place)

@@ -1,4 +1,4 @@
-//! Nodes under numbers that are never given twice.
+//! Nodes under numbers that are never used again.
 
 ghost use Rattle.std.specs.Prelude.{◌≡◌, ◌≢◌, ℕ, ◌+◌, ◌^◌, ◌<◌, ◌≤◌, ◌==◌, Some, None, IfOk, IfErr, IfSome, IsSome, OnSome, OnOk, IfNone, [], nat_le};
 ghost use Rattle.node_arena.specs.declared.node.NodeNo.{NodeNo};
@@ -10,8 +10,8 @@ use slab::Slab;
 use std::alloc::Global;
 use std::marker::Model;
 
-/// So many places for nodes. Each node that is placed gets a number that no node had before, so a number
-/// finds nothing once its node is freed, also after its place was used again.
+/// A fixed number of places for nodes. Each node gets a number that no node had before. So a number finds
+/// nothing after its node was freed, even if the place is in use again.
 #[derive(Drop)]
 pub struct Arena {
     places: usize,
@@ -43,7 +43,7 @@ impl Model for Arena {
 }
 
 impl Arena {
-    /// An arena with so many places. It reserves all of them; `OutOfMemory` is the only fault.
+    /// Returns an arena with `places` places, all of them reserved. The only fault is `OutOfMemory`.
     pub fn with_places(alloc: Global, places: usize) -> Result<Arena, Fault>
         ensures empty { IfOk result (λ arena. arena.slots ≡ []) }
         ensures places { IfOk result (λ arena. arena.places ≡ places) }
@@ -58,7 +58,7 @@ impl Arena {
         })
     }
 
-    /// Places a node where a place is free, under a number that no node had before. It takes no memory.
+    /// Puts a node at a free place, under a number that no node had before. It allocates nothing.
     pub fn place(&mut self, node: Node) -> NodeNo
         requires free { taken self.old < self.old.places }
         requires countable { self.old.placed + 1 < 2 ^ 64 }
@@ -78,7 +78,7 @@ impl Arena {
         NodeNo { place, generation }
     }
 
-    /// The node under a number; `None` for the number of a node that was freed.
+    /// Returns the node under a number, or `None` if it was freed.
     pub fn get(&self, number: NodeNo) -> Option<Node>
         ensures found { result ≡ find self.now number }
         ensures earlier { IsSome result → number.generation < self.now.placed }
@@ -91,7 +91,7 @@ impl Arena {
         }
     }
 
-    /// The node at a place, with its number.
+    /// Returns the node at a place, with its number.
     pub fn at(&self, place: usize) -> Option<Standing>
         ensures { result ≡ standing_in place (slot_at self.now place) }
     {
@@ -105,8 +105,8 @@ impl Arena {
         })
     }
 
-    /// Puts a node in the place of the one under a number, which it gives back; `None`, and nothing changes,
-    /// where that was freed before.
+    /// Replaces the node under a number and returns the old one. If that was freed, returns `None` and
+    /// changes nothing.
     pub fn replace(&mut self, number: NodeNo, node: Node) -> Option<Node>
         ensures found { result ≡ find self.old number }
         ensures now { OnSome result (find self.new number ≡ Some node) }
@@ -124,7 +124,7 @@ impl Arena {
         Some(old)
     }
 
-    /// Below what the place of each number is.
+    /// Returns a bound: the place of each number is below it.
     pub fn limit(&self) -> usize
         ensures limit { result ≡ self.now.limit }
         ensures places { self.now.places ≤ result }
@@ -133,15 +133,15 @@ impl Arena {
         self.nodes.capacity()
     }
 
-    /// How many nodes there are.
+    /// Returns how many nodes there are.
     pub fn len(&self) -> usize
         ensures { result ≡ taken self.now }
     {
         self.nodes.len()
     }
 
-    /// Frees the node under a number and gives it back; `None`, and nothing changes, where it was freed
-    /// before.
+    /// Frees the node under a number and returns it. If it was freed before, returns `None` and changes
+    /// nothing.
     pub fn free(&mut self, number: NodeNo) -> Option<Node>
         ensures found { result ≡ find self.old number }
         ensures gone { find self.new number ≡ None }
@@ -156,14 +156,14 @@ impl Arena {
         Some(node)
     }
 
-    /// Whether no place is free.
+    /// Returns whether no place is free.
     pub fn is_full(&self) -> bool
         ensures { result ≡ nat_le self.now.places (taken self.now) }
     {
         self.nodes.len() >= self.places
     }
 
-    /// How many nodes were placed since the opening.
+    /// Returns how many nodes were placed since the opening.
     pub fn placed(&self) -> u64
         ensures { result ≡ self.now.placed }
     {

@@ -1,7 +1,7 @@
 //! Lists of keys that are linked by index, so that a key leaves its list in constant time.
 //!
-//! The links and their proof are those of `util::linked_list` in the kit's `futures`, which tells no key
-//! before or behind another.
+//! The links and their proof are those of `util::linked_list` in the kit's `futures`. That one doesn't return
+//! a key's neighbours.
 ghost use Rattle.std.specs.Prelude.{◌≡◌, ◌≢◌, ℕ, ◌+◌, ◌^◌, ◌<◌, ◌≤◌, [], ◌∷◌, ◌++◌, length, IfSome, IfNone, IfOk, OnOk, IsOk, slice_get, IsSome, vec_len};
 ghost use Rattle.node_arena.specs.LinkedLists.{items, list_of, list_count, key_limit, one_before, without, IsIn, IsApart, IsEmpty, SameLists, Moves};
 ghost use Rattle.node_arena.specs.Links.{next_of, prev_of, Skips, Splices};
@@ -9,9 +9,9 @@ ghost use Rattle.node_arena.specs.Links.{next_of, prev_of, Skips, Splices};
 use std::alloc::{AllocError, Global};
 use std::marker::Model;
 
-/// A fixed number of lists over keys, such as the places of an arena. A key is in one list at most.
+/// A fixed number of lists over keys, such as the places of an arena. A key is in at most one list.
 ///
-/// Only `with_keys` takes memory.
+/// Only `with_keys` allocates.
 #[derive(Drop)]
 pub struct LinkedLists {
     // Each list is a ring through its head. The head of list `n` is at `n`, and the link of a key
@@ -70,7 +70,7 @@ fn splice(links: &mut Vec<Link>, at: usize, next: usize)
 }
 
 impl LinkedLists {
-    /// So many empty lists, numbered from 0, and a link for each key below `keys`, for no key above.
+    /// Returns `lists` empty lists, numbered from 0, with a link for each key below `keys` and for no other.
     pub fn with_keys(alloc: Global, lists: usize, keys: usize) -> Result<Self, AllocError>
         ensures count { IfOk result (λ s. list_count s ≡ lists) }
         ensures no_items { IfOk result (λ s. (list : ℕ) → items s list ≡ []) }
@@ -84,7 +84,7 @@ impl LinkedLists {
         Ok(lists)
     }
 
-    /// So many empty lists and no keys.
+    /// Returns `lists` empty lists and no keys.
     fn new(alloc: Global, lists: usize) -> Result<Self, AllocError>
         ensures count { IfOk result (λ s. list_count s ≡ lists) }
         ensures no_items { IfOk result (λ s. (list : ℕ) → items s list ≡ []) }
@@ -125,7 +125,7 @@ impl LinkedLists {
         self.owners.resize(key + 1, None)
     }
 
-    /// The list that `key` is in.
+    /// Returns the list that `key` is in.
     pub fn list_of(&self, key: usize) -> Option<usize>
         ensures value { result ≡ list_of self.now key }
         ensures in_range { IfSome result (λ list. list < list_count self.now) }
@@ -137,7 +137,7 @@ impl LinkedLists {
         }
     }
 
-    /// The first key of `list`.
+    /// Returns the first key of `list`.
     pub fn front(&self, list: usize) -> Option<usize>
         requires { list < list_count self.now }
         ensures value { result ≡ slice_get (items self.now list) 0 }
@@ -153,7 +153,7 @@ impl LinkedLists {
         }
     }
 
-    /// The key right behind one, in the list that it is in.
+    /// Returns the key right after `key` in its list.
     pub fn behind(&self, key: usize) -> Option<usize>
         requires { IsSome (list_of self.now key) }
         ensures { (list k : ℕ) → slice_get (items self.now list) k ≡ Some key →
@@ -167,7 +167,7 @@ impl LinkedLists {
         }
     }
 
-    /// The key right before one, in the list that it is in.
+    /// Returns the key right before `key` in its list.
     pub fn before(&self, key: usize) -> Option<usize>
         requires { IsSome (list_of self.now key) }
         ensures { (list k : ℕ) → slice_get (items self.now list) k ≡ Some key →

@@ -1,8 +1,8 @@
-//! A node: one who arrived, until it is freed.
+//! A node: an arrival, from when it joins until it is freed.
 
 use history::arrival::Arrival;
 
-/// One who arrived, and whether it left while it stood between others.
+/// An arrival, and whether it was cancelled: it left while it was between others.
 #[derive(Clone, Copy, Debug, PartialEq, Eq)]
 pub struct Node {
     pub arrival: Arrival,

@@ -1,4 +1,4 @@
-//! A list of nodes, linked before and behind.
+//! A doubly linked list of nodes.
 
 ghost use Rattle.std.specs.Prelude.{◌≡◌, ◌≢◌, ℕ, ◌+◌, ◌^◌, ◌<◌, ◌≤◌, ◌==◌, [], ◌∷◌, ◌++◌, drop, length, map, Some, None, IfOk, IfErr, IfSome, IfNone, OnSome, IsSome, slice_get, is_some};
 ghost use Rattle.std.specs.Bool.{OnTrue, OnFalse};
@@ -13,11 +13,11 @@ use history::fault::Fault;
 use std::alloc::Global;
 use std::marker::Model;
 
-/// Nodes from head to tail. One joins at the tail, and any of them is taken out in one step by its number.
+/// Nodes from head to tail. A node joins at the tail. Any node is removed by its number, in constant time.
 #[derive(Drop)]
 pub struct NodeList {
     arena: Arena,
-    /// The links between the places of the arena, in the one list 0.
+    /// The links between the places of the arena. The nodes are in list 0, the only list.
     links: LinkedLists,
 }
 
@@ -37,7 +37,7 @@ impl Model for NodeList {
 }
 
 impl NodeList {
-    /// An empty list with so many places. It reserves all of them; `OutOfMemory` is the only fault.
+    /// Returns an empty list with `places` places, all of them reserved. The only fault is `OutOfMemory`.
     pub fn with_places(alloc: Global, places: usize) -> Result<NodeList, Fault>
         ensures empty { IfOk result (λ list. list.nodes ≡ []) }
         ensures places { IfOk result (λ list. list.places ≡ places) }
@@ -49,7 +49,7 @@ impl NodeList {
         Ok(NodeList { arena, links })
     }
 
-    /// Puts a node at the tail, where a place is free, under a number that no node had before.
+    /// Puts a node at the tail, at a free place, under a number that no node had before.
     pub fn push_back(&mut self, node: Node) -> NodeNo
         requires free { length self.old.nodes < self.old.places }
         requires countable { self.old.placed + 1 < 2 ^ 64 }
@@ -65,7 +65,7 @@ impl NodeList {
         number
     }
 
-    /// The node at the head.
+    /// Returns the node at the head.
     pub fn first(&self) -> Option<Standing>
         ensures first { result ≡ slice_get self.now.nodes 0 }
         ensures apart { StandApart self.now.nodes }
@@ -74,21 +74,21 @@ impl NodeList {
         self.arena.at(place)
     }
 
-    /// How many nodes there are.
+    /// Returns how many nodes there are.
     pub fn len(&self) -> usize
         ensures { result ≡ length self.now.nodes }
     {
         self.arena.len()
     }
 
-    /// How many nodes were placed since the opening.
+    /// Returns how many nodes were placed since the opening.
     pub fn placed(&self) -> u64
         ensures { result ≡ self.now.placed }
     {
         self.arena.placed()
     }
 
-    /// Below what each place is.
+    /// Returns a bound: each place is below it.
     pub fn limit(&self) -> usize
         ensures limit { result ≡ self.now.limit }
         ensures below { (place : ℕ) → IsSome (at_place place self.now.nodes) → place < result }
@@ -97,7 +97,7 @@ impl NodeList {
         self.arena.limit()
     }
 
-    /// The node that stands at a place.
+    /// Returns the node at a place.
     pub fn at(&self, place: usize) -> Option<Standing>
         ensures at { result ≡ at_place place self.now.nodes }
         ensures apart { StandApart self.now.nodes }
@@ -105,7 +105,7 @@ impl NodeList {
         self.arena.at(place)
     }
 
-    /// The node right behind another.
+    /// Returns the node right after another.
     pub fn behind(&self, number: NodeNo) -> Option<Standing>
         requires { IsSome (under number self.now.nodes) }
         ensures { (k : ℕ) (node : Node) →
@@ -116,7 +116,7 @@ impl NodeList {
         self.arena.at(place)
     }
 
-    /// The node right before another.
+    /// Returns the node right before another.
     pub fn before(&self, number: NodeNo) -> Option<Standing>
         requires { IsSome (under number self.now.nodes) }
         ensures { (k : ℕ) (node : Node) →
@@ -127,14 +127,14 @@ impl NodeList {
         self.arena.at(place)
     }
 
-    /// The node under a number; `None` for the number of a node that was freed.
+    /// Returns the node under a number, or `None` if it was freed.
     pub fn get(&self, number: NodeNo) -> Option<Node>
         ensures { result ≡ under number self.now.nodes }
     {
         self.arena.get(number)
     }
 
-    /// Frees the node under a number, wherever it stands, and gives it back; `None` where it was freed
+    /// Removes the node under a number from the list, frees it and returns it. Returns `None` if it was freed
     /// before.
     pub fn remove(&mut self, number: NodeNo) -> Option<Node>
         ensures found { result ≡ under number self.old.nodes }
@@ -148,7 +148,7 @@ impl NodeList {
         Some(node)
     }
 
-    /// Marks the node under a number as cancelled and leaves it where it stands; false where it was freed
+    /// Marks the node under a number as cancelled and leaves it in the list. Returns false if it was freed
     /// before.
     pub fn cancel(&mut self, number: NodeNo) -> bool
         ensures found { result ≡ is_some (under number self.old.nodes) }

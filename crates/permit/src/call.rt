@@ -1,4 +1,4 @@
-//! Calls as `ScriptedParking` records them.
+//! Calls, as `ScriptedParking` records them.
 
 /// A call that was made, with its arguments.
 #[derive(Clone, Copy, Debug, PartialEq, Eq)]

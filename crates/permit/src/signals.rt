@@ -6,13 +6,13 @@
 //! | 1 | the interrupt flag is set |
 //! | 2 and up | the number of threads that sleep at the seat, or are about to |
 //!
-//! **No wake is lost.** A thread counts itself before it reads the word for the last time, and sleeps only if
-//! what it waits for isn't in what it read. The system compares the word with what was read as it puts the
-//! thread to sleep. A signal is set in one step, which shows the count as it was then. If the step comes
+//! **No wake is lost.** A thread counts itself before it reads the word for the last time. It sleeps only if
+//! what it waits for isn't in what it read. As it puts the thread to sleep, the system compares the word with
+//! what was read. A signal is set in one atomic step, which returns the count at that time. If the step comes
 //! before the last read, the thread sees the signal. If it comes between the read and the comparison, the
-//! word has changed and the thread doesn't sleep. If it comes later, the count that it shows isn't 0, and the
-//! sender wakes all who sleep. A sender that finds its signal set leaves it at that: whoever set it has
-//! woken, or is about to wake, all who slept then, and who comes later sees the signal.
+//! word has changed and the thread doesn't sleep. If it comes later, the count isn't 0, and the sender wakes
+//! all who sleep. A sender that finds its signal set already does nothing more. The thread that set it has
+//! woken, or is about to wake, all who slept then, and any thread that comes later sees the signal.
 
 use std::sync::Wait;
 use std::sync::atomic::{AtomicU64, Ordering};
@@ -24,7 +24,7 @@ pub(crate) const INTERRUPT: u64 = 2;
 
 const SLEEPER: u64 = 4;
 
-// The system compares these bits.
+// The bits that the system compares.
 const LOW: u64 = 0xffff_ffff;
 
 #[derive(Drop)]
@@ -43,8 +43,8 @@ impl Signals {
         self.word.load(Ordering::SeqCst)
     }
 
-    /// Sets a signal and wakes who sleeps. It costs one read if the signal is set already, and no call of the
-    /// system if nobody sleeps.
+    /// Sets a signal and wakes all threads that sleep here. It costs one read if the signal is set already,
+    /// and no system call if nobody sleeps.
     pub(crate) fn send(&self, signal: u64) {
         if self.read() & signal != 0 {
             return;
@@ -55,19 +55,20 @@ impl Signals {
         }
     }
 
-    /// Whether the signal was set. It is cleared.
+    /// Returns whether the signal was set, and clears it.
     pub(crate) fn take(&self, signal: u64) -> bool {
         self.read() & signal != 0 && self.word.fetch_and(!signal, Ordering::SeqCst) & signal != 0
     }
 
-    /// Clears a signal, unless the word has changed since it was read.
+    /// Clears a signal and returns whether it did: not if the word has changed since it was read.
     pub(crate) fn take_unchanged(&self, read: u64, signal: u64) -> bool {
         self.word
             .compare_exchange(read, read & !signal, Ordering::SeqCst, Ordering::SeqCst)
             .is_ok()
     }
 
-    /// Sleeps until a signal among `awaited` is set, or for so long. It may return early.
+    /// Sleeps until a signal among `awaited` is set, or for the time `left` if there is one. It may return
+    /// early.
     #[cold]
     pub(crate) fn sleep<R: Wait>(&self, rt: &R, awaited: u64, left: Option<Duration>) {
         self.word.fetch_add(SLEEPER, Ordering::SeqCst);

@@ -22,7 +22,7 @@ inside shape r sign number =
     if nat_lt r.width (6 * length (decimal number) + 4) then []
     else placed shape (r.x + 4) (r.y + 10) ++ named sign number ++ codes "</text>\n"
 
--- what stands in a bar: how many holds, or the condition on which the seat sleeps
+-- the text in a bar: how many holds, or the condition on which the seat waits
 abbrev pub label : Rect → Kind → ℕ → List ℕ
 label r Exclusive holds = inside (codes "<text class='i' x='") r (codes "'>") holds
 label r Shared holds = inside (codes "<text class='n' x='") r (codes "'>") holds

@@ -19,14 +19,14 @@ wider r amount =
 abbrev pub range_of : List ℤ → Range
 range_of amounts = fold wider (record { low = pos 0; high = pos 0 }) amounts
 
--- how far an amount stands above the lowest, of 56 pixels; no product passes 128 bits
+-- how far an amount is above the lowest, from 0 to 56 pixels; no product passes 128 bits
 abbrev pub up_of : Range → ℤ → ℕ
 up_of r amount =
     min
     (min (unsigned_abs (amount -ℤ r.low) * 56) (2 ^ 128 - 1) / max (unsigned_abs (r.high -ℤ r.low)) 1)
     56
 
--- to an entry's amount, and then to the right side of the entry
+-- up or down to an entry's amount, and then to the right edge of the entry
 unfoldable pub run_of : Range → ℕ → ℤ → List ℕ
 run_of r step amount = named (codes "V") (144 - up_of r amount) ++ named (codes "h") step
 
@@ -41,7 +41,7 @@ unfoldable pub amount_at : ℕ → ℤ → List ℕ
 amount_at y amount =
     placed (codes "<text class='a' x='") 68 y ++ codes "'>" ++ signed_decimal amount ++ codes "</text>\n"
 
--- what it shows, the highest and the lowest number, and the line
+-- its name, the highest and the lowest number, and the line
 unfoldable pub curve_lines : List ℕ → Range → ℕ → List ℤ → List ℕ
 curve_lines word r step amounts =
     word_of word ++ amount_at 92 r.high ++ amount_at 144 r.low ++ runs_of r step amounts

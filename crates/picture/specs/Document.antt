@@ -11,12 +11,12 @@ use Rattle.picture.specs.Head.{head}
 use Rattle.picture.specs.Layout.{IsShort, layout_of}
 use Rattle.picture.specs.Marks.{IsEarly, mark_lines}
 
--- what lies below bars and marks: rows, scale and curve
+-- what is drawn below bars and marks: rows, scale and curve
 abbrev pub ground : Layout → View → List ℕ
 ground l p =
     rows l p.header.seats ++ ticks l p.folded l.shown ++ curve_of p.header.object l.step p.curve
 
--- the entry that isn't legal is marked where it follows those that are shown
+-- the illegal entry is marked if it follows those that are shown
 abbrev pub marked_at : Layout → ℕ → ℕ → ℕ → Option ℕ → List ℕ
 marked_at l folded from to None = []
 marked_at l folded from to (Some number) =
@@ -33,7 +33,7 @@ text_in l p =
 unfoldable pub svg_text : View → List ℕ
 svg_text p = text_in (layout_of p.header p.from p.to) p
 
--- a picture of entries that a history may have
+-- a picture of entries that a history can have
 pub record IsPicture (p : View) : Type 0 where
   pub range : IsInRange p.header
   pub few : p.to < 2 ^ 32

@@ -1,10 +1,10 @@
--- The rows of seats, the scale below them, and the place of an entry that isn't legal.
+-- The rows of the seats, the scale below them, and the mark of an illegal entry.
 use Rattle.std.specs.Prelude.{ℕ, zero, suc, ◌+◌, ◌*◌, ◌%◌, ◌==◌, nat_lt, if◌then◌else◌, List, [], ◌++◌, codes}
 use Rattle.picture.specs.declared.layout.Layout.{Layout}
 use Rattle.picture.specs.Layout.{bottom_of, right_of, x_of, y_of}
 use Rattle.picture.specs.Pieces.{number_at, rect, upright}
 
--- the ground of a seat's row: every other one is shaded
+-- the background of a seat's row; every other one is shaded
 abbrev pub shade : Layout → ℕ → List ℕ
 shade l seat =
     if seat % 2 == 1 then []
@@ -15,7 +15,7 @@ shade l seat =
 abbrev pub row : Layout → ℕ → List ℕ
 row l seat = shade l seat ++ number_at 8 (y_of l seat + 20) (codes "'>seat ") seat
 
--- those of the first seats
+-- the rows of the first n seats
 abbrev pub rows : Layout → ℕ → List ℕ
 rows l zero = []
 rows l (suc seat) = rows l seat ++ row l seat
@@ -24,7 +24,7 @@ rows l (suc seat) = rows l seat ++ row l seat
 abbrev pub pitch_of : ℕ → ℕ
 pitch_of step = if step == 20 then 5 else 10
 
--- the entry of an index, whose number counts folded entries too
+-- the entry of an index; its number counts folded entries too
 abbrev pub tick : Layout → ℕ → ℕ → List ℕ
 tick l folded index =
     if nat_lt 0 ((folded + index) % pitch_of l.step) then []
@@ -32,12 +32,12 @@ tick l folded index =
     upright (x_of l index) l.top (bottom_of l + 4)
     ++ number_at (x_of l index + 3) (bottom_of l + 14) (codes "'>") (folded + index)
 
--- the scale of the first of the entries that are drawn
+-- the scale of the first n entries that are drawn
 abbrev pub ticks : Layout → ℕ → ℕ → List ℕ
 ticks l folded zero = []
 ticks l folded (suc index) = ticks l folded index ++ tick l folded (l.from + index)
 
--- the mark of an entry that isn't legal, through all rows
+-- the mark of an illegal entry, through all rows
 abbrev pub wrong_at : Layout → ℕ → List ℕ
 wrong_at l number =
     rect (codes "<rect class='e' x='")

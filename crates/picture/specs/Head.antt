@@ -1,4 +1,4 @@
--- What stands above the rows.
+-- The part above the rows.
 use Rattle.std.specs.Prelude.{ℕ, ◌+◌, ◌-◌, ◌==◌, if◌then◌else◌, List, [], ◌++◌, codes, Option, Some, None}
 use Rattle.history.specs.declared.header.Header.{Header}
 use Rattle.history.specs.Spelling.{part_of}
@@ -36,7 +36,7 @@ shown_part l p =
     else if p.is_cut then cut l.shown p.entries
     else chosen (p.folded + l.from) (p.folded + l.from + (l.shown - 1)) p.entries
 
--- which isn't legal
+-- which entry isn't legal
 abbrev pub wrong_part : Option ℕ → List ℕ
 wrong_part None = []
 wrong_part (Some number) =

@@ -1,4 +1,4 @@
--- Where everything stands in a picture, in pixels.
+-- Positions in a picture, in pixels.
 use Rattle.std.specs.Prelude.{ℕ, ◌+◌, ◌-◌, ◌*◌, ◌<◌, ◌≤◌, ◌^◌, max, min, nat_le, if◌then◌else◌}
 use Rattle.history.specs.declared.header.Header.{Header}
 use Rattle.history.specs.declared.header.Object.{Object}
@@ -9,18 +9,18 @@ use Rattle.drawing.specs.declared.kind.Kind.TheVariants.{Exclusive, Shared, InLi
 use Rattle.picture.specs.declared.layout.Layout.{Layout}
 use Rattle.picture.specs.declared.layout.Rect.{Rect}
 
--- the left side of an entry: the names of seats stand left of the first
+-- the left edge of an entry; the names of seats are left of the first
 abbrev pub x_of : Layout → ℕ → ℕ
 x_of l number = 72 + (number - l.from) * l.step
 
--- the upper side of a seat's row, and the lower side of all rows
+-- the upper edge of a seat's row, and the lower edge of all rows
 abbrev pub y_of : Layout → ℕ → ℕ
 y_of l seat = l.top + seat * 40
 
 abbrev pub bottom_of : Layout → ℕ
 bottom_of l = l.top + l.seats * 40
 
--- the right side of all entries, behind which there is room for one that isn't legal
+-- the right edge of all entries, with room for an illegal one after them
 abbrev pub right_of : Layout → ℕ
 right_of l = 72 + (l.shown + 1) * l.step
 
@@ -30,14 +30,14 @@ width_of l = max (right_of l + 16) 760
 abbrev pub height_of : Layout → ℕ
 height_of l = bottom_of l + 24
 
--- shared holds stand below what else a seat is at, so that both are seen
+-- shared holds are drawn below the seat's other bars, so that both are visible
 abbrev pub lower_by : Kind → ℕ
 lower_by Exclusive = 3
 lower_by Shared = 17
 lower_by InLine = 3
 lower_by (Asleep condition) = 3
 
--- a bar, from the left side of its first entry to the right side of its last
+-- a bar, from the left edge of its first entry to the right edge of its last
 abbrev pub rect_of : Layout → Bar → Rect
 rect_of l b =
     record {
@@ -58,7 +58,7 @@ top_of (ReadWrite policy) = 72
 top_of (Semaphore policy permits) = 160
 top_of (Latch count) = 160
 
--- the layout of the entries from a number on, before another
+-- the layout of the entries from `from` on, before `to`
 abbrev pub layout_of : Header → ℕ → ℕ → Layout
 layout_of k from to =
     record {
@@ -69,14 +69,14 @@ layout_of k from to =
       seats = k.seats;
     }
 
--- a layout of no more entries and seats than a history may have
+-- a layout with at most as many entries and seats as a history can have
 pub record IsLayout (l : Layout) : Type 0 where
   pub few : l.from + l.shown < 2 ^ 32
   pub step : l.step ≤ 20
   pub top : l.top ≤ 160
   pub seats : l.seats ≤ 65535
 
--- a bar of entries that a history may have
+-- a bar of entries that a history can have
 pub record IsShort (b : Bar) : Type 0 where
   pub order : b.first ≤ b.last
   pub last : b.last < 2 ^ 32

@@ -25,6 +25,6 @@ mark_line l m =
 abbrev pub mark_lines : Layout → List Mark → List ℕ
 mark_lines l marks = flat_map (mark_line l) marks
 
--- a mark of an entry that a history may have
+-- a mark of an entry that a history can have
 abbrev pub IsEarly : Mark → Type 0
 IsEarly m = m.number < 2 ^ 32

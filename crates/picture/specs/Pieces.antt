@@ -6,7 +6,7 @@ use Rattle.picture.specs.declared.layout.Rect.{Rect}
 abbrev pub named : List ℕ → ℕ → List ℕ
 named name number = name ++ decimal number
 
--- the front of an element, up to the last number of its place
+-- the beginning of an element, up to the last number of its position
 abbrev pub placed : List ℕ → ℕ → ℕ → List ℕ
 placed shape x y = named shape x ++ named (codes "' y='") y
 
@@ -15,11 +15,11 @@ rect shape r =
     placed shape r.x r.y ++ named (codes "' width='") r.width ++ named (codes "' height='") r.height
     ++ codes "'/>\n"
 
--- a number that stands at a place, behind a few words
+-- a number at a position, after a few words
 abbrev pub number_at : ℕ → ℕ → List ℕ → ℕ → List ℕ
 number_at x y words number = placed (codes "<text x='") x y ++ named words number ++ codes "</text>\n"
 
--- a line from an upper place down
+-- a vertical line from `top` down to `bottom`
 abbrev pub upright : ℕ → ℕ → ℕ → List ℕ
 upright x top bottom =
     named (codes "<path class='g' d='M") x ++ named (codes " ") top ++ named (codes "V") bottom

@@ -5,8 +5,8 @@ use Rattle.drawing.specs.declared.bar.Bar.{Bar}
 use Rattle.drawing.specs.declared.mark.Mark.{Mark}
 use Rattle.picture.specs.declared.picture.Picture.{Picture}
 
--- The entries from an index on, before another, of a history of so many, and the number of its first entry
--- that isn't legal. The numbers that are shown count the folded entries too.
+-- The entries from one index on and before another, the number of all entries, and the number of the first
+-- illegal one. The numbers that are shown count the folded entries too.
 pub record View : Type 0 where
   pub header : Header
   pub folded : ℕ

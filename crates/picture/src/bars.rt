@@ -1,4 +1,4 @@
-//! Bars: how long a seat held, waited in line or slept.
+//! Bars: how long a seat held, waited in the queue or waited on a condition.
 
 ghost use Rattle.std.specs.Prelude.{◌≡◌, ◌<◌, ◌^◌, ◌++◌, OnOk};
 ghost use Rattle.std.specs.List.{All};
@@ -45,7 +45,7 @@ fn shape_of(kind: Kind) -> &'static [u8]
     }
 }
 
-/// Appends what stands in a bar: the number of holds, or the condition on which the seat sleeps.
+/// Appends the text in a bar: the number of holds, or the condition on which the seat waits.
 fn put_label(out: &mut Vec<u8>, area: Rect, bar: Bar) -> Result<(), AllocError>
     requires { (area.x < 2 ^ 40) × (area.y < 2 ^ 25) }
     ensures { OnOk result (out.new.items ≡ out.old.items ++ label area bar.kind bar.holds) }

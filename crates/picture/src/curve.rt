@@ -27,7 +27,7 @@ impl Range {
         range
     }
 
-    /// The same with one more amount.
+    /// Returns the range with one more amount.
     fn with(self, amount: &i128) -> Self
         ensures { result ≡ wider self amount.now }
     {
@@ -45,7 +45,7 @@ impl Range {
         }
     }
 
-    /// How far an amount stands above the lowest, of 56 pixels.
+    /// Returns how far an amount is above the lowest, from 0 to 56 pixels.
     fn up(self, amount: &i128) -> u64
         ensures is { result ≡ up_of self amount.now }
         ensures bound { result ≤ 56 }
@@ -56,8 +56,8 @@ impl Range {
     }
 }
 
-/// Appends the curve, if the object has one: what it shows, its highest and lowest number, and the line,
-/// which for each entry goes to its amount and then to the right.
+/// Appends the curve, if the object has one: its name, its highest and lowest number, and its line. For each
+/// entry the line goes up or down to the amount and then to the right.
 pub(crate) fn put_curve(
     out: &mut Vec<u8>,
     object: Object,

@@ -14,7 +14,7 @@ use crate::marks::put_marks;
 use crate::picture::Picture;
 use std::alloc::{AllocError, Global};
 
-/// The SVG document of a picture.
+/// Returns the SVG document of a picture.
 pub fn svg_text(alloc: Global, picture: &Picture) -> Result<Vec<u8>, AllocError>
     requires { IsPicture (view_of picture.now) }
     ensures { IfOk result (λ text. text.items ≡ svg_text (view_of picture.now)) }
@@ -30,7 +30,7 @@ pub fn svg_text(alloc: Global, picture: &Picture) -> Result<Vec<u8>, AllocError>
     Ok(out)
 }
 
-/// Appends what lies below bars and marks: rows, scale and curve.
+/// Appends what is drawn below bars and marks: rows, scale and curve.
 fn put_ground(out: &mut Vec<u8>, layout: Layout, picture: &Picture) -> Result<(), AllocError>
     requires layout { IsLayout layout }
     requires folded { picture.now.folded < 2 ^ 63 }
@@ -46,7 +46,7 @@ fn put_ground(out: &mut Vec<u8>, layout: Layout, picture: &Picture) -> Result<()
     )
 }
 
-/// Appends the mark of the entry that isn't legal, if it follows those that are shown.
+/// Appends the mark of the illegal entry, if it follows those that are shown.
 fn put_wrong_mark(out: &mut Vec<u8>, layout: Layout, picture: &Picture) -> Result<(), AllocError>
     requires layout { IsLayout layout }
     requires few { (picture.now.to < 2 ^ 32) × (picture.now.folded < 2 ^ 63) }

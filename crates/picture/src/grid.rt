@@ -1,4 +1,4 @@
-//! The rows of the seats, the scale below them, and the place of an entry that isn't legal.
+//! The rows of the seats, the scale below them, and the mark of an illegal entry.
 
 ghost use Rattle.std.specs.Prelude.{◌≡◌, ◌<◌, ◌≤◌, ◌+◌, ◌^◌, ◌++◌, OnOk, zero};
 ghost use Rattle.picture.specs.Layout.{IsLayout};
@@ -28,7 +28,7 @@ fn put_row(out: &mut Vec<u8>, layout: Layout, seat: u16) -> Result<(), AllocErro
     put_number_at(out, 8, layout.y(seat) + 20, b"'>seat ", u64::from(seat))
 }
 
-/// Appends the ground of a seat's row: every other one is shaded.
+/// Appends the background of a seat's row. Every other one is shaded.
 fn put_shade(out: &mut Vec<u8>, layout: Layout, seat: u16) -> Result<(), AllocError>
     requires { IsLayout layout }
     ensures { OnOk result (out.new.items ≡ out.old.items ++ shade layout seat) }
@@ -45,8 +45,8 @@ fn put_shade(out: &mut Vec<u8>, layout: Layout, seat: u16) -> Result<(), AllocEr
     put_rect(out, b"<rect class='r' x='", area)
 }
 
-/// Appends the scale: at entries of round numbers a line through all rows, and the number below, which counts
-/// folded entries too.
+/// Appends the scale. Entries with round numbers have a line through all rows, and the number below it.
+/// Numbers count folded entries too.
 pub(crate) fn put_scale(out: &mut Vec<u8>, layout: Layout, folded: u64) -> Result<(), AllocError>
     requires layout { IsLayout layout }
     requires folded { folded < 2 ^ 63 }
@@ -73,7 +73,7 @@ fn put_tick(out: &mut Vec<u8>, layout: Layout, folded: u64, index: u64) -> Resul
     put_number_at(out, x + 3, bottom + 14, b"'>", number)
 }
 
-/// From how many entries one has its number on the scale, so that numbers of ten digits stand apart.
+/// Returns from how many entries one has its number on the scale, so that numbers of ten digits don't touch.
 fn pitch_of(step: u64) -> u64
     ensures is { result ≡ pitch_of step }
     ensures some { 0 < result }
@@ -81,7 +81,7 @@ fn pitch_of(step: u64) -> u64
     if step == 20 { 5 } else { 10 }
 }
 
-/// Appends the mark of an entry that isn't legal, through all rows.
+/// Appends the mark of an illegal entry, through all rows.
 pub(crate) fn put_wrong(out: &mut Vec<u8>, layout: Layout, number: u64) -> Result<(), AllocError>
     requires { IsLayout layout × (number < 2 ^ 33) }
     ensures { OnOk result (out.new.items ≡ out.old.items ++ wrong_at layout number) }

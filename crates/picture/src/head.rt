@@ -1,4 +1,4 @@
-//! What stands above the rows: the title, which entries are shown, and what bars and marks mean.
+//! The part above the rows: the title, which entries are shown, and what bars and marks mean.
 
 ghost use Rattle.std.specs.Prelude.{◌≡◌, ◌<◌, ◌++◌, ◌^◌, OnOk};
 ghost use Rattle.history.specs.Header.{IsInRange};
@@ -13,8 +13,8 @@ use crate::pieces::put;
 use history::header::Header;
 use std::alloc::AllocError;
 
-/// How all looks. Exclusive holds are dark and shared ones light, so that they differ in print, too; who
-/// waits has an outline, and who sleeps a dotted one.
+/// The style sheet. Exclusive holds are dark and shared ones light, so that they differ in print too. A wait
+/// in the queue has an outline, and a wait on a condition a dotted one.
 pub(crate) const STYLE: &[u8] = b"<style type='text/css'>\n\
     text{font-family:sans-serif;font-size:11px;fill:#222}\n\
     .h{font-size:14px;font-weight:bold}\n\
@@ -34,7 +34,7 @@ pub(crate) const STYLE: &[u8] = b"<style type='text/css'>\n\
     </style>\n\
     <rect width='100%' height='100%' fill='#fff'/>\n";
 
-/// What the bars and marks mean.
+/// The legend of bars and marks.
 pub(crate) const LEGEND: &[u8] = b"<rect class='x' x='8' y='48' width='24' height='12'/>\
     <text x='37' y='58'>exclusive</text>\n\
     <rect class='s' x='96' y='48' width='24' height='12'/><text x='125' y='58'>shared</text>\n\
@@ -47,7 +47,7 @@ pub(crate) const LEGEND: &[u8] = b"<rect class='x' x='8' y='48' width='24' heigh
     <path class='m' d='M588 54m0 4l3 -7h-6z'/><text x='597' y='58'>drained</text>\n\
     <path class='m' d='M652 54m-3 -4v8m3 -8v8m3 -8v8'/><text x='663' y='58'>counted</text>\n";
 
-/// Appends all that stands before the rows and the curve.
+/// Appends all that precedes the rows and the curve.
 pub(crate) fn put_head(
     out: &mut Vec<u8>,
     layout: Layout,
@@ -106,7 +106,7 @@ fn put_header(out: &mut Vec<u8>, header: Header) -> Result<(), AllocError>
     }
 }
 
-/// Appends the line that tells which entries are shown, and which isn't legal.
+/// Appends the line that says which entries are shown, and which isn't legal.
 fn put_shown(out: &mut Vec<u8>, layout: Layout, picture: &Picture) -> Result<(), AllocError>
     requires layout { IsLayout layout }
     requires folded { picture.now.folded < 2 ^ 63 }
@@ -134,7 +134,7 @@ fn put_shown_part(out: &mut Vec<u8>, layout: Layout, picture: &Picture) -> Resul
     }
 }
 
-/// Appends how many entries are shown, where nobody chose them.
+/// Appends how many entries are shown, if none were chosen.
 fn put_cut(out: &mut Vec<u8>, shown: u64, entries: u64) -> Result<(), AllocError>
     ensures { OnOk result (out.new.items ≡ out.old.items ++ cut shown entries) }
 {

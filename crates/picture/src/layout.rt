@@ -1,4 +1,4 @@
-//! Where everything stands in a picture, in pixels.
+//! Positions in a picture, in pixels.
 
 ghost use Rattle.std.specs.Prelude.{◌≡◌, ◌<◌, ◌≤◌, ◌^◌};
 ghost use Rattle.picture.specs.Layout.{IsLayout, IsShort, bottom_of, height_of, layout_of, lower_by, rect_of, right_of, step_of, top_of, width_of, x_of, y_of};
@@ -7,7 +7,7 @@ use drawing::bar::Bar;
 use drawing::kind::Kind;
 use history::header::{Header, Object};
 
-/// Where the rows and the entries of a picture stand.
+/// The positions of the rows and the entries of a picture.
 #[derive(Clone, Copy, Debug)]
 pub(crate) struct Layout {
     /// The number of the first entry that is drawn.
@@ -16,12 +16,12 @@ pub(crate) struct Layout {
     pub(crate) shown: u64,
     /// How wide each entry is.
     pub(crate) step: u64,
-    /// The upper side of the first row.
+    /// The upper edge of the first row.
     pub(crate) top: u64,
     pub(crate) seats: u64,
 }
 
-/// The place and the size of a rectangle.
+/// The position and the size of a rectangle.
 #[derive(Clone, Copy, Debug)]
 pub(crate) struct Rect {
     pub(crate) x: u64,
@@ -31,7 +31,7 @@ pub(crate) struct Rect {
 }
 
 impl Layout {
-    /// The layout of the entries from a number on, before another.
+    /// Returns the layout of the entries from `from` on, before `to`.
     pub(crate) fn of(header: Header, from: u64, to: u64) -> Self
         requires { to < 2 ^ 32 }
         ensures is { result ≡ layout_of header from to }
@@ -48,7 +48,7 @@ impl Layout {
         }
     }
 
-    /// The left side of an entry.
+    /// Returns the left edge of an entry.
     pub(crate) fn x(self, number: u64) -> u64
         requires { IsLayout self × (number < 2 ^ 33) }
         ensures is { result ≡ x_of self number }
@@ -57,7 +57,7 @@ impl Layout {
         72 + number.saturating_sub(self.from) * self.step
     }
 
-    /// The upper side of a seat's row.
+    /// Returns the upper edge of a seat's row.
     pub(crate) fn y(self, seat: u16) -> u64
         requires { IsLayout self }
         ensures is { result ≡ y_of self seat }
@@ -66,7 +66,7 @@ impl Layout {
         self.top + u64::from(seat) * 40
     }
 
-    /// The lower side of all rows.
+    /// Returns the lower edge of all rows.
     pub(crate) fn bottom(self) -> u64
         requires { IsLayout self }
         ensures is { result ≡ bottom_of self }
@@ -75,7 +75,7 @@ impl Layout {
         self.top + self.seats * 40
     }
 
-    /// The right side of all entries. Behind them there is room for one that isn't legal.
+    /// Returns the right edge of all entries, with room for an illegal one after them.
     pub(crate) fn right(self) -> u64
         requires { IsLayout self }
         ensures is { result ≡ right_of self }
@@ -98,7 +98,7 @@ impl Layout {
         self.bottom() + 24
     }
 
-    /// The rectangle of a bar, from the left side of its first entry to the right side of its last.
+    /// Returns the rectangle of a bar, from the left edge of its first entry to the right edge of its last.
     pub(crate) fn rect(self, bar: Bar) -> Rect
         requires layout { IsLayout self }
         requires short { IsShort bar }
@@ -114,7 +114,7 @@ impl Layout {
     }
 }
 
-/// How wide each of so many entries is: few are drawn wide.
+/// Returns how wide each entry is. If there are few, they are wide.
 fn step_of(shown: u64) -> u64
     ensures is { result ≡ step_of shown }
     ensures bound { result ≤ 20 }
@@ -122,7 +122,7 @@ fn step_of(shown: u64) -> u64
     if shown <= 200 { 20 } else { 8 }
 }
 
-/// Where the rows begin: below the curve, if there is one.
+/// Returns where the rows begin: below the curve, if there is one.
 fn top_of(object: Object) -> u64
     ensures is { result ≡ top_of object }
     ensures bound { result ≤ 160 }
@@ -133,7 +133,7 @@ fn top_of(object: Object) -> u64
     }
 }
 
-/// How far below the upper side of its row a bar begins.
+/// Returns how far below the upper edge of its row a bar begins.
 fn lower_by(kind: Kind) -> u64
     ensures is { result ≡ lower_by kind }
     ensures bound { result ≤ 17 }

@@ -1,11 +1,11 @@
 //! The picture of a history, as the text of an SVG 1.1 document.
 //!
-//! [`svg_text`](document::svg_text) spells a [`Picture`](picture::Picture): what `drawing` found, with the
-//! header and which entries are shown.
+//! [`svg_text`](document::svg_text) writes a [`Picture`](picture::Picture): the result of `drawing`, with the
+//! header and the range of entries that are shown.
 //!
-//! Nothing is escaped. A picture has no text that a user gave: its words are this crate's, the names of
-//! objects and policies are the header's own spelling, and all else is digits. None of these has a `<`, a `&`
-//! or a quote.
+//! Nothing is escaped. A picture has no text from a user. Its words are this crate's, the names of objects
+//! and policies are the header's own spelling, and all else is digits. None of these has a `<`, a `&` or a
+//! quote.
 #![tactic(auto)]
 
 mod bars;

@@ -22,7 +22,7 @@ pub(crate) fn put_marks(out: &mut Vec<u8>, layout: Layout, marks: &[Mark]) -> Re
     Ok(())
 }
 
-/// Appends a mark, in the middle of its entry and below the seat's bars.
+/// Appends a mark in the middle of its entry, below the seat's bars.
 fn put_mark(out: &mut Vec<u8>, layout: Layout, mark: Mark) -> Result<(), AllocError>
     requires layout { IsLayout layout }
     requires early { IsEarly mark }
@@ -38,7 +38,7 @@ fn put_mark(out: &mut Vec<u8>, layout: Layout, mark: Mark) -> Result<(), AllocEr
     out.extend_from_slice(b"'/>\n")
 }
 
-/// A circle, a cross, a triangle that points up, one that points down, three strokes.
+/// Returns the shape: a circle, a cross, a triangle that points up, one that points down, or three strokes.
 fn shape_of(sign: Sign) -> &'static [u8]
     ensures { result.now ≡ shape_of sign }
 {

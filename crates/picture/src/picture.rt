@@ -7,18 +7,17 @@ use history::header::Header;
 #[derive(Drop)]
 pub struct Picture {
     pub header: Header,
-    /// How many entries were folded before the first of the history. The numbers that a picture shows count
-    /// these too.
+    /// How many entries were folded before the history's first. The numbers in a picture count these too.
     pub folded: u64,
-    /// How many entries stand before the first that is drawn.
+    /// How many entries come before the first that is drawn.
     pub from: u64,
-    /// How many stand before the end of those that are drawn.
+    /// How many entries come before the end of those that are drawn.
     pub to: u64,
-    /// How many entries the history has, those that were folded among them.
+    /// How many entries the history has, with those that were folded.
     pub entries: u64,
-    /// Whether entries are left out though nobody chose some.
+    /// Whether entries are left out although none were chosen.
     pub is_cut: bool,
-    /// The first entry that isn't legal, by the number that is shown.
+    /// The first illegal entry, by the number that is shown.
     pub wrong: Option<u64>,
     /// The bars, marks and curve of the entries that are drawn.
     pub drawn: Drawn,

@@ -7,7 +7,7 @@ use crate::layout::Rect;
 use history::number::put_number;
 use std::alloc::AllocError;
 
-/// Appends a name and a number, or a front of them.
+/// Appends a name and a number. On an error only the first bytes may have been appended.
 pub(crate) fn put(out: &mut Vec<u8>, name: &[u8], number: u64) -> Result<(), AllocError>
     ensures { OnOk result (out.new.items ≡ out.old.items ++ named name.now number) }
 {
@@ -16,7 +16,7 @@ pub(crate) fn put(out: &mut Vec<u8>, name: &[u8], number: u64) -> Result<(), All
     Ok(())
 }
 
-/// Appends the front of an element up to the last number of its place.
+/// Appends the beginning of an element, up to the last number of its position.
 pub(crate) fn put_placed(out: &mut Vec<u8>, shape: &[u8], x: u64, y: u64) -> Result<(), AllocError>
     ensures { OnOk result (out.new.items ≡ out.old.items ++ placed shape.now x y) }
 {
@@ -34,7 +34,7 @@ pub(crate) fn put_rect(out: &mut Vec<u8>, shape: &[u8], area: Rect) -> Result<()
     out.extend_from_slice(b"'/>\n")
 }
 
-/// Appends a number that stands at a place, behind a few words.
+/// Appends a number at a position, after a few words.
 pub(crate) fn put_number_at(
     out: &mut Vec<u8>,
     x: u64,
@@ -49,7 +49,7 @@ pub(crate) fn put_number_at(
     out.extend_from_slice(b"</text>\n")
 }
 
-/// Appends a line from an upper place down.
+/// Appends a vertical line from `top` down to `bottom`.
 pub(crate) fn put_upright(
     out: &mut Vec<u8>,
     x: u64,

@@ -1,4 +1,4 @@
--- A read-write lock's hooks as an open makes them, and counts that hooks stand for.
+-- A read-write lock's hooks as at the opening, and the counts that hooks agree with.
 use Rattle.std.proofs.Common.{◌≡◌, ℕ, length, refl, sym, ◌∙◌, pos}
 use Rattle.history.specs.Counts.{Counts}
 use Rattle.history.specs.declared.entry.Mode.TheVariants.{S}

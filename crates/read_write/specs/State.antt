@@ -1,4 +1,4 @@
--- What the fields of a read-write lock's hooks stand for.
+-- What the fields of a read-write lock's hooks represent.
 use Rattle.std.specs.Prelude.{◌≡◌, ◌==◌, ℕ, nat_lt, Bool, true, ◌&&◌, ◌||◌, if◌then◌else◌, List, length, slice_index, Option, None}
 use Rattle.history.specs.declared.entry.Mode.{Mode}
 use Rattle.history.specs.declared.entry.Mode.TheVariants.{X, S}
@@ -28,7 +28,7 @@ state_of s =
       readers = s.readers;
     }
 
--- The owner has a write hold and is a seat, and the readers are the sum of the table.
+-- An owner has a write hold and is one of the seats. The number of readers is the sum of the table.
 pub record IsSound (s : State) : Type 0 where
   pub owned : is_owned max_shared s.owner s.writes ≡ true
   pub seated : is_owner_in (length s.reads) s.owner ≡ true
@@ -56,7 +56,7 @@ pub record IsFresh (s : State) (seats : ℕ) : Type 0 where
 abbrev pub IsOpened : RwHooks → ℕ → Type 0
 IsOpened s seats = IsFresh (state_of s) seats
 
--- what can be taken, and when a seat is at its limit
+-- what can be acquired, and when a seat is at its limit
 abbrev pub could_by : Option ℕ → ℕ → ℕ → ℕ → Mode → Bool
 could_by o writes readers i X =
     if is_seat o i then nat_lt (holds_of o writes i) max_shared else is_none_or o i && (readers == 0)
@@ -66,7 +66,7 @@ abbrev pub limit_by : State → ℕ → Mode → Bool
 limit_by s i X = holds_of s.owner s.writes i == max_shared
 limit_by s i S = is_none_or s.owner i && (s.readers == max_shared)
 
--- the holds of a seat, and whether a call of it is reentrant
+-- the holds of a seat, and whether a call of the seat is reentrant
 abbrev pub holds_by : State → ℕ → Mode → ℕ
 holds_by s i X = holds_of s.owner s.writes i
 holds_by s i S = slice_index s.reads i

@@ -1,4 +1,4 @@
-//! Who writes and who reads.
+//! The writer and the readers of a read-write lock.
 
 ghost use Rattle.std.specs.Prelude.{◌≡◌, ◌==◌, ◌||◌, ℕ, length, slice_index, true, IfOk, OnErr, Err};
 ghost use Rattle.frame.specs.Owners.{holds_of, is_owned, is_owner_in};
@@ -16,8 +16,9 @@ use std::alloc::Global;
 /// The greatest number of write holds, and of read holds of all seats together.
 const MAX_READ_WRITE_HOLDS: u16 = 65_535;
 
-/// The hooks of a read-write lock: as in ReentrantReadWriteLock, the owner's write holds, each seat's read
-/// holds, and the read holds of all. An owner may read too, and so give up writing for reading.
+/// The hooks of a read-write lock. As in ReentrantReadWriteLock, the state is the owner's write holds, each
+/// seat's read holds, and the sum of all read holds. An owner may read too, and so downgrade from writing to
+/// reading.
 #[derive(Drop)]
 pub struct RwHooks {
     policy: Policy,
@@ -25,7 +26,7 @@ pub struct RwHooks {
     writes: u16,
     /// The read holds of each seat.
     reads: Vec<u16>,
-    /// Their sum, so that nobody has to walk over the seats.
+    /// Their sum, so that the seats needn't be searched.
     readers: u16,
     ghost owned: { is_owned max_shared owner writes ≡ true },
     ghost seated: { is_owner_in (length reads.items) owner ≡ true },
@@ -35,11 +36,11 @@ pub struct RwHooks {
 impl RwHooks {
     ghost use Rattle.read_write.specs.State.{rw_of, state_of, holds_by, IsOpened};
 
-    /// The hooks of a lock that nobody writes or reads, for so many seats.
+    /// Returns the hooks of a lock that nobody writes or reads, for `seats` seats.
     ///
     /// # Errors
     ///
-    /// [`Fault::OutOfMemory`] where the table of the seats is refused.
+    /// [`Fault::OutOfMemory`] if the table of the seats can't be allocated.
     pub fn open(alloc: Global, policy: Policy, seats: u16) -> Result<RwHooks, Fault>
         ensures object { IfOk result (λ hooks. rw_of hooks ≡ ReadWrite policy) }
         ensures opened { IfOk result (λ hooks. IsOpened hooks seats) }
@@ -106,21 +107,21 @@ impl RwHooks {
         self.admits(who) && self.readers < MAX_READ_WRITE_HOLDS
     }
 
-    /// Whether nobody but the reader could read on: no read hold is left, or it writes too.
+    /// Returns whether no other seat could read now: no read hold is left, or the reader writes too.
     fn is_last_read(&self, who: u16) -> bool
         ensures { result ≡ ((self.now.readers == max_shared) || is_seat self.now.owner who) }
     {
         self.readers == MAX_READ_WRITE_HOLDS || self.owns(who)
     }
 
-    /// Whether a read hold less lets somebody write, or read again.
+    /// Returns whether the release of a read hold lets another seat write, or read again.
     fn opens_by_read(&self) -> bool
         ensures { result ≡ ((self.now.readers == 1) || (self.now.readers == max_shared)) }
     {
         self.readers == 1 || self.readers == MAX_READ_WRITE_HOLDS
     }
 
-    /// A reader that asks to write isn't reentrant.
+    /// Returns whether a call is reentrant. A reader that asks to write isn't.
     fn is_reentrant(&self, who: u16, mode: Mode) -> bool
         ensures { result ≡ reentrant_by (state_of self.now) who mode }
     {
@@ -130,7 +131,8 @@ impl RwHooks {
         }
     }
 
-    /// A fair or strict line holds back all, and any line new readers where its first asks to write.
+    /// Returns whether the queue holds a call back. In a fair or strict lock it holds back all. In a non-fair
+    /// one it holds back new readers if its head asks to write.
     fn is_blocked(&self, mode: Mode, line: Line) -> bool
         ensures { result ≡ line_blocks (ReadWrite self.now.policy) mode (line_mode line) }
     {

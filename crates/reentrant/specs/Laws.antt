@@ -1,4 +1,4 @@
--- A lock's hooks as an open makes them, and counts that hooks stand for.
+-- A lock's hooks as at the opening, and the counts that hooks agree with.
 use Rattle.std.specs.Prelude.{◌≡◌, ℕ, Option, refl, pos}
 use Rattle.std.proofs.Common.{◌∙◌}
 use Rattle.history.specs.declared.entry.Mode.{Mode}

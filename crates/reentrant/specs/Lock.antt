@@ -1,4 +1,4 @@
--- What the fields of a lock's hooks stand for.
+-- What the fields of a lock's hooks represent.
 use Rattle.std.specs.Prelude.{◌≡◌, ℕ, Option, None}
 use Rattle.history.specs.declared.entry.Mode.TheVariants.{S}
 use Rattle.history.specs.declared.header.Object.{Object}

@@ -1,4 +1,4 @@
-//! Who owns a lock, and how often.
+//! The owner of a lock, and its number of holds.
 
 ghost use Rattle.std.specs.Prelude.{◌≡◌, ℕ, true};
 ghost use Rattle.frame.specs.Owners.{holds_of, is_owned};
@@ -13,20 +13,20 @@ use history::header::{Object, Policy};
 /// The greatest number of holds of one seat.
 const MAX_HOLDS: u32 = 2_147_483_647;
 
-/// The hooks of a lock: as in ReentrantLock, the state is the owner and its number of holds.
+/// The hooks of a lock. As in ReentrantLock, the state is the owner and its number of holds.
 #[derive(Drop)]
 pub struct LockHooks {
     policy: Policy,
     owner: Option<u16>,
     holds: u32,
-    // An owner has a hold, and without one there is none.
+    // An owner has at least one hold, and without an owner there is none.
     ghost owned: { is_owned max_holds owner holds ≡ true },
 }
 
 impl LockHooks {
     ghost use Rattle.reentrant.specs.Lock.{lock_of, IsOpened};
 
-    /// The hooks of a lock that nobody owns, for any number of seats.
+    /// Returns the hooks of a lock that nobody owns, for any number of seats.
     pub fn open(policy: Policy) -> LockHooks
         ensures object { lock_of result ≡ Lock policy }
         ensures opened { (seats : ℕ) → IsOpened result seats }

@@ -14,15 +14,15 @@ use Rattle.history_text.specs.Pieces.{history_text}
 use Rattle.script.specs.Script.{Named}
 use Rattle.workers.specs.declared.report.ObjectReport.{ObjectReport}
 
--- the header is in range, the base a good one of it, the history legal from there, and the judgement the
--- history's
+-- the header is in range, the base is a good one of it, the history is legal from there, and the judgement is
+-- that of the history
 abbrev pub IsJudged : ObjectReport → Type 0
 IsJudged part =
     IsInRange part.header × IsBasedWell part.header part.history.base
     × IsLegal (start_on part.header part.history) part.history.entries
     × IsJudgement (start_on part.header part.history) part.history.entries part.judgement
 
--- what the object's entries that were folded left
+-- the base that the object's folded entries left
 abbrev pub base_of : ObjectReport → Base
 base_of part = base_on part.header part.history
 
@@ -33,11 +33,11 @@ name_line name = codes "object " ++ name
 abbrev pub shares_line : ℕ → List ℕ
 shares_line share = number_line (codes "shares ") share
 
--- how many answers no history records
+-- how many results no history records
 abbrev pub unrecorded_line : ℕ → List ℕ
 unrecorded_line count = number_line (codes "unrecorded ") count
 
--- of one object: its name, its history text, what the audit says, and its share
+-- the text of one object: its name, its history text, the audit's lines, and its share
 abbrev pub part_text : List ℕ → ObjectReport → List ℕ
 part_text name part =
     ended (name_line name)
@@ -45,7 +45,7 @@ part_text name part =
     ++ audit_text (base_of part) part.history.entries (verdict_of part.judgement)
     ++ ended (shares_line part.share)
 
--- what stands before the lines of its entries, and behind them
+-- what comes before the lines of its entries, and what comes after them
 abbrev pub head_text : List ℕ → Base → List ℕ
 head_text name b = ended (name_line name) ++ ended (head_line (head_of b)) ++ lines_text (lines_told b)
 
@@ -56,7 +56,7 @@ foot_text part =
     ++ audit_text (base_of part) part.history.entries (verdict_of part.judgement)
     ++ ended (shares_line part.share)
 
--- of objects in order
+-- the texts of objects, in order
 abbrev pub parts_text : List Named → List ObjectReport → List ℕ
 parts_text objects [] = []
 parts_text [] (part ∷ parts) = []

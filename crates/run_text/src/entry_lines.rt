@@ -1,4 +1,4 @@
-//! The lines of entries behind a base.
+//! The lines of entries after a base.
 
 ghost use Rattle.std.specs.Prelude.{◌≡◌, ◌≤◌, ◌↔◌, [], false, All, IsErr, IsTrue, OnErr, OnOk, reverse};
 ghost use Rattle.std.specs.Io.KnownBytes.{Appends};
@@ -14,7 +14,7 @@ use history::step::Answer;
 use streams::sink::Sink;
 use streams::source::DeviceFailed;
 
-/// Writes the lines of all entries, numbered from `first` on. No memory is taken.
+/// Writes the lines of all entries, numbered from `first` on. It allocates nothing.
 pub(crate) fn write_entries<W: Sink>(
     lines: &mut LineWriter,
     writer: &mut W,

@@ -1,8 +1,9 @@
 //! The text of a run.
 //!
-//! For each object of a script, in order, it has the object's name, its history text, what the audit says of
-//! the history, and the merged share of its passes. A last line tells how many answers no history records.
-//! [`RunText::of`] takes all memory; [`RunText::write`] takes none, and writes the lines piece by piece.
+//! For each object of a script, in order, it has the object's name, its history text, the audit's lines on
+//! that history, and the merged share of its passes. The last line has the number of results that no history
+//! records. [`RunText::of`] allocates all memory. [`RunText::write`] allocates nothing, and writes the lines
+//! piece by piece.
 #![tactic(auto)]
 
 mod entry_lines;

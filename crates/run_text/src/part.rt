@@ -23,7 +23,7 @@ use streams::stream_fault::StreamFault;
 use streams::whole::write_all;
 use workers::ObjectReport;
 
-/// The text of one object of a run. All its memory was found.
+/// The text of one object of a run. All its memory is reserved.
 #[derive(Drop)]
 pub(crate) struct PartText {
     /// The lines before those of the entries.
@@ -31,7 +31,7 @@ pub(crate) struct PartText {
     history: History,
     /// The number of the first entry.
     first: u64,
-    /// The lines behind those of the entries.
+    /// The lines after those of the entries.
     foot: Vec<u8>,
 }
 
@@ -49,7 +49,7 @@ impl Model for PartText {
     ghost invariant = { λ p. All IsSpelt (reverse p.history.entries) × (p.first ≤ most_folded) };
 }
 
-/// What stands before the entries, and what it counts.
+/// The lines before the entries, and what they count.
 #[derive(Drop)]
 struct Head {
     lines: Vec<u8>,
@@ -57,7 +57,7 @@ struct Head {
     entries: u64,
 }
 
-/// The line of a name, the first line of a history text and the lines of the base.
+/// Returns the line of a name, the first line of a history text and the lines of the base.
 fn head_of(
     alloc: Global,
     name: &[u8],
@@ -78,7 +78,8 @@ fn head_of(
     Ok(Head { lines, entries })
 }
 
-/// The end line of a history text, what the audit says of the history, and the line of the merged share.
+/// Returns the end line of a history text, the audit's lines on the history, and the line of the merged
+/// share.
 fn foot_of(alloc: Global, head: &Head, part: &ObjectReport) -> Result<Vec<u8>, StreamFault>
     requires judged { IsJudged part.now }
     requires folded { head.now.entries ≡ (base_of part.now).entries }
@@ -98,7 +99,7 @@ fn foot_of(alloc: Global, head: &Head, part: &ObjectReport) -> Result<Vec<u8>, S
 }
 
 impl PartText {
-    /// The text of an object of this name.
+    /// Returns the text of an object with this name.
     pub(crate) fn of(
         alloc: Global,
         name: &[u8],
@@ -118,7 +119,7 @@ impl PartText {
         })
     }
 
-    /// Writes the text by a writer of lines that has gathered none.
+    /// Writes the text, with a line writer that has gathered nothing.
     pub(crate) fn write<W: Sink>(
         &self,
         lines: &mut LineWriter,

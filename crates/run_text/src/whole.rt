@@ -20,7 +20,7 @@ use streams::stream_fault::StreamFault;
 use streams::whole::write_all;
 use workers::{ObjectReport, Report};
 
-/// The text of a run. All its memory was found.
+/// The text of a run. All its memory is reserved.
 #[derive(Drop)]
 pub struct RunText {
     lines: LineWriter,
@@ -39,7 +39,7 @@ impl Model for RunText {
     ghost invariant = { λ t. t.lines.bytes ≡ [] };
 }
 
-/// The texts of the objects of a script.
+/// Returns the texts of the objects of a script.
 fn parts_of(
     alloc: Global,
     script: &Script,
@@ -62,11 +62,11 @@ fn parts_of(
 }
 
 impl RunText {
-    /// The text of what a run of the script has left.
+    /// Returns the text of a run of the script, from its report.
     ///
     /// # Errors
     ///
-    /// [`StreamFault::Memory`] if memory is refused.
+    /// [`StreamFault::Memory`] if an allocation fails.
     pub fn of(alloc: Global, script: &Script, report: Report) -> Result<RunText, StreamFault>
         requires report { IsReport script.now report }
         requires sound { All IsSound report.objects.items }
@@ -85,7 +85,7 @@ impl RunText {
         Ok(RunText { lines, parts, last })
     }
 
-    /// Writes the text, piece by piece, or a front of it.
+    /// Writes the text, piece by piece. On an error only its first bytes may have been written.
     pub fn write<W: Sink>(self, writer: &mut W) -> Result<(), DeviceFailed>
         requires { W.failed writer.old ≡ false }
         ensures ok { OnOk result (Appends (W.held writer.old) (W.held writer.new) self) }

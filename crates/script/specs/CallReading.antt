@@ -1,4 +1,4 @@
--- What the readers of a call answer, from the words that are left to the words after.
+-- What the readers of a call return: what they read, and the words that are left.
 use Rattle.std.specs.Prelude.{ℕ, List, [], ◌∷◌, Option, None, Some, codes, bytes_eq, if◌then◌else◌}
 use Rattle.history.specs.Reading.{Words, ◌>>=◌, number_at}
 use Rattle.history.specs.declared.entry.Mode.{Mode}
@@ -12,7 +12,7 @@ use Rattle.steps.specs.StepReading.{asked_at, condition_at}
 unfoldable pub timed_at : Words → Option (How × Words)
 timed_at words = number_at 0 4294967295 words >>= λ ms. Some (Timed ms.0, ms.1)
 
--- an acquire: a mode and an amount, and the milliseconds where it is timed
+-- an acquire: a mode and an amount, and the milliseconds if it is timed
 abbrev pub acquire_at : How → Words → Option (Action × Words)
 acquire_at how words = asked_at words >>= λ a. Some (Acquire a.0.0 a.0.1 how, a.1)
 
@@ -22,7 +22,7 @@ timed_acquire_at words = do
   how ← timed_at a.1
   Some (Acquire a.0.0 a.0.1 how.0, how.1)
 
--- a call for a mode and an amount that waits for nobody
+-- a call for a mode and an amount that never waits
 abbrev pub asking_at : (Mode → ℕ → Action) → Words → Option (Action × Words)
 asking_at made words = asked_at words >>= λ a. Some (made a.0.0 a.0.1, a.1)
 

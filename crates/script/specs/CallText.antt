@@ -23,7 +23,7 @@ action_words (SignalAll c) = codes "signalall" ∷ decimal c ∷ []
 action_words Drain = codes "drain" ∷ []
 action_words Trim = codes "trim" ∷ []
 
--- amounts and milliseconds of 32 bits, conditions of 8: more than an object may have, as in a steps text
+-- amounts and milliseconds of 32 bits, conditions of 8 bits; the object may lack them, as in a steps text
 abbrev pub HasAmounts : Action → Type 0
 HasAmounts (Acquire m n Plain) = n < 2 ^ 32
 HasAmounts (Acquire m n Interruptible) = n < 2 ^ 32
@@ -38,7 +38,7 @@ HasAmounts (SignalAll c) = c < 2 ^ 8
 HasAmounts Drain = Unit {0}
 HasAmounts Trim = Unit {0}
 
--- the name of one of the objects and what is asked of it, or the interrupt of one of so many threads
+-- the name of one of the objects and a call of it, or the interrupt of one of the first n threads
 abbrev pub Spells : List Named → ℕ → Call → List ℕ → Type 0
 Spells objects threads (On place action) text =
     HasAmounts action × ((o : Named) × (slice_get objects place ≡ Some o)

@@ -1,4 +1,4 @@
--- What reading a script answers: what its JSON value says, or the first fault.
+-- What reading a script returns: the script that the JSON value describes, or the first fault.
 use Rattle.std.specs.Prelude.{◌≡◌, ℕ, List, [], Some, length, IsUtf8, Result, Ok, Err}
 use Rattle.serde_json.specs.Data.{Data}
 use Rattle.serde_json.specs.Read.{read}
@@ -12,7 +12,7 @@ use Rattle.script.specs.declared.fault.ScriptFault.TheVariants.{NotJson, BadTop,
 abbrev pub IsJson : List ℕ → Data → Type 0
 IsJson text value = IsUtf8 text × (read text ≡ Some value)
 
--- the value says this script
+-- the value describes this script
 pub record Says (value : Data) (s : ScriptView) : Type 0 where
   pub objects : List Data
   pub threads : List Data
@@ -20,39 +20,39 @@ pub record Says (value : Data) (s : ScriptView) : Type 0 where
   pub each_object : Say (SaysObject (length threads)) [] objects s.objects
   pub each_worker : Say (SaysWorker s.objects (length threads)) [] threads s.workers
 
--- this value says no object, behind these
+-- the value describes no object that may follow these
 abbrev pub SaysNoObject : ℕ → List Named → Data → Type 0
 SaysNoObject threads before value = (o : Named) → ¬ SaysObject threads before value o
 
 abbrev pub SaysNoCall : List Named → ℕ → List Call → Data → Type 0
 SaysNoCall objects threads before value = (c : Call) → ¬ SaysCall objects threads before value c
 
--- this value is no list of calls with a number of rounds
+-- the value is no list of calls with a number of rounds
 abbrev pub HasNoRounds : Data → Type 0
 HasNoRounds value = (repeat : ℕ) (calls : List Data) → ¬ IsRounds value repeat calls
 
--- this value is one, and its call at this place is bad
+-- the value is one, and its call at this place is bad
 pub record HasBadCall (objects : List Named) (threads : ℕ) (place : ℕ) (value : Data) : Type 0 where
   pub repeat : ℕ
   pub calls : List Data
   pub rounds : IsRounds value repeat calls
   pub stops : StopsAt (SaysCall objects threads) calls place (SaysNoCall objects threads)
 
--- where the objects of a list come to an end too soon
+-- the fault of a list of objects
 abbrev pub IsObjectsFault : ℕ → List Data → ScriptFault → Type 0
 IsObjectsFault threads values (BadObject place) =
     StopsAt (SaysObject threads) values place (SaysNoObject threads)
 IsObjectsFault threads values OutOfMemory = Unit {0}
 IsObjectsFault threads values _ = ⊥
 
--- where the calls of one thread do
+-- the fault of the calls of one thread
 abbrev pub IsCallsFault : List Named → ℕ → ℕ → List Data → ScriptFault → Type 0
 IsCallsFault objects threads thread values (BadCall t place) =
     (t ≡ thread) × StopsAt (SaysCall objects threads) values place (SaysNoCall objects threads)
 IsCallsFault objects threads thread values OutOfMemory = Unit {0}
 IsCallsFault objects threads thread values _ = ⊥
 
--- what is wrong with one thread
+-- the fault of one thread
 abbrev pub IsThreadFault : List Named → ℕ → ℕ → Data → ScriptFault → Type 0
 IsThreadFault objects threads thread value (BadThread t) = (t ≡ thread) × HasNoRounds value
 IsThreadFault objects threads thread value (BadCall t place) =
@@ -60,7 +60,7 @@ IsThreadFault objects threads thread value (BadCall t place) =
 IsThreadFault objects threads thread value OutOfMemory = Unit {0}
 IsThreadFault objects threads thread value _ = ⊥
 
--- where the threads of a list come to an end too soon
+-- the fault of a list of threads
 abbrev pub IsThreadsFault : List Named → ℕ → List Data → ScriptFault → Type 0
 IsThreadsFault objects threads values (BadThread thread) =
     StopsAt (SaysWorker objects threads) values thread (λ before value. HasNoRounds value)
@@ -92,13 +92,13 @@ HasFault value (BadThread thread) = StopsInThreads value (BadThread thread)
 HasFault value (BadCall thread place) = StopsInThreads value (BadCall thread place)
 HasFault value _ = ⊥
 
--- The bytes are no text of a JSON value, or the value that they are the text of has this fault first.
+-- The bytes are no text of a JSON value, or the value whose text they are has this first fault.
 abbrev pub IsFault : List ℕ → ScriptFault → Type 0
 IsFault text NotJson = (value : Data) → ¬ IsJson text value
 IsFault text OutOfMemory = Unit {0}
 IsFault text fault = (value : Data) × IsJson text value × HasFault value fault
 
--- what a call answers: the script that the text says, or its first fault, or want of memory
+-- what a call returns: the script that the text spells, its first fault, or lack of memory
 abbrev pub Reads : List ℕ → Result ScriptView ScriptFault → Type 0
 Reads text (Ok script) = (value : Data) × IsJson text value × Says value script
 Reads text (Err fault) = IsFault text fault

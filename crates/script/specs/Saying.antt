@@ -1,4 +1,4 @@
--- What a JSON value says of a script, part by part.
+-- How a JSON value describes a script, part by part.
 use Rattle.std.specs.Prelude.{◌≡◌, ◌≢◌, ℕ, ◌≤◌, List, [], ◌∷◌, ◌++◌, Some, option_map, length, take, slice_get, All, codes}
 use Rattle.history.specs.Spelling.{part_of}
 use Rattle.serde_json.specs.Data.{Data, array, number, string, unsigned}
@@ -21,14 +21,14 @@ pub record IsList (least most : ℕ) (value : Data) (values : List Data) : Type 
   pub few : length values ≤ most
   pub is : value ≡ array (items_of values)
 
--- Each value says the thing beside it, which `Says` relates to it and to the things before.
+-- Each value describes the thing at its place. `Says` relates it to that thing and to the things before.
 abbrev pub Say : {T : Type 0} → (List T → Data → T → Type 0) → List T → List Data → List T → Type 0
 Say Says before [] [] = Unit {0}
 Say Says before [] (x ∷ xs) = ⊥
 Say Says before (v ∷ vs) [] = ⊥
 Say Says before (v ∷ vs) (x ∷ xs) = Says before v x × Say Says (before ++ x ∷ []) vs xs
 
--- The values before this place say things, and the one there is bad behind them.
+-- The values before this place describe things, and the one at this place is bad after them.
 pub record StopsAt {T : Type 0} (Says : List T → Data → T → Type 0) (values : List Data) (place : ℕ)
     (IsBad : List T → Data → Type 0) : Type 0 where
   pub said : List T

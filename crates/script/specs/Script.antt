@@ -1,4 +1,4 @@
--- What a script is, and the limits that each script meets.
+-- Scripts, and the limits that each script meets.
 use Rattle.std.specs.Prelude.{◌≡◌, ℕ, ◌<◌, ◌≤◌, List, map, length, All, String, string_bytes}
 use Rattle.std.specs.declared.alloc.Global.{Global}
 use Rattle.history.specs.declared.header.Header.{Header}
@@ -7,7 +7,7 @@ use Rattle.script.specs.Name.{IsName}
 use Rattle.script.specs.declared.call.Call.{Call}
 use Rattle.script.specs.declared.call.Call.TheVariants.{On, Interrupt}
 
--- what one thread does: its calls, and how many times over
+-- one thread: its calls, and how often it repeats them
 pub record WorkerView : Type 0 where
   pub repeat : ℕ
   pub calls : List Call
@@ -20,11 +20,11 @@ pub record ScriptView : Type 0 where
   pub objects : List Named
   pub workers : List WorkerView
 
--- what the entries of a map by names are
+-- the names and headers of a map's entries
 abbrev pub named : List (String Global × Header) → List Named
 named = map (λ e. (string_bytes e.0, e.1))
 
--- a call of one of so many objects, or the interrupt of one of so many threads
+-- a call of one of the objects, or the interrupt of one of the threads, by their numbers
 abbrev pub IsCall : ℕ → ℕ → Call → Type 0
 IsCall objects threads (On place action) = place < objects
 IsCall objects threads (Interrupt thread) = thread < threads

@@ -3,26 +3,25 @@
 use history::entry::Mode;
 use monitor::How;
 
-/// A call of a monitor, for the seat of the thread that makes it.
+/// A call of a monitor, for the seat of the calling thread.
 ///
-/// An amount, a condition or a mode may be one that the object doesn't have. The monitor then refuses the
-/// call.
+/// The object may lack the mode, the amount or the condition. The monitor then refuses the call.
 #[derive(Clone, Copy, Debug, PartialEq, Eq)]
 pub enum Action {
-    /// Takes in a mode an amount, and waits for it in this way.
+    /// Acquires an amount in a mode, and waits in this way.
     Acquire(Mode, u32, How),
-    /// Takes in a mode an amount, or misses it.
+    /// Acquires an amount in a mode, or fails at once.
     TryAcquire(Mode, u32),
-    /// Gives back in a mode an amount. On a latch it counts down.
+    /// Releases an amount in a mode. On a latch it counts down.
     Release(Mode, u32),
-    /// Gives up all holds, and waits on a condition in this way.
+    /// Releases all holds, and waits on a condition in this way.
     AwaitOn(u8, How),
-    /// Moves the longest sleeper of a condition to the line.
+    /// Moves the longest waiter of a condition to the wait queue.
     Signal(u8),
-    /// Moves all sleepers of a condition to the line.
+    /// Moves all waiters of a condition to the wait queue.
     SignalAll(u8),
     /// Takes all free permits.
     Drain,
-    /// Folds the entries of the history into its base. No entry tells of it.
+    /// Folds the entries of the history into its base. No entry records it.
     Trim,
 }

@@ -1,4 +1,4 @@
-//! The words of a call of an object, behind the object's name.
+//! The words of a call of an object, after the object's name.
 
 ghost use Rattle.std.specs.Prelude.{◌≡◌, [], ◌∷◌, ◌++◌, ◌<◌, ◌^◌, ℕ, decimal, codes, IfSome};
 ghost use Rattle.history.specs.EntryWords.{mode_word};
@@ -15,7 +15,7 @@ use history::words::Words;
 use monitor::How;
 use steps::{asked, condition};
 
-/// Milliseconds.
+/// Reads milliseconds.
 #[tactic(auto, unfolding(crate::specs::CallReading::timed_at))]
 fn timed(words: &mut Words<'_>) -> Option<How>
     ensures is { with_rest result words.new ≡ timed_at words.old }
@@ -25,7 +25,7 @@ fn timed(words: &mut Words<'_>) -> Option<How>
     Some(How::Timed(words.number(0, 4_294_967_295)? as u32))
 }
 
-/// A mode, an amount and milliseconds.
+/// Reads a mode, an amount and milliseconds.
 #[tactic(auto, unfolding(crate::specs::CallReading::timed_acquire_at))]
 fn timed_acquire(words: &mut Words<'_>) -> Option<Action>
     ensures is { with_rest result words.new ≡ timed_acquire_at words.old }
@@ -36,7 +36,7 @@ fn timed_acquire(words: &mut Words<'_>) -> Option<Action>
     Some(Action::Acquire(mode, n, timed(words)?))
 }
 
-/// A condition and milliseconds.
+/// Reads a condition and milliseconds.
 #[tactic(auto, unfolding(crate::specs::CallReading::timed_await_at))]
 fn timed_await(words: &mut Words<'_>) -> Option<Action>
     ensures is { with_rest result words.new ≡ timed_await_at words.old }
@@ -47,7 +47,7 @@ fn timed_await(words: &mut Words<'_>) -> Option<Action>
     Some(Action::AwaitOn(condition, timed(words)?))
 }
 
-/// A call that names no amount, by its name: one of a condition, or of none.
+/// Reads the rest of a call without an amount, by its name: one of a condition, or of none.
 #[tactic(auto, unfolding(crate::specs::CallReading::waiting_at))]
 fn waiting(name: &[u8], words: &mut Words<'_>) -> Option<Action>
     ensures is { with_rest result words.new ≡ waiting_at name.now words.old }
@@ -72,7 +72,7 @@ fn waiting(name: &[u8], words: &mut Words<'_>) -> Option<Action>
     }
 }
 
-/// A call of an object.
+/// Reads a call of an object.
 #[tactic(auto, unfolding(crate::specs::CallReading::action_at))]
 pub(crate) fn action(words: &mut Words<'_>) -> Option<Action>
     ensures is { with_rest result words.new ≡ action_at words.old }

@@ -17,7 +17,7 @@ use history::number::number_of;
 use history::words::Words;
 use indexmap::IndexMap;
 
-/// What is asked of an object, of which these are all words behind its name.
+/// Returns the call of an object that these words spell, which are all words after its name.
 fn action_of(text: &[u8]) -> Option<Action>
     ensures found { IfSome result (λ a. HasAmounts a × (text.now ≡ line_of (action_words a))) }
     ensures none { IfNone result ((a : Action) → HasAmounts a → text.now ≢ line_of (action_words a)) }
@@ -30,7 +30,7 @@ fn action_of(text: &[u8]) -> Option<Action>
     }
 }
 
-/// The number of a thread, of which there are so many.
+/// Returns the number of a thread, which must be below `threads`.
 fn thread_of(text: &[u8], threads: usize) -> Option<u16>
     requires { threads ≤ 256 }
     ensures found { IfSome result (λ t. (t < threads) × (text.now ≡ decimal t)) }
@@ -44,7 +44,7 @@ fn thread_of(text: &[u8], threads: usize) -> Option<u16>
     }
 }
 
-/// The call that a text spells, of one of these objects or of so many threads.
+/// Returns the call that a text spells: of one of these objects, or the interrupt of one of the threads.
 pub(crate) fn call_of(
     text: &str,
     objects: &IndexMap<String, Header>,

@@ -6,7 +6,7 @@ ghost use Rattle.script.specs.declared.fault.ScriptFault.TheVariants.{OutOfMemor
 use std::alloc::{AllocError, AllocFailed};
 use thiserror::Error;
 
-/// The first fault of a script. Its parts are looked at in this order: the text, the top, each object, then
+/// The first fault of a script. Its parts are checked in this order: the text, the top, each object, then
 /// each thread with its calls.
 ///
 /// Objects, threads and calls are counted from 0.
@@ -26,10 +26,10 @@ pub enum ScriptFault {
     /// list of at most 10000.
     #[error("bad thread {0}")]
     BadThread(usize),
-    /// Of this thread this member of `calls` isn't a call.
+    /// This member of `calls`, the second number, isn't a call. The first number is the thread's.
     #[error("bad call {0} {1}")]
     BadCall(usize, usize),
-    /// Memory was refused; the script may be good.
+    /// An allocation failed; the script may be good.
     #[error("out of memory")]
     OutOfMemory,
 }

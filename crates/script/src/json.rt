@@ -7,7 +7,7 @@ ghost use Rattle.script.specs.Saying.{HasMembers, IsList};
 
 use serde_json::Value;
 
-/// The two values of an object with exactly these two keys.
+/// Returns the two values of an object with exactly these two keys.
 pub(crate) fn members_of<'a>(
     value: &'a Value,
     first: &str,
@@ -24,7 +24,7 @@ pub(crate) fn members_of<'a>(
     Some((value.get(first)?, value.get(second)?))
 }
 
-/// The values of a list, at least and at most so many.
+/// Returns the values of a list with `least` to `most` members.
 pub(crate) fn list_of(value: &Value, least: usize, most: usize) -> Option<&[Value]>
     ensures found { IfSome result (λ vs. IsList least most (view value.now) (map view vs.now)) }
     ensures none { IfNone result ((vs : List Data) → ¬ IsList least most (view value.now) vs) }
@@ -36,7 +36,7 @@ pub(crate) fn list_of(value: &Value, least: usize, most: usize) -> Option<&[Valu
     Some(list.as_slice())
 }
 
-/// The text that a value is.
+/// Returns the text that a value is.
 pub(crate) fn text_of(value: &Value) -> Option<&str>
     ensures found { IfSome result (λ text. view value.now ≡ string text.now) }
     ensures none { IfNone result ((text : List ℕ) → ¬ (view value.now ≡ string text)) }
@@ -44,7 +44,8 @@ pub(crate) fn text_of(value: &Value) -> Option<&str>
     value.as_str()
 }
 
-/// The whole number from 0 on that a value is, written without fraction and exponent.
+/// Returns the number that a value is, if it is a whole number from 0 on, written without fraction and
+/// exponent.
 pub(crate) fn number_of(value: &Value) -> Option<u64>
     ensures found { IfSome result (λ n. view value.now ≡ number (unsigned n)) }
     ensures none { IfNone result ((n : ℕ) → ¬ (view value.now ≡ number (unsigned n))) }

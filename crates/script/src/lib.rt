@@ -1,6 +1,6 @@
-//! Scripts of threads: which objects there are, and which calls each thread makes of them.
+//! Scripts of threads: the objects, and the calls that each thread makes of them.
 //!
-//! A script is a JSON text. [`read_script`] gives what it says, or its first fault.
+//! A script is a JSON text. [`read_script`] returns the script, or the first fault of the text.
 #![tactic(auto)]
 
 mod action;

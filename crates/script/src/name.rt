@@ -19,7 +19,7 @@ fn is_name_byte(byte: u8) -> bool
     byte.is_ascii_lowercase() || byte.is_ascii_digit() || byte == b'-'
 }
 
-/// Whether an object may have this name.
+/// Returns whether an object may have this name.
 pub(crate) fn is_name(name: &str) -> bool
     ensures { IsTrue result ↔ IsName name.now }
 {
@@ -29,7 +29,7 @@ pub(crate) fn is_name(name: &str) -> bool
         && name != INTERRUPT
 }
 
-/// The place of the object of this name.
+/// Returns the place of the object with this name.
 pub(crate) fn place_of(name: &str, objects: &IndexMap<String, Header>) -> Option<usize>
     ensures found { IfSome result (λ i. (h : Header)
         × (slice_get (named objects.now.entries) i ≡ Some (name.now, h))) }

@@ -14,7 +14,7 @@ use indexmap::IndexMap;
 use serde_json::Value;
 use std::alloc::Global;
 
-/// The name and the header of an object with so many seats as there are threads.
+/// Reads the name and the header of an object with as many seats as there are threads.
 fn named_header(value: &Value, threads: usize) -> Option<(&str, Header)>
     ensures found { IfSome result (λ o. IsObject threads (o.0.now, o.1)
         × (view value.entry.now ≡ object_value (o.0.now, o.1))) }
@@ -33,7 +33,7 @@ fn named_header(value: &Value, threads: usize) -> Option<(&str, Header)>
     }
 }
 
-/// The same, with a name that none of these objects has.
+/// As `named_header`, but refuses a name that one of these objects has.
 fn new_object<'a>(
     value: &'a Value,
     threads: usize,
@@ -51,7 +51,7 @@ fn new_object<'a>(
     }
 }
 
-/// The objects that a list says, or its first that is none.
+/// Returns the objects of a list, or a fault for the first member that is no object.
 pub(crate) fn objects_of(
     alloc: Global,
     values: &[Value],

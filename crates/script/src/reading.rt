@@ -1,4 +1,4 @@
-//! A script, from its text.
+//! Reading a script from its text.
 
 ghost use Rattle.std.specs.Prelude.{◌≡◌, ◌≢◌, List, map, IfOk, IfErr, IfSome, IfNone};
 ghost use Rattle.serde_json.specs.Data.{Data};
@@ -27,7 +27,7 @@ struct Top<'a> {
     threads: &'a [Value],
 }
 
-/// The JSON value whose text the bytes are.
+/// Returns the JSON value whose text the bytes are.
 fn value_of(alloc: Global, text: &[u8]) -> Result<Value, ScriptFault>
     ensures ok { IfOk result (λ v. IsJson text.now (view v)) }
     ensures err { IfErr result (λ f. (f ≡ OutOfMemory) ⊎ ((f ≡ NotJson)
@@ -40,7 +40,7 @@ fn value_of(alloc: Global, text: &[u8]) -> Result<Value, ScriptFault>
     }
 }
 
-/// The lists of objects and of threads that a value has.
+/// Returns the lists of objects and of threads that a value has.
 fn top_of(value: &Value) -> Option<Top<'_>>
     ensures found { IfSome result (λ t. IsTop (view value.entry.now) (map view t.objects.now)
         (map view t.threads.now)) }
@@ -54,29 +54,30 @@ fn top_of(value: &Value) -> Option<Top<'_>>
     })
 }
 
-/// The script that a text says, or its first fault.
+/// Returns the script that a text spells, or its first fault.
 ///
 /// The text is a JSON object with two keys. `objects` has a list of 1 to 64 pairs: a name, and the object
-/// part of a header, whose seats are as many as the threads. A name has 1 to 32 of `a` to `z`, `0` to `9` and
-/// `-`, isn't `interrupt`, and stands there once. `threads` has a list of 1 to 256 objects with two keys
-/// each:
-/// `repeat`, a whole number from 1 to 1000000 without fraction and exponent, and `calls`, a list of at most
-/// 10000 texts. What a text of a call says is [`Action`](crate::Action)'s matter.
+/// part of a header, with as many seats as there are threads. A name has 1 to 32 characters of `a` to `z`,
+/// `0` to `9` and `-`, isn't `interrupt`, and is there once. `threads` has a list of 1 to 256 objects with
+/// two keys each: `repeat`, a whole number from 1 to 1000000 without fraction and exponent, and `calls`, a
+/// list of at most 10000 texts. Each text spells an [`Action`](crate::Action) of an object, or an interrupt.
 ///
-/// A key that stands in an object twice has its last value, as in `serde_json`. Time and memory grow linearly
+/// If a key is in an object twice, its last value counts, as in `serde_json`. Time and memory grow linearly
 /// with the text.
 ///
 /// # Errors
 ///
 /// The first of these that applies:
-/// - [`ScriptFault::NotJson`] if the text isn't JSON. Neither is one that nests deeper than 127 levels, or
-///   that has a number too large for a float.
-/// - [`ScriptFault::BadTop`] if the value doesn't have just those two keys, with lists of those lengths.
-/// - [`ScriptFault::BadObject`] of the first object that isn't such a pair.
-/// - [`ScriptFault::BadThread`] or [`ScriptFault::BadCall`] of the first thread that isn't such an object, or
-///   that has a call which isn't one of those objects' or an interrupt of one of those threads.
 ///
-/// [`ScriptFault::OutOfMemory`] comes in place of any of them if memory is refused, and never otherwise.
+/// - [`ScriptFault::NotJson`] if the text isn't JSON, nests deeper than 127 levels, or has a number too large
+///   for a float.
+/// - [`ScriptFault::BadTop`] if the value doesn't have exactly those two keys, with lists of those lengths.
+/// - [`ScriptFault::BadObject`] for the first object that isn't such a pair.
+/// - [`ScriptFault::BadThread`] or [`ScriptFault::BadCall`] for the first thread that isn't such an object,
+///   or that has a call which is neither one of those objects' nor an interrupt of one of those threads.
+///
+/// [`ScriptFault::OutOfMemory`] may be returned in place of any of them if an allocation fails, and never
+/// otherwise.
 pub fn read_script(alloc: Global, text: &[u8]) -> Result<Script, ScriptFault>
     ensures { Reads text.now result }
 {

@@ -8,10 +8,10 @@ use history::header::Header;
 use indexmap::IndexMap;
 use std::marker::Model;
 
-/// Objects by their names, and threads with the calls that each makes of them.
+/// Objects with their names, and threads with the calls that each makes.
 ///
-/// The thread at a place is the worker of that number, counted from 0, and has the seat of that number in
-/// every object. Only [`read_script`](crate::read_script) makes scripts, so each meets all limits.
+/// The thread at place `t` is worker `t`, counted from 0, and has seat `t` in every object. Only
+/// [`read_script`](crate::read_script) makes scripts, so each meets all limits.
 #[derive(Debug, Drop)]
 pub struct Script {
     objects: IndexMap<String, Header>,
@@ -39,7 +39,7 @@ impl Script {
         Script { objects, workers }
     }
 
-    /// The headers by the names of their objects, in the order of the script: 1 to 64.
+    /// Returns the headers by the names of their objects, in the order of the script: 1 to 64.
     pub fn objects(&self) -> &IndexMap<String, Header>
         ensures value { named result.now.entries ≡ self.now.objects }
         ensures limits { IsScript self.now }
@@ -47,7 +47,7 @@ impl Script {
         &self.objects
     }
 
-    /// The workers in their order: 1 to 256.
+    /// Returns the workers in their order: 1 to 256.
     pub fn workers(&self) -> &[Worker]
         ensures value { result.now ≡ self.now.workers }
         ensures limits { IsScript self.now }

@@ -1,11 +1,11 @@
-//! What one thread of a script does.
+//! The calls of one thread of a script.
 
 ghost use Rattle.std.specs.Prelude.{◌≡◌};
 
 use crate::call::Call;
 use std::marker::Model;
 
-/// The calls of one thread, and how many times over it makes them.
+/// The calls of one thread, and how often it repeats them.
 #[derive(Debug, Drop)]
 pub struct Worker {
     repeat: u32,
@@ -27,14 +27,14 @@ impl Worker {
         Worker { repeat, calls }
     }
 
-    /// How many times over the thread makes its calls, 1 to 1000000.
+    /// Returns how often the thread makes its calls: 1 to 1000000 times.
     pub fn repeat(&self) -> u32
         ensures { result ≡ self.now.repeat }
     {
         self.repeat
     }
 
-    /// The calls of one round in their order, at most 10000.
+    /// Returns the calls of one round in their order, at most 10000.
     pub fn calls(&self) -> &[Call]
         ensures { result.now ≡ self.now.calls }
     {

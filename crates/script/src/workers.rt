@@ -23,7 +23,7 @@ const MOST_ROUNDS: u64 = 1_000_000;
 
 const MOST_CALLS: usize = 10_000;
 
-/// How many rounds of which calls a value says.
+/// Reads the number of rounds and the calls of a thread.
 fn rounds_of(value: &Value) -> Option<(u32, &[Value])>
     ensures found { IfSome result (λ r. IsRounds (view value.entry.now) r.0 (map view r.1.now)) }
     ensures none { IfNone result (HasNoRounds (view value.entry.now)) }
@@ -38,7 +38,7 @@ fn rounds_of(value: &Value) -> Option<(u32, &[Value])>
     }
 }
 
-/// The calls that a list says, or its first that is none.
+/// Returns the calls of a list, or a fault for the first member that is no call.
 fn calls_of(
     alloc: Global,
     values: &[Value],
@@ -63,7 +63,7 @@ fn calls_of(
     Ok(calls)
 }
 
-/// The call that a value says.
+/// Returns the call that a value spells.
 fn call_in(value: &Value, objects: &IndexMap<String, Header>, threads: usize) -> Option<Call>
     requires threads { threads ≤ 256 }
     requires names { All (λ o. IsName o.0) (named objects.now.entries) }
@@ -75,7 +75,7 @@ fn call_in(value: &Value, objects: &IndexMap<String, Header>, threads: usize) ->
     call_of(text_of(value)?, objects, threads)
 }
 
-/// What the thread of this number does, or what is wrong with it.
+/// Returns the thread that a value describes, or the value's fault.
 fn worker_of(
     alloc: Global,
     value: &Value,
@@ -96,7 +96,7 @@ fn worker_of(
     Ok(Worker::new(repeat, calls))
 }
 
-/// The workers that a list says, or what is wrong with the first that is none.
+/// Returns the workers that a list describes, or the fault of the first that is none.
 pub(crate) fn workers_of(
     alloc: Global,
     values: &[Value],

@@ -25,7 +25,7 @@ step_words (Signal c) = codes "signal" ∷ decimal c ∷ []
 step_words (SignalAll c) = codes "signalall" ∷ decimal c ∷ []
 step_words Drain = codes "drain" ∷ []
 
--- amounts of 32 bits, conditions of 8: more than an object may have, so that a text can ask for too much
+-- amounts of 32 bits, conditions of 8 bits; the object may lack them, so a text can ask for too much
 abbrev pub HasAmounts : Step → Type 0
 HasAmounts (Acquire m n) = n < 2 ^ 32
 HasAmounts (Try m n) = n < 2 ^ 32
@@ -40,11 +40,11 @@ HasAmounts (Signal c) = c < 2 ^ 8
 HasAmounts (SignalAll c) = c < 2 ^ 8
 HasAmounts Drain = Unit {0}
 
--- a seat and its step, of an object with so many seats
+-- a step of one of the seats
 abbrev pub IsStep : ℕ → ℕ × Step → Type 0
 IsStep seats s = (s.0 < seats) × HasAmounts s.1
 
--- the words of a step and a break begin the text, and so many bytes follow
+-- the words of a step and a line break begin the text, and this many bytes follow
 abbrev pub BeginsWith : List ℕ → Step × ℕ → Type 0
 BeginsWith text found =
     HasAmounts found.0 × ((rest : List ℕ) × (text ≡ ended (line_of (step_words found.0)) ++ rest)
@@ -59,7 +59,7 @@ abbrev pub IsAct : StepsHeader → Act → Type 0
 IsAct h (Do seat step) = IsStep h.header.seats (seat, step)
 IsAct h Trim = h.format ≡ Two
 
--- a trim is of no seat
+-- a trim has no seat
 abbrev pub act_line : Act → List ℕ
 act_line (Do seat step) = step_line (seat, step)
 act_line Trim = codes "trim"

@@ -1,4 +1,4 @@
--- What the readers of steps answer, from the words that are left to the words after.
+-- What the readers of steps return: what they read, and the words that are left.
 use Rattle.std.specs.Prelude.{ℕ, ◌-◌, List, [], ◌∷◌, Option, None, Some, codes, bytes_eq, if◌then◌else◌}
 use Rattle.history.specs.Reading.{Words, ◌>>=◌, number_at, mode_at}
 use Rattle.history.specs.declared.entry.Mode.{Mode}
@@ -21,7 +21,7 @@ asking made words = asked_at words >>= λ a. Some (made a.0.0 a.0.1, a.1)
 abbrev pub on_condition : (ℕ → Step) → Words → Option (Step × Words)
 on_condition made words = condition_at words >>= λ c. Some (made c.0, c.1)
 
--- a step that stands alone
+-- a step that its name alone spells
 unfoldable pub alone_at : List ℕ → Words → Option (Step × Words)
 alone_at w ws = if bytes_eq w (codes "look") then Some (Look, ws)
     else if bytes_eq w (codes "expire") then Some (Expire, ws)
@@ -29,7 +29,7 @@ alone_at w ws = if bytes_eq w (codes "look") then Some (Look, ws)
     else if bytes_eq w (codes "drain") then Some (Drain, ws)
     else None
 
--- a step that names no amount: one of a condition, or one that stands alone
+-- a step without an amount: one of a condition, or one that its name alone spells
 unfoldable pub unasked_at : List ℕ → Words → Option (Step × Words)
 unasked_at w ws = if bytes_eq w (codes "await") then on_condition Await ws
     else if bytes_eq w (codes "signal") then on_condition Signal ws

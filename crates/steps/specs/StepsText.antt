@@ -1,4 +1,4 @@
--- Steps texts: their form, and what reading one answers.
+-- Steps texts: their form, and what reading one returns.
 use Rattle.std.specs.Prelude.{ℕ, ◌<◌, ◌^◌, List, length, Result, Ok}
 use Rattle.frame.specs.declared.acts.Act.{Act}
 use Rattle.history.specs.Header.{IsInRange}
@@ -11,8 +11,8 @@ use Rattle.steps.specs.declared.header.StepsHeader.{StepsHeader}
 use Rattle.steps.specs.declared.steps_text.StepsText.{StepsText}
 use Rattle.steps.specs.StepLines.{header_line, act_line, end_line, IsAct}
 
--- a header of any object, the steps of its seats and in format 2 trims, all without numbers, and how many
--- they are, at most 4294967295
+-- a header of any object, the steps of its seats and, in format 2, trims, all without numbers, and how many
+-- there are, at most 4294967295
 abbrev pub steps_form : Form StepsHeader Act
 steps_form =
     record {
@@ -24,10 +24,10 @@ steps_form =
       end_line = λ acts. end_line (length acts);
     }
 
--- A reader of steps knows of the acts that it read how many there are.
+-- What a reader of steps knows of the acts that it has read: how many there are.
 abbrev pub steps_so_far : StepsHeader → ℕ → SoFar StepsHeader Act
 steps_so_far header count = record { header = header; count = count; known = λ acts. Unit {0} }
 
--- what a call answers: the reading of the text, or want of memory
+-- what a call returns: the reading of the text, or lack of memory
 abbrev pub Reads : List ℕ → Result StepsText ReadFault → Type 0
 Reads text = reading.Reads steps_form (λ t. IsReading steps_form text (Ok (t.header, t.acts.items))) text

@@ -9,7 +9,7 @@ use crate::header::{Format, StepsHeader};
 use crate::step_line::step_of;
 use frame::acts::Act;
 
-/// The trim of a line, in a format that has such lines.
+/// Returns the trim that a line spells, if the format has trims.
 fn trim_of(line: &[u8], format: Format) -> Option<Act>
     ensures found { IfSome result (λ act. (act ≡ Act.Trim) × (format ≡ Two) × (line.now ≡ codes "trim")) }
     ensures none { IfNone result (format ≡ Two → line.now ≢ codes "trim") }
@@ -20,7 +20,7 @@ fn trim_of(line: &[u8], format: Format) -> Option<Act>
     }
 }
 
-/// The act of a line, under this header.
+/// Returns the act that a line spells, under this header.
 pub fn act_of(line: &[u8], header: &StepsHeader) -> Option<Act>
     requires { 1 ≤ header.now.header.seats }
     ensures found { IfSome result (λ act. IsAct header.now act × (line.now ≡ act_line act)) }

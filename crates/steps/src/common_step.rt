@@ -1,4 +1,4 @@
-//! The commonest lines of a steps text, read without cutting them into words.
+//! Reading the most frequent lines of a steps text without cutting them into words.
 
 ghost use Rattle.std.specs.Prelude.{◌≡◌, ◌++◌, length, List, ℕ, IfSome};
 ghost use Rattle.history.specs.Text.{ended};
@@ -11,12 +11,12 @@ use line_text::at_once::{behind_byte, behind_four};
 use line_text::once::mode_of_once;
 use line_text::seat::seat_of;
 
-/// An acquire of 1.
+/// Reads an acquire of 1.
 #[inline(always)]
 fn acquire(text: &[u8]) -> Option<(Step, usize)>
     ensures { IfSome result (BeginsWith text.now) }
 {
-    // One test of the length in place of three.
+    // One test of the length instead of three.
     if text.len() < 12 {
         return None;
     }
@@ -26,7 +26,7 @@ fn acquire(text: &[u8]) -> Option<(Step, usize)>
     Some((Step::Acquire(mode, 1), left))
 }
 
-/// A give of 1.
+/// Reads a release of 1.
 #[inline(always)]
 fn give(text: &[u8]) -> Option<(Step, usize)>
     ensures { IfSome result (BeginsWith text.now) }
@@ -40,7 +40,7 @@ fn give(text: &[u8]) -> Option<(Step, usize)>
     Some((Step::Give(mode, 1), left))
 }
 
-/// A look.
+/// Reads a retry.
 #[inline(always)]
 fn look(text: &[u8]) -> Option<(Step, usize)>
     ensures { IfSome result (BeginsWith text.now) }
@@ -50,7 +50,7 @@ fn look(text: &[u8]) -> Option<(Step, usize)>
     Some((Step::Look, rest.len()))
 }
 
-/// A try of X, one that doesn't pass who waits or one that may.
+/// Reads a try of X: one that doesn't barge, or one that may.
 #[inline(always)]
 fn tries(text: &[u8]) -> Option<(Step, usize)>
     ensures { IfSome result (BeginsWith text.now) }
@@ -64,7 +64,7 @@ fn tries(text: &[u8]) -> Option<(Step, usize)>
     }
 }
 
-/// What ends a wait, and an acquire that an interrupt came before.
+/// Reads a timeout, an interrupt, or an acquire with an interrupt pending.
 #[inline(always)]
 fn ends_wait(text: &[u8]) -> Option<(Step, usize)>
     ensures { IfSome result (BeginsWith text.now) }
@@ -81,7 +81,8 @@ fn ends_wait(text: &[u8]) -> Option<(Step, usize)>
     }
 }
 
-/// The step whose words and break begin the text, if it is one of the commonest, and how many bytes follow.
+/// Returns the step whose words and line break begin the text, if it is one of the most frequent, and how
+/// many bytes follow.
 #[inline(always)]
 fn common_words(text: &[u8]) -> Option<(Step, usize)>
     ensures { IfSome result (BeginsWith text.now) }
@@ -102,10 +103,10 @@ fn common_words(text: &[u8]) -> Option<(Step, usize)>
     }
 }
 
-/// The seat and the step whose line begins the text, if it is one of the commonest, and how many bytes
-/// follow.
+/// Returns the seat and the step whose line begins the text, if it is one of the most frequent, and how many
+/// bytes follow.
 ///
-/// A number in place of what follows: it stays in a register.
+/// The rest is returned as a number of bytes, which stays in a register.
 #[inline(always)]
 pub fn common_step(text: &[u8], seats: u16) -> Option<((u16, Step), usize)>
     ensures { IfSome result (λ r. IsStep seats r.0 × ((rest : List ℕ) ×

@@ -8,7 +8,7 @@ use history::text::behind;
 
 const MOST_STEPS: u64 = 4_294_967_295;
 
-/// Whether the line ends a text of so many steps.
+/// Returns whether the line ends a text of `count` steps.
 #[inline(always)]
 pub fn is_end(line: &[u8], count: u64) -> bool
     ensures { IsTrue result ↔ ((count < 2 ^ 32) × (line.now ≡ end_line count)) }

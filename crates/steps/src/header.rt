@@ -24,7 +24,7 @@ pub struct StepsHeader {
     pub header: Header,
 }
 
-/// What the first line begins with.
+/// Returns the beginning of the first line.
 fn name_of(format: Format) -> &'static [u8]
     ensures { result.now ≡ name_of format }
 {
@@ -34,7 +34,7 @@ fn name_of(format: Format) -> &'static [u8]
     }
 }
 
-/// The header whose line this is, in this format.
+/// Returns the header that this line spells, in this format.
 fn header_in(format: Format, line: &[u8]) -> Option<StepsHeader>
     ensures found { IfSome result (λ h. IsInRange h.header × (line.now ≡ header_line h)) }
     ensures none { IfNone result ((h : StepsHeader) → h.format ≡ format → IsInRange h.header →
@@ -44,7 +44,7 @@ fn header_in(format: Format, line: &[u8]) -> Option<StepsHeader>
     Some(StepsHeader { format, header })
 }
 
-/// The header whose line this is.
+/// Returns the header that this line spells.
 pub fn header_on(line: &[u8]) -> Option<StepsHeader>
     ensures found { IfSome result (λ h. IsInRange h.header × (line.now ≡ header_line h)) }
     ensures none { IfNone result ((h : StepsHeader) → IsInRange h.header → line.now ≢ header_line h) }

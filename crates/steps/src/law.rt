@@ -1,4 +1,4 @@
-//! What the definitions say of each text.
+//! What the definitions say about each text.
 
 ghost use Rattle.std.specs.Prelude.{◌≡◌, ◌≢◌, [], ◌++◌, List, ℕ};
 ghost use Rattle.frame.specs.declared.acts.Act.{Act};
@@ -19,7 +19,7 @@ pub fn cut_short()
         (front more : List ℕ) → front ++ more ≡ text → more ≢ [] → IsCutShort steps_form front }
 {}
 
-/// No line of a steps text has 256 bytes.
+/// No line of a steps text has 256 bytes or more.
 pub fn lines_are_short()
     ensures { HasShortLines steps_form 256 }
 {}

@@ -1,7 +1,7 @@
-//! The steps text: a header and the steps of its object's seats, in format 2 with trims between them.
+//! The steps text: a header and the steps of its object's seats. In format 2 there may be trims between them.
 //!
 //! Each text is a steps text, with one header and one list of acts, or it has one first fault:
-//! [`one_reading`]. What begins a steps text and isn't all of it is cut short: [`cut_short`].
+//! [`one_reading`]. A proper beginning of a steps text is cut short: [`cut_short`].
 #![tactic(auto)]
 
 mod act_line;

@@ -1,4 +1,4 @@
-//! The lines of a steps text, one after another.
+//! Reading the lines of a steps text, one after another.
 
 ghost use Rattle.std.specs.Prelude.{◌≡◌, ◌+◌, ◌<◌, ◌≤◌, ◌^◌, Err, Ok, None, length, IfOk, IfErr, IsErrOf};
 ghost use Rattle.history.specs.Header.{IsInRange};
@@ -17,7 +17,7 @@ use frame::acts::Act;
 use history::text::first_line;
 use line_text::fault::TextFault;
 
-/// The header of a text, and what follows its line.
+/// Returns the header of a text, and what follows its line.
 pub fn header_of(text: &[u8]) -> Result<(StepsHeader, &[u8]), TextFault>
     ensures ok { IfOk result (IsHeaderOf steps_form text.now) }
     ensures err { IfErr result (λ fault. IsReading steps_form text.now (Err fault)) }
@@ -34,7 +34,7 @@ pub fn header_of(text: &[u8]) -> Result<(StepsHeader, &[u8]), TextFault>
     }
 }
 
-/// The next line, word by word.
+/// As `next_line`, word by word.
 #[inline(never)]
 fn line_by_words(
     rest: &[u8],
@@ -62,8 +62,8 @@ fn line_by_words(
     }
 }
 
-/// The act of the next line of a text of which so many acts were read, and how many bytes follow it; or None
-/// where that is the end line, and nothing follows.
+/// Returns the act of the next line after `count` acts were read, and how many bytes follow it. Returns None
+/// if that is the end line, and nothing follows it.
 #[inline(always)]
 pub fn next_line(
     rest: &[u8],

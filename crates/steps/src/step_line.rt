@@ -34,7 +34,7 @@ pub fn condition(words: &mut Words<'_>) -> Option<u8>
     Some(words.number(0, 255)? as u8)
 }
 
-/// A step that stands alone.
+/// Returns the step that is spelt by its name alone.
 #[tactic(auto, unfolding(crate::specs::StepReading::alone_at))]
 #[inline(always)]
 fn alone(name: &[u8]) -> Option<Step>
@@ -54,7 +54,7 @@ fn alone(name: &[u8]) -> Option<Step>
     }
 }
 
-/// A step that asks for no amount: one of a condition, or one that stands alone.
+/// Reads the rest of a step without an amount: one of a condition, or one that its name alone spells.
 #[tactic(auto, unfolding(crate::specs::StepReading::unasked_at))]
 #[inline(always)]
 fn unasked(name: &[u8], words: &mut Words<'_>) -> Option<Step>
@@ -72,7 +72,7 @@ fn unasked(name: &[u8], words: &mut Words<'_>) -> Option<Step>
     }
 }
 
-/// A step.
+/// Reads a step.
 #[tactic(auto, unfolding(crate::specs::StepReading::step_at))]
 #[inline(always)]
 fn step(words: &mut Words<'_>) -> Option<Step>
@@ -112,7 +112,7 @@ fn seat_and_step(words: &mut Words<'_>, seats: u16) -> Option<(u16, Step)>
     Some((seat as u16, step))
 }
 
-/// The seat and the step of a line, of an object with so many seats.
+/// Returns the seat and the step that a line spells, for an object with `seats` seats.
 #[inline(always)]
 pub fn step_of(line: &[u8], seats: u16) -> Option<(u16, Step)>
     requires { 1 ≤ seats }

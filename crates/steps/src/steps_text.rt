@@ -1,4 +1,4 @@
-//! What a steps text says, and its reading.
+//! A steps text, and its reading.
 
 ghost use Rattle.steps.specs.StepsText.{Reads};
 
@@ -8,17 +8,17 @@ use frame::acts::Act;
 use line_text::fault::ReadFault;
 use std::alloc::Global;
 
-/// About the length of a step's line: the list of acts is made for a text of such lines.
+/// About the length of a step's line. Memory for the list of acts is reserved for lines of this length.
 const LINE_LENGTH: usize = 12;
 
-/// A header, and the steps of its object's seats, with trims between them in format 2.
+/// A header, and the steps of its object's seats. In format 2 there may be trims between them.
 #[derive(Debug, Drop)]
 pub struct StepsText {
     pub header: StepsHeader,
     pub acts: Vec<Act>,
 }
 
-/// The header and the acts that a text spells, or its first fault, or want of memory.
+/// Returns the header and the acts that a text spells, or its first fault, or lack of memory.
 pub fn read_steps(alloc: Global, text: &[u8]) -> Result<StepsText, ReadFault>
     ensures { Reads text.now result }
 {

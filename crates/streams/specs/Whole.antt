@@ -1,10 +1,10 @@
--- What reading all and writing all may answer and leave.
+-- What reading all and writing all may return and leave.
 use Rattle.std.specs.Prelude.{◌≡◌, ◌⊎◌, ℕ, ◌+◌, ◌^◌, ◌≤◌, List, Option, length, take}
 use Rattle.std.specs.Io.KnownBytes.{Appends}
 use Rattle.streams.specs.declared.stream_fault.StreamFault.{StreamFault}
 use Rattle.streams.specs.declared.stream_fault.StreamFault.TheVariants.{Text, ReadFailed, Memory}
 
--- a front of the bytes is appended
+-- the first n bytes are appended, for some n
 abbrev pub AppendsFront : Option (List ℕ) → Option (List ℕ) → List ℕ → Type 0
 AppendsFront old new bytes = (n : ℕ) × Appends old new (take n bytes)
 
@@ -14,11 +14,11 @@ IsOfReading ReadFailed = Unit {0}
 IsOfReading Memory = Unit {0}
 IsOfReading fault = ⊥
 
--- what may be told for a fault: it, or what befell the reading behind a fault of the text
+-- what may be returned for a fault: the fault, or after a fault of the text what failed while reading on
 abbrev pub IsToldFor : StreamFault → StreamFault → Type 0
 IsToldFor (Text fault) told = (told ≡ Text fault) ⊎ IsOfReading told
 IsToldFor fault told = told ≡ fault
 
--- more bytes than reads are counted
+-- there are more bytes than reads that can be counted
 abbrev pub IsTooLong : List ℕ → Type 0
 IsTooLong bytes = 2 ^ 64 ≤ length bytes + 1

@@ -3,30 +3,29 @@ use Rattle.std.specs.Prelude.{◌≡◌, ◌≤◌, ◌+◌, ℕ, List, ◌++◌
 use Rattle.std.specs.Io.KnownBytes.{Consumes}
 use Rattle.history.specs.Text.{HasNoBreak}
 
--- What stands in it, how many bytes that were let go of stand before that, and how many places its memory
--- has.
+-- The bytes in the window, how many dropped bytes are before them, and how many places its memory has.
 pub record Seen : Type 0 where
   pub bytes : List ℕ
   pub passed : ℕ
   pub places : ℕ
 
--- so many bytes of a line that isn't whole stay
+-- how many bytes of an incomplete line stay
 abbrev pub kept_of_line : ℕ
 kept_of_line = 256
 
--- so many places a window has
+-- how many places a window has
 abbrev pub room : ℕ
 room = 65792
 
--- A read gave so many bytes, which stand behind those that stood in the window.
+-- A read returned n bytes, which follow those that were in the window.
 pub record Grows (old new : List ℕ) (left after : Option (List ℕ)) (n : ℕ) : Type 0 where
   pub more : List ℕ
   pub consumed : Consumes left after more
   pub behind : new ≡ old ++ more
   pub count : length more ≡ n
 
--- What is ahead begins with bytes of one line, of which the first stand in the window, and what follows them
--- stands there or is left.
+-- What is ahead begins with bytes of one line, whose first bytes are in the window. What follows the line is
+-- there or is left.
 pub record IsAhead (ahead window left : List ℕ) : Type 0 where
   pub line : List ℕ
   pub rest : List ℕ
@@ -34,13 +33,13 @@ pub record IsAhead (ahead window left : List ℕ) : Type 0 where
   pub one_line : HasNoBreak line
   pub seen : window ≡ take kept_of_line line ++ rest
 
--- what stood in the window and was left behind it, where that is known, stays, but for bytes of a long line
+-- the bytes in the window and left after it stay, if they are known, except for bytes of a long line
 abbrev pub StaysAhead : List ℕ → Option (List ℕ) → List ℕ → Option (List ℕ) → Type 0
 StaysAhead old None window after = Unit {0}
 StaysAhead old (Some left) window None = ⊥
 StaysAhead old (Some left) window (Some after) = IsAhead (old ++ left) window after
 
--- What is ahead begins with bytes of one line, of which the first stand in the window, and the rest is left.
+-- What is ahead begins with bytes of one line, whose first bytes are in the window. The rest is left.
 pub record IsFront (ahead window left : List ℕ) : Type 0 where
   pub line : List ℕ
   pub parts : ahead ≡ line ++ left
@@ -52,7 +51,7 @@ IsFrontAhead old None window after = Unit {0}
 IsFrontAhead old (Some left) window None = ⊥
 IsFrontAhead old (Some left) window (Some after) = IsFront (old ++ left) window after
 
--- a byte at least was read
+-- at least one byte was read
 abbrev pub IsShorter : Option (List ℕ) → Option (List ℕ) → Type 0
 IsShorter None after = Unit {0}
 IsShorter (Some left) None = ⊥

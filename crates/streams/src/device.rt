@@ -7,8 +7,8 @@ use crate::source::{DeviceFailed, Source};
 use std::io;
 use std::marker::Model;
 
-/// A reader or a writer of std, which has failed from its first error on: an interrupted call is one too,
-/// and so is a write that takes nothing of a piece that isn't empty.
+/// A reader or a writer of std. It fails at its first error and stays failed. An interrupted call is an error
+/// too, and so is a write that takes no byte of a piece that isn't empty.
 #[derive(Debug, Drop)]
 pub struct Device<T> {
     inner: T,

@@ -1,10 +1,9 @@
-//! Sources of bytes and sinks for them, which can fail, and tell their bytes to the contracts where these are
-//! known.
+//! Sources of bytes and sinks for them. They can fail. If their bytes are known, the contracts refer to them.
 //!
-//! A [`device::Device`] is what the system reads from and writes to; [`memory_source::MemorySource`] and
-//! [`memory_sink::MemorySink`] have their bytes in memory, and fail where they are told to. A
-//! [`window::Window`] keeps the bytes of a source that were read and are still wanted. What a stream that
-//! reads a text and writes an answer may do is said once, for each form of text (`specs/Streams.antt`).
+//! A [`device::Device`] reads from or writes to the system. [`memory_source::MemorySource`] and
+//! [`memory_sink::MemorySink`] have their bytes in memory, and can be set to fail at one call. A
+//! [`window::Window`] keeps the bytes of a source that were read and are still needed. One definition states
+//! what a stream may do that reads a text and writes another, for each form of text (`specs/Streams.antt`).
 #![tactic(auto)]
 
 pub mod device;

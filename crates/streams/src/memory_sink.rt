@@ -1,4 +1,4 @@
-//! A sink in memory, for tests and for callers that want the bytes.
+//! A sink in memory, for tests and for callers that need the bytes.
 
 ghost use Rattle.std.specs.Prelude.{◌≡◌, ◌↔◌, ◌<◌, ◌≤◌, ◌-◌, ◌⊎◌, false, length, min, IsTrue, IsErr, IfOk, OnOk, Some};
 ghost use Rattle.std.specs.Io.KnownBytes.{WriteAppends};
@@ -10,7 +10,7 @@ use crate::turns::strikes;
 use std::alloc::{AllocError, Global};
 use std::marker::Model;
 
-/// Places that take bytes in pieces, with a call that fails if one is wanted.
+/// Reserved bytes that are filled in pieces. One call may be chosen to fail.
 #[derive(Debug, Drop)]
 pub struct MemorySink {
     bytes: Vec<u8>,
@@ -42,8 +42,8 @@ impl Model for MemorySink {
 impl MemorySink {
     ghost use Rattle.std.specs.Prelude.{◌≡◌, ◌<◌, [], false, IfOk};
 
-    /// So many free places, which take pieces of at most `piece` bytes; the call with the number `fails_at`,
-    /// from 0, fails.
+    /// Returns a sink of `places` free bytes, which takes pieces of at most `piece` bytes. The call with the
+    /// number `fails_at`, from 0, fails.
     pub fn with_places(
         alloc: Global,
         places: usize,
@@ -68,7 +68,7 @@ impl MemorySink {
         })
     }
 
-    /// The bytes that were taken.
+    /// Returns the bytes that it has taken.
     pub fn bytes(&self) -> &[u8]
         ensures { result.now ≡ self.now.held }
     {

@@ -8,7 +8,7 @@ use crate::source::{DeviceFailed, Source};
 use crate::turns::strikes;
 use std::marker::Model;
 
-/// Bytes that are handed out in pieces, with a call that fails if one is wanted.
+/// Bytes that are read in pieces. One call may be chosen to fail.
 #[derive(Debug, Drop)]
 pub struct MemorySource {
     bytes: Vec<u8>,
@@ -37,7 +37,8 @@ impl Model for MemorySource {
 impl MemorySource {
     ghost use Rattle.std.specs.Prelude.{◌≡◌, ◌<◌, false};
 
-    /// The bytes in pieces of at most `piece`; the call with the number `fails_at`, from 0, fails.
+    /// Returns a source of these bytes, in pieces of at most `piece`. The call with the number `fails_at`,
+    /// from 0, fails.
     pub fn new(bytes: Vec<u8>, piece: usize, fails_at: Option<u64>) -> Self
         requires { 0 < piece }
         ensures { result ≡ record { left = bytes.items; piece = piece; fails_at = fails_at; failed = false } }

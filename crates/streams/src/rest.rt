@@ -1,4 +1,4 @@
-//! What is left of a source.
+//! Reading the rest of a source.
 
 ghost use Rattle.std.specs.Prelude.{◌≡◌, ◌↔◌, false, IsTrue, OnOk, IfErr, IfOk, IsErrOf};
 ghost use Rattle.std.specs.Io.KnownBytes.{Consumes, IsAtEnd};
@@ -8,7 +8,7 @@ use crate::source::Source;
 use crate::stream_fault::StreamFault;
 use std::alloc::Global;
 
-/// Reads what is left of a source. Where memory is refused nothing more is read.
+/// Reads the rest of a source. If an allocation fails, nothing more is read.
 pub fn read_all<R: Source>(alloc: Global, reader: &mut R) -> Result<Vec<u8>, StreamFault>
     requires { R.failed reader.old ≡ false }
     ensures all { IfOk result (λ bytes. Consumes (R.left reader.old) (R.left reader.new) bytes.items) }

@@ -5,15 +5,15 @@ ghost use Rattle.std.specs.Io.KnownBytes.{WriteAppends};
 
 use crate::source::DeviceFailed;
 
-/// What can be written to. It fails at most once, and isn't asked again.
+/// A destination of bytes. It fails at most once, and isn't used after that.
 pub trait Sink {
-    /// The bytes that it was given, where they are known.
+    /// The bytes that it was given, if they are known.
     ghost held: { Self → Option (List ℕ) };
 
     /// Whether a write has failed.
     ghost failed: { Self → Bool };
 
-    /// Takes a front of the piece, at least one byte of one that isn't empty, and says how much of it.
+    /// Takes the first bytes of the piece, at least one if there is any, and returns how many.
     fn write(&mut self, piece: &[u8]) -> Result<usize, DeviceFailed>
         requires { failed self.old ≡ false }
         ensures bound { IfOk result (λ n. n ≤ length piece.now) }

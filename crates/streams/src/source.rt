@@ -3,19 +3,20 @@
 ghost use Rattle.std.specs.Prelude.{◌≡◌, ◌↔◌, ◌≤◌, ℕ, List, Option, Bool, false, length, IsTrue, IsErr, IfOk};
 ghost use Rattle.std.specs.Io.KnownBytes.{ReadConsumes};
 
-/// A device has failed; what it was asked for hasn't happened.
+/// A device has failed; the requested read or write hasn't happened.
 #[derive(Clone, Copy, Debug, PartialEq, Eq)]
 pub struct DeviceFailed;
 
-/// What can be read from. It fails at most once, and isn't asked again.
+/// A source of bytes. It fails at most once, and isn't used after that.
 pub trait Source {
-    /// The bytes that reads will give from here on, where they are known.
+    /// The bytes that reads will still return, if they are known.
     ghost left: { Self → Option (List ℕ) };
 
     /// Whether a read has failed.
     ghost failed: { Self → Bool };
 
-    /// Fills a front of the buffer, and says how much of it; 0 of a buffer with room is the end.
+    /// Fills the beginning of the buffer, and returns how many bytes. If the buffer has room, 0 is the end of
+    /// the source.
     fn read(&mut self, buf: &mut [u8]) -> Result<usize, DeviceFailed>
         requires { failed self.old ≡ false }
         ensures bound { IfOk result (λ n. n ≤ length buf.new) }

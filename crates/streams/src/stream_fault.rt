@@ -1,4 +1,4 @@
-//! Why a stream was not answered.
+//! Why a stream wrote no answer.
 
 ghost use Rattle.std.specs.Prelude.{◌≡◌};
 ghost use Rattle.streams.specs.declared.stream_fault.StreamFault.TheVariants.{Text, Memory};
@@ -7,7 +7,7 @@ use line_text::fault::TextFault;
 use std::alloc::{AllocError, AllocFailed};
 use thiserror::Error;
 
-/// Why a stream was not answered.
+/// Why a stream wrote no answer.
 #[derive(Clone, Copy, Debug, PartialEq, Eq, Error)]
 pub enum StreamFault {
     /// The text has this fault; nothing was written.
@@ -16,10 +16,10 @@ pub enum StreamFault {
     /// The reader has failed; nothing was written.
     #[error("read failed")]
     ReadFailed,
-    /// The writer has failed; what was written begins the answer.
+    /// The writer has failed; what was written is the beginning of the answer.
     #[error("write failed")]
     WriteFailed,
-    /// Memory was refused; nothing was written.
+    /// An allocation failed; nothing was written.
     #[error("out of memory")]
     Memory,
 }

@@ -1,4 +1,4 @@
-//! The rest of a source, and all that a sink is to get.
+//! Reading the rest of a source, and writing all bytes to a sink.
 
 ghost use Rattle.std.specs.Prelude.{◌≡◌, ◌↔◌, ◌⊎◌, false, IsTrue, IsErr, IfSome, OnOk, OnErr, IfErr, IsErrOf};
 ghost use Rattle.std.specs.Io.KnownBytes.{Appends, IsAtEnd};
@@ -10,8 +10,8 @@ use crate::sink::Sink;
 use crate::source::{DeviceFailed, Source};
 use crate::stream_fault::StreamFault;
 
-/// Reads what is left of a source, and keeps none of it. Reads are counted, and only a source of more bytes
-/// than a count can tell is answered by want of memory.
+/// Reads the rest of a source, and keeps none of it. Reads are counted. Only if the source has more bytes
+/// than can be counted, `Memory` is returned.
 pub fn read_on<R: Source>(reader: &mut R) -> Result<(), StreamFault>
     requires { R.failed reader.old ≡ false }
     ensures end { OnOk result (IsAtEnd (R.left reader.new)) }
@@ -30,8 +30,8 @@ pub fn read_on<R: Source>(reader: &mut R) -> Result<(), StreamFault>
     Err(StreamFault::Memory)
 }
 
-/// The fault that a stream answers: behind a fault of its text it reads what is left too, and a failure then
-/// is what it tells.
+/// Returns the fault of a stream. After a fault of its text it reads the rest of the source, and returns a
+/// failure of that instead.
 pub fn told_at_the_end<R: Source>(reader: &mut R, fault: StreamFault) -> StreamFault
     requires { (fault ≡ ReadFailed) ↔ IsTrue (R.failed reader.old) }
     ensures told { IsToldFor fault result }
@@ -49,7 +49,7 @@ pub fn told_at_the_end<R: Source>(reader: &mut R, fault: StreamFault) -> StreamF
     }
 }
 
-/// Writes all the bytes, or a front of them.
+/// Writes all the bytes. On an error only the first ones may have been written.
 pub fn write_all<W: Sink>(writer: &mut W, bytes: &[u8]) -> Result<(), DeviceFailed>
     requires { W.failed writer.old ≡ false }
     ensures ok { OnOk result (Appends (W.held writer.old) (W.held writer.new) bytes.now) }

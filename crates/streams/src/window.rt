@@ -1,4 +1,4 @@
-//! The bytes of a source that were read and are still wanted.
+//! The bytes of a source that were read and are still needed.
 
 ghost use Rattle.std.specs.Prelude.{◌≡◌, ◌+◌, ◌<◌, ◌≤◌, ◌-◌, ◌↔◌, ℕ, List, Option, [], false, drop, length, take, IsTrue, IsErrOf, IfOk, IfErr, IfSome, OnOk, OnErr};
 ghost use Rattle.std.specs.Io.KnownBytes.{IsAtEnd, Keeps};
@@ -13,17 +13,17 @@ use history::text::first_line;
 use std::alloc::{AllocError, Global};
 use std::marker::Model;
 
-/// So many bytes of a line that isn't whole stay in a window: no good line of a text has as many.
+/// How many bytes of an incomplete line stay in a window. No good line of a text has as many.
 const KEPT_OF_LINE: usize = 256;
 
-/// So many bytes stand in a window at most: a piece of 65,536, behind what stays of a line.
+/// The most bytes in a window: a piece of 65,536, after what stays of a line.
 const ROOM: usize = 65_792;
 
-/// A window on the bytes of a source, which moves on as they are read: what stands in it was got from the
-/// source, and what was read is let go of.
+/// A window on the bytes of a source, which moves on as they are used. What is in it was read from the
+/// source, and what was used is dropped.
 ///
-/// Its memory is taken when it is opened, and never grows. Of a line that is longer than any good one only
-/// the first bytes stay, so each line of a source can be looked at, however long it is.
+/// Its memory is reserved when it is opened, and never grows. If a line is longer than any good one, only its
+/// first bytes stay. So each line of a source can be checked, however long it is.
 #[derive(Drop)]
 pub struct Window {
     bytes: Vec<u8>,
@@ -48,7 +48,7 @@ impl Model for Window {
 }
 
 impl Window {
-    /// A window on a source of which nothing was read.
+    /// Returns a window on a source of which nothing was read.
     pub fn open(alloc: Global) -> Result<Self, AllocError>
         ensures { IfOk result (λ w. w ≡ record { bytes = []; passed = 0; places = room }) }
     {
@@ -63,7 +63,7 @@ impl Window {
         })
     }
 
-    /// The bytes that are still wanted.
+    /// Returns the bytes that are still needed.
     #[inline(always)]
     pub fn bytes(&self) -> &[u8]
         ensures bytes { result.now ≡ self.now.bytes }
@@ -72,7 +72,7 @@ impl Window {
         &self.bytes[self.at..self.end]
     }
 
-    /// Lets go of all but the last so many bytes.
+    /// Drops all but the last `left` bytes.
     #[inline(always)]
     pub fn keep_last(&mut self, left: usize)
         requires { left ≤ length self.old.bytes }
@@ -84,7 +84,7 @@ impl Window {
         self.at = self.end - left;
     }
 
-    /// Lets go of what is more than the first bytes of a line.
+    /// Drops all but the first bytes of a line.
     fn keep_front(&mut self)
         ensures bytes { self.new.bytes ≡ take kept_of_line self.old.bytes }
         ensures few { length self.new.bytes ≤ kept_of_line }
@@ -94,7 +94,7 @@ impl Window {
         self.end = self.at + kept;
     }
 
-    /// Moves what is wanted to the front, so that the bytes that were let go of take no room.
+    /// Moves what is needed to the front, so that dropped bytes take no room.
     fn move_to_front(&mut self)
         ensures { self.new ≡ record self.old { passed = 0 } }
     {
@@ -103,8 +103,8 @@ impl Window {
         self.at = 0;
     }
 
-    /// Adds what a read gives, and says how much that is; 0 is the end of the source. A read that fails adds
-    /// nothing, and the same bytes stand in the window.
+    /// Adds the bytes of one read, and returns how many; 0 is the end of the source. If the read fails,
+    /// nothing is added, and the window has the same bytes.
     pub fn read_more<R: Source>(&mut self, reader: &mut R) -> Result<usize, StreamFault>
         requires reader { R.failed reader.old ≡ false }
         requires room { length self.old.bytes < self.old.places }
@@ -127,8 +127,8 @@ impl Window {
         Ok(n)
     }
 
-    /// Adds a piece to the front of a line, and says whether that is all: the line ends in the piece, or the
-    /// source does. If not, only the front of the line stays.
+    /// Adds a piece to an incomplete line, and returns whether that is all: the line ends in the piece, or
+    /// the source does. Otherwise only the beginning of the line stays.
     fn read_piece<R: Source>(&mut self, reader: &mut R) -> Result<bool, StreamFault>
         requires reader { R.failed reader.old ≡ false }
         requires room { kept_of_line < self.old.places }
@@ -162,12 +162,11 @@ impl Window {
         Ok(false)
     }
 
-    /// Reads on until a whole line stands in the window, or to the end of the source. Nothing is read where
-    /// one stands in it, and nothing that was read is lost, also where reading fails; but of a line without a
-    /// break only the first 256 bytes stay, and whatever was read last.
+    /// Reads until a whole line is in the window, or to the end of the source. If one is there already,
+    /// nothing is read. Nothing that was read is lost, even if a read fails. But of a line without a break
+    /// only the first 256 bytes stay, and the last piece.
     ///
-    /// Reads are counted, and only a source of more bytes than a count can tell is answered by want of
-    /// memory.
+    /// Reads are counted. Only if the source has more bytes than can be counted, `Memory` is returned.
     pub fn read_line<R: Source>(&mut self, reader: &mut R) -> Result<(), StreamFault>
         requires reader { R.failed reader.old ≡ false }
         requires room { kept_of_line < self.old.places }

@@ -1,4 +1,4 @@
--- What the program does for a task, and the status that it ends with.
+-- What the program does for a task, and its exit status.
 use Rattle.std.specs.Prelude.{◌≡◌, ℕ, List, Option, Result, Ok, Err}
 use Rattle.std.specs.Io.KnownBytes.{IsAtEnd}
 use Rattle.audit.specs.declared.verdict.Verdict.{Verdict}
@@ -11,12 +11,12 @@ use Rattle.tasks.specs.declared.task.Task.TheVariants.{Replay, Audit, Draw}
 use Rattle.tasks.specs.declared.fault.Fault.{Fault}
 use Rattle.tasks.specs.declared.fault.Fault.TheVariants.{Usage, BadFrom, BadTo, Memory, Stream, Script, Run}
 
--- a history that isn't legal ends the program with 1
+-- a history that isn't legal ends the program with status 1
 abbrev pub status_for : Verdict → ℕ
 status_for Legal = 0
 status_for (NotLegal number) = 1
 
--- From what the source has left, and what the sink held before and holds after.
+-- The source's bytes, and what the sink held before and holds after.
 abbrev pub Performs : Task → Option (List ℕ) → Option (List ℕ) → Option (List ℕ) → Result ℕ Fault → Type 0
 Performs (Replay form) left old new (Ok status) = (status ≡ 0) × Replays form left old new (Ok tt)
 Performs (Replay form) left old new (Err (Stream fault)) = Replays form left old new (Err fault)
@@ -45,7 +45,7 @@ Performs (Draw choice) left old new (Err Memory) = ⊥
 Performs (Draw choice) left old new (Err (Script fault)) = ⊥
 Performs (Draw choice) left old new (Err (Run fault)) = ⊥
 
--- How far a task reads, from what the source had left to what it has left: as its stream does.
+-- How far a task reads: as its stream does. The arguments are what the source had left and what it has left.
 abbrev pub IsReadOutFor : Task → Option (List ℕ) → Result ℕ Fault → Option (List ℕ) → Type 0
 IsReadOutFor task text (Ok status) left = IsAtEnd left
 IsReadOutFor (Replay form) text (Err (Stream fault)) left = StepsReadOut text (Err fault) left

@@ -1,4 +1,4 @@
--- What the run of a script reads, writes and answers.
+-- What the run of a script reads, writes and returns.
 use Rattle.std.specs.Prelude.{◌≡◌, ◌<◌, ℕ, List, Option, Result, Ok, Err, IfSome, length, true}
 use Rattle.std.specs.Io.KnownBytes.{Appends, IsAtEnd, Keeps}
 use Rattle.run_text.specs.RunText.{run_text}
@@ -13,11 +13,11 @@ use Rattle.workers.specs.declared.report.ObjectReport.{ObjectReport}
 use Rattle.workers.specs.declared.report.Report.{Report}
 use Rattle.workers.specs.Reports.{IsReport, is_legal}
 
--- the audit calls the history of an object legal
+-- the audit judges the history of an object legal
 abbrev pub EndsWell : ObjectReport → Type 0
 EndsWell part = is_legal part.judgement ≡ true
 
--- The text is that of a script, a run of it has left this report, and this is written of it.
+-- The text is that of a script, a run of it has this report, and this is written for the report.
 pub record IsRun (text : List ℕ) (Written : List ℕ → Type 0) : Type 0 where
   pub script : ScriptView
   pub reads : Reads text (Ok script)
@@ -31,7 +31,7 @@ pub record HasWorker (text : List ℕ) (worker : ℕ) : Type 0 where
   pub reads : Reads text (Ok script)
   pub among : worker < length script.workers
 
--- From the bytes that a source has, and what a sink held before and holds after. No gate shuts.
+-- The source's bytes, and what the sink held before and holds after. No gate refuses a call.
 abbrev pub Runs : Option (List ℕ) → Option (List ℕ) → Option (List ℕ) → Result ℕ Fault → Type 0
 Runs left old new (Ok status) = (status ≡ 0) × IfSome left (λ text. IsRun text (Appends old new))
 Runs left old new (Err (Stream WriteFailed)) = IfSome left (λ text. IsRun text (AppendsFront old new))
@@ -48,7 +48,7 @@ Runs left old new (Err BadFrom) = ⊥
 Runs left old new (Err BadTo) = ⊥
 Runs left old new (Err Memory) = Keeps old new
 
--- what keeps a script from being read
+-- why a script can't be read
 abbrev pub IsFaultOfScript : Option (List ℕ) → Fault → Type 0
 IsFaultOfScript left (Script fault) = IfSome left (λ text. IsFault text fault)
 IsFaultOfScript left (Stream ReadFailed) = Unit {0}
@@ -61,7 +61,7 @@ IsFaultOfScript left BadFrom = ⊥
 IsFaultOfScript left BadTo = ⊥
 IsFaultOfScript left Memory = ⊥
 
--- a script was read to its end, unless reading it failed or memory was refused for its text
+-- a script was read to its end, unless reading failed or an allocation for its text did
 abbrev pub IsReadOut : {T : Type 0} → Result T Fault → Option (List ℕ) → Type 0
 IsReadOut (Ok done) left = IsAtEnd left
 IsReadOut (Err (Stream WriteFailed)) left = IsAtEnd left

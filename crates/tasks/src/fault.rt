@@ -9,16 +9,16 @@ use std::alloc::AllocError;
 use streams::stream_fault::StreamFault;
 use workers::RunFault;
 
-/// A fault, which the program tells in one line.
+/// A fault, which the program prints in one line.
 #[derive(Clone, Copy, Debug, PartialEq, Eq, thiserror::Error)]
 pub enum Fault {
-    /// The command line asks for nothing that the program does; help and the version are no exceptions.
+    /// The command line is none that the program knows. Help and the version are no exceptions.
     #[error("usage")]
     Usage,
-    /// The first entry that is to be drawn is no number, or stands behind the last.
+    /// The first entry to draw is no number, or comes after the last.
     #[error("bad --from")]
     BadFrom,
-    /// The last entry that is to be drawn is no number.
+    /// The last entry to draw is no number.
     #[error("bad --to")]
     BadTo,
     #[error("out of memory")]
@@ -32,7 +32,8 @@ pub enum Fault {
 }
 
 impl Fault {
-    /// The exit status: 2 for the command line, 3 for a text, 4 for a device or a thread, 5 for memory.
+    /// Returns the exit status: 2 for the command line, 3 for a text, 4 for a device or a thread, 5 for
+    /// memory.
     pub fn status(&self) -> u8
         ensures { result ≡ status_of self.now }
     {

@@ -1,5 +1,5 @@
-//! What the program `aqs` does for each task, over any source and sink, and how it ends: the fault that it
-//! tells, and its exit status.
+//! The tasks of the program `aqs`, over any source and sink, and how the program ends: the fault that it
+//! prints, and its exit status.
 #![tactic(auto)]
 
 pub mod fault;

@@ -1,4 +1,4 @@
-//! A task, from what a source has to what a sink is given.
+//! Performing a task, from a source to a sink.
 
 ghost use Rattle.std.specs.Prelude.{◌≡◌, ◌↔◌, false, IsErrOf, IsTrue};
 ghost use Rattle.streams.specs.declared.stream_fault.StreamFault.TheVariants.{ReadFailed, WriteFailed};
@@ -15,7 +15,7 @@ use std::alloc::Global;
 use streams::sink::Sink;
 use streams::source::Source;
 
-/// The exit status behind a verdict.
+/// Returns the exit status for a verdict.
 fn status_for(verdict: Verdict) -> u8
     ensures { result ≡ status_for verdict }
 {
@@ -25,7 +25,8 @@ fn status_for(verdict: Verdict) -> u8
     }
 }
 
-/// Answers what a source has to a sink, and tells the exit status: 0, or 1 for a history that isn't legal.
+/// Performs a task: reads the source, writes to the sink, and returns the exit status. That is 0, or 1 for a
+/// history that isn't legal.
 ///
 /// It reads, writes and fails as the stream of the task does.
 pub fn perform<R: Source, W: Sink>(

@@ -1,4 +1,4 @@
-//! The run of a script, from its text to the run text.
+//! Running a script, from its text to the run text.
 
 ghost use Rattle.std.specs.Prelude.{◌≡◌, ◌≤◌, ◌⊎◌, ◌↔◌, false, true, All, IfErr, IfOk, IfSome, IsErrOf, IsTrue, OnOk};
 ghost use Rattle.std.specs.Io.KnownBytes.{IsAtEnd};
@@ -20,7 +20,7 @@ use streams::source::Source;
 use streams::stream_fault::StreamFault;
 use workers::{ObjectReport, OpenGate, run_threads};
 
-/// The script that a source has.
+/// Returns the script that a source has.
 fn script_of<R: Source>(alloc: Global, reader: &mut R) -> Result<Script, Fault>
     requires { R.failed reader.old ≡ false }
     ensures ok { IfOk result (λ script. IfSome (R.left reader.old) (λ text. Reads text (Ok script))) }
@@ -32,7 +32,7 @@ fn script_of<R: Source>(alloc: Global, reader: &mut R) -> Result<Script, Fault>
     Ok(read_script(alloc, &text)?)
 }
 
-/// The exit status: 0, or 1 if some history isn't legal.
+/// Returns the exit status: 0, or 1 if some history isn't legal.
 fn status_of(parts: &[ObjectReport]) -> u8
     ensures legal { (result ≡ 0) ↔ All EndsWell parts.now }
     ensures others { result ≤ 1 }
@@ -44,16 +44,16 @@ fn status_of(parts: &[ObjectReport]) -> u8
     }
 }
 
-/// Reads a script, runs its threads, and writes the run text. It tells the exit status, which is 0, as each
+/// Reads a script, runs its threads, and writes the run text. Returns the exit status, which is 0, since each
 /// history is legal.
 ///
-/// The script is read to its end before a thread is started, and nothing is written before all threads have
-/// ended and all memory was found. It may never return, where the threads wait for each other.
+/// The script is read to its end before a thread is started. Nothing is written before all threads have ended
+/// and all memory is reserved. If the threads wait for each other, this may never return.
 ///
 /// # Errors
 ///
 /// The fault of the source, of the script, of the run or of the sink. Only a failed sink may have been given
-/// something: a front of the run text.
+/// something: the first bytes of the run text.
 pub fn run_script<T: AllocGlobal + Threads + Wait + Clock + Sync, R: Source, W: Sink>(
     rt: &T,
     reader: &mut R,

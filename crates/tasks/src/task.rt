@@ -6,7 +6,7 @@ use driver::form::Form;
 /// What is done for a command line.
 #[derive(Clone, Copy, Debug, PartialEq, Eq)]
 pub enum Job {
-    /// A text is answered, by one thread.
+    /// A text is read and another written, by one thread.
     Answer(Task),
     /// The threads of a script are run.
     Run,

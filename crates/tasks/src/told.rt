@@ -5,7 +5,7 @@ ghost use Rattle.tasks.specs.Fault.{status_of};
 
 use crate::fault::Fault;
 
-/// The exit status, after a fault was told on standard error, in one line.
+/// Returns the exit status. A fault is printed on standard error first, in one line.
 pub fn told<R: Eprint>(rt: &R, done: Result<u8, Fault>) -> u8
     ensures { MatchResult done (λ status. result ≡ status) (λ fault. result ≡ status_of fault) }
 {

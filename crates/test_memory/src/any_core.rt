@@ -1,5 +1,5 @@
-//! A core of any object, whose calls test what the core's own calls ask of their caller. What it tells of
-//! itself is one number, to compare.
+//! A core of any object, whose calls check what the core's own calls require of their caller. Its observers
+//! are combined into one number, to compare.
 
 ghost use Rattle.std.specs.Prelude.{◌<◌, All, IsTrue, ⊤};
 ghost use Rattle.frame.specs.Acts.{IsOfSeats};
@@ -18,7 +18,7 @@ use std::marker::Model;
 /// The core of any object.
 type Inner = Core<AnyHooks>;
 
-/// What an act is answered.
+/// The result of an act.
 pub type Outcome = Result<Done, Fault>;
 
 fn open(alloc: Global, header: &Header) -> Result<Inner, Fault> {
@@ -50,12 +50,12 @@ fn are_of_seats(seats: u16, acts: &[Act]) -> bool
     acts.iter().all(|act| is_of_seats(seats, *act))
 }
 
-/// One number of two, in which each counts.
+/// Combines two numbers into one that depends on both.
 fn mixed(sum: u64, number: u64) -> u64 {
     (sum ^ number).wrapping_mul(1_099_511_628_211)
 }
 
-/// What a seat holds, and whether it was told that it could go.
+/// Combines what a seat holds with its mark.
 fn told_of_seat(core: &Inner, seat: u16) -> u64 {
     if core.header().seats <= seat {
         return 0;
@@ -65,7 +65,7 @@ fn told_of_seat(core: &Inner, seat: u16) -> u64 {
     mixed(mixed(exclusive, shared), u64::from(core.is_told(seat)))
 }
 
-/// A core of the object that a header names. Clauses see nothing of it, which keeps the proofs of callers
+/// A core of the object that a header names. Contracts see nothing of it, which keeps the proofs of callers
 /// small.
 #[derive(Drop)]
 pub struct AnyCore {
@@ -79,7 +79,7 @@ impl Model for AnyCore {
 }
 
 impl AnyCore {
-    /// A core of the header; `BadAmount` if no object has it.
+    /// Opens a core of the header. Returns `BadAmount` if no object has such a header.
     pub fn open(alloc: Global, header: &Header) -> Result<AnyCore, Fault> {
         match open(alloc, header) {
             Ok(core) => Ok(AnyCore { core }),
@@ -87,7 +87,7 @@ impl AnyCore {
         }
     }
 
-    /// A step; `OutOfPhase` of a seat that the core doesn't have.
+    /// Performs a step. Returns `OutOfPhase` if the core lacks the seat.
     fn step(&mut self, seat: u16, asked: Step) -> Result<Answer, Fault> {
         if self.core.header().seats <= seat {
             return Err(Fault::OutOfPhase);
@@ -95,7 +95,7 @@ impl AnyCore {
         self.core.step(seat, asked)
     }
 
-    /// A step or a trim.
+    /// Performs a step or a trim.
     pub fn act(&mut self, act: Act) -> Outcome {
         match act {
             Act::Do(seat, asked) => match self.step(seat, asked) {
@@ -109,7 +109,7 @@ impl AnyCore {
         }
     }
 
-    /// The answers to the steps; `OutOfPhase` if one is of a seat that the core doesn't have.
+    /// Performs the steps. Returns `OutOfPhase` if the core lacks the seat of one of them.
     pub fn run(
         &mut self,
         alloc: Global,
@@ -121,7 +121,7 @@ impl AnyCore {
         run(alloc, &mut self.core, steps)
     }
 
-    /// The same of steps and trims.
+    /// As `run`, for steps and trims.
     pub fn run_acts(&mut self, alloc: Global, acts: &[Act]) -> Result<Vec<Outcome>, Fault> {
         if !are_of_seats(self.core.header().seats, acts) {
             return Err(Fault::OutOfPhase);
@@ -145,7 +145,7 @@ impl AnyCore {
         self.core.history().calls()
     }
 
-    /// All that a core tells of itself but its places, as one number.
+    /// Returns all that the core's observers return, except its places, as one number.
     pub fn told(&self) -> u64 {
         self.core.recall_lawful();
         let history = self.core.history();

@@ -1,7 +1,7 @@
-//! One block of memory that is given back from its end, and no other memory.
+//! One block of memory that is freed from its end, while all other memory is taken.
 //!
-//! A heap cuts pieces of one size from wherever it has some, so pieces that come back one by one need not lie
-//! side by side. The end of one block does.
+//! A heap cuts pieces of one size from anywhere, so pieces that are freed one by one needn't be adjacent. The
+//! end of one block always is.
 
 use std::alloc::{AllocError, Global};
 use test_support::memory::Memory;
@@ -9,10 +9,10 @@ use test_support::memory::Memory;
 /// How many pieces a block has.
 const PIECES: usize = 4096;
 
-/// What a heap adds to a request.
+/// How many bytes a heap adds to a request.
 const HEAD: usize = 16;
 
-/// Once it was given a block of this size back, a heap asks the system for none alone that is smaller.
+/// After a block of this size was freed, a heap asks the system separately only for larger ones.
 const WIDE: usize = 33_488_896;
 
 /// A block, and all other memory.
@@ -24,7 +24,7 @@ pub struct Block {
 }
 
 impl Block {
-    /// Takes all memory. The end of it comes back in pieces of so many bytes.
+    /// Takes all memory. The end of it will be freed in pieces of `piece` bytes.
     pub fn take_all(alloc: Global, piece: usize) -> Result<Block, AllocError> {
         let wide: Vec<u8> = Vec::with_capacity(alloc, WIDE)?;
         drop(wide);
@@ -38,14 +38,14 @@ impl Block {
         }
     }
 
-    /// Gives a piece back, and says whether there was any left.
+    /// Frees a piece, and returns whether there was one.
     pub fn give_piece(&mut self) -> bool {
         let left = self.block.capacity();
         self.block.shrink_to(left.saturating_sub(self.piece));
         self.block.capacity() < left
     }
 
-    /// Takes what is free.
+    /// Takes all free memory.
     pub fn take_rest(&mut self) -> Result<(), AllocError> {
         self.rest.take_rest()
     }

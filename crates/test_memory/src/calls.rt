@@ -1,4 +1,4 @@
-//! Public calls that no program makes: that each returns what it says, where there is memory.
+//! Public calls that no program makes: with enough memory, each returns what its contract says.
 
 ghost use Rattle.std.specs.Prelude.{◌≡◌};
 
@@ -25,8 +25,8 @@ fn asks(seat: u16) -> Arrival
     }
 }
 
-/// A seat that leaves from between others leaves its node standing, until it comes to the head or the line is
-/// swept.
+/// A seat that leaves from between others leaves its node in place, until the node comes to the head or the
+/// queue is swept.
 #[test]
 fn a_node_stands_until_it_comes_to_the_head(rt: HostRuntime) -> Result<(), Fail> {
     let mut queue = Queue::open(rt.alloc(), 8)?;
@@ -68,7 +68,7 @@ const NUMBERS: [(&str, u64); 7] = [
     ("18446744073709551615", 18_446_744_073_709_551_615),
 ];
 
-/// Numbers are put over other bytes, appended to bytes, and spelt one after another.
+/// Numbers are written over other bytes, appended to bytes, and spelt one after another.
 #[test]
 fn numbers_have_one_spelling(rt: HostRuntime) -> Result<(), Fail> {
     let mut numbering = Numbering::new();
@@ -106,7 +106,7 @@ const HEADER: Header = Header {
     cap: 64,
 };
 
-/// Writers of bytes that have places enough take no memory, and those of full bytes leave them as they were.
+/// Writers allocate nothing if there are enough places. If an allocation fails, the bytes are as before.
 #[test]
 fn writers_take_only_the_places_that_lack(rt: HostRuntime) -> Result<(), Fail> {
     let mut full = Vec::with_capacity(rt.alloc(), 65_536)?;

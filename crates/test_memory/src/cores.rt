@@ -1,5 +1,5 @@
-//! Cores where next to no memory is free: no step, trim or observer takes any, but for the pages of a
-//! history. And cores of all sizes, with memory.
+//! Cores with almost no free memory: no step, trim or observer allocates, except the pages of a history. And
+//! cores of all sizes, with memory.
 
 use crate::any_core::{AnyCore, Outcome};
 use frame::acts::{Act, Done};
@@ -15,24 +15,24 @@ use test_support::memory::Memory;
 /// A copy of any table of a core fits in a piece of this size.
 const WIDE: usize = 16_384;
 
-/// A heap keeps each smaller block for requests of its size, also once it is given back. So whatever is cut
-/// from such a piece is missed.
+/// A heap keeps each smaller block for requests of its size, even after it is freed. So whatever is cut from
+/// such a piece is missed.
 const NARROW: usize = 1040;
 
-/// As many pieces are enough to open a core, and for the one page of its history.
+/// As many pieces as are needed to open a core, and for the one page of its history.
 const ENOUGH: usize = 128;
 
-/// Acts of a list.
+/// How many acts a list has.
 const ACTS: u32 = 200;
 
-/// The next of numbers that look like chance.
+/// Returns the next pseudo-random number.
 fn next(number: u64) -> u64 {
     number
         .wrapping_mul(6_364_136_223_846_793_005)
         .wrapping_add(1_442_695_040_888_963_407)
 }
 
-/// A number below another, from some of a number's digits.
+/// Returns a number below `end`, from some of a number's digits.
 fn part(number: u64, digits: u64, end: u16) -> u16 {
     (number / digits.max(1) % u64::from(end.max(1))) as u16
 }
@@ -56,7 +56,7 @@ fn mode(object: Object, number: u64) -> Mode {
     if exclusive { Mode::X } else { Mode::S }
 }
 
-/// An act of whatever kind.
+/// Returns an act of any kind.
 fn act_of(header: &Header, number: u64) -> Act {
     let seat = part(number, 1 << 36, header.seats);
     let condition = u8::from(part(number, 1 << 40, 2) == 1);
@@ -79,7 +79,7 @@ fn act_of(header: &Header, number: u64) -> Act {
     Act::Do(seat, step)
 }
 
-/// A digit of its own for each word that may be recorded.
+/// Returns a bit of its own for each word that can be recorded.
 fn digit(word: Word) -> u32 {
     match word {
         Word::Got => 1,
@@ -106,7 +106,7 @@ const TRIMMED: u32 = 65_536;
 
 const NAMED: u32 = 131_072;
 
-/// What comes up in an outcome.
+/// Returns the bits of an outcome.
 fn digits(outcome: &Outcome) -> u32 {
     match outcome {
         Ok(Done::Answered(Answer::Recorded(entry, None))) => digit(entry.word),
@@ -117,8 +117,8 @@ fn digits(outcome: &Outcome) -> u32 {
     }
 }
 
-/// Makes acts, and asks what the core tells after each: none lacks memory, and as many pieces are free as
-/// before. What came up.
+/// Performs acts, and calls the observers after each. No act lacks memory, and as many pieces are free as
+/// before. Returns the bits of what occurred.
 fn act_on(
     rt: &(impl Abort + AllocGlobal),
     core: &mut AnyCore,
@@ -143,7 +143,7 @@ fn act_on(
     seen
 }
 
-/// Makes the page on which all entries of a list stand, and leaves so many pieces free.
+/// Makes the page that has room for all entries of a list, and leaves `free` pieces free.
 fn leave(core: &mut AnyCore, memory: &mut Memory, free: usize) -> Result<(), AllocError> {
     let mode = mode(core.header().object, 0);
     let _first = core.act(Act::Do(0, Step::Acquire(mode, 1)));
@@ -153,7 +153,7 @@ fn leave(core: &mut AnyCore, memory: &mut Memory, free: usize) -> Result<(), All
     Ok(())
 }
 
-/// A list of a fresh core. The core's own memory is given back and taken by others behind it.
+/// Performs a list of acts on a new core. The core's memory is freed after it.
 fn play_list(
     rt: &(impl Abort + AllocGlobal),
     memory: &mut Memory,
@@ -175,7 +175,7 @@ fn most_conditions(object: Object) -> u8 {
     }
 }
 
-/// The header of a list by its number: each number of seats with each cap, and some conditions.
+/// Returns the header of a list by its number: each number of seats with each cap, and some conditions.
 fn header_of(object: Object, number: u64) -> Header {
     let conditions = if number < 12 { 1 } else { 2 };
     let cap = match part(number, 4, 3) {
@@ -191,7 +191,7 @@ fn header_of(object: Object, number: u64) -> Header {
     }
 }
 
-/// Lists of an object keep no memory, and all this comes up in them.
+/// Lists of an object keep no memory, and all these bits occur in them.
 fn keeps_none(rt: &(impl Abort + AllocGlobal), object: Object, wanted: u32) -> Result<(), Fault> {
     let mut seen = 0;
     for (piece, free) in [(WIDE, 0), (WIDE, 1), (NARROW, 1)] {
@@ -208,7 +208,7 @@ fn keeps_none(rt: &(impl Abort + AllocGlobal), object: Object, wanted: u32) -> R
     Ok(())
 }
 
-/// What comes up at a lock, at a semaphore and at a latch.
+/// The bits that occur at a lock, at a semaphore and at a latch.
 const AT_LOCKS: u32 = 4095 | 16_384 | SLEPT | TRIMMED | NAMED;
 
 const AT_SEMAPHORES: u32 = 127 | 8192 | 16_384 | SLEPT | TRIMMED | NAMED;
@@ -233,8 +233,8 @@ fn steps_and_trims_at_permits_and_counts_take_no_memory(rt: HostRuntime) -> Resu
     Ok(())
 }
 
-/// How many entries the first steps of an object's last seat leave: it acquires, and waits on the last
-/// condition.
+/// Returns how many entries the first steps of an object's last seat leave: it acquires, and waits on the
+/// last condition.
 fn first_entries(rt: &(impl Abort + AllocGlobal), header: &Header) -> Result<u64, Fault> {
     let last = header.seats.saturating_sub(1);
     let mut core = AnyCore::open(rt.alloc(), header)?;
@@ -268,7 +268,7 @@ fn each_number_of_seats_and_conditions_is_opened(rt: HostRuntime) -> Result<(), 
     Ok(())
 }
 
-/// Pairs of an acquire and a release, by one seat after another.
+/// How many pairs of an acquire and a release are made, by one seat after another.
 const PAIRS: u32 = 600_000;
 
 const LONG: Header = Header {

@@ -1,4 +1,4 @@
-//! Devices that fail, take little or have no more places; and the readers and writers of std as devices.
+//! Devices that fail, take few bytes or have no more places; and the readers and writers of std as devices.
 
 ghost use Rattle.std.specs.Prelude.{◌≤◌, IfOk};
 
@@ -14,14 +14,14 @@ use streams::sink::Sink;
 use streams::source::Source;
 use streams::stream_fault::StreamFault;
 
-/// More places than any answer here takes.
+/// More places than any answer here needs.
 const AMPLE: usize = 400_000;
 
 const READ_FAILED: Came = Err(StreamFault::ReadFailed);
 
 const WRITE_FAILED: Came = Err(StreamFault::WriteFailed);
 
-/// All that is there, in pieces.
+/// No device fails, and all bytes go through in pieces.
 fn in_pieces(piece: usize) -> Ways {
     Ways {
         piece,
@@ -31,7 +31,7 @@ fn in_pieces(piece: usize) -> Ways {
     }
 }
 
-/// A text, what a stream writes for it, and room for what it writes when a device fails.
+/// A text, what a stream must write for it, and room for what it writes when a device fails.
 #[derive(Drop)]
 struct Trial<'a> {
     stream: Stream,
@@ -41,7 +41,7 @@ struct Trial<'a> {
 }
 
 impl<'a> Trial<'a> {
-    /// What comes of the text in these ways.
+    /// Returns the result of the text with these devices.
     fn came(&mut self, alloc: Global, ways: Ways) -> Came {
         streamed(alloc, self.stream, self.text, ways, &mut self.out)
     }
@@ -50,7 +50,7 @@ impl<'a> Trial<'a> {
         self.came(alloc, ways) == Ok(true) && self.out == self.wanted
     }
 
-    /// Whether a read fails so, and nothing is written.
+    /// Returns whether this read fails the stream, and nothing is written.
     fn fails_reading(&mut self, alloc: Global, piece: usize, call: u64) -> bool {
         let ways = Ways {
             read: Some(call),
@@ -59,14 +59,14 @@ impl<'a> Trial<'a> {
         self.came(alloc, ways) == READ_FAILED && self.out.is_empty()
     }
 
-    /// Whether a write fails so, and so many bytes were written before.
+    /// Returns whether a write fails the stream, after this number of bytes.
     fn fails_writing(&mut self, alloc: Global, ways: Ways, written: usize) -> bool {
         let came = self.came(alloc, ways);
         came == WRITE_FAILED && self.wanted.get(..written) == Some(self.out.as_slice())
     }
 }
 
-/// Each read fails in turn, and there is none after them.
+/// Each read fails in turn. After the last one there is no read to fail.
 fn fail_each_read(rt: &(impl Abort + AllocGlobal), trial: &mut Trial, piece: usize) {
     let reads = trial.text.len().div_ceil(piece.max(1)) as u64;
     for call in 0..=reads {
@@ -82,7 +82,7 @@ fn fail_each_read(rt: &(impl Abort + AllocGlobal), trial: &mut Trial, piece: usi
     assert!(rt; trial.is_whole(rt.alloc(), ways), "reads of {piece} bytes");
 }
 
-/// Each write fails in turn, after as many pieces, and there is none after them.
+/// Each write fails in turn, after as many pieces. After the last one there is no write to fail.
 fn fail_each_write(rt: &(impl Abort + AllocGlobal), trial: &mut Trial, piece: usize) {
     let writes = trial.wanted.len().div_ceil(piece.max(1));
     for call in 0..writes {
@@ -103,7 +103,7 @@ fn fail_each_write(rt: &(impl Abort + AllocGlobal), trial: &mut Trial, piece: us
     assert!(rt; trial.is_whole(rt.alloc(), ways), "writes of {piece} bytes");
 }
 
-/// What finds too few places is written so far.
+/// If places are lacking, what fits is written.
 fn fill_each_place(rt: &(impl Abort + AllocGlobal), trial: &mut Trial) {
     let whole = trial.wanted.len();
     for places in 0..whole {
@@ -143,11 +143,11 @@ fn each_read_and_each_write_fails_in_turn(rt: HostRuntime) -> Result<(), Fail> {
     Ok(())
 }
 
-/// As much is written at once as a piece has places, but for those of a last line.
+/// About as many bytes are written at once: a piece, less the last line that didn't fit.
 const PIECE: usize = 65_400;
 
-/// Each piece of a long answer isn't written: what was written before is a beginning of the answer, and longer
-/// by a piece each time.
+/// Each piece of a long answer fails to be written in turn. What was written before is a beginning of the
+/// answer, and one piece longer each time.
 fn fail_each_piece(rt: &(impl Abort + AllocGlobal), trial: &mut Trial) {
     let mut least = 0;
     for call in 0..4 {
@@ -183,14 +183,14 @@ fn each_piece_of_a_long_answer_fails_in_turn(rt: HostRuntime) -> Result<(), Fail
     Ok(())
 }
 
-/// What the first call of a reader or a writer of std answers.
+/// The result of the first call of a reader or a writer of std.
 #[derive(Clone, Copy)]
 enum First {
     Fails(io::ErrorKind),
     TakesNothing,
 }
 
-/// A reader and a writer of which the first call does so, and each later one all.
+/// A reader and a writer whose first call has this result. Each later call succeeds.
 #[derive(Drop)]
 struct Calls {
     first: First,
@@ -198,7 +198,7 @@ struct Calls {
 }
 
 impl Calls {
-    /// What a call answers that otherwise does so much.
+    /// Returns the result of a call that would otherwise move `done` bytes.
     fn call(&mut self, done: usize) -> io::Result<usize>
         ensures { IfOk result (λ n. n ≤ done) }
     {
@@ -228,8 +228,8 @@ impl io::Write for Calls {
     }
 }
 
-/// An error is told, an interruption among them, and so is a write that takes nothing: whatever a second call
-/// would have answered, the device isn't asked again.
+/// An error is returned, also an interruption or a write that takes nothing. A second call might succeed, but
+/// the device isn't called again.
 #[test]
 fn an_error_of_a_reader_or_a_writer_fails_once_and_for_all(rt: HostRuntime) {
     for kind in [
@@ -252,7 +252,7 @@ fn fail_first(rt: &(impl Abort + AllocGlobal), first: First, reads: bool) {
     assert!(rt; writer.write(b"line").is_err() && Sink::has_failed(&writer));
 }
 
-/// A text whose second line is so long, how it ends, and its fault.
+/// Checks the fault of a text whose second line has this length and ending.
 fn tells_long_line(
     alloc: Global,
     length: u32,
@@ -283,7 +283,7 @@ fn a_line_longer_than_a_read_is_a_bad_line(rt: HostRuntime) {
     }
 }
 
-/// As much is moved by a call as the reader gives and the writer takes.
+/// A call moves as many bytes as the reader has and the writer takes.
 #[test]
 fn a_device_moves_all_that_it_can(rt: HostRuntime) {
     let mut buffer = [0; 16];

@@ -1,4 +1,4 @@
-//! Memory that is kept: what is played over and over leaves the memory that there was after the first times.
+//! No memory is kept: what is repeated leaves as much free memory as there was after the first times.
 
 use crate::played::{Play, deepen, perform};
 use crate::streamed::Stream;
@@ -13,22 +13,22 @@ use test_support::memory::Memory;
 /// More bytes than any answer here has.
 const AMPLE: usize = 65_536;
 
-/// Whatever is kept takes up such a piece once it is kept often enough.
+/// Whatever is kept fills such a piece when it is kept often enough.
 const PIECE: usize = 4096;
 
-/// As many pieces are enough for each play.
+/// As many pieces as each play needs.
 const ENOUGH: usize = 256;
 
-/// After so many times a heap has kept all blocks back that it will.
+/// After this number of times a heap keeps no more blocks back.
 const FIRST_TIMES: u32 = 16;
 
-/// If the smallest block were kept each time, four pieces and more would be missed.
+/// If the smallest block were kept each time, four pieces or more would be missed.
 const MORE_TIMES: u32 = 600;
 
-/// Blocks that the heap keeps back are cut from other pieces at times.
+/// The heap sometimes cuts blocks that it keeps back from other pieces.
 const CUT: usize = 2;
 
-/// Whether a play comes so each time.
+/// Returns whether a play has this result each time.
 fn comes_so(
     rt: &(impl Abort + AllocGlobal + Clock),
     what: Play,
@@ -67,7 +67,7 @@ fn keeps_none(
     memory.take_pieces();
 }
 
-/// The texts of a situation through each stream.
+/// Plays the texts of a situation through each stream.
 fn situation_keeps_none(
     rt: &(impl Abort + AllocGlobal + Clock),
     memory: &mut Memory,

@@ -1,4 +1,5 @@
-//! Tests of memory that is refused or kept, and of devices that fail: no clause says how much a call takes.
+//! Tests of allocations that fail or leak, and of devices that fail: no clause says how much memory a call
+//! takes.
 #![tactic(auto)]
 
 #[cfg(test)]

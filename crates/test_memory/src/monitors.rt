@@ -1,4 +1,5 @@
-//! Monitors where next to no memory is free: no call but an opening takes any, but for the pages of a history.
+//! Monitors with almost no free memory: no call except an opening allocates, apart from the pages of a
+//! history.
 
 ghost use Rattle.std.specs.Prelude.{◌≡◌, IfOk};
 
@@ -14,7 +15,7 @@ use std::sync::Wait;
 use std::test::Fail;
 use test_support::memory::Memory;
 
-/// A monitor of one seat, and its pass.
+/// Returns a monitor of one seat, and its pass.
 fn of_one(alloc: Global) -> Result<(Monitor<LockHooks>, Pass), Fault>
     ensures own { IfOk result (λ r. r.1.lock ≡ r.0) }
     ensures seats { IfOk result (λ r. r.0.header.seats ≡ 1) }
@@ -26,8 +27,8 @@ fn of_one(alloc: Global) -> Result<(Monitor<LockHooks>, Pass), Fault>
     }
 }
 
-/// An acquire, a release and a trim of a pass, by steps that wait for the object and by one that doesn't; what
-/// the pass sees of the object. Whether each is answered.
+/// Makes an acquire, a release and a trim, by steps that wait for the critical section and by one that
+/// doesn't, and calls the observers. Returns whether each succeeds.
 fn call_each<R: Wait>(rt: &R, monitor: &Monitor<LockHooks>, pass: &mut Pass) -> bool
     requires is_of { pass.old.lock ≡ monitor.now }
     ensures is_of { pass.new.lock ≡ monitor.now }
@@ -39,7 +40,7 @@ fn call_each<R: Wait>(rt: &R, monitor: &Monitor<LockHooks>, pass: &mut Pass) -> 
     got && is_held && gave && trimmed
 }
 
-/// Leaves so many pieces free.
+/// Leaves `pieces` pieces free.
 fn leave(memory: &mut Memory, pieces: usize) -> Result<(), AllocError> {
     memory.take_pieces();
     memory.take_rest()?;
@@ -47,11 +48,11 @@ fn leave(memory: &mut Memory, pieces: usize) -> Result<(), AllocError> {
     Ok(())
 }
 
-/// A heap keeps each smaller block for requests of its size, also once it is given back. So whatever is cut
-/// from such a piece is missed.
+/// A heap keeps each smaller block for requests of its size, even after it is freed. So whatever is cut from
+/// such a piece is missed.
 const NARROW: usize = 1040;
 
-/// Calls each where so many pieces are free; whether they are free as before.
+/// Makes all calls with this number of free pieces. As many are free afterwards.
 fn call_in_need<R: Wait + AllocGlobal>(
     rt: &R,
     monitor: &Monitor<LockHooks>,

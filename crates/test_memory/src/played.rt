@@ -1,5 +1,5 @@
-//! What is played with memory and without it: texts that are answered, and openings. One call of a table is
-//! one value of [`Play`], and what comes of it is a plain value, beside bytes to compare.
+//! What is played with memory and without it: texts that go through streams, and openings. A call is one
+//! value of [`Play`]. Its result is a plain value, with bytes to compare.
 
 ghost use Rattle.std.specs.Prelude.{◌≡◌};
 ghost use Rattle.history.specs.Header.{IsInRange};
@@ -33,21 +33,21 @@ use streams::device::Device;
 use streams::rest::read_all;
 use streams::stream_fault::StreamFault;
 
-/// What is played.
+/// One call to play.
 #[derive(Clone, Copy)]
 pub enum Play<'a> {
     /// A text through a stream.
     Through(Stream, &'a [u8]),
-    /// A history text that is read, and written again.
+    /// A history text is read, and written again.
     Again(&'a [u8]),
-    /// A steps text that is read as a list.
+    /// A steps text is read as a list.
     Steps(&'a [u8]),
-    /// Bytes that are read whole.
+    /// Bytes are read whole.
     Bytes(&'a [u8]),
     Script(&'a [u8]),
     /// Bars of two entries.
     Bars,
-    /// A core that answers many steps in one run.
+    /// A core performs many steps in one run.
     Run,
     /// The same as a list of acts.
     RunActs,
@@ -55,9 +55,9 @@ pub enum Play<'a> {
     Base(Header),
     /// The hooks of a read-write lock of 256 seats.
     Readers,
-    /// A line of 256 seats.
+    /// A queue of 256 seats.
     Line,
-    /// The sleepers of 256 seats on three conditions.
+    /// The waiters of 256 seats on three conditions.
     Sleepers,
     Nodes,
     /// The monitors of the four front types, with four seats.
@@ -65,9 +65,9 @@ pub enum Play<'a> {
     ReadWriteLock,
     Semaphore,
     Latch,
-    /// A place to park for four threads.
+    /// A parking for four threads.
     Threads,
-    /// One that records four calls.
+    /// A scripted parking that records four calls.
     Scripted,
 }
 
@@ -79,7 +79,7 @@ fn opened<T: Drop>(made: Result<T, Fault>) -> Came {
     }
 }
 
-/// A read that is right if it has so many items.
+/// Returns whether a read has this number of items.
 fn read_as(items: Result<usize, ReadFault>, wanted: usize) -> Came {
     match items {
         Ok(found) => Ok(found == wanted),
@@ -107,7 +107,7 @@ fn written_again(alloc: Global, text: &[u8], out: &mut Vec<u8>) -> Came {
     }
 }
 
-/// A list of as many acts as the text has lines between the first and the last.
+/// Reads a text as a list. It must have as many acts as the text has lines between the first and the last.
 fn listed(alloc: Global, text: &[u8]) -> Came {
     let lines = text.iter().filter(|byte| **byte == b'\n').count();
     match read_steps(alloc, text) {
@@ -131,7 +131,7 @@ fn scripted(alloc: Global, text: &[u8], out: &mut Vec<u8>) -> Came {
     }
 }
 
-/// So many steps are made in one run.
+/// How many steps are made in one run.
 const MANY: usize = 500;
 
 const THREE_SEATS: Header = Header {
@@ -150,7 +150,7 @@ fn bars(alloc: Global) -> Came {
     }
 }
 
-/// Many looks of a core in one run: each is answered a fault, and none takes memory.
+/// Performs many looks of a core in one run. Each fails with a fault, and none allocates.
 fn look(alloc: Global, core: &mut AnyCore, by_acts: bool) -> Came {
     if by_acts {
         match core.run_acts(alloc, &[Act::Do(0, Step::Look); MANY]) {
@@ -172,7 +172,7 @@ fn opened_and_run(alloc: Global, by_acts: bool) -> Came {
     }
 }
 
-/// A text that is played.
+/// Plays a text.
 fn read(alloc: Global, what: Play, out: &mut Vec<u8>) -> Came {
     match what {
         Play::Through(stream, text) => through(alloc, stream, text, out),
@@ -194,7 +194,7 @@ fn front(alloc: Global, what: Play) -> Came {
     }
 }
 
-/// Plays once. What is written is appended.
+/// Plays a call once. What is written is appended.
 pub fn perform(rt: &(impl AllocGlobal + Clock), what: Play, out: &mut Vec<u8>) -> Came {
     let alloc = rt.alloc();
     match what {
@@ -214,8 +214,8 @@ pub fn perform(rt: &(impl AllocGlobal + Clock), what: Play, out: &mut Vec<u8>) -
     }
 }
 
-/// Plays what goes deepest while there is memory. Then the stack has its depth, for which the system has no
-/// memory later.
+/// Plays the calls that need most stack while there is memory. The stack then has its full depth, for which
+/// there may be no memory later.
 pub fn deepen(rt: &(impl AllocGlobal + Clock), out: &mut Vec<u8>) {
     for what in [
         Play::Script(SCRIPT),

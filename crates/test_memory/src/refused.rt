@@ -1,8 +1,8 @@
-//! Memory that is refused.
+//! Allocations that fail.
 //!
-//! A test takes all memory first, a part of it as one block, and gives that back piece by piece from its end.
-//! So one request after another is refused, until all are met. What kept memory when refused would never be
-//! whole, since one piece comes back at a time.
+//! A test takes all memory first, a part of it as one block, and frees that piece by piece from its end. So
+//! one allocation after another fails, until all succeed. A call that leaked memory when it failed would
+//! never succeed, since one piece is freed at a time.
 
 use crate::block::Block;
 use crate::played::{Play, deepen, perform};
@@ -21,13 +21,13 @@ use streams::stream_fault::StreamFault;
 /// More bytes than any answer here has.
 const AMPLE: usize = 1_000_000;
 
-/// Pieces that the smallest requests take one of.
+/// Pieces so small that each of the smallest requests takes one.
 const FINE: usize = 16;
 
-/// Less than each table of a core of 256 seats takes.
+/// Less memory than any table of a core of 256 seats takes.
 const COARSE: usize = 256;
 
-/// What is played, the size of a piece, and how often it is refused at least and at most.
+/// A call, the size of a piece, and how often the call fails at least and at most.
 #[derive(Clone, Copy)]
 struct Row<'a> {
     what: Play<'a>,
@@ -47,7 +47,7 @@ impl<'a> Row<'a> {
     }
 }
 
-/// How often a play is refused. Each time nothing is written, and in the end all that is wanted.
+/// Returns how often a call fails. Each time nothing is written, and in the end all that is wanted.
 fn fed(
     rt: &(impl Abort + AllocGlobal + Clock),
     what: Play,
@@ -72,7 +72,7 @@ fn fed(
     u32::MAX
 }
 
-/// The same from no memory on.
+/// The same, starting with no memory.
 fn refusals(
     rt: &(impl Abort + AllocGlobal + Clock),
     what: Play,
@@ -84,15 +84,15 @@ fn refusals(
     Ok(fed(rt, what, &mut memory, wanted, out))
 }
 
-/// What is wanted, and what is written: both have all the memory that they will want.
+/// What is wanted, and what is written. Both have all the memory that they will need.
 #[derive(Drop)]
 struct Answers {
     wanted: Vec<u8>,
     out: Vec<u8>,
 }
 
-/// Plays a row with memory first. Then the stack has its depth too: if it finds no memory for it, the system
-/// ends the program.
+/// Plays a row with memory first, so that the stack has its full depth. If there were no memory for the
+/// stack, the system would end the program.
 fn try_row(
     rt: &(impl Abort + AllocGlobal + Clock),
     answers: &mut Answers,
@@ -133,8 +133,8 @@ fn header_of(object: Object, conditions: u8) -> Header {
     }
 }
 
-/// A core opens six tables for its seats, two lists of its conditions and two tables for each; a read-write
-/// lock has one table more, for its readers. All take hardly more pieces than they fill.
+/// A core opens six tables for its seats, two lists of its conditions and two tables for each. A read-write
+/// lock has one more table, for its readers. All together hardly take more pieces than they fill.
 #[test]
 fn cores_and_what_they_stand_on_are_opened_whole_or_not_at_all(
     rt: HostRuntime,
@@ -162,9 +162,9 @@ fn cores_and_what_they_stand_on_are_opened_whole_or_not_at_all(
     Ok(())
 }
 
-/// A monitor of four seats takes its passes, four tables of its seats, and the tokens, the slot and the word
-/// of its lock. A condition adds a list and a table of lists, a read-write lock a table of readers. A parking
-/// takes one table, and a scripted one three.
+/// A monitor of four seats allocates its passes, four tables of its seats, and the tokens, the slot and the
+/// word of its lock. A condition adds a list and a table of lists, a read-write lock a table of readers. A
+/// parking allocates one table, a scripted one three.
 #[test]
 fn monitors_and_parkings_are_opened_whole_or_not_at_all(rt: HostRuntime) -> Result<(), Fail> {
     try_rows(
@@ -182,7 +182,7 @@ fn monitors_and_parkings_are_opened_whole_or_not_at_all(rt: HostRuntime) -> Resu
     Ok(())
 }
 
-/// Texts through each stream, and how often they are refused in pieces of 64 bytes at least and at most.
+/// Texts through each stream, and how often they fail, with pieces of 64 bytes, at least and at most.
 const NARROW: [(Stream, &[u8], u32, u32); 8] = [
     (Stream::Replay, STEPS, 980, 1070),
     (Stream::History, STEPS, 980, 1070),
@@ -207,7 +207,7 @@ fn a_stream_that_lacks_memory_writes_nothing(rt: HostRuntime) -> Result<(), Fail
     Ok(())
 }
 
-/// The tables of many seats and conditions take more than what a text does, and none is made twice.
+/// The tables of many seats and conditions take more memory than a text, and none is allocated twice.
 #[test]
 fn a_replay_of_many_seats_takes_hardly_more_than_its_tables(rt: HostRuntime) -> Result<(), Fail> {
     for (number, text) in WIDE.iter().enumerate() {
@@ -245,8 +245,8 @@ fn what_is_read_is_read_whole_or_not_at_all(rt: HostRuntime) -> Result<(), Fail>
     Ok(())
 }
 
-/// A list of steps takes memory twice, each time more pieces, and no more than it needs. So do the bytes of a
-/// source.
+/// A list of steps grows twice, each time by more pieces, and takes no more than it needs. So do the bytes of
+/// a source.
 #[test]
 fn a_list_and_a_source_take_hardly_more_than_they_have(rt: HostRuntime) -> Result<(), Fail> {
     let mut steps = String::new(rt.alloc());
@@ -265,8 +265,8 @@ fn a_list_and_a_source_take_hardly_more_than_they_have(rt: HostRuntime) -> Resul
     Ok(())
 }
 
-/// The lists of calls and of workers are made for as many as there are. Lists for ten times as many would
-/// take more pages.
+/// The lists of calls and of workers are allocated for as many as there are. Lists for ten times as many
+/// would take more pages.
 #[test]
 fn a_script_takes_hardly_more_than_its_text_and_its_calls(rt: HostRuntime) -> Result<(), Fail> {
     let mut script = String::new(rt.alloc());
@@ -278,8 +278,8 @@ fn a_script_takes_hardly_more_than_its_text_and_its_calls(rt: HostRuntime) -> Re
     Ok(())
 }
 
-/// A history whose growth is the greatest request: the last refusals are those of steps. The same history is
-/// read as a list, and written again.
+/// A history whose growth is the greatest request: the last allocations that fail are those of steps. The
+/// same history is read as a list, and written again.
 #[test]
 fn a_growth_of_a_history_is_refused(rt: HostRuntime) -> Result<(), Fail> {
     let mut steps = String::new(rt.alloc());

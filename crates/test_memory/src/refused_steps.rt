@@ -1,6 +1,6 @@
-//! Memory that is refused to a step.
+//! Steps whose allocations fail.
 //!
-//! What a core is to answer is told by one that lacks no memory.
+//! What a core must return is known from a core that doesn't lack memory.
 
 use crate::any_core::{AnyCore, Outcome};
 use crate::block::Block;
@@ -19,13 +19,13 @@ use test_support::memory::Memory;
 /// A page of a history takes three such pieces and a part of a fourth.
 const PIECE: usize = 4096;
 
-/// A page and the list of pages take no more pieces.
+/// The most pieces that a page and the list of pages take.
 const PAGE: u32 = 6;
 
 /// The places of three pages.
 const MANY_PLACES: u64 = 3072;
 
-/// An act of a core that lacks no memory: what it was answered, and what the core told afterwards.
+/// An act of a core that doesn't lack memory: its result, and what the observers returned after it.
 #[derive(Clone, Copy, Drop)]
 struct Played {
     act: Act,
@@ -38,8 +38,8 @@ fn lacks_memory(outcome: &Outcome) -> bool {
     matches!(outcome, Err(Fault::OutOfMemory))
 }
 
-/// Makes the acts over and over, but no longer than until the history has three pages. Whether there was
-/// memory for what came of them.
+/// Performs the acts repeatedly, until the history has three pages at the latest. Returns whether there was
+/// memory for recording the results.
 fn note(core: &mut AnyCore, acts: &[Act], rounds: u32, played: &mut Vec<Played>) -> bool {
     for _ in 0..rounds {
         if MANY_PLACES <= core.places() {
@@ -61,8 +61,8 @@ fn note(core: &mut AnyCore, acts: &[Act], rounds: u32, played: &mut Vec<Played>)
     true
 }
 
-/// Asks for an act while memory is given back piece by piece, until it is enough for a page, and no more.
-/// Each refusal leaves all as it was.
+/// Performs an act while memory is freed piece by piece, until there is enough for a page, and no more. Each
+/// failure leaves all as before.
 fn feed(
     rt: &(impl Abort + AllocGlobal),
     core: &mut AnyCore,
@@ -81,8 +81,8 @@ fn feed(
     Err(Fault::OutOfMemory)
 }
 
-/// An act where there is no memory is refused exactly if its history wants a page, and is answered in the end
-/// as if it came first. Whether it was refused.
+/// Without free memory an act fails if and only if its history needs a page. In the end it returns what it
+/// would have returned at once. Returns whether it failed.
 fn follow(
     rt: &(impl Abort + AllocGlobal),
     core: &mut AnyCore,
@@ -105,7 +105,7 @@ fn follow(
     is_refused
 }
 
-/// How many acts are refused.
+/// Returns how many acts fail.
 fn follow_all(
     rt: &(impl Abort + AllocGlobal),
     core: &mut AnyCore,
@@ -119,8 +119,8 @@ fn follow_all(
     Ok(refused)
 }
 
-/// The acts over and over, once with all memory and once with each growth of the history refused first; how
-/// many were.
+/// Performs the acts repeatedly, once with all memory, and once with each growth of the history failing
+/// first. Returns how many failed.
 fn refuse(
     rt: &(impl Abort + AllocGlobal),
     header: &Header,
@@ -136,7 +136,7 @@ fn refuse(
     Ok(follow_all(rt, &mut core, &played)?)
 }
 
-/// The same of a steps text, with a cap of its own or with one that its history doesn't come near.
+/// The same for a steps text, with a cap of its own or with one that its history doesn't come near.
 fn refuse_text(
     rt: &(impl Abort + AllocGlobal),
     text: &str,
@@ -149,7 +149,7 @@ fn refuse_text(
     Ok(refuse(rt, &header, &read.acts, rounds)?)
 }
 
-/// A history within its cap takes one page, and a long one three. No steps take none.
+/// A history within its cap takes one page, and a long one three. If there are no steps it takes none.
 #[test]
 fn a_refused_step_changes_nothing(rt: HostRuntime) -> Result<(), Fail> {
     for examples in [situations(), strict_situations()] {
@@ -178,7 +178,7 @@ const LOCK: Header = Header {
     cap: 64,
 };
 
-/// Acts once there is memory for the list of their answers. Before that nothing is done.
+/// Performs acts after there is memory for the list of their results. Before that nothing is done.
 fn act_starved(
     rt: &(impl Abort + AllocGlobal),
     core: &mut AnyCore,
@@ -205,8 +205,8 @@ fn has_recorded(outcome: &Outcome) -> bool {
     matches!(outcome, Ok(Done::Answered(Answer::Recorded(_, _))))
 }
 
-/// With memory for the answers alone no step has a place for its entry, and a trim finds none to fold. With
-/// memory each step is recorded, and folded by the next trim.
+/// With memory only for the results, no step has a place for its entry, and a trim finds none to fold. With
+/// more memory each step is recorded, and folded by the next trim.
 #[test]
 fn acts_go_on_if_memory_was_refused(rt: HostRuntime) -> Result<(), Fail> {
     let mut core = AnyCore::open(rt.alloc(), &LOCK)?;

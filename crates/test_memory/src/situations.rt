@@ -19,7 +19,7 @@ use steps::{ReadFault, read_steps};
 use streams::device::Device;
 use test_support::examples::{Example, situations, strict_situations};
 
-/// Whether an answer can be spelt.
+/// Returns whether an answer can be spelt.
 fn has_line(answer: &Result<Answer, Fault>) -> bool
     ensures { IsTrue result → HasLine answer.now }
 {
@@ -48,7 +48,7 @@ fn put_answer(
     is_put
 }
 
-/// The answer to a step of a list without trims.
+/// Returns the answer to a step of a list without trims.
 fn answer_of(outcome: &Outcome) -> Result<Answer, Fault> {
     match outcome {
         Ok(Done::Answered(answer)) => Ok(*answer),
@@ -57,7 +57,7 @@ fn answer_of(outcome: &Outcome) -> Result<Answer, Fault> {
     }
 }
 
-/// Appends a replay text of what acts were answered.
+/// Appends the lines of a replay text for the results of acts.
 fn put_lines(
     lines: &mut LineWriter,
     out: &mut Vec<u8>,
@@ -82,7 +82,7 @@ fn put_lines(
         && lines.flush(&mut Device::new(out)).is_ok()
 }
 
-/// Appends the replay text of a list in one run, behind a first line.
+/// Appends the replay text of a list in one run, after a first line.
 fn run_lines(
     alloc: Global,
     header: &Header,
@@ -96,7 +96,7 @@ fn run_lines(
     Ok(put_lines(&mut lines, out, acts, &outcomes, &core))
 }
 
-/// The first line of a text, with its line break.
+/// Returns the first line of a text, with its line break.
 fn first_of(text: &[u8]) -> &[u8] {
     match first_line(text) {
         Some((line, _)) => text.get(..line.len().saturating_add(1)).unwrap_or_default(),
@@ -104,7 +104,7 @@ fn first_of(text: &[u8]) -> &[u8] {
     }
 }
 
-/// Whether a situation is answered by its replay text in one run.
+/// Returns whether a situation has its replay text in one run.
 fn is_run(alloc: Global, example: &Example, out: &mut Vec<u8>) -> Result<bool, ReadFault> {
     let replay = example.replay.as_bytes();
     let read = read_steps(alloc, example.steps.as_bytes())?;
@@ -119,7 +119,8 @@ fn is_run(alloc: Global, example: &Example, out: &mut Vec<u8>) -> Result<bool, R
     Ok(is_run == Ok(true) && out.as_slice() == replay)
 }
 
-/// Whether a stream writes this for a text, or begins so; an audit says that the history is legal.
+/// Returns whether a stream writes this for a text, or begins with it; for an audit also whether the history
+/// is legal.
 fn is_answered(
     alloc: Global,
     stream: Stream,

@@ -1,4 +1,4 @@
-//! One call for each stream, over any source and sink, and what came of it as a plain value.
+//! One call for each stream, over any source and sink, with its result as a plain value.
 
 ghost use Rattle.std.specs.Prelude.{◌≡◌, false};
 
@@ -25,7 +25,7 @@ pub enum Stream {
     Draw,
 }
 
-/// Whether all is as it should be; for an audit or a drawing whether the history is legal.
+/// Whether the call succeeded as it must; for an audit or a drawing whether the history is legal.
 pub type Came = Result<bool, StreamFault>;
 
 const ALL: Choice = Choice {
@@ -70,7 +70,7 @@ pub fn through(alloc: Global, stream: Stream, text: &[u8], out: &mut Vec<u8>) ->
     between(alloc, stream, &mut Device::new(text), &mut Device::new(out))
 }
 
-/// How a text comes, and where it goes.
+/// How a text is read, and where the output goes.
 #[derive(Clone, Copy)]
 pub struct Ways {
     /// The most bytes of a read and of a write.
@@ -83,13 +83,14 @@ pub struct Ways {
     pub places: usize,
 }
 
-/// Each device has failed exactly if the fault says so.
+/// Returns whether each device has failed if and only if the fault says so.
 fn fail_as_told(came: Came, read_failed: bool, write_failed: bool) -> bool {
     read_failed == (came == Err(StreamFault::ReadFailed))
         && write_failed == (came == Err(StreamFault::WriteFailed))
 }
 
-/// The same, with what the sink took copied. A device that failed otherwise than told is an `Ok(false)`.
+/// The same, with a copy of what the sink took. It returns `Ok(false)` if a device failed and the fault
+/// doesn't say so.
 fn to_sink(
     alloc: Global,
     stream: Stream,
@@ -113,7 +114,7 @@ fn to_sink(
     }
 }
 
-/// What a stream writes for a text that comes and goes in pieces, over devices in memory.
+/// Returns the result of a stream over devices in memory. What it writes is in `out`.
 pub fn streamed(alloc: Global, stream: Stream, text: &[u8], ways: Ways, out: &mut Vec<u8>) -> Came {
     out.clear();
     match Vec::from_slice(alloc, text) {

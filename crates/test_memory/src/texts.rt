@@ -3,7 +3,7 @@
 use crate::streamed::Stream;
 use std::alloc::AllocError;
 
-/// Steps of which some are recorded, one is answered a fault and one waits.
+/// Steps: some are recorded, one returns a fault and one waits.
 pub const STEPS: &[u8] = b"aqs-steps 1 lock fair seats 2 conditions 1 cap 64\n\
 0 acquire x 1\n\
 1 try x 1\n\
@@ -23,13 +23,13 @@ pub const HISTORY: &[u8] = b"aqs-history 1 lock fair seats 2 conditions 1 cap 64
 6 0 back 0 1 signalled\n\
 end 7 5\n";
 
-/// A history that isn't legal from its second entry on.
+/// A history that is illegal from its second entry on.
 pub const WRONG: &[u8] = b"aqs-history 1 rw fair seats 2 conditions 1 cap 16\n\
 0 0 got s 1\n\
 1 1 got x 1\n\
 end 2 2\n";
 
-/// A text through each stream.
+/// A text for each stream.
 pub const THROUGH: [(Stream, &[u8]); 4] = [
     (Stream::Replay, STEPS),
     (Stream::History, STEPS),
@@ -37,7 +37,7 @@ pub const THROUGH: [(Stream, &[u8]); 4] = [
     (Stream::Draw, HISTORY),
 ];
 
-/// Steps of as many seats and conditions as there may be, of each object.
+/// Steps with the greatest numbers of seats and conditions, for each object.
 pub const WIDE: [&[u8]; 5] = [
     b"aqs-steps 1 lock fair seats 256 conditions 16 cap 64\n\
 0 acquire x 1\n1 try x 1\n0 await 15\nend 3\n",
@@ -50,7 +50,7 @@ pub const WIDE: [&[u8]; 5] = [
 0 acquire x 1\ntrim\n1 try x 1\ntrim\nend 4\n",
 ];
 
-/// Texts with trims, after which some wait, sleep and hold.
+/// Texts with trims, after which some seats wait and others hold.
 pub const TRIMMED: [&[u8]; 4] = [
     b"aqs-steps 2 lock fair seats 3 conditions 1 cap 16\n\
 0 acquire x 1\n0 acquire x 1\n0 await 0\n1 acquire x 1\n2 acquire x 1\ntrim\ntrim\n\
@@ -64,22 +64,22 @@ pub const TRIMMED: [&[u8]; 4] = [
 0 acquire s 1\ntrim\n1 give s 1\n0 look\ntrim\nend 5\n",
 ];
 
-/// A history on a base, after which one sleeps and another owns.
+/// A history on a base, after which one seat waits on a condition and another owns.
 pub const ON_SLEEPER: &[u8] = b"aqs-history 2 lock fair seats 2 conditions 1 cap 16\n\
 base 4\nseat 0 calls 2 x 0 s 0\nseat 1 calls 1 x 1 s 0\nsleeper 0 0 2\n\
 4 1 signal 0 1\n5 1 gave x 1\n6 0 back 0 2 signalled\nend 7 6\n";
 
-/// One that isn't legal: a writer is granted beside a reader.
+/// An illegal one: a writer is granted while another seat reads.
 pub const ON_READER: &[u8] = b"aqs-history 2 rw nonfair seats 3 conditions 0 cap 16\n\
 base 3\nseat 0 calls 1 x 0 s 1\nseat 1 calls 0 x 0 s 0\nseat 2 calls 0 x 0 s 0\n\
 line 1 queued x 1\nline 2 queued s 1\n3 1 granted x 1\nend 4 2\n";
 
-/// One of a latch, on which one waits.
+/// One of a latch, on which a seat waits.
 pub const ON_COUNT: &[u8] = b"aqs-history 2 latch seats 2 count 2 cap 64\n\
 base 2 count 1\nseat 0 calls 1 x 0 s 0\nseat 1 calls 0 x 0 s 0\nline 1 queued s 1\n\
 2 0 counted s 1\n3 1 granted s 1\nend 4 3\n";
 
-/// Each call that there is, of each object.
+/// Each possible call of each object.
 pub const SCRIPT: &[u8] = br#"{"objects": [["a", "lock nonfair seats 2 conditions 1 cap 100"],
  ["b-2", "rw fair seats 2 conditions 16 cap 4294967295"],
  ["0", "semaphore fair seats 2 permits -3 cap 16"], ["-", "latch seats 2 count 7 cap 17"]],
@@ -89,7 +89,7 @@ pub const SCRIPT: &[u8] = br#"{"objects": [["a", "lock nonfair seats 2 condition
  "interrupt 1"]}, {"calls": [], "repeat": 1}]}
 "#;
 
-/// Appends a line so many times.
+/// Appends a line `times` times.
 pub fn put_times(out: &mut String, line: &str, times: u32) -> Result<(), AllocError> {
     for _ in 0..times {
         out.push_str(line)?;
@@ -97,15 +97,15 @@ pub fn put_times(out: &mut String, line: &str, times: u32) -> Result<(), AllocEr
     Ok(())
 }
 
-/// Appends the steps of so many pairs of an acquire and a release, each of which is recorded, with a look
-/// after each acquire that finds nobody waiting.
+/// Appends the steps of `pairs` pairs of an acquire and a release, each of which is recorded, with a look
+/// after each acquire while nobody waits.
 pub fn put_pairs(out: &mut String, pairs: u32) -> Result<(), AllocError> {
     out.push_str("aqs-steps 1 lock nonfair seats 2 conditions 0 cap 4294967295\n")?;
     put_times(out, "0 acquire x 1\n1 look\n0 give x 1\n", pairs)?;
     write!(out, "end {}\n", u64::from(pairs) * 3)
 }
 
-/// Appends their history.
+/// Appends the history of these pairs.
 pub fn put_history_of_pairs(out: &mut String, pairs: u32) -> Result<(), AllocError> {
     out.push_str("aqs-history 1 lock nonfair seats 2 conditions 0 cap 4294967295\n")?;
     for pair in 0..u64::from(pairs) {
@@ -116,8 +116,8 @@ pub fn put_history_of_pairs(out: &mut String, pairs: u32) -> Result<(), AllocErr
     write!(out, "end {entries} {entries}\n")
 }
 
-/// Appends the history text of a replay text of format 1: the same without what was not recorded, and without
-/// whom an entry names.
+/// Appends the history text of a replay text of format 1: without the lines of what was not recorded, and
+/// without the waiters that entries name.
 pub fn put_history(out: &mut Vec<u8>, replay: &str) -> Result<(), AllocError> {
     out.extend_from_slice(b"aqs-history")?;
     for line in replay.strip_prefix("aqs-replay").unwrap_or(replay).lines() {

@@ -1,4 +1,4 @@
-//! How much a window reads at once, and what is read of a source once memory is refused.
+//! How much a window reads at once, and what is read from a source after an allocation fails.
 
 ghost use Rattle.std.specs.Prelude.{◌≡◌, ◌<◌, false};
 ghost use Rattle.streams.specs.Window.{kept_of_line};
@@ -12,7 +12,7 @@ use streams::stream_fault::StreamFault;
 use streams::window::Window;
 use test_support::memory::Memory;
 
-/// Reads on to a whole line, or to the end of a source that hasn't failed.
+/// Reads until a whole line is there, or to the end of a source that hasn't failed.
 fn read_line(window: &mut Window, source: &mut MemorySource) -> Result<(), StreamFault>
     requires { kept_of_line < window.old.places }
     ensures { window.new.places ≡ window.old.places }
@@ -23,7 +23,7 @@ fn read_line(window: &mut Window, source: &mut MemorySource) -> Result<(), Strea
     window.read_line(source)
 }
 
-/// Whether a window that looks at one line has these bytes of a source then, and reading has failed or not.
+/// Returns whether a window that reads one line then has these bytes, and whether reading failed as stated.
 fn sees(
     alloc: Global,
     source: &mut MemorySource,
@@ -45,9 +45,9 @@ fn source_of(
     Ok(MemorySource::new(bytes, piece.max(1), fails_at))
 }
 
-/// A text in pieces of some size, the read that fails, the bytes that stand in the window then, and whether
-/// reading has failed. What was read before a read failed stands in the window. Once a whole line stands in
-/// it nothing more is read: the next read would fail. A read takes all that the source gives.
+/// A text in pieces of some size, the read that fails, the bytes that are then in the window, and whether
+/// reading failed. What was read before a failure is in the window. After a whole line is in it nothing more
+/// is read: the next read would fail. A read takes all that the source has.
 const SEEN: [(&[u8], usize, Option<u64>, &[u8], bool); 6] = [
     (b"one two\n", 2, Some(0), b"", true),
     (b"one two\n", 2, Some(1), b"on", true),
@@ -67,7 +67,7 @@ fn a_window_reads_one_line_and_keeps_what_it_read(rt: HostRuntime) -> Result<(),
     Ok(())
 }
 
-/// Whether a source that hasn't failed is read into no memory.
+/// Returns whether reading a source that hasn't failed fails without free memory.
 fn lacks_memory(alloc: Global, source: &mut MemorySource) -> Result<bool, AllocError>
     requires { source.old.failed ≡ false }
 {
@@ -75,7 +75,7 @@ fn lacks_memory(alloc: Global, source: &mut MemorySource) -> Result<bool, AllocE
     Ok(matches!(read_all(alloc, source), Err(StreamFault::Memory)))
 }
 
-/// Once memory is refused nothing more is read: the second read would fail.
+/// After an allocation fails nothing more is read: the second read would fail.
 #[test]
 fn nothing_is_read_after_want_of_memory(rt: HostRuntime) -> Result<(), Fail> {
     let bytes = Vec::from_slice(rt.alloc(), &[b'7'; 1000])?;

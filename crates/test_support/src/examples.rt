@@ -1,4 +1,4 @@
-//! Known situations of all objects: steps texts, and the replay texts that answer them.
+//! Known situations of all objects: steps texts with their replay texts.
 
 ghost use Rattle.std.specs.Prelude.{◌≡◌, length};
 
@@ -9,15 +9,15 @@ pub struct Example {
     pub replay: &'static str,
 }
 
-/// The known situations.
+/// Returns the known situations.
 pub fn situations() -> &'static [Example]
     ensures { length result.now ≡ 26 }
 {
     &EXAMPLES
 }
 
-/// The known situations of strict objects. They have a list of their own, since one constant of all
-/// situations takes the checker more steps than it may make.
+/// Returns the known situations of strict objects. They have a list of their own, since the checker can't
+/// take all situations in one constant.
 pub fn strict_situations() -> &'static [Example]
     ensures { length result.now ≡ 2 }
 {

@@ -1,4 +1,4 @@
-//! What tests of several crates use: texts of known situations, and memory that is refused.
+//! What tests of several crates use: texts of known situations, and failing allocations.
 #![tactic(auto)]
 
 pub mod examples;

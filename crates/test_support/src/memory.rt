@@ -1,27 +1,27 @@
-//! All memory that there is, for tests that refuse memory.
+//! All memory of the heap, for tests in which allocations fail.
 //!
-//! Nothing stands between a core, a history or a table and the heap, so a test takes the heap first, and each
-//! further request is refused for true. Untouched memory costs next to nothing.
+//! A test takes the whole heap first, so each further allocation of a core, a history or a table really
+//! fails. Untouched memory costs next to nothing.
 
 ghost use Rattle.std.specs.Prelude.{◌≡◌, ◌+◌, ◌-◌, ◌<◌, ◌≤◌, ◌↔◌, All, IfOk, IsTrue, if◌then◌else◌, vec_capacity};
 
 use std::alloc::{AllocError, Global};
 use std::marker::Model;
 
-/// How many blocks are taken at most.
+/// The most blocks that are taken.
 const MOST: usize = 65_536;
 
-/// Blocks of each size up to this are taken, since a heap may keep back small blocks for requests of their
-/// size alone.
+/// Blocks of each size up to this are taken, since a heap may keep small blocks for requests of exactly their
+/// size.
 const FINE: usize = 2048;
 
 /// The smallest block of a heap.
 const LEAST: usize = 16;
 
-/// How many pieces stand side by side, to be given back one after another.
+/// How many adjacent pieces are taken, to be freed one after another.
 const PIECES: usize = 4096;
 
-/// Takes what the heap gives, down to blocks of so many bytes, the largest first.
+/// Takes all memory that the heap gives, the largest blocks first, down to blocks of `least` bytes.
 pub fn all_memory(alloc: Global, least: usize) -> Result<Vec<Vec<u8>>, AllocError>
     ensures { IfOk result (λ blocks. All (λ block. least ≤ vec_capacity block) blocks.items) }
 {
@@ -30,8 +30,8 @@ pub fn all_memory(alloc: Global, least: usize) -> Result<Vec<Vec<u8>>, AllocErro
     Ok(blocks)
 }
 
-/// Takes what is free, down to blocks of `least` bytes: each time that one is refused one of half the size,
-/// and of 16 bytes less once it is no larger than `fine`.
+/// Takes all free memory, down to blocks of `least` bytes. Each time that an allocation fails it halves the
+/// size, or subtracts 16 bytes if the size is at most `fine`.
 fn take(
     alloc: Global,
     blocks: &mut Vec<Vec<u8>>,
@@ -53,7 +53,7 @@ fn take(
     Ok(())
 }
 
-/// All memory that there is, a part of it in small pieces. It is seen as the number of pieces that are left.
+/// All memory, a part of it in small pieces. Contracts see the number of pieces that are left.
 #[derive(Drop)]
 pub struct Memory {
     alloc: Global,
@@ -71,7 +71,7 @@ impl Model for Memory {
 }
 
 impl Memory {
-    /// Takes all memory, in pieces of so many bytes and then in blocks of each size.
+    /// Takes all memory, first in pieces of `piece` bytes and then in blocks of each size.
     pub fn take_all(alloc: Global, piece: usize) -> Result<Memory, AllocError>
         ensures { IfOk result (λ pieces. pieces ≡ 4096) }
     {
@@ -90,14 +90,14 @@ impl Memory {
         Ok(memory)
     }
 
-    /// Takes what is free, the largest blocks first.
+    /// Takes all free memory, the largest blocks first.
     pub fn take_rest(&mut self) -> Result<(), AllocError>
         ensures { self.new ≡ self.old }
     {
         take(self.alloc, &mut self.rest, FINE, LEAST)
     }
 
-    /// Gives a piece back, and says whether there was any left.
+    /// Frees a piece, and returns whether there was one.
     pub fn give_piece(&mut self) -> bool
         ensures was { IsTrue result ↔ 0 < self.old }
         ensures left { self.new ≡ self.old - 1 }
@@ -105,7 +105,7 @@ impl Memory {
         self.pieces.pop().is_some()
     }
 
-    /// Takes a piece more, and says whether there was memory for it.
+    /// Takes one more piece, and returns whether there was memory for it.
     pub fn take_piece(&mut self) -> bool
         ensures { self.new ≡ (if result then self.old + 1 else self.old) }
     {
@@ -115,7 +115,7 @@ impl Memory {
         }
     }
 
-    /// Takes the pieces that there is memory for, and says how many they were.
+    /// Takes all pieces that there is memory for, and returns how many.
     pub fn take_pieces(&mut self) -> usize
         ensures { self.new ≡ self.old + result }
     {
@@ -127,7 +127,7 @@ impl Memory {
         PIECES
     }
 
-    /// Gives so many pieces back.
+    /// Frees `count` pieces.
     pub fn give_pieces(&mut self, count: usize)
         ensures { self.new ≡ self.old - count }
     {
@@ -136,7 +136,7 @@ impl Memory {
         }
     }
 
-    /// How many pieces there is memory for. They are taken, and given back.
+    /// Returns how many pieces there is memory for. They are taken and freed again.
     pub fn free_pieces(&mut self) -> usize
         ensures { self.new ≡ self.old }
     {

@@ -1,4 +1,4 @@
-//! Calls of the front types and of their monitors as data, and what they answer.
+//! Calls of the front types and of their monitors as data, and their results.
 ghost use Rattle.std.specs.Prelude.{◌≡◌, ◌<◌, ◌≤◌};
 ghost use Rattle.monitor.specs.Stepping.{IsSame};
 
@@ -16,7 +16,7 @@ use reentrant::lock::LockHooks;
 use std::sync::Wait;
 use std::time::Clock;
 
-/// What is done by the pass of a seat. Conditions are numbers, and times are milliseconds.
+/// A call with the pass of a seat. Conditions are numbers, and times are milliseconds.
 #[derive(Clone, Copy)]
 pub enum Ask {
     /// The calls of a lock, or of the write lock of a read-write lock.
@@ -36,7 +36,7 @@ pub enum Ask {
     TryRead,
     TryReadFor(u32),
     EndRead,
-    /// The calls of a semaphore, of so many permits.
+    /// The calls of a semaphore, for this number of permits.
     Acquire(u32),
     AcquireUninterruptibly(u32),
     TryAcquire(u32),
@@ -51,7 +51,7 @@ pub enum Ask {
     Step(Step),
     /// The monitor folds its entries.
     Trim,
-    /// The observers of the monitor. The first and the third are of the pass's own seat.
+    /// The observers of the monitor. The first and the third concern the pass's own seat.
     Holds(Mode),
     IsHeld,
     IsTold,
@@ -65,18 +65,18 @@ pub enum Ask {
     DropPass,
     /// The last two passes of the list meet.
     Meet,
-    /// The next park ends, and the one behind it is waited for.
+    /// The next park ends, and the park after it is waited for.
     NextPark,
 }
 
-/// What is answered: a number, or the fault of a refusal.
+/// A result: a number, or a fault.
 pub type Reply = Result<u32, Fault>;
 
 pub const NO: Reply = Ok(0);
 
 pub const YES: Reply = Ok(1);
 
-/// The call has no other answer.
+/// The call has no other result.
 pub const DONE: Reply = Ok(1);
 
 pub const NOT_OWNER: Reply = Err(Fault::NotOwner);
@@ -97,10 +97,11 @@ fn whether(answer: Result<bool, Fault>) -> Reply {
     }
 }
 
-/// What is answered to a step that names a seat: so much more than the seat's number.
+/// What is added to a seat's number in the result of a step that names the seat.
 pub const NAMES: u32 = 1000;
 
-/// Whether an entry takes or gives something. If not, its seat joined the line, left it or missed.
+/// Returns whether an entry acquires or releases something. If not, its seat joined the queue, left it or
+/// failed.
 fn recorded(word: Word) -> Reply {
     match word {
         Word::Refused(fault) => Err(fault),
@@ -123,7 +124,7 @@ fn stepped(answer: Result<Answer, Fault>) -> Reply {
 
 /// Hooks whose monitor has a front type.
 pub trait Front: Hooks + Drop {
-    /// Makes a call of the front type. A call that it doesn't have is `WrongMode`.
+    /// Makes a call of the front type. If the type lacks the call, the result is `WrongMode`.
     fn ask<P: Parking, R: Wait + Clock>(
         rt: &R,
         monitor: &Monitor<Self>,
@@ -259,7 +260,7 @@ fn small(number: u128) -> Reply {
     }
 }
 
-/// A number from 0 on, or `WrongMode` below 0.
+/// Returns the number, or `WrongMode` if it is negative.
 fn not_negative(number: i64) -> Reply {
     match u32::try_from(number) {
         Ok(number) => Ok(number),
@@ -274,7 +275,7 @@ fn folded(count: Result<u64, Fault>) -> Reply {
     }
 }
 
-/// What an observer of the monitor answers, or a call of its front type.
+/// Returns what an observer of the monitor returns, or a call of its front type.
 fn observe_or_ask<H: Front, P: Parking, R: Wait + Clock>(
     rt: &R,
     monitor: &Monitor<H>,
@@ -300,7 +301,7 @@ fn observe_or_ask<H: Front, P: Parking, R: Wait + Clock>(
     }
 }
 
-/// Does what is asked by the pass of a seat.
+/// Makes a call with the pass of a seat.
 pub fn perform<H: Front, P: Parking, R: Wait + Clock>(
     rt: &R,
     monitor: &Monitor<H>,

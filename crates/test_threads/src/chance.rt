@@ -1,4 +1,4 @@
-//! Calls and steps by chance, the same from the same seed.
+//! Pseudo-random calls and steps, which are the same for the same seed.
 ghost use Rattle.std.specs.Prelude.{◌≡◌, ◌<◌};
 
 use crate::asks::Ask;
@@ -12,7 +12,7 @@ use std::time::{Clock, Duration};
 
 const SEED: u64 = 20_040_930;
 
-/// So many milliseconds a call waits at most.
+/// The most milliseconds that a call waits.
 const TIME: u32 = 2;
 
 /// Numbers that are the same for the same seat.
@@ -28,7 +28,7 @@ impl Chance {
         }
     }
 
-    /// A number below another.
+    /// Returns a number below `end`.
     fn below(&mut self, end: u32) -> u32
         requires { 0 < end }
         ensures { result < end }
@@ -36,14 +36,14 @@ impl Chance {
         self.words.next_word() % end
     }
 
-    /// Now and then a thread sleeps for a moment, with all that it holds.
+    /// Sometimes sleeps for a moment, with all that the thread holds.
     pub fn pause<R: Clock>(&mut self, rt: &R) {
         if self.below(8) == 0 {
             thread::sleep(rt, Duration::from_micros(20));
         }
     }
 
-    /// A call that ends though nobody else does anything.
+    /// Returns a call that ends even if nobody else does anything.
     pub fn ask(&mut self, object: Object) -> Ask {
         match object {
             Object::Lock(_) => self.ask_lock(),
@@ -83,7 +83,7 @@ impl Chance {
         }
     }
 
-    /// Mostly a step that suits whether the seat waits.
+    /// Returns a step that mostly suits whether the seat waits.
     pub fn step(&mut self, object: Object, waits: bool) -> Step {
         if (self.below(16) > 0) == waits {
             match self.below(32) {

@@ -1,5 +1,4 @@
-//! Tests of threads: of the lock under a monitor, of the places where threads park, and of the front types
-//! that many threads call.
+//! Tests of threads: of the lock under a monitor, of parkings, and of the front types that many threads call.
 #![tactic(auto)]
 
 #[cfg(test)]

@@ -1,7 +1,7 @@
-//! Memory: what a lock and a monitor take and keep, and a call that is refused.
+//! Memory: what a lock and a monitor allocate and keep, and a call whose allocation fails.
 //!
-//! A test takes all memory first, a part of it as pieces side by side, and gives these back one by one. So each
-//! request is refused for true, one after another.
+//! A test takes all memory first, a part of it as adjacent pieces, and frees these one by one. So the
+//! allocations really fail, one after another.
 ghost use Rattle.std.specs.Prelude.{◌≡◌, ◌≤◌, true};
 ghost use Rattle.monitor.specs.Stepping.{IsSame};
 ghost use Rattle.word_lock.specs.Ready.{IsReady};
@@ -24,14 +24,14 @@ use std::time::Clock;
 use test_support::memory::Memory;
 use word_lock::{Token, WordLock};
 
-/// A request of an opening takes a piece of this size or more.
+/// The least size of a piece that a request of an opening takes.
 const FINE: usize = 16;
 
 /// More pieces than an opening takes.
 const MOST: usize = 1024;
 
-/// A lock asks memory for its tokens, its slot and its word. An opening that is refused gives its value back,
-/// and its memory, or it would never be granted.
+/// A lock allocates its tokens, its slot and its word. An opening that fails returns its value and frees its
+/// memory; otherwise it would never succeed.
 #[test]
 fn a_lock_is_opened_whole_or_not_at_all(rt: HostRuntime) {
     let mut notes = Notes::with_room(rt.alloc(), 0).expect(&rt, "memory");
@@ -55,14 +55,14 @@ fn a_lock_is_opened_whole_or_not_at_all(rt: HostRuntime) {
     panic!(rt; "never opened")
 }
 
-/// A heap keeps each smaller block for requests of its size, also once it is given back. So whatever is cut
-/// from such a piece is missed.
+/// A heap keeps each smaller block for requests of its size, even after it is freed. So whatever is cut from
+/// such a piece is missed.
 const PIECE: usize = 1040;
 
 /// As many pieces are enough to open a lock.
 const ENOUGH: usize = 16;
 
-/// Two tokens meet and join while a third one has the value out.
+/// Two tokens meet and join while a third one has taken the value.
 fn tie_meanwhile<R: Wait>(
     rt: &R,
     lock: &WordLock<Notes>,
@@ -82,8 +82,8 @@ fn tie_meanwhile<R: Wait>(
     both
 }
 
-/// Opens a lock, and makes each of its calls, none of which changes how many pieces are free. They find as many
-/// pieces as are told, and no other memory. One entry is added.
+/// Opens a lock, and makes each of its calls, none of which changes how many pieces are free. There is no
+/// free memory except `left` pieces. One entry is added.
 fn open_and_call<R: Abort + Wait + AllocGlobal>(rt: &R, memory: &mut Memory, left: Option<usize>) {
     let notes = Notes::with_room(rt.alloc(), 1).expect(rt, "memory");
     let Ok((lock, mut tokens)) = WordLock::open(rt.alloc(), notes, 3) else {
@@ -106,7 +106,7 @@ fn open_and_call<R: Abort + Wait + AllocGlobal>(rt: &R, memory: &mut Memory, lef
     assert_eq!(rt; notes.list.len(), 1);
 }
 
-/// First with no memory at all, then with a piece, from which nothing is cut.
+/// First with no memory at all, then with one piece, from which nothing is cut.
 #[test]
 fn no_call_of_a_lock_but_open_takes_memory(rt: HostRuntime) {
     for left in 0..2 {
@@ -116,8 +116,8 @@ fn no_call_of_a_lock_but_open_takes_memory(rt: HostRuntime) {
     }
 }
 
-// After 16 times a heap has kept all blocks back that it will. Were the smallest block kept each time, more
-// than a piece would be missed.
+// After 16 times a heap keeps no more blocks back. If the smallest block were kept each time, more than a
+// piece would be missed.
 #[test]
 fn a_lock_that_was_closed_keeps_no_memory(rt: HostRuntime) {
     let mut memory = Memory::take_all(rt.alloc(), PIECE).expect(&rt, "memory");
@@ -132,11 +132,11 @@ fn a_lock_that_was_closed_keeps_no_memory(rt: HostRuntime) {
     assert_eq!(rt; memory.free_pieces(), free);
 }
 
-/// Whatever is kept takes up such a piece once it is kept often enough.
+/// Whatever is kept fills such a piece when it is kept often enough.
 const ROOM: usize = 16_384;
 
-// Were the smallest block kept each time, two pieces and more would be lacking. Blocks that the heap keeps back
-// are cut from another piece at times.
+// If the smallest block were kept each time, two pieces or more would be missed. The heap sometimes cuts
+// blocks that it keeps back from another piece.
 #[test]
 fn monitors_keep_no_memory(rt: HostRuntime) {
     let mut memory = Memory::take_all(rt.alloc(), ROOM).expect(&rt, "memory");
@@ -151,7 +151,7 @@ fn monitors_keep_no_memory(rt: HostRuntime) {
     assert!(rt; free <= memory.free_pieces().saturating_add(1));
 }
 
-/// How often memory is refused to the first acquire of a pass, at which an interrupt is pending each time.
+/// Returns how often the first acquire of a pass fails for lack of memory. An interrupt is pending each time.
 fn refusals_of_acquire<R: Abort + AllocGlobal + Wait + Clock>(
     rt: &R,
     parking: &NotedParking,

@@ -1,4 +1,4 @@
-//! A parking that notes what a monitor asks of it, and whose parks end when a test says so.
+//! A parking that records what a monitor asks of it, and whose parks end when the test lets them.
 ghost use Rattle.std.specs.Prelude.{◌≡◌, ◌<◌};
 
 use history::fault::Fault;
@@ -9,17 +9,17 @@ use std::sync::atomic::{AtomicU64, Ordering};
 use std::thread;
 use std::time::{Clock, Duration};
 
-/// The moment that its clock stands at.
+/// The moment at which its clock stays.
 pub const NOW: u64 = 1000;
 
-/// How many calls are noted.
+/// How many calls are recorded.
 const PLACES: u32 = 16;
 
-/// How often a wait looks, a millisecond apart, before it gives up.
+/// How often a wait checks, once a millisecond, before it gives up.
 const TURNS: u32 = 10_000;
 
-/// Answers parks from a list, and then by permits. A park ends once so many parks may end, or after some 10
-/// seconds, whatever is asked of it.
+/// Returns park results from a list, and `Permit` after that. A park ends when the test allows it, or after
+/// some 10 seconds.
 #[derive(Drop)]
 pub struct NotedParking {
     notes: ScriptedParking,
@@ -38,7 +38,7 @@ impl NotedParking {
         })
     }
 
-    /// Waits until so many parks were begun. Says whether they were.
+    /// Waits until this number of parks have begun, and returns whether they have.
     pub fn wait_for_parks<R: Clock>(&self, rt: &R, parks: u64) -> bool {
         for _ in 0..TURNS {
             if parks <= self.parks.load(Ordering::SeqCst) {
@@ -49,18 +49,18 @@ impl NotedParking {
         false
     }
 
-    /// Ends a park, and waits for the next one. Says whether it came.
+    /// Ends a park, waits for the next one, and returns whether it came.
     pub fn next_park<R: Clock>(&self, rt: &R) -> bool {
         let ended = self.ends.fetch_add(1, Ordering::SeqCst);
         self.wait_for_parks(rt, ended.saturating_add(2))
     }
 
-    /// Ends all parks, also those to come.
+    /// Ends all parks, also later ones.
     pub fn end_all(&self) {
         self.ends.store(u64::MAX, Ordering::SeqCst);
     }
 
-    /// The calls of park, unpark and interrupt, in order.
+    /// Returns the calls of park, unpark and interrupt, in order.
     pub fn calls(self) -> Vec<Call> {
         let NotedParking {
             notes,

@@ -1,4 +1,4 @@
-//! The places to park.
+//! Tests of parkings.
 
 mod order;
 mod threads;

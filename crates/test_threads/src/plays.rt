@@ -1,4 +1,4 @@
-//! Tales: what the seats of an object do, what they are answered, and how the monitor parks and unparks them.
+//! Tales: what the seats of an object do, the results, and how the monitor parks and unparks the seats.
 ghost use Rattle.std.specs.Prelude.{◌≡◌, ◌≤◌, All};
 ghost use Rattle.history.specs.Header.{IsInRange};
 
@@ -15,8 +15,8 @@ use std::sync::Wait;
 use std::thread::{Threads, join};
 use std::time::Clock;
 
-/// Closes a monitor that was opened with this header. Its history is legal, and each call that it has was
-/// counted by a pass.
+/// Closes a monitor that was opened with this header. Its history is legal, and each of its calls was counted
+/// by a pass.
 pub fn close_and_audit<H: Front, R: Abort + AllocGlobal + Wait>(
     rt: &R,
     monitor: Monitor<H>,
@@ -36,10 +36,10 @@ pub fn close_and_audit<H: Front, R: Abort + AllocGlobal + Wait>(
     findings
 }
 
-/// A seat, what it does, and what it is answered.
+/// A seat, its call, and the call's result.
 pub type Row = (u16, Ask, Reply);
 
-/// What is done at an object, and what comes of it.
+/// What is done at an object, and the results.
 #[derive(Clone, Copy)]
 pub struct Tale {
     pub name: &'static str,
@@ -48,11 +48,12 @@ pub struct Tale {
     pub answers: &'static [Woke],
     /// What one thread does.
     pub rows: &'static [Row],
-    /// What the last seat then does in a thread of its own. No rows: there is one thread alone.
+    /// What the last seat then does in a thread of its own. If there are no rows, there is only one thread.
     pub waiter: &'static [Row],
-    /// What the other seats do once it has parked.
+    /// What the other seats do after it has parked.
     pub others: &'static [Row],
-    /// What is done behind a close that is refused, since a pass is missing. No rows: it isn't refused.
+    /// What is done after a close that fails because a pass is missing. If there are no rows, it doesn't
+    /// fail.
     pub behind: &'static [Row],
     /// How many calls have ended.
     pub calls: u64,
@@ -68,7 +69,7 @@ pub const TWO: Header = Header {
     cap: 64,
 };
 
-/// Nothing is done at it.
+/// A tale in which nothing is done.
 pub const LOCK: Tale = Tale {
     name: "",
     header: TWO,
@@ -81,7 +82,7 @@ pub const LOCK: Tale = Tale {
     parked: &[],
 };
 
-/// Takes the last pass of a list.
+/// Returns the last pass of a list, and removes it.
 fn take_last<H: Front, R: Abort>(rt: &R, monitor: &Monitor<H>, passes: &mut Vec<Pass>) -> Pass
     requires { All (λ p. p.lock ≡ monitor.now) passes.old.items }
     ensures own { result.lock ≡ monitor.now }
@@ -90,7 +91,7 @@ fn take_last<H: Front, R: Abort>(rt: &R, monitor: &Monitor<H>, passes: &mut Vec<
     passes.pop().expect(rt, "a pass")
 }
 
-/// Puts a pass behind the others.
+/// Appends a pass to the others.
 fn put_last<H: Front, R: Abort>(rt: &R, monitor: &Monitor<H>, passes: &mut Vec<Pass>, pass: Pass)
     requires own { pass.lock ≡ monitor.now }
     requires others { All (λ p. p.lock ≡ monitor.now) passes.old.items }
@@ -135,7 +136,7 @@ fn act<H: Front, R: Abort + Wait + Clock>(
     }
 }
 
-/// Makes rows by one thread, each by the pass at the place of its seat, or by the only one.
+/// Makes the calls of rows in one thread, each with the pass at the place of its seat, or with the only one.
 fn act_all<H: Front, R: Abort + Wait + Clock>(
     rt: &R,
     monitor: &Monitor<H>,
@@ -161,7 +162,7 @@ fn act_all<H: Front, R: Abort + Wait + Clock>(
     }
 }
 
-/// What the last seat and the others do, each in a thread.
+/// Makes the calls of the last seat in one thread, and those of the others in another.
 fn act_in_threads<H: Front + Send, R: Abort + Threads + Wait + Clock + Sync>(
     rt: &R,
     monitor: &Monitor<H>,
@@ -203,7 +204,7 @@ fn act_in_threads<H: Front + Send, R: Abort + Threads + Wait + Clock + Sync>(
     )
 }
 
-/// Has the last seat act in a thread of its own.
+/// Makes the calls of the last seat in a thread of its own.
 fn act_apart<H: Front + Send, R: Abort + AllocGlobal + Threads + Wait + Clock + Sync>(
     rt: &R,
     monitor: &Monitor<H>,
@@ -224,7 +225,7 @@ fn act_apart<H: Front + Send, R: Abort + AllocGlobal + Threads + Wait + Clock + 
     passes
 }
 
-/// Closes the monitor of a tale, or is refused, since a pass is missing. Then the others go on.
+/// Closes the monitor of a tale. If a pass is missing the close fails, and then the others go on.
 fn end<H: Front, R: Abort + AllocGlobal + Wait + Clock>(
     rt: &R,
     monitor: Monitor<H>,

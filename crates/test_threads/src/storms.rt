@@ -1,5 +1,5 @@
 //! Storms: thousands of calls or steps at one object, by a thread for each seat, while one more thread
-//! interrupts them. Each ends though nobody else does anything.
+//! interrupts them. Each call ends even if nobody else does anything.
 ghost use Rattle.std.specs.Prelude.{◌≡◌, ◌≤◌, ◌<◌, All};
 ghost use Rattle.history.specs.Header.{IsInRange};
 ghost use Rattle.monitor.specs.Stepping.{IsSame};
@@ -25,11 +25,11 @@ use std::time::{Clock, Duration};
 /// What the threads of a storm do.
 #[derive(Clone, Copy)]
 enum Way {
-    /// Calls by chance.
+    /// Pseudo-random calls.
     Calls,
-    /// Steps by chance, none of which waits for the object.
+    /// Pseudo-random steps, none of which waits for the critical section.
     Steps,
-    /// Each takes the lock and gives it back.
+    /// Each acquires the lock and releases it.
     Pairs,
 }
 
@@ -39,9 +39,9 @@ struct Storm {
     header: Header,
     /// How often each thread calls or steps.
     rounds: u32,
-    /// Calls that each thread repeats at its end until they are refused. So no thread waits for its holds.
+    /// Calls that each thread repeats at its end until they fail. So no thread waits for its holds.
     gives: &'static [Ask],
-    /// So many calls end, or more.
+    /// At least this number of calls end.
     least: u64,
 }
 
@@ -51,17 +51,17 @@ const BETWEEN: u64 = 700;
 /// More interrupts than are sent before the threads are done.
 const INTERRUPTS: u32 = 200_000;
 
-/// How often a call is made at the end. No seat has more holds.
+/// How often a call is made at the end. No seat has more holds than that.
 const MOST_HOLDS: u32 = 10_000;
 
-/// How often a thread asks a busy monitor again, or looks for another thread, a millisecond apart.
+/// How often a thread retries at a busy monitor, or checks for another thread, once a millisecond.
 const LOOKS: u32 = 10_000;
 
 fn rest<R: Clock>(rt: &R) {
     thread::sleep(rt, Duration::from_millis(1));
 }
 
-/// Steps once the monitor isn't busy.
+/// Steps when the monitor isn't busy.
 fn step_by_turn<H: Front, R: Abort + Clock>(
     rt: &R,
     monitor: &Monitor<H>,
@@ -81,7 +81,7 @@ fn step_by_turn<H: Front, R: Abort + Clock>(
     panic!(rt; "the monitor is always busy")
 }
 
-/// Whether a seat waits behind an answer. A fault leaves it as it was.
+/// Returns whether a seat waits after an answer. A fault leaves that as it was.
 fn waits_behind(answer: Result<Answer, Fault>, waited: bool) -> bool {
     match answer {
         Ok(Answer::Recorded(entry, _)) => {
@@ -92,7 +92,8 @@ fn waits_behind(answer: Result<Answer, Fault>, waited: bool) -> bool {
     }
 }
 
-/// Steps by chance, and then gives up what the seat waits for. One who slept waits for the lock.
+/// Makes pseudo-random steps, and then gives up what the seat waits for. A seat within an await waits for the
+/// lock.
 fn step_all<H: Front, R: Abort + Clock>(
     rt: &R,
     monitor: &Monitor<H>,
@@ -160,7 +161,7 @@ fn give_back<H: Front, R: Wait + Clock>(
     }
 }
 
-/// What a thread does once all threads are there, or are long in coming.
+/// The work of a thread after all threads have started, or took too long to.
 fn work<H: Front, R: Abort + Wait + Clock>(
     rt: &R,
     monitor: &Monitor<H>,
@@ -186,7 +187,7 @@ fn work<H: Front, R: Abort + Wait + Clock>(
     own
 }
 
-/// How many threads have come, and how many are done.
+/// How many threads have started, and how many are done.
 #[derive(Drop)]
 struct Counts {
     there: AtomicU32,
@@ -201,7 +202,7 @@ impl Counts {
         }
     }
 
-    /// Waits until so many threads are there, for a while.
+    /// Waits for a while until `seats` threads have started.
     fn start_together<R: Clock>(&self, rt: &R, seats: u32) {
         self.there.fetch_add(1, Ordering::SeqCst);
         for _ in 0..100 {
@@ -277,7 +278,7 @@ fn work_and_interrupt<H: Front + Send, R: Abort + Threads + Wait + Clock + Sync>
     worked
 }
 
-/// Whether nobody waits or holds a lock.
+/// Returns whether nobody waits or holds a lock.
 fn is_idle(judgement: &Judgement) -> bool {
     match judgement {
         Judgement::Legal(totals) => {
@@ -287,7 +288,7 @@ fn is_idle(judgement: &Judgement) -> bool {
     }
 }
 
-/// Then the monitor is closed and audited, and nobody waits or holds a lock.
+/// Runs a storm. Then the monitor is closed and audited, and nobody waits or holds a lock.
 fn rage<H: Front + Send, R: Abort + AllocGlobal + Threads + Wait + Clock + Sync>(
     rt: &R,
     storm: &Storm,
@@ -402,7 +403,7 @@ fn four_threads_call_a_latch_10_000_times(rt: HostRuntime) {
     storm_at(&rt, &LATCH);
 }
 
-// Of sixteen steps one or more ended a call.
+// At least one of sixteen steps ended a call.
 #[test]
 fn four_threads_step_each_object_10_000_times(rt: HostRuntime) {
     for calls in &[LOCK, READ_WRITE, SEMAPHORE] {
@@ -415,7 +416,7 @@ fn four_threads_step_each_object_10_000_times(rt: HostRuntime) {
     }
 }
 
-/// As many seats as there may be.
+/// The greatest number of seats.
 #[test]
 fn threads_of_256_seats_step_a_lock_40_times_each(rt: HostRuntime) {
     let steps = Storm {

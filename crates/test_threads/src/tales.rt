@@ -25,7 +25,7 @@ const HEARS: Call = Call::Park {
     interruptible: true,
 };
 
-/// So many milliseconds from the moment at which the clock stands.
+/// Milliseconds from the moment at which the clock stays.
 const A_MINUTE: u32 = 60_000;
 
 const TIMED: Call = Call::Park {

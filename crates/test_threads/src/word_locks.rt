@@ -1,4 +1,4 @@
-//! The lock under a monitor, by its tokens.
+//! The lock under a monitor, called with its tokens.
 
 mod meanwhile;
 pub mod notes;

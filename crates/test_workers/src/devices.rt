@@ -1,4 +1,4 @@
-//! Runs from bytes to bytes: devices that fail, and memory that is refused.
+//! Runs from bytes to bytes: devices that fail, and allocations that fail.
 
 use crate::runs::count_of;
 use run_text::RunText;
@@ -16,8 +16,8 @@ use tasks::run_script::run_script;
 use test_support::memory::Memory;
 use workers::{OpenGate, RunFault, run_threads};
 
-/// The calls of one thread at an object of each kind, two of which aren't recorded. Each object but the last
-/// is trimmed.
+/// The calls of one thread at an object of each kind. Two of their results aren't recorded. Each object
+/// except the last is trimmed.
 const SCRIPT: &str = "{\"objects\":[[\"a\",\"lock fair seats 1 conditions 1 cap 16\"],\
     [\"b\",\"semaphore nonfair seats 1 permits 2 cap 16\"],[\"c\",\"latch seats 1 count 3 cap 16\"],\
     [\"d\",\"rw nonfair seats 1 conditions 0 cap 16\"]],\"threads\":[{\"repeat\":1,\
@@ -38,17 +38,17 @@ const WRITTEN: &str = "object a\naqs-history 2 lock fair seats 1 conditions 1 ca
     object d\naqs-history 1 rw nonfair seats 1 conditions 0 cap 16\n0 0 got s 1\nend 1 1\n\
     legal\nentries 1\ncalls 1\nholds x 0 s 1 line 0 sleepers 0\nshares 1\nunrecorded 2\n";
 
-/// Places for more than is ever written.
+/// More bytes than are ever written.
 const PLACES: usize = 4096;
 
-/// So many bytes go through a device at once: one.
+/// How many bytes go through a device at once.
 const PIECE: usize = 1;
 
 /// More reads and writes than there are.
 const MOST: u64 = 2000;
 
-/// Runs the script over devices whose reads or writes of these numbers fail. How it ended; what it wrote is
-/// left.
+/// Runs the script over devices whose reads or writes of these numbers fail. Returns how it ended; what it
+/// wrote stays.
 fn run_over<R: Abort + Threads + Wait + Clock + AllocGlobal + Sync>(
     rt: &R,
     failing_read: Option<u64>,
@@ -65,8 +65,8 @@ fn run_over<R: Abort + Threads + Wait + Clock + AllocGlobal + Sync>(
     ended
 }
 
-/// Whether a run is whole whose read or write of this number fails. If not, that is told, and a front of the
-/// run text was written: nothing if a read failed.
+/// Returns whether a run is complete if the read or write of this number fails. If not, that fault is
+/// returned, and only the first bytes of the run text were written; none if a read failed.
 fn is_whole<R: Abort + Threads + Wait + Clock + AllocGlobal + Sync>(
     rt: &R,
     number: u64,
@@ -115,8 +115,8 @@ fn each_write_of_a_run_text_fails_in_turn(rt: HostRuntime) {
     fail_each(&rt, false);
 }
 
-/// Whether the text of a run finds its memory in so many pieces of 256 bytes. It is written with no memory
-/// left, to a place that is there.
+/// Returns whether there is memory for the text of a run in this number of pieces of 256 bytes. It is written
+/// to reserved bytes, with no memory left.
 fn is_spelt<R: Abort + Threads + Wait + Clock + AllocGlobal + Sync>(
     rt: &R,
     script: &Script,
@@ -142,9 +142,9 @@ fn is_spelt<R: Abort + Threads + Wait + Clock + AllocGlobal + Sync>(
     }
 }
 
-/// How many pieces are given back in a turn: each number below 32, and each from 240 on. From one to the other
-/// a run lacks memory for its lines alone, whose buffer takes 256. The pieces are adjacent, so more of them
-/// make a larger request possible.
+/// Returns how many pieces are freed in a turn: each number below 32, and each from 240 on. Between the two a
+/// run lacks memory only for its lines, whose buffer takes 256. The pieces are adjacent, so more of them make
+/// a larger request possible.
 fn pieces_in(turn: usize) -> usize {
     if turn < 32 {
         turn
@@ -153,7 +153,7 @@ fn pieces_in(turn: usize) -> usize {
     }
 }
 
-/// Runs the script over bytes that take no memory of their own. How it ended; what it wrote is left.
+/// Runs the script over bytes that need no memory of their own. Returns how it ended; what it wrote stays.
 fn run_within<R: Threads + Wait + Clock + AllocGlobal + Sync>(
     rt: &R,
     written: &mut Vec<u8>,
@@ -165,7 +165,8 @@ fn run_within<R: Threads + Wait + Clock + AllocGlobal + Sync>(
 
 #[test]
 fn the_text_of_a_run_lacks_memory(rt: HostRuntime) {
-    // The stack grows to its depth first: where it finds no memory the system ends the program.
+    // The stack grows to its full depth first: if there were no memory for it, the system would end the
+    // program.
     let mut written = Vec::with_capacity(rt.alloc(), PLACES).expect(&rt, "memory");
     assert!(rt; run_within(&rt, &mut written) == Ok(0));
     let script = read_script(rt.alloc(), SCRIPT.as_bytes()).expect(&rt, "a script");
@@ -177,8 +178,8 @@ fn the_text_of_a_run_lacks_memory(rt: HostRuntime) {
     panic!(rt; "never spelt")
 }
 
-/// Whether a run ended well. If it didn't, it lacked memory, and wrote nothing. Its thread lacks memory for
-/// each entry, as the module `memory` tells.
+/// Returns whether a run succeeded. If not, it lacked memory, and wrote nothing. Its thread lacks memory for
+/// each entry, as the module `memory` explains.
 fn is_run<R: Abort>(rt: &R, ended: Result<u8, Fault>, written: &[u8]) -> bool {
     match ended {
         Ok(status) => {
@@ -194,7 +195,7 @@ fn is_run<R: Abort>(rt: &R, ended: Result<u8, Fault>, written: &[u8]) -> bool {
     }
 }
 
-/// The same in so many pieces of memory, each of 256 bytes.
+/// The same with this number of free pieces, each of 256 bytes.
 fn is_run_in<R: Abort + Threads + Wait + Clock + AllocGlobal + Sync>(
     rt: &R,
     written: &mut Vec<u8>,
@@ -206,7 +207,7 @@ fn is_run_in<R: Abort + Threads + Wait + Clock + AllocGlobal + Sync>(
     is_run(rt, ended, written)
 }
 
-/// Each run has more pieces than the one before. With all memory again it is whole.
+/// Each run has more pieces than the one before. With all memory again it is complete.
 #[test]
 fn a_whole_run_lacks_memory(rt: HostRuntime) {
     let mut written = Vec::with_capacity(rt.alloc(), PLACES).expect(&rt, "memory");

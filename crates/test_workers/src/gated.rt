@@ -1,4 +1,4 @@
-//! What gates see, and what they stop.
+//! What gates see, and which calls they refuse.
 
 use crate::gates::{Tally, Turns};
 use crate::runs::{count_of, run};
@@ -53,8 +53,8 @@ fn a_gate_sees_the_calls_of_all_rounds_and_the_lowest_worker_that_it_stops_is_to
     assert_eq!(rt; tally.gone(), 32);
 }
 
-/// Thread 0 sleeps on condition 0 until thread 1 signals it, and thread 1 on condition 1 until thread 0 does.
-/// Nobody signals thread 2. Thread 1 trims while thread 0 sleeps.
+/// Thread 0 waits on condition 0 until thread 1 signals it, and thread 1 on condition 1 until thread 0 does.
+/// Nobody signals thread 2. Thread 1 trims while thread 0 waits.
 const CONDITIONS: &str = r#"{"objects":[["a","lock nonfair seats 3 conditions 3 cap 64"]],
  "threads":[{"repeat":1,"calls":["a acquire x 1","a await 0","a signal 1","a give x 1"]},
  {"repeat":1,"calls":["a acquire x 1","a trim","a signal 0","a await 1","a give x 1","interrupt 2"]},
@@ -70,7 +70,7 @@ fn sleepers_are_woken_by_signals_and_by_an_interrupt(rt: HostRuntime) {
     assert_eq!(rt; count_of(&written, " 1 back 1 1 signalled\n"), 1);
     let part = "calls 11\nholds x 0 s 0 line 0 sleepers 0\nshares 11\nunrecorded 0\n";
     assert!(rt; written.ends_with(part.as_bytes()));
-    // Seat 0 sleeps with one hold, and seat 1 got the lock at once or was in line before that.
+    // Seat 0 waits with one hold given up. Seat 1 got the lock at once, or was in the queue before that.
     let base = "seat 0 calls 1 x 0 s 0\nseat 1 calls 1 x 1 s 0\n";
     assert_eq!(rt;
         (
@@ -81,7 +81,7 @@ fn sleepers_are_woken_by_signals_and_by_an_interrupt(rt: HostRuntime) {
     );
 }
 
-/// The calls of two threads in an order that is known. The first trim of all folds nothing.
+/// The calls of two threads in a known order. The very first trim folds nothing.
 const PERMITS: &str = r#"{"objects":[["a","semaphore nonfair seats 2 permits 9 cap 16"]],
  "threads":[{"repeat":1,"calls":["a trim","a acquire s 2","a trim","a give s 1"]},
  {"repeat":1,"calls":["a drain","a trim","a give s 8","a try s 3"]}]}"#;

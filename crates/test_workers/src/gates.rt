@@ -7,11 +7,11 @@ use std::thread;
 use std::time::{Clock, Duration};
 use workers::Gate;
 
-/// How often a worker looks for its turn, a millisecond apart. Then the gate is shut, so that workers that run
-/// one after another fail and don't hang.
+/// How often a worker checks for its turn, once a millisecond. After that the gate is shut, so that workers
+/// that run one after another fail and don't hang.
 const LOOKS: u32 = 10_000;
 
-/// Lets one call go at a time: the workers take turns in this order. Behind the last turn it is open or shut.
+/// Lets one call go at a time: the workers take turns in this order. After the last turn it is open or shut.
 #[derive(Drop)]
 pub struct Turns {
     order: &'static [u16],
@@ -28,7 +28,7 @@ impl Turns {
         }
     }
 
-    /// How many calls were answered.
+    /// Returns how many calls have returned.
     pub fn made(&self) -> u64 {
         self.made.load(Ordering::SeqCst)
     }
@@ -53,7 +53,7 @@ impl Gate for Turns {
     }
 }
 
-/// What a gate was asked and told by one worker, which may make so many calls.
+/// What one worker asked the gate and notified it of. The worker may make `limit` calls.
 #[derive(Drop)]
 struct Count {
     limit: u64,
@@ -71,8 +71,8 @@ impl Count {
     }
 }
 
-/// Lets each of the first four workers make so many calls, and all others any number. It counts what it is
-/// asked and told. Calls whose numbers aren't the next from 0 on are astray.
+/// Lets each of the first four workers make a limited number of calls, and all others any number. It counts
+/// what it is asked and notified of. Calls whose numbers aren't the next from 0 on are astray.
 #[derive(Drop)]
 pub struct Tally {
     counts: [Count; 4],
@@ -89,8 +89,8 @@ impl Tally {
         }
     }
 
-    /// Whether the four workers asked for so many calls, so many of which were answered, and told the next
-    /// number each time.
+    /// Returns whether the four workers asked for these numbers of calls, of which these numbers have
+    /// returned, and gave the next number each time.
     pub fn has_counted(&self, asked: [u64; 4], answered: [u64; 4]) -> bool {
         let [a, b, c, d] = &self.counts;
         let are_asked = [a, b, c, d].map(|count| count.asked.load(Ordering::SeqCst)) == asked;
@@ -99,7 +99,7 @@ impl Tally {
         are_asked && are_answered && self.astray.load(Ordering::SeqCst) == 0
     }
 
-    /// How many calls it let go.
+    /// Returns how many calls it let go.
     pub fn gone(&self) -> u64 {
         self.gone.load(Ordering::SeqCst)
     }

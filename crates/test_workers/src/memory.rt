@@ -1,10 +1,10 @@
 //! Runs that lack memory.
 //!
-//! A test takes all memory first, a part of it as pieces, and gives these back one by one. So what a run asks
-//! for is refused for true. Since a turn gives back one piece, a run that kept memory when refused would
-//! never be whole.
+//! A test takes all memory first, a part of it as pieces, and frees these one by one. So the allocations of a
+//! run really fail. Since a turn frees one piece, a run that leaked memory when it failed would never be
+//! complete.
 //!
-//! The system keeps the thread of a run that has ended, with its stack, and lends it to the next. It has no
+//! The system keeps the thread of a run that has ended, with its stack, and uses it for the next. It has no
 //! heap for that thread while the test has all memory, so the calls of such a thread lack memory to the end.
 
 use crate::gates::Tally;
@@ -21,19 +21,20 @@ use workers::{Gate, OpenGate, RunFault, run_threads};
 /// The stack of a thread fits in a piece of this size.
 const WIDE: usize = 1 << 24;
 
-/// Each request of a run takes a piece of this size or more.
+/// The least size of a piece that a request of a run takes.
 const FINE: usize = 16;
 
 /// More pieces than a run needs.
 const MOST: u32 = 4096;
 
-/// The halves of a thread around the number of one that it interrupts.
+/// The halves of a thread's text, before and after the number of the thread that it interrupts.
 const THREAD: (&str, &str) = (
     "{\"repeat\":1,\"calls\":[\"a acquire x 1\",\"interrupt ",
     "\",\"a give x 1\"]}",
 );
 
-/// How a run ends: how many calls its history has and how many weren't recorded, or why there is none.
+/// Returns how a run ends: how many calls its history has and how many results weren't recorded, or why there
+/// is no history.
 fn ended<G: Gate + Sync, R: Threads + Wait + Clock + AllocGlobal + Sync>(
     rt: &R,
     script: &Script,
@@ -46,7 +47,7 @@ fn ended<G: Gate + Sync, R: Threads + Wait + Clock + AllocGlobal + Sync>(
     }
 }
 
-/// The script of so many threads at one lock.
+/// Returns the script of `threads` threads at one lock.
 fn script_for<R: Abort + AllocGlobal>(rt: &R, threads: u32) -> Script {
     let lock = format!(in rt.alloc();
         "[\"a\",\"lock fair seats {threads} conditions 0 cap 1000\"]"
@@ -56,8 +57,8 @@ fn script_for<R: Abort + AllocGlobal>(rt: &R, threads: u32) -> Script {
     read_script(rt.alloc(), text.as_bytes()).expect(rt, "a script")
 }
 
-/// Whether all threads of a script were started and have called. If the system refused a thread, nobody has
-/// called. Of the workers whose thread was refused `last` is the greatest.
+/// Returns whether all threads of a script were started and have called. If the system refused a thread,
+/// nobody has called. `last` is the greatest number of a worker whose thread was refused.
 fn are_started<R: Abort + Threads + Wait + Clock + AllocGlobal + Sync>(
     rt: &R,
     script: &Script,
@@ -82,11 +83,11 @@ fn are_started<R: Abort + Threads + Wait + Clock + AllocGlobal + Sync>(
     }
 }
 
-/// Each piece that is given back has place for the stack of one thread or two.
+/// Each piece that is freed has room for the stack of one thread or two.
 #[test]
 fn nobody_makes_a_call_unless_all_threads_were_started(rt: HostRuntime) {
-    // The stack grows to its depth first: where it finds no memory the system ends the program. One thread is
-    // enough for that, and the system keeps no more stacks than its own.
+    // The stack grows to its full depth first: if there were no memory for it, the system would end the
+    // program. One thread is enough for that, and the system keeps no more stacks than its own.
     assert!(rt; ended(&rt, &script_for(&rt, 1), &OpenGate) == Ok((2, 0)));
     let script = script_for(&rt, 16);
     let mut memory = Memory::take_all(rt.alloc(), WIDE).expect(&rt, "memory");
@@ -101,7 +102,7 @@ fn nobody_makes_a_call_unless_all_threads_were_started(rt: HostRuntime) {
     panic!(rt; "never run")
 }
 
-/// How often a run of one thread is refused. Then its calls lack memory.
+/// Returns how often a run of one thread fails. After that its calls lack memory.
 fn refusals_of<R: Abort + Threads + Wait + Clock + AllocGlobal + Sync>(
     rt: &R,
     script: &Script,
@@ -120,7 +121,7 @@ fn refusals_of<R: Abort + Threads + Wait + Clock + AllocGlobal + Sync>(
     panic!(rt; "never run")
 }
 
-/// Each request of the first thread is refused in turn. With memory again the same run has all calls.
+/// Each allocation of the first thread fails in turn. With memory again the same run has all calls.
 #[test]
 fn each_request_of_a_run_is_refused(rt: HostRuntime) {
     let script = script_for(&rt, 1);

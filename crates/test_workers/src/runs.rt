@@ -1,4 +1,4 @@
-//! Runs of scripts, and what is written of them.
+//! Runs of scripts, and their texts.
 
 ghost use Rattle.std.specs.Prelude.{◌<◌};
 
@@ -11,7 +11,8 @@ use std::time::Clock;
 use streams::device::Device;
 use workers::{Gate, RunFault, run_threads};
 
-/// Runs the script of a text, and writes the run text in place of what was there. Says why there is none.
+/// Runs the script of a text, and writes the run text over what was there. Returns the fault if there is
+/// none.
 pub fn run<G: Gate + Sync, R: Abort + Threads + Wait + Clock + AllocGlobal + Sync>(
     rt: &R,
     text: &str,
@@ -30,14 +31,14 @@ pub fn run<G: Gate + Sync, R: Abort + Threads + Wait + Clock + AllocGlobal + Syn
     None
 }
 
-/// How often a part stands in a text.
+/// Returns how often a part is in a text.
 pub fn count_of(text: &[u8], part: &str) -> usize {
     (0..text.len())
         .filter(|at| text[*at..].starts_with(part.as_bytes()))
         .count()
 }
 
-/// So many texts in a list. Between the two halves of each stands its number, below `end` by turns.
+/// Returns a list of `count` texts. Between the two halves of each is its number, below `end` in turn.
 pub fn list_of<R: Abort + AllocGlobal>(rt: &R, halves: (&str, &str), count: u32, end: u32) -> String
     requires { 0 < end }
 {
@@ -52,7 +53,7 @@ pub fn list_of<R: Abort + AllocGlobal>(rt: &R, halves: (&str, &str), count: u32,
     list
 }
 
-/// A script of these objects and threads.
+/// Returns a script of these objects and threads.
 pub fn script_of<R: Abort + AllocGlobal>(rt: &R, objects: &str, threads: &str) -> String {
     format!(in rt.alloc(); "{{\"objects\":[{objects}],\"threads\":[{threads}]}}").expect(
         rt, "memory",

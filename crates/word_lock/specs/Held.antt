@@ -1,4 +1,4 @@
--- A token while it has the value out.
+-- A token while it has taken the value.
 use Rattle.std.specs.Prelude.{false}
 use Rattle.word_lock.specs.declared.held.Held.{Held}
 use Rattle.word_lock.specs.Ticket.{Ticket, ticket}

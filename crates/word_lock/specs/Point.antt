@@ -1,6 +1,5 @@
--- Points: what a value shows, how one point follows another, and what one seat has of a point.
--- The proof of the lock reads none of these definitions. It rests on the laws of proofs/PointLaws.antt,
--- so a point may come to be made of something else.
+-- Points: what a value shows, how points are ordered, and what a point has of one seat. The proof of the lock
+-- doesn't use these definitions. It uses the laws of proofs/PointLaws.antt, so a point may be redefined.
 use Rattle.std.specs.Prelude.{◌≡◌, ◌⊎◌, ℕ, ◌-◌, List, [], ◌++◌, length, take}
 use Rattle.std.specs.List.{AllByRecursion}
 use Rattle.history.specs.declared.entry.Entry.{Entry}
@@ -11,19 +10,19 @@ use Rattle.history.specs.Base.{folded, opening_base}
 use Rattle.history.specs.Point as points
 use Rattle.history.specs.Point.{CanFold, ComesBefore}
 
--- the header, which stays as it was at the opening
+-- the header, which never changes
 unfoldable pub header_of : Point → Header
 header_of p = p.base.header
 
--- p comes before q: the list only grew, or was folded into the base with what was added
+-- p comes before q: entries were added, or all were folded into the base
 unfoldable pub Before : Point → Point → Type 0
 Before p q = ComesBefore p q
 
--- `es` is what the point has of the seat
+-- the point agrees with `es`, the entries of the seat
 unfoldable pub Agrees : Point → ℕ → List Entry → Type 0
 Agrees p seat es = points.Agrees p seat es
 
--- what q has in front of p; nothing where the list was folded
+-- the entries of q that p doesn't have; none if the list was folded
 unfoldable pub added : Point → Point → List Entry
 added p q = take (length q.entries - length p.entries) q.entries
 
@@ -31,13 +30,13 @@ added p q = take (length q.entries - length p.entries) q.entries
 unfoldable pub AllOfSeat : ℕ → List Entry → Type 0
 AllOfSeat seat es = AllByRecursion (λ e. e.seat ≡ seat) es
 
--- What the seat took at p it may give back at q: entries of the seat were added, or the list was folded.
+-- A seat that took p may put back q: entries of the seat were added, or the list was folded.
 unfoldable pub Follows : ℕ → Point → Point → Type 0
 Follows seat p q =
     ((q.base ≡ p.base) × (q.entries ≡ added p q ++ p.entries) × AllOfSeat seat (added p q))
     ⊎ (CanFold p.base p.entries × (q.base ≡ folded p.base p.entries) × (q.entries ≡ []))
 
--- a point that stands where nobody looks
+-- the stand-in for a point that nobody reads
 abbrev pub blank_point : Point
 blank_point =
     record {

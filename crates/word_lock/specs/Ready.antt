@@ -1,8 +1,8 @@
--- A token with which one seat may step.
+-- A token with which one seat may take the lock.
 use Rattle.std.specs.Prelude.{◌≡◌, ℕ, true, length}
 use Rattle.word_lock.specs.Ticket.{LockId, Ticket, first_seat}
 
--- the token is this lock's and free, and stands for the one seat
+-- the token is free, belongs to this lock, and has just this seat
 pub record IsReady (lock : LockId) (seat : ℕ) (t : Ticket) : Type 0 where
   pub own : t.lock ≡ lock
   pub free : t.free ≡ true

@@ -1,5 +1,5 @@
--- The rule of the lock, which holds between any two steps, and what each kind of step tells the token that
--- makes it.
+-- The rule of the lock, which holds between any two steps, and what the token that makes a step learns from
+-- it.
 use Rattle.std.specs.Prelude.{◌≡◌, ◌≢◌, ◌⊎◌, ℕ, zero, suc, true, false, List, [], ◌∷◌, ◌++◌, map, length, take, drop, Some}
 use Rattle.std.specs.declared.option.Option.{Option as Maybe}
 use mathlib.Core.Option.{none, some}
@@ -11,12 +11,12 @@ use Rattle.word_lock.specs.declared.view.SeatLog.{SeatLog}
 use Rattle.word_lock.specs.declared.view.View.{View}
 use Rattle.word_lock.specs.Point.{header_of, Before, Agrees, added, blank_point}
 
--- logs with no entry, of the n seats from k on
+-- empty logs of the n seats from k on
 abbrev pub empty_logs : ℕ → ℕ → List SeatLog
 empty_logs k zero = []
 empty_logs k (suc n) = record { seat = k; entries = [] } ∷ empty_logs (suc k) n
 
--- the view from which the tokens of the n seats from k on are split, one by one; with n = 1 it is a token's
+-- the view from which the tokens of the n seats from k on are split, one by one; for n = 1 it is a token's
 -- first view
 abbrev pub dealing_view : ℕ → ℕ → Point → View
 dealing_view k n p =
@@ -26,7 +26,7 @@ dealing_view k n p =
 abbrev pub first_view : Point → ℕ → View
 first_view p n = dealing_view 0 n p
 
--- after the exchange that wins
+-- the view after an exchange that succeeds
 abbrev pub view_after_take : View → Point → View
 view_after_take v p =
     record { logs = v.logs; split_at = v.split_at; seen = p; joined = v.joined; holds = true; live = v.live }
@@ -34,7 +34,7 @@ view_after_take v p =
 abbrev pub with_added : List Entry → SeatLog → SeatLog
 with_added es l = record { seat = l.seat; entries = es ++ l.entries }
 
--- after the store
+-- the view after the store
 abbrev pub view_after_give : View → Point → View
 view_after_give v p =
     record {
@@ -46,12 +46,12 @@ view_after_give v p =
       live = v.live;
     }
 
--- after a look
+-- the view after a look
 abbrev pub view_after_look : View → Point → View
 view_after_look v p =
     record { logs = v.logs; split_at = v.split_at; seen = p; joined = []; holds = v.holds; live = v.live }
 
--- what stays where a token is split
+-- the view that is left after a split
 abbrev pub rest_of_view : View → View
 rest_of_view v =
     record {
@@ -63,7 +63,7 @@ rest_of_view v =
       live = v.live;
     }
 
--- what the new token gets
+-- the view of the new token
 abbrev pub front_of_view : View → View
 front_of_view v =
     record {
@@ -75,7 +75,7 @@ front_of_view v =
       live = v.live;
     }
 
--- a split gives the two parts back
+-- the joined view; joining the two views of a split gives the first one again
 abbrev pub joined_view : View → View → View
 joined_view v w =
     record {
@@ -87,11 +87,11 @@ joined_view v w =
       live = v.live;
     }
 
--- what is left of a token that was joined to another
+-- the view that is left of a token that was joined to another
 abbrev pub spent_view : View
 spent_view = record { logs = []; split_at = 0; seen = blank_point; joined = []; holds = false; live = false }
 
--- each log has the entries of its seat in this point
+-- each log has its seat's entries in this point
 abbrev pub AllAgree : Point → List SeatLog → Type 0
 AllAgree p logs = (k : ℕ) (l : SeatLog) → get_elem? logs k ≡ some l → Agrees p l.seat l.entries
 
@@ -104,8 +104,8 @@ AreDistinct logs = (j k : ℕ) (l m : SeatLog) → get_elem? logs j ≡ some l �
 abbrev pub AllBefore : List Point → Point → Type 0
 AllBefore ps p = (k : ℕ) (q : Point) → get_elem? ps k ≡ some q → Before q p
 
--- what the rule says of the view `id`, where the value shows `now`. `place` has for each seat the view that
--- its log is in, and the log's index there
+-- what the rule says of the view `id`, if the value shows `now`; for each seat `place` has the view that its
+-- log is in, and the log's index there
 pub record IsKnownBy (place : ℕ → ℕ × ℕ) (now : Point) (id : ℕ) (v : View) : Type 0 where
   pub seen : v.live ≡ true → Before v.seen now
   pub joined : v.live ≡ true → AllBefore v.joined now
@@ -134,13 +134,13 @@ pub record IsFree {T : Type 0} (point : T → Point) (fact : T → Type 0) (now 
   pub shows : point value ≡ now
   pub free : NoneHolds s.views
 
--- the word is 1: the slot is out with one view
+-- the word is 1: one view has taken the value
 pub record IsTaken {T : Type 0} (now : Point) (s : State (Maybe T) View) : Type 0 where
   pub word : s.words ≡ 1 ∷ []
   pub home : s.homes ≡ none ∷ []
   pub held : OneHolds s.views now
 
--- the rule of a lock that was opened at `start`; `now` is what the value shows at home, or showed when it
+-- the rule of a lock that was opened at `start`; `now` is what the value in the slot shows, or showed when it
 -- was taken
 pub record RuleHolds {T : Type 0} (point : T → Point) (fact : T → Type 0) (sound : Point → Type 0)
     (start : Point) (s : State (Maybe T) View) : Type 0 where
@@ -151,7 +151,7 @@ pub record RuleHolds {T : Type 0} (point : T → Point) (fact : T → Type 0) (s
   pub known : (id : ℕ) (v : View) → get_elem? s.views id ≡ some v → IsKnownBy place now id v
   pub word : IsFree point fact now s ⊎ IsTaken now s
 
--- what one who has taken the value x knows of it, having come with the view v
+-- what a token that had the view v knows of the value x that it has taken
 pub record IsFound {T : Type 0} (point : T → Point) (fact : T → Type 0) (v : View) (x : T) : Type 0 where
   pub meets : fact x
   pub header : header_of (point x) ≡ header_of v.seen
@@ -159,7 +159,7 @@ pub record IsFound {T : Type 0} (point : T → Point) (fact : T → Type 0) (v :
   pub agrees : AllAgree (point x) v.logs
   pub distinct : AreDistinct v.logs
 
--- the exchange found 0 and the value is out with this seat, or it found another number and nothing changed
+-- the exchange found 0 and this seat has taken the value, or it found another number and nothing changed
 abbrev pub TellsTake : {T : Type 0} → (T → Point) → (T → Type 0) → Step (Maybe T) → Me (Maybe T) View → ℕ →
     Me (Maybe T) View → Type 0
 TellsTake {T} point fact st m found m' =
@@ -167,13 +167,13 @@ TellsTake {T} point fact st m found m' =
     IsFound point fact m.0 x)
     × (found ≢ 0 → m' ≡ m)
 
--- the value that was out with this seat is at home again
+-- the value that this seat had taken is in the slot again
 abbrev pub TellsGive : {T : Type 0} → (T → Point) → Step (Maybe T) → Me (Maybe T) View → ℕ →
     Me (Maybe T) View → Type 0
 TellsGive {T} point st m found m' =
     (x : T) → m.1 ≡ (0, Some x) ∷ [] → m' ≡ (view_after_give m.0 (point x), [])
 
--- p is what the value at home shows, or showed when it was taken
+-- p is what the value in the slot shows, or showed when it was taken
 pub record IsLookedAt (sound : Point → Type 0) (v : View) (p : Point) : Type 0 where
   pub is_sound : sound p
   pub seen : Before v.seen p

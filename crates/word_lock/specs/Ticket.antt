@@ -17,8 +17,8 @@ pub record LockId : Type 0 where
 abbrev pub lock_id : TableId → Point → LockId
 lock_id table p = record { table = table; header = header_of p }
 
--- the lock that a token is of, whether it has nothing out, the entries that each of its seats has added,
--- and what it has seen
+-- the lock that a token belongs to, whether it has not taken the value, the entries that each of its seats
+-- has added, and what it has seen
 pub record Ticket : Type 0 where
   pub lock : LockId
   pub free : Bool
@@ -28,7 +28,7 @@ pub record Ticket : Type 0 where
 abbrev pub ticket : TableId → Bool → View → Ticket
 ticket table free v = record { lock = lock_id table v.seen; free = free; logs = v.logs; seen = v.seen }
 
--- the view of a badge, which has one or none
+-- the view of a badge, or a spent one if it has none
 abbrev pub view_of_badge : List View → View
 view_of_badge [] = spent_view
 view_of_badge (v ∷ vs) = v
@@ -37,8 +37,7 @@ abbrev pub badge_when : Bool → View → List View
 badge_when true v = v ∷ []
 badge_when false v = []
 
--- a token that is free has a view, which holds nothing and has looked since it was joined; one that isn't
--- has none
+-- a free token has a view, which holds nothing and has looked since it was joined; any other token has none
 pub record IsTokenInside (views : List View) (free : Bool) : Type 0 where
   pub has_view : views ≡ badge_when free (view_of_badge views)
   pub holds : (view_of_badge views).holds ≡ false
@@ -56,7 +55,7 @@ pub record IsSeatOf (table : TableId) (v : View) (t : Ticket) : Type 0 where
   pub logs_are : v.logs ≡ t.logs
   pub seen_is : v.seen ≡ t.seen
 
--- the first log: the only one of a token that no other was joined to
+-- the seat of the first log, the only log of a token unless another was joined to it
 abbrev pub first_seat : List SeatLog → ℕ
 first_seat [] = 0
 first_seat (l ∷ ls) = l.seat
@@ -75,11 +74,11 @@ abbrev pub opening_tickets : LockId → Point → ℕ → ℕ → List Ticket
 opening_tickets lock p k zero = []
 opening_tickets lock p k (suc n) = opening_ticket lock k p ∷ opening_tickets lock p (suc k) n
 
--- after a lock that found the point p
+-- the ticket after a lock that found the point p
 abbrev pub after_lock : Ticket → Point → Ticket
 after_lock t p = record { lock = t.lock; free = false; logs = t.logs; seen = p }
 
--- after an unlock, of a token with one seat, that gave back the point p
+-- the ticket, of one seat, after an unlock that put back the point p
 abbrev pub after_unlock : Ticket → Point → Ticket
 after_unlock t p =
     record {
@@ -89,6 +88,6 @@ after_unlock t p =
       seen = p;
     }
 
--- after a meeting at which p was seen
+-- the ticket after a meeting at which p was seen
 abbrev pub after_meet : Ticket → Point → Ticket
 after_meet t p = record { lock = t.lock; free = t.free; logs = t.logs; seen = p }

@@ -1,4 +1,4 @@
-//! The table of a lock, and how its tokens are dealt.
+//! The table of a lock, and how its tokens are made.
 ghost use Rattle.std.specs.Prelude.{◌≡◌, ℕ, ◌<◌, ◌≤◌, [], false, IfOk, IfErr, vec_len, vec_capacity};
 ghost use Rattle.word_lock.specs.Point.{Agrees};
 ghost use Rattle.word_lock.specs.Rule.{dealing_view, rest_of_view, front_of_view};
@@ -16,7 +16,8 @@ pub(crate) type LockTable<T> = Table<Option<T>, View, Opening<T>, LockRule, Glob
 
 pub(crate) type LockShared<T> = Shared<Option<T>, View, Opening<T>, LockRule>;
 
-// A table with the value at home, and a token for each seat, in order. All memory of a lock is taken here.
+// Returns a table with the value in its slot, and a token for each seat, in order. All memory of a lock is
+// allocated here.
 pub(crate) fn make_table<T: Chronicle>(
     alloc: Global,
     value: T,
@@ -54,7 +55,7 @@ pub(crate) fn make_table<T: Chronicle>(
     }
 }
 
-// Gives each seat a token of its own.
+// Makes a token for each seat.
 fn deal<T: Chronicle>(
     shared: &LockShared<T>,
     first: Seat<Option<T>, View>,
@@ -76,7 +77,7 @@ fn deal<T: Chronicle>(
     tokens.push_reserved(Token::of(last));
 }
 
-// The first logs of a view go to a seat of their own.
+// Splits the first logs of a view off into a token of their own.
 pub(crate) fn split_token<T: Chronicle>(
     shared: &LockShared<T>,
     seat: &mut Seat<Option<T>, View>,

@@ -1,10 +1,10 @@
-//! A value that is out.
+//! A value while it is taken.
 ghost use Rattle.std.specs.Prelude.{◌≡◌, true, [], ◌∷◌, None};
 
 use crate::view::View;
 use atomic_table::Seat;
 
-/// The value of a lock, taken by a token. It must be given back by `unlock`.
+/// The value of a lock, taken by a token. Return it with `unlock`.
 pub struct Held<T> {
     pub value: T,
     pub(crate) seat: Seat<Option<T>, View>,

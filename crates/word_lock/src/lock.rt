@@ -1,4 +1,4 @@
-//! The lock. What its rule says and why each step keeps it stands at the head of the crate.
+//! The lock. The head of the crate says what its rule is and why each step keeps it.
 ghost use Rattle.std.specs.Prelude.{◌≡◌, ℕ, true, false, List, [], ◌∷◌, ◌++◌, ◌<◌, length, Some, None, IfSome, IfNone, IfOk, IfErr};
 ghost use Rattle.word_lock.specs.Point.{header_of, Agrees, Before, Follows};
 ghost use Rattle.word_lock.specs.Rule.{view_after_take, view_after_give, AllAgree, AreDistinct, IsFound};
@@ -19,10 +19,10 @@ use std::hint::spin_loop;
 use std::marker::Model;
 use std::sync::Wait;
 
-// How often a thread looks at the word before it sleeps.
+// How often a thread reads the word before it sleeps.
 const LOOKS: u32 = 100;
 
-/// A value that one token at a time may have. A contract sees which lock it is, and the header of the
+/// A value that only one token at a time may have. Contracts see which lock it is, and the header of the
 /// value that it was opened with.
 #[derive(Drop)]
 pub struct WordLock<T: Chronicle> {
@@ -42,8 +42,8 @@ impl<T: Chronicle> Model for WordLock<T> {
 }
 
 impl<T: Chronicle> WordLock<T> {
-    /// The lock, and a token for each seat below `seats`, in order. No seat has an entry in the value.
-    /// Where memory is refused the value comes back.
+    /// Returns the lock, and a token for each seat below `seats`, in order. No seat may have an entry in the
+    /// value yet. If an allocation fails, the value is returned.
     pub fn open(
         alloc: Global,
         value: T,
@@ -65,8 +65,8 @@ impl<T: Chronicle> WordLock<T> {
         }
     }
 
-    /// Takes the value, and waits until it is there. A token that another was joined to has no one seat to
-    /// add as, and only [`close`](WordLock::close) takes it.
+    /// Takes the value, and waits until it is there. The token must have one seat: a token that another was
+    /// joined to can only be given to [`close`](WordLock::close).
     #[inline]
     pub fn lock<R: Wait>(&self, rt: &R, token: &mut Token) -> Held<T>
         requires own { token.old.lock ≡ self.now }
@@ -83,8 +83,8 @@ impl<T: Chronicle> WordLock<T> {
         self.wait_for_value(rt, token)
     }
 
-    /// Takes the value if it is there: one exchange, which waits for nobody. None changes nothing.
-    /// A token that another was joined to isn't taken.
+    /// Takes the value if it is there: one exchange, which waits for nobody. `None` changes nothing. The
+    /// token must have one seat, as for `lock`.
     #[inline(always)]
     pub fn lock_now(&self, token: &mut Token) -> Option<Held<T>>
         requires own { token.old.lock ≡ self.now }
@@ -102,8 +102,8 @@ impl<T: Chronicle> WordLock<T> {
         self.take_now(token)
     }
 
-    /// Gives the value back: what was added since it was taken is of the token's own seat. It wakes one
-    /// who sleeps, takes no memory and waits for nobody.
+    /// Puts the value back. What was added since it was taken must be of the token's own seat. It wakes one
+    /// sleeping thread, allocates nothing and waits for nobody.
     #[inline(always)]
     pub fn unlock(&self, token: &mut Token, held: Held<T>)
         requires own { (held_ticket held).lock ≡ self.now }
@@ -118,8 +118,9 @@ impl<T: Chronicle> WordLock<T> {
         self.wake();
     }
 
-    /// The same, but it wakes nobody. A static library may not wake; nobody may wait for the value there. Else
-    /// call [`wake`](WordLock::wake) soon, or who sleeps may sleep on.
+    /// As `unlock`, but it wakes nobody. It is for a static library, which may not wake: there nobody may
+    /// wait for the value. Elsewhere call [`wake`](WordLock::wake) soon after it, or a sleeping thread may
+    /// sleep on.
     #[inline(always)]
     pub fn unlock_quietly(&self, token: &mut Token, held: Held<T>)
         requires own { (held_ticket held).lock ≡ self.now }
@@ -135,7 +136,7 @@ impl<T: Chronicle> WordLock<T> {
         *token = Token::of(seat);
     }
 
-    /// Ties what two tokens have seen: both have then seen one list. It takes no memory and waits for nobody.
+    /// Lets two tokens see the same history. It allocates nothing and waits for nobody.
     pub fn meet(&self, one: Token, two: Token) -> (Token, Token)
         requires own { (one.lock ≡ self.now) × (two.lock ≡ self.now) }
         requires free { (one.free ≡ true) × (two.free ≡ true) }
@@ -150,7 +151,7 @@ impl<T: Chronicle> WordLock<T> {
         (Token::of(first), Token::of(second))
     }
 
-    /// One token with the seats of both, which serves `join` and `close` alone. It takes no memory and
+    /// Returns one token with the seats of both. Only `join` and `close` accept it. It allocates nothing and
     /// waits for nobody.
     pub fn join(&self, one: Token, two: Token) -> Token
         requires own { (one.lock ≡ self.now) × (two.lock ≡ self.now) }
@@ -178,7 +179,7 @@ impl<T: Chronicle> WordLock<T> {
         value
     }
 
-    // Takes the value by any token, and waits until it is there.
+    // Takes the value with any token, and waits until it is there.
     #[inline]
     fn wait_for_value<R: Wait>(&self, rt: &R, token: &mut Token) -> Held<T>
         requires own { token.old.lock ≡ self.now }
@@ -207,7 +208,7 @@ impl<T: Chronicle> WordLock<T> {
         unreachable!()
     }
 
-    // Takes the value by any token, if it is there.
+    // Takes the value with any token, if it is there.
     #[inline(always)]
     fn take_now(&self, token: &mut Token) -> Option<Held<T>>
         requires own { token.old.lock ≡ self.now }
@@ -231,7 +232,7 @@ impl<T: Chronicle> WordLock<T> {
         }
     }
 
-    // The exchange of 0 to 1, and the value out of the slot where it wins.
+    // Exchanges 0 for 1, and takes the value out of the slot if that succeeds.
     #[inline(always)]
     fn take_value(&self, seat: &mut Seat<Option<T>, View>) -> Option<T>
         requires own { seat.old.table_id ≡ self.now.table }
@@ -253,7 +254,7 @@ impl<T: Chronicle> WordLock<T> {
         }
     }
 
-    // The value into the slot, and the store of 0.
+    // Puts the value into the slot, and stores 0.
     #[inline(always)]
     fn put_value(&self, seat: &mut Seat<Option<T>, View>, value: T)
         requires own { seat.old.table_id ≡ self.now.table }
@@ -273,7 +274,7 @@ impl<T: Chronicle> WordLock<T> {
         self.table.shared.store::<Give>(seat, 0, 0);
     }
 
-    // One view of two, which then looks what the list is.
+    // Joins two views into one, which then looks at the history.
     fn tie(&self, one: Seat<Option<T>, View>, two: Seat<Option<T>, View>) -> Seat<Option<T>, View>
         requires own { (one.table_id ≡ self.now.table) × (two.table_id ≡ self.now.table) }
         requires idle { (one.me.1 ≡ []) × (two.me.1 ≡ []) × IsIdle one.me.0 × IsIdle two.me.0 }
@@ -294,9 +295,8 @@ impl<T: Chronicle> WordLock<T> {
         seat
     }
 
-    // Whether the word is 1 at each of many looks. Most sections are shorter than a call of the system. Where
-    // somebody sleeps already the next one soon does too, so that few look at the word while its holder
-    // works.
+    // Returns whether the word is 1 at many reads. Most critical sections are shorter than a system call. If
+    // a thread sleeps already, this one soon sleeps too, so that few read the word while its holder works.
     fn stays_taken(&self) -> bool {
         for _ in 0..LOOKS {
             if self.table.shared.peek(0) == 0 {
@@ -310,7 +310,7 @@ impl<T: Chronicle> WordLock<T> {
         true
     }
 
-    // Sleeps, unless the word is 0 once the thread is enlisted.
+    // Sleeps, unless the word is 0 after the thread is enlisted.
     #[cold]
     fn sleep<R: Wait>(&self, rt: &R) {
         let wakes = self.sleepers.enlist();
@@ -319,8 +319,8 @@ impl<T: Chronicle> WordLock<T> {
         }
     }
 
-    /// Wakes one who sleeps, if the value is there. It costs one load if nobody sleeps. If the value was taken
-    /// again nobody is woken, since whoever took it wakes as it unlocks.
+    /// Wakes one sleeping thread, if the value is there. It costs one load if nobody sleeps. If the value was
+    /// taken again nobody is woken, since the holder wakes one as it unlocks.
     #[inline(always)]
     pub fn wake(&self) {
         if self.sleepers.are_some() && self.table.shared.peek(0) == 0 {

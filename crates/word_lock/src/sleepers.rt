@@ -1,22 +1,22 @@
-//! Those who wait for a lock, and whom to wake.
+//! The threads that sleep until a lock is free, and which of them to wake.
 //!
 //! | bits | meaning |
 //! |---|---|
 //! | 0 to 31 | how many wakes were sent, which the system compares as it puts a thread to sleep |
-//! | 32 | one who was woken is on the way |
-//! | 33 and up | how many threads are enlisted and no wake was sent for |
+//! | 32 | a woken thread is on its way |
+//! | 33 and up | how many threads are enlisted for which no wake was sent |
 //!
-//! **No wake is lost.** A thread enlists, looks at the lock once more, and then sleeps unless a wake was sent
-//! since it enlisted. So there are never more asleep than enlisted. Who gives the lock back strikes one off
-//! the list and sends a wake, unless nobody is enlisted or one is on the way. That one clears its bit as it
-//! takes the lock, and so does whoever enlists. If the bit was set while somebody slept, one of them is now
-//! awake and will clear it. If it was set while nobody slept, whoever sleeps later has cleared it. So as long
-//! as somebody sleeps, the next one to give the lock back sends a wake, or one who is awake will take the
-//! lock and give it back.
+//! **No wake is lost.** A thread enlists, reads the lock once more, and then sleeps unless a wake was sent
+//! since it enlisted. So there are never more threads asleep than enlisted. A thread that unlocks takes one
+//! off the list and sends a wake, unless nobody is enlisted or a woken thread is on its way. The woken thread
+//! clears its bit when it takes the lock, and so does each thread that enlists. If the bit was set while
+//! somebody slept, one of them is now awake and will clear it. If it was set while nobody slept, any thread
+//! that slept later has cleared it. So while a thread sleeps, either the next unlock sends a wake, or a
+//! thread that is awake will take the lock and unlock it.
 //!
-//! **Few are awake.** A wake is a call of the system, and the thread that it wakes takes the lock from
-//! whoever runs. With one on the way at a time, the others sleep, and a thread that runs takes the lock many
-//! times in between.
+//! **Few are awake.** A wake is a system call, and the woken thread takes the lock from the running ones.
+//! Since only one is on its way at a time, the others sleep, and a running thread takes the lock many times
+//! in between.
 
 use std::sync::Wait;
 use std::sync::atomic::{AtomicU64, Ordering};
@@ -42,29 +42,29 @@ impl Sleepers {
         }
     }
 
-    /// Whether somebody is enlisted.
+    /// Returns whether any thread is enlisted.
     pub(crate) fn are_some(&self) -> bool {
         ENLISTED <= self.word.load(Ordering::SeqCst)
     }
 
-    /// Enlists a thread. The wakes so far.
+    /// Enlists a thread, and returns the number of wakes so far.
     pub(crate) fn enlist(&self) -> u32 {
         let was = self.word.fetch_add(ENLISTED, Ordering::SeqCst);
         self.arrive();
         (was & WAKES) as u32
     }
 
-    /// Sleeps until there are more wakes. It may return early.
+    /// Sleeps until the number of wakes has changed. It may return early.
     pub(crate) fn sleep<R: Wait>(&self, rt: &R, wakes: u32) {
         self.word.park(rt, wakes);
     }
 
-    /// Nobody who was woken is on the way any more.
+    /// Clears the bit of the woken thread.
     pub(crate) fn arrive(&self) {
         self.word.fetch_and(!ON_THE_WAY, Ordering::SeqCst);
     }
 
-    /// Wakes one, unless nobody is enlisted or one is on the way.
+    /// Wakes one thread, unless nobody is enlisted or a woken thread is on its way.
     #[cold]
     pub(crate) fn wake_one(&self) {
         let claimed = self
@@ -76,7 +76,7 @@ impl Sleepers {
     }
 }
 
-/// The word behind a wake, if one is due.
+/// Returns the word after a wake, if one is due.
 fn with_wake(word: u64) -> Option<u64> {
     if word < ENLISTED || word & ON_THE_WAY != 0 {
         return None;

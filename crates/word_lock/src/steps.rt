@@ -1,11 +1,11 @@
-//! The rule of the table, and what each kind of step tells the token that makes it.
+//! The rule of the table, and what the token that makes a step learns from it.
 
 use crate::chronicle::Chronicle;
 use crate::view::View;
 use atomic_table::{Join, Play, Split, TableRule};
 use std::snapshot::Snapshot;
 
-/// What the rule knows of the opening: the value, and how many seats there are.
+/// What the rule knows of the opening: the value and the number of seats.
 #[derive(Drop)]
 pub(crate) struct Opening<T> {
     pub value: Snapshot<T>,
@@ -40,7 +40,7 @@ impl<T: Chronicle> Play<Option<T>, View> for Give {
     ghost then = { TellsGive T.point };
 }
 
-/// A load that looks what the list is.
+/// A load that looks at the current history.
 pub(crate) struct Look;
 
 impl<T: Chronicle> Play<Option<T>, View> for Look {

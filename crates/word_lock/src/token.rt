@@ -1,4 +1,4 @@
-//! Tokens, which take the lock.
+//! Tokens, with which the lock is taken.
 ghost use Rattle.std.specs.Prelude.{◌≡◌, true, false, []};
 ghost use Rattle.word_lock.specs.Ticket.{ticket, IsIdle, IsSeatOf};
 
@@ -7,10 +7,10 @@ use atomic_table::{Badge, Seat};
 use std::marker::Model;
 use std::mem;
 
-/// The right of one seat, or of several after `WordLock::join`, to take the lock. It may be dropped.
+/// The right of one seat to take the lock, or of several seats after `WordLock::join`. It may be dropped.
 ///
-/// A contract sees it as a `Ticket`: which lock it is of, whether it is free, the entries that each of
-/// its seats has added, and what it has seen of the value.
+/// Contracts see it as a `Ticket`: which lock it belongs to, whether it is free, the entries that each of its
+/// seats has added, and what it has seen of the value.
 #[derive(Drop)]
 pub struct Token {
     badge: Badge<View>,
@@ -28,7 +28,7 @@ impl Model for Token {
 }
 
 impl Token {
-    /// Whether it has no value out.
+    /// Returns whether it doesn't have the value taken.
     pub fn is_free(&self) -> bool
         ensures { result ≡ self.now.free }
     {
@@ -46,7 +46,7 @@ impl Token {
         }
     }
 
-    // Leaves the token without a view, until it is given one by `of`.
+    // Leaves the token without a view, until `of` gives it one.
     #[inline(always)]
     pub(crate) fn take<T>(&mut self) -> Seat<Option<T>, View>
         requires { self.old.free ≡ true }

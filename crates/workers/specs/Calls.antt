@@ -1,4 +1,4 @@
--- What the calls of a worker leave of its passes.
+-- How the calls of a worker change its passes.
 use Rattle.std.specs.Prelude.{◌≡◌, ℕ, zero, suc, ◌+◌, List, [], ◌∷◌, ◌++◌, Some, Ok, Err, map, reverse, slice_get, slice_set}
 use Rattle.history.specs.declared.step.Step.TheVariants as step
 use Rattle.monitor.specs.Acquire.{IsAcquire}
@@ -14,7 +14,7 @@ use Rattle.word_lock.specs.Ticket.{LockId}
 use Rattle.workers.specs.declared.reply.Reply.{Reply}
 use Rattle.workers.specs.declared.reply.Reply.TheVariants.{Entered, Trimmed}
 
--- a call of an object, as the call of its monitor, at a place to park with so many seats
+-- a call of an object, as the call of its monitor, with a parking of this number of seats
 abbrev pub IsActed : ℕ → Action → Shown → Reply → Shown → Type 0
 IsActed seats (Acquire m n how) old (Entered r) new = IsAcquire (IsDone seats) old m n how r new
 IsActed seats (TryAcquire m n) old (Entered r) new = IsEntered (IsDone seats) old (step.Try m n) r new
@@ -26,15 +26,14 @@ IsActed seats Drain old (Entered r) new = IsEntered (IsDone seats) old step.Drai
 IsActed seats Trim old (Trimmed r) new = IsTrim old r new
 IsActed seats _ old _ new = ⊥
 
--- how many answers of a call aren't recorded: its fault alone
+-- how many results of a call aren't recorded: a fault alone
 abbrev pub unrecorded_by : Reply → ℕ
 unrecorded_by (Entered (Ok e)) = 0
 unrecorded_by (Entered (Err f)) = 1
 unrecorded_by (Trimmed (Ok count)) = 0
 unrecorded_by (Trimmed (Err f)) = 1
 
--- A call of the object at a place: it left the pass there as the monitor's call does, and the others as they
--- were.
+-- A call of the object at a place: it changed the pass there as the monitor's call does, and no other pass.
 pub record ActsOn (place : ℕ) (action : Action) (old : List Shown) (u : ℕ) (new : List Shown) : Type 0 where
   pub before : Shown
   pub there : slice_get old place ≡ Some before
@@ -45,25 +44,25 @@ pub record ActsOn (place : ℕ) (action : Action) (old : List Shown) (u : ℕ) (
   pub others : new ≡ slice_set old place after
   pub unrecorded : u ≡ unrecorded_by reply
 
--- what a call leaves of the passes, and how many answers weren't recorded
+-- how a call changes the passes, and how many results weren't recorded
 abbrev pub IsCalled : Call → List Shown → ℕ → List Shown → Type 0
 IsCalled (On place action) old u new = ActsOn place action old u new
 IsCalled (Interrupt thread) old u new =
     (new ≡ old) × (u ≡ 0) × ((seats : ℕ) × IsDone seats (interrupted thread))
 
--- what calls leave, the last of them first
+-- how calls change the passes; the list has the last call first
 abbrev pub Made : List Call → List Shown → ℕ → List Shown → Type 0
 Made [] old u new = (new ≡ old) × (u ≡ 0)
 Made (call ∷ calls) old u new =
     (between : List Shown) × (v : ℕ) × (w : ℕ)
     × Made calls old v between × IsCalled call between w new × (u ≡ v + w)
 
--- the calls of so many rounds, the last first
+-- the calls of n rounds, the last first
 abbrev pub rounds : ℕ → List Call → List Call
 rounds zero calls = []
 rounds (suc n) calls = reverse calls ++ rounds n calls
 
--- of which monitor a pass is, and of which seat
+-- the monitor and the seat of a pass
 abbrev pub home_of : Shown → LockId × ℕ
 home_of p = (p.lock, p.seat)
 

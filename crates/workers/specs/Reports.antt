@@ -1,4 +1,4 @@
--- What a run leaves.
+-- The report of a run.
 use Rattle.std.specs.Prelude.{◌≡◌, ℕ, ◌+◌, zero, suc, Bool, true, false, List, [], ◌∷◌, ◌++◌, All, map, length}
 use Rattle.audit.specs.declared.verdict.Judgement.{Judgement}
 use Rattle.audit.specs.declared.verdict.Judgement.TheVariants.{Legal, NotLegal}
@@ -17,8 +17,8 @@ use Rattle.workers.specs.declared.report.Report.{Report}
 use Rattle.workers.specs.Calls.{Made, homes, rounds}
 use Rattle.workers.specs.Rows.{dealt}
 
--- What closing an object with these passes leaves: a legal history that has just their entries, which the
--- audit calls legal, and their shares, which number its calls.
+-- The result of closing an object with these passes: a legal history that has exactly their entries, which
+-- the audit judges legal, and their shares, which add up to its calls.
 pub record IsPart (lock : LockId) (passes : List Shown) (part : ObjectReport) : Type 0 where
   pub header : part.header ≡ lock.header
   pub range : IsInRange part.header
@@ -51,24 +51,24 @@ AreParts _ _ _ = ⊥
 abbrev pub opening_row : List LockId → ℕ → List Shown
 opening_row locks seat = map (λ lock. opening_pass lock (blank lock.header) seat) locks
 
--- the rows of so many workers, from a seat on
+-- the rows of n workers, from a seat on
 abbrev pub opening_rows : List LockId → ℕ → ℕ → List (List Shown)
 opening_rows locks seat zero = []
 opening_rows locks seat (suc n) = opening_row locks seat ∷ opening_rows locks (suc seat) n
 
--- the calls of each worker made its row of the opened one, and so many answers weren't recorded
+-- the calls of each worker turned its opening row into its row, and u results weren't recorded
 abbrev pub AllMade : List WorkerView → List (List Shown) → List (List Shown) → ℕ → Type 0
 AllMade [] [] [] u = u ≡ 0
 AllMade (w ∷ ws) (old ∷ olds) (new ∷ news) u =
     (v : ℕ) × (x : ℕ) × Made (rounds w.repeat w.calls) old v new × AllMade ws olds news x × (u ≡ v + x)
 AllMade _ _ _ u = ⊥
 
--- rows on top of columns: each adds a pass to each column
+-- rows added to columns: each row adds a pass to each column
 abbrev pub dealt_all : List (List Shown) → List (List Shown) → List (List Shown)
 dealt_all [] columns = columns
 dealt_all (row ∷ rows) columns = dealt_all rows (dealt row columns)
 
--- columns with nothing in them
+-- empty columns
 abbrev pub empties : ℕ → List (List Shown)
 empties zero = []
 empties (suc n) = [] ∷ empties n
@@ -91,7 +91,7 @@ header_of lock = lock.header
 abbrev pub headers_of : ScriptView → List Header
 headers_of s = map (λ o. o.1) s.objects
 
--- What a run of a script leaves: its objects were opened as monitors, the calls of each worker made a row of
+-- The report of a script: its objects were opened as monitors, the calls of each worker produced its row of
 -- passes, and each object was closed with its column of these rows.
 pub record IsReport (s : ScriptView) (r : Report) : Type 0 where
   pub locks : List LockId

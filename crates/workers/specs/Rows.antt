@@ -1,8 +1,8 @@
--- Passes in rows, of which each is a worker's, and in columns, of which each is an object's.
+-- Passes in rows, one row for each worker, and in columns, one column for each object.
 use Rattle.std.specs.Prelude.{List, [], ◌∷◌, ◌++◌}
 use Rattle.monitor.specs.Shown.{Shown}
 
--- one pass more for each row
+-- one more pass for each row
 abbrev pub dealt : List Shown → List (List Shown) → List (List Shown)
 dealt [] rows = rows
 dealt (pass ∷ passes) [] = []

@@ -1,4 +1,4 @@
-//! A call of a worker, as a call of a monitor.
+//! A worker's call as a call of a monitor.
 ghost use Rattle.std.specs.Prelude.{◌≡◌, ◌≤◌};
 ghost use Rattle.monitor.specs.Stepping.{IsSame};
 ghost use Rattle.workers.specs.Calls.{IsActed};

@@ -1,4 +1,4 @@
-//! Why a run gave no report.
+//! Why a run returned no report.
 
 ghost use Rattle.std.specs.Prelude.{◌≡◌};
 ghost use Rattle.workers.specs.declared.fault.RunFault.TheVariants.{Memory};
@@ -7,17 +7,16 @@ use history::fault::Fault;
 use std::alloc::{AllocError, AllocFailed};
 use thiserror::Error;
 
-/// Workers are counted from 0.
+/// Why a run returned no report. Workers are counted from 0.
 #[derive(Clone, Copy, Debug, PartialEq, Eq, Error)]
 pub enum RunFault {
-    /// Memory was refused.
+    /// An allocation failed.
     #[error("out of memory")]
     Memory,
-    /// The gate didn't let this worker make a call. It is the lowest such worker; the others went on to their
-    /// ends.
+    /// The gate refused a call of this worker, the first such worker by number. The others ran to their ends.
     #[error("gate shut for worker {0}")]
     GateShut(u16),
-    /// The system refused the thread of this worker, the lowest such one. Nobody made a call.
+    /// The system refused the thread of this worker, the first such worker by number. No worker made a call.
     #[error("thread {0} not started")]
     NotStarted(u16),
 }

@@ -2,18 +2,18 @@
 //!
 //! [`run_threads`] opens the objects of a script and starts a thread for each worker. Worker `t` has seat `t`
 //! in every object, and one [`Pass`](monitor::Pass) of each. It makes its calls in order, round after round.
-//! All threads share one `ThreadParking`, so a worker interrupts another by its number. Nobody makes its
-//! first call before all threads were started.
+//! All threads share one `ThreadParking`, so a worker interrupts another by its number. No worker makes its
+//! first call before all threads are started.
 //!
-//! When all have ended, each object is closed. The [`Report`] has what closing says. That a history is legal
-//! is proved, so none is audited.
+//! When all have ended, each object is closed. The [`Report`] has what closing returns. Each history is
+//! proved to be legal, so none is audited.
 //!
-//! Proved of a report: there are passes, a row for each worker, of which one was made by the worker's calls
-//! for each object, in the order of the script. Every call left its pass as the monitor's call promises. Each
-//! object's history is legal from its base and agrees with the entries of each pass; its merged share is the
-//! number of calls in it, folded ones too; the judgement is Legal with its totals.
+//! Proved of a report: for each worker and object there is one pass, and that worker's calls produced it.
+//! Every call changed its pass as the monitor's call promises. Each object's history is legal from its base
+//! and agrees with the entries of each pass. The passes' merged share is the number of its calls, folded ones
+//! too. The judgement is Legal with the history's totals.
 //!
-//! Not promised: that a run ends, that threads run at the same time, and in which order their entries fall.
+//! Not claimed: that a run ends, that threads run at the same time, and the order of their entries.
 #![tactic(auto)]
 
 mod act;

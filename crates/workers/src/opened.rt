@@ -1,4 +1,4 @@
-//! An object of a script that was opened.
+//! An opened object of a script.
 ghost use Rattle.std.specs.Prelude.{◌≡◌, ◌<◌, ◌≤◌, All, IfOk, IfErr};
 ghost use Rattle.history.specs.Header.{IsInRange};
 ghost use Rattle.monitor.specs.Closing.{passes_of};
@@ -18,7 +18,7 @@ use std::alloc::Global;
 use std::marker::Model;
 use std::sync::Wait;
 
-/// A monitor beside the header that it was opened with. A contract sees which monitor it is.
+/// A monitor and the header that it was opened with. Contracts see which monitor it is.
 #[derive(Drop)]
 pub(crate) struct Opened {
     header: Header,
@@ -38,7 +38,7 @@ impl Model for Opened {
 }
 
 impl Opened {
-    /// Opens the object of a header, and gives a pass for each seat in order.
+    /// Opens the object of a header, and returns it with a pass for each seat, in order.
     pub(crate) fn open(alloc: Global, header: Header) -> Result<(Opened, Passes), RunFault>
         requires { IsInRange header }
         ensures header { IfOk result (λ r. r.0.header ≡ header) }
@@ -60,8 +60,8 @@ impl Opened {
         &self.monitor
     }
 
-    /// Closes the object with the passes of all its seats. That the history is legal is proved, so it is not
-    /// gone over again: the object itself says what it comes to.
+    /// Closes the object with the passes of all its seats. The history is proved to be legal, so it isn't
+    /// judged again: the totals are those of the object itself.
     pub(crate) fn close<R: Wait>(self, rt: &R, passes: Passes) -> ObjectReport
         requires own { All (λ p. p.lock ≡ self) passes }
         requires all { (seat : _) → seat < self.header.seats → 1 ≤ passes_of seat passes }

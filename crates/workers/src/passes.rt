@@ -6,7 +6,7 @@ use monitor::Pass;
 use std::alloc::{AllocError, Global};
 use std::marker::Model;
 
-/// Passes in order. A contract sees what each shows.
+/// Passes in order. Contracts see what each shows.
 #[derive(Drop)]
 pub(crate) struct Passes {
     pub(crate) list: Vec<Pass>,
@@ -45,7 +45,7 @@ impl Passes {
     }
 }
 
-/// Adds the passes to the rows, one to each in order.
+/// Adds the passes to the rows, one to each row in order.
 pub(crate) fn deal(passes: Passes, rows: &mut Vec<Passes>) -> Result<(), AllocError>
     requires { length passes ≤ length rows.old.items }
     ensures { OnOk result (rows.new.items ≡ dealt passes rows.old.items) }

@@ -1,4 +1,4 @@
-//! What a run leaves.
+//! The report of a run.
 
 ghost use Rattle.std.specs.Prelude.{◌≡◌};
 ghost use Rattle.workers.specs.Reports.{is_legal};
@@ -7,29 +7,29 @@ use audit::verdict::Judgement;
 use history::entries::History;
 use history::header::Header;
 
-/// What a run leaves of one object.
+/// What a run reports for one object.
 #[derive(Debug, Drop)]
 pub struct ObjectReport {
     pub header: Header,
-    /// All that was done to the object, in order: the base that was folded, and the entries behind it.
+    /// The object's whole history: the base that was folded, and the entries after it.
     pub history: History,
     /// The verdict on the history, and what it adds up to.
     pub judgement: Judgement,
-    /// How many calls the passes of all workers saw end, together.
+    /// How many calls ended, added up over the passes of all workers.
     pub share: u64,
 }
 
-/// What a run leaves.
+/// What a run reports.
 #[derive(Debug, Drop)]
 pub struct Report {
-    /// A part for each object, in the order of the script.
+    /// The part of each object, in the order of the script.
     pub objects: Vec<ObjectReport>,
-    /// How many calls of all workers were answered by a fault that no history records.
+    /// How many calls of all workers returned a fault that no history records.
     pub unrecorded: u64,
 }
 
 impl ObjectReport {
-    /// Whether the history is legal.
+    /// Returns whether the history is legal.
     pub fn is_legal(&self) -> bool
         ensures { result ≡ is_legal self.now.judgement }
     {

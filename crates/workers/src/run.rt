@@ -1,4 +1,4 @@
-//! The run of a script.
+//! Running a script.
 ghost use Rattle.std.specs.Prelude.{◌≡◌, ◌<◌, ◌≤◌, ◌⊎◌, All, IfErr, IfOk, OnOk, Some, length, map, slice_get};
 ghost use Rattle.history.specs.Header.{IsInRange};
 ghost use Rattle.workers.specs.Reports.{AreParts, HaveColumns, IsReport, IsSound, dealt_all, empties, header_of, headers_of, opening_rows};
@@ -21,7 +21,7 @@ use std::sync::Wait;
 use std::thread::Threads;
 use std::time::Clock;
 
-/// So many rows with no pass.
+/// Returns `count` rows without passes.
 #[tactic(auto, using(crate::proofs::Columns::empties_more))]
 fn empty_rows(alloc: Global, count: usize) -> Result<Vec<Passes>, AllocError>
     ensures { IfOk result (λ rows. rows.items ≡ empties count) }
@@ -33,7 +33,7 @@ fn empty_rows(alloc: Global, count: usize) -> Result<Vec<Passes>, AllocError>
     Ok(rows)
 }
 
-/// The header of the object at a place.
+/// Returns the header of the object at a place.
 fn header_at(script: &Script, place: usize) -> Header
     requires { place < length script.now.objects }
     ensures header { slice_get (headers_of script.now) place ≡ Some result }
@@ -63,8 +63,8 @@ fn open_all(alloc: Global, script: &Script) -> Result<(Vec<Opened>, Vec<Passes>)
     Ok((objects, rows))
 }
 
-/// Deals the passes that the workers leave to columns, one for each object, and adds up what wasn't recorded.
-/// The lowest worker that stopped says why.
+/// Sorts the passes of the workers into columns, one for each object, and adds up what wasn't recorded. If
+/// workers stopped, the fault of the first one by number is returned.
 fn settle(worked: Vec<Worked>, columns: &mut Vec<Passes>) -> Result<u64, RunFault>
     requires rows { All (λ done. length done.passes ≤ length columns.old.items) worked.items }
     requires few { All (λ done. IfOk done.ended (λ u. u ≤ most_calls)) worked.items }
@@ -108,20 +108,20 @@ fn close_all<R: Wait>(
     Ok(parts)
 }
 
-/// Runs a script: a thread for each worker, all at the same objects, and gives what is left of each object.
+/// Runs a script, with a thread for each worker, and returns the report of all objects.
 ///
-/// Nobody makes its first call before all threads were started. `gate` is asked before each call, and told
-/// after it. A call that is answered by a fault is counted as unrecorded, and the worker goes on. It may
-/// never return, where the workers wait for each other.
+/// No worker makes its first call before all threads are started. `gate` is asked before each call, and
+/// notified after it. A call that returns a fault is counted as unrecorded, and the worker goes on. If
+/// workers wait for each other, this may never return.
 ///
 /// # Errors
 ///
-/// - [`RunFault::NotStarted`] if the system refuses a thread: the lowest such worker. Nobody made a call. It
-///   is proved only that the script has this worker, since no contract tells whether the system refused a
-///   thread.
-/// - [`RunFault::GateShut`] if the gate didn't let a worker make a call: the lowest such worker. The others
-///   went on to their ends.
-/// - [`RunFault::Memory`] if memory is refused, before the calls or behind them. No contract says when.
+/// - [`RunFault::NotStarted`] if the system refuses a thread: the first such worker by number. No worker made
+///   a call. The contract states only that the script has this worker, since no contract says whether the
+///   system refused a thread.
+/// - [`RunFault::GateShut`] if the gate refused a call: the first such worker by number. The others ran to
+///   their ends.
+/// - [`RunFault::Memory`] if an allocation fails, before the calls or after them. No contract says when.
 pub fn run_threads<G: Gate + Sync, R: Threads + Wait + Clock + Sync>(
     rt: &R,
     alloc: Global,

@@ -3,10 +3,10 @@
 use std::sync::Wait;
 use std::sync::atomic::{AtomicU64, Ordering};
 
-/// Not all threads were started yet.
+/// Some threads aren't started yet.
 const STARTING: u64 = 0;
 
-/// All threads were started.
+/// All threads are started.
 const GO: u64 = 1;
 
 /// Some thread couldn't be started.
@@ -40,7 +40,7 @@ impl Start {
         self.word.wake_all();
     }
 
-    /// Waits for either, and says whether the worker may begin.
+    /// Waits until the workers may begin or must end, and returns whether they may begin.
     pub(crate) fn wait<R: Wait>(&self, rt: &R) -> bool {
         for _ in rt.forever() {
             match self.word.load(Ordering::SeqCst) {

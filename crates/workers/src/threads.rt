@@ -16,7 +16,7 @@ use std::thread;
 use std::thread::{Promise, PromisedHandle, Scope, Threads};
 use std::time::Clock;
 
-/// That the worker at a place makes its calls by the passes that it was started with.
+/// The promise that the worker at a place makes its calls with the passes that it was started with.
 #[derive(Drop)]
 struct Works<'s, G> {
     gate: &'s G,
@@ -31,7 +31,7 @@ impl<'s, G: Gate> Promise<Worked> for Works<'s, G> {
     ghost kept_by = { λ p done. HasWorked (G.answers p.gate.now) p.seat p.worker.now p.passes.value done };
 }
 
-/// Starts a thread for each worker. Where the system refuses one the others were started.
+/// Starts a thread for each worker. If the system refuses one, the earlier ones are running.
 fn start_all<'s, E: 's, G: Gate + Sync, R: Threads + Wait + Clock + Sync>(
     rt: &'s R,
     alloc: Global,

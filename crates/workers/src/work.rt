@@ -23,14 +23,14 @@ pub(crate) struct Shared {
     pub start: Start,
 }
 
-/// What a worker leaves: its passes, and how many of its answers weren't recorded, or why it stopped.
+/// The result of a worker: its passes, and how many of its results weren't recorded, or why it stopped.
 #[derive(Drop)]
 pub(crate) struct Worked {
     pub passes: Passes,
     pub ended: Result<u64, RunFault>,
 }
 
-/// Makes a call, and says how many answers weren't recorded: 1 or 0.
+/// Makes a call, and returns how many results weren't recorded: 1 or 0.
 fn make_call<R: Wait + Clock>(rt: &R, shared: &Shared, passes: &mut Passes, call: Call) -> u64
     requires own { map lock_of passes.old ≡ shared.now.objects.items }
     requires places { All (λ m. m.header.seats ≤ shared.now.parking) shared.now.objects.items }
@@ -53,8 +53,8 @@ fn make_call<R: Wait + Clock>(rt: &R, shared: &Shared, passes: &mut Passes, call
     }
 }
 
-/// Makes the calls of one round, which are numbered from `first` on, and says how many answers weren't
-/// recorded: None if the gate was shut.
+/// Makes the calls of one round, which are numbered from `first` on. Returns how many results weren't
+/// recorded, or `None` if the gate refused a call.
 fn make_round<G: Gate, R: Wait + Clock>(
     rt: &R,
     shared: &Shared,

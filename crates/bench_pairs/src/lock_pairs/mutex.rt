@@ -5,7 +5,7 @@ use std::sync::{Mutex, Wait};
 use std::thread;
 use std::thread::Threads;
 
-/// Each thread adds one to a number, `pairs` times. The number that it has then.
+/// Each thread adds one to a number, `pairs` times. Returns the number after that.
 pub fn count_pairs<R: Threads + Wait + Sync>(
     rt: &R,
     alloc: Global,

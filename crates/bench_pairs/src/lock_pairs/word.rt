@@ -27,7 +27,7 @@ impl Chronicle for Count {
     ghost is_sound = { λ _ _. tt };
 }
 
-// A token beside the lock that it is of.
+// A token with its lock.
 #[derive(Drop)]
 struct Worker<'l> {
     lock: &'l WordLock<Count>,
@@ -37,7 +37,7 @@ struct Worker<'l> {
     ghost one: { length token.logs ≡ 1 },
 }
 
-/// Each thread adds one to a number, `pairs` times. The number that it has then.
+/// Each thread adds one to a number, `pairs` times. Returns the number after that.
 pub fn count_pairs<R: Threads + Wait + Sync>(
     rt: &R,
     alloc: Global,
@@ -58,7 +58,7 @@ pub fn count_pairs<R: Threads + Wait + Sync>(
     }
 }
 
-/// Each token works in a thread of its own.
+/// Uses each token in a thread of its own.
 fn work_all<R: Threads + Wait + Sync>(
     rt: &R,
     alloc: Global,

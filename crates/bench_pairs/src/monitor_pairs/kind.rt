@@ -44,7 +44,7 @@ impl Kind {
     }
 }
 
-/// The pairs of so many threads at a monitor of this kind.
+/// Returns the pairs of `threads` threads at a monitor of this kind.
 pub fn count_pairs<R: Threads + Wait + Clock + Sync>(
     rt: &R,
     alloc: Global,

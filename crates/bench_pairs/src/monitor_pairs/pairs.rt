@@ -19,7 +19,7 @@ use std::time::{Clock, Duration};
 /// The most entries that a history may have.
 const CAP: u32 = 4_294_967_295;
 
-/// How many pairs were made, how many calls the history has, and how long the threads had.
+/// How many pairs were made, how many calls the history has, and how long the threads worked.
 #[derive(Clone, Copy)]
 pub struct Counted {
     pub pairs: u64,
@@ -27,7 +27,7 @@ pub struct Counted {
     pub time: Duration,
 }
 
-/// An acquire and a release.
+/// Makes an acquire and a release.
 #[inline]
 fn make_pair<H: Hooks + Drop, P: Parking, R: Wait + Clock>(
     rt: &R,
@@ -45,7 +45,7 @@ fn make_pair<H: Hooks + Drop, P: Parking, R: Wait + Clock>(
     Ok(())
 }
 
-/// Pairs of one thread, until its limit or a fault.
+/// Makes pairs in one thread, until its limit or a fault.
 fn make_pairs<H: Hooks + Drop, P: Parking, R: Wait + Clock>(
     rt: &R,
     parking: &P,
@@ -71,7 +71,7 @@ fn make_pairs<H: Hooks + Drop, P: Parking, R: Wait + Clock>(
     own
 }
 
-/// Each thread makes pairs with its own pass.
+/// Makes pairs in each thread, with its own pass.
 fn make_all<H: Hooks + Drop + Send, R: Threads + Wait + Clock + Sync>(
     rt: &R,
     parking: &ThreadParking,
@@ -94,7 +94,7 @@ fn make_all<H: Hooks + Drop + Send, R: Threads + Wait + Clock + Sync>(
     )
 }
 
-/// All threads while their time is kept.
+/// Runs all threads, and measures their time.
 fn make_in_time<H: Hooks + Drop + Send, R: Threads + Wait + Clock + Sync>(
     rt: &R,
     parking: &ThreadParking,
@@ -118,7 +118,7 @@ fn make_in_time<H: Hooks + Drop + Send, R: Threads + Wait + Clock + Sync>(
     )
 }
 
-/// Closes a monitor, and says how many calls its history has.
+/// Closes a monitor, and returns how many calls its history has.
 fn close<H: Hooks + Drop, R: Wait>(
     rt: &R,
     monitor: Monitor<H>,
@@ -132,7 +132,7 @@ fn close<H: Hooks + Drop, R: Wait>(
     }
 }
 
-/// The pairs of so many threads at a new monitor with these hooks.
+/// Returns the pairs of `threads` threads at a new monitor with these hooks.
 pub fn count<H: Hooks + Drop + Send, R: Threads + Wait + Clock + Sync>(
     rt: &R,
     alloc: Global,

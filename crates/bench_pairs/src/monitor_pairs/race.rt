@@ -4,8 +4,8 @@ use std::sync::atomic::{AtomicBool, AtomicU64, Ordering};
 use std::thread;
 use std::time::{Clock, Duration, Instant};
 
-/// How often a thread looks whether the others are there. It goes on without them then, so no thread waits
-/// forever if the system makes too few.
+/// How often a thread checks whether the others have started. After that it goes on without them, so no
+/// thread waits forever if the system makes too few.
 const LOOKS: u32 = 1_000_000;
 
 /// What ends the work of each thread.
@@ -15,7 +15,7 @@ pub enum Limit {
     Time(Duration),
 }
 
-/// What the threads at one monitor share beside it.
+/// What the threads at one monitor share besides it.
 #[derive(Drop)]
 pub struct Race {
     threads: u64,
@@ -38,7 +38,7 @@ impl Race {
         }
     }
 
-    /// How many pairs a thread makes at most.
+    /// Returns the most pairs that a thread makes.
     pub fn most_pairs(&self) -> u64 {
         match self.limit {
             Limit::Pairs(pairs) => pairs,
@@ -46,7 +46,7 @@ impl Race {
         }
     }
 
-    /// Starts the threads together, and stops them if their time is limited. Says how long they had.
+    /// Starts the threads together, and stops them if their time is limited. Returns how long they worked.
     pub fn keep_time<R: Clock>(&self, rt: &R) -> Duration {
         for _ in 0..LOOKS {
             if self.threads <= self.ready.load(Ordering::SeqCst) {
@@ -81,12 +81,12 @@ impl Race {
         self.is_over.load(Ordering::SeqCst)
     }
 
-    /// Counts what a thread made.
+    /// Adds the pairs of a thread.
     pub fn add(&self, pairs: u64) {
         self.pairs.fetch_add(pairs, Ordering::SeqCst);
     }
 
-    /// What all threads made.
+    /// Returns the pairs of all threads.
     pub fn pairs(&self) -> u64 {
         self.pairs.load(Ordering::SeqCst)
     }

@@ -10,10 +10,10 @@ use std::sync::Wait;
 use std::sync::atomic::{AtomicU64, Ordering};
 use std::time::Clock;
 
-/// The condition of those who wait for a free place.
+/// The condition on which threads wait for a free place.
 const NOT_FULL: u8 = 0;
 
-/// The condition of those who wait for an item.
+/// The condition on which threads wait for an item.
 const NOT_EMPTY: u8 = 1;
 
 const PLACES: u64 = 2;
@@ -122,7 +122,7 @@ pub fn produce<P: Parking, R: Wait + Clock>(
     Ok(pass)
 }
 
-/// Takes so many numbers, and adds them up.
+/// Takes `items` numbers, and adds them up.
 pub fn consume<P: Parking, R: Wait + Clock>(
     rt: &R,
     parking: &P,

@@ -9,7 +9,7 @@ use thiserror::Error;
 
 #[derive(Clone, Copy, Debug, PartialEq, Eq, Error)]
 pub enum Failure {
-    /// A step or a trim was refused.
+    /// A step or a trim failed.
     #[error("{0}")]
     Refused(Fault),
     /// A seat whose turn it was had to wait.

@@ -1,4 +1,4 @@
-//! A lock that is played on, and printed in parts.
+//! Running a lock on, and printing its history in parts.
 
 ghost use Rattle.std.specs.Prelude.{◌≡◌, [], ◌+◌, ◌<◌, ◌≤◌, length, All, OnOk};
 ghost use Rattle.std.specs.Io.KnownBytes.{Appends};
@@ -21,7 +21,7 @@ use reentrant::lock::LockHooks;
 use std::alloc::Global;
 use std::io::Write;
 
-/// The places that a part has beside its entries: more than a hold and a queued acquire owe.
+/// The places that a part has besides its entries: more than a hold and a queued acquire owe.
 const MORE: u64 = 8;
 
 const SEATS: u16 = 2;
@@ -34,7 +34,7 @@ const ROUND: [(u16, Step); 5] = [
     (1, Step::Give(Mode::X, 1)),
 ];
 
-/// Plays so many rounds, and prints them in parts of so many entries.
+/// Plays `rounds` rounds, and prints them in parts of `entries` entries.
 pub fn play<W: Write>(alloc: Global, rounds: u64, entries: u64, out: &mut W) -> Result<(), Failure>
     requires some { 8 ≤ entries }
     requires few { entries ≤ 4000000000 }
@@ -47,7 +47,7 @@ pub fn play<W: Write>(alloc: Global, rounds: u64, entries: u64, out: &mut W) -> 
     play_rounds(alloc, &mut core, rounds, entries, out)
 }
 
-/// Plays so many rounds at a new core, and prints them in parts of so many entries.
+/// Plays `rounds` rounds on a new core, and prints them in parts of `entries` entries.
 fn play_rounds<W: Write>(
     alloc: Global,
     core: &mut Core<LockHooks>,
@@ -89,7 +89,7 @@ fn play_round<W: Write>(
     Ok(())
 }
 
-/// Makes an entry; a part ends where it has so many entries.
+/// Makes a step, which makes an entry. If the part then has `entries` entries, it ends.
 fn play_step<W: Write>(
     alloc: Global,
     core: &mut Core<LockHooks>,
@@ -116,7 +116,7 @@ fn play_step<W: Write>(
     Ok(())
 }
 
-/// Prints what stands in the history, and folds it.
+/// Prints the history, and folds it.
 fn print_part<W: Write>(
     alloc: Global,
     core: &mut Core<LockHooks>,

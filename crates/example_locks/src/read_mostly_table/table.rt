@@ -13,7 +13,7 @@ use std::time::Clock;
 /// How many turns each thread takes.
 const TURNS: u64 = 100;
 
-/// One turn in so many is an update. The others are looks.
+/// One turn of this number is an update. The others are reads.
 const LOOKS_TO_AN_UPDATE: u64 = 20;
 
 /// Rows that an update changes one after the other. Between updates all are of one version.
@@ -48,9 +48,9 @@ pub struct Outcome {
     pub version: u64,
     pub updates: u64,
     pub looks: u64,
-    /// Looks that saw rows of two versions.
+    /// Reads that saw rows of two versions.
     pub halves: u64,
-    /// Updates whose writer found another version as it looked.
+    /// Updates whose writer found another version when it read.
     pub overwritten: u64,
     /// Turns that ended with a fault.
     pub faults: u64,
@@ -68,12 +68,12 @@ impl Rows {
         }
     }
 
-    /// The version of the first row.
+    /// Returns the version of the first row.
     fn version(&self) -> u64 {
         self.rows[0].load(Ordering::SeqCst)
     }
 
-    /// The version of all rows, if it is the same.
+    /// Returns the version of all rows, if they have the same.
     fn common_version(&self) -> Option<u64> {
         let version = self.version();
         if self
@@ -87,7 +87,7 @@ impl Rows {
         }
     }
 
-    /// Makes the next version, row by row.
+    /// Writes the next version, row by row.
     fn change(&self) -> u64 {
         let next = self.version().wrapping_add(1);
         for row in &self.rows {
@@ -109,12 +109,12 @@ impl<'t> Table<'t> {
         }
     }
 
-    /// The version of the first row.
+    /// Returns the version of the first row.
     pub fn version(&self) -> u64 {
         self.rows.version()
     }
 
-    /// Looks at the table beside other readers.
+    /// Reads the table, together with other readers.
     fn look<R: Wait + Clock>(&self, rt: &R, tally: &Tally, pass: &mut Pass) -> Result<(), Fault>
         requires { pass.old.lock ≡ self.now.lock.monitor.now }
         ensures { IsSame pass.old pass.new }
@@ -127,8 +127,8 @@ impl<'t> Table<'t> {
         self.lock.read_unlock(rt, self.parking, pass)
     }
 
-    /// Changes the table alone, and then looks at it as a reader. It reads before it lets go of the write
-    /// lock, so no other writer comes between.
+    /// Changes the table alone, and then reads it. It takes the read lock before it releases the write lock,
+    /// so no other writer comes between.
     fn update<R: Wait + Clock>(&self, rt: &R, tally: &Tally, pass: &mut Pass) -> Result<(), Fault>
         requires { pass.old.lock ≡ self.now.lock.monitor.now }
         ensures { IsSame pass.old pass.new }
@@ -173,7 +173,7 @@ impl Tally {
         }
     }
 
-    /// What the threads did and saw so far, beside the table's version.
+    /// Returns what the threads did and saw so far, with the table's version.
     pub fn outcome(&self, version: u64) -> Outcome {
         Outcome {
             version,
@@ -190,7 +190,7 @@ fn count(number: &AtomicU64) {
     number.fetch_add(1, Ordering::SeqCst);
 }
 
-/// All turns of one thread.
+/// Takes all turns of one thread.
 pub fn work<R: Wait + Clock>(rt: &R, table: &Table, tally: &Tally, pass: Pass) -> Pass
     requires { pass.lock ≡ table.now.lock.monitor.now }
     ensures { IsSame pass result }

@@ -1,8 +1,7 @@
-//! The steps that are done at once: an acquire or a try that takes, and a release, of an idle seat while nobody
-//! stands in line.
+//! The fast path: an acquire or a try that succeeds, and a release, of an idle seat while the queue is empty.
 //!
-//! Nearly all steps are of this kind. They move nobody and name nobody, so they ask neither the line nor those
-//! who sleep for more than that. All other steps go the general way.
+//! Nearly all steps are of this kind. They move nobody and name nobody, so they need no more of the queue and
+//! the conditions. All other steps take the general path.
 
 ghost use Rattle.std.specs.Prelude.{◌≡◌, ◌<◌, [], true, not, is_none, int_lt, pos, ◌+ℤ◌, IfSome, IfNone, IsTrue};
 ghost use Rattle.deciding.specs.Balance.{available};
@@ -27,8 +26,9 @@ use history::step::Step;
 const MAX_PERMITS: i64 = 2_147_483_647;
 
 impl<H: Hooks + Drop> Core<H> {
-    /// The entry of a step that is done at once; `None`, and nothing changes, where it is to go the general way.
-    // In each arm it is known which entry it is.
+    /// Returns the entry of a step that was done at once. `None` changes nothing: the step takes the general
+    /// path.
+    // In each arm the entry is known.
     #[inline(always)]
     pub(super) fn step_at_once(&mut self, seat: u16, step: Step) -> Option<Entry>
         requires { seat < self.old.header.seats }
@@ -55,8 +55,8 @@ impl<H: Hooks + Drop> Core<H> {
         }
     }
 
-    /// Adds an entry that moves nobody, while nobody stands in line; `None`, and nothing changes, where its
-    /// place is refused.
+    /// Adds an entry that moves nobody, while the queue is empty. `None` changes nothing: no place could be
+    /// reserved.
     #[inline(always)]
     fn enter(&mut self, entry: Entry) -> Option<Entry>
         requires next { IsNext self.old entry }
@@ -78,7 +78,7 @@ impl<H: Hooks + Drop> Core<H> {
         Some(entry)
     }
 
-    /// Whether nobody stands in line and the seat doesn't sleep: so it is idle.
+    /// Returns whether the queue is empty and the seat waits on no condition, and so is idle.
     #[inline(always)]
     fn is_alone(&self, seat: u16) -> bool
         ensures { IsTrue result → IsAlone self.now seat }
@@ -86,7 +86,7 @@ impl<H: Hooks + Drop> Core<H> {
         self.queue.is_empty() && self.waiters.sleeper_of(seat).is_none()
     }
 
-    /// Whether the object has such a step, and the seat could take.
+    /// Returns whether the object has such a step, and the seat could acquire.
     #[inline(always)]
     pub(super) fn takes(&self, seat: u16, step: Step, mode: Mode, n: u32) -> bool
         ensures { IsTrue result → Takes self.now seat step mode n }
@@ -94,8 +94,8 @@ impl<H: Hooks + Drop> Core<H> {
         self.admits(step) && !self.hooks.at_limit(seat, mode) && self.hooks.could(seat, mode, n)
     }
 
-    /// Whether the object has such a step, and a hold or permits are given back. A latch is counted down the
-    /// general way.
+    /// Returns whether the object has such a step, and a hold or permits are released. A latch is counted
+    /// down on the general path.
     #[inline(always)]
     pub(super) fn gives(&self, seat: u16, step: Step, mode: Mode, n: u32) -> bool
         requires { seat < self.now.header.seats }
@@ -112,7 +112,7 @@ impl<H: Hooks + Drop> Core<H> {
         }
     }
 
-    /// Whether so many permits more may be free.
+    /// Returns whether `more` permits more may be free.
     #[inline(always)]
     fn may_free(&self, more: u32) -> bool
         ensures { result
@@ -121,7 +121,7 @@ impl<H: Hooks + Drop> Core<H> {
         self.available() + i64::from(more) <= MAX_PERMITS
     }
 
-    /// Whether the object has such a step, with its mode and its amount.
+    /// Returns whether the object has such a step, with its mode and its amount.
     #[inline(always)]
     pub(super) fn admits(&self, step: Step) -> bool
         ensures { result ≡ is_none (refused_as self.now.header step) }
@@ -133,7 +133,7 @@ impl<H: Hooks + Drop> Core<H> {
         refused_as(&header, step).is_none()
     }
 
-    /// The object, as its hooks know it: those of a lock know when they are compiled that it is one.
+    /// Returns the object, as its hooks know it. The hooks of a lock know at compile time that it is one.
     #[inline(always)]
     pub(super) fn object(&self) -> Object
         ensures { result ≡ self.now.header.object }

@@ -1,5 +1,5 @@
-//! The commonest steps that are not done at once: an acquire, a release and a look, of which it is known in each
-//! arm which entry they make.
+//! The most frequent steps that are not done at once: an acquire, a release and a retry. In each of their
+//! arms the entry is known.
 
 ghost use Rattle.std.specs.Prelude.{◌≡◌, ◌<◌, IsTrue, Some};
 ghost use Rattle.history.specs.declared.entry.End.TheVariants as end;
@@ -20,7 +20,7 @@ use history::fault::Fault;
 use history::step::{Answer, Step};
 
 impl<H: Hooks + Drop> Core<H> {
-    /// An acquire takes, or joins the line.
+    /// Performs an acquire: it succeeds, or joins the queue.
     pub(super) fn acquire(&mut self, seat: u16, mode: Mode, n: u32) -> Result<Answer, Fault>
         requires { seat < self.old.header.seats }
         ensures { IsStepped self.old seat (Acquire mode n) result self.new }
@@ -37,7 +37,7 @@ impl<H: Hooks + Drop> Core<H> {
         }
     }
 
-    /// A release gives back, and names the first in line if it could go now.
+    /// Performs a release, which names the head of the queue if that could go now.
     pub(super) fn give(&mut self, seat: u16, mode: Mode, n: u32) -> Result<Answer, Fault>
         requires { seat < self.old.header.seats }
         ensures { IsStepped self.old seat (Give mode n) result self.new }
@@ -50,8 +50,8 @@ impl<H: Hooks + Drop> Core<H> {
         }
     }
 
-    /// Who looks is granted what it asks for, if it is the first in line and could take it; else it waits on.
-    /// Who comes back from a condition goes the general way.
+    /// Performs a waiter's retry. It acquires if it is the head of the queue and could; otherwise it keeps
+    /// waiting. A waiter that comes back from a condition takes the general path.
     pub(super) fn look(&mut self, seat: u16) -> Result<Answer, Fault>
         requires { seat < self.old.header.seats }
         ensures { IsStepped self.old seat Look result self.new }
@@ -73,7 +73,7 @@ impl<H: Hooks + Drop> Core<H> {
         }
     }
 
-    /// Whether the seat neither stands in line nor sleeps.
+    /// Returns whether the seat waits neither in the queue nor on a condition.
     #[inline(always)]
     fn is_idle(&self, seat: u16) -> bool
         ensures { IsTrue result → IsIdle self.now seat }
@@ -81,7 +81,7 @@ impl<H: Hooks + Drop> Core<H> {
         self.queue.arrival_of(seat).is_none() && self.waiters.sleeper_of(seat).is_none()
     }
 
-    /// Whether the seat is the first in line and could take what it asks for.
+    /// Returns whether the seat is the head of the queue and could acquire what it asks for.
     #[inline(always)]
     fn is_ready(&self, seat: u16, first: Arrival) -> bool
         requires { first_of (line (start_of self.now) self.now.entries) ≡ Some first }
@@ -90,8 +90,8 @@ impl<H: Hooks + Drop> Core<H> {
         first.seat == seat && self.hooks.could(seat, first.mode, first.n)
     }
 
-    /// Whether the object has such a step, and an acquire of the seat joins the line: it is held back, or could
-    /// not take.
+    /// Returns whether the object has such a step, and an acquire of the seat joins the queue: it is held
+    /// back, or could not succeed.
     #[inline(always)]
     fn queues(&self, seat: u16, step: Step, mode: Mode, n: u32) -> bool
         ensures { result ≡ queues self.now seat step mode n }
@@ -100,7 +100,7 @@ impl<H: Hooks + Drop> Core<H> {
             && (self.holds_back(seat, mode) || !self.could(seat, mode, n))
     }
 
-    /// Whether the object has such a step, and the seat is below its limit.
+    /// Returns whether the object has such a step, and the seat is below its limit.
     #[inline(always)]
     fn may_acquire(&self, seat: u16, step: Step, mode: Mode) -> bool
         ensures { result ≡ may_acquire self.now seat step mode }
@@ -108,7 +108,7 @@ impl<H: Hooks + Drop> Core<H> {
         self.admits(step) && !self.hooks.at_limit(seat, mode)
     }
 
-    /// Whether the line holds a new call of the seat back.
+    /// Returns whether the queue holds a new call of the seat back.
     #[inline(always)]
     fn holds_back(&self, seat: u16, mode: Mode) -> bool
         ensures { result ≡ held_back (counts_of self.now) (first_mode_of self.now) seat mode }
@@ -116,7 +116,7 @@ impl<H: Hooks + Drop> Core<H> {
         self.hooks.holds_back(seat, mode, self.line())
     }
 
-    /// Whether the seat could take now.
+    /// Returns whether the seat could acquire now.
     #[inline(always)]
     fn could(&self, seat: u16, mode: Mode, n: u32) -> bool
         ensures { result ≡ could (counts_of self.now) seat mode n }
@@ -125,7 +125,7 @@ impl<H: Hooks + Drop> Core<H> {
     }
 }
 
-/// The entry by which an acquire in line takes.
+/// Returns the entry by which an acquire in the queue succeeds.
 fn granted(seat: u16, arrival: Arrival) -> Entry
     ensures { result ≡ ended seat word.Granted arrival end.None }
 {

@@ -1,4 +1,4 @@
-//! Which entry a step makes, by what the core answers to a decision.
+//! Deciding which entry a step makes, from the core's state.
 
 ghost use Rattle.std.specs.Prelude.{◌≡◌, ◌<◌, IfOk, IfSome};
 ghost use Rattle.history.specs.Steps.{entry_for};
@@ -18,7 +18,7 @@ use history::header::Header;
 use history::step::Step;
 
 impl<H: Hooks + Drop> Core<H> {
-    /// Whether somebody stands in line, and what the first asks for.
+    /// Returns whether somebody is in the queue, and which mode its head asks for.
     pub(super) fn line(&self) -> Line
         ensures { line_mode result ≡ first_mode_of self.now }
     {
@@ -31,14 +31,14 @@ impl<H: Hooks + Drop> Core<H> {
         }
     }
 
-    /// The seat of the first in line, if it could take what it asks for.
+    /// Returns the seat of the head of the queue, if it could acquire what it asks for.
     pub(super) fn ready(&self) -> Option<u16>
         ensures { result ≡ ready_of self.now }
     {
         first_ready(&self.hooks, &self.queue)
     }
 
-    /// The one entry of a step, or sleep, or a fault that isn't recorded.
+    /// Returns the one entry that a step makes, or `None` for sleep, or a fault that isn't recorded.
     #[inline(always)]
     pub(super) fn decide(&self, seat: u16, step: Step) -> Result<Option<Entry>, Fault>
         requires { seat < self.now.header.seats }

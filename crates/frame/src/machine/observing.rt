@@ -1,4 +1,4 @@
-//! What a core tells of itself. No observer takes memory.
+//! Observers of a core. None of them allocates.
 
 ghost use Rattle.std.specs.Prelude.{◌≡◌, ◌<◌, ◌≤◌, ◌+◌, ◌^◌, ◌≤ℤ◌, pos, length, is_some, Some};
 ghost use Rattle.history.specs.Counts.{count, held, owner};
@@ -30,7 +30,7 @@ impl<H: Hooks + Drop> Core<H> {
         &self.header
     }
 
-    /// The entries so far.
+    /// Returns the entries so far, with their base.
     pub fn history(&self) -> &History
         ensures base { result.now.base ≡ Some self.now.base }
         ensures entries { result.now.entries ≡ self.now.entries }
@@ -41,7 +41,7 @@ impl<H: Hooks + Drop> Core<H> {
         &self.history
     }
 
-    /// The entries that a core leaves behind, and their base.
+    /// Returns the history, and drops the rest of the core.
     pub fn into_history(self) -> History
         ensures base { result.base ≡ Some self.base }
         ensures entries { result.entries ≡ self.entries }
@@ -52,7 +52,7 @@ impl<H: Hooks + Drop> Core<H> {
         self.history
     }
 
-    /// The holds of a seat in a mode.
+    /// Returns the holds of a seat in a mode.
     pub fn holds(&self, seat: u16, mode: Mode) -> u128
         requires { seat < self.now.header.seats }
         ensures { result ≡ held (start_of self.now) self.now.entries seat mode }
@@ -60,16 +60,17 @@ impl<H: Hooks + Drop> Core<H> {
         self.seat(seat).holds(mode)
     }
 
-    /// Whether some seat has exclusive holds.
+    /// Returns whether some seat has exclusive holds.
     pub fn is_held(&self) -> bool
         ensures { result ≡ is_some (owner (counts_of self.now)) }
     {
         self.seats.iter().any(|seat| seat.exclusive > 0)
     }
 
-    /// The history is legal from its base and may be folded into it, nobody in line is passed, what is owed
-    /// has room and places, and its length fits in 32 bits. Whoever is first in line and could go is marked,
-    /// nobody out of line is, and each seat has one mark.
+    /// States what always holds. The history is legal from its base and may be folded into it. Nobody in the
+    /// queue is overtaken. What is owed has room and places, and the history's length fits in 32 bits. The
+    /// head of the queue is marked if it could go, no seat outside the queue is marked, and each seat has one
+    /// mark.
     pub fn recall_lawful(&self)
         ensures header { self.now.base.header ≡ self.now.header }
         ensures may_fold { MayFold self.now.base self.now.entries }
@@ -89,8 +90,8 @@ impl<H: Hooks + Drop> Core<H> {
         let _owed = self.history.owed();
     }
 
-    /// Whether a seat in line was told that it could go: by an entry that names it, or by its own lapse.
-    /// Since then it has neither left the line nor been answered `Sleep`.
+    /// Returns whether a seat in the queue was told that it could go: by an entry that names it, or by its
+    /// own lapse. Since then it has neither left the queue nor retried in vain.
     pub fn is_told(&self, seat: u16) -> bool
         requires { seat < self.now.header.seats }
         ensures { result ≡ marks_of self.now seat }
@@ -98,21 +99,21 @@ impl<H: Hooks + Drop> Core<H> {
         self.seats[seat as usize].told
     }
 
-    /// How many stand in line.
+    /// Returns how many seats are in the queue.
     pub fn queue_length(&self) -> u16
         ensures { result ≡ length (line (start_of self.now) self.now.entries) }
     {
         self.queue.live_len()
     }
 
-    /// How many sleep on a condition.
+    /// Returns how many seats wait on a condition.
     pub fn waiters(&self, condition: u8) -> u16
         ensures { result ≡ length (sleepers (start_of self.now) self.now.entries condition) }
     {
         self.waiters.len(condition)
     }
 
-    /// The free permits of a semaphore, which may be below 0; else 0.
+    /// Returns the free permits of a semaphore, which may be negative; else 0.
     pub fn available(&self) -> i64
         ensures permits { result ≡ available (start_of self.now) self.now.entries }
         ensures most { result ≤ℤ pos max_amount }
@@ -123,7 +124,7 @@ impl<H: Hooks + Drop> Core<H> {
         }
     }
 
-    /// The count of a latch, down from its opening number; else 0.
+    /// Returns the count of a latch, which falls from its opening number; else 0.
     pub fn count(&self) -> u32
         ensures { result ≡ count (start_of self.now) self.now.entries }
     {
@@ -133,7 +134,8 @@ impl<H: Hooks + Drop> Core<H> {
         }
     }
 
-    /// What all seats hold together, how many wait, and what is free. It asks each seat and each condition.
+    /// Returns what all seats hold together, how many wait, and what is free. It visits each seat and each
+    /// condition.
     pub fn balance(&self) -> Balance
         ensures balance { result ≡ balance (start_of self.now) self.now.entries }
         ensures exclusive { result.exclusive < 2 ^ 126 }
@@ -143,7 +145,7 @@ impl<H: Hooks + Drop> Core<H> {
         balance_of(self)
     }
 
-    /// What is kept of a seat.
+    /// Returns the record of a seat.
     pub(super) fn seat(&self, seat: u16) -> Seat
         requires { seat < self.now.header.seats }
         ensures { IsSeat (start_of self.now) self.now.entries seat result }
@@ -151,7 +153,7 @@ impl<H: Hooks + Drop> Core<H> {
         self.seats[seat as usize]
     }
 
-    /// What the hooks count: free permits, the count of a latch, else 0.
+    /// Returns what the hooks count: free permits, the count of a latch, else 0.
     fn level(&self) -> i64
         ensures { result ≡ level_of (counts_of self.now) }
     {

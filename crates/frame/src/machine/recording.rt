@@ -17,8 +17,8 @@ use history::fault::Fault;
 use history::step::Answer;
 
 impl<H: Hooks + Drop> Core<H> {
-    /// Adds an entry where it has room, has all that is kept follow it, and marks whom it names: who is ready
-    /// behind it and wasn't before.
+    /// Adds an entry if it has room, updates the rest of the core, and marks the waiter that it names.
+    /// `before` is the waiter that was ready before it.
     #[inline(always)]
     fn write(&mut self, entry: Entry, before: Option<u16>) -> Result<Option<u16>, Fault>
         requires next { IsNext self.old entry }
@@ -40,8 +40,8 @@ impl<H: Hooks + Drop> Core<H> {
         Ok(name)
     }
 
-    /// Who is ready before an entry of a word, where that is to be known: before a grant it is the one who is
-    /// granted, and other words name nobody.
+    /// Returns the waiter that is ready before an entry with this word, if that matters. Before a grant it is
+    /// the seat that is granted, and the other words name nobody.
     #[inline(always)]
     fn ready_before(&self, word: Word) -> Option<u16>
         ensures { result ≡ (if asks_before word then ready_of self.now else None) }
@@ -52,7 +52,7 @@ impl<H: Hooks + Drop> Core<H> {
         }
     }
 
-    /// Records the entry of a step, and says whom it names.
+    /// Records the entry of a step, and returns the answer with the waiter that it names.
     #[inline(always)]
     pub(super) fn record(&mut self, entry: Entry) -> Result<Answer, Fault>
         requires { IsNext self.old entry }

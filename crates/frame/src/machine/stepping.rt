@@ -12,7 +12,7 @@ use history::fault::Fault;
 use history::step::{Answer, Step};
 
 impl<H: Hooks + Drop> Core<H> {
-    /// If the seat stands in line, the nodes of those who left right before it are freed.
+    /// If the seat is in the queue, frees the cancelled nodes right before it.
     fn tidy_before(&mut self, seat: u16)
         ensures { self.new ≡ self.old }
     {
@@ -21,7 +21,7 @@ impl<H: Hooks + Drop> Core<H> {
         }
     }
 
-    /// Forgets that a seat was told, where it couldn't go now.
+    /// Clears the mark of a seat that can't go now.
     fn untell(&mut self, seat: u16)
         requires seat { seat < self.old.header.seats }
         requires waits { ready_of self.old ≢ Some seat }
@@ -30,7 +30,7 @@ impl<H: Hooks + Drop> Core<H> {
         untell(&mut self.seats, seat);
     }
 
-    /// One that waits on is told no more, and the nodes of those who left right before it are freed.
+    /// Clears the mark of a waiter that keeps waiting, and frees the cancelled nodes right before it.
     #[inline(always)]
     pub(super) fn sleep(&mut self, seat: u16)
         requires seat { seat < self.old.header.seats }
@@ -41,21 +41,22 @@ impl<H: Hooks + Drop> Core<H> {
         self.untell(seat);
     }
 
-    /// One step of a seat.
+    /// Performs one step of a seat.
     ///
-    /// - `Recorded`: the one entry that the step makes, and whom it names. The first five faults come so.
-    /// - `Sleep`: nothing is recorded, and the seat waits on. It is told no more.
-    /// - `WrongMode`, `NoSuchCondition`, `BadAmount`, `OutOfPhase`: the step isn't one of the seat's now.
-    /// - `HistoryFull`: the entry and what it would owe don't fit in the history.
-    /// - `OutOfMemory`: the history's memory couldn't grow. It comes only where places lack for the entry and
-    ///   for what it would owe.
+    /// - `Recorded`: the one entry that the step makes, and the waiter that it names. The first five faults
+    ///   are recorded in this way.
+    /// - `Sleep`: nothing is recorded, and the seat keeps waiting. Its mark is cleared.
+    /// - `WrongMode`, `NoSuchCondition`, `BadAmount`, `OutOfPhase`: the seat can't make this step now.
+    /// - `HistoryFull`: the entry, with what it would owe, doesn't fit in the history.
+    /// - `OutOfMemory`: the history's memory couldn't grow. It is returned only if places are lacking for the
+    ///   entry and for what it would owe.
     ///
-    /// The history's places become those of the pages that its entries take, with all that is owed, where
-    /// these are more than there were. After a fault nothing has changed, and after a sleep the mark of the
-    /// seat alone. What ends a wait, gives a hold back or moves a sleeper always finds room and memory.
+    /// The history's places grow to the pages that its entries take, with all that is owed, and never shrink.
+    /// After a fault nothing has changed. After a sleep only the mark of the seat has. What ends a wait,
+    /// releases a hold or moves a waiter always finds room and memory.
     ///
-    /// Whom an entry names is marked, and who lapses. A mark goes with its seat's place in line, and when its
-    /// seat is answered `Sleep`. [`is_told`](Core::is_told) answers it.
+    /// The waiter that an entry names is marked, and so is a seat that lapses. A mark is cleared when its
+    /// seat leaves the queue, or when its step returns `Sleep`. [`is_told`](Core::is_told) returns it.
     #[inline(always)]
     pub fn step(&mut self, seat: u16, step: Step) -> Result<Answer, Fault>
         requires { seat < self.old.header.seats }
@@ -67,7 +68,8 @@ impl<H: Hooks + Drop> Core<H> {
         ensures places { self.new.places ≡ places_behind self.old result }
         ensures refused { IfOk result (λ answer. KeepsHolds self.old seat answer self.new) }
         ensures owed { MakesOwed self.old seat step → IsOk result }
-        // What was recorded stands in front of what was there. It is of the seat, and names one of the seats.
+        // The new entry comes first in the list. It is the seat's, and the waiter that it names is one of the
+        // seats.
         ensures grown { self.new.entries ≡ made_by result ++ self.old.entries }
         ensures own { IfOk result (λ answer. IsOf seat answer) }
         ensures names { IfOk result (λ answer. NamesBelow self.old.header.seats answer) }
@@ -78,8 +80,8 @@ impl<H: Hooks + Drop> Core<H> {
         }
     }
 
-    /// The same, of a step that is not done at once. The commonest of them have a way of their own, in which it
-    /// is known which entry it is.
+    /// As `step`, for a step that is not done at once. The most frequent ones have a path of their own, on
+    /// which the entry is known.
     #[inline(always)]
     fn step_by_kind(&mut self, seat: u16, step: Step) -> Result<Answer, Fault>
         requires { seat < self.old.header.seats }
@@ -103,7 +105,7 @@ impl<H: Hooks + Drop> Core<H> {
         }
     }
 
-    /// The same, the general way: decide, record, name.
+    /// As `step`, on the general path: decide, record, name.
     #[inline(never)]
     pub(super) fn step_in_full(&mut self, seat: u16, step: Step) -> Result<Answer, Fault>
         requires { seat < self.old.header.seats }

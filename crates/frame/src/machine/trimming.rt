@@ -9,11 +9,12 @@ use crate::hooks::Hooks;
 use history::fault::Fault;
 
 impl<H: Hooks + Drop> Core<H> {
-    /// Folds all entries into the base, and answers how many. Their room comes back. It takes no memory.
+    /// Folds all entries into the base, and returns how many there were. Their places become free. It
+    /// allocates nothing.
     ///
-    /// Base and list alone change: who holds, who waits and which room is owed stay.
+    /// Only base and list change. Who holds, who waits and which room is owed stays.
     ///
-    /// `TrimFull`: more entries would be folded than there may be. Then nothing has changed.
+    /// `TrimFull`: the base's limit of folded entries would be passed. Then nothing has changed.
     pub fn trim(&mut self) -> Result<u64, Fault>
         ensures count { IfOk result (λ count. count ≡ length self.old.entries) }
         ensures trimmed { OnOk result (self.new ≡ trimmed self.old) }

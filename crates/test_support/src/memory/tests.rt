@@ -1,9 +1,9 @@
-//! That the heap refuses what was taken, and gives what was given back.
+//! The heap refuses what was taken, and returns what was freed.
 
 use super::*;
 use std::test::Fail;
 
-/// A leak of one byte takes a part of a piece, and so the whole of it.
+/// A leak of one byte takes part of a piece, so the whole piece is missed.
 #[test]
 fn a_piece_of_which_a_byte_is_taken_is_not_free(rt: HostRuntime) -> Result<(), Fail> {
     let mut memory = Memory::take_all(rt.alloc(), 4096)?;

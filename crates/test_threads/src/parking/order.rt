@@ -1,4 +1,4 @@
-//! Parks, unparks and interrupts as data, and which answer comes first.
+//! Parks, unparks and interrupts as data, and which result takes precedence.
 ghost use Rattle.std.specs.Prelude.{◌≡◌, ◌≤◌, ◌<◌};
 
 use permit::{Call, Parking, ScriptedParking, ThreadParking, Woke};
@@ -12,23 +12,23 @@ use std::time::{Clock, Duration};
 enum Deed {
     Unpark(u8),
     Interrupt(u8),
-    /// The seat's flag is asked for, and cleared.
+    /// The seat's flag is read and cleared.
     Take(u8),
-    /// A park for so many milliseconds, or without a time, that minds an interrupt or doesn't.
+    /// A park for this number of milliseconds, or without a timeout, that is interruptible or not.
     Park(u8, Option<u64>, bool),
 }
 
-/// What is done, and what is answered.
+/// What is done, and its result.
 type Row = (Deed, u8);
 
-/// Rows, each written `Deed => answer`.
+/// Rows, each written `Deed => result`.
 macro_rules! deeds {
     ($($deed:ident($($of:expr),*) => $told:expr),* $(,)?) => {
         [$((Deed::$deed($($of),*), $told)),*]
     };
 }
 
-/// The answers. An unpark and an interrupt have none.
+/// The results. An unpark and an interrupt have none.
 const NONE: u8 = 0;
 
 const NOT_SET: u8 = 1;
@@ -97,8 +97,8 @@ fn answer_all<P: Parking, R: Abort + Wait + Clock>(rt: &R, parking: &P, rows: &[
     }
 }
 
-/// An interrupt comes before a permit, and a permit before a deadline. A permit doesn't count. Who takes a
-/// permit leaves an interrupt, and the other way round. Signals of a seat are nothing to its neighbours.
+/// An interrupt takes precedence over a permit, and a permit over a deadline. A permit doesn't count. Taking
+/// a permit leaves an interrupt, and the other way round. Signals of a seat don't affect other seats.
 static IN_ORDER: [Row; 31] = deeds![
     Interrupt(0) => NONE, Unpark(0) => NONE, Unpark(0) => NONE, Park(0, None, true) => INTERRUPTED,
     Take(0) => NOT_SET, Park(0, None, false) => PERMIT, Park(0, Some(1), false) => DEADLINE,
@@ -145,8 +145,8 @@ fn each_deadline_has_come_if_the_clock_cant_be_read(rt: HostRuntime) {
     assert_eq!(rt; parking.now(&NoClock), u64::MAX);
 }
 
-/// An answer that may not be given is used up: an end of its time without a time, an interrupt that the park
-/// doesn't mind. Once none is left each park has a permit.
+/// A result that doesn't fit the call is used up: a deadline without a timeout, or an interrupt for a park
+/// that isn't interruptible. When the list is empty each park returns `Permit`.
 static SCRIPTED: [Row; 13] = deeds![
     Interrupt(1) => NONE, Interrupt(255) => NONE, Park(3, Some(5), true) => DEADLINE,
     Park(1, Some(5), true) => INTERRUPTED, Take(1) => NOT_SET, Park(3, Some(5), true) => PERMIT,
@@ -164,7 +164,7 @@ const ANSWERS: [Woke; 6] = [
     Woke::Deadline,
 ];
 
-/// There is place for four.
+/// There are places for four calls.
 const RECORDED: [Call; 4] = [
     Call::Interrupt { seat: 1 },
     Call::Interrupt { seat: 255 },

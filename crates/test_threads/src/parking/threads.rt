@@ -9,10 +9,10 @@ use std::thread::{Threads, join};
 use std::time::{Clock, Duration};
 use std::{fs, thread};
 
-/// So many milliseconds a thread waits before it wakes another, which sleeps by then.
+/// After this number of milliseconds a thread wakes another, which sleeps by then.
 const LATER: u64 = 30;
 
-/// So many nanoseconds: less than a thread takes that spins so long, even where others have most of the
+/// In nanoseconds, less than a thread uses that spins during that time, even if others have most of the
 /// processors.
 const LITTLE: u64 = 5_000_000;
 
@@ -27,7 +27,7 @@ fn send_later<R: Clock>(rt: &R, parking: &ThreadParking, is_interrupt: bool)
     }
 }
 
-/// What seat 0 is answered that sleeps until another thread unparks or interrupts it.
+/// Returns the result of a park at seat 0 that another thread unparks or interrupts.
 fn woken<R: Threads + Wait + Clock + Sync>(
     rt: &R,
     parking: &ThreadParking,
@@ -59,7 +59,7 @@ fn one_who_sleeps_is_woken_by_an_unpark_and_by_an_interrupt(rt: HostRuntime) {
     assert_eq!(rt; parking.park(&rt, 0, Some(0), true), Woke::Deadline);
 }
 
-/// The processor time that the calling thread has had, in nanoseconds.
+/// Returns the processor time of the calling thread, in nanoseconds.
 fn processor_time<R: Files + AllocGlobal>(rt: &R) -> Option<u64> {
     let told = fs::read_to_string(rt, "/proc/thread-self/schedstat").ok()?;
     told.split(' ').next()?.parse::<u64>().ok()
@@ -78,7 +78,7 @@ fn one_who_sleeps_takes_no_processor_time(rt: HostRuntime) {
     assert!(rt; until <= parking.now(&rt));
 }
 
-/// How often each answer came.
+/// How often each result came.
 #[derive(Clone, Copy)]
 struct Tally {
     permits: u32,
@@ -86,7 +86,7 @@ struct Tally {
     deadlines: u32,
 }
 
-/// Parks at seat 0 with short timeouts until so many signals were answered, and unparks seat 1 after each.
+/// Parks at seat 0 with short timeouts until `signals` signals have come, and unparks seat 1 after each.
 fn answer_all<R: Wait + Clock>(rt: &R, parking: &ThreadParking, signals: u32) -> Tally
     requires { 1 < parking.now }
 {
@@ -115,7 +115,7 @@ fn answer_all<R: Wait + Clock>(rt: &R, parking: &ThreadParking, signals: u32) ->
 }
 
 /// Sends seat 0 an unpark or, each third time, an interrupt, about when a timeout ends there. It parks at
-/// seat 1 until the signal is answered. A wake that is lost leaves it asleep.
+/// seat 1 until the signal has come. If a wake were lost it would sleep on.
 fn send_all<R: Wait + Clock>(rt: &R, parking: &ThreadParking, signals: u32) -> u32
     requires { 1 < parking.now }
 {

@@ -1,7 +1,7 @@
-//! A pass that is dropped while its seat holds nothing, waits in line, sleeps or holds.
+//! A pass that is dropped while its seat holds nothing, waits in the queue or on a condition, or holds.
 //!
-//! Nobody can step such a seat any more. The others go on by the rules: the line may stand behind it for
-//! good. Their passes are too few to close the lock, and come back with it.
+//! Nobody can step such a seat any more. The others go on by the rules: waiters after it may wait forever.
+//! Their passes are too few to close the lock, and are returned with it.
 use crate::asks::{DONE, NAMES, NO, NOT_OWNER, Reply, YES};
 use crate::plays::{LOCK, TWO, Tale, play_all};
 use history::entry::Mode;
@@ -20,7 +20,7 @@ const LOOK: Step = Step::Look;
 
 const EXPIRE: Step = Step::Expire;
 
-/// The gives that name seats 1 and 2.
+/// The results of releases that name seats 1 and 2.
 const TO_ONE: Reply = Ok(NAMES + 1);
 
 const TO_TWO: Reply = Ok(NAMES + 2);
@@ -38,7 +38,7 @@ const IDLE: Tale = Tale {
     ..LOCK
 };
 
-/// Only an untimed try passes it. Who waits behind it sleeps until its timeout or an interrupt.
+/// Only an untimed try overtakes it. A waiter after it sleeps until its timeout or an interrupt.
 const HEAD: Tale = Tale {
     name: "a fair line stands behind an abandoned head",
     rows: rows![
@@ -50,7 +50,7 @@ const HEAD: Tale = Tale {
     ..IDLE
 };
 
-/// Nobody passes it. A try misses, as one with no time to wait does.
+/// Nobody overtakes it. A try fails, as an acquire with a timeout of zero does.
 const STRICT: Tale = Tale {
     name: "a strict lock is not tried past an abandoned head",
     header: Header {
@@ -80,7 +80,7 @@ const BARGED: Tale = Tale {
     ..IDLE
 };
 
-/// A sleeper is in nobody's way until it is signalled. Then it stands in line.
+/// A waiter of a condition hinders nobody until it is signalled. Then it is in the queue.
 const SLEEPER: Tale = Tale {
     name: "an abandoned sleeper is moved by a signal",
     rows: rows![

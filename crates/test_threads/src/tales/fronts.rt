@@ -1,4 +1,4 @@
-//! What each call of a front type answers, by one thread. A wait ends as the parking is told.
+//! What each call of a front type returns, in one thread. A wait ends as the parking is scripted.
 use crate::asks::{DONE, INTERRUPTED, NAMES, NO, NOT_OWNER, Reply, YES};
 use crate::plays::{LOCK, TWO, Tale, play_all};
 use crate::tales::{A_MINUTE, HEARS, INTERRUPTS, TIMED};
@@ -14,7 +14,7 @@ const HOLDS_READ: Reply = Err(Fault::HoldsRead);
 
 const WRONG: Reply = Err(Fault::WrongMode);
 
-// The seat's own lapse makes it ready, so it is back by the look behind it and doesn't park again.
+// The seat's own lapse makes it ready, so the look after it ends the await, and it doesn't park again.
 const LOCKED: Tale = Tale {
     name: "a lock is reentrant, and a sleep that ends early gives all holds back",
     answers: &[
@@ -42,7 +42,7 @@ const LOCKED: Tale = Tale {
     ..LOCK
 };
 
-/// Calls that mind no interrupt leave it pending.
+/// Calls that aren't interruptible leave it pending.
 const PENDING: Tale = Tale {
     name: "a pending interrupt is refused once",
     rows: rows![
@@ -69,7 +69,7 @@ const LONG: Tale = Tale {
     ..LOCK
 };
 
-/// They have changed places in the list behind that.
+/// They have changed places in the list after that.
 const MET: Tale = Tale {
     name: "passes that met go on, and one misses what the other holds",
     rows: rows![0 Lock => DONE, 0 Meet => DONE, 0 TryLock => NO, 1 Unlock => DONE],
@@ -196,7 +196,7 @@ const OWING: Tale = Tale {
     ..LOCK
 };
 
-/// An interrupt is refused also at 0.
+/// An interrupt makes the call fail also at 0.
 const COUNTED: Tale = Tale {
     name: "a latch is open from zero on, and a count down then changes nothing",
     header: Header {

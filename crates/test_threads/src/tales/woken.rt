@@ -1,7 +1,7 @@
-//! Who waits in a thread of its own: where it parks, and who unparks it.
+//! A waiter in a thread of its own: where it parks, and who unparks it.
 //!
-//! The parking ends the parks of the waiter once the other seats have acted, whether or not they unparked it.
-//! So the list of calls tells of each entry that names a seat that this seat alone was unparked for it.
+//! The parking ends the waiter's parks after the other seats have acted, whether or not they unparked it. So
+//! the list of calls shows, for each entry that names a seat, that exactly this seat was unparked.
 use crate::asks::{DONE, INTERRUPTED, NO, YES};
 use crate::plays::{LOCK, TWO, Tale, play_all};
 use crate::tales::{A_MINUTE, HEARS, INTERRUPTS, PLAIN, TIMED, WAKES};

@@ -1,6 +1,7 @@
-//! Calls of a thread while another thread has the value out: none of them waits for it.
+//! Calls of a thread while another thread has taken the value: none of them waits for it.
 //!
-//! A thread waits some 10 seconds for another at most. A call that waited for the value would return too late.
+//! A thread waits at most some 10 seconds for another. A call that waited for the value would return too
+//! late.
 ghost use Rattle.std.specs.Prelude.{◌≡◌, true};
 ghost use Rattle.word_lock.specs.Ready.{IsReady};
 
@@ -13,11 +14,11 @@ use std::thread::{Threads, join, sleep};
 use std::time::{Clock, Duration};
 use word_lock::{Token, WordLock};
 
-/// How often a thread looks how far the other is, a millisecond apart.
+/// How often a thread checks how far the other is, once a millisecond.
 const LOOKS: u32 = 10_000;
 
-/// How far two threads are: 1 once the value is out, 2 once the calls that may not wait have returned or the
-/// second thread is about to wait for the value, 3 once the value was given back.
+/// How far two threads are. 1: the value is taken. 2: the calls that may not wait have returned, or the
+/// second thread is about to wait for the value. 3: the value was put back.
 #[derive(Drop)]
 struct Stage {
     reached: AtomicU64,
@@ -28,7 +29,7 @@ impl Stage {
         self.reached.store(stage, Ordering::SeqCst);
     }
 
-    /// Says whether it was reached in time.
+    /// Waits until this stage is reached, and returns whether it was reached in time.
     fn wait<R: Clock>(&self, rt: &R, stage: u64) -> bool {
         for _ in 0..LOOKS {
             if stage <= self.reached.load(Ordering::SeqCst) {
@@ -40,10 +41,10 @@ impl Stage {
     }
 }
 
-/// So many milliseconds after a thread was about to wait for the value, it sleeps.
+/// This number of milliseconds after a thread was about to wait for the value, it sleeps.
 const ASLEEP: u64 = 50;
 
-/// Has the value out until the other thread has called. Says whether it did in time.
+/// Takes the value until the other thread has called. Returns whether that was in time.
 fn hold<R: Wait + Clock>(
     rt: &R,
     lock: &WordLock<Notes>,
@@ -64,7 +65,7 @@ fn hold<R: Wait + Clock>(
     (token, in_time)
 }
 
-/// Asks for the value, has two tokens meet, and joins them. Says whether the value was out.
+/// Asks for the value, lets two tokens meet, and joins them. Returns whether the value was taken.
 fn call_meanwhile<R: Clock>(
     rt: &R,
     lock: &WordLock<Notes>,
@@ -130,7 +131,8 @@ fn who_asks_now_meets_or_joins_doesnt_wait_for_the_value(rt: HostRuntime) {
     assert_eq!(rt; notes.list.len(), 0);
 }
 
-/// Waits for the value, and has it out until the other thread has given it. Says whether it had in time.
+/// Waits for the value, and keeps it until the other thread has put it back. Returns whether that was in
+/// time.
 fn take_over<R: Wait + Clock>(
     rt: &R,
     lock: &WordLock<Notes>,

@@ -1,5 +1,5 @@
-//! A value to lock: a header beside entries, oldest first. Its point is the base of that header as it is
-//! opened, and these entries.
+//! A value to lock: a header, and entries, the oldest first. Its point is the opening base of that header,
+//! with these entries.
 ghost use Rattle.std.specs.Prelude.{◌≡◌, ℕ, [], reverse, IfOk};
 ghost use Rattle.history.specs.Base.{opening_base};
 ghost use Rattle.word_lock.specs.Point.{Agrees, Follows};
@@ -49,7 +49,7 @@ impl Chronicle for Notes {
 }
 
 impl Notes {
-    /// Notes that have room for so many entries.
+    /// Returns notes with room for `entries` entries.
     pub fn with_room(alloc: Global, entries: usize) -> Result<Notes, AllocError>
         ensures { IfOk result (λ notes. (seat : ℕ) → Agrees
             (record { base = opening_base notes.header; entries = reverse notes.list.items }) seat []) }
@@ -69,7 +69,7 @@ impl Notes {
         Ok(())
     }
 
-    /// How many entries the seat has.
+    /// Returns how many entries the seat has.
     pub fn count_of(&self, seat: u16) -> usize {
         self.list.iter().filter(|entry| entry.seat == seat).count()
     }

@@ -1,4 +1,4 @@
-//! Tokens that add entries under the lock, by turns and in threads.
+//! Tokens that add entries under the lock, in turns and in threads.
 ghost use Rattle.std.specs.Prelude.{◌≡◌, ◌+◌, ◌<◌, true};
 ghost use Rattle.history.specs.declared.point.Point.{Point};
 ghost use Rattle.word_lock.specs.Ticket.{opening_tickets};
@@ -11,7 +11,7 @@ use std::thread::{Threads, join, sleep};
 use std::time::{Clock, CpuClock, Duration};
 use word_lock::{Token, WordLock};
 
-/// The last of the tokens that `open` gave.
+/// Returns the last of the tokens that `open` returned.
 pub fn last(lock: &WordLock<Notes>, tokens: &mut Vec<Token>, left: u16) -> Token
     requires few { left < 100 }
     requires tokens { (p : Point) × (tokens.old.items ≡ opening_tickets lock.now p 0 (left + 1)) }
@@ -24,7 +24,7 @@ pub fn last(lock: &WordLock<Notes>, tokens: &mut Vec<Token>, left: u16) -> Token
     }
 }
 
-/// What a thread does: so many times it waits `before` milliseconds, and has the lock for `within`.
+/// What a thread does `count` times: it waits `before` milliseconds, and has the lock for `within`.
 #[derive(Clone, Copy)]
 struct Turns {
     count: u32,
@@ -38,7 +38,7 @@ fn wait_for<R: Clock>(rt: &R, milliseconds: u64) {
     }
 }
 
-/// Adds an entry, and says whether there was memory for it.
+/// Adds an entry, and returns whether there was memory for it.
 fn add<R: Wait + Clock>(
     rt: &R,
     lock: &WordLock<Notes>,
@@ -74,7 +74,7 @@ fn add_all<R: Abort + Wait + Clock>(
     token
 }
 
-/// How many entries the seat `of` has, if nobody has the value.
+/// Returns how many entries the seat `of` has, if nobody has taken the value.
 pub fn count_now(lock: &WordLock<Notes>, token: &mut Token, seat: u16, of: u16) -> Option<usize>
     requires { IsReady lock.now seat token.old }
     ensures { IsReady lock.now seat token.new }
@@ -85,7 +85,7 @@ pub fn count_now(lock: &WordLock<Notes>, token: &mut Token, seat: u16, of: u16) 
     Some(count)
 }
 
-/// Whether one token finds the value out while the other, whose seat is 0, adds an entry.
+/// Returns whether one token finds the value taken while the other, whose seat is 0, adds an entry.
 pub fn is_refused_meanwhile<R: Wait>(
     rt: &R,
     lock: &WordLock<Notes>,
@@ -165,7 +165,7 @@ const MANY: Turns = Turns {
     within: 0,
 };
 
-/// What two threads leave behind that add entries under a lock.
+/// Returns what two threads leave that add entries under a lock.
 fn added<R: Abort + Threads + Wait + Clock + Sync + AllocGlobal>(
     rt: &R,
     first: Turns,
@@ -188,7 +188,7 @@ fn two_threads_add_1000_entries_each(rt: HostRuntime) {
     assert_eq!(rt; (notes.count_of(0), notes.count_of(1)), (1000, 1000));
 }
 
-/// One has the lock for so many milliseconds, and the other comes meanwhile.
+/// One thread has the lock for this number of milliseconds, and the other comes meanwhile.
 const HOLDS: Turns = Turns {
     count: 1,
     before: 0,
@@ -207,10 +207,10 @@ const COMES_LATER: Turns = Turns {
     within: 0,
 };
 
-/// So much of a processor's time the two threads use at most, in milliseconds.
+/// The most processor time that the two threads use, in milliseconds.
 const USED: u64 = 60;
 
-// The second thread sleeps, and is woken. One that spins uses the processor all the while.
+// The second thread sleeps, and is woken. A thread that spins would use the processor all the while.
 #[test]
 fn one_who_sleeps_is_woken(rt: HostRuntime) {
     let before = rt.process_cpu_time().expect(&rt, "a clock");
@@ -223,7 +223,7 @@ fn one_who_sleeps_is_woken(rt: HostRuntime) {
     assert!(rt; used < Duration::from_millis(USED), "{used:?}");
 }
 
-/// Two sleep while a third one has the lock. Who is woken first wakes the other.
+/// Two threads sleep while a third one has the lock. The one that is woken first wakes the other.
 #[test]
 fn who_was_woken_wakes_the_next(rt: HostRuntime) {
     let notes = Notes::with_room(rt.alloc(), 0).expect(&rt, "memory");
@@ -250,7 +250,7 @@ fn open_for<R: Abort + AllocGlobal>(rt: &R, seats: u16) {
     assert_eq!(rt; tokens.len(), usize::from(seats));
 }
 
-/// Each number that there are seats for, and the greatest.
+/// Each possible number of seats, and the greatest number.
 #[test]
 fn a_lock_has_a_token_for_each_seat(rt: HostRuntime) {
     for seats in 1..=256 {
