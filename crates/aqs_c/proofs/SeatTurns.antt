@@ -1,9 +1,8 @@
 -- Who waits after the turns of its call, and after what changes nothing of it.
-use Rattle.std.proofs.Common.{◌≡◌, ◌⊎◌, inl, inr, ℕ, Bool, true, false, cond, is_some, List, Option, Some, None, Result, Ok, Err, refl, sym, ap, ◌∙◌, subst}
+use Rattle.std.proofs.Common.{◌≡◌, inl, inr, ℕ, Bool, true, false, cond, is_some, List, Option, Some, None, Result, Ok, Err, refl, sym, ap, ◌∙◌, subst}
 use Rattle.std.specs.Prelude.{IfNone, IfSome, MatchOption}
-use Rattle.history.specs.Awaiting.{ReturnsAs, lapsed}
-use Rattle.history.specs.Base.{Base, based}
-use Rattle.history.specs.Start.{Sleep}
+use Rattle.history.specs.Awaiting.{lapsed}
+use Rattle.history.specs.Base.{Base}
 use Rattle.history.specs.declared.arrival.Arrival.{Arrival}
 use Rattle.history.specs.declared.entry.Entry.{Entry}
 use Rattle.history.specs.declared.fault.Fault.{Fault}
@@ -19,7 +18,7 @@ use Rattle.word_lock.specs.Point.{Agrees, Before}
 use Rattle.monitor.specs.Machine.{IsBegun, IsGoneOn, later_turn, next_behind, step_at, step_of_waiting, step_within}
 use Rattle.monitor.specs.Observing.{IsLook}
 use Rattle.monitor.specs.Shown.{Shown, IsTrue}
-use Rattle.monitor.specs.Stepping.{IsSame, IsStep, IsTrim, IsUnparked}
+use Rattle.monitor.specs.Stepping.{IsSame, IsTrim, IsUnparked}
 use Rattle.monitor.specs.Waits.{Cause, Waits, WaitsAs, in_line, is_lapse, on_condition, on_way_back}
 use Rattle.monitor.specs.declared.how.How.{How}
 use Rattle.monitor.specs.declared.machine.Next.{Next}
