@@ -3,10 +3,10 @@
 
 First plain rt ci: each proof, each test and program, and the few wrong bodies of must-fail/. Then, over what it
 built, the program answers the files of examples/ and cases/ (`examples.py`), and random, spoilt and endless texts,
-storms of threads and failing devices (`by_program.py`). The page of the first hour is followed by the letter
-(`first_hour.py`). The wrong bodies of wrong-bodies/ are held to their ledger, of which a sample is tried again
-(`wrong_bodies.py`). The commit's hash decides which, and which texts. --write writes the ledger's lines anew. Behind
-each step stands how long it took.
+storms of threads and failing devices (`by_program.py`). The library for C is built, and its callers in other languages
+are tested (`bindings.py`). The page of the first hour is followed by the letter (`first_hour.py`). The wrong bodies of
+wrong-bodies/ are held to their ledger, of which a sample is tried again (`wrong_bodies.py`). The commit's hash decides
+which, and which texts. --write writes the ledger's lines anew. Behind each step stands how long it took.
 
 A clean clone is checked where it is. A tree in which checks have left their out/ is copied without it first. The last
 line is 'N passed, M failed' for all of this, and the status is 1 if anything failed.
@@ -82,6 +82,7 @@ def steps(tree, is_written):
     yield ["rt", "ci"], COUNTED
     yield [*python, f"{tree}/checks/examples.py", program], COUNTED
     yield [*python, f"{tree}/checks/by_program.py", program, seed()], COUNTED
+    yield [*python, f"{tree}/checks/bindings.py", program], COUNTED
     yield [*python, f"{tree}/checks/first_hour.py"], COUNTED
     more = ["--write"] if is_written else []
     yield [*python, f"{tree}/checks/wrong_bodies.py", "--built", "--sample", seed(), *more], REFUSED

@@ -230,11 +230,14 @@ static uint8_t trim(aqs_object_t *object, aqs_thread_t me, uint64_t *count) {
     return kind;
 }
 
-/* Whether the history was full, and has room now. */
-static bool makes_room(aqs_object_t *object, aqs_thread_t me, const aqs_answer_t *answer) {
+/* Whether the history was full, and the call is to be made again. A fold that finds nothing may have come
+   right after another thread's. `empty` counts such folds, since the room of an object may also be too small
+   for its threads: then they all find nothing. */
+static bool makes_room(aqs_object_t *object, aqs_thread_t me, uint8_t fault, unsigned *empty) {
     uint64_t count = 0;
-    return answer->kind == AQS_IS_FAULT && answer->fault == AQS_FAULT_HISTORY_FULL && object->trims
-        && trim(object, me, &count) == AQS_IS_ENTRY && count > 0;
+    if (fault != AQS_FAULT_HISTORY_FULL || !object->trims) return false;
+    if (trim(object, me, &count) != AQS_IS_ENTRY) return false;
+    return count > 0 || ++*empty < 100;
 }
 
 /* What a caller owes after each turn. */
@@ -246,12 +249,12 @@ static void settle(aqs_object_t *object, aqs_thread_t me, const aqs_answer_t *an
 
 static aqs_answer_t make_step(aqs_object_t *object, aqs_thread_t me, aqs_step_t step) {
     aqs_answer_t answer;
-    unsigned looks = 0;
+    unsigned looks = 0, empty = 0;
     __tsan_release(object);
     for (;;) {
         aqs_step_now(&object->seats[me].pass, step, &answer);
         if (answer.kind == AQS_IS_BUSY) back_off(&looks);
-        else if (!makes_room(object, me, &answer)) break;
+        else if (answer.kind != AQS_IS_FAULT || !makes_room(object, me, answer.fault, &empty)) break;
     }
     settle(object, me, &answer);
     return answer;
@@ -259,7 +262,7 @@ static aqs_answer_t make_step(aqs_object_t *object, aqs_thread_t me, aqs_step_t 
 
 static aqs_answer_t make_call(aqs_object_t *object, aqs_thread_t me, aqs_call_t call) {
     aqs_answer_t answer;
-    unsigned looks = 0;
+    unsigned looks = 0, empty = 0;
     place_t *place = &places[me];
     call.interrupted = call.how != AQS_HOW_PLAIN && take(place, INTERRUPT);
     call.moment = call.how == AQS_HOW_TIMED ? now_in_milliseconds() : 0;
@@ -267,7 +270,7 @@ static aqs_answer_t make_call(aqs_object_t *object, aqs_thread_t me, aqs_call_t 
     for (;;) {
         aqs_begin(&object->seats[me].pass, call, &answer);
         if (answer.kind == AQS_IS_BUSY) back_off(&looks);
-        else if (!makes_room(object, me, &answer)) break;
+        else if (answer.kind != AQS_IS_FAULT || !makes_room(object, me, answer.fault, &empty)) break;
     }
     settle(object, me, &answer);
     while (answer.kind == AQS_IS_WAITING) {

@@ -46,7 +46,7 @@ typedef enum {
     AQS_HOLDS_READ,        /* the thread waits on a condition while it holds the lock to read */
     AQS_NO_SUCH_CONDITION, /* the object was opened with fewer conditions */
     AQS_BAD_AMOUNT,        /* more than 2147483647 permits, or fewer than 0 */
-    AQS_HISTORY_FULL,      /* the object keeps its history, and it is full */
+    AQS_HISTORY_FULL,      /* the history is full, and kept; or too small for all who wait */
     AQS_OUT_OF_MEMORY,
     AQS_OUT_OF_RANGE,      /* an option isn't one that the object may have */
     AQS_TOO_MANY_THREADS,  /* the object was opened for fewer threads, or AQS_THREADS are alive */

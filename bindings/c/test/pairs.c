@@ -27,6 +27,12 @@ static atomic_ulong pairs, nanoseconds;
 
 static void nothing(void) {}
 
+static void must(aqs_status_t status) {
+    if (status == AQS_OK) return;
+    fprintf(stderr, "pairs: %s\n", aqs_status_name(status));
+    abort();
+}
+
 static void mutex_pair(void) {
     pthread_mutex_lock(&mutex);
     number++;
@@ -35,26 +41,26 @@ static void mutex_pair(void) {
 
 static void open_lock(aqs_policy_t policy, aqs_when_full_t when_full) {
     aqs_options_t options = {.policy = policy, .when_full = when_full, .threads = 16};
-    if (aqs_lock_open(&lock, &options) != AQS_OK) abort();
+    must(aqs_lock_open(&lock, &options));
 }
 static void open_nonfair(void) { open_lock(AQS_NONFAIR, AQS_TRIM); }
 static void open_fair(void) { open_lock(AQS_FAIR, AQS_TRIM); }
 static void open_kept(void) { open_lock(AQS_NONFAIR, AQS_REFUSE); }
 static void lock_pair(void) {
-    if (aqs_lock_lock(lock) != AQS_OK) abort();
+    must(aqs_lock_lock(lock));
     number++;
-    if (aqs_lock_unlock(lock) != AQS_OK) abort();
+    must(aqs_lock_unlock(lock));
 }
 static void close_lock(void) { aqs_lock_close(lock); }
 
 static void open_semaphore(void) {
     aqs_options_t options = {.threads = 16};
-    if (aqs_sem_open(&semaphore, 1, &options) != AQS_OK) abort();
+    must(aqs_sem_open(&semaphore, 1, &options));
 }
 static void semaphore_pair(void) {
-    if (aqs_sem_acquire(semaphore, 1) != AQS_OK) abort();
+    must(aqs_sem_acquire(semaphore, 1));
     number++;
-    if (aqs_sem_release(semaphore, 1) != AQS_OK) abort();
+    must(aqs_sem_release(semaphore, 1));
 }
 static void close_semaphore(void) { aqs_sem_close(semaphore); }
 

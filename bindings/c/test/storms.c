@@ -115,9 +115,15 @@ static void *pass_items(void *number) {
     return NULL;
 }
 
-static void lock_storm(aqs_policy_t policy, const char *name) {
+/* Room for what the threads may have to record as they wait, and little more, so that it is folded often. */
+static uint32_t history_of(aqs_when_full_t when_full) {
+    return when_full == AQS_TRIM ? 16 + 8 * (uint32_t)threads : 0;
+}
+
+static void lock_storm(aqs_policy_t policy, aqs_when_full_t when_full, const char *name) {
     aqs_options_t options = {
-        .policy = policy, .when_full = AQS_REFUSE, .threads = AQS_THREADS, .conditions = 2};
+        .policy = policy, .when_full = when_full, .threads = AQS_THREADS, .conditions = 2,
+        .history = history_of(when_full)};
     IS(aqs_lock_open(&lock, &options), AQS_OK);
     count = 0;
     put = got = 0;
@@ -194,12 +200,34 @@ static void *use_permits(void *number) {
     return NULL;
 }
 
-static void semaphore_storm(aqs_policy_t policy, const char *name) {
-    aqs_options_t options = {.policy = policy, .when_full = AQS_REFUSE, .threads = AQS_THREADS};
+static void semaphore_storm(aqs_policy_t policy, aqs_when_full_t when_full, const char *name) {
+    aqs_options_t options = {
+        .policy = policy, .when_full = when_full, .threads = AQS_THREADS, .history = history_of(when_full)};
     IS(aqs_sem_open(&semaphore, PERMITS, &options), AQS_OK);
     storm(use_permits);
     CHECK(atomic_load(&inside) == 0);
     keep(aqs_sem_object(semaphore), name);
+    aqs_sem_close(semaphore);
+}
+
+/* Short calls over a history that is folded all the time, by several threads at once: none finds it full. */
+
+static void *fold_often(void *number) {
+    (void)number;
+    for (int i = 0; i < 50 * rounds; i++) {
+        aqs_status_t status = aqs_sem_tryacquire(semaphore, 1);
+        if (status == AQS_WOULD_BLOCK) continue;
+        IS(status, AQS_OK);
+        IS(aqs_sem_release(semaphore, 1), AQS_OK);
+    }
+    return NULL;
+}
+
+static void fold_storm(void) {
+    aqs_options_t options = {.threads = AQS_THREADS, .history = history_of(AQS_TRIM)};
+    IS(aqs_sem_open(&semaphore, PERMITS, &options), AQS_OK);
+    storm(fold_often);
+    keep(aqs_sem_object(semaphore), "folds");
     aqs_sem_close(semaphore);
 }
 
@@ -237,12 +265,15 @@ int main(int word_count, char **words) {
     rounds = atoi(words[3]);
     CHECK(0 < threads && threads <= AQS_THREADS);
     alarm(SECONDS);
-    lock_storm(AQS_NONFAIR, "lock");
-    lock_storm(AQS_FAIR, "fair-lock");
+    lock_storm(AQS_NONFAIR, AQS_REFUSE, "lock");
+    lock_storm(AQS_FAIR, AQS_REFUSE, "fair-lock");
+    lock_storm(AQS_NONFAIR, AQS_TRIM, "folded-lock");
     rwlock_storm(AQS_NONFAIR, "rwlock");
     rwlock_storm(AQS_FAIR, "fair-rwlock");
-    semaphore_storm(AQS_NONFAIR, "semaphore");
-    semaphore_storm(AQS_STRICT, "strict-semaphore");
+    semaphore_storm(AQS_NONFAIR, AQS_REFUSE, "semaphore");
+    semaphore_storm(AQS_STRICT, AQS_REFUSE, "strict-semaphore");
+    semaphore_storm(AQS_NONFAIR, AQS_TRIM, "folded-semaphore");
+    fold_storm();
     latch_storm();
     printf("storms of %d threads: good\n", threads);
     return 0;

@@ -1,8 +1,8 @@
 -- Who waits after the turns of its call, and after what changes nothing of it.
-use Rattle.std.proofs.Common.{◌≡◌, ◌⊎◌, inl, inr, ℕ, Bool, true, false, cond, is_some, List, Option, Some, None, Result, Ok, Err, refl, sym, ap, ◌∙◌, subst}
-use Rattle.history.specs.Awaiting.{ReturnsAs, lapsed}
-use Rattle.history.specs.Base.{Base, based}
-use Rattle.history.specs.Start.{Sleep}
+use Rattle.std.proofs.Common.{◌≡◌, inl, inr, ℕ, Bool, true, false, cond, is_some, List, Option, Some, None, Result, Ok, Err, refl, sym, ap, ◌∙◌, subst}
+use Rattle.std.specs.Prelude.{IfNone, IfSome, MatchOption}
+use Rattle.history.specs.Awaiting.{lapsed}
+use Rattle.history.specs.Base.{Base}
 use Rattle.history.specs.declared.arrival.Arrival.{Arrival}
 use Rattle.history.specs.declared.entry.Entry.{Entry}
 use Rattle.history.specs.declared.fault.Fault.{Fault}
@@ -18,7 +18,7 @@ use Rattle.word_lock.specs.Point.{Agrees, Before}
 use Rattle.monitor.specs.Machine.{IsBegun, IsGoneOn, later_turn, next_behind, step_at, step_of_waiting, step_within}
 use Rattle.monitor.specs.Observing.{IsLook}
 use Rattle.monitor.specs.Shown.{Shown, IsTrue}
-use Rattle.monitor.specs.Stepping.{IsSame, IsStep, IsTrim, IsUnparked}
+use Rattle.monitor.specs.Stepping.{IsSame, IsTrim, IsUnparked}
 use Rattle.monitor.specs.Waits.{Cause, Waits, WaitsAs, in_line, is_lapse, on_condition, on_way_back}
 use Rattle.monitor.specs.declared.how.How.{How}
 use Rattle.monitor.specs.declared.machine.Next.{Next}
@@ -34,7 +34,8 @@ use Rattle.monitor.proofs.TurnByTurn.{begun_waits, never_waits, waits_now}
 use Rattle.monitor.proofs.Turns.{TurnMakes, still_waiting, turn}
 use Rattle.monitor.proofs.Turns as turns
 use Rattle.aqs_c.specs.Seated.{waiting_in}
-use Rattle.aqs_c.specs.Standing.{StandsBy}
+use Rattle.word_lock.specs.Ticket.{LockId}
+use Rattle.aqs_c.specs.Standing.{IsSeat, StandsBy}
 
 -- C is asked for no deed, so any will do
 abbrev any_deed : Deed → Type 0
@@ -143,3 +144,20 @@ pub stands_trimmed : (old new : Shown) (waiting : Option Waiting) (r : Result �
     IsTrue new → IsSame old new → IsTrim old r new → StandsBy waiting old → StandsBy waiting new
 stands_trimmed old new waiting r was shows same trim stands =
     stands_later old new waiting was shows same.seat trim.after trim.mine stands
+
+-- A seat stays one whose pass looked or folded, or found the object busy.
+pub seat_read : {A : Type 0} (lock : LockId) (old new : Shown) (waiting : Option Waiting) (r : Option A) →
+    IsTrue old → IsTrue new → IfNone r (new ≡ old) → IfSome r (λ _. IsLook old new) →
+    IsSeat lock old waiting → IsSeat lock new waiting
+seat_read lock old new waiting None was shows busy looked seat =
+    subst (λ (p : Shown). IsSeat lock p waiting) (sym busy) seat
+seat_read lock old new waiting (Some a) was shows busy looked seat =
+    (looked.lock ∙ seat.0, stands_looked old new waiting was shows looked seat.1)
+
+pub seat_trimmed : (lock : LockId) (old new : Shown) (waiting : Option Waiting) (r : Option (Result ℕ Fault)) →
+    IsTrue old → IsTrue new → IsSame old new → MatchOption r (new ≡ old) (λ count. IsTrim old count new) →
+    IsSeat lock old waiting → IsSeat lock new waiting
+seat_trimmed lock old new waiting None was shows same busy seat =
+    subst (λ (p : Shown). IsSeat lock p waiting) (sym busy) seat
+seat_trimmed lock old new waiting (Some count) was shows same trim seat =
+    (same.lock ∙ seat.0, stands_trimmed old new waiting count was shows same trim seat.1)

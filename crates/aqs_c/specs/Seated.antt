@@ -1,5 +1,5 @@
 -- What a seat shows.
-use Rattle.std.specs.Prelude.{◌≡◌, Option, Some, None}
+use Rattle.std.specs.Prelude.{Option, Some, None}
 use Rattle.monitor.specs.Shown.{Shown}
 use Rattle.monitor.specs.declared.machine.Next.{Next}
 use Rattle.monitor.specs.declared.machine.Next.TheVariants.{Ends, Waits}

@@ -121,7 +121,7 @@ fn fault_in(word: Word) -> u8
 /// An answer that is no entry, and after which nothing has to be done.
 pub(crate) fn nothing(kind: u8, fault: u8) -> AqsAnswer
     ensures kind { (result.kind ≡ kind) × (result.fault ≡ fault) }
-    ensures none { IsNamed None result × (result.again ≡ false) }
+    ensures none { IsNamed None result × (result.again ≡ false) × (result.parks ≡ false) }
 {
     AqsAnswer {
         until: 0,

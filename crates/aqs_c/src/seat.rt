@@ -88,6 +88,7 @@ impl Seat {
     pub(crate) fn entry(&mut self, number: u64) -> AqsAnswer
         ensures { IsSeatEntry self.old number result self.new }
     {
+        self.pass.is_true();
         let found = self
             .monitor
             .read_quietly(&mut self.pass, |history: &History| history.get(number));
@@ -104,6 +105,7 @@ impl Seat {
         ensures looked { IfSome result (λ _. IsSeatLook self.old self.new) }
         ensures text { IfSome result (λ found. IfOk found (λ text. text.items ≡ text_seen self.new.pass)) }
     {
+        self.pass.is_true();
         self.monitor.read_quietly(&mut self.pass, |history: &History| text_of(alloc, history))
     }
 
@@ -112,6 +114,7 @@ impl Seat {
         ensures busy { IfNone result (self.new ≡ self.old) }
         ensures trimmed { IfSome result (λ folded. IsSeatTrim self.old folded self.new) }
     {
+        self.pass.is_true();
         self.monitor.trim_quietly(&mut self.pass)
     }
 }
