@@ -1,6 +1,5 @@
-use Rattle.std.proofs.Common.{rules, ◌≡◌, ◌∙◌, Bool, true, false, Ok, Err, Result, length, sym, ap, subst}
+use Rattle.std.proofs.Common.{rules, ◌≡◌, ◌∙◌, Bool, true, false, Ok, Result, length, sym, ap, subst}
 use Rattle.history.specs.declared.fault.Fault.{Fault}
-use Rattle.monitor_fronts.specs.Told.{whether_of}
 use Rattle.guarded.specs.Pooling.{Answers, has_after}
 use Rattle.guarded.proofs.pool.Pool.take.Goals as goal
 
