@@ -1,5 +1,5 @@
 -- Items move as permits do: what a step with a trade leaves of a pool.
-use Rattle.std.proofs.Common.{◌≡◌, ◌⊎◌, inl, inr, ⊎_elim, ℕ, ◌+◌, ◌-◌, ◌<◌, ◌≤◌, ◌^◌, Bool, true, cond, List, [], ◌++◌, length, take, drop, refl, sym, ap, ◌∙◌, subst, arith}
+use Rattle.std.proofs.Common.{◌≡◌, ◌⊎◌, inl, inr, ⊎_elim, ℕ, ◌+◌, ◌-◌, ◌<◌, ◌≤◌, ◌^◌, Bool, true, cond, List, [], ◌++◌, length, take, drop, sym, ap, ◌∙◌, arith}
 use Rattle.std.specs.Int.{w32}
 use Rattle.std.specs.Prelude.{FitsSigned, ℤ, pos, ◌+ℤ◌, ◌-ℤ◌, ◌≤ℤ◌}
 use Rattle.std.proofs.lemmas.Bool.{cases_eq}
@@ -14,7 +14,7 @@ use Rattle.history.specs.declared.header.Policy.{Policy}
 use Rattle.history.specs.Counts.{Counts, counts, free}
 use Rattle.history.specs.Object.{is_semaphore}
 use Rattle.history.specs.Start.{Start}
-use Rattle.monitor.specs.Load.{IsFree, IsFreeAfter, IsTurn, given_by}
+use Rattle.monitor.specs.Load.{IsFree, IsTurn, given_by}
 use Rattle.guarded.specs.Shelved.{Lies}
 
 -- what a trade does to the two lists, by how many permits are free then

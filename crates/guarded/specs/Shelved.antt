@@ -1,5 +1,5 @@
 -- Where the items of a pool are: as many lie there as permits are free.
-use Rattle.std.specs.Prelude.{◌≡◌, ℕ, Bool, true, List, length, pos}
+use Rattle.std.specs.Prelude.{◌≡◌, true, List, length, pos}
 use Rattle.std.proofs.Common.{◌∙◌, ap, sym}
 use Rattle.history.specs.Counts.{Counts}
 use Rattle.history.specs.Object.{is_semaphore}

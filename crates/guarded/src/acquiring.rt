@@ -20,10 +20,9 @@ use std::collections::LinkedList;
 use std::sync::Wait;
 use std::time::Clock;
 
-/// Each of these answers just the items that were asked for. Behind an `Err`, or a None, nobody has lost an
-/// item, and the caller has none. A fault is the monitor's: `HistoryFull` where the history has no room,
-/// `OutOfMemory` where memory for it is refused, `BadAmount` above 2147483647, and `Interrupted` where that
-/// is said.
+/// Each acquire returns as many items as were asked for. After an `Err` or a `None` no item is lost, and the
+/// caller has none. A fault is the monitor's: `HistoryFull` if the history has no room, `OutOfMemory` if
+/// memory for it is refused, `BadAmount` above 2147483647, and `Interrupted` where that is said.
 impl<T: Drop> Pool<T> {
     /// Waits until `n` items lie there, or is interrupted: `Err(Interrupted)`, also where an interrupt was
     /// pending. The interrupt is taken. This is `Semaphore.acquire(permits)`.
@@ -111,9 +110,9 @@ impl<T: Drop> Pool<T> {
         self.take(rt, parking, pass, PoolCall::Acquire(n, How::Timed(ms)))
     }
 
-    /// Puts the items into the pool. Where it fails, they come back with the fault: `HistoryFull` and
+    /// Puts the items into the pool. If it fails, they come back with the fault: `HistoryFull` and
     /// `OutOfMemory` as above, `TooManyPermits` if more than 2147483647 would lie there, and `BadAmount` for
-    /// so many at once. This is `Semaphore.release(permits)`.
+    /// more than that at once. This is `Semaphore.release(permits)`.
     pub fn release<P: Parking, R: Wait + Clock>(
         &self,
         rt: &R,
@@ -216,8 +215,8 @@ impl<T: Drop> Pool<T> {
         }
     }
 
-    /// [`release`](Pool::release) of one item. It takes memory for the item's node first: `OutOfMemory` where
-    /// that is refused.
+    /// [`release`](Pool::release) of one item. It takes memory for the item's node first: `OutOfMemory` if
+    /// that is refused, and then nothing was recorded.
     pub fn release_one<P: Parking, R: Wait + Clock>(
         &self,
         rt: &R,

@@ -24,10 +24,10 @@ pub(crate) enum Reading {
 /// A call of a pool.
 #[derive(Clone, Copy)]
 pub(crate) enum PoolCall {
-    /// Waits in line for so many items.
+    /// Waits in line for this many items.
     Acquire(u32, How),
-    /// Takes so many items past those in line.
+    /// Takes this many items past those in line.
     Try(u32),
-    /// Gives so many items back.
+    /// Gives this many items back.
     Release(u32),
 }

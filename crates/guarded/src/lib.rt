@@ -19,7 +19,7 @@
 //!
 //! Each call records its steps in the history of the lock or pool. Where the history is full, one that was
 //! opened with [`WhenFull::Trim`] folds all entries and makes the step again; one with [`WhenFull::Refuse`]
-//! answers `Err(HistoryFull)`. An `unlock` always has room. A `release` of items may have none, and then answers
+//! returns `Err(HistoryFull)`. An `unlock` always has room. A `release` of items may have none, and then returns
 //! the items with the fault, so there is no guard of an item that releases it where it is dropped.
 #![tactic(auto)]
 

@@ -21,7 +21,7 @@ impl<T: Drop> Shelf<T> {
     }
 }
 
-// So many items stay here. Whoever takes some brought none; whoever gave some back brought them.
+// `free` items stay here. Whoever takes some brought none; whoever gave some back brought them.
 fn settle<T: Drop>(here: &mut LinkedList<T>, there: &mut LinkedList<T>, free: usize)
     requires { free < 2 ^ 63 }
     ensures takes { free < length here.old → there.old ≡ [] → (here.new ≡ take free here.old)

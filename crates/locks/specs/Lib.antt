@@ -4,7 +4,9 @@ pub use Rattle.frame.specs.Core
 pub use Rattle.guarded.specs.Asking
 pub use Rattle.guarded.specs.Full
 pub use Rattle.guarded.specs.Guarding
+pub use Rattle.guarded.specs.Pooling
 pub use Rattle.guarded.specs.Reading
+pub use Rattle.guarded.specs.Shelved
 pub use Rattle.guarded.specs.Stowed
 pub use Rattle.history.specs.Counts
 pub use Rattle.history.specs.Entries

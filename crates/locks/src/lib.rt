@@ -1,8 +1,8 @@
 //! # Locks for threads
 //!
 //! The locks of `java.util.concurrent` in Java SE 8, proved: mutexes and read-write locks that own the value
-//! which they guard, and reentrant locks with conditions, read-write locks, semaphores and latches that guard
-//! no value.
+//! which they guard, pools that own the items which they hand out, and reentrant locks with conditions,
+//! read-write locks, semaphores and latches that guard no value.
 //!
 //! A program names this crate alone in `crates.txt`, as `mine: locks`. `docs/FIRST_HOUR.md` goes step by step
 //! from a fresh clone to a program of your own. The types are described in `CALLING.md` of the crates that
@@ -65,6 +65,7 @@
 //! | a value for one thread at a time | `Mutex`, `Guard` | `ReentrantLock` | `Mutex` | `pthread_mutex_t` |
 //! | to wait until the value has changed | `Guard::wait`, `signal` | `Condition` | `Condvar` | `pthread_cond_t` |
 //! | a value that many read, few change | `RwMutex` | `ReentrantReadWriteLock` | `RwLock` | `pthread_rwlock_t` |
+//! | a few items that many threads use | `Pool` | `Semaphore`, and a list | none | `sem_t`, and a list |
 //! | a lock that guards no value | `ReentrantLock` | `ReentrantLock` | none | `pthread_mutex_t` |
 //! | readers and writers of no value | `ReadWriteLock` | `ReentrantReadWriteLock` | none | `pthread_rwlock_t` |
 //! | a limit on threads at once | `Semaphore` | `Semaphore` | none | `sem_t` |
@@ -75,19 +76,21 @@
 //! `Policy` chooses who goes first. With `Fair` a new acquire waits if others wait. With `NonFair` it may
 //! overtake them. With `Strict`, which Java lacks, not even an untimed try overtakes.
 //!
-//! `WhenFull` chooses what a lock does when its history is full. `Trim` is for a program that runs on;
-//! `Refuse` is for one that wants every entry. The lock without a value, the semaphore and the latch refuse,
-//! until the program calls `trim` of their monitor.
+//! `WhenFull` chooses what a lock or a pool does when its history is full. `Trim` is for a program that runs
+//! on; `Refuse` is for one that wants every entry. The lock without a value, the semaphore and the latch
+//! refuse, until the program calls `trim` of their monitor.
 //!
 //! ## What is promised
 //!
 //! Each contract is proved. For each call that returns:
 //!
-//! - *Exclusion.* The value is with one guard, or in the lock. Nobody writes while another thread reads.
+//! - *Exclusion.* The value is with one guard, or in the lock. Nobody writes while another thread reads. As
+//!   many items lie in a pool as permits are free. Each other item is with the one thread that owns it.
 //! - *The value's invariant*, a ghost field of its type, holds whenever a thread gets the value.
 //! - *Order.* No queued acquire is granted before an earlier one that still waits.
 //! - *Unlocking cannot fail.* It lacks neither memory nor room in the history, and a guard unlocks at each
 //!   way out. Releasing a semaphore can fail, since a thread may release permits that it did not acquire.
+//!   Releasing items into a pool can fail, and then returns them.
 //! - *The history.* Each call adds exactly the entries that its contract lists to one legal history, which
 //!   `close` returns.
 //! - *Errors.* After an `Err` the pass holds what it held before. The contract says what was recorded:
@@ -134,7 +137,7 @@
 //! `wait_for`.
 #![tactic(auto)]
 
-pub use guarded::{Guard, Mutex, RwMutex, TryLockFault, WhenFull};
+pub use guarded::{Guard, Mutex, Pool, RwMutex, TryLockFault, WhenFull};
 pub use history::entries::History;
 pub use history::fault::Fault;
 pub use history::header::{Header, Object, Policy};

@@ -1,7 +1,7 @@
+use Rattle.std.specs.Prelude.{nat_abs}
 use mir.Syntax.{w64}
-use mir.Val.{of_z}
-use Rattle.std.proofs.Common.{◌≡◌, ℕ, ◌<◌, [], length, take, drop, sym, ap, subst, arith}
-use Rattle.std.proofs.lemmas.Int.{ints}
+use Rattle.std.proofs.Common.{◌≡◌, ℕ, ◌<◌, [], length, take, drop, sym, ap, ◌∙◌, subst, arith}
+use Rattle.std.proofs.lemmas.Int.{ints, to_z-of_z}
 use Rattle.guarded.proofs.shelf.trade.Goals as goal
 
 pub returns-then-free-lt0-clause-takes : goal.returns-then-free-lt0-clause-takes
@@ -17,10 +17,10 @@ pub returns-clause-takes : goal.returns-clause-takes
 returns-clause-takes g c n is few none =
     subst (λ (m : ℕ). m < length c.args.here.now → c.args.there.now ≡ [] →
     (c.settle.new.here ≡ take m c.args.here.now) × (c.settle.new.there ≡ drop m c.args.here.now))
-    (ap (of_z w64) is) c.settle.ensures.takes few none
+    (ap nat_abs (to_z-of_z w64 c.args.free c.ranges.free ∙ is)) c.settle.ensures.takes few none
 
 pub returns-clause-gives : goal.returns-clause-gives
-returns-clause-gives g c is some = c.settle.ensures.gives (sym (ap (of_z w64) is)) some
+returns-clause-gives g c is some = c.settle.ensures.gives (sym (ap nat_abs (to_z-of_z w64 c.args.free c.ranges.free ∙ is))) some
 
 pub returns-clause-stays : goal.returns-clause-stays
-returns-clause-stays g c is = c.settle.ensures.stays (sym (ap (of_z w64) is))
+returns-clause-stays g c is = c.settle.ensures.stays (sym (ap nat_abs (to_z-of_z w64 c.args.free c.ranges.free ∙ is)))

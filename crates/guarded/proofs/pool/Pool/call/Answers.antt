@@ -1,4 +1,4 @@
-use Rattle.std.proofs.Common.{rules, ◌≡◌, ◌∙◌, Bool, true, Ok, Err, Result, length, ap, subst}
+use Rattle.std.proofs.Common.{rules, ◌≡◌, ◌∙◌, Bool, true, Ok, Result, subst}
 use Rattle.history.specs.declared.fault.Fault.{Fault}
 use Rattle.word_lock.proofs.PointLaws.{before_trans}
 use Rattle.guarded.specs.Full.{MakesRoom}

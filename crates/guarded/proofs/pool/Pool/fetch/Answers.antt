@@ -1,5 +1,3 @@
-use Rattle.std.proofs.Common.{List, Option, Ok, Result, subst}
-use Rattle.history.specs.declared.fault.Fault.{Fault}
 use Rattle.guarded.proofs.Fetching.{never_none}
 use Rattle.guarded.proofs.pool.Pool.fetch.Goals as goal
 

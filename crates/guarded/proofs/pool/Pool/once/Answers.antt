@@ -60,8 +60,8 @@ returns-in-Try-clause-keeps g c =
     keeps_then c.args.asked (whether_of c.enter.result) c.args.shelf.now c.enter.new.load
     (free_of c.args.pass.now) (free_of c.enter.new.pass) (try_left g c).free c.enter.ensures.moves
 
-pub enter-in-Release-requires-clause-brings : goal.enter-in-Release-requires-clause-brings
-enter-in-Release-requires-clause-brings g c = c.requires.brings ∙ ap brought_by c.in-Release.is
+pub enter-requires-in-Release-clause-brings : goal.enter-requires-in-Release-clause-brings
+enter-requires-in-Release-clause-brings g c = c.requires.brings ∙ ap brought_by c.in-Release.is
 
 release_left : (g : _) (c : goal.After-enter-in-Release g) →
     Left c.args.asked c.args.pass.now c.enter-in-Release.result c.enter-in-Release.new.pass

@@ -1,7 +1,5 @@
 use Rattle.std.proofs.Common.{◌∙◌, refl, sym, ap, subst}
 use Rattle.history.specs.Header.{IsInRange}
-use Rattle.history.specs.Object.{is_semaphore}
-use Rattle.history.specs.declared.header.Header.{Header}
 use Rattle.history.specs.declared.header.Object.{Object}
 use Rattle.frame.specs.Core.{header_of}
 use Rattle.monitor.specs.Load.{opened_counts}

@@ -1,7 +1,7 @@
 use Rattle.std.proofs.Common.{inl, inr, refl}
 use Rattle.word_lock.proofs.PointLaws.{before_refl}
 use Rattle.guarded.proofs.Fetching.{same_item}
-use Rattle.guarded.proofs.acquiring.Pool.release_one.Goals as goal
+use Rattle.guarded.proofs.pool.Pool.release_one.Goals as goal
 
 pub returns-in-Err-clause-begins : goal.returns-in-Err-clause-begins
 returns-in-Err-clause-begins g c = before_refl c.args.pass.now.seen

@@ -1,7 +1,7 @@
 use Rattle.std.proofs.Common.{ℕ, true, Ok, Err, subst}
 use Rattle.guarded.specs.Asking.{Tells}
 use Rattle.guarded.specs.Pooling.{gives_back}
-use Rattle.guarded.proofs.acquiring.Pool.release_only.Goals as goal
+use Rattle.guarded.proofs.pool.Pool.release_only.Goals as goal
 
 pub returns-in-Ok-clause-told : goal.returns-in-Ok-clause-told
 returns-in-Ok-clause-told g c =

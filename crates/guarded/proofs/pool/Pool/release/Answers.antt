@@ -1,38 +1,41 @@
-use Rattle.std.proofs.Common.{rules, ◌≡◌, ◌∙◌, ℕ, Bool, true, false, Ok, Err, Result, sym, ap, subst}
+use Rattle.std.proofs.Common.{rules, ◌≡◌, ◌∙◌, ℕ, Bool, true, false, Ok, Result, sym, ap, subst}
 use Rattle.history.specs.declared.fault.Fault.{Fault}
 use Rattle.guarded.specs.declared.asking.PoolCall.TheVariants as asks
 use Rattle.guarded.specs.Full.{WithRoom}
 use Rattle.guarded.specs.Pooling.{Answers, gives_back, has_after, is_done}
-use Rattle.guarded.proofs.acquiring.Pool.release.Goals as goal
+use Rattle.guarded.proofs.pool.Pool.release.Goals as goal
 
 pub put_away-requires : goal.put_away-requires
 put_away-requires g c =
     let is : c.whether.result ≡ Ok true = search rules in
-    c.call.ensures.has ∙ ap (has_after (asks.Release _)) (sym c.whether.ensures ∙ is)
+    c.call-reply.ensures.has ∙ ap (has_after (asks.Release _)) (sym c.whether.ensures ∙ is)
+
+never : (n m : ℕ) (told : Result Bool Fault) → n ≡ m → told ≡ Ok false → Answers (asks.Release n) told → ⊥
+never n m told same is answers = subst (λ (z : Result Bool Fault). Answers (asks.Release n) z) is answers
 
 pub unreachable-requires : goal.unreachable-requires
 unreachable-requires g c =
     let is : c.whether.result ≡ Ok false = search rules in
-    subst (λ (z : Result Bool Fault). Answers (asks.Release _) z) (sym c.whether.ensures ∙ is) c.call.ensures.answers
+    never _ _ _ c.len-n.ensures.value (sym c.whether.ensures ∙ is) c.call-reply.ensures.answers
 
 pub returns-in-Err-clause-back : goal.returns-in-Err-clause-back
 returns-in-Err-clause-back g c =
     let missed = ap is_done (sym c.whether.ensures ∙ c.in-Err.is) in
-    let same = c.call.ensures.keeps missed in λ d. (same d).items
+    let same = c.call-reply.ensures.keeps missed in λ d. (same d).items
 
 pub returns-in-Ok-true-clause-told : goal.returns-in-Ok-true-clause-told
 returns-in-Ok-true-clause-told g c =
     let is : c.whether.result ≡ Ok true = search rules in (
-      c.call.result,
+      c.call-reply.result,
       subst (λ (n : ℕ). WithRoom c.args.self.now.when_full (gives_back (g.P.Parking.did c.args.parking.now) n)
-          c.args.pass.now c.call.result c.call.new.pass) c.len.ensures.value c.call.ensures.called,
+          c.args.pass.now c.call-reply.result c.call-reply.new.pass) c.len-n.ensures.value c.call-reply.ensures.called,
       sym is ∙ c.whether.ensures,
     )
 
 pub returns-in-Err-clause-told : goal.returns-in-Err-clause-told
 returns-in-Err-clause-told g c = (
-  c.call.result,
+  c.call-reply.result,
   subst (λ (n : ℕ). WithRoom c.args.self.now.when_full (gives_back (g.P.Parking.did c.args.parking.now) n)
-      c.args.pass.now c.call.result c.call.new.pass) c.len.ensures.value c.call.ensures.called,
+      c.args.pass.now c.call-reply.result c.call-reply.new.pass) c.len-n.ensures.value c.call-reply.ensures.called,
   sym c.in-Err.is ∙ c.whether.ensures,
 )
