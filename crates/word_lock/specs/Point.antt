@@ -1,7 +1,7 @@
 -- Points: what a value shows, how one point follows another, and what one seat has of a point.
 -- The proof of the lock reads none of these definitions. It rests on the laws of proofs/PointLaws.antt,
 -- so a point may come to be made of something else.
-use Rattle.std.specs.Prelude.{◌≡◌, ◌⊎◌, ℕ, ◌-◌, List, [], ◌++◌, length, take}
+use Rattle.std.specs.Prelude.{◌≡◌, ◌⊎◌, ℕ, ◌+◌, ◌-◌, List, [], ◌++◌, length, take}
 use Rattle.std.specs.List.{AllByRecursion}
 use Rattle.history.specs.declared.entry.Entry.{Entry}
 use Rattle.history.specs.declared.header.Header.{Header}
@@ -23,19 +23,25 @@ Before p q = ComesBefore p q
 unfoldable pub Agrees : Point → ℕ → List Entry → Type 0
 Agrees p seat es = points.Agrees p seat es
 
--- what q has in front of p; nothing where the list was folded
+-- how many entries there were, folded ones among them
+abbrev pub entries_at : Point → ℕ
+entries_at p = p.base.entries + length p.entries
+
+-- what q has in front of p, or of p's fold
 unfoldable pub added : Point → Point → List Entry
-added p q = take (length q.entries - length p.entries) q.entries
+added p q = take (entries_at q - entries_at p) q.entries
 
 -- each entry is of the seat
 unfoldable pub AllOfSeat : ℕ → List Entry → Type 0
 AllOfSeat seat es = AllByRecursion (λ e. e.seat ≡ seat) es
 
--- What the seat took at p it may give back at q: entries of the seat were added, or the list was folded.
+-- What the seat took at p it may give back at q: entries of the seat were added, to the list as it was or behind
+-- its fold.
 unfoldable pub Follows : ℕ → Point → Point → Type 0
 Follows seat p q =
     ((q.base ≡ p.base) × (q.entries ≡ added p q ++ p.entries) × AllOfSeat seat (added p q))
-    ⊎ (CanFold p.base p.entries × (q.base ≡ folded p.base p.entries) × (q.entries ≡ []))
+    ⊎ (CanFold p.base p.entries × (q.base ≡ folded p.base p.entries) × (q.entries ≡ added p q)
+    × AllOfSeat seat (added p q))
 
 -- a point that stands where nobody looks
 abbrev pub blank_point : Point

@@ -38,7 +38,7 @@
 //! | look | the view has seen now, and all that it remembers begins now | now stays |
 //!
 //! Only the store changes now. The one view that holds has seen exactly what it took, so what it gives
-//! back is what stood at home with entries in front, or its fold. The old history comes behind what any other
+//! back is what stood at home, or its fold, with entries in front. The old history comes behind what any other
 //! view had seen, and so does the new one. The entries are all of the holder's seat, so its log gains them
 //! and every other seat's entries are what they were. A join is followed by a look at once, since two views
 //! alone don't tell which of them has seen more. The first view has a log for each seat, and `open` splits
