@@ -281,7 +281,7 @@ shifted word.Drained n a b c d q = omega (arith, ints, q)
 shifted word.Gave n a b c d q = omega (arith, ints, q)
 shifted _ n a b c d q = q
 
-both_free : (s t : Start) (es h g : List Entry) →
+pub both_free : (s t : Start) (es h g : List Entry) →
     free t (es ++ g) +ℤ free s h ≡ free t g +ℤ free s (es ++ h)
 both_free s t [] h g = refl
 both_free s t (e ∷ es) h g =

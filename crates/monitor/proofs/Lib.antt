@@ -10,3 +10,4 @@ pub mod Trims
 pub mod Freeing
 pub mod Loads
 pub mod TurnByTurn
+pub mod Rooms
