@@ -11,3 +11,4 @@ pub mod Freeing
 pub mod Loads
 pub mod TurnByTurn
 pub mod Rooms
+pub mod RoomTurns

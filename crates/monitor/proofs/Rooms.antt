@@ -1,22 +1,20 @@
 -- What a section of the lock with a step that makes room leaves.
-use Rattle.std.proofs.Common.{◌≡◌, ◌≢◌, ◌⊎◌, inl, inr, ⊎_elim, ℕ, ◌+◌, ◌<◌, Bool, true, false, List, [], ◌++◌, Result, Ok, Err, IsOk, refl, sym, ap, ◌∙◌, subst}
+use Rattle.std.proofs.Common.{◌≡◌, ◌≢◌, inl, inr, ℕ, ◌+◌, Bool, true, false, List, [], ◌++◌, Result, Ok, Err, refl, sym, ap, ◌∙◌, subst}
 use Rattle.std.specs.Prelude.{ℤ, ◌+ℤ◌}
 use Rattle.std.proofs.lemmas.List.{append-nil}
 use Rattle.history.specs.declared.entry.Entry.{Entry}
-use Rattle.history.specs.declared.entry.Mode.{Mode}
 use Rattle.history.specs.declared.fault.Fault.{Fault}
-use Rattle.history.specs.declared.fault.Fault.TheVariants.{HistoryFull, TrimFull}
+use Rattle.history.specs.declared.fault.Fault.TheVariants.{HistoryFull}
 use Rattle.history.specs.declared.point.Point.{Point}
 use Rattle.history.specs.declared.step.Answer.{Answer}
 use Rattle.history.specs.declared.step.Step.{Step}
 use Rattle.history.specs.Base.{Base, based, folded}
-use Rattle.history.specs.Counts.{free, held}
+use Rattle.history.specs.Counts.{free}
 use Rattle.history.specs.Entries.{ended_calls}
-use Rattle.history.specs.Start.{Start, opening}
+use Rattle.history.specs.Start.{opening}
 use Rattle.history.proofs.Folding.{fold_alike}
 use Rattle.frame.specs.Core.{CoreView, IsAnswered, IsTold, IsTrimmed, counts_of}
-use Rattle.frame.specs.Hooks.{AreAlike}
-use Rattle.word_lock.specs.Point.{Agrees, Before, Follows, added, header_of}
+use Rattle.word_lock.specs.Point.{Agrees, Before, Follows, added}
 use Rattle.word_lock.specs.Rule.{AllAgree}
 use Rattle.word_lock.specs.Ticket.{LockId, Ticket, first_entries, after_lock, after_unlock}
 use Rattle.word_lock.proofs.PointLaws.{added_behind, before_header, before_refl, before_trans, follows_before, follows_behind, follows_fold, follows_own}
@@ -25,7 +23,7 @@ use Rattle.monitor.specs.Lawful.{beside_of, point_of, start_at, view_of, IsKept,
 use Rattle.monitor.specs.Load.{Moves, holds_in}
 use Rattle.monitor.specs.Room.{IsCoreFold, IsCoreStep, IsCoreStepIn, IsFold, IsStepIn, IsTooMany, at_point, fold_of, is_full}
 use Rattle.monitor.specs.declared.room.WhenFull.TheVariants.{Trim}
-use Rattle.monitor.specs.Shown.{IsPass, IsTrue, Shown, shown}
+use Rattle.monitor.specs.Shown.{IsPass, IsTrue, shown}
 use Rattle.monitor.specs.Stepping.{IsStep, made_by}
 use Rattle.monitor.proofs.Freeing.{both_free, moves_own, section_frees, stays}
 use Rattle.monitor.proofs.Loads.{counts_folded}

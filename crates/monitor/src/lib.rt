@@ -21,6 +21,9 @@
 //! `trim` folds the entries so far into the base, so that an object runs on past its cap. What a pass had
 //! seen before stands: the fold says the same of all that comes after.
 //!
+//! A call whose name ends in `_when_full` trims by itself where the history has no room for its first step, if it is
+//! asked to. It folds and makes the step in one turn of the lock, so that nobody fills the history between.
+//!
 //! A call that waits is `acquire` or `await_on`. Both wait in the same loop: park, step, and leave at the
 //! entry that ends the wait. [`How`] says what else ends it. A permit leads to the step Look, by which a
 //! waiter takes its turn if it has come; the end of its time to Expire; an interrupt to Interrupt. The

@@ -1,11 +1,11 @@
-use Rattle.std.proofs.Common.{rules, ◌≡◌, ◌∙◌, inl, inr, Bool, true, false, Err, Result, refl, sym, ap, subst, ℕ}
+use Rattle.std.proofs.Common.{rules, ◌≡◌, ◌∙◌, inl, inr, true, false, Err, Result, refl, sym, ap, subst, ℕ}
 use Rattle.frame.specs.Core.{CoreView, IsTrimFull, counts_of}
 use Rattle.history.specs.declared.entry.Mode.{Mode}
 use Rattle.history.specs.declared.fault.Fault.{Fault}
 use Rattle.history.specs.declared.fault.Fault.TheVariants.{HistoryFull}
 use Rattle.history.specs.declared.step.Answer.{Answer}
-use Rattle.monitor.specs.Load.{Moves, holds_in}
-use Rattle.monitor.specs.Room.{IsCoreStep, is_full}
+use Rattle.monitor.specs.Load.{Moves}
+use Rattle.monitor.specs.Room.{IsCoreStep}
 use Rattle.monitor.proofs.Freeing.{brings_still, moves_since}
 use Rattle.monitor.proofs.Rooms.{full_is, not_full, refused_stays, trimmed_holds}
 use Rattle.monitor.proofs.kept.step_laden_in_room.Goals.{After-trim_laden}
@@ -15,8 +15,11 @@ pub returns-then-not-is_full-clause-stepped : goal.returns-then-not-is_full-clau
 returns-then-not-is_full-clause-stepped g c =
     let s = c.step_laden-answer.ensures in
     let is : c.is_full.result ≡ false = search rules in
-    inl (record { answered = s.answered; told = s.told; owed = s.owed }, s.moves,
-    not_full c.step_laden-answer.result (sym c.is_full.ensures ∙ is))
+    inl (
+      record { answered = s.answered; told = s.told; owed = s.owed },
+      s.moves,
+      not_full c.step_laden-answer.result (sym c.is_full.ensures ∙ is),
+    )
 
 -- the first step found no room
 refused : (g : _) (c : After-trim_laden g) →
