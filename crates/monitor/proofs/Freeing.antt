@@ -1,6 +1,6 @@
 -- How many permits are free behind a step, and what that makes of a counted load.
 use Rattle.std.proofs.Common.{◌≡◌, ◌⊎◌, inl, inr, ⊎_elim, ℕ, ◌<◌, Bool, true, false, not, cond, nat_lt, length, Some, List, [], ◌∷◌, ◌++◌, Result, Ok, Err, refl, sym, ap, ◌∙◌, subst, arith}
-use Rattle.std.specs.Prelude.{ℤ, pos, negsuc, ◌+ℤ◌, ◌-ℤ◌, ◌≤ℤ◌, int_le, int_lt}
+use Rattle.std.specs.Prelude.{ℤ, pos, negsuc, ◌+ℤ◌, ◌-ℤ◌, ◌≤ℤ◌, int_lt}
 use Rattle.std.proofs.lemmas.Int.{ints}
 use Rattle.history.specs.declared.entry.Entry.{Entry}
 use Rattle.history.specs.declared.entry.End.TheVariants as end
@@ -281,7 +281,7 @@ shifted word.Drained n a b c d q = omega (arith, ints, q)
 shifted word.Gave n a b c d q = omega (arith, ints, q)
 shifted _ n a b c d q = q
 
-both_free : (s t : Start) (es h g : List Entry) →
+pub both_free : (s t : Start) (es h g : List Entry) →
     free t (es ++ g) +ℤ free s h ≡ free t g +ℤ free s (es ++ h)
 both_free s t [] h g = refl
 both_free s t (e ∷ es) h g =

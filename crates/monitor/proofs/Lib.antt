@@ -10,3 +10,5 @@ pub mod Trims
 pub mod Freeing
 pub mod Loads
 pub mod TurnByTurn
+pub mod Rooms
+pub mod RoomTurns

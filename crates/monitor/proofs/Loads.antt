@@ -36,7 +36,7 @@ use Rattle.frame.specs.Core.{CoreView, IsAnswered, IsTrimmed, counts_of, start_o
 use Rattle.frame.specs.Hooks.{AreAlike}
 use Rattle.word_lock.specs.Point.{header_of, Agrees}
 use Rattle.monitor.specs.Lawful.{IsKept, IsLawful, beside_of, point_of, start_at}
-use Rattle.monitor.specs.Load.{IsFree, IsOneOwner, IsTurn, holds_at, holds_by, holds_in, holds_of, is_signal, opened_counts}
+use Rattle.monitor.specs.Load.{IsFree, IsOneOwner, IsTurn, holds_at, holds_by, holds_of, is_signal, opened_counts}
 use Rattle.monitor.specs.Shown.{Shown, IsTrue}
 use Rattle.monitor.specs.Stepping.{made_by}
 use Rattle.monitor.proofs.Acquiring.{idle_made}

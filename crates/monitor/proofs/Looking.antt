@@ -30,7 +30,7 @@ pub look : (t o n : Ticket) (p : Point) (seat share : ℕ) → o ≡ after_lock 
 look t o n p seat share taken given was begins entries lawful =
     let x =
     section t o n p p seat taken given was.one was.seat_is begins entries (follows_same seat p) in
-    let mine = mine_stays t n p p seat x (added_more p p [] refl) in
+    let mine = mine_stays t n p p seat x (added_more p p [] refl refl) in
     let pass = passed t n p p seat share share x was lawful (was.counted ∙ ap ended_calls (sym mine)) in
     record {
       pass = pass;

@@ -87,7 +87,7 @@ follows_step i p q m n step r a = let l = left i p q m n step r a in
 
 pub added_step : (i : ℕ) (p q : Point) (m n : Beside) (step : Step) (r : Result Answer Fault) →
     IsAnswered (view_of p m) i step r (view_of q n) → added p q ≡ made_by r
-added_step i p q m n step r a = added_more p q (made_by r) (left i p q m n step r a).grown
+added_step i p q m n step r a = let l = left i p q m n step r a in added_more p q (made_by r) l.base l.grown
 
 -- no more calls end than there are entries
 pub calls_few : (es : List Entry) → ended_calls es ≤ length es
@@ -159,7 +159,7 @@ pub seat_below : (p : Point) (k l : Header) (seat : ℕ) → header_of p ≡ k �
 unfolding header_of
 seat_below p k l seat is same below = subst (λ (z : Header). seat < z.seats) (sym (is ∙ same)) below
 
-calls_more : (es fs : List Entry) → ended_calls (es ++ fs) ≡ ended_calls es + ended_calls fs
+pub calls_more : (es fs : List Entry) → ended_calls (es ++ fs) ≡ ended_calls es + ended_calls fs
 calls_more [] fs = let n : ℕ = ended_calls fs in let goal : n ≡ 0 + n = omega arith in goal
 calls_more (e ∷ es) fs =
     let n : ℕ = (cond (ends_call e.word) 1 0) in

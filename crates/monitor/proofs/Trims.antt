@@ -29,7 +29,7 @@ follows_trim seat p q m n (Ok count) lawful t =
 follows_trim seat p q m n (Err f) lawful t =
     let base = ap (λ (v : CoreView). v.base) (sym t.2) in
     let list = ap (λ (v : CoreView). v.entries) t.2 in
-    (follows_more seat p q [] base list tt, added_more p q [] list)
+    (follows_more seat p q [] base list tt, added_more p q [] base list)
 
 module _ (t o n : Ticket) (p q : Point) (seat share : ℕ) (r : Result ℕ Fault) where
   pub record Trim : Type 0 where

@@ -1,5 +1,5 @@
 -- The turns of a call that may wait, as the call that they make.
-use Rattle.std.proofs.Common.{◌≡◌, ◌≢◌, ◌⊎◌, inl, inr, ℕ, ◌<◌, ◌≤◌, Bool, true, false, cond, eqb, List, Option, Some, None, is_some, IsSome, IfSome, IsOk, Result, Ok, Err, refl, sym, ap, ◌∙◌, subst}
+use Rattle.std.proofs.Common.{◌≡◌, ◌≢◌, inl, inr, ℕ, ◌<◌, ◌≤◌, Bool, true, false, cond, eqb, List, Option, Some, None, is_some, IsSome, IfSome, IsOk, Result, Ok, Err, refl, sym, ap, ◌∙◌, subst}
 use Rattle.history.specs.declared.entry.Entry.{Entry}
 use Rattle.history.specs.declared.entry.Mode.{Mode}
 use Rattle.history.specs.declared.entry.Mode.TheVariants.{X}
@@ -22,8 +22,7 @@ use Rattle.permit.specs.declared.parking.Woke.TheVariants.{Permit, Deadline, Int
 use Rattle.word_lock.specs.Point.{Before}
 use Rattle.word_lock.specs.Ticket.{LockId}
 use Rattle.word_lock.proofs.PointLaws.{before_trans}
-use Rattle.monitor.specs.Acquire.{EndsUnrecorded, LimitsFor, WasInterrupted, WasNotInterrupted, first_step}
-use Rattle.monitor.specs.AwaitOn.{first_stage}
+use Rattle.monitor.specs.Acquire.{LimitsFor, WasInterrupted, WasNotInterrupted, first_step}
 use Rattle.monitor.specs.Interrupts.{tells_interrupt}
 use Rattle.monitor.specs.Load.{free_of, given_by}
 use Rattle.monitor.specs.Machine.{IsBegun, IsCall, IsGoneOn, WasShown, at_stage, begins_wait, begun, first_turn, later_turn, limits_at, limits_from, next_behind, next_by, stage_for, step_at, step_by, step_of_waiting, step_within}
@@ -35,7 +34,6 @@ use Rattle.monitor.specs.Waits.{AfterPark, AllStillWait, Cause, ComesOf, IsReply
 use Rattle.monitor.specs.Waits as of_waits
 use Rattle.monitor.specs.declared.how.How.{How}
 use Rattle.monitor.specs.declared.how.How.TheVariants.{Plain, Interruptible, Timed}
-use Rattle.monitor.specs.declared.machine.Next.{Next}
 use Rattle.monitor.specs.declared.machine.Next.TheVariants.{Ends, Waits}
 use Rattle.monitor.specs.declared.machine.Request.{Request}
 use Rattle.monitor.specs.declared.machine.Request.TheVariants.{Acquire, AwaitOn}
@@ -44,7 +42,7 @@ use Rattle.monitor.specs.declared.machine.Waiting.{Waiting}
 use Rattle.monitor.specs.declared.waiting.Limits.{Limits}
 use Rattle.monitor.specs.declared.waiting.Stage.{Stage}
 use Rattle.monitor.specs.declared.waiting.Stage.TheVariants.{Expires, Parks, Looks, GivenUp}
-use Rattle.monitor.proofs.Acquiring.{ends_at_once, ends_in_line, refused, refused_at_once, stands, unrecorded}
+use Rattle.monitor.proofs.Acquiring.{ends_at_once, ends_in_line, refused, refused_at_once, stands}
 use Rattle.monitor.proofs.Freeing.{waits_gives_none}
 use Rattle.monitor.proofs.InLine.{named_place, no_sleep}
 use Rattle.monitor.proofs.OnCondition as await
@@ -60,7 +58,7 @@ first_idle (Timed ms) m n = by (eqb ms 0)
     by true = refl
     by false = refl
 
-step_idle : (q : Request) (how : How) (was : Bool) → waits (step_by q how was) ≡ false
+pub step_idle : (q : Request) (how : How) (was : Bool) → waits (step_by q how was) ≡ false
 step_idle (Acquire m n) how true = refl
 step_idle (Acquire m n) how false = first_idle how m n
 step_idle (AwaitOn c) how true = refl
@@ -118,7 +116,7 @@ goes_on old new w woke (Err f) t k s =
     absurd (turn old new k.0 (step_of_waiting w woke) (Err f) s t k.1 (step_waits w.stage w.limits woke))
 
 -- the seat that a turn names is the one that its step named
-named_first : (q : Request) (how : How) (moment : ℕ) (was : Bool) (r : Result Answer Fault) →
+pub named_first : (q : Request) (how : How) (moment : ℕ) (was : Bool) (r : Result Answer Fault) →
     (first_turn q how moment was r).named ≡ named_in r
 named_first q how moment was (Ok (Recorded e name)) = refl
 named_first q how moment was (Ok Sleep) = refl

@@ -5,7 +5,8 @@ ghost use Rattle.monitor.specs.Load.{Brings, Moves, free_of, holds_of};
 ghost use Rattle.monitor.specs.Settled.{IsSettled};
 ghost use Rattle.monitor.specs.Shown.{IsTrue};
 ghost use Rattle.monitor.specs.Stepping.{IsSame};
-ghost use Rattle.monitor.specs.Machine.{IsCall};
+ghost use Rattle.monitor.specs.Room.{IsCallIn};
+ghost use Rattle.monitor.specs.declared.machine.Request.TheVariants.{Acquire};
 ghost use Rattle.monitor.specs.Acquire.{IsAcquire, WasInterrupted, first_step};
 
 use crate::how::{How, moment};
@@ -14,6 +15,7 @@ use crate::load::{Empty, Load};
 use crate::machine::{Next, Request};
 use crate::monitor::Monitor;
 use crate::pass::Pass;
+use crate::room::WhenFull;
 use crate::step::unpark;
 use frame::hooks::Hooks;
 use history::entry::{Entry, Mode};
@@ -96,7 +98,41 @@ impl<H: Hooks + Drop, L: Load> Monitor<H, L> {
         ensures carries { L.carries load.new (holds_of pass.new) }
         ensures moves { Moves L.is_counted L.amount load.old (free_of pass.old) load.new (free_of pass.new) }
     {
-        self.make(rt, parking, pass, load, Request::Acquire(mode, n), how)
+        self.acquire_when_full(rt, parking, pass, load, mode, n, how, WhenFull::Refuse)
+    }
+
+    /// The same, where the caller says what it does if the history is full.
+    pub fn acquire_when_full<P: Parking, R: Wait + Clock>(
+        &self,
+        rt: &R,
+        parking: &P,
+        pass: &mut Pass,
+        load: &mut L,
+        mode: Mode,
+        n: u32,
+        how: How,
+        when_full: WhenFull,
+    ) -> Result<Entry, Fault>
+        requires is_of { pass.old.lock ≡ self.now }
+        requires places { self.now.header.seats ≤ P.seats parking.now }
+        requires carries { L.carries load.old (holds_of pass.old) }
+        requires brings { Brings L.is_counted (L.amount load.old) 0 }
+        ensures same { IsSame pass.old pass.new }
+        ensures begins { Before pass.old.seen pass.new.seen }
+        ensures shows { IsTrue pass.new }
+        ensures acquired { IsCallIn when_full (P.did parking.now) pass.old (Acquire mode n) how result pass.new }
+        ensures carries { L.carries load.new (holds_of pass.new) }
+        ensures moves { Moves L.is_counted L.amount load.old (free_of pass.old) load.new (free_of pass.new) }
+    {
+        self.make(
+            rt,
+            parking,
+            pass,
+            load,
+            Request::Acquire(mode, n),
+            how,
+            when_full,
+        )
     }
 
     // A call that may wait.
@@ -108,6 +144,7 @@ impl<H: Hooks + Drop, L: Load> Monitor<H, L> {
         load: &mut L,
         request: Request,
         how: How,
+        when_full: WhenFull,
     ) -> Result<Entry, Fault>
         requires is_of { pass.old.lock ≡ self.now }
         requires places { self.now.header.seats ≤ P.seats parking.now }
@@ -116,15 +153,15 @@ impl<H: Hooks + Drop, L: Load> Monitor<H, L> {
         ensures same { IsSame pass.old pass.new }
         ensures begins { Before pass.old.seen pass.new.seen }
         ensures shows { IsTrue pass.new }
-        ensures made { IsCall (P.did parking.now) pass.old request how result pass.new }
+        ensures made { IsCallIn when_full (P.did parking.now) pass.old request how result pass.new }
         ensures carries { L.carries load.new (holds_of pass.new) }
         ensures moves { Moves L.is_counted L.amount load.old (free_of pass.old) load.new (free_of pass.new) }
     {
         if let Some(interrupts) = Interrupts::at_entry(parking, pass, how) {
-            return self.refuse(rt, parking, pass, load, request, how, interrupts);
+            return self.refuse(rt, parking, pass, load, request, how, when_full, interrupts);
         }
         let moment = moment(rt, parking, how);
-        let turn = self.begin(rt, pass, load, request, how, moment, false);
+        let turn = self.begin_when_full(rt, pass, load, request, how, moment, false, when_full);
         unpark(parking, turn.named);
         match turn.next {
             Next::Ends { reply, again: _ } => reply,
@@ -141,6 +178,7 @@ impl<H: Hooks + Drop, L: Load> Monitor<H, L> {
         load: &mut L,
         request: Request,
         how: How,
+        when_full: WhenFull,
         interrupts: Interrupts,
     ) -> Result<Entry, Fault>
         requires is_of { pass.old.lock ≡ self.now }
@@ -152,13 +190,13 @@ impl<H: Hooks + Drop, L: Load> Monitor<H, L> {
         ensures same { IsSame pass.old pass.new }
         ensures begins { Before pass.old.seen pass.new.seen }
         ensures shows { IsTrue pass.new }
-        ensures made { IsCall (P.did parking.now) pass.old request how result pass.new }
+        ensures made { IsCallIn when_full (P.did parking.now) pass.old request how result pass.new }
         ensures settled { IsSettled result }
         ensures carries { L.carries load.new (holds_of pass.new) }
         ensures moves { Moves L.is_counted L.amount load.old (free_of pass.old) load.new (free_of pass.new) }
     {
         pass.is_true();
-        let refusal = self.begin(rt, pass, load, request, how, 0, true);
+        let refusal = self.begin_when_full(rt, pass, load, request, how, 0, true, when_full);
         unpark(parking, refusal.named);
         match refusal.next {
             Next::Ends { reply, again: _ } => {

@@ -2,6 +2,8 @@
 ghost use Rattle.std.specs.Prelude.{◌≡◌, ◌≤◌};
 ghost use Rattle.word_lock.specs.Point.{Before};
 ghost use Rattle.monitor.specs.Load.{Brings, Moves, free_of, holds_of};
+ghost use Rattle.monitor.specs.Room.{IsCallIn};
+ghost use Rattle.monitor.specs.declared.machine.Request.TheVariants.{AwaitOn};
 ghost use Rattle.monitor.specs.Shown.{IsTrue};
 ghost use Rattle.monitor.specs.Stepping.{IsSame};
 ghost use Rattle.monitor.specs.AwaitOn.{IsAwait, first_stage};
@@ -11,6 +13,7 @@ use crate::load::{Empty, Load};
 use crate::machine::Request;
 use crate::monitor::Monitor;
 use crate::pass::Pass;
+use crate::room::WhenFull;
 use crate::waiting::Stage;
 use frame::hooks::Hooks;
 use history::entry::Entry;
@@ -91,6 +94,38 @@ impl<H: Hooks + Drop, L: Load> Monitor<H, L> {
         ensures carries { L.carries load.new (holds_of pass.new) }
         ensures moves { Moves L.is_counted L.amount load.old (free_of pass.old) load.new (free_of pass.new) }
     {
-        self.make(rt, parking, pass, load, Request::AwaitOn(condition), how)
+        self.await_when_full(rt, parking, pass, load, condition, how, WhenFull::Refuse)
+    }
+    /// The same, where the caller says what it does if the history is full.
+    pub fn await_when_full<P: Parking, R: Wait + Clock>(
+        &self,
+        rt: &R,
+        parking: &P,
+        pass: &mut Pass,
+        load: &mut L,
+        condition: u8,
+        how: How,
+        when_full: WhenFull,
+    ) -> Result<Entry, Fault>
+        requires is_of { pass.old.lock ≡ self.now }
+        requires places { self.now.header.seats ≤ P.seats parking.now }
+        requires carries { L.carries load.old (holds_of pass.old) }
+        requires brings { Brings L.is_counted (L.amount load.old) 0 }
+        ensures same { IsSame pass.old pass.new }
+        ensures begins { Before pass.old.seen pass.new.seen }
+        ensures shows { IsTrue pass.new }
+        ensures awaited { IsCallIn when_full (P.did parking.now) pass.old (AwaitOn condition) how result pass.new }
+        ensures carries { L.carries load.new (holds_of pass.new) }
+        ensures moves { Moves L.is_counted L.amount load.old (free_of pass.old) load.new (free_of pass.new) }
+    {
+        self.make(
+            rt,
+            parking,
+            pass,
+            load,
+            Request::AwaitOn(condition),
+            how,
+            when_full,
+        )
     }
 }

@@ -21,6 +21,9 @@
 //! `trim` folds the entries so far into the base, so that an object runs on past its cap. What a pass had
 //! seen before stands: the fold says the same of all that comes after.
 //!
+//! A call whose name ends in `_when_full` trims by itself where the history has no room for its first step, if it is
+//! asked to. It folds and makes the step in one turn of the lock, so that nobody fills the history between.
+//!
 //! A call that waits is `acquire` or `await_on`. Both wait in the same loop: park, step, and leave at the
 //! entry that ends the wait. [`How`] says what else ends it. A permit leads to the step Look, by which a
 //! waiter takes its turn if it has come; the end of its time to Expire; an interrupt to Interrupt. The
@@ -62,6 +65,7 @@ mod monitor;
 mod observing;
 mod pass;
 mod quiet;
+mod room;
 mod step;
 mod trimming;
 mod waiting;
@@ -72,5 +76,6 @@ pub use load::{Empty, Holds, Load};
 pub use machine::{Next, Request, Turn, Waiting};
 pub use monitor::Monitor;
 pub use pass::Pass;
+pub use room::WhenFull;
 pub use step::Now;
 pub use waiting::Limits;

@@ -12,6 +12,7 @@ ghost use Rattle.std.specs.Prelude.{◌≡◌, ◌≢◌, IfNone, IfSome, IsOk};
 ghost use Rattle.history.specs.declared.step.Answer.TheVariants.{Sleep};
 ghost use Rattle.monitor.specs.Load.{Brings, Moves, free_of, holds_of};
 ghost use Rattle.monitor.specs.Machine.{IsBegun, IsGoneOn, at_stage, begins_wait, begun, first_turn, is_interrupt, later_turn, limits_at, next_behind, stage_for, step_by, step_of_waiting, step_within};
+ghost use Rattle.monitor.specs.Room.{IsBegunIn};
 ghost use Rattle.monitor.specs.Shown.{IsTrue};
 ghost use Rattle.monitor.specs.Stepping.{IsSame, answer_of};
 ghost use Rattle.monitor.specs.Waits.{Waits, is_lapse};
@@ -23,6 +24,7 @@ use crate::interrupts::tells_interrupt;
 use crate::load::Load;
 use crate::monitor::Monitor;
 use crate::pass::Pass;
+use crate::room::WhenFull;
 use crate::step::Now;
 use crate::waiting::{Limits, Stage, stage_asleep};
 use frame::hooks::Hooks;
@@ -292,8 +294,33 @@ impl<H: Hooks + Drop, L: Load> Monitor<H, L> {
         ensures carries { L.carries load.new (holds_of pass.new) }
         ensures moves { Moves L.is_counted L.amount load.old (free_of pass.old) load.new (free_of pass.new) }
     {
+        let when_full = WhenFull::Refuse;
+        self.begin_when_full(rt, pass, load, request, how, moment, interrupted, when_full)
+    }
+
+    /// [`begin`](Monitor::begin), where the caller says what it does if the history is full.
+    pub fn begin_when_full<R: Wait>(
+        &self,
+        rt: &R,
+        pass: &mut Pass,
+        load: &mut L,
+        request: Request,
+        how: How,
+        moment: u64,
+        interrupted: bool,
+        when_full: WhenFull,
+    ) -> Turn
+        requires is_of { pass.old.lock ≡ self.now }
+        requires carries { L.carries load.old (holds_of pass.old) }
+        requires brings { Brings L.is_counted (L.amount load.old) 0 }
+        ensures same { IsSame pass.old pass.new }
+        ensures begun { IsBegunIn when_full pass.old request how moment interrupted result pass.new }
+        ensures shows { IsTrue pass.new }
+        ensures carries { L.carries load.new (holds_of pass.new) }
+        ensures moves { Moves L.is_counted L.amount load.old (free_of pass.old) load.new (free_of pass.new) }
+    {
         let step = request.step(how, interrupted);
-        let answer = self.step_with(rt, pass, load, step);
+        let answer = self.step_when_full(rt, pass, load, step, when_full);
         first_turn(request, how, moment, interrupted, answer)
     }
 

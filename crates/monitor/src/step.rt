@@ -2,12 +2,14 @@
 ghost use Rattle.std.specs.Prelude.{◌≡◌, ◌<◌, ◌≤◌, false, true, IfSome};
 ghost use Rattle.history.specs.Phase.{waits};
 ghost use Rattle.monitor.specs.Load.{Brings, Moves, free_of, given_by, holds_of, is_signal};
+ghost use Rattle.monitor.specs.Room.{IsEnteredIn, IsStepIn};
 ghost use Rattle.monitor.specs.Shown.{IsTrue};
 ghost use Rattle.monitor.specs.Stepping.{IsSame, IsStep, IsStepNow, IsEntered, IsUnparked, named_in, now_of};
 
 use crate::load::{Empty, Load};
 use crate::monitor::Monitor;
 use crate::pass::{Pass, share_behind};
+use crate::room::WhenFull;
 use frame::hooks::Hooks;
 use history::entry::Entry;
 use history::fault::Fault;
@@ -108,26 +110,27 @@ impl<H: Hooks + Drop, L: Load> Monitor<H, L> {
     }
 
     // A step, and an unpark of the seat that it names.
-    pub(crate) fn call<P: Parking, R: Wait + Clock>(
+    fn call<P: Parking, R: Wait + Clock>(
         &self,
         rt: &R,
         parking: &P,
         pass: &mut Pass,
         load: &mut L,
         step: Step,
+        when_full: WhenFull,
     ) -> Result<Answer, Fault>
         requires is_of { pass.old.lock ≡ self.now }
         requires places { self.now.header.seats ≤ P.seats parking.now }
         requires carries { L.carries load.old (holds_of pass.old) }
         requires brings { Brings L.is_counted (L.amount load.old) (given_by step) }
         ensures same { IsSame pass.old pass.new }
-        ensures stepped { IsStep pass.old step result pass.new }
+        ensures stepped { IsStepIn when_full pass.old step result pass.new }
         ensures unparked { IsUnparked (P.did parking.now) (named_in result) }
         ensures shows { IsTrue pass.new }
         ensures carries { L.carries load.new (holds_of pass.new) }
         ensures moves { Moves L.is_counted L.amount load.old (free_of pass.old) load.new (free_of pass.new) }
     {
-        let answer = self.step_with(rt, pass, load, step);
+        let answer = self.step_when_full(rt, pass, load, step, when_full);
         unpark(parking, named_in(answer));
         answer
     }
@@ -153,7 +156,31 @@ impl<H: Hooks + Drop, L: Load> Monitor<H, L> {
         ensures carries { L.carries load.new (holds_of pass.new) }
         ensures moves { Moves L.is_counted L.amount load.old (free_of pass.old) load.new (free_of pass.new) }
     {
-        match self.call(rt, parking, pass, load, step) {
+        self.enter_when_full(rt, parking, pass, load, step, WhenFull::Refuse)
+    }
+
+    /// [`enter`](Monitor::enter), where the caller says what it does if the history is full.
+    pub fn enter_when_full<P: Parking, R: Wait + Clock>(
+        &self,
+        rt: &R,
+        parking: &P,
+        pass: &mut Pass,
+        load: &mut L,
+        step: Step,
+        when_full: WhenFull,
+    ) -> Result<Entry, Fault>
+        requires is_of { pass.old.lock ≡ self.now }
+        requires places { self.now.header.seats ≤ P.seats parking.now }
+        requires idle { waits step ≡ false }
+        requires carries { L.carries load.old (holds_of pass.old) }
+        requires brings { Brings L.is_counted (L.amount load.old) (given_by step) }
+        ensures same { IsSame pass.old pass.new }
+        ensures entered { IsEnteredIn when_full (P.did parking.now) pass.old step result pass.new }
+        ensures shows { IsTrue pass.new }
+        ensures carries { L.carries load.new (holds_of pass.new) }
+        ensures moves { Moves L.is_counted L.amount load.old (free_of pass.old) load.new (free_of pass.new) }
+    {
+        match self.call(rt, parking, pass, load, step, when_full) {
             Ok(Answer::Recorded(entry, _)) => Ok(entry),
             Ok(Answer::Sleep) => unreachable!(),
             Err(fault) => Err(fault),

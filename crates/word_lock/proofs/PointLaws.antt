@@ -1,23 +1,22 @@
 -- The laws of points. The proof of the lock rests on the first six, and on none of the definitions.
-use Rattle.std.proofs.Common.{◌≡◌, ◌≢◌, inl, inr, ℕ, zero, suc, ◌-◌, List, [], ◌∷◌, ◌++◌, length, take, refl, ap, sym, ◌∙◌, subst, arith}
+use Rattle.std.proofs.Common.{◌≡◌, ◌≢◌, inl, inr, ℕ, ◌+◌, ◌-◌, List, [], ◌∷◌, ◌++◌, length, take, refl, ap, sym, ◌∙◌, subst, arith}
 use Rattle.std.specs.List.{AllByRecursion}
-use Rattle.std.proofs.lemmas.List.{length-append}
-use Rattle.std.proofs.Math.Seq.{take-append_seam}
+use Rattle.std.proofs.lemmas.List.{append-nil, length-append}
+use Rattle.std.proofs.Math.Seq.{take-append_seam, take-length}
 use Rattle.history.specs.declared.entry.Entry.{Entry}
 use Rattle.history.specs.declared.header.Header.{Header}
 use Rattle.history.specs.declared.point.Point.{Point}
 use Rattle.history.specs.Base.{Base, folded, opening_base}
-use Rattle.history.specs.Point as points
 use Rattle.history.specs.Point.{CanFold}
 use Rattle.history.proofs.Points.{agrees_folded, agrees_grown, agrees_opened, all_of, further_point, none_of_other, same_point}
 use Rattle.word_lock.specs.Point.{header_of, Before, Agrees, added, AllOfSeat, Follows}
 
--- what stands in front of an old list
-front_is : {A : Type 0} (old new more : List A) → new ≡ more ++ old →
-    take (length new - length old) new ≡ more
-front_is {A} old new more e =
-    let count : length (more ++ old) - length old ≡ length more = omega (arith, length-append more old) in
-    subst (λ (w : List A). take (length w - length old) w ≡ more) (sym e)
+-- what stands in front of an old list, where so many entries were folded before
+front_is : {A : Type 0} (n : ℕ) (old new more : List A) → new ≡ more ++ old →
+    take ((n + length new) - (n + length old)) new ≡ more
+front_is {A} n old new more e =
+    let count : (n + length (more ++ old)) - (n + length old) ≡ length more = omega (arith, length-append more old) in
+    subst (λ (w : List A). take ((n + length w) - (n + length old)) w ≡ more) (sym e)
     (ap (λ n. take n (more ++ old)) count ∙ take-append_seam more old)
 
 pub before_refl : (p : Point) → Before p p
@@ -39,15 +38,9 @@ unfolding Follows Before
 follows_before seat p q (inl grown) = inl (sym grown.0, (added p q, grown.1))
 follows_before seat p q (inr folds) = inr (record { more = []; can = folds.0; base = folds.1 })
 
-take_none : {A : Type 0} (n : ℕ) → take {A = A} n [] ≡ []
-take_none zero = refl
-take_none (suc n) = refl
-
--- a fold adds nothing
-none_added : (p q : Point) → q.entries ≡ [] → added p q ≡ []
-unfolding added
-none_added p q none =
-    ap (λ (l : List Entry). take (length l - length p.entries) l) none ∙ take_none _
+-- all entries folded
+abbrev fold_point : Point → Point
+fold_point p = record { base = folded p.base p.entries; entries = [] }
 
 -- what was added, and what the seat had, is what the seat has
 pub follows_own : (seat : ℕ) (p q : Point) (es : List Entry) → Follows seat p q → Agrees p seat es →
@@ -56,8 +49,9 @@ unfolding Agrees Follows AllOfSeat
 follows_own seat p q es (inl grown) a =
     agrees_grown p q seat (added p q) (added p q) es grown.0 grown.1 (all_of seat (added p q) grown.2) a
 follows_own seat p q es (inr folds) a =
-    subst (λ l. points.Agrees q seat (l ++ es)) (sym (none_added p q folds.2))
-    (agrees_folded p q seat es folds.0 folds.1 folds.2 a)
+    agrees_grown (fold_point p) q seat (added p q) (added p q) es folds.1 (folds.2 ∙ sym (append-nil (added p q)))
+    (all_of seat (added p q) folds.3)
+    (agrees_folded p (fold_point p) seat es folds.0 refl refl a)
 
 -- what another seat had is what it has
 pub follows_other : (seat other : ℕ) (p q : Point) (es : List Entry) → Follows seat p q → other ≢ seat →
@@ -66,7 +60,10 @@ unfolding Agrees Follows AllOfSeat
 follows_other seat other p q es (inl grown) apart a =
     agrees_grown p q other (added p q) [] es grown.0 grown.1
     (none_of_other seat other (added p q) (λ is. apart (sym is)) grown.2) a
-follows_other seat other p q es (inr folds) apart a = agrees_folded p q other es folds.0 folds.1 folds.2 a
+follows_other seat other p q es (inr folds) apart a =
+    agrees_grown (fold_point p) q other (added p q) [] es folds.1 (folds.2 ∙ sym (append-nil (added p q)))
+    (none_of_other seat other (added p q) (λ is. apart (sym is)) folds.3)
+    (agrees_folded p (fold_point p) other es folds.0 refl refl a)
 
 -- a point as it is opened has no entry of any seat
 pub agrees_empty : (k : Header) (seat : ℕ) (p : Point) → p.base ≡ opening_base k → p.entries ≡ [] →
@@ -74,16 +71,31 @@ pub agrees_empty : (k : Header) (seat : ℕ) (p : Point) → p.base ≡ opening_
 unfolding Agrees
 agrees_empty k seat p base none = agrees_opened k p seat base none
 
-pub added_more : (p q : Point) (more : List Entry) → q.entries ≡ more ++ p.entries → added p q ≡ more
+pub added_more : (p q : Point) (more : List Entry) → p.base ≡ q.base → q.entries ≡ more ++ p.entries →
+    added p q ≡ more
 unfolding added
-added_more p q more e = front_is p.entries q.entries more e
+added_more p q more base e =
+    ap (λ (b : Base). take ((b.entries + length q.entries) - (p.base.entries + length p.entries)) q.entries) (sym base)
+    ∙ front_is p.base.entries p.entries q.entries more e
+
+-- what stands behind a fold was added
+pub added_behind : (p q : Point) (more : List Entry) → q.base ≡ folded p.base p.entries → q.entries ≡ more →
+    added p q ≡ more
+unfolding added
+added_behind p q more base e =
+    ap (λ (b : Base). take ((b.entries + length q.entries) - (p.base.entries + length p.entries)) q.entries) base
+    ∙ (ap (λ (n : ℕ). take n q.entries) count ∙ (take-length q.entries ∙ e))
+  where
+    count : ((p.base.entries + length p.entries) + length q.entries) - (p.base.entries + length p.entries)
+        ≡ length q.entries
+    count = omega arith
 
 -- entries of the seat were added
 pub follows_more : (seat : ℕ) (p q : Point) (more : List Entry) → p.base ≡ q.base →
     q.entries ≡ more ++ p.entries → AllByRecursion (λ e. e.seat ≡ seat) more → Follows seat p q
 unfolding Follows AllOfSeat
 follows_more seat p q more base list own =
-    let same = sym (added_more p q more list) in
+    let same = sym (added_more p q more base list) in
     inl (
       sym base,
       list ∙ ap (λ l. l ++ p.entries) same,
@@ -99,8 +111,22 @@ pub follows_push : (seat : ℕ) (p q : Point) (e : Entry) → e.seat ≡ seat �
     q.entries ≡ e ∷ p.entries → Follows seat p q
 follows_push seat p q e own base list = follows_more seat p q (e ∷ []) base list (own, tt)
 
+-- the list was folded, and entries of the seat were added behind the fold
+pub follows_behind : (seat : ℕ) (p q : Point) (more : List Entry) → CanFold p.base p.entries →
+    q.base ≡ folded p.base p.entries → q.entries ≡ more → AllByRecursion (λ e. e.seat ≡ seat) more →
+    Follows seat p q
+unfolding Follows AllOfSeat
+follows_behind seat p q more can base list own =
+    let same = sym (added_behind p q more base list) in
+    inr (
+      can,
+      base,
+      list ∙ same,
+      subst (λ (es : List Entry). AllByRecursion (λ e. e.seat ≡ seat) es) same own,
+    )
+
 -- the list was folded
 pub follows_fold : (seat : ℕ) (p q : Point) → CanFold p.base p.entries → q.base ≡ folded p.base p.entries →
     q.entries ≡ [] → (Follows seat p q) × (added p q ≡ [])
-unfolding Follows
-follows_fold seat p q can base none = (inr (can, base, none), none_added p q none)
+follows_fold seat p q can base none =
+    (follows_behind seat p q [] can base none tt, added_behind p q [] base none)

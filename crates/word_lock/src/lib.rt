@@ -35,10 +35,10 @@
 //! | look | the view has seen the current history, and forgets what it remembered | the history stays |
 //!
 //! Only the store changes the current history. The one view that holds has seen exactly what it took. So what
-//! it puts back is that history with more entries, or its fold. What any other view has seen comes before the
-//! old history, and so before the new one. The added entries are all of the holder's seat: its log gains
-//! them, and the entries of all other seats are as before. A join is followed at once by a look, since two
-//! views alone don't show which of them has seen more. The first view has a log for each seat, and `open`
+//! it puts back is that history with more entries, or its fold with more entries. What any other view has seen
+//! comes before the old history, and so before the new one. The added entries are all of the holder's seat: its
+//! log gains them, and the entries of all other seats are as before. A join is followed at once by a look, since
+//! two views alone don't show which of them has seen more. The first view has a log for each seat, and `open`
 //! splits one token after another from it.
 //!
 //! The rule uses only the value's point, its fact and the order of points (`Chronicle`). So it is proved

@@ -1,4 +1,4 @@
-use Rattle.std.proofs.Common.{rules, ◌≡◌, ap, sym, ◌∙◌, subst, List, [], ◌∷◌, Some}
+use Rattle.std.proofs.Common.{rules, ◌≡◌, ap, sym, subst, List, [], ◌∷◌, Some}
 use Rattle.std.specs.declared.option.Option.{Option as Maybe}
 use Rattle.atomic_table.specs.Table.{opening}
 use Rattle.history.specs.declared.point.Point.{Point}

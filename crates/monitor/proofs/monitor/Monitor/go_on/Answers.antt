@@ -1,4 +1,4 @@
-use Rattle.std.proofs.Common.{◌≡◌, Result, ap, ◌∙◌, subst, ℕ, sym}
+use Rattle.std.proofs.Common.{ap, ◌∙◌, subst, ℕ, sym}
 use Rattle.history.specs.declared.step.Step.{Step}
 use Rattle.monitor.specs.Machine.{later_turn}
 use Rattle.monitor.specs.Load.{Brings, given_by}

@@ -1,4 +1,4 @@
-use Rattle.std.proofs.Common.{◌≡◌, Some, refl, sym, ap, ◌∙◌}
+use Rattle.std.proofs.Common.{Some, refl, sym, ap, ◌∙◌}
 use Rattle.std.proofs.lemmas.Fn.{gave_at}
 use Rattle.history.specs.declared.point.Point.{Point}
 use Rattle.word_lock.specs.Held.{held_ticket}

@@ -10,7 +10,7 @@ use Rattle.monitor.specs.Load.{free_of, holds_at, holds_of}
 use Rattle.word_lock.specs.Ticket.{LockId, first_entries}
 use Rattle.word_lock.proofs.Sections.{follows_taken}
 use Rattle.monitor.specs.Lawful.{beside_of, point_of}
-use Rattle.monitor.proofs.Freeing.{moves_none, moves_own, section_frees}
+use Rattle.monitor.proofs.Freeing.{moves_own, section_frees}
 use Rattle.monitor.proofs.Loads.{own_holds, true_holds}
 use Rattle.monitor.proofs.Sections.{answered_shown, owed_shown, Section, seat_below, follows_step, share_few, own_entries, sectioned, section_pass, section_true, section_step, as_step_now}
 use Rattle.monitor.proofs.monitor.Monitor.step_quietly.Goals as goal

@@ -2,8 +2,7 @@ use Rattle.std.proofs.Common.{rules, ◌≡◌, ◌≤◌, ◌∙◌, sym, subst
 use Rattle.word_lock.specs.Ticket.{LockId}
 use Rattle.monitor.specs.Load.{free_of}
 use Rattle.monitor.specs.Machine.{step_of_waiting}
-use Rattle.monitor.specs.Waits.{ComesOf, Waits}
-use Rattle.monitor.specs.declared.machine.Next.TheVariants as next
+use Rattle.monitor.specs.Waits.{ComesOf}
 use Rattle.monitor.proofs.Freeing.{brings_still, moves_since, stays}
 use Rattle.monitor.proofs.TurnByTurn.{all_still_free, later, place_later, replies, waits_on}
 use Rattle.monitor.proofs.Turns.{waits_first}

@@ -1,0 +1,319 @@
+-- What a section of the lock with a step that makes room leaves.
+use Rattle.std.proofs.Common.{◌≡◌, ◌≢◌, inl, inr, ℕ, ◌+◌, Bool, true, false, List, [], ◌++◌, Result, Ok, Err, refl, sym, ap, ◌∙◌, subst}
+use Rattle.std.specs.Prelude.{ℤ, ◌+ℤ◌}
+use Rattle.std.proofs.lemmas.List.{append-nil}
+use Rattle.history.specs.declared.entry.Entry.{Entry}
+use Rattle.history.specs.declared.fault.Fault.{Fault}
+use Rattle.history.specs.declared.fault.Fault.TheVariants.{HistoryFull}
+use Rattle.history.specs.declared.point.Point.{Point}
+use Rattle.history.specs.declared.step.Answer.{Answer}
+use Rattle.history.specs.declared.step.Step.{Step}
+use Rattle.history.specs.Base.{Base, based, folded}
+use Rattle.history.specs.Counts.{free}
+use Rattle.history.specs.Entries.{ended_calls}
+use Rattle.history.specs.Start.{opening}
+use Rattle.history.proofs.Folding.{fold_alike}
+use Rattle.frame.specs.Core.{CoreView, IsAnswered, IsTold, IsTrimmed, counts_of}
+use Rattle.word_lock.specs.Point.{Agrees, Before, Follows, added}
+use Rattle.word_lock.specs.Rule.{AllAgree}
+use Rattle.word_lock.specs.Ticket.{LockId, Ticket, first_entries, after_lock, after_unlock}
+use Rattle.word_lock.proofs.PointLaws.{added_behind, before_header, before_refl, before_trans, follows_before, follows_behind, follows_fold, follows_own}
+use Rattle.word_lock.proofs.Sections.{IsSection, section}
+use Rattle.monitor.specs.Lawful.{beside_of, point_of, start_at, view_of, IsKept, IsLawful}
+use Rattle.monitor.specs.Load.{Moves, holds_in}
+use Rattle.monitor.specs.Room.{IsCoreFold, IsCoreStep, IsCoreStepIn, IsFold, IsStepIn, IsTooMany, at_point, fold_of, is_full}
+use Rattle.monitor.specs.declared.room.WhenFull.TheVariants.{Trim}
+use Rattle.monitor.specs.Shown.{IsPass, IsTrue, shown}
+use Rattle.monitor.specs.Stepping.{IsStep, made_by}
+use Rattle.monitor.proofs.Freeing.{both_free, moves_own, section_frees, stays}
+use Rattle.monitor.proofs.Loads.{counts_folded}
+use Rattle.monitor.proofs.Sections.{Left, Section, added_step, answered_shown, calls_more, follows_step, left, owed_shown, own_entries, passed, section_step, true_pass}
+
+-- which answers say that there was no room
+pub full_is : (r : Result Answer Fault) → is_full r ≡ true → r ≡ Err HistoryFull
+full_is (Ok a) q = cc
+full_is (Err HistoryFull) q = refl
+full_is (Err _) q = cc
+
+pub not_full : (r : Result Answer Fault) → is_full r ≡ false → r ≢ Err HistoryFull
+not_full r q is = let z = ap is_full is in cc
+
+-- a step that found no room left the history as it was
+pub refused_left : (v w : CoreView) (i : ℕ) (step : Step) (f : Fault) → IsKept v → IsKept w →
+    IsCoreStep v i step (Err f) w → point_of w ≡ point_of v
+refused_left v w i step f kept kept' s =
+    let l : Left i (point_of v) (point_of w) (Err f) =
+    left i (point_of v) (point_of w) (beside_of v) (beside_of w) step (Err f)
+    (answered_shown v w i step (Err f) kept kept' s.answered) in
+    λ d. record { base = sym l.base d; entries = l.grown d }
+
+pub refused_frees : (v w : CoreView) (i : ℕ) (step : Step) (f : Fault) → IsKept v → IsKept w →
+    IsCoreStep v i step (Err f) w → (counts_of w).free ≡ (counts_of v).free
+refused_frees v w i step f kept kept' s =
+    ap (λ (p : Point). free (start_at p) p.entries) (refused_left v w i step f kept kept' s)
+
+-- a fold leaves what each seat holds
+pub trimmed_holds : (v w : CoreView) (n i : ℕ) → IsKept v → IsTrimmed v (Ok n) w → holds_in w i ≡ holds_in v i
+trimmed_holds v w n i kept t =
+    let can = kept.lawful.may_fold.can in
+    let same = counts_folded v.base v.entries (fold_alike v.base v.entries can.good can.legal can.seated) in
+    ap (λ (z : CoreView). holds_in z i) t.2 ∙ (λ d m. same.held i m d)
+
+module _ {A : Type 0} (counted : Bool) (amount : A → ℕ) (v w : CoreView) (i : ℕ) (step : Step) (kept : IsKept v)
+    (kept' : IsKept w) (x y : A) where
+  -- what a step that found no room leaves with who steps
+  pub refused_stays : (f : Fault) → IsCoreStep v i step (Err f) w →
+      Moves counted amount x (counts_of v).free y (counts_of w).free → counted ≡ true → y ≡ x
+  refused_stays f s m =
+      stays counted amount x y (counts_of v).free (counts_of w).free (refused_frees v w i step f kept kept' s) m
+
+-- a step that makes room, from one core to another
+module _ (moved : CoreView → Type 0) (v w : CoreView) (seat : ℕ) (step : Step) (r : Result Answer Fault)
+    (kept : IsKept v) (kept' : IsKept w) where
+  fold_at : (f : IsCoreFold moved v seat step r w) → point_of f.fold ≡ fold_of (point_of v)
+  fold_at f =
+      ap point_of f.trimmed.2 ∙ ap fold_of (refused_left v f.full seat step HistoryFull kept f.kept f.refused)
+
+  left_fold : (f : IsCoreFold moved v seat step r w) → Left seat (point_of f.fold) (point_of w) r
+  left_fold f =
+      left seat (point_of f.fold) (point_of w) (beside_of f.fold) (beside_of w) step r
+      (answered_shown f.fold w seat step r f.fold_kept kept' f.made.answered)
+
+  fold_base : (f : IsCoreFold moved v seat step r w) → w.base ≡ folded v.base v.entries
+  fold_base f = sym (left_fold f).base ∙ ap (λ (p : Point). p.base) (fold_at f)
+
+  fold_entries : (f : IsCoreFold moved v seat step r w) → w.entries ≡ made_by r
+  fold_entries f =
+      (left_fold f).grown
+      ∙ (ap (λ (p : Point). made_by r ++ p.entries) (fold_at f) ∙ append-nil (made_by r))
+
+  pub follows_in : IsCoreStepIn moved v seat step r w →
+      (Follows seat (point_of v) (point_of w)) × (added (point_of v) (point_of w) ≡ made_by r)
+  follows_in (inl x) =
+      let a = answered_shown v w seat step r kept kept' x.0.answered in (
+        follows_step seat (point_of v) (point_of w) (beside_of v) (beside_of w) step r a,
+        added_step seat (point_of v) (point_of w) (beside_of v) (beside_of w) step r a,
+      )
+  follows_in (inr (inl f)) = (
+    follows_behind seat (point_of v) (point_of w) (made_by r) kept.lawful.may_fold.can (fold_base f) (fold_entries f)
+        (left_fold f).own,
+    added_behind (point_of v) (point_of w) (made_by r) (fold_base f) (fold_entries f),
+  )
+  follows_in (inr (inr x)) =
+      let a = answered_shown v w seat step (Err HistoryFull) kept kept' x.0.answered in (
+        follows_step seat (point_of v) (point_of w) (beside_of v) (beside_of w) step (Err HistoryFull) a,
+        added_step seat (point_of v) (point_of w) (beside_of v) (beside_of w) step (Err HistoryFull) a
+            ∙ ap made_by (sym x.3),
+      )
+
+-- the section of the lock around it
+pub record Around (t o n : Ticket) (v w : CoreView) (seat share : ℕ) : Type 0 where
+  pub taken : o ≡ after_lock t (point_of v)
+  pub given : n ≡ after_unlock o (point_of w)
+  pub was : IsPass t seat share
+  pub begins : Before t.seen (point_of v)
+  pub entries : AllAgree (point_of v) t.logs
+  pub kept : IsKept v
+  pub left_kept : IsKept w
+
+around_step : (t o n : Ticket) (v w : CoreView) (seat share : ℕ) (step : Step) (r : Result Answer Fault) →
+    Around t o n v w seat share → IsCoreStep v seat step r w →
+    Section t o n (point_of v) (point_of w) seat share step r
+around_step t o n v w seat share step r a s = record {
+  taken = a.taken;
+  given = a.given;
+  was = a.was;
+  begins = a.begins;
+  entries = a.entries;
+  beside = beside_of v;
+  beside_left = beside_of w;
+  answered = answered_shown v w seat step r a.kept a.left_kept s.answered;
+  told = s.told;
+  found = a.kept.lawful;
+  lawful = a.left_kept.lawful;
+}
+
+module _ (t o n : Ticket) (v w : CoreView) (seat share : ℕ) (a : Around t o n v w seat share)
+    (moved : CoreView → Type 0) (step : Step) (r : Result Answer Fault) (s : IsCoreStepIn moved v seat step r w) where
+  pub sectioned_in : IsSection t n (point_of v) (point_of w) seat
+  sectioned_in =
+      section t o n (point_of v) (point_of w) seat a.taken a.given a.was.one a.was.seat_is a.begins a.entries
+      (follows_in moved v w seat step r a.kept a.left_kept s).0
+
+  mine_in : first_entries n.logs ≡ made_by r ++ first_entries t.logs
+  mine_in =
+      sectioned_in.grown ∙ ap (λ (l : List Entry). l ++ first_entries t.logs)
+      (follows_in moved v w seat step r a.kept a.left_kept s).1
+
+  pub pass_in : (next : ℕ) → next ≡ ended_calls (made_by r) + share → IsPass n seat next
+  pass_in next is =
+      passed t n (point_of v) (point_of w) seat share next sectioned_in a.was a.left_kept.lawful
+      (is ∙ (ap (λ k. ended_calls (made_by r) + k) a.was.counted
+      ∙ (sym (calls_more (made_by r) (first_entries t.logs)) ∙ ap ended_calls (sym mine_in))))
+
+  pub true_in : (next : ℕ) → next ≡ ended_calls (made_by r) + share → IsTrue (shown n seat next)
+  true_in next is = true_pass n seat next (pass_in next is)
+
+  agrees : Agrees (point_of v) seat (first_entries t.logs)
+  agrees = own_entries t (point_of v) seat a.was.one a.was.seat_is a.entries
+
+  folds : (Follows seat (point_of v) (fold_of (point_of v))) × (added (point_of v) (fold_of (point_of v)) ≡ [])
+  folds = follows_fold seat (point_of v) (fold_of (point_of v)) a.kept.lawful.may_fold.can refl refl
+
+  fold_begins : Before t.seen (fold_of (point_of v))
+  fold_begins =
+      before_trans t.seen (point_of v) (fold_of (point_of v)) a.begins
+      (follows_before seat (point_of v) (fold_of (point_of v)) folds.0)
+
+  fold_agrees : Agrees (fold_of (point_of v)) seat (first_entries t.logs)
+  fold_agrees =
+      subst (λ (l : List Entry). Agrees (fold_of (point_of v)) seat (l ++ first_entries t.logs)) folds.1
+      (follows_own seat (point_of v) (fold_of (point_of v)) (first_entries t.logs) folds.0 agrees)
+
+  -- where there was no room
+  found_full : (f : IsCoreFold moved v seat step r w) →
+      IsStep (shown t seat share) step (Err HistoryFull) (at_point (shown t seat share) (point_of v))
+  found_full f =
+      let same = refused_left v f.full seat step HistoryFull a.kept f.kept f.refused in
+      record {
+        found = point_of v;
+        begins = a.begins;
+        lawful = a.kept.lawful;
+        agrees = agrees;
+        beside = beside_of v;
+        beside_left = beside_of f.full;
+        answered = subst (λ (z : Point). IsAnswered (view_of (point_of v) (beside_of v)) seat step (Err HistoryFull)
+            (view_of z (beside_of f.full))) same
+            (answered_shown v f.full seat step (Err HistoryFull) a.kept f.kept f.refused.answered);
+        told = subst (λ (z : Point). IsTold (view_of (point_of v) (beside_of v)) seat (Err HistoryFull)
+            (view_of z (beside_of f.full))) same f.refused.told;
+        owed = owed_shown v seat step (Err HistoryFull) a.kept f.refused.owed;
+        after = a.begins;
+        mine = refl;
+      }
+
+  fold_is : (f : IsCoreFold moved v seat step r w) → IsFold (λ z. z ≡ step) (shown t seat share) (point_of v)
+  fold_is f =
+      let same = refused_left v f.full seat step HistoryFull a.kept f.kept f.refused in
+      record {
+        step = step;
+        asked = refl;
+        full = found_full f;
+        few = λ many. f.few (subst IsTooMany (sym same) many);
+        begins = fold_begins;
+        shows = record {
+          lawful = subst IsLawful (fold_at moved v w seat step r a.kept a.left_kept f) f.fold_kept.lawful;
+          header = sym (before_header t.seen (fold_of (point_of v)) fold_begins) ∙ a.was.header;
+          below = a.was.below;
+          agrees = fold_agrees;
+          counted = a.was.counted;
+        };
+      }
+
+  -- the step from the fold
+  abbrev MadeAt : ℕ → Point → Type 0
+  MadeAt next z = (m : IsStep (at_point (shown t seat share) z) step r (shown n seat next)) × (m.found ≡ z)
+
+  made_at : (f : IsCoreFold moved v seat step r w) (next : ℕ) → MadeAt next (fold_of (point_of v))
+  made_at f next =
+      let at = fold_at moved v w seat step r a.kept a.left_kept f in
+      let x = sectioned_in in
+      let answered = answered_shown f.fold w seat step r f.fold_kept a.left_kept f.made.answered in
+      subst (MadeAt next) at (
+        record {
+          found = point_of f.fold;
+          begins = before_refl (point_of f.fold);
+          lawful = f.fold_kept.lawful;
+          agrees = subst (λ (z : Point). Agrees z seat (first_entries t.logs)) (sym at) fold_agrees;
+          beside = beside_of f.fold;
+          beside_left = beside_of w;
+          answered = subst (λ (z : Point). IsAnswered (view_of (point_of f.fold) (beside_of f.fold)) seat step r
+              (view_of z (beside_of w))) (sym x.seen) answered;
+          told = subst (λ (z : Point). IsTold (view_of (point_of f.fold) (beside_of f.fold)) seat r
+              (view_of z (beside_of w))) (sym x.seen) f.made.told;
+          owed = owed_shown f.fold seat step r f.fold_kept f.made.owed;
+          after = subst (λ (z : Point). Before (point_of f.fold) z) (sym x.seen)
+              (follows_before seat (point_of f.fold) (point_of w)
+              (follows_step seat (point_of f.fold) (point_of w) (beside_of f.fold) (beside_of w) step r answered));
+          mine = mine_in;
+        },
+        refl,
+      )
+
+  pub step_in : (next : ℕ) → IsStepIn Trim (shown t seat share) step r (shown n seat next)
+  unfolding fold_is
+  step_in next = by s
+    where
+      by : IsCoreStepIn moved v seat step r w → IsStepIn Trim (shown t seat share) step r (shown n seat next)
+      by (inl x) = inl (
+        section_step t o n (point_of v) (point_of w) seat share step r (around_step t o n v w seat share step r a x.0)
+            next (owed_shown v seat step r a.kept x.0.owed),
+        x.2,
+      )
+      by (inr (inl f)) =
+          let m = made_at f next in
+          inr (inl record {
+            found = point_of v;
+            fold = fold_is f;
+            made = record {
+              answer = r;
+              next = shown n seat next;
+              made = m.0;
+              there = m.1;
+              before = before_refl n.seen;
+              full = λ q. q;
+            };
+            again = m.0;
+          })
+      by (inr (inr x)) =
+          inr (inr record {
+            full = section_step t o n (point_of v) (point_of w) seat share step (Err HistoryFull)
+                (around_step t o n v w seat share step (Err HistoryFull) a x.0) next
+                (owed_shown v seat step (Err HistoryFull) a.kept x.0.owed);
+            many = subst IsTooMany (sym sectioned_in.seen) x.2;
+            is = x.3;
+          })
+
+-- what changed hands
+module _ (t o n : Ticket) (v w : CoreView) (seat share : ℕ) (a : Around t o n v w seat share) {A : Type 0}
+    (counted : Bool) (amount : A → ℕ) (x y : A) (step : Step) (r : Result Answer Fault) where
+  abbrev Moved : CoreView → Type 0
+  Moved z = Moves counted amount x (counts_of z).free y (counts_of w).free
+
+  abbrev Owns : Type 0
+  Owns =
+      Moves counted amount x (free (opening t.lock.header) (first_entries t.logs)) y
+      (free (opening n.lock.header) (first_entries n.logs))
+
+  moves_step : (z : Result Answer Fault) → IsCoreStep v seat step z w → Moved v → Owns
+  moves_step z c m =
+      moves_own counted amount x y (free (opening t.lock.header) (first_entries t.logs))
+      (free (opening n.lock.header) (first_entries n.logs)) (counts_of v).free (counts_of w).free
+      (section_frees t o n (point_of v) (point_of w) seat share step z (around_step t o n v w seat share step z a c)) m
+
+  frees_fold : (s : IsCoreStepIn Moved v seat step r w) (f : IsCoreFold Moved v seat step r w) →
+      free (opening n.lock.header) (first_entries n.logs) +ℤ (counts_of f.fold).free
+      ≡ free (opening t.lock.header) (first_entries t.logs) +ℤ (counts_of w).free
+  frees_fold s f =
+      let at = left_fold Moved v w seat step r a.kept a.left_kept f in
+      let own = free (opening t.lock.header) (first_entries t.logs) in
+      let here = (counts_of f.fold).free in
+      let new = ap (λ (k : LockId). free (opening k.header) (first_entries n.logs))
+      (sectioned_in t o n v w seat share a Moved step r s).lock
+      ∙ ap (λ (es : List Entry). free (opening t.lock.header) es) (mine_in t o n v w seat share a Moved step r s) in
+      let left_is = ap (λ (b : Base). free (based b) w.entries) (sym at.base)
+      ∙ ap (λ (es : List Entry). free (based f.fold.base) es) at.grown in
+      ap (λ (z : ℤ). z +ℤ here) new
+      ∙ (both_free (based f.fold.base) (opening t.lock.header) (made_by r) f.fold.entries (first_entries t.logs)
+      ∙ ap (λ (z : ℤ). own +ℤ z) (sym left_is))
+
+  pub moves_in : IsCoreStepIn Moved v seat step r w → Owns
+  moves_in s = by s
+    where
+      by : IsCoreStepIn Moved v seat step r w → Owns
+      by (inl z) = moves_step r z.0 z.1
+      by (inr (inl f)) =
+          moves_own counted amount x y (free (opening t.lock.header) (first_entries t.logs))
+          (free (opening n.lock.header) (first_entries n.logs)) (counts_of f.fold).free (counts_of w).free
+          (frees_fold s f) f.since
+      by (inr (inr z)) = moves_step (Err HistoryFull) z.0 z.1

@@ -1,0 +1,12 @@
+use Rattle.std.proofs.Common.{subst}
+use Rattle.frame.specs.Core.{CoreView, counts_of}
+use Rattle.monitor.specs.Load.{Moves}
+use Rattle.monitor.specs.Room.{IsCoreStepIn}
+use Rattle.monitor.proofs.kept.Kept.step_in_room.Goals as goal
+
+pub returns-clause-stepped : goal.returns-clause-stepped
+returns-clause-stepped g c =
+    subst (λ (v : CoreView). IsCoreStepIn (λ z. Moves g.L.Load.is_counted g.L.Load.amount c.args.there.now
+    (counts_of z).free c.step_laden_in_room.new.there (counts_of c.step_laden_in_room.new.laden.core).free) v
+    c.args.seat c.args.step c.step_laden_in_room.result c.step_laden_in_room.new.laden.core)
+    (λ d. (c.deref_mut.ensures.value d).core) c.step_laden_in_room.ensures.stepped

@@ -1,0 +1,86 @@
+use Rattle.std.proofs.Common.{rules, ◌≡◌, ◌∙◌, inl, inr, true, false, Err, Result, refl, sym, ap, subst, ℕ}
+use Rattle.frame.specs.Core.{CoreView, IsTrimFull, counts_of}
+use Rattle.history.specs.declared.entry.Mode.{Mode}
+use Rattle.history.specs.declared.fault.Fault.{Fault}
+use Rattle.history.specs.declared.fault.Fault.TheVariants.{HistoryFull}
+use Rattle.history.specs.declared.step.Answer.{Answer}
+use Rattle.monitor.specs.Load.{Moves}
+use Rattle.monitor.specs.Room.{IsCoreStep}
+use Rattle.monitor.proofs.Freeing.{brings_still, moves_since}
+use Rattle.monitor.proofs.Rooms.{full_is, not_full, refused_stays, trimmed_holds}
+use Rattle.monitor.proofs.kept.step_laden_in_room.Goals.{After-trim_laden}
+use Rattle.monitor.proofs.kept.step_laden_in_room.Goals as goal
+
+pub returns-then-not-is_full-clause-stepped : goal.returns-then-not-is_full-clause-stepped
+returns-then-not-is_full-clause-stepped g c =
+    let s = c.step_laden-answer.ensures in
+    let is : c.is_full.result ≡ false = search rules in
+    inl (
+      record { answered = s.answered; told = s.told; owed = s.owed },
+      s.moves,
+      not_full c.step_laden-answer.result (sym c.is_full.ensures ∙ is),
+    )
+
+-- the first step found no room
+refused : (g : _) (c : After-trim_laden g) →
+    IsCoreStep c.args.laden.now.core c.args.seat c.args.step (Err HistoryFull) c.step_laden-answer.new.laden.core
+refused g c =
+    let s = c.step_laden-answer.ensures in
+    let is : c.is_full.result ≡ true = search rules in
+    let full = full_is c.step_laden-answer.result (sym c.is_full.ensures ∙ is) in
+    subst (λ (r : Result Answer Fault). IsCoreStep c.args.laden.now.core c.args.seat c.args.step r
+    c.step_laden-answer.new.laden.core) full (record { answered = s.answered; told = s.told; owed = s.owed })
+
+stays : (g : _) (c : After-trim_laden g) → g.L.Load.is_counted ≡ true →
+    c.step_laden-answer.new.there ≡ c.args.there.now
+stays g c =
+    refused_stays g.L.Load.is_counted g.L.Load.amount c.args.laden.now.core c.step_laden-answer.new.laden.core
+    c.args.seat c.args.step c.requires.kept c.step_laden-answer.ensures.kept c.args.there.now
+    c.step_laden-answer.new.there HistoryFull (refused g c) c.step_laden-answer.ensures.moves
+
+pub step_laden-requires-clause-carries : goal.step_laden-requires-clause-carries
+step_laden-requires-clause-carries g c =
+    subst (λ (f : Mode → ℕ). g.L.Load.carries c.step_laden-answer.new.there f)
+    (sym (trimmed_holds c.step_laden-answer.new.laden.core c.trim_laden.new.laden.core c.in-Ok.field-0 c.args.seat
+    c.step_laden-answer.ensures.kept c.in-Ok.ensures.trimmed))
+    c.step_laden-answer.ensures.carries
+
+pub step_laden-requires-clause-brings : goal.step_laden-requires-clause-brings
+step_laden-requires-clause-brings g c =
+    brings_still g.L.Load.is_counted g.L.Load.amount c.args.there.now c.step_laden-answer.new.there _
+    (stays g (goal.at.step_laden-requires-clause-brings g c).After-trim_laden) c.requires.brings
+
+pub returns-in-Ok-clause-stepped : goal.returns-in-Ok-clause-stepped
+returns-in-Ok-clause-stepped g c =
+    let s = c.step_laden.ensures in
+    let before = (goal.at.returns-in-Ok-clause-stepped g c).After-trim_laden in
+    inr (inl record {
+      full = c.step_laden-answer.new.laden.core;
+      refused = refused g before;
+      kept = c.step_laden-answer.ensures.kept;
+      few = c.in-Ok.ensures.trimmed.0;
+      fold = c.trim_laden.new.laden.core;
+      count = c.in-Ok.field-0;
+      trimmed = c.in-Ok.ensures.trimmed;
+      fold_kept = c.trim_laden.ensures.kept;
+      made = record { answered = s.answered; told = s.told; owed = s.owed };
+      since = moves_since g.L.Load.is_counted g.L.Load.amount c.args.there.now c.step_laden-answer.new.there
+          c.step_laden.new.there (counts_of c.trim_laden.new.laden.core).free
+          (counts_of c.trim_laden.new.laden.core).free (counts_of c.step_laden.new.laden.core).free
+          (stays g before) refl s.moves;
+    })
+
+pub returns-in-Err-clause-stepped : goal.returns-in-Err-clause-stepped
+returns-in-Err-clause-stepped g c =
+    let before = (goal.at.returns-in-Err-clause-stepped g c).After-trim_laden in
+    let t = c.in-Err.ensures.trimmed in
+    let same = sym t.2 in
+    inr (inr (
+      subst (λ (z : CoreView). IsCoreStep c.args.laden.now.core c.args.seat c.args.step (Err HistoryFull) z) same
+          (refused g before),
+      subst (λ (z : CoreView). Moves g.L.Load.is_counted g.L.Load.amount c.args.there.now
+          (counts_of c.args.laden.now.core).free c.step_laden-answer.new.there (counts_of z).free) same
+          c.step_laden-answer.ensures.moves,
+      subst IsTrimFull same t.0,
+      ap (λ (f : Fault). Err f) t.1,
+    ))

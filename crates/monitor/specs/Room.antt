@@ -1,0 +1,131 @@
+-- A step that makes room where there is none.
+use Rattle.std.specs.Prelude.{◌≡◌, ◌≢◌, ◌⊎◌, ◌<◌, ℕ, ◌+◌, [], length, Result, Ok, Err, IsOk, Bool, true, false}
+use Rattle.frame.specs.Core.{CoreView, IsAnswered, IsTold, IsTrimmed, IsTrimFull, MakesOwed}
+use Rattle.history.specs.declared.entry.Entry.{Entry}
+use Rattle.history.specs.declared.fault.Fault.{Fault}
+use Rattle.history.specs.declared.fault.Fault.TheVariants.{HistoryFull, TrimFull}
+use Rattle.history.specs.declared.point.Point.{Point}
+use Rattle.history.specs.declared.step.Answer.{Answer}
+use Rattle.history.specs.declared.step.Step.{Step}
+use Rattle.history.specs.Base.{folded}
+use Rattle.history.specs.GoodBase.{most_folded}
+use Rattle.permit.specs.Deed.{Deed}
+use Rattle.word_lock.specs.Point.{Before}
+use Rattle.monitor.specs.Lawful.{IsKept}
+use Rattle.monitor.specs.Machine.{IsCall, first_turn, step_by}
+use Rattle.monitor.specs.Shown.{Shown, IsTrue}
+use Rattle.monitor.specs.Stepping.{IsEntered, IsStep}
+use Rattle.monitor.specs.declared.how.How.{How}
+use Rattle.monitor.specs.declared.machine.Request.{Request}
+use Rattle.monitor.specs.declared.machine.Turn.{Turn}
+use Rattle.monitor.specs.declared.room.WhenFull.{WhenFull}
+use Rattle.monitor.specs.declared.room.WhenFull.TheVariants.{Refuse, Trim}
+
+-- all entries of a point folded
+abbrev pub fold_of : Point → Point
+fold_of p = record { base = folded p.base p.entries; entries = [] }
+
+-- a pass that has seen this, and has done nothing more
+abbrev pub at_point : Shown → Point → Shown
+at_point old p = record { lock = old.lock; seat = old.seat; seen = p; mine = old.mine; share = old.share }
+
+-- more entries were folded, and would be, than there may be
+abbrev pub IsTooMany : Point → Type 0
+IsTooMany p = most_folded < p.base.entries + length p.entries
+
+-- One of these steps found a history without room, and in the same turn of the lock all its entries were folded.
+-- The pass has recorded nothing.
+pub record IsFold (asks : Step → Type 0) (old : Shown) (found : Point) : Type 0 where
+  pub step : Step
+  pub asked : asks step
+  pub full : IsStep old step (Err HistoryFull) (at_point old found)
+  pub few : IsTooMany found → ⊥
+  pub begins : Before old.seen (fold_of found)
+  pub shows : IsTrue (at_point old (fold_of found))
+
+-- In that turn the step was made from the fold, and nothing came between. Only where it found no room there the
+-- call was answered that the history is full.
+pub record IsMadeThere {A : Type 0} (step : Step) (folded : Shown) (r : Result A Fault) (new : Shown) :
+    Type 0 where
+  pub answer : Result Answer Fault
+  pub next : Shown
+  pub made : IsStep folded step answer next
+  pub there : made.found ≡ folded.seen
+  pub before : Before next.seen new.seen
+  pub full : r ≡ Err HistoryFull → answer ≡ Err HistoryFull
+
+-- the call is one from the fold on
+pub record MadeFromFold {A : Type 0} (asks : Step → Type 0) (call : Shown → Result A Fault → Shown → Type 0)
+    (old : Shown) (r : Result A Fault) (new : Shown) : Type 0 where
+  pub found : Point
+  pub fold : IsFold asks old found
+  pub made : IsMadeThere fold.step (at_point old (fold_of found)) r new
+  pub again : call (at_point old (fold_of found)) r new
+
+-- There was no room, and there are too many entries to fold. It is as if the call had been refused for want of
+-- room, but for the fault.
+pub record CannotFold {A : Type 0} (call : Shown → Result A Fault → Shown → Type 0) (old : Shown)
+    (r : Result A Fault) (new : Shown) : Type 0 where
+  pub full : call old (Err HistoryFull) new
+  pub many : IsTooMany new.seen
+  pub is : r ≡ Err TrimFull
+
+-- A call that begins by one of these steps. Where it is to make room, it folds only where it finds none, and there
+-- is none only where a fold has none.
+abbrev pub InRoom : {A : Type 0} → WhenFull → (Step → Type 0) → (Shown → Result A Fault → Shown → Type 0) →
+    Shown → Result A Fault → Shown → Type 0
+InRoom Refuse asks call old r new = call old r new
+InRoom Trim asks call old r new =
+    (call old r new × (r ≢ Err HistoryFull))
+    ⊎ MadeFromFold asks call old r new
+    ⊎ CannotFold call old r new
+
+-- one step
+abbrev pub IsStepIn : WhenFull → Shown → Step → Result Answer Fault → Shown → Type 0
+IsStepIn w old step r new = InRoom w (λ s. s ≡ step) (λ o a n. IsStep o step a n) old r new
+
+-- one step of an idle seat
+abbrev pub IsEnteredIn : WhenFull → (Deed → Type 0) → Shown → Step → Result Entry Fault → Shown → Type 0
+IsEnteredIn w did old step r new = InRoom w (λ s. s ≡ step) (λ o a n. IsEntered did o step a n) old r new
+
+-- the first turn of a call
+abbrev pub IsBegunIn : WhenFull → Shown → Request → How → ℕ → Bool → Turn → Shown → Type 0
+IsBegunIn w old q how moment was turn new =
+    (r : Result Answer Fault) × IsStepIn w old (step_by q how was) r new × (turn ≡ first_turn q how moment was r)
+
+-- a whole call
+abbrev pub IsCallIn : WhenFull → (Deed → Type 0) → Shown → Request → How → Result Entry Fault → Shown → Type 0
+IsCallIn w did old q how r new =
+    InRoom w (λ s. (s ≡ step_by q how false) ⊎ (s ≡ step_by q how true)) (λ o a n. IsCall did o q how a n) old r new
+
+-- What a step of a core is known by.
+pub record IsCoreStep (v : CoreView) (i : ℕ) (step : Step) (r : Result Answer Fault) (w : CoreView) : Type 0 where
+  pub answered : IsAnswered v i step r w
+  pub told : IsTold v i r w
+  pub owed : MakesOwed v i step → IsOk r
+
+-- A step of a core found no room, all was folded, and the step was made from the fold.
+pub record IsCoreFold (moved : CoreView → Type 0) (v : CoreView) (i : ℕ) (step : Step) (r : Result Answer Fault)
+    (w : CoreView) : Type 0 where
+  pub full : CoreView
+  pub refused : IsCoreStep v i step (Err HistoryFull) full
+  pub kept : IsKept full
+  pub few : IsTrimFull full → ⊥
+  pub fold : CoreView
+  pub count : ℕ
+  pub trimmed : IsTrimmed full (Ok count) fold
+  pub fold_kept : IsKept fold
+  pub made : IsCoreStep fold i step r w
+  pub since : moved fold
+
+-- A step of a core that makes room. `moved` says what changed hands since the core that it was made from.
+abbrev pub IsCoreStepIn : (CoreView → Type 0) → CoreView → ℕ → Step → Result Answer Fault → CoreView → Type 0
+IsCoreStepIn moved v i step r w =
+    (IsCoreStep v i step r w × moved v × (r ≢ Err HistoryFull))
+    ⊎ IsCoreFold moved v i step r w
+    ⊎ (IsCoreStep v i step (Err HistoryFull) w × moved v × IsTrimFull w × (r ≡ Err TrimFull))
+
+-- the answer says that there was no room
+abbrev pub is_full : Result Answer Fault → Bool
+is_full (Err HistoryFull) = true
+is_full _ = false
