@@ -10,24 +10,24 @@ use Rattle.history.specs.declared.arrival.Arrival.{Arrival}
 use Rattle.history.specs.Line.{first_of, place_of}
 use Rattle.node_arena.specs.declared.node.Node.{Node}
 use Rattle.node_arena.specs.declared.node.NodeNo.{NodeNo}
-use Rattle.node_arena.specs.declared.node.Standing.{Standing}
+use Rattle.node_arena.specs.declared.node.NumberedNode.{NumberedNode}
 use Rattle.node_arena.specs.NodeList.{Nodes, is_at, at_place, under, of_number, without_place, cancelled, cancel_at, StandApart}
-use Rattle.acquire_queue.specs.Line.{StandOnce, is_live, live, number_of, trimmed, swept, LiveHead, left_by, standing_behind, IsKept}
+use Rattle.acquire_queue.specs.Line.{StandOnce, is_live, live, number_of, without_dead_head, swept, LiveHead, left_by, standing_behind, IsLinkedLine}
 use Rattle.acquire_queue.proofs.Lines.{eqb_swap, place_of-push_other, once-push, once-left, left_absent, length-left, length-few}
 
 -- a node that isn't cancelled, and what it asks for
-pub live_by : (x : Standing) (rest : List Standing) → x.node.cancelled ≡ false →
+pub live_by : (x : NumberedNode) (rest : List NumberedNode) → x.node.cancelled ≡ false →
     live (x ∷ rest) ≡ x.node.arrival ∷ live rest
 live_by x rest e = rw e refl
 
-pub live_past : (x : Standing) (rest : List Standing) → x.node.cancelled ≡ true → live (x ∷ rest) ≡ live rest
+pub live_past : (x : NumberedNode) (rest : List NumberedNode) → x.node.cancelled ≡ true → live (x ∷ rest) ≡ live rest
 live_past x rest e = rw e refl
 
-number_by : (i : ℕ) (x : Standing) (rest : List Standing) → x.node.cancelled ≡ false →
+number_by : (i : ℕ) (x : NumberedNode) (rest : List NumberedNode) → x.node.cancelled ≡ false →
     number_of i (x ∷ rest) ≡ cond (eqb x.node.arrival.seat i) (Some x.number) (number_of i rest)
 number_by i x rest e = rw e refl
 
-pub number_past : (i : ℕ) (x : Standing) (rest : List Standing) → x.node.cancelled ≡ true →
+pub number_past : (i : ℕ) (x : NumberedNode) (rest : List NumberedNode) → x.node.cancelled ≡ true →
     number_of i (x ∷ rest) ≡ number_of i rest
 number_past i x rest e = rw e refl
 
@@ -36,7 +36,7 @@ either true = inl refl
 either false = inr refl
 
 -- a seat has a number exactly where it stands in line
-pub numbered : (i : ℕ) (nodes : List Standing) →
+pub numbered : (i : ℕ) (nodes : List NumberedNode) →
     is_some (number_of i nodes) ≡ is_some (place_of i (live nodes))
 numbered i [] = refl
 numbered i (x ∷ rest) =
@@ -60,15 +60,15 @@ none_by None p same e = refl
 none_by (Some x) None same e = cc
 none_by (Some x) (Some y) same e = cc
 
-pub no_number : (i : ℕ) (nodes : List Standing) → place_of i (live nodes) ≡ None → number_of i nodes ≡ None
+pub no_number : (i : ℕ) (nodes : List NumberedNode) → place_of i (live nodes) ≡ None → number_of i nodes ≡ None
 no_number i nodes e = none_by _ _ (numbered i nodes) e
 
-pub no_place : (i : ℕ) (nodes : List Standing) → number_of i nodes ≡ None → place_of i (live nodes) ≡ None
+pub no_place : (i : ℕ) (nodes : List NumberedNode) → number_of i nodes ≡ None → place_of i (live nodes) ≡ None
 no_place i nodes e = none_by _ _ (sym (numbered i nodes)) e
 
 -- ---- one joins
 
-pub live-push : (x : Standing) (nodes : List Standing) → x.node.cancelled ≡ false →
+pub live-push : (x : NumberedNode) (nodes : List NumberedNode) → x.node.cancelled ≡ false →
     live (nodes ++ x ∷ []) ≡ live nodes ++ x.node.arrival ∷ []
 live-push x [] e = live_by x [] e
 live-push x (y ∷ nodes) e = by y.node.cancelled (live-push x nodes e)
@@ -79,14 +79,14 @@ live-push x (y ∷ nodes) e = by y.node.cancelled (live-push x nodes e)
     by true ih = ih
     by false ih = ap (λ l. y.node.arrival ∷ l) ih
 
-number-push_other : (i : ℕ) (x : Standing) (nodes : List Standing) → x.node.cancelled ≡ false →
+number-push_other : (i : ℕ) (x : NumberedNode) (nodes : List NumberedNode) → x.node.cancelled ≡ false →
     eqb x.node.arrival.seat i ≡ false → number_of i (nodes ++ x ∷ []) ≡ number_of i nodes
 number-push_other i x [] e n = number_by i x [] e ∙ cond-false _ _ _ n
 number-push_other i x (y ∷ nodes) e n =
     ap (λ o. cond y.node.cancelled o (cond (eqb y.node.arrival.seat i) (Some y.number) o))
     (number-push_other i x nodes e n)
 
-number-push_same : (x : Standing) (nodes : List Standing) → x.node.cancelled ≡ false →
+number-push_same : (x : NumberedNode) (nodes : List NumberedNode) → x.node.cancelled ≡ false →
     number_of x.node.arrival.seat nodes ≡ None →
     number_of x.node.arrival.seat (nodes ++ x ∷ []) ≡ Some x.number
 number-push_same x [] e p =
@@ -106,13 +106,13 @@ number-push_same x (y ∷ nodes) e p =
     by false true p ih = cc
     by false false p ih = ih p
 
-at_place-push : (q : ℕ) (x : Standing) (nodes : List Standing) → eqb x.number.place q ≡ false →
+at_place-push : (q : ℕ) (x : NumberedNode) (nodes : List NumberedNode) → eqb x.number.place q ≡ false →
     at_place q (nodes ++ x ∷ []) ≡ at_place q nodes
 at_place-push q x [] n = cond-false _ _ _ n
 at_place-push q x (y ∷ nodes) n = ap (λ o. cond (is_at q y) (Some y) o) (at_place-push q x nodes n)
 
 -- a place that is neither the first nor behind it
-pub absent_behind : (q : ℕ) (x : Standing) (rest : List Standing) → at_place q (x ∷ rest) ≡ None →
+pub absent_behind : (q : ℕ) (x : NumberedNode) (rest : List NumberedNode) → at_place q (x ∷ rest) ≡ None →
     (eqb x.number.place q ≡ false) × (at_place q rest ≡ None)
 absent_behind q x rest e = by (eqb x.number.place q) refl e
   where
@@ -121,7 +121,7 @@ absent_behind q x rest e = by (eqb x.number.place q) refl e
     by true is e = cc
     by false is e = (is, e)
 
-pub apart-push : (x : Standing) (nodes : List Standing) → StandApart nodes →
+pub apart-push : (x : NumberedNode) (nodes : List NumberedNode) → StandApart nodes →
     at_place x.number.place nodes ≡ None → StandApart (nodes ++ x ∷ [])
 apart-push x [] apart e = (refl, tt)
 apart-push x (y ∷ nodes) apart e =
@@ -130,14 +130,14 @@ apart-push x (y ∷ nodes) apart e =
       apart-push x nodes apart.1 q.1,
     )
 
-pub head-push : (x : Standing) (nodes : List Standing) → x.node.cancelled ≡ false → LiveHead nodes →
+pub head-push : (x : NumberedNode) (nodes : List NumberedNode) → x.node.cancelled ≡ false → LiveHead nodes →
     LiveHead (nodes ++ x ∷ [])
 head-push x [] e head = e
 head-push x (y ∷ nodes) e head = head
 
 -- ---- the nodes without those at the head, or without any, that are cancelled
 
-pub trimmed_live : (nodes : List Standing) → live (trimmed nodes) ≡ live nodes
+pub trimmed_live : (nodes : List NumberedNode) → live (without_dead_head nodes) ≡ live nodes
 trimmed_live [] = refl
 trimmed_live (x ∷ rest) =
     elim (either x.node.cancelled) [
@@ -145,7 +145,7 @@ trimmed_live (x ∷ rest) =
       | inr stays ↦ ap live (cond-false _ _ _ stays)
     ]
 
-pub trimmed_number : (i : ℕ) (nodes : List Standing) → number_of i (trimmed nodes) ≡ number_of i nodes
+pub trimmed_number : (i : ℕ) (nodes : List NumberedNode) → number_of i (without_dead_head nodes) ≡ number_of i nodes
 trimmed_number i [] = refl
 trimmed_number i (x ∷ rest) =
     elim (either x.node.cancelled) [
@@ -154,33 +154,33 @@ trimmed_number i (x ∷ rest) =
       | inr stays ↦ ap (number_of i) (cond-false _ _ _ stays)
     ]
 
-pub trimmed_apart : (nodes : List Standing) → StandApart nodes → StandApart (trimmed nodes)
+pub trimmed_apart : (nodes : List NumberedNode) → StandApart nodes → StandApart (without_dead_head nodes)
 trimmed_apart [] apart = tt
 trimmed_apart (x ∷ rest) apart = by x.node.cancelled (trimmed_apart rest apart.1)
   where
-    by : (b : Bool) → StandApart (trimmed rest) → StandApart (cond b (trimmed rest) (x ∷ rest))
+    by : (b : Bool) → StandApart (without_dead_head rest) → StandApart (cond b (without_dead_head rest) (x ∷ rest))
     by true ih = ih
     by false ih = apart
 
-pub trimmed_head : (nodes : List Standing) → LiveHead (trimmed nodes)
+pub trimmed_head : (nodes : List NumberedNode) → LiveHead (without_dead_head nodes)
 trimmed_head [] = tt
 trimmed_head (x ∷ rest) = by x.node.cancelled refl (trimmed_head rest)
   where
-    by : (b : Bool) → x.node.cancelled ≡ b → LiveHead (trimmed rest) →
-        LiveHead (cond b (trimmed rest) (x ∷ rest))
+    by : (b : Bool) → x.node.cancelled ≡ b → LiveHead (without_dead_head rest) →
+        LiveHead (cond b (without_dead_head rest) (x ∷ rest))
     by true e ih = ih
     by false e ih = e
 
-pub trimmed_length : (nodes : List Standing) → length (trimmed nodes) ≤ length nodes
+pub trimmed_length : (nodes : List NumberedNode) → length (without_dead_head nodes) ≤ length nodes
 trimmed_length [] = omega arith
 trimmed_length (x ∷ rest) = by x.node.cancelled (trimmed_length rest)
   where
-    by : (b : Bool) → length (trimmed rest) ≤ length rest →
-        length (cond b (trimmed rest) (x ∷ rest)) ≤ length (x ∷ rest)
+    by : (b : Bool) → length (without_dead_head rest) ≤ length rest →
+        length (cond b (without_dead_head rest) (x ∷ rest)) ≤ length (x ∷ rest)
     by true ih = omega (arith, ih)
     by false ih = omega arith
 
-pub swept_live : (nodes : List Standing) → live (swept nodes) ≡ live nodes
+pub swept_live : (nodes : List NumberedNode) → live (swept nodes) ≡ live nodes
 swept_live [] = refl
 swept_live (x ∷ rest) =
     elim (either x.node.cancelled) [
@@ -191,7 +191,7 @@ swept_live (x ∷ rest) =
           ∙ ap (λ l. x.node.arrival ∷ l) (swept_live rest) ∙ sym (live_by x rest stays)
     ]
 
-pub swept_number : (i : ℕ) (nodes : List Standing) → number_of i (swept nodes) ≡ number_of i nodes
+pub swept_number : (i : ℕ) (nodes : List NumberedNode) → number_of i (swept nodes) ≡ number_of i nodes
 swept_number i [] = refl
 swept_number i (x ∷ rest) =
     elim (either x.node.cancelled) [
@@ -204,7 +204,7 @@ swept_number i (x ∷ rest) =
           ∙ sym (number_by i x rest stays)
     ]
 
-swept_absent : (q : ℕ) (nodes : List Standing) → at_place q nodes ≡ None → at_place q (swept nodes) ≡ None
+swept_absent : (q : ℕ) (nodes : List NumberedNode) → at_place q nodes ≡ None → at_place q (swept nodes) ≡ None
 swept_absent q [] e = refl
 swept_absent q (x ∷ rest) e =
     let b = absent_behind q x rest e in by (is_live x) b.0 (swept_absent q rest b.1)
@@ -214,7 +214,7 @@ swept_absent q (x ∷ rest) e =
     by true n ih = cond-false _ _ _ n ∙ ih
     by false n ih = ih
 
-pub swept_apart : (nodes : List Standing) → StandApart nodes → StandApart (swept nodes)
+pub swept_apart : (nodes : List NumberedNode) → StandApart nodes → StandApart (swept nodes)
 swept_apart [] apart = tt
 swept_apart (x ∷ rest) apart =
     by (is_live x) (swept_absent x.number.place rest apart.0) (swept_apart rest apart.1)
@@ -224,7 +224,7 @@ swept_apart (x ∷ rest) apart =
     by true e ih = (e, ih)
     by false e ih = ih
 
-pub swept_head : (nodes : List Standing) → LiveHead (swept nodes)
+pub swept_head : (nodes : List NumberedNode) → LiveHead (swept nodes)
 swept_head [] = tt
 swept_head (x ∷ rest) = by x.node.cancelled refl (swept_head rest)
   where
@@ -233,7 +233,7 @@ swept_head (x ∷ rest) = by x.node.cancelled refl (swept_head rest)
     by true e ih = ih
     by false e ih = e
 
-pub swept_length : (nodes : List Standing) → length (swept nodes) ≡ length (live nodes)
+pub swept_length : (nodes : List NumberedNode) → length (swept nodes) ≡ length (live nodes)
 swept_length [] = refl
 swept_length (x ∷ rest) = by x.node.cancelled (swept_length rest)
   where
@@ -246,15 +246,15 @@ swept_length (x ∷ rest) = by x.node.cancelled (swept_length rest)
 -- ---- one leaves
 
 -- the node of a seat in line
-pub record Found (i : ℕ) (number : NodeNo) (nodes : List Standing) : Type 0 where
-  pub node : Standing
+pub record Found (i : ℕ) (number : NodeNo) (nodes : List NumberedNode) : Type 0 where
+  pub node : NumberedNode
   pub at : at_place number.place nodes ≡ Some node
   pub is : node.number ≡ number
   pub stays : node.node.cancelled ≡ false
   pub seat : node.node.arrival.seat ≡ i
   pub place : place_of i (live nodes) ≡ Some node.node.arrival
 
-pub find_node : (i : ℕ) (number : NodeNo) (nodes : List Standing) → StandApart nodes →
+pub find_node : (i : ℕ) (number : NodeNo) (nodes : List NumberedNode) → StandApart nodes →
     number_of i nodes ≡ Some number → Found i number nodes
 find_node i number [] apart e = absurd (none-some number e)
 find_node i number (x ∷ rest) apart e =
@@ -303,13 +303,13 @@ find_node i number (x ∷ rest) apart e =
         none-some f.node (sym (ap (λ q. at_place q rest) (sym same) ∙ apart.0) ∙ f.at)))
         ∙ f.at
 
-pub found_under : (i : ℕ) (number : NodeNo) (nodes : List Standing) (f : Found i number nodes) →
+pub found_under : (i : ℕ) (number : NodeNo) (nodes : List NumberedNode) (f : Found i number nodes) →
     under number nodes ≡ Some f.node.node
 found_under i number nodes f =
     ap (of_number number) f.at ∙ cond-true _ _ _ (eq-eqb _ _ (ap (λ (n : NodeNo). n.generation) f.is))
 
 -- a node that isn't cancelled stands in line
-pub stands_live : (p : ℕ) (x : Standing) (nodes : List Standing) → at_place p nodes ≡ Some x →
+pub stands_live : (p : ℕ) (x : NumberedNode) (nodes : List NumberedNode) → at_place p nodes ≡ Some x →
     x.node.cancelled ≡ false → is_some (place_of x.node.arrival.seat (live nodes)) ≡ true
 stands_live p x [] e stays = absurd (none-some x e)
 stands_live p x (y ∷ rest) e stays =
@@ -317,8 +317,8 @@ stands_live p x (y ∷ rest) e stays =
       | inl same ↦
           let is : y ≡ x = same_Some _ _ (sym (cond-true _ _ _ (eq-eqb _ _ same)) ∙ e) in
           ap (λ l. is_some (place_of x.node.arrival.seat l))
-          (live_by y rest (ap (λ (z : Standing). z.node.cancelled) is ∙ stays))
-          ∙ ap is_some (cond-true _ _ _ (eq-eqb _ _ (ap (λ (z : Standing). z.node.arrival.seat) is)))
+          (live_by y rest (ap (λ (z : NumberedNode). z.node.cancelled) is ∙ stays))
+          ∙ ap is_some (cond-true _ _ _ (eq-eqb _ _ (ap (λ (z : NumberedNode). z.node.arrival.seat) is)))
       | inr differs ↦
           let ih = stands_live p x rest (sym (cond-false _ _ _ (ne_eqb _ _ differs)) ∙ e) stays in
           by y.node.cancelled (eqb y.node.arrival.seat x.node.arrival.seat) ih
@@ -335,7 +335,7 @@ stands_live p x (y ∷ rest) e stays =
         deep false ih = ih
 
 -- a seat has left, and all others stand as before
-pub record LeftNodes (s : ℕ) (old new : List Standing) : Type 0 where
+pub record LeftNodes (s : ℕ) (old new : List NumberedNode) : Type 0 where
   pub arrivals : live new ≡ filter (λ a. not (eqb s a.seat)) (live old)
   pub numbers : (i : ℕ) → number_of i new ≡ cond (eqb s i) None (number_of i old)
   pub apart : StandApart new
@@ -343,8 +343,8 @@ pub record LeftNodes (s : ℕ) (old new : List Standing) : Type 0 where
   pub short : length new ≤ length old
 
 -- the head leaves
-pub left_head : (x : Standing) (rest : List Standing) → StandOnce (live (x ∷ rest)) → StandApart (x ∷ rest) →
-    x.node.cancelled ≡ false → LeftNodes x.node.arrival.seat (x ∷ rest) (trimmed rest)
+pub left_head : (x : NumberedNode) (rest : List NumberedNode) → StandOnce (live (x ∷ rest)) → StandApart (x ∷ rest) →
+    x.node.cancelled ≡ false → LeftNodes x.node.arrival.seat (x ∷ rest) (without_dead_head rest)
 left_head x rest once apart stays =
     let first : StandOnce (x.node.arrival ∷ live rest) = subst StandOnce (live_by x rest stays) once in
     record {
@@ -368,13 +368,13 @@ left_head x rest once apart stays =
         (ap (λ k. number_of k rest) (sym e) ∙ no_number x.node.arrival.seat rest none)
     number i (inr n) none = rw (ne_eqb x.node.arrival.seat i n) refl
 
-cancel_absent : (p : ℕ) (nodes : List Standing) → at_place p nodes ≡ None → cancel_at p nodes ≡ nodes
+cancel_absent : (p : ℕ) (nodes : List NumberedNode) → at_place p nodes ≡ None → cancel_at p nodes ≡ nodes
 cancel_absent p [] e = refl
 cancel_absent p (x ∷ rest) e =
     let b = absent_behind p x rest e in
     ap (λ y. y ∷ cancel_at p rest) (cond-false _ _ _ b.0) ∙ ap (λ l. x ∷ l) (cancel_absent p rest b.1)
 
-cancel_keeps_place : (p q : ℕ) (nodes : List Standing) → at_place q nodes ≡ None →
+cancel_keeps_place : (p q : ℕ) (nodes : List NumberedNode) → at_place q nodes ≡ None →
     at_place q (cancel_at p nodes) ≡ None
 cancel_keeps_place p q [] e = refl
 cancel_keeps_place p q (x ∷ rest) e =
@@ -385,7 +385,7 @@ cancel_keeps_place p q (x ∷ rest) e =
     by true n ih = cond-false _ _ _ n ∙ ih
     by false n ih = cond-false _ _ _ n ∙ ih
 
-cancel_apart : (p : ℕ) (nodes : List Standing) → StandApart nodes → StandApart (cancel_at p nodes)
+cancel_apart : (p : ℕ) (nodes : List NumberedNode) → StandApart nodes → StandApart (cancel_at p nodes)
 cancel_apart p [] apart = tt
 cancel_apart p (x ∷ rest) apart =
     by (is_at p x) (cancel_keeps_place p x.number.place rest apart.0) (cancel_apart p rest apart.1)
@@ -396,18 +396,18 @@ cancel_apart p (x ∷ rest) apart =
     by false e ih = (e, ih)
 
 -- a node is marked where it stands
-module _ (p : ℕ) (x : Standing) (stays : x.node.cancelled ≡ false) where
+module _ (p : ℕ) (x : NumberedNode) (stays : x.node.cancelled ≡ false) where
   -- what marking makes of the line and of the numbers
-  record Marked (nodes : List Standing) : Type 0 where
+  record Marked (nodes : List NumberedNode) : Type 0 where
     arrivals : live (cancel_at p nodes) ≡ filter (λ a. not (eqb x.node.arrival.seat a.seat)) (live nodes)
     numbers : (i : ℕ) → number_of i (cancel_at p nodes)
         ≡ cond (eqb x.node.arrival.seat i) None (number_of i nodes)
 
-  mark_here : (y : Standing) (rest : List Standing) → y ≡ x → y.number.place ≡ p →
+  mark_here : (y : NumberedNode) (rest : List NumberedNode) → y ≡ x → y.number.place ≡ p →
       StandOnce (live (y ∷ rest)) → StandApart (y ∷ rest) → Marked (y ∷ rest)
   mark_here y rest is same once apart =
-      let y_stays : y.node.cancelled ≡ false = ap (λ (z : Standing). z.node.cancelled) is ∙ stays in
-      let seat : y.node.arrival.seat ≡ x.node.arrival.seat = ap (λ (z : Standing). z.node.arrival.seat) is in
+      let y_stays : y.node.cancelled ≡ false = ap (λ (z : NumberedNode). z.node.cancelled) is ∙ stays in
+      let seat : y.node.arrival.seat ≡ x.node.arrival.seat = ap (λ (z : NumberedNode). z.node.arrival.seat) is in
       let first : StandOnce (y.node.arrival ∷ live rest) = subst StandOnce (live_by y rest y_stays) once in
       let none : place_of x.node.arrival.seat (live rest) ≡ None = ap (λ k. place_of k (live rest)) (sym seat)
       ∙ first.0 in
@@ -435,7 +435,7 @@ module _ (p : ℕ) (x : Standing) (stays : x.node.cancelled ≡ false) where
           sym (cond-false _ _ _ (ne_eqb x.node.arrival.seat i n)
           ∙ cond-false _ _ _ (ne_eqb y.node.arrival.seat i (λ e. n (sym seat ∙ e))))
 
-  mark_behind : (y : Standing) (rest : List Standing) → y.number.place ≢ p → y.node.cancelled ≡ false →
+  mark_behind : (y : NumberedNode) (rest : List NumberedNode) → y.number.place ≢ p → y.node.cancelled ≡ false →
       y.node.arrival.seat ≢ x.node.arrival.seat → Marked rest → Marked (y ∷ rest)
   mark_behind y rest differs y_stays others ih =
       let now : cancel_at p (y ∷ rest) ≡ y ∷ cancel_at p rest =
@@ -461,7 +461,7 @@ module _ (p : ℕ) (x : Standing) (stays : x.node.cancelled ≡ false) where
           (cond-false _ _ _ (ne_eqb y.node.arrival.seat i (λ f. others (f ∙ sym e))))
       by i (inr n) = rw (ne_eqb x.node.arrival.seat i n) refl
 
-  mark_past : (y : Standing) (rest : List Standing) → y.number.place ≢ p → y.node.cancelled ≡ true →
+  mark_past : (y : NumberedNode) (rest : List NumberedNode) → y.number.place ≢ p → y.node.cancelled ≡ true →
       Marked rest → Marked (y ∷ rest)
   mark_past y rest differs gone ih =
       let now : cancel_at p (y ∷ rest) ≡ y ∷ cancel_at p rest =
@@ -474,7 +474,7 @@ module _ (p : ℕ) (x : Standing) (stays : x.node.cancelled ≡ false) where
             ∙ ap (λ o. cond (eqb x.node.arrival.seat i) None o) (sym (number_past i y rest gone));
       }
 
-  mark : (nodes : List Standing) → at_place p nodes ≡ Some x → StandOnce (live nodes) → StandApart nodes →
+  mark : (nodes : List NumberedNode) → at_place p nodes ≡ Some x → StandOnce (live nodes) → StandApart nodes →
       Marked nodes
   mark [] e once apart = absurd (none-some x e)
   mark (y ∷ rest) e once apart =
@@ -501,7 +501,7 @@ module _ (p : ℕ) (x : Standing) (stays : x.node.cancelled ≡ false) where
           is_some (place_of x.node.arrival.seat (live rest)) ≡ true → ⊥
       no none some = let f : false ≡ true = sym (ap is_some none) ∙ some in cc
 
-  pub left_marked : (nodes : List Standing) → at_place p nodes ≡ Some x → StandOnce (live nodes) →
+  pub left_marked : (nodes : List NumberedNode) → at_place p nodes ≡ Some x → StandOnce (live nodes) →
       StandApart nodes → LiveHead (cancel_at p nodes) →
       LeftNodes x.node.arrival.seat nodes (cancel_at p nodes)
   left_marked nodes e once apart head =
@@ -515,7 +515,7 @@ module _ (p : ℕ) (x : Standing) (stays : x.node.cancelled ≡ false) where
       }
 
 -- the node of a seat leaves, from the head or from between others
-pub left_by_number : (s : ℕ) (number : NodeNo) (nodes : List Standing) → StandOnce (live nodes) →
+pub left_by_number : (s : ℕ) (number : NodeNo) (nodes : List NumberedNode) → StandOnce (live nodes) →
     StandApart nodes → LiveHead nodes → number_of s nodes ≡ Some number →
     LeftNodes s nodes (left_by number nodes)
 left_by_number s number [] once apart head e = absurd (none-some number e)
@@ -524,9 +524,9 @@ left_by_number s number (x ∷ rest) once apart head e =
     elim (cases_eq x.number.place number.place) [
       | inl same ↦
           let is : x ≡ f.node = same_Some _ _ (sym (cond-true _ _ _ (eq-eqb _ _ same)) ∙ f.at) in
-          let seat : x.node.arrival.seat ≡ s = ap (λ (z : Standing). z.node.arrival.seat) is ∙ f.seat in
+          let seat : x.node.arrival.seat ≡ s = ap (λ (z : NumberedNode). z.node.arrival.seat) is ∙ f.seat in
           subst (λ l. LeftNodes s (x ∷ rest) l) (sym (cond-true _ _ _ (eq-eqb _ _ same)))
-          (subst (λ k. LeftNodes k (x ∷ rest) (trimmed rest)) seat (left_head x rest once apart head))
+          (subst (λ k. LeftNodes k (x ∷ rest) (without_dead_head rest)) seat (left_head x rest once apart head))
       | inr differs ↦
           subst (λ l. LeftNodes s (x ∷ rest) l) (sym (cond-false _ _ _ (ne_eqb _ _ differs)))
           (subst (λ k. LeftNodes k (x ∷ rest) (cancel_at number.place (x ∷ rest))) f.seat
@@ -536,7 +536,7 @@ left_by_number s number (x ∷ rest) once apart head e =
     ]
 
 -- a node that leaves from between others stays as a marked one
-pub left_between : (s : ℕ) (number : NodeNo) (nodes : List Standing) → StandApart nodes → LiveHead nodes →
+pub left_between : (s : ℕ) (number : NodeNo) (nodes : List NumberedNode) → StandApart nodes → LiveHead nodes →
     number_of s nodes ≡ Some number → (first : Arrival) → first_of (live nodes) ≡ Some first →
     (first.seat ≡ s → ⊥) → length (left_by number nodes) ≡ length nodes
 left_between s number [] apart head e first is other = absurd (none-some number e)
@@ -547,7 +547,7 @@ left_between s number (x ∷ rest) apart head e first is other =
           let found : x ≡ f.node = same_Some _ _ (sym (cond-true _ _ _ (eq-eqb _ _ same)) ∙ f.at) in
           let own : first ≡ x.node.arrival =
           same_Some _ _ (sym is ∙ ap first_of (live_by x rest head)) in
-          absurd (other (ap (λ (a : Arrival). a.seat) own ∙ ap (λ (z : Standing). z.node.arrival.seat) found
+          absurd (other (ap (λ (a : Arrival). a.seat) own ∙ ap (λ (z : NumberedNode). z.node.arrival.seat) found
           ∙ f.seat))
       | inr differs ↦
           ap length (cond-false _ _ _ (ne_eqb _ _ differs))
@@ -555,9 +555,9 @@ left_between s number (x ∷ rest) apart head e first is other =
     ]
 
 -- the node of the first in line leaves with the cancelled ones behind it
-pub left_head_seat : (s : ℕ) (number : NodeNo) (nodes : List Standing) → LiveHead nodes →
+pub left_head_seat : (s : ℕ) (number : NodeNo) (nodes : List NumberedNode) → LiveHead nodes →
     number_of s nodes ≡ Some number → (first : Arrival) → first_of (live nodes) ≡ Some first →
-    first.seat ≡ s → left_by number nodes ≡ trimmed (drop 1 nodes)
+    first.seat ≡ s → left_by number nodes ≡ without_dead_head (drop 1 nodes)
 left_head_seat s number [] head e first is own = absurd (none-some number e)
 left_head_seat s number (x ∷ rest) head e first is own =
     let same : first ≡ x.node.arrival = same_Some _ _ (sym is ∙ ap first_of (live_by x rest head)) in
@@ -567,12 +567,12 @@ left_head_seat s number (x ∷ rest) head e first is own =
     cond-true _ _ _ (eq-eqb _ _ (ap (λ (m : NodeNo). m.place) its))
 
 -- fewer nodes stand then than would be swept
-pub few_behind_head : (seats waiting : ℕ) (nodes : List Standing) → 1 ≤ waiting →
-    length nodes ≤ waiting + seats → length (trimmed (drop 1 nodes)) ≤ (waiting - 1) + seats
+pub few_behind_head : (seats waiting : ℕ) (nodes : List NumberedNode) → 1 ≤ waiting →
+    length nodes ≤ waiting + seats → length (without_dead_head (drop 1 nodes)) ≤ (waiting - 1) + seats
 few_behind_head seats waiting [] some few = omega arith
 few_behind_head seats waiting (x ∷ rest) some few = omega (arith, few, some, trimmed_length rest)
 
-pub left_swept : (s : ℕ) (old new : List Standing) → LeftNodes s old new → LeftNodes s old (swept new)
+pub left_swept : (s : ℕ) (old new : List NumberedNode) → LeftNodes s old new → LeftNodes s old (swept new)
 left_swept s old new left =
     record {
       arrivals = swept_live new ∙ left.arrivals;
@@ -582,7 +582,7 @@ left_swept s old new left =
       short = omega (arith, left.short, swept_length new, live_length new);
     }
   where
-    live_length : (nodes : List Standing) → length (live nodes) ≤ length nodes
+    live_length : (nodes : List NumberedNode) → length (live nodes) ≤ length nodes
     live_length [] = omega arith
     live_length (x ∷ rest) = by x.node.cancelled (live_length rest)
       where
@@ -592,7 +592,7 @@ left_swept s old new left =
         by false ih = omega (arith, ih)
 
 -- how many nodes stand once one left from between others, and all cancelled ones were freed or none
-pub standing_swept : (seats : ℕ) (old left new : List Standing) → length left ≡ length old →
+pub standing_swept : (seats : ℕ) (old left new : List NumberedNode) → length left ≡ length old →
     new ≡ swept left → length (live new) + seats < length left →
     length new ≡ standing_behind seats (length (live new)) (length old)
 standing_swept seats old left new same is more =
@@ -600,7 +600,7 @@ standing_swept seats old left new same is more =
     ∙ ap (λ l. length (live l)) (sym is)
     ∙ sym (cond-true _ _ _ (lt-ltb (length (live new) + seats) (length old) (omega (arith, same, more))))
 
-pub standing_left : (seats : ℕ) (old left : List Standing) → length left ≡ length old →
+pub standing_left : (seats : ℕ) (old left : List NumberedNode) → length left ≡ length old →
     length left ≤ length (live left) + seats →
     length left ≡ standing_behind seats (length (live left)) (length old)
 standing_left seats old left same few =
@@ -610,13 +610,13 @@ standing_left seats old left same few =
 -- ---- freeing all cancelled ones, place by place
 
 -- whether a node isn't cancelled, or stands at a place from this one on
-abbrev pub stays_from : ℕ → Standing → Bool
+abbrev pub stays_from : ℕ → NumberedNode → Bool
 stays_from p x = is_live x || leb p x.number.place
 
-abbrev pub swept_below : ℕ → List Standing → List Standing
+abbrev pub swept_below : ℕ → List NumberedNode → List NumberedNode
 swept_below p = filter (stays_from p)
 
-pub swept_none : (nodes : List Standing) → nodes ≡ swept_below 0 nodes
+pub swept_none : (nodes : List NumberedNode) → nodes ≡ swept_below 0 nodes
 swept_none [] = refl
 swept_none (x ∷ rest) =
     ap (λ l. x ∷ l) (swept_none rest) ∙ sym (cond-true _ _ _ (any (is_live x)))
@@ -626,12 +626,12 @@ swept_none (x ∷ rest) =
     any false = leb-zero x.number.place
 
 -- each node at a place is cancelled, or each isn't
-abbrev AllAt : ℕ → Bool → List Standing → Type 0
+abbrev AllAt : ℕ → Bool → List NumberedNode → Type 0
 AllAt p b [] = Unit {0}
 AllAt p b (x ∷ rest) = (x.number.place ≡ p → x.node.cancelled ≡ b) × AllAt p b rest
 
-all_at : (p : ℕ) (b : Bool) (nodes : List Standing) → StandApart nodes →
-    ((x : Standing) → at_place p nodes ≡ Some x → x.node.cancelled ≡ b) → AllAt p b nodes
+all_at : (p : ℕ) (b : Bool) (nodes : List NumberedNode) → StandApart nodes →
+    ((x : NumberedNode) → at_place p nodes ≡ Some x → x.node.cancelled ≡ b) → AllAt p b nodes
 all_at p b [] apart found = tt
 all_at p b (x ∷ rest) apart found = (
   λ e. found x (cond-true _ _ _ (eq-eqb _ _ e)),
@@ -652,7 +652,7 @@ from_other p q differs =
     ]
 
 -- the place of a node is seen by all that is kept from it on
-at_swept : (p : ℕ) (nodes : List Standing) → at_place p (swept_below p nodes) ≡ at_place p nodes
+at_swept : (p : ℕ) (nodes : List NumberedNode) → at_place p (swept_below p nodes) ≡ at_place p nodes
 at_swept p [] = refl
 at_swept p (x ∷ rest) =
     elim (cases_eq x.number.place p) [
@@ -672,7 +672,7 @@ at_swept p (x ∷ rest) =
     by true n ih = cond-false _ _ _ n ∙ ih ∙ sym (cond-false _ _ _ n)
     by false n ih = ih ∙ sym (cond-false _ _ _ n)
 
-swept_gone : (p : ℕ) (nodes : List Standing) → AllAt p true nodes →
+swept_gone : (p : ℕ) (nodes : List NumberedNode) → AllAt p true nodes →
     without_place p (swept_below p nodes) ≡ swept_below (p + 1) nodes
 swept_gone p [] gone = refl
 swept_gone p (x ∷ rest) gone =
@@ -701,7 +701,7 @@ swept_gone p (x ∷ rest) gone =
     by false true e n ih = cc
     by false false e n ih = ih
 
-swept_stay : (p : ℕ) (nodes : List Standing) → AllAt p false nodes →
+swept_stay : (p : ℕ) (nodes : List NumberedNode) → AllAt p false nodes →
     swept_below p nodes ≡ swept_below (p + 1) nodes
 swept_stay p [] stay = refl
 swept_stay p (x ∷ rest) stay =
@@ -722,21 +722,21 @@ swept_stay p (x ∷ rest) stay =
     by false false e ih = ih
 
 -- the cancelled one at the place goes
-pub swept_one : (p : ℕ) (old now : List Standing) (x : Standing) → StandApart old → now ≡ swept_below p old →
+pub swept_one : (p : ℕ) (old now : List NumberedNode) (x : NumberedNode) → StandApart old → now ≡ swept_below p old →
     at_place p now ≡ Some x → x.node.cancelled ≡ true → without_place p now ≡ swept_below (p + 1) old
 swept_one p old now x apart is e gone =
     let here : at_place p old ≡ Some x = sym (at_swept p old) ∙ ap (at_place p) (sym is) ∙ e in
     ap (without_place p) is ∙ swept_gone p old (all_at p true old apart (λ y found.
-    ap (λ (z : Standing). z.node.cancelled) (same_Some _ _ (sym found ∙ here)) ∙ gone))
+    ap (λ (z : NumberedNode). z.node.cancelled) (same_Some _ _ (sym found ∙ here)) ∙ gone))
 
 -- none at the place is cancelled
-pub swept_skip : (p : ℕ) (old now : List Standing) → StandApart old → now ≡ swept_below p old →
-    ((x : Standing) → at_place p now ≡ Some x → x.node.cancelled ≡ false) → now ≡ swept_below (p + 1) old
+pub swept_skip : (p : ℕ) (old now : List NumberedNode) → StandApart old → now ≡ swept_below p old →
+    ((x : NumberedNode) → at_place p now ≡ Some x → x.node.cancelled ≡ false) → now ≡ swept_below (p + 1) old
 swept_skip p old now apart is stays =
     is ∙ swept_stay p old (all_at p false old apart (λ y found.
     stays y (ap (at_place p) is ∙ at_swept p old ∙ found)))
 
-pub swept_all : (p : ℕ) (nodes : List Standing) →
+pub swept_all : (p : ℕ) (nodes : List NumberedNode) →
     ((q : ℕ) → IsSome (at_place q nodes) → q < p) → swept_below p nodes ≡ swept nodes
 swept_all p [] below = refl
 swept_all p (x ∷ rest) below =
@@ -761,37 +761,37 @@ swept_all p (x ∷ rest) below =
 
 -- ---- the head
 
-pub without_head : (p : ℕ) (x : Standing) (rest : List Standing) → StandApart (x ∷ rest) →
+pub without_head : (p : ℕ) (x : NumberedNode) (rest : List NumberedNode) → StandApart (x ∷ rest) →
     x.number.place ≡ p →
     without_place p (x ∷ rest) ≡ rest
 without_head p x rest apart same =
     cond-false _ _ _ (ap not (eq-eqb _ _ same))
     ∙ absent p rest (ap (λ q. at_place q rest) (sym same) ∙ apart.0)
   where
-    absent : (q : ℕ) (nodes : List Standing) → at_place q nodes ≡ None → without_place q nodes ≡ nodes
+    absent : (q : ℕ) (nodes : List NumberedNode) → at_place q nodes ≡ None → without_place q nodes ≡ nodes
     absent q [] e = refl
     absent q (y ∷ nodes) e =
         let b = absent_behind q y nodes e in
         cond-true _ _ _ (ap not b.0) ∙ ap (λ l. y ∷ l) (absent q nodes b.1)
 
 -- the first node and those behind it
-pub head_is : (nodes : List Standing) (x : Standing) → Some x ≡ slice_get nodes 0 → nodes ≡ x ∷ drop 1 nodes
+pub head_is : (nodes : List NumberedNode) (x : NumberedNode) → Some x ≡ slice_get nodes 0 → nodes ≡ x ∷ drop 1 nodes
 head_is [] x e = cc
 head_is (y ∷ rest) x e = let same : y ≡ x = same_Some _ _ (sym e) in ap (λ z. z ∷ rest) same
 
-pub head_under : (x : Standing) (rest : List Standing) → under x.number (x ∷ rest) ≡ Some x.node
+pub head_under : (x : NumberedNode) (rest : List NumberedNode) → under x.number (x ∷ rest) ≡ Some x.node
 head_under x rest =
     ap (of_number x.number) (cond-true _ (Some x) (at_place x.number.place rest)
     (eq-eqb x.number.place x.number.place refl))
     ∙ cond-true _ _ _ (eq-eqb x.number.generation x.number.generation refl)
 
-pub nobody : (nodes : List Standing) → None ≡ slice_get nodes 0 → nodes ≡ []
+pub nobody : (nodes : List NumberedNode) → None ≡ slice_get nodes 0 → nodes ≡ []
 nobody [] e = refl
 nobody (x ∷ rest) e = cc
 
 -- ---- the table beside the nodes
 
-module _ (seats waiting : ℕ) (n : Nodes) (table : List (Option NodeNo)) (kept : IsKept seats waiting n table)
+module _ (seats waiting : ℕ) (n : Nodes) (table : List (Option NodeNo)) (kept : IsLinkedLine seats waiting n table)
   where
     pub below : (i : ℕ) → is_some (place_of i (live n.nodes)) ≡ true → i < seats
     below i p =
@@ -807,7 +807,7 @@ module _ (seats waiting : ℕ) (n : Nodes) (table : List (Option NodeNo)) (kept 
     pub few_wait : waiting ≤ seats
     few_wait = omega (arith, kept.counted, length-few seats (live n.nodes) kept.once below)
 
-    pub head_stands : (x : Standing) → Some x ≡ slice_get n.nodes 0 → x.node.cancelled ≡ false
+    pub head_stands : (x : NumberedNode) → Some x ≡ slice_get n.nodes 0 → x.node.cancelled ≡ false
     head_stands x e = subst LiveHead (head_is n.nodes x e) kept.headed
 
     -- a seat that stands in line
@@ -834,12 +834,12 @@ module _ (seats waiting : ℕ) (n : Nodes) (table : List (Option NodeNo)) (kept 
       place_free = omega (arith, room, kept.bounded, kept.reserved)
 
       -- the node of who joins, under a number
-      abbrev pub newcomer : NodeNo → Standing
+      abbrev pub newcomer : NodeNo → NumberedNode
       newcomer number = record { number = number; node = record { arrival = a; cancelled = false } }
 
       pub kept_joined : (m : Nodes) (number : NodeNo) → m.nodes ≡ n.nodes ++ newcomer number ∷ [] →
           at_place number.place n.nodes ≡ None → m.places ≡ n.places →
-          IsKept seats (waiting + 1) m (set table a.seat (Some number))
+          IsLinkedLine seats (waiting + 1) m (set table a.seat (Some number))
       kept_joined m number is vacant places =
           let x = newcomer number in
           let line : live m.nodes ≡ live n.nodes ++ a ∷ [] = ap live is ∙ live-push x n.nodes refl in
@@ -870,7 +870,7 @@ module _ (seats waiting : ℕ) (n : Nodes) (table : List (Option NodeNo)) (kept 
       some_wait = omega (arith, length-left s (live n.nodes) kept.once stands, kept.counted)
 
       pub kept_left : (m : Nodes) → LeftNodes s n.nodes m.nodes → length m.nodes ≤ fewer + seats →
-          m.places ≡ n.places → IsKept seats fewer m (set table s None)
+          m.places ≡ n.places → IsLinkedLine seats fewer m (set table s None)
       kept_left m left bounded places =
           record {
             once = subst StandOnce (sym left.arrivals) (once-left s (live n.nodes) kept.once);
@@ -899,7 +899,7 @@ module _ (seats waiting : ℕ) (n : Nodes) (table : List (Option NodeNo)) (kept 
               rw (ne_eqb s i (λ e. m (sym e))) (get_or-set_other table s i None None m ∙ kept.tabled i)
 
     pub kept_swept : (m : Nodes) → m.nodes ≡ swept n.nodes → m.places ≡ n.places →
-        IsKept seats waiting m table
+        IsLinkedLine seats waiting m table
     kept_swept m is places =
         let line : live m.nodes ≡ live n.nodes = ap live is ∙ swept_live n.nodes in
         record {
@@ -916,7 +916,7 @@ module _ (seats waiting : ℕ) (n : Nodes) (table : List (Option NodeNo)) (kept 
 
 -- ---- walking over the nodes
 
-pub at_found : (p : ℕ) (nodes : List Standing) (x : Standing) → at_place p nodes ≡ Some x →
+pub at_found : (p : ℕ) (nodes : List NumberedNode) (x : NumberedNode) → at_place p nodes ≡ Some x →
     (x.number.place ≡ p) × (under x.number nodes ≡ Some x.node)
 at_found p nodes x e =
     let same = place_found p nodes x e in (
@@ -925,30 +925,30 @@ at_found p nodes x e =
           ∙ cond-true _ _ _ (eq-eqb x.number.generation x.number.generation refl),
     )
   where
-    place_found : (p : ℕ) (nodes : List Standing) (x : Standing) → at_place p nodes ≡ Some x →
+    place_found : (p : ℕ) (nodes : List NumberedNode) (x : NumberedNode) → at_place p nodes ≡ Some x →
         x.number.place ≡ p
     place_found p [] x e = absurd (none-some x e)
     place_found p (y ∷ rest) x e =
         elim (cases_eq y.number.place p) [
-          | inl same ↦ ap (λ (z : Standing). z.number.place)
+          | inl same ↦ ap (λ (z : NumberedNode). z.number.place)
               (sym (same_Some _ _ (sym (cond-true _ _ _ (eq-eqb _ _ same)) ∙ e))) ∙ same
           | inr differs ↦ place_found p rest x (sym (cond-false _ _ _ (ne_eqb _ _ differs)) ∙ e)
         ]
 
-pub at_index : (nodes : List Standing) (k : ℕ) (x : Standing) → StandApart nodes →
+pub at_index : (nodes : List NumberedNode) (k : ℕ) (x : NumberedNode) → StandApart nodes →
     slice_get nodes k ≡ Some x →
     at_place x.number.place nodes ≡ Some x
 at_index [] k x apart e = absurd (none-some x e)
 at_index (y ∷ rest) zero x apart e =
     let same : y ≡ x = same_Some _ _ e in
-    cond-true _ _ _ (eq-eqb _ _ (ap (λ (z : Standing). z.number.place) same)) ∙ ap Some same
+    cond-true _ _ _ (eq-eqb _ _ (ap (λ (z : NumberedNode). z.number.place) same)) ∙ ap Some same
 at_index (y ∷ rest) (suc k) x apart e =
     let later = at_index rest k x apart.1 e in
     cond-false _ _ _ (ne_eqb _ _ (λ same. none-some x (sym (ap (λ q. at_place q rest) (sym same) ∙ apart.0)
     ∙ later)))
     ∙ later
 
-pub drop_at : (nodes : List Standing) (k : ℕ) (x : Standing) → slice_get nodes k ≡ Some x →
+pub drop_at : (nodes : List NumberedNode) (k : ℕ) (x : NumberedNode) → slice_get nodes k ≡ Some x →
     drop k nodes ≡ x ∷ drop (suc k) nodes
 drop_at [] k x e = absurd (none-some x e)
 drop_at (y ∷ rest) zero x e = ap (λ z. z ∷ rest) (same_Some _ _ e)
@@ -956,33 +956,33 @@ drop_at (y ∷ rest) (suc k) x e = drop_at rest k x e
 
 -- the first node
 
-pub first_under : (nodes : List Standing) (x : Standing) → Some x ≡ slice_get nodes 0 →
+pub first_under : (nodes : List NumberedNode) (x : NumberedNode) → Some x ≡ slice_get nodes 0 →
     under x.number nodes ≡ Some x.node
 first_under nodes x e = ap (under x.number) (head_is nodes x e) ∙ head_under x (drop 1 nodes)
 
-pub first_without : (nodes : List Standing) (x : Standing) → Some x ≡ slice_get nodes 0 → StandApart nodes →
+pub first_without : (nodes : List NumberedNode) (x : NumberedNode) → Some x ≡ slice_get nodes 0 → StandApart nodes →
     without_place x.number.place nodes ≡ drop 1 nodes
 first_without nodes x e apart =
     ap (without_place x.number.place) (head_is nodes x e)
     ∙ without_head x.number.place x (drop 1 nodes) (subst StandApart (head_is nodes x e) apart) refl
 
-pub trimmed_past : (nodes : List Standing) (x : Standing) → Some x ≡ slice_get nodes 0 →
-    x.node.cancelled ≡ true → trimmed (drop 1 nodes) ≡ trimmed nodes
-trimmed_past nodes x e gone = sym (ap trimmed (head_is nodes x e) ∙ cond-true _ _ _ gone)
+pub trimmed_past : (nodes : List NumberedNode) (x : NumberedNode) → Some x ≡ slice_get nodes 0 →
+    x.node.cancelled ≡ true → without_dead_head (drop 1 nodes) ≡ without_dead_head nodes
+trimmed_past nodes x e gone = sym (ap without_dead_head (head_is nodes x e) ∙ cond-true _ _ _ gone)
 
-pub shorter_past : (nodes : List Standing) (x : Standing) → Some x ≡ slice_get nodes 0 →
+pub shorter_past : (nodes : List NumberedNode) (x : NumberedNode) → Some x ≡ slice_get nodes 0 →
     length (drop 1 nodes) < length nodes
 shorter_past nodes x e = omega (arith, ap length (head_is nodes x e))
 
-pub trimmed_by : (nodes : List Standing) (x : Standing) → Some x ≡ slice_get nodes 0 →
-    x.node.cancelled ≡ false → nodes ≡ trimmed nodes
-trimmed_by nodes x e stays = head_is nodes x e ∙ sym (ap trimmed (head_is nodes x e) ∙ cond-false _ _ _ stays)
+pub trimmed_by : (nodes : List NumberedNode) (x : NumberedNode) → Some x ≡ slice_get nodes 0 →
+    x.node.cancelled ≡ false → nodes ≡ without_dead_head nodes
+trimmed_by nodes x e stays = head_is nodes x e ∙ sym (ap without_dead_head (head_is nodes x e) ∙ cond-false _ _ _ stays)
 
-pub trimmed_none : (nodes : List Standing) → None ≡ slice_get nodes 0 → nodes ≡ trimmed nodes
-trimmed_none nodes e = nobody nodes e ∙ sym (ap trimmed (nobody nodes e))
+pub trimmed_none : (nodes : List NumberedNode) → None ≡ slice_get nodes 0 → nodes ≡ without_dead_head nodes
+trimmed_none nodes e = nobody nodes e ∙ sym (ap without_dead_head (nobody nodes e))
 
-pub left_first : (nodes : List Standing) (x : Standing) (number : NodeNo) → Some x ≡ slice_get nodes 0 →
-    x.number.place ≡ number.place → left_by number nodes ≡ trimmed (drop 1 nodes)
+pub left_first : (nodes : List NumberedNode) (x : NumberedNode) (number : NodeNo) → Some x ≡ slice_get nodes 0 →
+    x.number.place ≡ number.place → left_by number nodes ≡ without_dead_head (drop 1 nodes)
 left_first nodes x number e same = ap (left_by number) (head_is nodes x e) ∙ cond-true _ _ _ (eq-eqb _ _ same)
 
 pub unnot_true : (b : Bool) → not b ≡ true → b ≡ false
@@ -994,7 +994,7 @@ unnot_false true e = refl
 unnot_false false e = cc
 
 -- how many that wait stand before a seat, from head to tail
-module _ (s : ℕ) (nodes : List Standing) (k before : ℕ)
+module _ (s : ℕ) (nodes : List NumberedNode) (k before : ℕ)
     (before_is : position_from (λ a. eqb a.seat s) before (live (drop k nodes))
     ≡ position_from (λ a. eqb a.seat s) 0 (live nodes)) where
   in_all : position (λ a. eqb a.seat s) (live nodes)
@@ -1005,7 +1005,7 @@ module _ (s : ℕ) (nodes : List Standing) (k before : ℕ)
   walk_end past =
       sym (in_all ∙ ap (λ l. position_from (λ a. eqb a.seat s) before (live l)) (drop_all k nodes past))
 
-  module _ (x : Standing) (at : slice_get nodes k ≡ Some x) where
+  module _ (x : NumberedNode) (at : slice_get nodes k ≡ Some x) where
     pub walk_found : x.node.cancelled ≡ false → x.node.arrival.seat ≡ s →
         Some before ≡ position (λ a. eqb a.seat s) (live nodes)
     walk_found stays same =
@@ -1033,14 +1033,14 @@ module _ (s : ℕ) (nodes : List Standing) (k before : ℕ)
         ∙ live_past x (drop (k + 1) nodes) gone))
         ∙ before_is
 
-pub live_one : (nodes : List Standing) (k : ℕ) (x : Standing) → slice_get nodes k ≡ Some x →
+pub live_one : (nodes : List NumberedNode) (k : ℕ) (x : NumberedNode) → slice_get nodes k ≡ Some x →
     x.node.cancelled ≡ false → length (live (drop k nodes)) ≡ length (live (drop (k + 1) nodes)) + 1
 live_one nodes k x at stays =
     let e = ap live (drop_at nodes k x at ∙ ap (λ j. x ∷ drop j nodes) (sym (add-one k)))
     ∙ live_by x (drop (k + 1) nodes) stays in
     omega (arith, ap length e)
 
-pub live_none : (nodes : List Standing) (k : ℕ) (x : Standing) → slice_get nodes k ≡ Some x →
+pub live_none : (nodes : List NumberedNode) (k : ℕ) (x : NumberedNode) → slice_get nodes k ≡ Some x →
     x.node.cancelled ≡ true → length (live (drop k nodes)) ≡ length (live (drop (k + 1) nodes))
 live_none nodes k x at gone =
     ap length (ap live (drop_at nodes k x at ∙ ap (λ j. x ∷ drop j nodes) (sym (add-one k)))
@@ -1048,7 +1048,7 @@ live_none nodes k x at gone =
 
 -- ---- what leaving makes of the table and the nodes
 
-module _ (seats waiting : ℕ) (n : Nodes) (table : List (Option NodeNo)) (kept : IsKept seats waiting n table)
+module _ (seats waiting : ℕ) (n : Nodes) (table : List (Option NodeNo)) (kept : IsLinkedLine seats waiting n table)
   where
     module _ (s : ℕ) (number : NodeNo) (e : number_of s n.nodes ≡ Some number) where
       pub stands_by : is_some (place_of s (live n.nodes)) ≡ true
@@ -1065,14 +1065,14 @@ module _ (seats waiting : ℕ) (n : Nodes) (table : List (Option NodeNo)) (kept 
           e)
 
       pub kept_gone : (m : Nodes) (fewer : ℕ) → fewer ≡ waiting - 1 → m.nodes ≡ left_by number n.nodes →
-          m.places ≡ n.places → length m.nodes ≤ fewer + seats → IsKept seats fewer m (set table s None)
+          m.places ≡ n.places → length m.nodes ≤ fewer + seats → IsLinkedLine seats fewer m (set table s None)
       kept_gone m fewer one is places bounded =
           kept_left seats waiting n table kept s fewer stands_by one m (left_node m is) bounded places
 
       pub kept_gone_swept : (m o : Nodes) (fewer : ℕ) → fewer ≡ waiting - 1 →
           m.nodes ≡ left_by number n.nodes →
           m.places ≡ n.places → o.nodes ≡ swept m.nodes → o.places ≡ m.places →
-          IsKept seats fewer o (set table s None)
+          IsLinkedLine seats fewer o (set table s None)
       kept_gone_swept m o fewer one is places all more =
           let left = left_node m is in
           kept_left seats waiting n table kept s fewer stands_by one o
@@ -1092,7 +1092,7 @@ module _ (seats waiting : ℕ) (n : Nodes) (table : List (Option NodeNo)) (kept 
           live o.nodes ≡ filter (λ a. not (eqb s a.seat)) (live n.nodes)
       line_gone_swept m o is all = ap live all ∙ swept_live m.nodes ∙ (left_node m is).arrivals
 
-    module _ (x : Standing) (e : Some x ≡ slice_get n.nodes 0) where
+    module _ (x : NumberedNode) (e : Some x ≡ slice_get n.nodes 0) where
       pub first_stays : x.node.cancelled ≡ false
       first_stays = head_stands seats waiting n table kept x e
 
@@ -1109,17 +1109,17 @@ module _ (seats waiting : ℕ) (n : Nodes) (table : List (Option NodeNo)) (kept 
       pub first_seat : x.node.arrival.seat < seats
       first_seat = below seats waiting n table kept x.node.arrival.seat first_stands
 
-      pub left_at_head : (m : Nodes) → m.nodes ≡ trimmed (drop 1 n.nodes) →
+      pub left_at_head : (m : Nodes) → m.nodes ≡ without_dead_head (drop 1 n.nodes) →
           LeftNodes x.node.arrival.seat n.nodes m.nodes
       left_at_head m is =
           let split = head_is n.nodes x e in
           subst (LeftNodes x.node.arrival.seat n.nodes) (sym is)
-          (subst (λ l. LeftNodes x.node.arrival.seat l (trimmed (drop 1 n.nodes))) (sym split)
+          (subst (λ l. LeftNodes x.node.arrival.seat l (without_dead_head (drop 1 n.nodes))) (sym split)
           (left_head x (drop 1 n.nodes) (subst (λ l. StandOnce (live l)) split kept.once)
           (subst StandApart split kept.apart) first_stays))
 
-      pub kept_taken : (m : Nodes) (fewer : ℕ) → fewer ≡ waiting - 1 → m.nodes ≡ trimmed (drop 1 n.nodes) →
-          m.places ≡ n.places → IsKept seats fewer m (set table x.node.arrival.seat None)
+      pub kept_taken : (m : Nodes) (fewer : ℕ) → fewer ≡ waiting - 1 → m.nodes ≡ without_dead_head (drop 1 n.nodes) →
+          m.places ≡ n.places → IsLinkedLine seats fewer m (set table x.node.arrival.seat None)
       kept_taken m fewer one is places =
           kept_left seats waiting n table kept x.node.arrival.seat fewer first_stands one m
           (left_at_head m is)
@@ -1133,11 +1133,11 @@ module _ (seats waiting : ℕ) (n : Nodes) (table : List (Option NodeNo)) (kept 
           ))
           places
 
-      pub line_taken : (m : Nodes) → m.nodes ≡ trimmed (drop 1 n.nodes) → live m.nodes ≡ drop 1 (live n.nodes)
+      pub line_taken : (m : Nodes) → m.nodes ≡ without_dead_head (drop 1 n.nodes) → live m.nodes ≡ drop 1 (live n.nodes)
       line_taken m is = ap live is ∙ trimmed_live (drop 1 n.nodes) ∙ sym (ap (drop 1) first_is)
 
 -- what a removal that finds its node makes
-pub some_removed : (o : Option Node) (number : NodeNo) (old new : List Standing) → o ≡ under number old →
+pub some_removed : (o : Option Node) (number : NodeNo) (old new : List NumberedNode) → o ≡ under number old →
     IsSome (under number old) → OnSome o (new ≡ without_place number.place old) →
     new ≡ without_place number.place old
 some_removed None number old new found some gone = absurd (nothing (subst IsSome (sym found) some))

@@ -3,7 +3,7 @@ use Rattle.std.specs.Prelude.{◌≡◌, ℕ, ◌+◌, ◌<◌, ◌≤◌, ◌^�
 use Rattle.history.specs.declared.arrival.Arrival.{Arrival}
 use Rattle.history.specs.Line.{place_of}
 use Rattle.node_arena.specs.declared.node.NodeNo.{NodeNo}
-use Rattle.node_arena.specs.declared.node.Standing.{Standing}
+use Rattle.node_arena.specs.declared.node.NumberedNode.{NumberedNode}
 use Rattle.node_arena.specs.NodeList.{Nodes, StandApart, cancel_at, standing_before}
 
 -- The number of seats, how many ever joined, the waiters (the longest waiting first), and all nodes, with the
@@ -12,7 +12,7 @@ pub record Line : Type 0 where
   pub seats : ℕ
   pub joined : ℕ
   pub arrivals : List Arrival
-  pub nodes : List Standing
+  pub nodes : List NumberedNode
 
 -- each seat is in the queue at most once
 abbrev pub StandOnce : List Arrival → Type 0
@@ -20,28 +20,28 @@ StandOnce [] = Unit {0}
 StandOnce (a ∷ rest) = (place_of a.seat rest ≡ None) × StandOnce rest
 
 -- whether the seat of a node still waits
-abbrev pub is_live : Standing → Bool
+abbrev pub is_live : NumberedNode → Bool
 is_live x = not x.node.cancelled
 
 -- the arrivals of the nodes that aren't cancelled, in order
-abbrev pub live : List Standing → List Arrival
+abbrev pub live : List NumberedNode → List Arrival
 live [] = []
 live (x ∷ rest) = if x.node.cancelled then live rest else x.node.arrival ∷ live rest
 
 -- the number of a seat's node, if it isn't cancelled
-abbrev pub number_of : ℕ → List Standing → Option NodeNo
+abbrev pub number_of : ℕ → List NumberedNode → Option NodeNo
 number_of i [] = None
 number_of i (x ∷ rest) =
     if x.node.cancelled then number_of i rest
     else (if x.node.arrival.seat == i then Some x.number else number_of i rest)
 
 -- the nodes from the first one on that isn't cancelled
-abbrev pub trimmed : List Standing → List Standing
-trimmed [] = []
-trimmed (x ∷ rest) = if x.node.cancelled then trimmed rest else x ∷ rest
+abbrev pub without_dead_head : List NumberedNode → List NumberedNode
+without_dead_head [] = []
+without_dead_head (x ∷ rest) = if x.node.cancelled then without_dead_head rest else x ∷ rest
 
 -- the nodes that aren't cancelled
-abbrev pub swept : List Standing → List Standing
+abbrev pub swept : List NumberedNode → List NumberedNode
 swept = filter is_live
 
 -- whether the first waiter is this seat
@@ -50,26 +50,26 @@ is_first i [] = false
 is_first i (a ∷ rest) = a.seat == i
 
 -- the nodes without the cancelled ones right before a waiter's
-abbrev pub tidied : ℕ → List Standing → List Standing
+abbrev pub tidied : ℕ → List NumberedNode → List NumberedNode
 tidied i [] = []
 tidied i (x ∷ rest) = if x.node.cancelled && is_first i (live rest) then tidied i rest else x ∷ tidied i rest
 
 -- the node right before a waiter's isn't cancelled
-abbrev pub IsTidy : ℕ → List Standing → Type 0
-IsTidy i nodes = (k : ℕ) (before x : Standing) → standing_before nodes k ≡ Some before →
+abbrev pub IsTidy : ℕ → List NumberedNode → Type 0
+IsTidy i nodes = (k : ℕ) (before x : NumberedNode) → standing_before nodes k ≡ Some before →
     slice_get nodes k ≡ Some x →
     x.node.cancelled ≡ false → x.node.arrival.seat ≡ i → before.node.cancelled ≡ false
 
 -- the first node isn't cancelled
-abbrev pub LiveHead : List Standing → Type 0
+abbrev pub LiveHead : List NumberedNode → Type 0
 LiveHead [] = Unit {0}
 LiveHead (x ∷ rest) = x.node.cancelled ≡ false
 
 -- the nodes after one leaves: the head is freed with the cancelled ones after it, any other node is marked
-abbrev pub left_by : NodeNo → List Standing → List Standing
+abbrev pub left_by : NodeNo → List NumberedNode → List NumberedNode
 left_by number [] = []
 left_by number (x ∷ rest) =
-    if x.number.place == number.place then trimmed rest else cancel_at number.place (x ∷ rest)
+    if x.number.place == number.place then without_dead_head rest else cancel_at number.place (x ∷ rest)
 
 -- How many nodes are left when a seat leaves from between others: as many as before. If more than `seats` of
 -- them would be cancelled, only the waiters' nodes are left.
@@ -79,7 +79,7 @@ standing_behind seats waiting standing = if nat_lt (waiting + seats) standing th
 -- The table has the number of each waiter's node. There are at most as many cancelled nodes as seats, and two
 -- places for each seat. A seat is in the queue at most once, so there is a free place for a seat that isn't
 -- in it.
-pub record IsKept (seats waiting : ℕ) (n : Nodes) (table : List (Option NodeNo)) : Type 0 where
+pub record IsLinkedLine (seats waiting : ℕ) (n : Nodes) (table : List (Option NodeNo)) : Type 0 where
   pub once : StandOnce (live n.nodes)
   pub tabled : (i : ℕ) → slice_index_or table i None ≡ number_of i n.nodes
   pub one_a_seat : length table ≡ seats

@@ -4,7 +4,7 @@ ghost use Rattle.std.specs.Prelude.{◌≡◌, ◌≢◌, ℕ, ◌+◌, ◌^◌,
 ghost use Rattle.std.specs.Bool.{OnFalse};
 ghost use Rattle.history.specs.Line.{first_of, place_of};
 ghost use Rattle.history.specs.declared.arrival.Arrival.{Arrival};
-ghost use Rattle.acquire_queue.specs.Line.{StandOnce, live, number_of, left_by, standing_behind, trimmed, swept, tidied, IsTidy};
+ghost use Rattle.acquire_queue.specs.Line.{StandOnce, live, number_of, left_by, standing_behind, without_dead_head, swept, tidied, IsTidy};
 ghost use Rattle.node_arena.specs.NodeList.{under, StandApart};
 
 use history::arrival::Arrival;
@@ -30,7 +30,7 @@ pub struct Queue {
 }
 
 impl Model for Queue {
-    ghost use Rattle.acquire_queue.specs.Line.{Line, live, IsKept};
+    ghost use Rattle.acquire_queue.specs.Line.{Line, live, IsLinkedLine};
 
     ghost Value = { Line };
 
@@ -41,7 +41,7 @@ impl Model for Queue {
       nodes = q.nodes.nodes;
     } };
 
-    ghost invariant = { λ q. IsKept q.seats q.waiting q.nodes q.table.items };
+    ghost invariant = { λ q. IsLinkedLine q.seats q.waiting q.nodes q.table.items };
 }
 
 impl Queue {
@@ -102,7 +102,7 @@ impl Queue {
         ensures line { self.new.arrivals ≡ drop 1 self.old.arrivals }
 
         // Its node is freed, with the cancelled ones right after it.
-        ensures nodes { self.new.nodes ≡ trimmed (drop 1 self.old.nodes) }
+        ensures nodes { self.new.nodes ≡ without_dead_head (drop 1 self.old.nodes) }
 
         // The same, as the removal of its seat.
         ensures left { IfSome result (λ first.
@@ -125,7 +125,7 @@ impl Queue {
         ensures line { self.new.arrivals ≡ filter (λ a. not (seat == a.seat)) self.old.arrivals }
         ensures absent { OnFalse result (self.new ≡ self.old) }
         ensures head { (first : Arrival) → first_of self.old.arrivals ≡ Some first → first.seat ≡ seat →
-            self.new.nodes ≡ trimmed (drop 1 self.old.nodes) }
+            self.new.nodes ≡ without_dead_head (drop 1 self.old.nodes) }
         ensures standing { (first : Arrival) → first_of self.old.arrivals ≡ Some first → first.seat ≢ seat →
             length self.new.nodes
             ≡ standing_behind self.old.seats (length self.new.arrivals) (length self.old.nodes) }
@@ -243,7 +243,7 @@ fn leave_node(nodes: &mut NodeList, number: NodeNo)
 
 /// Frees the cancelled nodes at the head.
 fn free_head(nodes: &mut NodeList)
-    ensures nodes { nodes.new.nodes ≡ trimmed nodes.old.nodes }
+    ensures nodes { nodes.new.nodes ≡ without_dead_head nodes.old.nodes }
     ensures placed { nodes.new.placed ≡ nodes.old.placed }
     ensures places { nodes.new.places ≡ nodes.old.places }
 {

@@ -49,9 +49,9 @@ impl AnyHooks {
 }
 
 impl Hooks for AnyHooks {
-    ghost use Rattle.any_object.specs.AnyObject.{Stands, object_of, IsOpened, alike_so, opens_so, same_object, some_counts};
+    ghost use Rattle.any_object.specs.AnyObject.{Matches, object_of, IsOpened, alike_so, opens_so, same_object, some_counts};
 
-    ghost agrees = { Stands };
+    ghost agrees = { Matches };
 
     ghost object_of = { object_of };
 

@@ -17,7 +17,7 @@ use Rattle.history.specs.Phase.{waits}
 use Rattle.word_lock.specs.Point.{Agrees, Before}
 use Rattle.monitor.specs.Machine.{IsBegun, IsGoneOn, later_turn, next_behind, step_at, step_of_waiting, step_within}
 use Rattle.monitor.specs.Observing.{IsLook}
-use Rattle.monitor.specs.Shown.{Shown, IsTrue}
+use Rattle.monitor.specs.Shown.{Shown, IsSound}
 use Rattle.monitor.specs.Stepping.{IsSame, IsTrim, IsUnparked}
 use Rattle.monitor.specs.Waits.{Cause, Waits, WaitsAs, in_line, is_lapse, on_condition, on_way_back}
 use Rattle.monitor.specs.declared.how.How.{How}
@@ -107,7 +107,7 @@ waits_gone old new k w s (Ok (answer.Recorded e name)) n t is = by (is_lapse e.w
     by true q u = waits_lapsed new.seen.base new.seen.entries old.seat k s e t q
     by false q u = cc
 
-pub stands_gone : (old new : Shown) (w : Waiting) (woke : Woke) (t : Turn) → IsTrue old →
+pub stands_gone : (old new : Shown) (w : Waiting) (woke : Woke) (t : Turn) → IsSound old →
     Waits old.seen old.seat → IsSame old new → IsGoneOn old w woke t new → StandsBy (waiting_in t.next) new
 stands_gone old new w woke t shows first same gone = by t.next refl
   where
@@ -123,7 +123,7 @@ stands_gone old new w woke t shows first same gone = by t.next refl
         (ap (λ (z : Turn). z.next) (sym gone.2) ∙ e))
 
 -- who waits still does after what adds no entry of its seat
-stands_later : (old new : Shown) (waiting : Option Waiting) → IsTrue old → IsTrue new → new.seat ≡ old.seat →
+stands_later : (old new : Shown) (waiting : Option Waiting) → IsSound old → IsSound new → new.seat ≡ old.seat →
     Before old.seen new.seen → new.mine ≡ old.mine → StandsBy waiting old → StandsBy waiting new
 stands_later old new None was shows seat later mine stands = tt
 stands_later old new (Some w) was shows seat later mine stands =
@@ -135,19 +135,19 @@ stands_later old new (Some w) was shows seat later mine stands =
       subst (λ (i : ℕ). WaitsAs new.seen i stands.0) (sym seat) here,
     )
 
-pub stands_looked : (old new : Shown) (waiting : Option Waiting) → IsTrue old → IsTrue new → IsLook old new →
+pub stands_looked : (old new : Shown) (waiting : Option Waiting) → IsSound old → IsSound new → IsLook old new →
     StandsBy waiting old → StandsBy waiting new
 stands_looked old new waiting was shows look stands =
     stands_later old new waiting was shows look.seat look.begins look.mine stands
 
-pub stands_trimmed : (old new : Shown) (waiting : Option Waiting) (r : Result ℕ Fault) → IsTrue old →
-    IsTrue new → IsSame old new → IsTrim old r new → StandsBy waiting old → StandsBy waiting new
+pub stands_trimmed : (old new : Shown) (waiting : Option Waiting) (r : Result ℕ Fault) → IsSound old →
+    IsSound new → IsSame old new → IsTrim old r new → StandsBy waiting old → StandsBy waiting new
 stands_trimmed old new waiting r was shows same trim stands =
     stands_later old new waiting was shows same.seat trim.after trim.mine stands
 
 -- A seat stays one whose pass looked or folded, or found the object busy.
 pub seat_read : {A : Type 0} (lock : LockId) (old new : Shown) (waiting : Option Waiting) (r : Option A) →
-    IsTrue old → IsTrue new → IfNone r (new ≡ old) → IfSome r (λ _. IsLook old new) →
+    IsSound old → IsSound new → IfNone r (new ≡ old) → IfSome r (λ _. IsLook old new) →
     IsSeat lock old waiting → IsSeat lock new waiting
 seat_read lock old new waiting None was shows busy looked seat =
     subst (λ (p : Shown). IsSeat lock p waiting) (sym busy) seat
@@ -155,7 +155,7 @@ seat_read lock old new waiting (Some a) was shows busy looked seat =
     (looked.lock ∙ seat.0, stands_looked old new waiting was shows looked seat.1)
 
 pub seat_trimmed : (lock : LockId) (old new : Shown) (waiting : Option Waiting) (r : Option (Result ℕ Fault)) →
-    IsTrue old → IsTrue new → IsSame old new → MatchOption r (new ≡ old) (λ count. IsTrim old count new) →
+    IsSound old → IsSound new → IsSame old new → MatchOption r (new ≡ old) (λ count. IsTrim old count new) →
     IsSeat lock old waiting → IsSeat lock new waiting
 seat_trimmed lock old new waiting None was shows same busy seat =
     subst (λ (p : Shown). IsSeat lock p waiting) (sym busy) seat

@@ -12,7 +12,7 @@ use Rattle.history.specs.Object.{created, is_semaphore}
 use Rattle.history.specs.Start.{Start}
 use Rattle.deciding.specs.declared.balance.Balance.{Balance}
 use Rattle.deciding.specs.Balance.{balance}
-use Rattle.deciding.specs.Situation.{IsHistory}
+use Rattle.deciding.specs.ObjectState.{IsHistory}
 use Rattle.deciding.proofs.Bounds.{conserved_by}
 use Rattle.audit.specs.declared.sums.Totals.{Totals}
 use Rattle.audit.specs.Totals.{no_totals, numbers_of, semaphore_numbers, totals_by, totals_of}

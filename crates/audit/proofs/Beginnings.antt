@@ -9,7 +9,7 @@ use Rattle.history.specs.Header.{IsInRange}
 use Rattle.history.specs.Legal.{AreSeated, IsLegal}
 use Rattle.history.specs.Start.{opening}
 use Rattle.history.proofs.OpeningBase.{based_opening, opening_good}
-use Rattle.deciding.specs.Situation.{IsHistory}
+use Rattle.deciding.specs.ObjectState.{IsHistory}
 
 pub begins_at_opening : (k : Header) → IsInRange k → IsHistory (opening k) []
 begins_at_opening k range =

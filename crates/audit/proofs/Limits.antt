@@ -5,7 +5,7 @@ use Rattle.history.specs.declared.entry.Mode.TheVariants.{X}
 use Rattle.history.specs.Counts.{held}
 use Rattle.history.specs.Object.{is_lock}
 use Rattle.history.specs.Start.{Start}
-use Rattle.deciding.specs.Situation.{IsHistory}
+use Rattle.deciding.specs.ObjectState.{IsHistory}
 use Rattle.deciding.proofs.Bounds.{owned_by}
 use Rattle.audit.specs.Holds.{IsOnlyOwner}
 use Rattle.audit.specs.Ledger.{IsNext}

@@ -4,7 +4,7 @@ use Rattle.std.specs.List.{AllByRecursion}
 use Rattle.std.proofs.lemmas.Bool.{cases_lt}
 use Rattle.std.proofs.lemmas.List.{get_or_past, length-map}
 use Rattle.history.specs.declared.base.Sleeper.{Sleeper}
-use Rattle.history.specs.declared.base.Standing.{Standing}
+use Rattle.history.specs.declared.base.LinePlace.{LinePlace}
 use Rattle.history.specs.Base.{Base, based, either, or_awake, sleep_below, sleep_in_line, sleepers_of}
 use Rattle.history.specs.GoodBase.{IsGood, SleepsWell, StandsWell}
 use Rattle.history.specs.Header.{IsInRange}
@@ -21,7 +21,7 @@ use Rattle.deciding.specs.Sleep.{sleep_of}
 use Rattle.audit.specs.declared.waiting.Waiting.{Waiting}
 use Rattle.audit.specs.Waiting.{AreSleepers, never_slept, or_kept, sleeping_seats, WaitingStand}
 
-standing_seated : (b : Base) (n : ℕ) → n ≡ b.header.seats → (q : List Standing) →
+standing_seated : (b : Base) (n : ℕ) → n ≡ b.header.seats → (q : List LinePlace) →
     AllByRecursion (StandsWell b) q → AllByRecursion (λ p. p.who.seat < n) q
 standing_seated b n is [] all = tt
 standing_seated b n is (p ∷ q) all = (
@@ -42,27 +42,27 @@ found_first None None = refl
 found_first None (Some w) = refl
 found_first (Some w) b = refl
 
-pub kept_behind : (i : ℕ) (q r : List Standing) (was now : Sleep) → q ≡ r → was ≡ now →
+pub kept_behind : (i : ℕ) (q r : List LinePlace) (was now : Sleep) → q ≡ r → was ≡ now →
     or_kept (sleep_in_line i q) was ≡ or_kept (sleep_in_line i r) now
 kept_behind i q r was now same is =
-    ap (λ (x : List Standing). or_kept (sleep_in_line i x) was) same ∙ ap (or_kept (sleep_in_line i r)) is
+    ap (λ (x : List LinePlace). or_kept (sleep_in_line i x) was) same ∙ ap (or_kept (sleep_in_line i r)) is
 
 module _ (b : Base) (good : IsGood b) where
-  pub line_seated : (q : List Standing) → q ≡ b.line → (n : ℕ) → n ≡ b.header.seats →
+  pub line_seated : (q : List LinePlace) → q ≡ b.line → (n : ℕ) → n ≡ b.header.seats →
       AllByRecursion (λ p. p.who.seat < n) q
   line_seated q same n is =
       standing_seated b n is q (subst (AllByRecursion (StandsWell b)) (sym same) good.line)
 
-  pub line_once : (q : List Standing) → q ≡ b.line → (i : ℕ) → times i (seats_of (map (λ p. p.who) q)) ≤ 1
+  pub line_once : (q : List LinePlace) → q ≡ b.line → (i : ℕ) → times i (seats_of (map (λ p. p.who) q)) ≤ 1
   line_once q same i =
       let w = waits_once b good i in
-      let e = ap (λ (r : List Standing). times i (seats_of (map (λ p. p.who) r))) same in
+      let e = ap (λ (r : List LinePlace). times i (seats_of (map (λ p. p.who) r))) same in
       omega (arith, w, e)
 
-  pub line_short : (q : List Standing) → q ≡ b.line → IsInRange b.header → length q ≤ 256
+  pub line_short : (q : List LinePlace) → q ≡ b.line → IsInRange b.header → length q ≤ 256
   line_short q same range =
       let few = few_wait (based b) [] (good_waits b good) (line_seated_on b good [] tt tt) in
-      let long = ap length (line_at_first (based b)) ∙ length-map b.line (λ (p : Standing). p.who) in
+      let long = ap length (line_at_first (based b)) ∙ length-map b.line (λ (p : LinePlace). p.who) in
       let seats = range.seats in
       let e = ap length same in
       omega (arith, few, long, seats, e)

@@ -5,7 +5,7 @@ use Rattle.history.specs.declared.step.Step.{Step}
 use Rattle.history.specs.Start.{Start}
 use Rattle.history.specs.Steps.{entry_for}
 use Rattle.deciding.specs.Amounts.{AreAmounts}
-use Rattle.deciding.specs.Situation.{IsHistory}
+use Rattle.deciding.specs.ObjectState.{IsHistory}
 use Rattle.audit.specs.declared.ledger.Ledger.{Ledger}
 use Rattle.audit.specs.Holds.{HoldsStand}
 use Rattle.audit.specs.Waiting.{WaitingStand}

@@ -9,7 +9,7 @@ ghost use Rattle.history.specs.declared.entry.Entry.{Entry};
 ghost use Rattle.audit.specs.Ledger.{LedgerStand};
 
 use crate::ledger::Ledger;
-use deciding::situation::Situation;
+use deciding::situation::ObjectState;
 use deciding::sleep::LastSleep;
 use history::arrival::Arrival;
 use history::entry::Mode;
@@ -68,7 +68,7 @@ impl Ledger {
     }
 }
 
-impl Situation for Ledger {
+impl ObjectState for Ledger {
     ghost use Rattle.audit.specs.Ledger.{LedgerStand};
 
     ghost stands = { LedgerStand };

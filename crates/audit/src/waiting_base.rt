@@ -13,11 +13,11 @@ ghost use Rattle.audit.specs.Waiting.{AreAwake, AreSleepers, never_slept, or_kep
 use acquire_queue::queue::Queue;
 use condition_queue::waiters::Waiters;
 use deciding::sleep::LastSleep;
-use history::base::{Base, Sleeper, Standing};
+use history::base::{Base, Sleeper, LinePlace};
 use history::entry::End;
 
 /// Puts these waiters into an empty queue, in their order.
-pub(crate) fn stand_in(line: &mut Queue, standing: &[Standing])
+pub(crate) fn stand_in(line: &mut Queue, standing: &[LinePlace])
     requires empty { line.old.arrivals ≡ [] }
     requires joined { line.old.joined ≡ 0 }
     requires seats { AllByRecursion (λ p. p.who.seat < line.old.seats) standing.now }
@@ -101,7 +101,7 @@ fn save_on(last_sleep: &mut Vec<LastSleep>, condition: u8, sleepers: &[Sleeper])
 }
 
 /// Keeps the sleeps of the waiters in the queue that come back from a condition.
-pub(crate) fn save_returning(last_sleep: &mut Vec<LastSleep>, line: &[Standing])
+pub(crate) fn save_returning(last_sleep: &mut Vec<LastSleep>, line: &[LinePlace])
     requires { AllByRecursion (λ p. p.who.seat < length last_sleep.old.items) line.now }
     ensures seats { length last_sleep.new.items ≡ length last_sleep.old.items }
     ensures slept { (i : ℕ) → sleep_of (slice_index_or last_sleep.new.items i never_slept)

@@ -6,7 +6,7 @@ use Rattle.std.proofs.lemmas.List.{get_or_past, length-set, length_push}
 use Rattle.history.specs.Sleepers.{has, without}
 use Rattle.node_arena.specs.LinkedLists.{LinkedLists, items, list_of, list_count, key_limit, Moves}
 use Rattle.condition_queue.specs.declared.sleeper.Sleeper.{Sleeper}
-use Rattle.condition_queue.specs.Sleepers.{IsKept, SleepOnce, sleeps_on, condition_of}
+use Rattle.condition_queue.specs.Sleepers.{AreLinkedSleepers, SleepOnce, sleeps_on, condition_of}
 use Rattle.condition_queue.proofs.Lists.{has-append, has-without, once-push, once-without, length-once, without_absent, at_set}
 
 -- a seat sleeps on one condition at most
@@ -40,7 +40,7 @@ left_elsewhere c d s o xs asleep differs listed =
     without_absent s xs (listed ∙ sleeps_elsewhere c d o asleep differs)
 
 module _ (seats : ℕ) (l : LinkedLists) (counts : List ℕ) (table : List (Option Sleeper))
-    (kept : IsKept seats l counts table) where
+    (kept : AreLinkedSleepers seats l counts table) where
   pub list_below : (c s : ℕ) → sleeps_on c (get_or table s None) ≡ true → c < list_count l
   list_below c s asleep = condition_below l.lists c s (kept.listed c s ∙ asleep)
 
@@ -131,7 +131,7 @@ module _ (seats : ℕ) (l : LinkedLists) (counts : List ℕ) (table : List (Opti
         ∙ kept.counted d
         ∙ ap length (sym (others d (λ e. x (sym e))))
 
-    pub kept_changed : IsKept seats m (set counts c n) (set table s o)
+    pub kept_changed : AreLinkedSleepers seats m (set counts c n) (set table s o)
     kept_changed =
         record {
           listed = λ d i. listed_now d i (cases_eq c d) (cases_eq s i);
@@ -149,7 +149,7 @@ module _ (seats : ℕ) (l : LinkedLists) (counts : List ℕ) (table : List (Opti
       get_or table s None ≡ None →
       items m c ≡ items l c ++ s ∷ [] → ((d : ℕ) → d ≢ c → items m d ≡ items l d) → Moves l m s (Some c) →
       n ≡ get_or counts c 0 + 1 →
-      IsKept seats m (set counts c n) (set table s (Some (record { condition = c; holds = h })))
+      AreLinkedSleepers seats m (set counts c n) (set table s (Some (record { condition = c; holds = h })))
   kept_joined c s h n m low seat none last others moves more =
       kept_changed c s n m (Some (record { condition = c; holds = h })) low seat
       (subst SleepOnce (sym last) (once-push s (items l c) (kept.once c) (awake c s none)))
@@ -169,7 +169,7 @@ module _ (seats : ℕ) (l : LinkedLists) (counts : List ℕ) (table : List (Opti
       items m x.condition ≡ without s (items l x.condition) →
       length (items m x.condition) + 1 ≡ length (items l x.condition) →
       ((d : ℕ) → d ≢ x.condition → items m d ≡ items l d) → Moves l m s None →
-      n + 1 ≡ get_or counts x.condition 0 → IsKept seats m (set counts x.condition n) (set table s None)
+      n + 1 ≡ get_or counts x.condition 0 → AreLinkedSleepers seats m (set counts x.condition n) (set table s None)
   kept_left s n x m told left shorter others moves fewer =
       let c = x.condition in
       let asleep = known_asleep (get_or table s None) x told in
@@ -201,7 +201,7 @@ pub kept_opened : (seats : ℕ) (l : LinkedLists) (counts : List ℕ) (table : L
     ((c : ℕ) → items l c ≡ []) → ((i : ℕ) → list_of l i ≡ None) → ((i : ℕ) → get_or table i None ≡ None) →
     ((c : ℕ) → get_or counts c 0 ≡ 0) → length counts ≡ list_count l → length table ≡ seats →
     seats ≡ key_limit l →
-    seats < 2 ^ 16 → IsKept seats l counts table
+    seats < 2 ^ 16 → AreLinkedSleepers seats l counts table
 kept_opened seats l counts table empty free none zeros each long room few =
     record {
       listed = λ c i. ap (has i) (empty c) ∙ sym (ap (sleeps_on c) (none i));

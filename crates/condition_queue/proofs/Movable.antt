@@ -13,7 +13,7 @@ use Rattle.history.specs.declared.entry.Word.TheVariants as word
 use Rattle.history.specs.Line.{line, arrivals_by, place_of}
 use Rattle.history.specs.Sleepers.{sleepers, sleepers_after, has, last_sleep, sleeps_below}
 use Rattle.history.specs.Start.{Start}
-use Rattle.deciding.specs.Situation.{IsHistory}
+use Rattle.deciding.specs.ObjectState.{IsHistory}
 use Rattle.deciding.proofs.Bounds.{all_below, waits_by}
 use Rattle.history.specs.Steps.{at_most_one}
 use Rattle.history.specs.Waiting.{asleep}

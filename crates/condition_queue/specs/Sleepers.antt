@@ -35,7 +35,7 @@ condition_of None = None
 condition_of (Some s) = Some s.condition
 
 -- The lists, the counts and the table agree, and each seat has a link.
-pub record IsKept (seats : ℕ) (l : LinkedLists) (counts : List ℕ)
+pub record AreLinkedSleepers (seats : ℕ) (l : LinkedLists) (counts : List ℕ)
     (table : List (Option Sleeper)) : Type 0 where
   pub listed : (c i : ℕ) → has i (items l c) ≡ sleeps_on c (slice_index_or table i None)
   pub owned : (i : ℕ) → list_of l i ≡ condition_of (slice_index_or table i None)

@@ -31,7 +31,7 @@ pub struct Waiters {
 
 impl Model for Waiters {
     ghost use Rattle.node_arena.specs.LinkedLists.{list_count};
-    ghost use Rattle.condition_queue.specs.Sleepers.{Sleepers, IsKept};
+    ghost use Rattle.condition_queue.specs.Sleepers.{Sleepers, AreLinkedSleepers};
 
     ghost Value = { Sleepers };
 
@@ -42,7 +42,7 @@ impl Model for Waiters {
       sleepers = w.table.items;
     } };
 
-    ghost invariant = { λ w. IsKept w.seats w.lists w.counts.items w.table.items };
+    ghost invariant = { λ w. AreLinkedSleepers w.seats w.lists w.counts.items w.table.items };
 }
 
 impl Waiters {

@@ -8,12 +8,12 @@ use Rattle.frame.specs.Hooks.{AreAlike, opening_counts}
 use Rattle.counting.specs.declared.latch.LatchHooks.{LatchHooks}
 
 -- The counts are those of a latch with this count.
-pub record StandsBy (opening count : ℕ) (k : Counts) : Type 0 where
+pub record MatchesBy (opening count : ℕ) (k : Counts) : Type 0 where
   pub object : k.object ≡ Latch opening
   pub level : k.count ≡ count
 
-abbrev pub Stands : LatchHooks → Counts → Type 0
-Stands s k = StandsBy s.opening s.count k
+abbrev pub Matches : LatchHooks → Counts → Type 0
+Matches s k = MatchesBy s.opening s.count k
 
 abbrev pub latch_of : LatchHooks → Object
 latch_of s = Latch s.opening
@@ -22,17 +22,17 @@ latch_of s = Latch s.opening
 abbrev pub IsOpened : LatchHooks → ℕ → Type 0
 IsOpened s seats = s.count ≡ s.opening
 
-pub opens_so : (s : LatchHooks) (seats : ℕ) → IsOpened s seats → Stands s (opening_counts (latch_of s) seats)
+pub opens_so : (s : LatchHooks) (seats : ℕ) → IsOpened s seats → Matches s (opening_counts (latch_of s) seats)
 opens_so s seats opened = record { object = refl; level = sub-zero _ ∙ sym opened }
 
-pub same_latch : (s : LatchHooks) (k : Counts) → Stands s k → k.object ≡ latch_of s
+pub same_latch : (s : LatchHooks) (k : Counts) → Matches s k → k.object ≡ latch_of s
 same_latch s k h = h.object
 
-pub alike_so : (s : LatchHooks) (k l : Counts) → AreAlike k l → Stands s k → Stands s l
+pub alike_so : (s : LatchHooks) (k l : Counts) → AreAlike k l → Matches s k → Matches s l
 alike_so s k l same h = record { object = same.object ∙ h.object; level = same.count ∙ h.level }
 
 abbrev some_counts_of : LatchHooks → Counts
 some_counts_of s = record { object = latch_of s; seats = 1; held = λ i m. 0; free = pos 0; count = s.count }
 
-pub some_counts : (s : LatchHooks) → (k : Counts) × Stands s k
+pub some_counts : (s : LatchHooks) → (k : Counts) × Matches s k
 some_counts s = (some_counts_of s, record { object = refl; level = refl })

@@ -32,9 +32,9 @@ impl LatchHooks {
 }
 
 impl Hooks for LatchHooks {
-    ghost use Rattle.counting.specs.Latch.{Stands, latch_of, IsOpened, alike_so, opens_so, same_latch, some_counts};
+    ghost use Rattle.counting.specs.Latch.{Matches, latch_of, IsOpened, alike_so, opens_so, same_latch, some_counts};
 
-    ghost agrees = { Stands };
+    ghost agrees = { Matches };
 
     ghost object_of = { latch_of };
 

@@ -38,9 +38,9 @@ impl SemaphoreHooks {
 }
 
 impl Hooks for SemaphoreHooks {
-    ghost use Rattle.counting.specs.Semaphore.{Stands, semaphore_of, IsOpened, alike_so, opens_so, same_semaphore, some_counts};
+    ghost use Rattle.counting.specs.Semaphore.{Matches, semaphore_of, IsOpened, alike_so, opens_so, same_semaphore, some_counts};
 
-    ghost agrees = { Stands };
+    ghost agrees = { Matches };
 
     ghost object_of = { semaphore_of };
 

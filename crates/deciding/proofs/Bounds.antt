@@ -30,7 +30,7 @@ use Rattle.history.proofs.Owners.{most_fits, owner_holds, nobody_holds}
 use Rattle.history.proofs.Permits.{conserved_from}
 use Rattle.history.proofs.SmallHolds.{exclusive_small, shared_small}
 use Rattle.history.proofs.WhoWaits.{LineSeated}
-use Rattle.deciding.specs.Situation.{IsHistory}
+use Rattle.deciding.specs.ObjectState.{IsHistory}
 
 -- what holds of a legal history on each good base
 pub at_base : (P : Start → Type 0) (s : Start) (h : List Entry) (past : IsHistory s h) →

@@ -2,5 +2,5 @@ pub mod Amounts
 pub mod Balance
 pub mod Checks
 pub mod Holds
-pub mod Situation
+pub mod ObjectState
 pub mod Sleep

@@ -5,7 +5,7 @@ ghost use Rattle.history.specs.Start.{Start};
 ghost use Rattle.history.specs.declared.entry.Entry.{Entry};
 ghost use Rattle.deciding.specs.Balance.{HasShortHistory, all_asleep, available, balance, held_by_all};
 
-use crate::situation::Situation;
+use crate::situation::ObjectState;
 use history::entry::Mode;
 use history::header::Object;
 
@@ -28,7 +28,7 @@ pub struct Balance {
 
 /// Returns the totals of a state over all seats and all conditions. It visits each of them, and allocates
 /// nothing.
-pub fn balance_of<T: Situation>(state: &T) -> Balance
+pub fn balance_of<T: ObjectState>(state: &T) -> Balance
     requires { HasShortHistory T.stands state.now }
     ensures balance { (s : Start) (h : List Entry) → T.stands s h state.now → result ≡ balance s h }
     ensures exclusive { result.exclusive < 2 ^ 126 }
@@ -45,7 +45,7 @@ pub fn balance_of<T: Situation>(state: &T) -> Balance
 }
 
 /// Returns the holds of all seats in a mode.
-fn held_by_all<T: Situation>(state: &T, mode: Mode) -> u128
+fn held_by_all<T: ObjectState>(state: &T, mode: Mode) -> u128
     requires { HasShortHistory T.stands state.now }
     ensures held { (s : Start) (h : List Entry) → T.stands s h state.now → result ≡ held_by_all s h mode }
     ensures few { result < 2 ^ 126 }
@@ -58,7 +58,7 @@ fn held_by_all<T: Situation>(state: &T, mode: Mode) -> u128
 }
 
 /// Returns how many seats wait, over all conditions.
-fn all_asleep<T: Situation>(state: &T) -> u32
+fn all_asleep<T: ObjectState>(state: &T) -> u32
     ensures { (s : Start) (h : List Entry) → T.stands s h state.now → result ≡ all_asleep s h }
 {
     let mut all = 0;
@@ -69,7 +69,7 @@ fn all_asleep<T: Situation>(state: &T) -> u32
 }
 
 /// Returns the free permits of a semaphore, else 0.
-fn available<T: Situation>(state: &T) -> i64
+fn available<T: ObjectState>(state: &T) -> i64
     requires { HasShortHistory T.stands state.now }
     ensures { (s : Start) (h : List Entry) → T.stands s h state.now → result ≡ available s h }
 {

@@ -14,11 +14,11 @@ ghost use Rattle.history.specs.Steps.{signals, tried, tried_fairly};
 ghost use Rattle.history.specs.declared.entry.Entry.{Entry};
 ghost use Rattle.history.specs.declared.entry.Mode.TheVariants.{X};
 ghost use Rattle.deciding.specs.Checks.{in_phase, refused_as};
-ghost use Rattle.deciding.specs.Situation.{HasHistory, HasSeat};
+ghost use Rattle.deciding.specs.ObjectState.{HasHistory, HasSeat};
 
 use crate::checks::{refused_as, waits};
 use crate::entries::{back, plain, queued_entry, sleeping_entry};
-use crate::situation::Situation;
+use crate::situation::ObjectState;
 use history::arrival::Arrival;
 use history::entry::{End, Entry, Mode, Word};
 use history::fault::Fault;
@@ -29,7 +29,7 @@ use history::step::Step;
 const MAX_PERMITS: i64 = 2_147_483_647;
 
 /// Returns the seat of the head of the queue, if it could acquire what it asks for.
-pub fn ready<T: Situation>(state: &T) -> Option<u16>
+pub fn ready<T: ObjectState>(state: &T) -> Option<u16>
     requires { HasHistory T.stands state.now }
     ensures ready { (s : Start) (h : List Entry) → T.stands s h state.now → result ≡ ready s h }
     ensures below { (s : Start) (h : List Entry) → T.stands s h state.now
@@ -49,7 +49,7 @@ pub fn ready<T: Situation>(state: &T) -> Option<u16>
 
 /// Returns whether the seat is the head of the queue and could acquire what it asks for, so that a retry
 /// succeeds.
-fn is_ready<T: Situation>(state: &T, seat: u16) -> bool
+fn is_ready<T: ObjectState>(state: &T, seat: u16) -> bool
     requires { HasSeat T.stands state.now seat }
     ensures { (s : Start) (h : List Entry) → T.stands s h state.now → result ≡ is_seat (ready s h) seat }
 {
@@ -60,7 +60,7 @@ fn is_ready<T: Situation>(state: &T, seat: u16) -> bool
 }
 
 #[inline(always)]
-fn acquired<T: Situation>(state: &T, seat: u16, mode: Mode, n: u32) -> Word
+fn acquired<T: ObjectState>(state: &T, seat: u16, mode: Mode, n: u32) -> Word
     requires { HasSeat T.stands state.now seat }
     ensures { (s : Start) (h : List Entry) → T.stands s h state.now
         → result ≡ acquired (counts s h) (first_mode s h) seat mode n }
@@ -76,7 +76,7 @@ fn acquired<T: Situation>(state: &T, seat: u16, mode: Mode, n: u32) -> Word
     }
 }
 
-fn tried<T: Situation>(state: &T, seat: u16, mode: Mode, n: u32) -> Word
+fn tried<T: ObjectState>(state: &T, seat: u16, mode: Mode, n: u32) -> Word
     requires { HasSeat T.stands state.now seat }
     ensures { (s : Start) (h : List Entry) → T.stands s h state.now
         → result ≡ tried (counts s h) (first_mode s h) seat mode n }
@@ -92,7 +92,7 @@ fn tried<T: Situation>(state: &T, seat: u16, mode: Mode, n: u32) -> Word
     }
 }
 
-fn tried_fairly<T: Situation>(state: &T, seat: u16, mode: Mode, n: u32) -> Word
+fn tried_fairly<T: ObjectState>(state: &T, seat: u16, mode: Mode, n: u32) -> Word
     requires { HasSeat T.stands state.now seat }
     ensures { (s : Start) (h : List Entry) → T.stands s h state.now
         → result ≡ tried_fairly (counts s h) (first_mode s h) seat mode n }
@@ -109,7 +109,7 @@ fn tried_fairly<T: Situation>(state: &T, seat: u16, mode: Mode, n: u32) -> Word
 }
 
 /// Returns the free permits of a semaphore.
-fn free_permits<T: Situation>(state: &T) -> i64
+fn free_permits<T: ObjectState>(state: &T) -> i64
     requires { (s : Start) × (h : List Entry) × T.stands s h state.now
         × (is_semaphore s.header.object ≡ true) }
     ensures free { (s : Start) (h : List Entry) → T.stands s h state.now → result ≡ free s h }
@@ -120,7 +120,7 @@ fn free_permits<T: Situation>(state: &T) -> i64
 
 /// Returns what a release makes. A hold must be the seat's own. Permits must not pass the greatest number.
 #[inline(always)]
-fn gave<T: Situation>(state: &T, seat: u16, mode: Mode, n: u32) -> Word
+fn gave<T: ObjectState>(state: &T, seat: u16, mode: Mode, n: u32) -> Word
     requires { HasSeat T.stands state.now seat }
     ensures { (s : Start) (h : List Entry) → T.stands s h state.now
         → result ≡ gave s.header.object (counts s h) seat mode n }
@@ -145,7 +145,7 @@ fn gave<T: Situation>(state: &T, seat: u16, mode: Mode, n: u32) -> Word
 }
 
 /// Returns all exclusive holds of a seat of a lock. A seat that has any is the owner.
-fn exclusive_holds<T: Situation>(state: &T, seat: u16) -> u32
+fn exclusive_holds<T: ObjectState>(state: &T, seat: u16) -> u32
     requires seat { HasSeat T.stands state.now seat }
     requires lock { (s : Start) (h : List Entry) → T.stands s h state.now
         → is_lock s.header.object ≡ true }
@@ -159,7 +159,7 @@ fn exclusive_holds<T: Situation>(state: &T, seat: u16) -> u32
 
 /// Returns the entry of an await. Only the owner may await, and only without read holds. It gives up all its
 /// exclusive holds.
-fn awaits<T: Situation>(state: &T, seat: u16, condition: u8) -> Entry
+fn awaits<T: ObjectState>(state: &T, seat: u16, condition: u8) -> Entry
     requires seat { HasSeat T.stands state.now seat }
     requires lock { (s : Start) (h : List Entry) → T.stands s h state.now
         → is_lock s.header.object ≡ true }
@@ -185,7 +185,7 @@ fn awaits<T: Situation>(state: &T, seat: u16, condition: u8) -> Entry
 
 /// Returns the entry of a signal. Only the owner may signal. The entry has the number of waiters that it
 /// moves.
-fn signals<T: Situation>(state: &T, seat: u16, word: Word, moved: u16, condition: u8) -> Entry
+fn signals<T: ObjectState>(state: &T, seat: u16, word: Word, moved: u16, condition: u8) -> Entry
     requires seat { HasSeat T.stands state.now seat }
     requires lock { (s : Start) (h : List Entry) → T.stands s h state.now
         → is_lock s.header.object ≡ true }
@@ -207,7 +207,7 @@ fn signals<T: Situation>(state: &T, seat: u16, word: Word, moved: u16, condition
 
 /// Returns the entry that a step of an idle seat makes.
 #[inline(always)]
-fn idle_entry<T: Situation>(state: &T, seat: u16, step: Step) -> Entry
+fn idle_entry<T: ObjectState>(state: &T, seat: u16, step: Step) -> Entry
     requires seat { HasSeat T.stands state.now seat }
     requires admitted { (s : Start) (h : List Entry) → T.stands s h state.now
         → refused_as s.header step ≡ None }
@@ -243,7 +243,7 @@ fn idle_entry<T: Situation>(state: &T, seat: u16, step: Step) -> Entry
 }
 
 /// Returns the entry that a step of a waiter in the queue makes, or `None` for sleep.
-fn line_entry<T: Situation>(state: &T, seat: u16, arrival: Arrival, step: Step) -> Option<Entry>
+fn line_entry<T: ObjectState>(state: &T, seat: u16, arrival: Arrival, step: Step) -> Option<Entry>
     requires seat { HasSeat T.stands state.now seat }
     requires stands { (s : Start) (h : List Entry) → T.stands s h state.now
         → place_of seat (line s h) ≡ Some arrival }
@@ -262,7 +262,7 @@ fn line_entry<T: Situation>(state: &T, seat: u16, arrival: Arrival, step: Step) 
 
 /// Returns the entry of a step that the object has, by the phase of its seat: in the queue, asleep or idle.
 #[inline(always)]
-fn entry_in_phase<T: Situation>(state: &T, seat: u16, step: Step) -> Result<Option<Entry>, Fault>
+fn entry_in_phase<T: ObjectState>(state: &T, seat: u16, step: Step) -> Result<Option<Entry>, Fault>
     requires seat { HasSeat T.stands state.now seat }
     requires admitted { (s : Start) (h : List Entry) → T.stands s h state.now
         → refused_as s.header step ≡ None }
@@ -293,7 +293,7 @@ fn entry_in_phase<T: Situation>(state: &T, seat: u16, step: Step) -> Result<Opti
 /// Returns the one entry that a step of the seat makes next. `None` is sleep, and a fault is one that isn't
 /// recorded.
 #[inline(always)]
-pub fn entry_for<T: Situation>(state: &T, seat: u16, step: Step) -> Result<Option<Entry>, Fault>
+pub fn entry_for<T: ObjectState>(state: &T, seat: u16, step: Step) -> Result<Option<Entry>, Fault>
     requires { HasSeat T.stands state.now seat }
     ensures { (s : Start) (h : List Entry) → T.stands s h state.now → result ≡ entry_for s h seat step }
 {

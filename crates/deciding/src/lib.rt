@@ -1,7 +1,7 @@
 //! Decides which entry a step makes, and how an entry changes permits, reserved room and queue.
 //!
 //! [`entry_for`](decide::entry_for) decides for any state that implements the trait
-//! [`Situation`](situation::Situation), and [`balance_of`](balance::balance_of) adds up such a state. The
+//! [`ObjectState`](situation::ObjectState), and [`balance_of`](balance::balance_of) adds up such a state. The
 //! core and the audit each have such a state. The other functions depend on their arguments alone.
 #![tactic(auto)]
 

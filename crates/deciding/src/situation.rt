@@ -10,7 +10,7 @@ ghost use Rattle.history.specs.Phase.{phase};
 ghost use Rattle.history.specs.Sleepers.{last_sleep, sleepers, sleeps_below};
 ghost use Rattle.history.specs.Start.{Start};
 ghost use Rattle.history.specs.declared.entry.Entry.{Entry};
-ghost use Rattle.deciding.specs.Situation.{HasHistory, HasSeat, IsHistory};
+ghost use Rattle.deciding.specs.ObjectState.{HasHistory, HasSeat, IsHistory};
 ghost use Rattle.deciding.specs.Sleep.{sleep_of};
 
 use crate::sleep::LastSleep;
@@ -21,7 +21,7 @@ use history::header::Header;
 /// The questions that a decision asks about the state of an object.
 ///
 /// A state represents a history. Its answers are what the definitions compute from that history.
-pub trait Situation {
+pub trait ObjectState {
     /// The state is the one after this history.
     ghost stands: { Start → List Entry → Self → Type 0 };
 

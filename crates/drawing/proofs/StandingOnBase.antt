@@ -3,7 +3,7 @@ use Rattle.std.proofs.Common.{◌≡◌, ℕ, zero, suc, ◌<◌, Bool, false, L
 use Rattle.std.specs.List.{All, AllByRecursion}
 use Rattle.std.proofs.lemmas.List.Elements.{All-cons, All-nil}
 use Rattle.history.specs.declared.base.Sleeper.{Sleeper}
-use Rattle.history.specs.declared.base.Standing.{Standing}
+use Rattle.history.specs.declared.base.LinePlace.{LinePlace}
 use Rattle.history.specs.Base.{Base, based, each_below, seat_of, sleepers_of}
 use Rattle.history.specs.GoodBase.{IsGood, SleepsWell}
 use Rattle.history.specs.Line.{place_of}
@@ -34,7 +34,7 @@ pub stands_on : (b : Base) (a : Standings) → IsGood b → length a.exclusive.i
     ((i : ℕ) → get_or a.exclusive.items i 0 ≡ (seat_of b i).exclusive) →
     ((i : ℕ) → get_or a.shared.items i 0 ≡ (seat_of b i).shared) →
     ((i : ℕ) → get_or a.in_line.items i false
-    ≡ is_there (place_of i (map (λ (p : Standing). p.who) b.line))) →
+    ≡ is_there (place_of i (map (λ (p : LinePlace). p.who) b.line))) →
     AreStanding (based b) [] a
 stands_on b a good x sh waiting asleep exclusive shared waits =
     record {

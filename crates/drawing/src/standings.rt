@@ -15,7 +15,7 @@ ghost use Rattle.drawing.specs.Standings.{AreStanding, holds_by, line_by, sleepi
 use crate::kind::Kind;
 use crate::sleepers::Sleepers;
 use deciding::tables::held_in;
-use history::base::{Base, Standing};
+use history::base::{Base, LinePlace};
 use history::entry::{Entry, Mode, Word};
 use history::header::Object;
 use history::holds::holds_after;
@@ -157,7 +157,7 @@ fn all_asleep(alloc: Global, base: &Base) -> Result<Vec<Sleepers>, AllocError>
 }
 
 /// Marks all these waiters as in the queue.
-fn mark_standing(in_line: &mut Vec<bool>, line: &[Standing])
+fn mark_standing(in_line: &mut Vec<bool>, line: &[LinePlace])
     requires { AllByRecursion (λ p. p.who.seat < length in_line.old.items) line.now }
     ensures marked { (i : ℕ) → slice_index_or in_line.new.items i false
         ≡ (slice_index_or in_line.old.items i false || is_there (place_of i (map (λ p. p.who) line.now))) }

@@ -32,7 +32,7 @@ use Rattle.driver.specs.declared.form.Form.TheVariants.{Replay, History}
 use Rattle.driver.specs.declared.remark.Remark.{Remark}
 use Rattle.driver.specs.Answers.{AllAnswers, answers_text}
 use Rattle.driver.specs.Logged.{IsLogged, Logged, gone}
-use Rattle.driver.specs.Remarks.{IsKept, remark_of, told_lines, trim_remark}
+use Rattle.driver.specs.Remarks.{IsRemarked, remark_of, told_lines, trim_remark}
 use Rattle.driver.specs.ReplayStream.{AreAnswersBehind, IsAnswerTo, IsLawful, answer_text}
 use Rattle.driver.specs.ReplayText.{answer_line, behind_acts, done_lines, entries_of, header_line, trim_line}
 use Rattle.driver.specs.TextReader.{Progress, IsNext}
@@ -40,7 +40,7 @@ use Rattle.driver.proofs.ReadingAhead.{ReadOn}
 use Rattle.driver.proofs.Behind.{replayed}
 use Rattle.driver.proofs.Doing.{all_counted, all_in_order, all_stay, folded_calls, folded_counted, has_trimmed, spelt_more}
 use Rattle.driver.proofs.Remarking.{Remarked, added_count, added_is, remarked_all, remarked_none, remarked_on, remarked_trim}
-use Rattle.driver.proofs.Told.{IsTrimOf, Told, answered, base_all, base_behind, entries_all, list_behind, told_all, told_more, told_none, told_trim}
+use Rattle.driver.proofs.Told.{IsTrimOf, PlayedSoFar, answered, base_all, base_behind, entries_all, list_behind, told_all, told_more, told_none, told_trim}
 
 -- These acts were read. The entries that were folded, the oldest first, and the list behind them, with these
 -- remarks, tell their answers.
@@ -49,7 +49,7 @@ pub record Answering (first now : Progress StepsHeader Act) (b : Base) (h past :
   pub acts : List Act
   pub lines : List ℕ
   pub read : ReadOn steps_form first acts now
-  pub told : Told now.so_far.header.header acts lines b h
+  pub told : PlayedSoFar now.so_far.header.header acts lines b h
   pub remarked : Remarked (h ++ reverse past) remarks lines
   pub counted : b.entries ≡ length past
   pub ended : calls (based b) [] ≡ ended_calls past
@@ -75,20 +75,20 @@ pub answering_step : (first old new : Progress StepsHeader Act) (i : ℕ) (step 
     (b : Base) (h h' past : List Entry) (remarks remarks' : List Remark) (left : Option (List ℕ))
     → IsNext steps_form old (Ok (Some (Do i step))) new left → new.so_far.header ≡ old.so_far.header →
     r ≡ (answer (based b) h i step).0 → h' ≡ (answer (based b) h i step).1
-    → IsKept remarks (remark_of (length past + length h) i r) remarks'
+    → IsRemarked remarks (remark_of (length past + length h) i r) remarks'
     → Answering first old b h past remarks →
     Answering first new b h' past remarks'
 answering_step first old new i step r b h h' past remarks remarks' left next same p q more a =
-    let told = subst (λ (k : StepsHeader). Told k.header a.acts a.lines b h) (sym same) a.told in
+    let told = subst (λ (k : StepsHeader). PlayedSoFar k.header a.acts a.lines b h) (sym same) a.told in
     let all = h ++ reverse past in
     let number : b.entries + length h ≡ length all = omega (arith, a.counted, all_counted past h) in
     let line = λ (n : ℕ). a.lines ++ ended (answer_line n i r) in
-    let kept = subst (λ (n : ℕ). IsKept remarks (remark_of n i r) remarks') (sym (all_counted past h)) more in
+    let kept = subst (λ (n : ℕ). IsRemarked remarks (remark_of n i r) remarks') (sym (all_counted past h)) more in
     record {
       acts = a.acts ++ Do i step ∷ [];
       lines = line (length all);
       read = λ text were. next text a.acts (a.read text were);
-      told = subst (λ (n : ℕ). Told new.so_far.header.header (a.acts ++ Do i step ∷ []) (line n) b h') number
+      told = subst (λ (n : ℕ). PlayedSoFar new.so_far.header.header (a.acts ++ Do i step ∷ []) (line n) b h') number
           (told_more new.so_far.header.header a.acts a.lines b h i step r h' told p q);
       remarked =
           remarked_on (based b) h (reverse past) i step r h' remarks remarks' a.lines p q kept a.remarked;
@@ -105,7 +105,7 @@ pub answering_trim : (first old new : Progress StepsHeader Act) (r : Result ℕ 
     → Answering first new (base_behind r b h) (list_behind r h) (past ++ gone r h)
     (remarks ++ trim_remark (length past + length h) r ∷ [])
 answering_trim first old new r b h past remarks left next same is can a =
-    let told = subst (λ (k : StepsHeader). Told k.header a.acts a.lines b h) (sym same) a.told in
+    let told = subst (λ (k : StepsHeader). PlayedSoFar k.header a.acts a.lines b h) (sym same) a.told in
     let more = remarks ++ trim_remark (length past + length h) r ∷ [] in
     let remarked : Remarked (h ++ reverse past) more (a.lines ++ ended (trim_line r)) =
     subst (λ (n : ℕ). Remarked (h ++ reverse past) (remarks ++ trim_remark n r ∷ [])
@@ -191,7 +191,7 @@ end_is b h past counted ends =
 
 -- the text of all answers, in each form
 text_is : (form : Form) (header : StepsHeader) (b : Base) (h past : List Entry) (remarks : List Remark)
-    (acts : List Act) (lines : List ℕ) → Told header.header acts lines b h →
+    (acts : List Act) (lines : List ℕ) → PlayedSoFar header.header acts lines b h →
     Remarked (h ++ reverse past) remarks lines
     → b.entries ≡ length past → calls (based b) [] ≡ ended_calls past
     → answers_text form
@@ -218,7 +218,7 @@ text_is History header b h past remarks acts lines told remarked counted ends =
     ∙ ap (history_text (behind_acts header acts).base) (entries_all header.header acts lines b h told)
 
 lawful_is : (header : StepsHeader) (b : Base) (h : List Entry) (acts : List Act) (lines : List ℕ) →
-    Told header.header acts lines b h → IsLawful b h →
+    PlayedSoFar header.header acts lines b h → IsLawful b h →
     IsLawful (behind_acts header acts).base (behind_acts header acts).entries
 lawful_is header b h acts lines told lawful =
     subst (λ (x : Base). IsLawful x (behind_acts header acts).entries)
@@ -246,8 +246,8 @@ pub answering_all : (first now new : Progress StepsHeader Act) (b : Base) (h pas
     })
 answering_all first now new b h past remarks left same all lawful a = λ form text were.
     let header = first.so_far.header in
-    let told : Told header.header a.acts a.lines b h =
-    subst (λ (k : StepsHeader). Told k.header a.acts a.lines b h) same a.told in
+    let told : PlayedSoFar header.header a.acts a.lines b h =
+    subst (λ (k : StepsHeader). PlayedSoFar k.header a.acts a.lines b h) same a.told in
     let is = subst (λ (k : StepsHeader). IfSome text (λ t. IsText steps_form t k a.acts)) same
     (all text a.acts (a.read text were)) in
     answer_is form text header a.acts _

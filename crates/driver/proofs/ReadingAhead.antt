@@ -21,7 +21,7 @@ use Rattle.streams.specs.declared.stream_fault.StreamFault.TheVariants.{Text, Re
 use Rattle.streams.specs.Streams.{IsReadNoFurther}
 use Rattle.streams.specs.Whole.{IsOfReading, IsTooLong}
 use Rattle.streams.specs.Window.{Grows, StaysAhead}
-use Rattle.driver.specs.TextReader.{Progress, reader_at, WereRead, IsFaultOf, IsBehindEnd, IsNext, IsPartLeft, Stands}
+use Rattle.driver.specs.TextReader.{Progress, reader_at, WereRead, IsFaultOf, IsBehindEnd, IsNext, IsPartLeft, KeepsPlace}
 
 -- ---- the source
 
@@ -438,27 +438,27 @@ next_kept form so_far a b (Err fault) new after keeps next =
 
 pub stands_failed : {I : Type 0} (old new : List ℕ) (left after : Option (List ℕ))
     (r : Result (Option I) StreamFault) → IsErr r → StaysAhead old left new after →
-    Stands old left r new after
+    KeepsPlace old left r new after
 stands_failed old new left after (Ok next) failed s = absurd (false≢true failed)
 stands_failed old new left after (Err fault) failed s = s
 
 pub stands_still : {I : Type 0} (old new : List ℕ) (left after : Option (List ℕ))
     (r : Result (Option I) StreamFault) → Keeps (prepend_known old left) (prepend_known new after) →
-    Stands old left r new after
+    KeepsPlace old left r new after
 stands_still old new left after (Ok (Some item)) keeps = tt
 stands_still old new left after (Ok None) keeps = keeps
 stands_still old new left after (Err fault) keeps = keeps_stays old new left after keeps
 
 pub stands_behind : {I : Type 0} (old window new : List ℕ) (left mid after : Option (List ℕ))
     (r : Result (Option I) StreamFault) → Keeps (prepend_known old left) (prepend_known window mid) →
-    Keeps (prepend_known window mid) (prepend_known new after) → Stands old left r new after
+    Keeps (prepend_known window mid) (prepend_known new after) → KeepsPlace old left r new after
 stands_behind old window new left mid after r p q =
     stands_still old new left after r (keeps_on (prepend_known old left) (prepend_known window mid)
     (prepend_known new after) p q)
 
 -- nothing has changed
 pub stands_here : {I : Type 0} (old : List ℕ) (left : Option (List ℕ)) (r : Result (Option I) StreamFault) →
-    Stands old left r old left
+    KeepsPlace old left r old left
 stands_here old left r = stands_still old old left left r (keeps_same (prepend_known old left))
 
 -- ---- from the header on

@@ -17,7 +17,7 @@ use Rattle.history.specs.Text.{ended}
 use Rattle.history_text.specs.EntryLines.{entry_line}
 use Rattle.driver.specs.declared.remark.Remark.{Remark}
 use Rattle.driver.specs.declared.remark.Said.TheVariants.{IsNamed}
-use Rattle.driver.specs.Remarks.{IsKept, entries_said, remark_of, said_line, told_lines, trim_remark}
+use Rattle.driver.specs.Remarks.{IsRemarked, entries_said, remark_of, said_line, told_lines, trim_remark}
 use Rattle.history_text.specs.Pieces.{entry_lines}
 use Rattle.driver.specs.ReplayText.{answer_line, entries_of, trim_line}
 use Rattle.history_text.proofs.TextWritten.{entry_lines-push}
@@ -191,7 +191,7 @@ added_behind (Ok Sleep) h past = refl
 added_behind (Err fault) h past = refl
 
 step_remarked : (h : List Entry) (seat : ℕ) (r : Result Answer Fault) (remarks remarks' : List Remark)
-    (out : List ℕ) → IsKept remarks (remark_of (length h) seat r) remarks'
+    (out : List ℕ) → IsRemarked remarks (remark_of (length h) seat r) remarks'
     → Remarked h remarks out → Remarked (added r h) remarks' (out ++ ended (answer_line (length h) seat r))
 step_remarked h seat (Ok (Recorded e None)) remarks remarks' out is was =
     rw is (remarked_plain h remarks out e was)
@@ -206,7 +206,7 @@ step_remarked h seat (Err fault) remarks remarks' out is was =
 pub remarked_on : (s : Start) (h past : List Entry) (i : ℕ) (step : Step) (r : Result Answer Fault)
     (h' : List Entry) (remarks remarks' : List Remark) (out : List ℕ) → r ≡ (answer s h i step).0 →
     h' ≡ (answer s h i step).1
-    → IsKept remarks (remark_of (length (h ++ past)) i r) remarks' → Remarked (h ++ past) remarks out →
+    → IsRemarked remarks (remark_of (length (h ++ past)) i r) remarks' → Remarked (h ++ past) remarks out →
     Remarked (h' ++ past) remarks' (out ++ ended (answer_line (length (h ++ past)) i r))
 remarked_on s h past i step r h' remarks remarks' out p q more was =
     let same : h' ++ past ≡ added r (h ++ past) = ap (λ (es : List Entry). es ++ past)

@@ -153,7 +153,7 @@ same_count (Err fault) b h = refl
 
 -- Behind these acts of a text, whatever follows: the lines that were told, with those that are left, are all;
 -- and so are the base and the entries.
-pub record Told (header : Header) (acts : List Act) (out : List ℕ) (b : Base) (h : List Entry) : Type 0 where
+pub record PlayedSoFar (header : Header) (acts : List Act) (out : List ℕ) (b : Base) (h : List Entry) : Type 0 where
   pub lines : (left : List Act) → out ++ lines_left b h (b.entries + length h) left
       ≡ lines_left (opening_base header) [] 0 (acts ++ left)
   pub base : (left : List Act) → base_left b h left ≡ base_left (opening_base header) [] (acts ++ left)
@@ -161,17 +161,17 @@ pub record Told (header : Header) (acts : List Act) (out : List ℕ) (b : Base) 
       entries_left b h left ≡ entries_left (opening_base header) [] (acts ++ left)
 
 -- nothing was told yet
-pub told_none : (header : Header) → Told header [] [] (opening_base header) []
+pub told_none : (header : Header) → PlayedSoFar header [] [] (opening_base header) []
 told_none header = record { lines = λ left. refl; base = λ left. refl; entries = λ left. refl }
 
 -- one act more, behind which this is left
 told_next : (header : Header) (acts : List Act) (out : List ℕ) (b : Base) (h : List Entry) (x : Act)
-    (line : List ℕ) (b' : Base) (h' : List Entry) → Told header acts out b h
+    (line : List ℕ) (b' : Base) (h' : List Entry) → PlayedSoFar header acts out b h
     → ((left : List Act) → lines_left b h (b.entries + length h) (x ∷ left)
     ≡ line ++ lines_left b' h' (b'.entries + length h') left)
     → ((left : List Act) → base_left b h (x ∷ left) ≡ base_left b' h' left)
     → ((left : List Act) → entries_left b h (x ∷ left) ≡ entries_left b' h' left)
-    → Told header (acts ++ x ∷ []) (out ++ line) b' h'
+    → PlayedSoFar header (acts ++ x ∷ []) (out ++ line) b' h'
 told_next header acts out b h x line b' h' told lines base entries =
     let k = opening_base header in
     let whole : (left : List Act) → acts ++ x ∷ left ≡ (acts ++ x ∷ []) ++ left =
@@ -185,9 +185,9 @@ told_next header acts out b h x line b' h' told lines base entries =
     }
 
 pub told_more : (header : Header) (acts : List Act) (out : List ℕ) (b : Base) (h : List Entry) (i : ℕ)
-    (step : Step) (r : Result Answer Fault) (h' : List Entry) → Told header acts out b h →
+    (step : Step) (r : Result Answer Fault) (h' : List Entry) → PlayedSoFar header acts out b h →
     r ≡ (answer (based b) h i step).0 → h' ≡ (answer (based b) h i step).1
-    → Told header (acts ++ Do i step ∷ []) (out ++ ended (answer_line (b.entries + length h) i r)) b h'
+    → PlayedSoFar header (acts ++ Do i step ∷ []) (out ++ ended (answer_line (b.entries + length h) i r)) b h'
 told_more header acts out b h i step r h' told p q =
     let count : (b.entries + length h) + entries_of r ≡ b.entries + length h' =
     omega (arith, ap length (added_is (based b) h i step r h' p q), added_count r h) in
@@ -198,8 +198,8 @@ told_more header acts out b h i step r h' told p q =
     (λ left. entries_left-do b h i step left h' q)
 
 pub told_trim : (header : Header) (acts : List Act) (out : List ℕ) (b : Base) (h : List Entry)
-    (r : Result ℕ Fault) → Told header acts out b h → IsTrimOf r b h
-    → Told header (acts ++ Trim ∷ []) (out ++ ended (trim_line r)) (base_behind r b h) (list_behind r h)
+    (r : Result ℕ Fault) → PlayedSoFar header acts out b h → IsTrimOf r b h
+    → PlayedSoFar header (acts ++ Trim ∷ []) (out ++ ended (trim_line r)) (base_behind r b h) (list_behind r h)
 told_trim header acts out b h r told is =
     told_next header acts out b h Trim (ended (trim_line r)) (base_behind r b h) (list_behind r h) told
     (λ left. lines_left-trim b h (b.entries + length h) left r is
@@ -210,20 +210,20 @@ told_trim header acts out b h r told is =
 
 -- nothing is left
 pub told_all : (header : Header) (acts : List Act) (out : List ℕ) (b : Base) (h : List Entry) →
-    Told header acts out b h → out ≡ done_lines 0 acts (outcome (opening_base header) [] acts).done
+    PlayedSoFar header acts out b h → out ≡ done_lines 0 acts (outcome (opening_base header) [] acts).done
 told_all header acts out b h told =
     let k = opening_base header in
     sym (ap (λ (t : List ℕ). out ++ t) (lines_left-nil b h (b.entries + length h)) ∙ append-nil out)
     ∙ told.lines [] ∙ ap (lines_left k [] 0) (append-nil acts) ∙ lines_left-is k [] 0 acts
 
 pub base_all : (header : Header) (acts : List Act) (out : List ℕ) (b : Base) (h : List Entry) →
-    Told header acts out b h → b ≡ (outcome (opening_base header) [] acts).base
+    PlayedSoFar header acts out b h → b ≡ (outcome (opening_base header) [] acts).base
 base_all header acts out b h told =
     let k = opening_base header in
     sym (base_left-nil b h) ∙ told.base [] ∙ ap (base_left k []) (append-nil acts) ∙ base_left-is k [] acts
 
 pub entries_all : (header : Header) (acts : List Act) (out : List ℕ) (b : Base) (h : List Entry) →
-    Told header acts out b h → h ≡ (outcome (opening_base header) [] acts).entries
+    PlayedSoFar header acts out b h → h ≡ (outcome (opening_base header) [] acts).entries
 entries_all header acts out b h told =
     let k = opening_base header in
     sym (entries_left-nil b h) ∙ told.entries [] ∙ ap (entries_left k []) (append-nil acts)

@@ -10,7 +10,7 @@ use Rattle.history.specs.declared.step.Answer.{Answer}
 use Rattle.history.specs.declared.step.Step.{Step}
 use Rattle.driver.specs.declared.replay.Log.{Log}
 use Rattle.driver.specs.declared.remark.Remark.{Remark}
-use Rattle.driver.specs.Remarks.{IsKept, remark_of, trim_remark}
+use Rattle.driver.specs.Remarks.{IsRemarked, remark_of, trim_remark}
 
 -- what is kept: the entries that were folded, the oldest first, and the remarks
 pub record Logged : Type 0 where
@@ -33,7 +33,7 @@ gone (Err fault) entries = []
 abbrev pub IsStepLogged : CoreView → Logged → ℕ → Step → CoreView → Logged → Type 0
 IsStepLogged old log i step new log' =
     (r : Result Answer Fault) × IsAnswered old i step r new × (r ≢ Err OutOfMemory) × (log'.past ≡ log.past)
-    × IsKept log.remarks (remark_of (count_of old log) i r) log'.remarks
+    × IsRemarked log.remarks (remark_of (count_of old log) i r) log'.remarks
 
 -- a trim was answered, and the entries that it folded were kept
 abbrev pub IsTrimLogged : CoreView → Logged → CoreView → Logged → Type 0

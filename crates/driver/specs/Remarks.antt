@@ -25,9 +25,9 @@ trim_remark before (Ok count) = record { before = before; seat = 0; said = Folds
 trim_remark before (Err fault) = record { before = before; seat = 0; said = FoldsNone fault }
 
 -- a remark is added, if there is one
-abbrev pub IsKept : List Remark → Option Remark → List Remark → Type 0
-IsKept old None new = new ≡ old
-IsKept old (Some r) new = new ≡ old ++ r ∷ []
+abbrev pub IsRemarked : List Remark → Option Remark → List Remark → Type 0
+IsRemarked old None new = new ≡ old
+IsRemarked old (Some r) new = new ≡ old ++ r ∷ []
 
 -- the line of an answer with this remark on a seat or a trim; IsNamed needs the entry with this number
 abbrev pub said_line : Said → ℕ → ℕ → Option Entry → List ℕ

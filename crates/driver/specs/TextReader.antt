@@ -80,8 +80,8 @@ IsNext {H} {I} form old (Err fault) new left =
 -- The position of a reader that returned no item: it is as before. After a fault, bytes of a line that is
 -- longer than any good one may be gone. The arguments are what the reader held and holds, and what its source
 -- had left and has left.
-abbrev pub Stands : {I : Type 0} → List ℕ → Option (List ℕ) → Result (Option I) StreamFault → List ℕ →
+abbrev pub KeepsPlace : {I : Type 0} → List ℕ → Option (List ℕ) → Result (Option I) StreamFault → List ℕ →
     Option (List ℕ) → Type 0
-Stands old left (Ok (Some item)) new after = Unit {0}
-Stands old left (Ok None) new after = Keeps (prepend_known old left) (prepend_known new after)
-Stands old left (Err fault) new after = StaysAhead old left new after
+KeepsPlace old left (Ok (Some item)) new after = Unit {0}
+KeepsPlace old left (Ok None) new after = Keeps (prepend_known old left) (prepend_known new after)
+KeepsPlace old left (Err fault) new after = StaysAhead old left new after

@@ -9,7 +9,7 @@ ghost use Rattle.history.specs.Header.{IsInRange};
 ghost use Rattle.history.specs.Text.{HasNoBreak};
 ghost use Rattle.driver.specs.BaseReader.{IsBeginningRead, IsPlacedBehind};
 ghost use Rattle.driver.specs.HistoryReader.{AreCounted, EntriesRead, IsEntryNext, IsStart, entry_passed};
-ghost use Rattle.driver.specs.TextReader.{IsFaultOf, Stands};
+ghost use Rattle.driver.specs.TextReader.{IsFaultOf, KeepsPlace};
 ghost use Rattle.history_text.specs.HistoryText.{history_form};
 ghost use Rattle.streams.specs.Whole.{IsTooLong};
 ghost use Rattle.streams.specs.Window.{room};
@@ -150,7 +150,7 @@ impl HistoryReader {
         ensures header { self.new.header ≡ self.old.header }
         ensures base { self.new.base ≡ self.old.base }
         ensures next { IsEntryNext self.old (R.left reader.old) result self.new (R.left reader.new) }
-        ensures stands { Stands self.old.bytes (R.left reader.old) result self.new.bytes (R.left reader.new) }
+        ensures stands { KeepsPlace self.old.bytes (R.left reader.old) result self.new.bytes (R.left reader.new) }
         ensures counted { IfOk result (λ next. AreCounted self.old next self.new) }
         ensures uncounted { OnErr result (self.new.place ≡ self.old.place) }
         ensures places { self.new.places ≡ self.old.places }
@@ -186,7 +186,7 @@ impl HistoryReader {
         ensures header { self.new.header ≡ self.old.header }
         ensures base { self.new.base ≡ self.old.base }
         ensures next { IsEntryNext self.old (R.left reader.old) result self.new (R.left reader.new) }
-        ensures stands { Stands self.old.bytes (R.left reader.old) result self.new.bytes (R.left reader.new) }
+        ensures stands { KeepsPlace self.old.bytes (R.left reader.old) result self.new.bytes (R.left reader.new) }
         ensures counted { IfOk result (λ next. AreCounted self.old next self.new) }
         ensures uncounted { OnErr result (self.new.place ≡ self.old.place) }
         ensures places { self.new.places ≡ self.old.places }

@@ -11,7 +11,7 @@ ghost use Rattle.history.specs.Legal.{IsLegal};
 ghost use Rattle.streams.specs.declared.stream_fault.StreamFault.TheVariants.{Memory};
 ghost use Rattle.driver.specs.Answers.{AreFolded};
 ghost use Rattle.driver.specs.Logged.{IsLogged, IsStepLogged, IsTrimLogged, gone, logged};
-ghost use Rattle.driver.specs.Remarks.{IsKept};
+ghost use Rattle.driver.specs.Remarks.{IsRemarked};
 ghost use Rattle.driver.specs.ReplayStream.{AreAnswersBehind};
 ghost use Rattle.driver.specs.StepReader.{progress};
 ghost use Rattle.driver.specs.TextReader.{IsFaultBehind};
@@ -52,7 +52,7 @@ fn lacks_memory(answer: &Result<Answer, Fault>) -> bool
 /// Keeps a remark, if there is one.
 #[inline(always)]
 fn keep(remarks: &mut Vec<Remark>, remark: Option<Remark>) -> Result<(), StreamFault>
-    ensures ok { OnOk result (IsKept remarks.old.items remark remarks.new.items) }
+    ensures ok { OnOk result (IsRemarked remarks.old.items remark remarks.new.items) }
     ensures err { IfErr result (λ fault. fault ≡ Memory) }
 {
     if let Some(remark) = remark {

@@ -14,7 +14,7 @@ use Rattle.history.specs.Counts.{counts, owner}
 use Rattle.history.specs.Object.{is_semaphore}
 use Rattle.history.specs.Start.{Start}
 use Rattle.history.proofs.Owners.{owner_holds, nobody_holds}
-use Rattle.deciding.specs.Situation.{IsHistory}
+use Rattle.deciding.specs.ObjectState.{IsHistory}
 use Rattle.deciding.proofs.Bounds.{free_most}
 use Rattle.frame.specs.declared.seat.Seat.{Seat}
 use Rattle.frame.specs.Hooks.{level_of, level_by}

@@ -17,7 +17,7 @@ use Rattle.history.proofs.Marking.{opening_right}
 use Rattle.history.proofs.OpeningBase.{based_opening}
 use Rattle.history.proofs.RoomLemmas.{nothing_owed}
 use Rattle.frame.specs.declared.seat.Seat.{Seat}
-use Rattle.frame.specs.Core.{Stands}
+use Rattle.frame.specs.Core.{IsInStep}
 use Rattle.frame.specs.Seat.{IsSeat, no_holds}
 use Rattle.frame.proofs.Seats.{seat_free}
 use Rattle.frame.proofs.Telling.{marks_free}
@@ -37,10 +37,10 @@ pub opening_stands : (agrees : Counts → Type 0) (k : Header) (b : Base) (kept 
     queue.seats ≡ k.seats →
     queue.joined ≡ 0 → ((c : ℕ) → asleep_on waiters c ≡ []) → waiters.conditions ≡ k.conditions →
     waiters.seats ≡ k.seats →
-    table ≡ replicate k.seats no_holds → Stands agrees k kept queue waiters table
+    table ≡ replicate k.seats no_holds → IsInStep agrees k kept queue waiters table
 opening_stands agrees k b kept queue waiters table range opens may told is line places joined asleep
     conditions beds free =
-    subst (λ y. Stands agrees k y queue waiters table) (sym is) (record {
+    subst (λ y. IsInStep agrees k y queue waiters table) (sym is) (record {
       range = range;
       began = refl;
       based = ap (λ (x : Base). x.header) opens;

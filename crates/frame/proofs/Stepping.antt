@@ -28,10 +28,10 @@ use Rattle.history.proofs.Marking.{right_recorded, right_slept}
 use Rattle.history.proofs.OneWait.{Waits, waits_from}
 use Rattle.history.proofs.Owing.{owed_known}
 use Rattle.history.proofs.SmallHolds.{exclusive_small, shared_small}
-use Rattle.deciding.specs.Situation.{IsHistory}
+use Rattle.deciding.specs.ObjectState.{IsHistory}
 use Rattle.frame.specs.declared.seat.Seat.{Seat}
 use Rattle.condition_queue.specs.Following.{JoinedBy, Keeps}
-use Rattle.frame.specs.Core.{CoreView, Stands, IsNext, IsAdded, with_history}
+use Rattle.frame.specs.Core.{CoreView, IsInStep, IsNext, IsAdded, with_history}
 use Rattle.frame.specs.Effects.{IsAllowed, counts_after}
 use Rattle.frame.specs.Seat.{IsSeat, marks_in, no_holds, seat_after, told_in, with_mark}
 use Rattle.frame.proofs.Counting.{allowed, counts_next}
@@ -40,7 +40,7 @@ use Rattle.frame.proofs.Telling.{length_telling, marks_behind, marks_untold, tab
 
 -- the history that a core stands for
 pub history_of : {agrees : Counts → Type 0} {k : Header} {kept : HistoryView} {queue : Line}
-    {waiters : Sleepers} {table : List Seat} → Stands agrees k kept queue waiters table →
+    {waiters : Sleepers} {table : List Seat} → IsInStep agrees k kept queue waiters table →
     IsHistory (start_on k kept) kept.entries
 history_of {k} {kept} s =
     record {
@@ -91,7 +91,7 @@ next k b h places told e same can is =
 -- the same, where the fields stand for the history and a caller sees it
 pub next_seen : {agrees : Counts → Type 0} {queue : Line} {waiters : Sleepers} {table : List Seat}
     (k : Header) (kept : HistoryView) (e : Entry)
-    (seen : CoreView) → Stands agrees k kept queue waiters table →
+    (seen : CoreView) → IsInStep agrees k kept queue waiters table →
     with_history k kept (told_in table) ≡ seen → IsNext seen e →
     Next k (base_on k kept) kept.entries e
 next_seen {table} k kept e seen s q is =
@@ -302,7 +302,7 @@ seated name n m same below = subst (λ x. IfSome name (λ j. j < x)) (sym same) 
 
 pub is_added : (agrees : Counts → Type 0) (k : Header) (e : Entry) (name : Option ℕ) (kept new : HistoryView)
     (queue : Line) (waiters : Sleepers) (table table' : List Seat) →
-    Stands agrees k kept queue waiters table → Next k (base_on k kept) kept.entries e → Grown k e kept new →
+    IsInStep agrees k kept queue waiters table → Next k (base_on k kept) kept.entries e → Grown k e kept new →
     Names k kept e name → table' ≡ table_behind k.object e name table →
     IsAdded (with_history k kept (told_in table)) e (Ok name) (with_history k new (told_in table'))
 is_added agrees k e name kept new queue waiters table table' s m n names is =
@@ -328,12 +328,12 @@ is_added agrees k e name kept new queue waiters table table' s m n names is =
 pub stands_next : (agrees agrees' : Counts → Type 0)
     (k : Header) (kept kept' : HistoryView) (queue queue' : Line)
     (waiters waiters' : Sleepers) (table table' : List Seat) (e : Entry) (name : Option ℕ) →
-    Stands agrees k kept queue waiters table → Next k (base_on k kept) kept.entries e →
+    IsInStep agrees k kept queue waiters table → Next k (base_on k kept) kept.entries e →
     agrees' (counts_after e.word (counts (start_on k kept) kept.entries) e) →
     Keeps (start_on k kept) (e ∷ kept.entries) queue' waiters' →
     JoinedBy ((base_on k kept).entries + length kept.entries + 1) queue' →
     Names k kept e name → table' ≡ table_behind k.object e name table → Grown k e kept kept' →
-    Stands agrees' k kept' queue' waiters' table'
+    IsInStep agrees' k kept' queue' waiters' table'
 stands_next agrees agrees' k kept kept' queue queue' waiters waiters' table table' e name s n told waiting
     joined names is new =
     record {
@@ -394,11 +394,11 @@ stands_next agrees agrees' k kept kept' queue queue' waiters waiters' table tabl
 
 -- a seat that isn't ready is told no more
 pub stands_untold : (agrees : Counts → Type 0) (k : Header) (kept : HistoryView) (queue : Line)
-    (waiters : Sleepers) (table table' : List Seat) (i : ℕ) → Stands agrees k kept queue waiters table →
+    (waiters : Sleepers) (table table' : List Seat) (i : ℕ) → IsInStep agrees k kept queue waiters table →
     i < k.seats → (ready (start_on k kept) kept.entries ≡ Some i → ⊥) → table' ≡ with_mark false i table →
-    Stands agrees k kept queue waiters table'
+    IsInStep agrees k kept queue waiters table'
 stands_untold agrees k kept queue waiters table table' i s below waits is =
-    subst (Stands agrees k kept queue waiters) (sym is) (record {
+    subst (IsInStep agrees k kept queue waiters) (sym is) (record {
       range = s.range;
       began = s.began;
       based = s.based;

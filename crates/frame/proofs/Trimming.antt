@@ -16,7 +16,7 @@ use Rattle.history.proofs.Alike.{Alike, owed_alike}
 use Rattle.history.proofs.Folding.{fold_alike}
 use Rattle.history.proofs.Marking.{right_alike}
 use Rattle.frame.specs.declared.seat.Seat.{Seat}
-use Rattle.frame.specs.Core.{Stands}
+use Rattle.frame.specs.Core.{IsInStep}
 use Rattle.frame.specs.Hooks.{AreAlike}
 use Rattle.frame.specs.Seat.{marks_in}
 use Rattle.frame.proofs.Seats.{seat_folded}
@@ -40,10 +40,10 @@ counts_alike b f h q same =
 
 stands_folded : (agrees : Counts → Type 0) → ((k l : Counts) → AreAlike k l → agrees k → agrees l) →
     (k : Header) (kept kept' : HistoryView) (queue : Line) (waiters : Sleepers) (table : List Seat) →
-    Stands agrees k kept queue waiters table → kept' ≡ emptied kept →
-    IsSomeAnd kept'.base (λ b. MayFold b []) → Stands agrees k kept' queue waiters table
+    IsInStep agrees k kept queue waiters table → kept' ≡ emptied kept →
+    IsSomeAnd kept'.base (λ b. MayFold b []) → IsInStep agrees k kept' queue waiters table
 stands_folded agrees alike k kept kept' queue waiters table s is may =
-    subst (λ y. Stands agrees k y queue waiters table) (sym now) (record {
+    subst (λ y. IsInStep agrees k y queue waiters table) (sym now) (record {
       range = s.range;
       began = refl;
       based = s.based;
@@ -86,10 +86,10 @@ stands_folded agrees alike k kept kept' queue waiters table s is may =
 
 pub stands_trimmed : (agrees : Counts → Type 0) → ((k l : Counts) → AreAlike k l → agrees k → agrees l) →
     (k : Header) (kept kept' : HistoryView) (queue : Line) (waiters : Sleepers) (table : List Seat)
-    (r : Result ℕ Fault) → Stands agrees k kept queue waiters table → OnOk r (kept' ≡ emptied kept) →
+    (r : Result ℕ Fault) → IsInStep agrees k kept queue waiters table → OnOk r (kept' ≡ emptied kept) →
     OnOk r (IsSomeAnd kept'.base (λ b. MayFold b [])) →
-    IfErr r (λ fault. (fault ≡ TrimFull) × (kept' ≡ kept)) → Stands agrees k kept' queue waiters table
+    IfErr r (λ fault. (fault ≡ TrimFull) × (kept' ≡ kept)) → IsInStep agrees k kept' queue waiters table
 stands_trimmed agrees alike k kept kept' queue waiters table (Ok n) s is may none =
     stands_folded agrees alike k kept kept' queue waiters table s is may
 stands_trimmed agrees alike k kept kept' queue waiters table (Err f) s is may none =
-    subst (λ y. Stands agrees k y queue waiters table) (sym none.1) s
+    subst (λ y. IsInStep agrees k y queue waiters table) (sym none.1) s

@@ -3,7 +3,7 @@ use Rattle.std.specs.Prelude.{◌≡◌, Bool, ◌⊎◌, ◌≤◌, ◌<◌, �
 use Rattle.acquire_queue.specs.Line.{Line}
 use Rattle.condition_queue.specs.Following.{JoinedBy, Keeps}
 use Rattle.condition_queue.specs.Sleepers.{Sleepers}
-use Rattle.deciding.specs.Situation.{IsHistory}
+use Rattle.deciding.specs.ObjectState.{IsHistory}
 use Rattle.history.specs.declared.entry.Entry.{Entry}
 use Rattle.history.specs.declared.entry.Mode.{Mode}
 use Rattle.history.specs.declared.entry.Word.TheVariants.{Refused}
@@ -80,7 +80,7 @@ IsTold old i r new = marks_of new ≡ marks_after (start_of old) old.entries i r
 
 -- The fields represent the history on its base. Hooks, queue, conditions and seats are as its entries make
 -- them, room is kept as it asks, and the head of the queue is marked if it could go.
-pub record Stands (agrees : Counts → Type 0) (k : Header) (kept : HistoryView) (queue : Line)
+pub record IsInStep (agrees : Counts → Type 0) (k : Header) (kept : HistoryView) (queue : Line)
     (waiters : Sleepers) (table : List Seat) : Type 0 where
   pub range : IsInRange k
   pub began : kept.base ≡ Some (base_on k kept)

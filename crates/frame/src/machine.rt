@@ -42,14 +42,14 @@ pub struct Core<H: Hooks + Drop> {
 }
 
 impl<H: Hooks + Drop> Model for Core<H> {
-    ghost use Rattle.frame.specs.Core.{CoreView, Stands, with_history};
+    ghost use Rattle.frame.specs.Core.{CoreView, IsInStep, with_history};
     ghost use Rattle.frame.specs.Seat.{told_in};
 
     ghost Value = { CoreView };
 
     ghost view = { λ a. with_history a.header a.history (told_in a.seats.items) };
 
-    ghost invariant = { λ a. Stands (H.agrees a.hooks) a.header a.history a.queue a.waiters a.seats.items };
+    ghost invariant = { λ a. IsInStep (H.agrees a.hooks) a.header a.history a.queue a.waiters a.seats.items };
 }
 
 impl<H: Hooks + Drop> Core<H> {

@@ -7,7 +7,7 @@ use Rattle.permit.specs.Deed.{Deed}
 use Rattle.word_lock.specs.Ticket.{LockId}
 use Rattle.history.specs.declared.entry.Mode.TheVariants.{X}
 use Rattle.history.specs.declared.step.Step.TheVariants.{Give}
-use Rattle.monitor.specs.Shown.{Shown, IsTrue}
+use Rattle.monitor.specs.Shown.{Shown, IsSound}
 use Rattle.monitor.specs.Stepping.{IsEntered, IsSame}
 use Rattle.monitor_fronts.specs.Holding.{gained, holds}
 use Rattle.monitor_fronts.specs.Told.{whether_of}
@@ -60,7 +60,7 @@ carries_some n (Full x) there some = some
 
 -- an owner's give takes one hold
 pub give_loses : (did : Deed → Type 0) (old new : Shown) (r : Result Entry Fault) →
-    is_lock old.lock.header.object ≡ true → IsSame old new → IsTrue old → IsTrue new →
+    is_lock old.lock.header.object ≡ true → IsSame old new → IsSound old → IsSound new →
     IsEntered did old (Give X 1) r new → 0 < holds old → holds new + 1 ≡ holds old
 give_loses did old new (Ok e) lock same was shows s some = give_takes did old new e lock same shows s some
 give_loses did old new (Err f) lock same was shows s some =

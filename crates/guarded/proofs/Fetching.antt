@@ -30,7 +30,7 @@ use Rattle.word_lock.specs.Ticket.{LockId}
 use Rattle.monitor.specs.Acquire.{AtOnce, EndsAtOnce, IsAcquire, IsAtOnce, IsEndFor, first_step, has_time, is_timed}
 use Rattle.monitor.specs.Lawful.{start_at, view_of}
 use Rattle.monitor.specs.Load.{Moves, free_of}
-use Rattle.monitor.specs.Shown.{Shown, IsTrue}
+use Rattle.monitor.specs.Shown.{Shown, IsSound}
 use Rattle.monitor.specs.Stepping.{IsEntered, IsSame}
 use Rattle.monitor.specs.Waits.{asking}
 use Rattle.monitor.specs.declared.how.How.{How}
@@ -174,7 +174,7 @@ acquire_left did old new n how (Err f) same x =
 
 -- the object of a history that a step found is that of the pool
 found_semaphore : (old new : Shown) → is_semaphore old.lock.header.object ≡ true → IsSame old new →
-    IsTrue new → (base : Base) → new.seen.base ≡ base → is_semaphore base.header.object ≡ true
+    IsSound new → (base : Base) → new.seen.base ≡ base → is_semaphore base.header.object ≡ true
 unfolding header_of
 found_semaphore old new semaphore same shows base is =
     ap (λ (b : Base). is_semaphore b.header.object) (sym is)
@@ -201,7 +201,7 @@ try_left did old new n (Err f) same s =
     }
 
 release_left : (did : Deed → Type 0) (old new : Shown) (n : ℕ) (r : Result Entry Fault) →
-    is_semaphore old.lock.header.object ≡ true → IsSame old new → IsTrue new →
+    is_semaphore old.lock.header.object ≡ true → IsSame old new → IsSound new →
     IsEntered did old (Give S n) r new → Left (asks.Release n) old r new
 release_left did old new n (Ok e) semaphore same shows s =
     let x = s.1 in
@@ -220,7 +220,7 @@ release_left did old new n (Err f) semaphore same shows s =
     }
 
 pub call_left : (did : Deed → Type 0) (asked : PoolCall) (old new : Shown) (r : Result Entry Fault) →
-    is_semaphore old.lock.header.object ≡ true → IsSame old new → IsTrue new → pool_call did asked old r new →
+    is_semaphore old.lock.header.object ≡ true → IsSame old new → IsSound new → pool_call did asked old r new →
     Left asked old r new
 call_left did (asks.Acquire n how) old new r semaphore same shows made = acquire_left did old new n how r same made
 call_left did (asks.Try n) old new r semaphore same shows made = try_left did old new n r same made

@@ -32,7 +32,7 @@ use Rattle.monitor.specs.Acquire.{AtOnce, EndsAtOnce, IsAcquire, IsAtOnce, IsEnd
 use Rattle.monitor.specs.Lawful.{start_at, view_of}
 use Rattle.monitor.specs.Load.{holds_of}
 use Rattle.monitor.specs.Observing.{IsLook}
-use Rattle.monitor.specs.Shown.{Shown, IsTrue}
+use Rattle.monitor.specs.Shown.{Shown, IsSound}
 use Rattle.monitor.specs.Stepping.{IsEntered, IsSame}
 use Rattle.monitor.specs.Waits.{asking}
 use Rattle.monitor.specs.declared.how.How.{How}
@@ -249,7 +249,7 @@ gave_words (Latch c) k i q l = cc
 
 -- what a reader's give records
 gave_is : (did : Deed → Type 0) (old new : Shown) (e : Entry) → is_lock old.lock.header.object ≡ true →
-    IsSame old new → IsTrue new → IsEntered did old (Give S 1) (Ok e) new → 0 < reads old → e ≡ plain old.seat word.Gave S 1
+    IsSame old new → IsSound new → IsEntered did old (Give S 1) (Ok e) new → 0 < reads old → e ≡ plain old.seat word.Gave S 1
 unfolding header_of
 gave_is did old new e lock same shows s some =
     let k = old.lock.header in
@@ -269,7 +269,7 @@ gave_is did old new e lock same shows s some =
 
 -- a reader's give takes one read hold where it tells so
 pub give_reads : (did : Deed → Type 0) (old new : Shown) (r : Result Entry Fault) →
-    is_lock old.lock.header.object ≡ true → IsSame old new → IsTrue new → IsEntered did old (Give S 1) r new →
+    is_lock old.lock.header.object ≡ true → IsSame old new → IsSound new → IsEntered did old (Give S 1) r new →
     0 < reads old → (reads new + gained (told_by (done_of r)) ≡ reads old) × (holds new ≡ holds old)
 give_reads did old new (Ok e) lock same shows s some =
     let k = old.lock.header in
@@ -298,7 +298,7 @@ looks_on old new l =
     (each S, each X)
 
 -- a reader that doesn't write finds the value under the lock
-pub value_lies : {T : Type 0} (p : Shown) (load : Slot T) → IsTrue p → 0 < reads p → holds p ≡ 0 →
+pub value_lies : {T : Type 0} (p : Shown) (load : Slot T) → IsSound p → 0 < reads p → holds p ≡ 0 →
     Rests load (counts (start_at p.seen) p.seen.entries) → load ≡ Empty → ⊥
 value_lies {T} p (Full x) shows some none rests is = cc
 value_lies {T} p Empty shows some none rests is =

@@ -2,7 +2,7 @@
 use Rattle.std.specs.Prelude.{◌≡◌, ◌<◌, ◌≤◌, ℕ, Bool, true, false, Result, Ok, Err}
 use Rattle.history.specs.declared.fault.Fault.{Fault}
 use Rattle.word_lock.specs.Point.{Before}
-use Rattle.monitor.specs.Shown.{Shown, IsTrue}
+use Rattle.monitor.specs.Shown.{Shown, IsSound}
 use Rattle.monitor.specs.Stepping.{IsSame}
 use Rattle.monitor_fronts.specs.Holding.{holds}
 use Rattle.guarded.specs.declared.full.WhenFull.{WhenFull}
@@ -25,7 +25,7 @@ pub record Locked {T : Type 0} (w : WhenFull) (call : Call) (old : Shown) (value
     Type 0 where
   pub same : IsSame old new
   pub begins : Before old.seen new.seen
-  pub shows : IsTrue new
+  pub shows : IsSound new
   pub tells : Tells w call old new (Ok true)
   pub once : holds new ≡ 1
   pub there : IsFull value
@@ -35,7 +35,7 @@ pub record NotLocked (w : WhenFull) (call : Call) (old : Shown) (told : Result B
     Type 0 where
   pub same : IsSame old new
   pub begins : Before old.seen new.seen
-  pub shows : IsTrue new
+  pub shows : IsSound new
   pub tells : Tells w call old new told
   pub free : holds new ≡ 0
 

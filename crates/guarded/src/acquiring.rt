@@ -1,6 +1,6 @@
 //! How items are taken from a pool, and put back.
 ghost use Rattle.std.specs.Prelude.{◌≡◌, ◌<◌, ◌≤◌, ◌^◌, ◌∷◌, [], IfErr, IfOk, IfSome, length};
-ghost use Rattle.monitor.specs.Shown.{IsTrue};
+ghost use Rattle.monitor.specs.Shown.{IsSound};
 ghost use Rattle.monitor.specs.Stepping.{IsSame};
 ghost use Rattle.monitor.specs.declared.how.How.TheVariants.{Interruptible, Plain, Timed};
 ghost use Rattle.guarded.specs.Asking.{Tells, told_of};
@@ -37,7 +37,7 @@ impl<T: Drop> Pool<T> {
         requires places { self.now.lock.header.seats ≤ P.seats parking.now }
         ensures same { IsSame pass.old pass.new }
         ensures begins { Before pass.old.seen pass.new.seen }
-        ensures shows { IsTrue pass.new }
+        ensures shows { IsSound pass.new }
         ensures items { IfOk result (λ items. length items ≡ n) }
         ensures told { Tells self.now.when_full (fetches (P.did parking.now) n Interruptible)
             pass.old pass.new (told_by result) }
@@ -58,7 +58,7 @@ impl<T: Drop> Pool<T> {
         requires places { self.now.lock.header.seats ≤ P.seats parking.now }
         ensures same { IsSame pass.old pass.new }
         ensures begins { Before pass.old.seen pass.new.seen }
-        ensures shows { IsTrue pass.new }
+        ensures shows { IsSound pass.new }
         ensures items { IfOk result (λ items. length items ≡ n) }
         ensures told { Tells self.now.when_full (fetches (P.did parking.now) n Plain) pass.old pass.new
             (told_by result) }
@@ -79,7 +79,7 @@ impl<T: Drop> Pool<T> {
         requires places { self.now.lock.header.seats ≤ P.seats parking.now }
         ensures same { IsSame pass.old pass.new }
         ensures begins { Before pass.old.seen pass.new.seen }
-        ensures shows { IsTrue pass.new }
+        ensures shows { IsSound pass.new }
         ensures items { IfOk result (λ got. IfSome got (λ items. length items ≡ n)) }
         ensures told { Tells self.now.when_full (tries_fetch (P.did parking.now) n) pass.old pass.new
             (told_of result) }
@@ -102,7 +102,7 @@ impl<T: Drop> Pool<T> {
         requires places { self.now.lock.header.seats ≤ P.seats parking.now }
         ensures same { IsSame pass.old pass.new }
         ensures begins { Before pass.old.seen pass.new.seen }
-        ensures shows { IsTrue pass.new }
+        ensures shows { IsSound pass.new }
         ensures items { IfOk result (λ got. IfSome got (λ items. length items ≡ n)) }
         ensures told { Tells self.now.when_full (fetches (P.did parking.now) n (Timed ms)) pass.old pass.new
             (told_of result) }
@@ -125,7 +125,7 @@ impl<T: Drop> Pool<T> {
         requires few { length items < 2 ^ 32 }
         ensures same { IsSame pass.old pass.new }
         ensures begins { Before pass.old.seen pass.new.seen }
-        ensures shows { IsTrue pass.new }
+        ensures shows { IsSound pass.new }
         ensures back { IfErr result (λ e. e.0 ≡ items) }
         ensures told { Tells self.now.when_full (gives_back (P.did parking.now) (length items))
             pass.old pass.new (told_release result) }
@@ -160,7 +160,7 @@ impl<T: Drop> Pool<T> {
         requires places { self.now.lock.header.seats ≤ P.seats parking.now }
         ensures same { IsSame pass.old pass.new }
         ensures begins { Before pass.old.seen pass.new.seen }
-        ensures shows { IsTrue pass.new }
+        ensures shows { IsSound pass.new }
         ensures told { Tells self.now.when_full (fetches (P.did parking.now) 1 Interruptible)
             pass.old pass.new (told_by result) }
     {
@@ -181,7 +181,7 @@ impl<T: Drop> Pool<T> {
         requires places { self.now.lock.header.seats ≤ P.seats parking.now }
         ensures same { IsSame pass.old pass.new }
         ensures begins { Before pass.old.seen pass.new.seen }
-        ensures shows { IsTrue pass.new }
+        ensures shows { IsSound pass.new }
         ensures told { Tells self.now.when_full (tries_fetch (P.did parking.now) 1) pass.old pass.new
             (told_of result) }
     {
@@ -204,7 +204,7 @@ impl<T: Drop> Pool<T> {
         requires places { self.now.lock.header.seats ≤ P.seats parking.now }
         ensures same { IsSame pass.old pass.new }
         ensures begins { Before pass.old.seen pass.new.seen }
-        ensures shows { IsTrue pass.new }
+        ensures shows { IsSound pass.new }
         ensures told { Tells self.now.when_full (fetches (P.did parking.now) 1 (Timed ms)) pass.old pass.new
             (told_of result) }
     {
@@ -228,7 +228,7 @@ impl<T: Drop> Pool<T> {
         requires places { self.now.lock.header.seats ≤ P.seats parking.now }
         ensures same { IsSame pass.old pass.new }
         ensures begins { Before pass.old.seen pass.new.seen }
-        ensures shows { IsTrue pass.new }
+        ensures shows { IsSound pass.new }
         ensures back { IfErr result (λ e. e.0 ≡ item) }
         ensures told { IsReleased self.now.when_full (gives_back (P.did parking.now) 1) pass.old
             pass.new result }
@@ -253,7 +253,7 @@ impl<T: Drop> Pool<T> {
         requires one { length items ≡ 1 }
         ensures same { IsSame pass.old pass.new }
         ensures begins { Before pass.old.seen pass.new.seen }
-        ensures shows { IsTrue pass.new }
+        ensures shows { IsSound pass.new }
         ensures back { IfErr result (λ e. items ≡ e.0 ∷ []) }
         ensures told { Tells self.now.when_full (gives_back (P.did parking.now) 1) pass.old pass.new
             (told_release result) }

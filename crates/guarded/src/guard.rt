@@ -3,7 +3,7 @@ ghost use Rattle.std.specs.Prelude.{◌≡◌, ◌+◌, ◌<◌, ℕ, true, fals
 ghost use Rattle.std.specs.Borrow.{sem};
 ghost use Rattle.history.specs.declared.entry.Mode.TheVariants.{X};
 ghost use Rattle.history.specs.declared.step.Step.TheVariants.{Give};
-ghost use Rattle.monitor.specs.Shown.{IsTrue};
+ghost use Rattle.monitor.specs.Shown.{IsSound};
 ghost use Rattle.monitor.specs.Stepping.{IsSame};
 ghost use Rattle.monitor.specs.declared.how.How.TheVariants.{Plain, Interruptible, Timed};
 ghost use Rattle.monitor_fronts.specs.Holding.{gained, holds};
@@ -198,7 +198,7 @@ impl<'a, T: Drop, P: Parking, R: Wait + Clock, H: Hooks + Drop> Guard<'a, T, P, 
         requires last { holds self.pass.now ≡ 1 }
         ensures free { holds self.exit.0.now ≡ 0 }
         ensures same { IsSame self.entry.pass.now self.exit.0.now }
-        ensures shows { IsTrue self.exit.0.now }
+        ensures shows { IsSound self.exit.0.now }
         ensures recorded { IsRecorded (P.did self.entry.parking.now) self.entry.pass.now (Give X 1) self.exit.0.now }
     {}
 }
@@ -209,7 +209,7 @@ impl<T: Drop, P: Parking, R: Wait + Clock, H: Hooks + Drop> Drop for Guard<'_, T
         requires last { holds self.pass.now ≡ 1 }
         ensures free { holds self.exit.0.now ≡ 0 }
         ensures same { IsSame self.entry.pass.now self.exit.0.now }
-        ensures shows { IsTrue self.exit.0.now }
+        ensures shows { IsSound self.exit.0.now }
         ensures recorded { IsRecorded (P.did self.entry.parking.now) self.entry.pass.now (Give X 1) self.exit.0.now }
     {
         let Guard {

@@ -15,7 +15,7 @@ ghost use Rattle.monitor.specs.declared.how.How.TheVariants.{Plain};
 ghost use Rattle.monitor.specs.Closing.{IsBased, IsMissing, IsWithin, left_by, passes_of, shares};
 ghost use Rattle.monitor.specs.declared.closing.CloseFault.TheVariants.{MissingPass};
 ghost use Rattle.monitor.specs.Lawful.{IsLawful, blank};
-ghost use Rattle.monitor.specs.Shown.{IsTrue, opening_passes};
+ghost use Rattle.monitor.specs.Shown.{IsSound, opening_passes};
 ghost use Rattle.monitor.specs.Stepping.{IsEntered, IsSame};
 ghost use Rattle.monitor_fronts.specs.Holding.{gained, holds};
 ghost use Rattle.guarded.specs.Asking.{IsRecorded, IsTake, Tells, acquires, awaits, call_of, gained_by, signal_step, signals};
@@ -152,10 +152,10 @@ impl<T: Drop, H: Hooks + Drop> Mutex<T, H> {
         reply: Result<Entry, Fault>,
     ) -> Result<bool, Fault>
         requires is_of { pass.old.lock ≡ self.now.lock }
-        requires shows { IsTrue pass.old }
+        requires shows { IsSound pass.old }
         ensures same { IsSame pass.old pass.new }
         ensures begins { Before pass.old.seen pass.new.seen }
-        ensures shows { IsTrue pass.new }
+        ensures shows { IsSound pass.new }
         ensures makes { MakesRoom self.now.when_full reply pass.old result pass.new }
         ensures keeps { holds pass.new ≡ holds pass.old }
     {
@@ -182,7 +182,7 @@ impl<T: Drop, H: Hooks + Drop> Mutex<T, H> {
         requires carries { Carries (holds pass.old) slot.old }
         ensures same { IsSame pass.old pass.new }
         ensures begins { Before pass.old.seen pass.new.seen }
-        ensures shows { IsTrue pass.new }
+        ensures shows { IsSound pass.new }
         ensures called { call_of (P.did parking.now) asked pass.old result pass.new }
         ensures gains { holds pass.new ≡ holds pass.old + gained_by asked result }
         ensures carries { Carries (holds pass.new) slot.new }
@@ -216,7 +216,7 @@ impl<T: Drop, H: Hooks + Drop> Mutex<T, H> {
         requires carries { Carries (holds pass.old) slot.old }
         ensures same { IsSame pass.old pass.new }
         ensures begins { Before pass.old.seen pass.new.seen }
-        ensures shows { IsTrue pass.new }
+        ensures shows { IsSound pass.new }
         ensures called { WithRoom self.now.when_full (call_of (P.did parking.now) asked) pass.old result pass.new }
         ensures gains { holds pass.new ≡ holds pass.old + gained_by asked result }
         ensures carries { Carries (holds pass.new) slot.new }
@@ -292,7 +292,7 @@ impl<T: Drop, H: Hooks + Drop> Mutex<T, H> {
         requires has { 0 < holds pass.old }
         requires carries { Carries (holds pass.old) slot.old }
         ensures same { IsSame pass.old pass.new }
-        ensures shows { IsTrue pass.new }
+        ensures shows { IsSound pass.new }
         ensures recorded { IsRecorded (P.did parking.now) pass.old (Give X 1) pass.new }
         ensures loses { holds pass.new + 1 ≡ holds pass.old }
         ensures carries { Carries (holds pass.new) slot.new }
@@ -318,7 +318,7 @@ impl<T: Drop, H: Hooks + Drop> Mutex<T, H> {
         requires guards { Guards self.now (P.seats parking.now) pass.old slot }
         requires last { holds pass.old ≡ 1 }
         ensures same { IsSame pass.old pass.new }
-        ensures shows { IsTrue pass.new }
+        ensures shows { IsSound pass.new }
         ensures recorded { IsRecorded (P.did parking.now) pass.old (Give X 1) pass.new }
         ensures free { holds pass.new ≡ 0 }
     {
@@ -392,7 +392,7 @@ impl<T: Drop, H: Hooks + Drop> Mutex<T, H> {
         requires is_of { pass.old.lock ≡ self.now.lock }
         requires places { self.now.lock.header.seats ≤ P.seats parking.now }
         ensures same { IsSame pass.old pass.new }
-        ensures shows { IsTrue pass.new }
+        ensures shows { IsSound pass.new }
         ensures signalled { IsEntered (P.did parking.now) pass.old (signal_step all condition) result pass.new }
         ensures keeps { holds pass.new ≡ holds pass.old }
     {
@@ -415,7 +415,7 @@ impl<T: Drop, H: Hooks + Drop> Mutex<T, H> {
         requires is_of { pass.old.lock ≡ self.now.lock }
         requires places { self.now.lock.header.seats ≤ P.seats parking.now }
         ensures same { IsSame pass.old pass.new }
-        ensures shows { IsTrue pass.new }
+        ensures shows { IsSound pass.new }
         ensures signalled { WithRoom self.now.when_full (signals (P.did parking.now) all condition) pass.old result pass.new }
         ensures keeps { holds pass.new ≡ holds pass.old }
     {

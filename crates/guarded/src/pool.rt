@@ -10,7 +10,7 @@ ghost use Rattle.history.specs.declared.fault.Fault.TheVariants.{OutOfMemory};
 ghost use Rattle.history.specs.declared.header.Object.TheVariants.{Semaphore};
 ghost use Rattle.monitor.specs.Acquire.{is_timed};
 ghost use Rattle.monitor.specs.Lawful.{blank};
-ghost use Rattle.monitor.specs.Shown.{IsTrue, opening_passes};
+ghost use Rattle.monitor.specs.Shown.{IsSound, opening_passes};
 ghost use Rattle.monitor.specs.Stepping.{IsSame};
 ghost use Rattle.monitor_fronts.specs.Told.{whether_of};
 ghost use Rattle.guarded.specs.Asking.{Tells, told_of};
@@ -165,10 +165,10 @@ impl<T: Drop> Pool<T> {
         reply: Result<Entry, Fault>,
     ) -> Result<bool, Fault>
         requires is_of { pass.old.lock ≡ self.now.lock }
-        requires shows { IsTrue pass.old }
+        requires shows { IsSound pass.old }
         ensures same { IsSame pass.old pass.new }
         ensures begins { Before pass.old.seen pass.new.seen }
-        ensures shows { IsTrue pass.new }
+        ensures shows { IsSound pass.new }
         ensures makes { MakesRoom self.now.when_full reply pass.old result pass.new }
     {
         if !lacks_room(self.when_full, reply) {
@@ -194,7 +194,7 @@ impl<T: Drop> Pool<T> {
         requires brings { length shelf.old.items ≡ brought_by asked }
         ensures same { IsSame pass.old pass.new }
         ensures begins { Before pass.old.seen pass.new.seen }
-        ensures shows { IsTrue pass.new }
+        ensures shows { IsSound pass.new }
         ensures called { pool_call (P.did parking.now) asked pass.old result pass.new }
         ensures answers { Answers asked (whether_of result) }
         ensures has { length shelf.new.items ≡ has_after asked (whether_of result) }
@@ -228,7 +228,7 @@ impl<T: Drop> Pool<T> {
         requires brings { length shelf.old.items ≡ brought_by asked }
         ensures same { IsSame pass.old pass.new }
         ensures begins { Before pass.old.seen pass.new.seen }
-        ensures shows { IsTrue pass.new }
+        ensures shows { IsSound pass.new }
         ensures called { WithRoom self.now.when_full (pool_call (P.did parking.now) asked) pass.old
             result pass.new }
         ensures answers { Answers asked (whether_of result) }
@@ -256,7 +256,7 @@ impl<T: Drop> Pool<T> {
         requires brings { brought_by asked ≡ 0 }
         ensures same { IsSame pass.old pass.new }
         ensures begins { Before pass.old.seen pass.new.seen }
-        ensures shows { IsTrue pass.new }
+        ensures shows { IsSound pass.new }
         ensures items { IfOk result (λ got. IfSome got (λ items. length items ≡ asked_by asked)) }
         ensures told { Tells self.now.when_full (pool_call (P.did parking.now) asked) pass.old pass.new
             (told_of result) }
@@ -296,7 +296,7 @@ impl<T: Drop> Pool<T> {
         requires untimed { is_timed how → ⊥ }
         ensures same { IsSame pass.old pass.new }
         ensures begins { Before pass.old.seen pass.new.seen }
-        ensures shows { IsTrue pass.new }
+        ensures shows { IsSound pass.new }
         ensures items { IfOk result (λ items. length items ≡ n) }
         ensures told { Tells self.now.when_full (fetches (P.did parking.now) n how) pass.old pass.new
             (told_by result) }

@@ -4,7 +4,7 @@ ghost use Rattle.std.specs.Fn.{FnOnceReturnsAt};
 ghost use Rattle.monitor.specs.Acquire.{is_timed};
 ghost use Rattle.monitor.specs.declared.how.How.TheVariants.{Plain};
 ghost use Rattle.monitor.specs.Observing.{IsLook};
-ghost use Rattle.monitor.specs.Shown.{IsTrue};
+ghost use Rattle.monitor.specs.Shown.{IsSound};
 ghost use Rattle.monitor.specs.Stepping.{IsSame};
 ghost use Rattle.monitor_fronts.specs.Holding.{gained, holds};
 ghost use Rattle.monitor_fronts.specs.Told.{whether_of};
@@ -46,7 +46,7 @@ impl<T: Drop, H: Hooks + Drop> Mutex<T, H> {
         requires carries { Carries (holds pass.old) slot.old }
         ensures same { IsSame pass.old pass.new }
         ensures begins { Before pass.old.seen pass.new.seen }
-        ensures shows { IsTrue pass.new }
+        ensures shows { IsSound pass.new }
         ensures called { reading_of (P.did parking.now) asked pass.old result pass.new }
         ensures gains { GainsReads pass.old (whether_of result) pass.new }
         ensures carries { Carries (holds pass.new) slot.new }
@@ -76,7 +76,7 @@ impl<T: Drop, H: Hooks + Drop> Mutex<T, H> {
         requires carries { Carries (holds pass.old) slot.old }
         ensures same { IsSame pass.old pass.new }
         ensures begins { Before pass.old.seen pass.new.seen }
-        ensures shows { IsTrue pass.new }
+        ensures shows { IsSound pass.new }
         ensures called { WithRoom self.now.when_full (reading_of (P.did parking.now) asked) pass.old result pass.new }
         ensures gains { GainsReads pass.old (whether_of result) pass.new }
         ensures carries { Carries (holds pass.new) slot.new }
@@ -102,7 +102,7 @@ impl<T: Drop, H: Hooks + Drop> Mutex<T, H> {
         requires free { holds pass.old ≡ 0 }
         ensures same { IsSame pass.old pass.new }
         ensures begins { Before pass.old.seen pass.new.seen }
-        ensures shows { IsTrue pass.new }
+        ensures shows { IsSound pass.new }
         ensures tells { Tells self.now.when_full (reading_of (P.did parking.now) asked) pass.old pass.new (told_if result) }
         ensures gains { GainsReads pass.old (told_if result) pass.new }
     {
@@ -129,7 +129,7 @@ impl<T: Drop, H: Hooks + Drop> Mutex<T, H> {
         requires free { holds pass.old ≡ 0 }
         ensures same { IsSame pass.old pass.new }
         ensures begins { Before pass.old.seen pass.new.seen }
-        ensures shows { IsTrue pass.new }
+        ensures shows { IsSound pass.new }
         ensures tells { Tells self.now.when_full (reads_by (P.did parking.now) how) pass.old pass.new (told_by result) }
         ensures gains { GainsReads pass.old (told_by result) pass.new }
     {
@@ -170,7 +170,7 @@ impl<T: Drop, H: Hooks + Drop> Mutex<T, H> {
         requires has { 0 < reads pass.old }
         requires carries { Carries (holds pass.old) slot.old }
         ensures same { IsSame pass.old pass.new }
-        ensures shows { IsTrue pass.new }
+        ensures shows { IsSound pass.new }
         ensures given { GivesRead (P.did parking.now) pass.old result pass.new }
         ensures loses { reads pass.new + gained (told_by result) ≡ reads pass.old }
         ensures keeps { holds pass.new ≡ holds pass.old }
@@ -189,7 +189,7 @@ impl<T: Drop, H: Hooks + Drop> Mutex<T, H> {
         requires writes_not { holds pass.old ≡ 0 }
         requires callable { F.IsAlwaysCallable look }
         ensures looked { IsLook pass.old pass.new }
-        ensures shows { IsTrue pass.new }
+        ensures shows { IsSound pass.new }
         ensures reads { reads pass.new ≡ reads pass.old }
         ensures keeps { holds pass.new ≡ holds pass.old }
         ensures saw { Saw (λ value answer. FnOnceReturnsAt F.FnOnce look value answer) pass.new result }

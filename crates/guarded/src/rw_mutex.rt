@@ -18,7 +18,7 @@ ghost use Rattle.monitor.specs.Closing.{IsBased, IsMissing, IsWithin, left_by, p
 ghost use Rattle.monitor.specs.declared.closing.CloseFault.TheVariants.{MissingPass};
 ghost use Rattle.monitor.specs.Lawful.{IsLawful, blank};
 ghost use Rattle.monitor.specs.Observing.{IsLook};
-ghost use Rattle.monitor.specs.Shown.{IsTrue, opening_passes};
+ghost use Rattle.monitor.specs.Shown.{IsSound, opening_passes};
 ghost use Rattle.monitor.specs.Stepping.{IsSame};
 ghost use Rattle.monitor_fronts.specs.Holding.{gained, holds};
 ghost use Rattle.guarded.specs.Asking.{IsRecorded, Tells, acquires, tries};
@@ -263,7 +263,7 @@ impl<T: Drop> RwMutex<T> {
         requires free { holds pass.old ≡ 0 }
         ensures same { IsSame pass.old pass.new }
         ensures begins { Before pass.old.seen pass.new.seen }
-        ensures shows { IsTrue pass.new }
+        ensures shows { IsSound pass.new }
         ensures tells { Tells self.now.when_full (reads_by (P.did parking.now) Plain) pass.old pass.new (told_by result) }
         ensures gains { GainsReads pass.old (told_by result) pass.new }
     {
@@ -283,7 +283,7 @@ impl<T: Drop> RwMutex<T> {
         requires free { holds pass.old ≡ 0 }
         ensures same { IsSame pass.old pass.new }
         ensures begins { Before pass.old.seen pass.new.seen }
-        ensures shows { IsTrue pass.new }
+        ensures shows { IsSound pass.new }
         ensures tells { Tells self.now.when_full (reads_by (P.did parking.now) Interruptible) pass.old pass.new (told_by result) }
         ensures gains { GainsReads pass.old (told_by result) pass.new }
     {
@@ -303,7 +303,7 @@ impl<T: Drop> RwMutex<T> {
         requires free { holds pass.old ≡ 0 }
         ensures same { IsSame pass.old pass.new }
         ensures begins { Before pass.old.seen pass.new.seen }
-        ensures shows { IsTrue pass.new }
+        ensures shows { IsSound pass.new }
         ensures tells { Tells self.now.when_full (tries_read (P.did parking.now)) pass.old pass.new (told_if result) }
         ensures gains { GainsReads pass.old (told_if result) pass.new }
     {
@@ -325,7 +325,7 @@ impl<T: Drop> RwMutex<T> {
         requires free { holds pass.old ≡ 0 }
         ensures same { IsSame pass.old pass.new }
         ensures begins { Before pass.old.seen pass.new.seen }
-        ensures shows { IsTrue pass.new }
+        ensures shows { IsSound pass.new }
         ensures tells { Tells self.now.when_full (reads_by (P.did parking.now) (Timed ms)) pass.old pass.new (told_if result) }
         ensures gains { GainsReads pass.old (told_if result) pass.new }
     {
@@ -343,7 +343,7 @@ impl<T: Drop> RwMutex<T> {
         requires free { holds pass.old ≡ 0 }
         requires callable { F.IsAlwaysCallable look }
         ensures looked { IsLook pass.old pass.new }
-        ensures shows { IsTrue pass.new }
+        ensures shows { IsSound pass.new }
         ensures reads { reads pass.new ≡ reads pass.old }
         ensures keeps { holds pass.new ≡ holds pass.old }
         ensures saw { Saw (λ value answer. FnOnceReturnsAt F.FnOnce look value answer) pass.new result }
@@ -364,7 +364,7 @@ impl<T: Drop> RwMutex<T> {
         requires reads { 0 < reads pass.old }
         requires free { holds pass.old ≡ 0 }
         ensures same { IsSame pass.old pass.new }
-        ensures shows { IsTrue pass.new }
+        ensures shows { IsSound pass.new }
         ensures given { GivesRead (P.did parking.now) pass.old result pass.new }
         ensures loses { reads pass.new + gained (told_by result) ≡ reads pass.old }
         ensures keeps { holds pass.new ≡ holds pass.old }
@@ -400,7 +400,7 @@ impl<T: Drop, P: Parking, R: Wait + Clock> Guard<'_, T, P, R, RwHooks> {
         ensures free { holds self.exit.0.now ≡ 0 }
         ensures reads { reads self.exit.0.now ≡ reads self.entry.pass.now }
         ensures same { IsSame self.entry.pass.now self.exit.0.now }
-        ensures shows { IsTrue self.exit.0.now }
+        ensures shows { IsSound self.exit.0.now }
         ensures recorded { IsRecorded (P.did self.entry.parking.now) self.entry.pass.now (Give X 1) self.exit.0.now }
     {}
 }

@@ -8,7 +8,7 @@ use Rattle.std.proofs.lemmas.List.{length-append, length-replicate, ext_get_or, 
 use Rattle.history.specs.declared.arrival.Arrival.{Arrival}
 use Rattle.history.specs.declared.base.SeatBase.{SeatBase}
 use Rattle.history.specs.declared.base.Sleeper.{Sleeper}
-use Rattle.history.specs.declared.base.Standing.{Standing}
+use Rattle.history.specs.declared.base.LinePlace.{LinePlace}
 use Rattle.history.specs.declared.entry.End.TheVariants as end
 use Rattle.history.specs.declared.entry.Entry.{Entry}
 use Rattle.history.specs.declared.entry.Mode.{Mode}
@@ -453,13 +453,13 @@ few_counted (Semaphore p c) b v = let z = v.1 in omega (arith, z)
 few_counted (Latch c) b v = v.1
 
 -- the sleep of each that stands in a line once is found there
-abbrev kept_of : Standing → Sleep
+abbrev kept_of : LinePlace → Sleep
 kept_of p = record { condition = p.condition; holds = p.holds; how = p.how }
 
-abbrev FoundAs : (ℕ → Option Sleep) → Standing → Type 0
+abbrev FoundAs : (ℕ → Option Sleep) → LinePlace → Type 0
 FoundAs find p = p.who.back ≡ true → find p.who.seat ≡ Some (kept_of p)
 
-past_one : (p : Standing) (find : ℕ → Option Sleep) (q : List Standing) →
+past_one : (p : LinePlace) (find : ℕ → Option Sleep) (q : List LinePlace) →
     times p.who.seat (seats_of (map (λ p. p.who) q)) ≡ 0 → AllByRecursion (FoundAs find) q →
     AllByRecursion (FoundAs (λ i. cond (p.who.back && eqb p.who.seat i) (Some (kept_of p)) (find i))) q
 past_one p find [] z all = tt
@@ -478,7 +478,7 @@ past_one p find (x ∷ q) z all = (λ r. other r (all.0 r), past_one p find q (o
         by true = rw apart f
         by false = f
 
-each_found : (q : List Standing) → ((i : ℕ) → times i (seats_of (map (λ p. p.who) q)) ≤ 1) →
+each_found : (q : List LinePlace) → ((i : ℕ) → times i (seats_of (map (λ p. p.who) q)) ≤ 1) →
     AllByRecursion (FoundAs (λ i. sleep_in_line i q)) q
 each_found [] one = tt
 each_found (p ∷ q) one = (
@@ -492,7 +492,7 @@ each_found (p ∷ q) one = (
         let s = once_same p.who.seat p.who.seat refl in
         omega (arith, o, s)
 
-pub standing_again : (b : Base) (p : Standing) → StandsWell b p → FoundAs (λ i. sleep_in_line i b.line) p →
+pub standing_again : (b : Base) (p : LinePlace) → StandsWell b p → FoundAs (λ i. sleep_in_line i b.line) p →
     standing_after b [] p.who ≡ p
 standing_again b p well found =
     ⊎_elim
@@ -510,7 +510,7 @@ standing_again b p well found =
     (found comes.0))
     well
 
-each_again : (b : Base) (q : List Standing) → AllByRecursion (StandsWell b) q →
+each_again : (b : Base) (q : List LinePlace) → AllByRecursion (StandsWell b) q →
     AllByRecursion (FoundAs (λ i. sleep_in_line i b.line)) q →
     AllByRecursion (λ p. standing_after b [] p.who ≡ p) q
 each_again b [] well found = tt
@@ -524,7 +524,7 @@ line_once b good i = let w = waits_once b good i in omega (arith, w)
 pub all_again : (b : Base) → IsGood b → AllByRecursion (λ p. standing_after b [] p.who ≡ p) b.line
 all_again b good = each_again b b.line good.line (each_found b.line (line_once b good))
 
-line_again : (b : Base) (q : List Standing) → AllByRecursion (λ p. standing_after b [] p.who ≡ p) q →
+line_again : (b : Base) (q : List LinePlace) → AllByRecursion (λ p. standing_after b [] p.who ≡ p) q →
     map (standing_after b []) (map (λ p. p.who) q) ≡ q
 line_again b [] again = refl
 line_again b (p ∷ q) again = λ j. again.0 j ∷ line_again b q again.1 j

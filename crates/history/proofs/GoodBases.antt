@@ -4,7 +4,7 @@ use Rattle.std.specs.List.{AllByRecursion}
 use Rattle.std.proofs.lemmas.Bool.{cases_eq, eqb-true, eq-eqb, or_right}
 use Rattle.history.specs.declared.arrival.Arrival.{Arrival}
 use Rattle.history.specs.declared.base.Sleeper.{Sleeper}
-use Rattle.history.specs.declared.base.Standing.{Standing}
+use Rattle.history.specs.declared.base.LinePlace.{LinePlace}
 use Rattle.history.specs.declared.entry.End.TheVariants as end
 use Rattle.history.specs.declared.entry.Mode.TheVariants.{X}
 use Rattle.history.specs.declared.header.Object.{Object}
@@ -74,7 +74,7 @@ found_below b i c (suc n) d l here none =
         ∙ ih (omega (arith, ne, l)) (λ x m. none x (omega (arith, m)))
 
 -- one who is in no line comes back from nowhere
-not_in_line : (i : ℕ) (q : List Standing) → times i (seats_of (map (λ p. p.who) q)) ≡ 0 →
+not_in_line : (i : ℕ) (q : List LinePlace) → times i (seats_of (map (λ p. p.who) q)) ≡ 0 →
     sleep_in_line i q ≡ None
 not_in_line i [] z = refl
 not_in_line i (p ∷ q) z =
@@ -90,7 +90,7 @@ not_in_line i (p ∷ q) z =
     by false t e ih = ih
 
 -- who comes back in a line is found there with a sleep that it gave up its holds for
-abbrev comes_in : ℕ → List Standing → Bool
+abbrev comes_in : ℕ → List LinePlace → Bool
 comes_in i [] = false
 comes_in i (p ∷ q) = (p.who.back && eqb p.who.seat i) || comes_in i q
 
@@ -98,7 +98,7 @@ record WellFound (b : Base) (i : ℕ) (w : Sleep) : Type 0 where
   gave : GaveUp b i w.condition w.holds
   how : w.how ≢ end.None
 
-found_in_line : (b : Base) (i : ℕ) (q : List Standing) → AllByRecursion (StandsWell b) q →
+found_in_line : (b : Base) (i : ℕ) (q : List LinePlace) → AllByRecursion (StandsWell b) q →
     comes_in i q ≡ true → (w : Sleep) × (sleep_in_line i q ≡ Some w) × WellFound b i w
 found_in_line b i [] all t = cc
 found_in_line b i (p ∷ q) all t =
@@ -217,7 +217,7 @@ module _ (b : Base) (good : IsGood b) where
         how = ap (λ (w : Sleep). w.how) found.2;
       }
 
-  comes_well : (p : Standing) → StandsWell b p → comes_in p.who.seat b.line ≡ true →
+  comes_well : (p : LinePlace) → StandsWell b p → comes_in p.who.seat b.line ≡ true →
       SavedIfBack (based b) [] p.who
   comes_well p well t r =
       ⊎_elim (λ asks. let f = asks.0 in absurd (cc (r, f)))
@@ -235,7 +235,7 @@ module _ (b : Base) (good : IsGood b) where
       slept : last_sleep (based b) [] p.who.seat ≡ found.0
       slept = ap (λ w. or_awake (either w (sleep_below b.header.conditions b p.who.seat))) found.1
 
-  each_comes_well : (q : List Standing) → AllByRecursion (StandsWell b) q →
+  each_comes_well : (q : List LinePlace) → AllByRecursion (StandsWell b) q →
       ((i : ℕ) → comes_in i q ≡ true → comes_in i b.line ≡ true) →
       AllByRecursion (SavedIfBack (based b) []) (map (λ p. p.who) q)
   each_comes_well [] all up = tt

@@ -9,7 +9,7 @@ use Rattle.std.proofs.lemmas.List.{get_or_past}
 use Rattle.history.specs.declared.limits.TheConstants.{MOST_AMOUNT, MOST_FOLDED}
 use Rattle.history.specs.declared.arrival.Arrival.{Arrival}
 use Rattle.history.specs.declared.base.Sleeper.{Sleeper}
-use Rattle.history.specs.declared.base.Standing.{Standing}
+use Rattle.history.specs.declared.base.LinePlace.{LinePlace}
 use Rattle.history.specs.declared.entry.Entry.{Entry}
 use Rattle.history.specs.declared.entry.Mode.{Mode}
 use Rattle.history.specs.declared.entry.Mode.TheVariants.{X, S}
@@ -193,7 +193,7 @@ module _ (b : Base) (good : IsGood b) where
       by true q = joining_owns_nothing (based b) h x e (owned_behind h q legal s) q l k.idle made w
       by false q = owns_nothing h legal b.header.object refl good.held q e.seat
 
-  queues_at_first : (q : List Standing) → AllByRecursion (StandsWell b) q →
+  queues_at_first : (q : List LinePlace) → AllByRecursion (StandsWell b) q →
       AllByRecursion (Queues (based b) []) (map (λ p. p.who) q)
   queues_at_first [] all = tt
   queues_at_first (p ∷ q) all = (
@@ -212,7 +212,7 @@ module _ (b : Base) (good : IsGood b) where
       queues_next (based b) h e (known (based b) h legal.0.0 e legal.0.1)
       (queued_owns h e legal.0.0 legal.1 s.1 s.0 legal.0.1) (queues h legal.1 s.1)
 
-  seated_at_first : (q : List Standing) → AllByRecursion (StandsWell b) q →
+  seated_at_first : (q : List LinePlace) → AllByRecursion (StandsWell b) q →
       LineSeated b.header.seats (map (λ p. p.who) q)
   seated_at_first [] all = tt
   seated_at_first (p ∷ q) all = (

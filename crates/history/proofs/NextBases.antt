@@ -8,7 +8,7 @@ use Rattle.history.specs.declared.limits.TheConstants.{MOST_FOLDED}
 use Rattle.history.specs.declared.arrival.Arrival.{Arrival}
 use Rattle.history.specs.declared.base.SeatBase.{SeatBase}
 use Rattle.history.specs.declared.base.Sleeper.{Sleeper}
-use Rattle.history.specs.declared.base.Standing.{Standing}
+use Rattle.history.specs.declared.base.LinePlace.{LinePlace}
 use Rattle.history.specs.declared.entry.Entry.{Entry}
 use Rattle.history.specs.declared.entry.Mode.TheVariants.{X, S}
 use Rattle.history.specs.declared.entry.Word.{Word}
@@ -109,7 +109,7 @@ standing_left : (b : Base) (e : Entry) (a : Arrival) → e.seat ≢ a.seat →
 standing_left b e a ne = ap (λ w. stands_from a (cond a.back w awake)) (sleep_left b e a.seat ne)
 
 -- whoever stays in line
-stays_as : (e : Entry) (q : List Standing) →
+stays_as : (e : Entry) (q : List LinePlace) →
     filter (stays e.word e.seat) (map (λ p. p.who) q) ≡ map (λ p. p.who) (filter (stays_there e) q)
 stays_as e [] = refl
 stays_as e (p ∷ q) = by (stays_there e p) (stays_as e q)
@@ -122,7 +122,7 @@ stays_as e (p ∷ q) = by (stays_there e p) (stays_as e q)
     by true ih = ap (λ l. p.who ∷ l) ih
     by false ih = ih
 
-left_again : (b : Base) (e : Entry) (q : List Standing) →
+left_again : (b : Base) (e : Entry) (q : List LinePlace) →
     AllByRecursion (λ a. e.seat ≢ a.seat) (map (λ p. p.who) q) →
     AllByRecursion (λ p. standing_after b [] p.who ≡ p) q →
     map (standing_after b (e ∷ [])) (map (λ p. p.who) q) ≡ q

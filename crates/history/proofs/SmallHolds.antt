@@ -3,7 +3,7 @@ use Rattle.std.proofs.Common.{◌≡◌, ⊎_elim, ℕ, ◌+◌, ◌*◌, ◌<�
 use Rattle.std.specs.List.{AllByRecursion}
 use Rattle.history.specs.declared.limits.TheConstants.{MOST_AMOUNT, MOST_BASE_PERMITS, MOST_HOLDS}
 use Rattle.history.specs.declared.arrival.Arrival.{Arrival}
-use Rattle.history.specs.declared.base.Standing.{Standing}
+use Rattle.history.specs.declared.base.LinePlace.{LinePlace}
 use Rattle.history.specs.declared.entry.Entry.{Entry}
 use Rattle.history.specs.declared.entry.Mode.TheVariants.{X, S}
 use Rattle.history.specs.declared.header.Object.{Object}
@@ -71,7 +71,7 @@ module _ (b : Base) (h : List Entry) (can : CanFold b h) where
       held (based b) h i S ≤ MOST_BASE_PERMITS + MOST_AMOUNT * length h
   shared_small range i l = shared_of range b.header.object refl can.good.held i l
 
-pub stand_few : (b : Base) (q : List Standing) → AllByRecursion (StandsWell b) q →
+pub stand_few : (b : Base) (q : List LinePlace) → AllByRecursion (StandsWell b) q →
     AllByRecursion AsksFew (map (λ p. p.who) q)
 stand_few b [] all = tt
 stand_few b (p ∷ q) all = (

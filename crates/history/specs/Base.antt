@@ -6,7 +6,7 @@ use Rattle.std.specs.Prelude.{ℕ, zero, suc, ◌+◌, ◌-◌, ◌==◌, ◌&&�
 use Rattle.history.specs.declared.arrival.Arrival.{Arrival}
 use Rattle.history.specs.declared.base.SeatBase.{SeatBase}
 use Rattle.history.specs.declared.base.Sleeper.{Sleeper}
-use Rattle.history.specs.declared.base.Standing.{Standing}
+use Rattle.history.specs.declared.base.LinePlace.{LinePlace}
 use Rattle.history.specs.declared.entry.End.TheVariants as end
 use Rattle.history.specs.declared.entry.Entry.{Entry}
 use Rattle.history.specs.declared.entry.Mode.{Mode}
@@ -25,7 +25,7 @@ pub record Base : Type 0 where
   pub seats : List SeatBase  -- what each seat has, in order
   pub unheld : ℕ  -- permits released beyond what was held
   pub count : ℕ  -- the count of a latch
-  pub line : List Standing  -- who waits in the queue
+  pub line : List LinePlace  -- who waits in the queue
   pub sleepers : List (List Sleeper)  -- who waits on each condition, in order
 
 -- a value for each number below n
@@ -62,7 +62,7 @@ holds_of has X = has.exclusive
 holds_of has S = has.shared
 
 -- the sleep from which a seat in the queue comes back
-abbrev pub sleep_in_line : ℕ → List Standing → Option Sleep
+abbrev pub sleep_in_line : ℕ → List LinePlace → Option Sleep
 sleep_in_line i [] = None
 sleep_in_line i (p ∷ rest) =
     if p.who.back && (p.who.seat == i) then
@@ -114,10 +114,10 @@ seat_after b h i =
     record { calls = calls_of b h i; exclusive = held (based b) h i X; shared = held (based b) h i S }
 
 -- a waiter in the queue, with its sleep if it comes back from one
-abbrev pub stands_from : Arrival → Sleep → Standing
+abbrev pub stands_from : Arrival → Sleep → LinePlace
 stands_from a w = record { who = a; condition = w.condition; holds = w.holds; how = w.how }
 
-abbrev pub standing_after : Base → List Entry → Arrival → Standing
+abbrev pub standing_after : Base → List Entry → Arrival → LinePlace
 standing_after b h a = stands_from a (if a.back then last_sleep (based b) h a.seat else awake)
 
 abbrev pub sleeper_after : Base → List Entry → ℕ → Sleeper

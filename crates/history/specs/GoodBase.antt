@@ -3,7 +3,7 @@ use Rattle.std.specs.Prelude.{◌≡◌, ◌≢◌, ◌⊎◌, ◌<◌, ◌≤�
 use Rattle.std.specs.List.{AllByRecursion}
 use Rattle.history.specs.declared.limits.TheConstants.{MOST_AMOUNT, MOST_FOLDED, MOST_BASE_PERMITS}
 use Rattle.history.specs.declared.base.Sleeper.{Sleeper}
-use Rattle.history.specs.declared.base.Standing.{Standing}
+use Rattle.history.specs.declared.base.LinePlace.{LinePlace}
 use Rattle.history.specs.declared.entry.End.TheVariants as end
 use Rattle.history.specs.declared.entry.Mode.{Mode}
 use Rattle.history.specs.declared.entry.Mode.TheVariants.{X, S}
@@ -59,7 +59,7 @@ pub record GaveUp (b : Base) (i c n : ℕ) : Type 0 where
 
 -- An acquire in the queue asks for a mode and amount that the object has. Its seat owns nothing, and comes
 -- back from no sleep.
-pub record Asks (b : Base) (p : Standing) : Type 0 where
+pub record Asks (b : Base) (p : LinePlace) : Type 0 where
   pub seat : p.who.seat < b.header.seats
   pub mode : lacks_mode b.header.object p.who.mode ≡ false
   pub amount : is_bad_number b.header.object p.who.n ≡ false
@@ -69,12 +69,12 @@ pub record Asks (b : Base) (p : Standing) : Type 0 where
   pub how : p.how ≡ end.None
 
 -- A waiter that comes back from a condition gave up its holds, and its wait there has an end.
-pub record Returns (b : Base) (p : Standing) : Type 0 where
+pub record Returns (b : Base) (p : LinePlace) : Type 0 where
   pub who : p.who ≡ coming_back p.who.seat
   pub gave : GaveUp b p.who.seat p.condition p.holds
   pub how : p.how ≢ end.None
 
-abbrev pub StandsWell : Base → Standing → Type 0
+abbrev pub StandsWell : Base → LinePlace → Type 0
 StandsWell b p = ((p.who.back ≡ false) × Asks b p) ⊎ ((p.who.back ≡ true) × Returns b p)
 
 abbrev pub SleepsWell : Base → ℕ → Sleeper → Type 0

@@ -3,7 +3,7 @@
 use Rattle.std.specs.Prelude.{ℕ, ◌+◌, ◌-◌, ◌==◌, Bool, false, ◌&&◌, not, if◌then◌else◌, List, [], ◌∷◌, ◌++◌, map, filter, take, drop, set}
 use Rattle.history.specs.declared.base.SeatBase.{SeatBase}
 use Rattle.history.specs.declared.base.Sleeper.{Sleeper}
-use Rattle.history.specs.declared.base.Standing.{Standing}
+use Rattle.history.specs.declared.base.LinePlace.{LinePlace}
 use Rattle.history.specs.declared.entry.End.TheVariants as end
 use Rattle.history.specs.declared.entry.Entry.{Entry}
 use Rattle.history.specs.declared.entry.Mode.TheVariants.{X, S}
@@ -32,16 +32,16 @@ count_then Counted n = n - 1
 count_then _ n = n
 
 -- whether a waiter stays in the queue
-abbrev pub stays_there : Entry → Standing → Bool
+abbrev pub stays_there : Entry → LinePlace → Bool
 stays_there e p = not (ends_arrival e.word && (e.seat == p.who.seat))
 
 -- a waiter that was signalled on a condition
-abbrev pub signalled_on : ℕ → Sleeper → Standing
+abbrev pub signalled_on : ℕ → Sleeper → LinePlace
 signalled_on c x =
     record { who = coming_back x.seat; condition = c; holds = x.holds; how = end.Signalled }
 
 -- who joins the queue, if xs are the waiters of the entry's condition
-abbrev pub joins_from : Word → Entry → List Sleeper → List Standing
+abbrev pub joins_from : Word → Entry → List Sleeper → List LinePlace
 joins_from Queued e xs =
     stands_from (record { seat = e.seat; mode = e.mode; n = e.n; back = false }) awake ∷ []
 joins_from Signal e xs = map (signalled_on e.at) (take e.n xs)
@@ -56,7 +56,7 @@ joins_from Lapse e xs =
     ∷ []
 joins_from _ e xs = []
 
-abbrev pub joins_line : Base → Word → Entry → List Standing
+abbrev pub joins_line : Base → Word → Entry → List LinePlace
 joins_line b w e = joins_from w e (sleepers_of b e.at)
 
 -- the waiters of the entry's condition

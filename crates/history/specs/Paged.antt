@@ -28,7 +28,7 @@ pub record AreKept (others : List (List Entry)) (full : ℕ) (hand : List Entry)
   pub few : 1024 * length others + room < 2 ^ 33
 
 -- What a history keeps besides its pages agrees with them.
-pub record IsKept (pages : PagesView) (cap owed calls : ℕ) : Type 0 where
+pub record HasRoomOwed (pages : PagesView) (cap owed calls : ℕ) : Type 0 where
   pub reserved : length pages.entries + owed ≤ pages.places
   pub within_cap : length pages.entries + owed ≤ cap
   pub short : cap < 2 ^ 32

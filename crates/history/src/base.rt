@@ -33,7 +33,7 @@ pub struct SeatBase {
 /// A waiter in the queue. For a waiter that comes back from a condition the base keeps the condition, the
 /// holds that it gave up, and how its wait there ended. These are 0, 0 and `None` for an acquire.
 #[derive(Clone, Copy, Debug, PartialEq, Eq)]
-pub struct Standing {
+pub struct LinePlace {
     pub who: Arrival,
     pub condition: u8,
     pub holds: u32,
@@ -62,7 +62,7 @@ pub struct Base {
     /// The count of a latch.
     pub count: u32,
     /// The waiters in the queue, the first one first.
-    pub line: Vec<Standing>,
+    pub line: Vec<LinePlace>,
     /// The waiters of each condition, the longest waiting first.
     pub sleepers: Vec<Vec<Sleeper>>,
 }

@@ -10,7 +10,7 @@ ghost use Rattle.history.specs.NextBase.{count_then, joins_from, seat_then, sign
 ghost use Rattle.history.specs.Object.{is_semaphore};
 
 use crate::arrival::Arrival;
-use crate::base::{SeatBase, Sleeper, Standing};
+use crate::base::{SeatBase, Sleeper, LinePlace};
 use crate::entries::ends_call;
 use crate::entry::{End, Entry, Mode, Word};
 use crate::header::Object;
@@ -72,7 +72,7 @@ fn ends_arrival(word: Word) -> bool
 }
 
 /// Takes the entry's seat out of the queue, if the entry ends its wait there.
-pub(crate) fn leave_line(line: &mut Vec<Standing>, entry: Entry)
+pub(crate) fn leave_line(line: &mut Vec<LinePlace>, entry: Entry)
     ensures items { line.new.items ≡ filter (stays_there entry) line.old.items }
     ensures capacity { vec_capacity line.new ≡ vec_capacity line.old }
 {
@@ -81,7 +81,7 @@ pub(crate) fn leave_line(line: &mut Vec<Standing>, entry: Entry)
 }
 
 /// Appends the waiters that the entry adds to the queue. `asleep` are the waiters of its condition.
-pub(crate) fn join_line(line: &mut Vec<Standing>, asleep: &[Sleeper], entry: Entry)
+pub(crate) fn join_line(line: &mut Vec<LinePlace>, asleep: &[Sleeper], entry: Entry)
     requires { length (line.old.items ++ joins_from entry.word entry asleep.now) ≤ vec_capacity line.old }
     ensures items { line.new.items ≡ line.old.items ++ joins_from entry.word entry asleep.now }
     ensures capacity { vec_capacity line.new ≡ vec_capacity line.old }
@@ -99,10 +99,10 @@ pub(crate) fn join_line(line: &mut Vec<Standing>, asleep: &[Sleeper], entry: Ent
 }
 
 /// Returns the waiter that a `Queued` entry adds.
-fn queued(entry: Entry) -> Standing
+fn queued(entry: Entry) -> LinePlace
     ensures { result ∷ [] ≡ joins_from Queued entry [] }
 {
-    Standing {
+    LinePlace {
         who: Arrival {
             seat: entry.seat,
             mode: entry.mode,
@@ -129,10 +129,10 @@ fn coming_back(seat: u16) -> Arrival
 
 /// Returns the waiter that a `Lapse` entry adds: its wait on the condition ended by a timeout or an
 /// interrupt.
-fn lapsed(entry: Entry, asleep: &[Sleeper]) -> Standing
+fn lapsed(entry: Entry, asleep: &[Sleeper]) -> LinePlace
     ensures { result ∷ [] ≡ joins_from Lapse entry asleep.now }
 {
-    Standing {
+    LinePlace {
         who: coming_back(entry.seat),
         condition: entry.at,
         holds: gave_up(asleep, entry.seat),
@@ -153,13 +153,13 @@ fn gave_up(asleep: &[Sleeper], seat: u16) -> u32
 }
 
 /// Appends these waiters of a condition to the queue, in their order.
-fn stand_signalled(line: &mut Vec<Standing>, condition: u8, woken: &[Sleeper])
+fn stand_signalled(line: &mut Vec<LinePlace>, condition: u8, woken: &[Sleeper])
     requires { vec_len line.old + length woken.now ≤ vec_capacity line.old }
     ensures items { line.new.items ≡ line.old.items ++ map (signalled_on condition) woken.now }
     ensures capacity { vec_capacity line.new ≡ vec_capacity line.old }
 {
     for sleeper in woken {
-        line.push_reserved(Standing {
+        line.push_reserved(LinePlace {
             who: coming_back(sleeper.seat),
             condition,
             holds: sleeper.holds,

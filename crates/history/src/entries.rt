@@ -42,7 +42,7 @@ pub struct History {
 impl Model for History {
     ghost use Rattle.std.specs.Prelude.{reverse};
     ghost use Rattle.history.specs.Entries.{HistoryView};
-    ghost use Rattle.history.specs.Paged.{IsKept};
+    ghost use Rattle.history.specs.Paged.{HasRoomOwed};
 
     ghost Value = { HistoryView };
 
@@ -54,7 +54,7 @@ impl Model for History {
       places = a.pages.places;
     } };
 
-    ghost invariant = { λ a. IsKept a.pages a.cap a.owed a.calls };
+    ghost invariant = { λ a. HasRoomOwed a.pages a.cap a.owed a.calls };
 }
 
 impl History {

@@ -14,7 +14,7 @@ use Rattle.history.specs.declared.entry.Word.TheVariants as word
 use Rattle.history.specs.declared.header.Header.{Header}
 use Rattle.history.specs.declared.header.Object.{Object}
 use Rattle.history.specs.declared.header.Object.TheVariants.{Lock, ReadWrite, Semaphore, Latch}
-use Rattle.history.specs.declared.base.Standing.{Standing}
+use Rattle.history.specs.declared.base.LinePlace.{LinePlace}
 use Rattle.history.specs.Base.{Base, based}
 use Rattle.history.specs.Counts.{free}
 use Rattle.history.specs.EntryWords.{IsSpelt, IsWritten}
@@ -86,7 +86,7 @@ back_saved : (s : Start) (h : List Entry) (e : Entry) → Waits s h → KnownBy 
 back_saved s h e v k = let b = comes_back s h v e.seat k.0 k.1 k.2 in subst (Saved s h) b.1 b.0.saved
 
 -- those in line on a good base ask for little
-stands_few : (b : Base) (q : List Standing) → AllByRecursion (StandsWell b) q →
+stands_few : (b : Base) (q : List LinePlace) → AllByRecursion (StandsWell b) q →
     AllByRecursion AsksFew (map (λ p. p.who) q)
 stands_few b [] all = tt
 stands_few b (p ∷ q) all = (

@@ -5,7 +5,7 @@ use Rattle.std.specs.List.{AllByRecursion}
 use Rattle.std.proofs.lemmas.Fmt.{length-decimal-le_wide}
 use Rattle.std.proofs.lemmas.List.{append-nil, length-append}
 use Rattle.std.proofs.lemmas.List.Splits.{join_with_byte-slice_split}
-use Rattle.history.specs.declared.base.Standing.{Standing}
+use Rattle.history.specs.declared.base.LinePlace.{LinePlace}
 use Rattle.history.specs.declared.base.SeatBase.{SeatBase}
 use Rattle.history.specs.declared.entry.End.{End}
 use Rattle.history.specs.declared.entry.End.TheVariants as end
@@ -34,7 +34,7 @@ use Rattle.history_text.specs.declared.base_line.BaseLine.{BaseLine}
 use Rattle.history_text.specs.declared.base_line.BaseLine.TheVariants.{Folded, Released, CountedDown, Seat, Stands, Sleeps}
 use Rattle.history_text.specs.BaseLines.{IsBaseLine, base_line, base_words, stood_by, waiting_by}
 use Rattle.history_text.specs.BaseReading.{base_line_at, beside_at, folded_at, has_at, sleeps_at, stands_at}
-use Rattle.history_text.specs.BaseRules.{MayFollow, MayHold, Told}
+use Rattle.history_text.specs.BaseRules.{MayFollow, MayHold, BaseSums}
 use Rattle.history_text.specs.EntryLines.{HasLine, counts_line, entry_line}
 use Rattle.history_text.proofs.Amounts.{few_conditions}
 use Rattle.history_text.proofs.EntryLemmas.{counts_line-words, counts_plain, entry_line-words, line_plain}
@@ -76,7 +76,7 @@ seat_again i has small calls exclusive shared =
       wide_at_again 0 most_permits has.shared [] (omega (arith, shared)) (omega arith) shared,
     ) refl
 
-stands_again : (p : Standing) (b : Bool) → p.who.seat ≤ 255 → IsWritten (waiting_by b p) →
+stands_again : (p : LinePlace) (b : Bool) → p.who.seat ≤ 255 → IsWritten (waiting_by b p) →
     p ≡ stood_by b (waiting_by b p) →
     stands_at (decimal p.who.seat ∷ entry_words (waiting_by b p)) ≡ Some (Stands p, [])
 unfolding stands_at
@@ -85,13 +85,13 @@ stands_again p true small written same =
       number_at_again 0 255 p.who.seat (entry_words (waiting_by true p)) (omega (arith, small)) (omega arith)
           small,
       words_again_read (waiting_by true p) written,
-    ) (ap (λ (q : Standing). Some (Stands q, [])) (sym same))
+    ) (ap (λ (q : LinePlace). Some (Stands q, [])) (sym same))
 stands_again p false small written same =
     rw (
       number_at_again 0 255 p.who.seat (entry_words (waiting_by false p)) (omega (arith, small)) (omega arith)
           small,
       words_again_read (waiting_by false p) written,
-    ) (ap (λ (q : Standing). Some (Stands q, [])) (sym same))
+    ) (ap (λ (q : LinePlace). Some (Stands q, [])) (sym same))
 
 sleeps_again : (c i h : ℕ) → c ≤ 15 → i ≤ 255 → h ≤ 2147483647 →
     sleeps_at (decimal c ∷ decimal i ∷ decimal h ∷ []) ≡ Some (Sleeps c (record { seat = i; holds = h }), [])
@@ -286,7 +286,7 @@ permit_bytes : (n : ℕ) → n ≤ most_permits → length (decimal n) ≤ 26
 permit_bytes n lt = digits 26 n (omega arith) (omega (arith, lt)) (omega (arith, lt))
 
 base_weight : (x : BaseLine) → IsBaseLine x →
-    ((p : Standing) → IsBaseLine (Stands p) → weight (entry_words (waiting_by p.who.back p)) ≤ 84) →
+    ((p : LinePlace) → IsBaseLine (Stands p) → weight (entry_words (waiting_by p.who.back p)) ≤ 84) →
     weight (base_words x) < 256
 base_weight (Folded t) is stands = omega (arith, folded_bytes t is.1)
 base_weight (Released t u) is stands = omega (arith, folded_bytes t is.1, permit_bytes u is.2)
@@ -309,7 +309,7 @@ base_weight (Sleeps c x) is stands =
     )
 
 pub base_short : (x : BaseLine) → IsBaseLine x
-    → ((p : Standing) → IsBaseLine (Stands p)
+    → ((p : LinePlace) → IsBaseLine (Stands p)
     → AllByRecursion (λ w. length w ≤ 20) (entry_words (waiting_by p.who.back p))
     × (length (entry_words (waiting_by p.who.back p)) ≤ 4)) → length (base_line x) < 256
 base_short x is stands =
@@ -328,7 +328,7 @@ opening_few (ReadWrite p) c r = omega arith
 opening_few (Semaphore p n) c r = omega arith
 opening_few (Latch n) c r = omega (arith, r.1)
 
-few_held : (o : Object) (seats : ℕ) (t : Told) (has : SeatBase) → MayHold o seats t has →
+few_held : (o : Object) (seats : ℕ) (t : BaseSums) (has : SeatBase) → MayHold o seats t has →
     (has.exclusive ≤ 2147483647) × (has.shared ≤ most_permits)
 few_held (Lock p) seats t has may = (omega (arith, may.0), omega (arith, may.1))
 few_held (ReadWrite p) seats t has may = (omega (arith, may.0), omega (arith, may.1))
@@ -341,7 +341,7 @@ came_back end.Timeout some = tt
 came_back end.Interrupt some = tt
 came_back end.Signalled some = tt
 
-abbrev standing : ℕ → Mode → ℕ → Bool → ℕ → ℕ → End → Standing
+abbrev standing : ℕ → Mode → ℕ → Bool → ℕ → ℕ → End → LinePlace
 standing seat mode n back condition holds how =
     record {
       who = record { seat = seat; mode = mode; n = n; back = back };
@@ -350,14 +350,14 @@ standing seat mode n back condition holds how =
       how = how;
     }
 
-stood : (p : Standing) (b : Bool) → p.who.back ≡ b → IsWritten (waiting_by b p) →
+stood : (p : LinePlace) (b : Bool) → p.who.back ≡ b → IsWritten (waiting_by b p) →
     p ≡ stood_by b (waiting_by b p)
     → IsWritten (waiting_by p.who.back p) × (p ≡ stood_by p.who.back (waiting_by p.who.back p))
 stood p b back written is =
     subst (λ (z : Bool). IsWritten (waiting_by z p) × (p ≡ stood_by z (waiting_by z p))) (sym back)
     (written, is)
 
-asks_line : (b : Base) (p : Standing) → IsInRange b.header → p.who.back ≡ false → Asks b p →
+asks_line : (b : Base) (p : LinePlace) → IsInRange b.header → p.who.back ≡ false → Asks b p →
     IsBaseLine (Stands p)
 asks_line b p range back asks =
     let amount = asked_few b.header.object p.who.n asks.amount in
@@ -379,7 +379,7 @@ gave_few b i c n range gave = (
   omega (arith, most_fits b.header.object, gave.most),
 )
 
-returns_line : (b : Base) (p : Standing) → IsInRange b.header → p.who.back ≡ true → Returns b p →
+returns_line : (b : Base) (p : LinePlace) → IsInRange b.header → p.who.back ≡ true → Returns b p →
     IsBaseLine (Stands p)
 returns_line b p range back returns =
     let few = gave_few b p.who.seat p.condition p.holds range returns.gave in
@@ -395,7 +395,7 @@ returns_line b p range back returns =
     (record { words = (refl, came_back p.how returns.how); amount = few.2; condition = few.1 }) is in
     (few.0, both.0, both.1)
 
-pub may_follow_spelt : (t : Told) (b : Base) (x : BaseLine) → IsInRange b.header → t.entries ≤ most_folded →
+pub may_follow_spelt : (t : BaseSums) (b : Base) (x : BaseLine) → IsInRange b.header → t.entries ≤ most_folded →
     MayFollow t b x → IsBaseLine x
 may_follow_spelt t b (Folded n) range few may = (may.0.some, may.0.most)
 may_follow_spelt t b (Released n u) range few may = (may.0.some, may.0.most, may.2)

@@ -4,7 +4,7 @@ use Rattle.std.proofs.lemmas.Bool.{false≢true}
 use Rattle.std.proofs.lemmas.List.{length-append}
 use Rattle.history.specs.declared.base.SeatBase.{SeatBase}
 use Rattle.history.specs.declared.base.Sleeper.{Sleeper}
-use Rattle.history.specs.declared.base.Standing.{Standing}
+use Rattle.history.specs.declared.base.LinePlace.{LinePlace}
 use Rattle.history.specs.declared.header.Header.{Header}
 use Rattle.history.specs.Base.{Base, opening_base, sleepers_of}
 use Rattle.history.specs.Header.{IsInRange}
@@ -12,8 +12,8 @@ use Rattle.history_text.specs.declared.base_line.BaseLine.{BaseLine}
 use Rattle.history_text.specs.declared.base_line.BaseLine.TheVariants.{Folded, Released, CountedDown, Seat, Sleeps, Stands}
 use Rattle.history_text.specs.BaseFollowing.{AllRead, after_told, with_lines}
 use Rattle.history_text.specs.BaseLines.{base_lines}
-use Rattle.history_text.specs.BaseRules.{AllSeated, MayFollow, Told, told, untold, with_line}
-use Rattle.history_text.specs.BaseTelling.{Follow, base_by, told_by}
+use Rattle.history_text.specs.BaseRules.{AllSeated, MayFollow, BaseSums, with_sums, no_sums, with_line}
+use Rattle.history_text.specs.BaseTelling.{Follow, base_by, sums_of}
 use Rattle.history_text.specs.BaseText.{calls_sum}
 use Rattle.history_text.specs.BaseUnderWay.{IsUnderWay, lines_by, lines_read}
 use Rattle.history_text.specs.NextLine.{LinesRead}
@@ -24,7 +24,7 @@ use Rattle.history_text.proofs.BaseWhole.{base-append, follow-append, some_base,
 use Rattle.history_text.proofs.HeadWritten.{sum_calls}
 
 -- what a base and its sums say of the lines that were read
-abbrev pub view_of : Told → Base → LinesRead
+abbrev pub view_of : BaseSums → Base → LinesRead
 view_of t b = record { header = b.header; lines = lines_read t b }
 
 -- ---- how many lines may follow
@@ -51,12 +51,12 @@ first_told zero some = absurd (omega (arith, some))
 first_told (suc n) some = refl
 
 -- a first line, a seat for each, and one for each place that is free
-abbrev to_tell : ℕ → Told → ℕ
+abbrev to_tell : ℕ → BaseSums → ℕ
 to_tell seats t = first_to_tell t.entries + ((seats - t.seats) + places_free t.waits)
 
 -- behind one line more, one line fewer may follow
-one_fewer : (t : Told) (b : Base) (x : BaseLine) → IsInRange b.header → length t.waits ≡ 256 →
-    MayFollow t b x → suc (to_tell b.header.seats (told t x)) ≤ to_tell b.header.seats t
+one_fewer : (t : BaseSums) (b : Base) (x : BaseLine) → IsInRange b.header → length t.waits ≡ 256 →
+    MayFollow t b x → suc (to_tell b.header.seats (with_sums t x)) ≤ to_tell b.header.seats t
 one_fewer t b (Folded n) range long may =
     omega (arith, first_told n may.0.some, ap first_to_tell may.0.none)
 one_fewer t b (Released n u) range long may =
@@ -72,65 +72,65 @@ one_fewer t b (Stands p) range long may =
 one_fewer t b (Sleeps c x) range long may =
     omega (arith, one_taken t.waits x.seat (omega (arith, range.seats, long, may.3.seat)) may.2)
 
-few_more : (done xs : List BaseLine) (t : Told) (b : Base) → SoFar done t b → AllRead b t xs →
+few_more : (done xs : List BaseLine) (t : BaseSums) (b : Base) → SoFar done t b → AllRead b t xs →
     length xs ≤ to_tell b.header.seats t
 few_more done [] t b so follow = omega arith
 few_more done (x ∷ xs) t b so follow =
     let one = one_fewer t b x so.range so.waited.places follow.0 in
-    let more = few_more (done ++ x ∷ []) xs (told t x) (with_line b x) (goes_on done t b x so follow.0)
+    let more = few_more (done ++ x ∷ []) xs (with_sums t x) (with_line b x) (goes_on done t b x so follow.0)
     follow.1 in
-    let same : to_tell (with_line b x).header.seats (told t x) ≡ to_tell b.header.seats (told t x) =
-    ap (λ (k : Header). to_tell k.seats (told t x)) (header_kept b x) in
+    let same : to_tell (with_line b x).header.seats (with_sums t x) ≡ to_tell b.header.seats (with_sums t x) =
+    ap (λ (k : Header). to_tell k.seats (with_sums t x)) (header_kept b x) in
     omega (arith, one, more, same)
 
 -- ---- the last of some lines
 
-last_may : (t : Told) (b : Base) (xs : List BaseLine) (x : BaseLine) → AllRead b t (xs ++ x ∷ []) →
+last_may : (t : BaseSums) (b : Base) (xs : List BaseLine) (x : BaseLine) → AllRead b t (xs ++ x ∷ []) →
     MayFollow (after_told t xs) (with_lines b xs) x
 last_may t b [] x follow = follow.0
-last_may t b (y ∷ xs) x follow = last_may (told t y) (with_line b y) xs x follow.1
+last_may t b (y ∷ xs) x follow = last_may (with_sums t y) (with_line b y) xs x follow.1
 
--- the lines that were told are those that were read
-lines_are : (xs : List BaseLine) (t : Told) (b : Base) → SoFar xs t b → lines_read t b ≡ xs
+-- the lines that were with_sums are those that were read
+lines_are : (xs : List BaseLine) (t : BaseSums) (b : Base) → SoFar xs t b → lines_read t b ≡ xs
 lines_are xs t b so = by t.entries refl
   where
     by : (n : ℕ) → t.entries ≡ n → lines_by n t b ≡ xs
     by zero e = sym (so.spelt.none e).2
     by (suc n) e = sym (so.spelt.some (omega (arith, e)))
 
-module _ (t : Told) (b : Base) (lines : ℕ) (is : IsUnderWay t b lines) where
+module _ (t : BaseSums) (b : Base) (lines : ℕ) (is : IsUnderWay t b lines) where
   abbrev xs : List BaseLine
   xs = lines_read t b
 
   known : SoFar xs t b
   known =
       subst (λ (z : Base). SoFar xs t z) is.base
-      (subst (λ (z : Told). SoFar xs z (base_by b.header xs)) is.told
+      (subst (λ (z : BaseSums). SoFar xs z (base_by b.header xs)) is.told
       (told_so_far b.header xs is.range is.follow))
 
   pub few : length xs ≤ 513
   few =
-      let all = few_more [] xs untold (opening_base b.header) (told_so_far b.header [] is.range tt)
+      let all = few_more [] xs no_sums (opening_base b.header) (told_so_far b.header [] is.range tt)
       is.follow in
       omega (arith, all, is.range.seats)
 
   -- ---- which line may come next
 
   pub may_next : (x : BaseLine) → GoodBeginsSo b.header (xs ++ x ∷ []) → MayFollow t b x
-  may_next x (g, more, told, e) =
-      let all = good_follows b.header g (xs ++ x ∷ []) more is.range told e in
-      let last = last_may untold (opening_base b.header) xs x all in
-      subst (λ (z : Told). MayFollow z b x) is.told
-      (subst (λ (z : Base). MayFollow (told_by xs) z x) is.base last)
+  may_next x (g, more, with_sums, e) =
+      let all = good_follows b.header g (xs ++ x ∷ []) more is.range with_sums e in
+      let last = last_may no_sums (opening_base b.header) xs x all in
+      subst (λ (z : BaseSums). MayFollow z b x) is.told
+      (subst (λ (z : Base). MayFollow (sums_of xs) z x) is.base last)
 
-  may_last : (x : BaseLine) → MayFollow t b x → MayFollow (told_by xs) (base_by b.header xs) x
+  may_last : (x : BaseLine) → MayFollow t b x → MayFollow (sums_of xs) (base_by b.header xs) x
   may_last x may =
-      subst (λ (z : Base). MayFollow (told_by xs) z x) (sym is.base)
-      (subst (λ (z : Told). MayFollow z b x) (sym is.told) may)
+      subst (λ (z : Base). MayFollow (sums_of xs) z x) (sym is.base)
+      (subst (λ (z : BaseSums). MayFollow z b x) (sym is.told) may)
 
   follow_more : (x : BaseLine) → MayFollow t b x → Follow b.header (xs ++ x ∷ [])
   follow_more x may =
-      follow-append untold (opening_base b.header) xs (x ∷ []) is.follow (may_last x may, tt)
+      follow-append no_sums (opening_base b.header) xs (x ∷ []) is.follow (may_last x may, tt)
 
   pub begins_next : (x : BaseLine) → MayFollow t b x → GoodBeginsSo b.header (xs ++ x ∷ [])
   begins_next x may = some_base b.header (xs ++ x ∷ []) is.range (follow_more x may)
@@ -141,28 +141,28 @@ module _ (t : Told) (b : Base) (lines : ℕ) (is : IsUnderWay t b lines) where
       (base_by b.header xs, whole.1, sym whole.0)
 
   pub whole_has : GoodHas b.header xs → AllSeated b.header t
-  whole_has (g, told, e) =
-      let all = (good_is_told b.header g is.range told).0 in
-      subst (AllSeated b.header) (ap told_by e ∙ is.told) all
+  whole_has (g, with_sums, e) =
+      let all = (good_is_told b.header g is.range with_sums).0 in
+      subst (AllSeated b.header) (ap sums_of e ∙ is.told) all
 
   -- ---- a line is taken up
 
   pub one_line : (x : BaseLine) → MayFollow t b x →
-      lines_read (told t x) (with_line b x) ≡ xs ++ x ∷ []
-  one_line x may = lines_are (xs ++ x ∷ []) (told t x) (with_line b x) (goes_on xs t b x known may)
+      lines_read (with_sums t x) (with_line b x) ≡ xs ++ x ∷ []
+  one_line x may = lines_are (xs ++ x ∷ []) (with_sums t x) (with_line b x) (goes_on xs t b x known may)
 
-  pub grown : (x : BaseLine) → MayFollow t b x → IsUnderWay (told t x) (with_line b x) (lines + 1)
+  pub grown : (x : BaseLine) → MayFollow t b x → IsUnderWay (with_sums t x) (with_line b x) (lines + 1)
   grown x may =
       let line = one_line x may in
       let header = header_kept b x in
       record {
         range = subst IsInRange (sym header) is.range;
-        follow = subst (λ (k : Header). Follow k (lines_read (told t x) (with_line b x))) (sym header)
+        follow = subst (λ (k : Header). Follow k (lines_read (with_sums t x) (with_line b x))) (sym header)
             (subst (Follow b.header) (sym line) (follow_more x may));
-        base = ap (λ (k : Header). base_by k (lines_read (told t x) (with_line b x))) header
+        base = ap (λ (k : Header). base_by k (lines_read (with_sums t x) (with_line b x))) header
             ∙ ap (base_by b.header) line ∙ base-append (opening_base b.header) xs (x ∷ [])
             ∙ ap (λ (z : Base). with_line z x) is.base;
-        told = ap told_by line ∙ told-append untold xs (x ∷ []) ∙ ap (λ (z : Told). told z x) is.told;
+        with_sums = ap sums_of line ∙ told-append no_sums xs (x ∷ []) ∙ ap (λ (z : BaseSums). with_sums z x) is.told;
         count = omega (arith, ap (λ (l : List BaseLine). length l) line, length-append xs (x ∷ []), is.count);
       }
 
@@ -175,7 +175,7 @@ module _ (t : Told) (b : Base) (lines : ℕ) (is : IsUnderWay t b lines) where
     )
 
     -- one more finds a place in line, or among the sleepers of its condition
-    pub place_in_line : (p : Standing) → x ≡ Stands p → length b.line < b.header.seats
+    pub place_in_line : (p : LinePlace) → x ≡ Stands p → length b.line < b.header.seats
     place_in_line p e =
         let stands = subst (MayFollow t b) e may in line_place xs t b known p stands.3 stands.2
 
@@ -203,15 +203,15 @@ module _ (t : Told) (b : Base) (lines : ℕ) (is : IsUnderWay t b lines) where
     pub sums_whole : (t.entries ≡ b.entries) × (t.calls ≡ calls_sum b.seats)
     sums_whole = (
       sym known.summed.entries,
-      sym (ap (λ (z : Told). z.calls) is.told) ∙ ap (λ (l : List BaseLine). (told_by l).calls) (sym has.2)
+      sym (ap (λ (z : BaseSums). z.calls) is.told) ∙ ap (λ (l : List BaseLine). (sums_of l).calls) (sym has.2)
           ∙ (good_is_told b.header has.0 is.range has.1).2 ∙ sym (sum_calls has.0 has.1.good)
           ∙ ap (λ (z : Base). calls_sum z.seats) (sym same_base),
     )
 
 -- what was read is one line more
-pub taken_view : (t : Told) (b : Base) (lines : ℕ) (is : IsUnderWay t b lines) (x : BaseLine) → MayFollow
+pub taken_view : (t : BaseSums) (b : Base) (lines : ℕ) (is : IsUnderWay t b lines) (x : BaseLine) → MayFollow
     t b x →
-    view_of (told t x) (with_line b x) ≡ record { header = b.header; lines = lines_read t b ++ x ∷ [] }
+    view_of (with_sums t x) (with_line b x) ≡ record { header = b.header; lines = lines_read t b ++ x ∷ [] }
 taken_view t b lines is x may = λ j. record {
   header = header_kept b x j;
   lines = one_line t b lines is x may j;

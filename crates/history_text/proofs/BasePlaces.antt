@@ -6,7 +6,7 @@ use Rattle.std.proofs.lemmas.List.{append-nil, append_assoc, map-append, get_or-
 use Rattle.history.specs.declared.arrival.Arrival.{Arrival}
 use Rattle.history.specs.declared.base.SeatBase.{SeatBase}
 use Rattle.history.specs.declared.base.Sleeper.{Sleeper}
-use Rattle.history.specs.declared.base.Standing.{Standing}
+use Rattle.history.specs.declared.base.LinePlace.{LinePlace}
 use Rattle.history.specs.declared.header.Object.{Object}
 use Rattle.history.specs.declared.header.Object.TheVariants.{Lock, ReadWrite, Semaphore, Latch}
 use Rattle.history.specs.Base.{Base, nothing}
@@ -69,13 +69,13 @@ total_put n f xs i x l m z =
     omega (arith, e, d, z)
 
 -- who waits, once more
-pub times_stands : (i : ℕ) (q : List Standing) (p : Standing) →
+pub times_stands : (i : ℕ) (q : List LinePlace) (p : LinePlace) →
     times i (seats_of (map (λ p. p.who) (q ++ p ∷ [])))
     ≡ times i (seats_of (map (λ p. p.who) q)) + one_if (eqb p.who.seat i)
 times_stands i q p =
     let e : times i (seats_of (map (λ p. p.who) (q ++ p ∷ [])))
     ≡ times i (seats_of (map (λ p. p.who) q)) + times i (p.who.seat ∷ []) =
-    ap (λ l. times i (seats_of l)) (map-append (λ (p : Standing). p.who) q (p ∷ []))
+    ap (λ l. times i (seats_of l)) (map-append (λ (p : LinePlace). p.who) q (p ∷ []))
     ∙ ap (times i) (map-append (λ (a : Arrival). a.seat) (map (λ p. p.who) q) (p.who ∷ []))
     ∙ times-append i (seats_of (map (λ p. p.who) q)) (p.who.seat ∷ []) in
     omega (arith, e)

@@ -9,7 +9,7 @@ use Rattle.std.proofs.lemmas.List.{get_or_past, map-append}
 use Rattle.history.specs.declared.arrival.Arrival.{Arrival}
 use Rattle.history.specs.declared.base.SeatBase.{SeatBase}
 use Rattle.history.specs.declared.base.Sleeper.{Sleeper}
-use Rattle.history.specs.declared.base.Standing.{Standing}
+use Rattle.history.specs.declared.base.LinePlace.{LinePlace}
 use Rattle.history.specs.declared.entry.Mode.TheVariants.{X, S}
 use Rattle.history.specs.declared.header.Header.{Header}
 use Rattle.history.specs.declared.header.Object.{Object}
@@ -29,10 +29,10 @@ use Rattle.history.proofs.Times.{once_same, times-append, total_part}
 use Rattle.history_text.specs.declared.base_line.BaseLine.{BaseLine}
 use Rattle.history_text.specs.declared.base_line.BaseLine.TheVariants.{Stands, Sleeps}
 use Rattle.history_text.specs.BaseFollowing.{IsCountedFor}
-use Rattle.history_text.specs.BaseTelling.{Follow, base_by, told_by}
+use Rattle.history_text.specs.BaseTelling.{Follow, base_by, sums_of}
 use Rattle.history_text.specs.ToldBases.{IsToldBase}
 use Rattle.history_text.specs.BaseLines.{base_lines, first_line}
-use Rattle.history_text.specs.BaseRules.{AllSeated, IsFree, IsSeated, MayFollow, MayHold, Told, untold}
+use Rattle.history_text.specs.BaseRules.{AllSeated, IsFree, IsSeated, MayFollow, MayHold, BaseSums, no_sums}
 use Rattle.history_text.proofs.BaseTold.{SoFar, gave_moved, pos_kept, stands_moved, waits_of}
 use Rattle.history_text.proofs.BaseWhole.{follow_front}
 use Rattle.history_text.proofs.BaseWalk.{AtLine, AtSeats, AtSleepers, IsTold, base_told}
@@ -57,11 +57,11 @@ total_less_by (suc n) f g j c l under at =
     there : n ≢ j → (j < n → total n f + c ≤ total n g) → total (suc n) f + c ≤ total (suc n) g
     there ne ih = let rest = ih (omega (arith, ne, l)) in let d = under n in omega (arith, rest, d)
 
-times_line : (i : ℕ) (p q : List Standing) →
+times_line : (i : ℕ) (p q : List LinePlace) →
     times i (seats_of (map (λ p. p.who) (p ++ q)))
     ≡ times i (seats_of (map (λ p. p.who) p)) + times i (seats_of (map (λ p. p.who) q))
 times_line i p q =
-    ap (λ l. times i (seats_of l)) (map-append (λ (p : Standing). p.who) p q)
+    ap (λ l. times i (seats_of l)) (map-append (λ (p : LinePlace). p.who) p q)
     ∙ ap (times i) (map-append (λ (a : Arrival). a.seat) (map (λ p. p.who) p) (map (λ p. p.who) q))
     ∙ times-append i (seats_of (map (λ p. p.who) p)) (seats_of (map (λ p. p.who) q))
 
@@ -102,7 +102,7 @@ none_if (suc m) f = absurd (f (omega arith))
 
 module _ (g : Base) (range : IsInRange g.header) (good : IsGood g) where
   -- what a seat may hold
-  module _ (n : ℕ) (done : List BaseLine) (t : Told) (b : Base) (so : SoFar done t b) (at : AtSeats g n t b)
+  module _ (n : ℕ) (done : List BaseLine) (t : BaseSums) (b : Base) (so : SoFar done t b) (at : AtSeats g n t b)
       (l : n < g.header.seats) where
     has : SeatBase
     has = seat_of g n
@@ -223,7 +223,7 @@ module _ (g : Base) (range : IsInRange g.header) (good : IsGood g) where
   small i l = let r = range.seats in omega (arith, l, r)
 
   -- the line
-  module _ (p : Standing) (front rest : List Standing) (done : List BaseLine) (t : Told) (b : Base)
+  module _ (p : LinePlace) (front rest : List LinePlace) (done : List BaseLine) (t : BaseSums) (b : Base)
       (so : SoFar done t b) (at : AtLine g front t b) (e : front ++ p ∷ rest ≡ g.line) where
     well_here : StandsWell g p
     well_here =
@@ -260,7 +260,7 @@ module _ (g : Base) (range : IsInRange g.header) (good : IsGood g) where
     may_stand = (at.all, at.asleep, is_free_here, well_now)
 
   -- the sleepers
-  module _ (c : ℕ) (x : Sleeper) (front rest : List Sleeper) (done : List BaseLine) (t : Told) (b : Base)
+  module _ (c : ℕ) (x : Sleeper) (front rest : List Sleeper) (done : List BaseLine) (t : BaseSums) (b : Base)
       (so : SoFar done t b) (at : AtSleepers g c front t b) (e : front ++ x ∷ rest ≡ sleepers_of g c) where
     sleeps_here : SleepsWell g c x
     sleeps_here =
@@ -318,7 +318,7 @@ module _ (g : Base) (range : IsInRange g.header) (good : IsGood g) where
     may_sleep = (at.all, at.condition, sleeper_free, sleeps_now)
 
   first_may : 1 ≤ g.entries → (o : Object) → g.header.object ≡ o → AreCounted o g →
-      MayFollow untold (opening_base g.header) (first_line o g)
+      MayFollow no_sums (opening_base g.header) (first_line o g)
   first_may some (Lock p) q v = (record { none = refl; some = some; most = good.entries }, ap is_lock q)
   first_may some (ReadWrite p) q v = (record { none = refl; some = some; most = good.entries }, ap is_lock q)
   first_may some (Semaphore p c) q v =
@@ -350,17 +350,17 @@ pub good_follows : (k : Header) (b : Base) (xs more : List BaseLine) → IsInRan
     base_lines b ≡ xs ++ more → Follow k xs
 good_follows k b xs more range is e =
     subst (λ h. Follow h xs) is.header
-    (follow_front untold (opening_base b.header) xs more
+    (follow_front no_sums (opening_base b.header) xs more
     (subst (λ l. Follow b.header l) e
     (good_told b (subst IsInRange (sym is.header) range) is.good is.some).follow))
 
 -- All of them tell that base.
 pub good_is_told : (k : Header) (b : Base) → IsInRange k → IsToldBase k b →
-    AllSeated k (told_by (base_lines b)) × (base_by k (base_lines b) ≡ b)
-    × ((told_by (base_lines b)).calls ≡ calls (based b) [])
+    AllSeated k (sums_of (base_lines b)) × (base_by k (base_lines b) ≡ b)
+    × ((sums_of (base_lines b)).calls ≡ calls (based b) [])
 good_is_told k b range is =
     let all = good_told b (subst IsInRange (sym is.header) range) is.good is.some in (
-      subst (λ h. AllSeated h (told_by (base_lines b))) is.header all.all,
+      subst (λ h. AllSeated h (sums_of (base_lines b))) is.header all.all,
       subst (λ h. base_by h (base_lines b) ≡ b) is.header all.same,
       all.calls,
     )

@@ -10,7 +10,7 @@ use Rattle.history_text.specs.declared.base_line.BaseLine.{BaseLine}
 use Rattle.history_text.specs.declared.base_line.BaseLine.TheVariants.{Folded, Released, CountedDown, Seat, Stands, Sleeps}
 use Rattle.history_text.specs.BaseFollowing.{AllFollow, AllRead, HasShape, after_told, with_lines}
 use Rattle.history_text.specs.BaseLines.{base_lines, first_line}
-use Rattle.history_text.specs.BaseRules.{AllSeated, MayFollow, Told, told, untold, with_line}
+use Rattle.history_text.specs.BaseRules.{AllSeated, MayFollow, BaseSums, with_sums, no_sums, with_line}
 use Rattle.history_text.specs.ToldBases.{IsToldBase}
 use Rattle.history_text.proofs.BaseRetold.{good_told}
 use Rattle.history_text.proofs.BaseTold.{gave_moved, header_after, header_kept, stands_moved, whole_told}
@@ -31,8 +31,8 @@ of_header k b range is =
     record { range = subst IsInRange (sym is.header) range; some = is.some; good = is.good }
 
 -- lines behind the last seat leave the seats
-one_kept : (t : Told) (b : Base) (x : BaseLine) → AllSeated b.header t → MayFollow t b x →
-    ((with_line b x).seats ≡ b.seats) × AllSeated b.header (told t x)
+one_kept : (t : BaseSums) (b : Base) (x : BaseLine) → AllSeated b.header t → MayFollow t b x →
+    ((with_line b x).seats ≡ b.seats) × AllSeated b.header (with_sums t x)
 one_kept t b (Folded n) all may = (refl, record { begun = may.0.some; seats = all.seats })
 one_kept t b (Released n u) all may = (refl, record { begun = may.0.some; seats = all.seats })
 one_kept t b (CountedDown n q) all may = (refl, record { begun = may.0.some; seats = all.seats })
@@ -41,17 +41,17 @@ one_kept t b (Seat i has) all may =
 one_kept t b (Stands p) all may = (refl, record { begun = all.begun; seats = all.seats })
 one_kept t b (Sleeps c x) all may = (refl, record { begun = all.begun; seats = all.seats })
 
-seats_kept : (t : Told) (b : Base) (xs : List BaseLine) → AllSeated b.header t → AllRead b t xs →
+seats_kept : (t : BaseSums) (b : Base) (xs : List BaseLine) → AllSeated b.header t → AllRead b t xs →
     (with_lines b xs).seats ≡ b.seats
 seats_kept t b [] all read = refl
 seats_kept t b (x ∷ xs) all read =
     let one = one_kept t b x all read.0 in
-    seats_kept (told t x) (with_line b x) xs
-    (subst (λ h. AllSeated h (told t x)) (sym (header_kept b x)) one.1) read.1
+    seats_kept (with_sums t x) (with_line b x) xs
+    (subst (λ h. AllSeated h (with_sums t x)) (sym (header_kept b x)) one.1) read.1
     ∙ one.0
 
 -- what may follow under the base so far may follow under the whole one
-one_follows : (t : Told) (a b : Base) (x : BaseLine) → b.header ≡ a.header →
+one_follows : (t : BaseSums) (a b : Base) (x : BaseLine) → b.header ≡ a.header →
     (AllSeated b.header t → b.seats ≡ a.seats) → MayFollow t b x → MayFollow t a x
 one_follows t a b (Folded n) h s may =
     subst (λ (k : Header). MayFollow t (record b { header = k }) (Folded n)) h may
@@ -74,44 +74,44 @@ one_follows t a b (Sleeps c x) h s may = (
   gave_moved b a x.seat c x.holds h (s may.0) may.3,
 )
 
-read_follows : (t : Told) (a b : Base) (xs : List BaseLine) → with_lines b xs ≡ a → AllRead b t xs →
+read_follows : (t : BaseSums) (a b : Base) (xs : List BaseLine) → with_lines b xs ≡ a → AllRead b t xs →
     AllFollow a t xs
 read_follows t a b [] e read = tt
 read_follows t a b (x ∷ xs) e read = (
   one_follows t a b x (sym (header_after b (x ∷ xs)) ∙ ap (λ (c : Base). c.header) e)
       (λ all. sym (seats_kept t b (x ∷ xs) all read) ∙ ap (λ (c : Base). c.seats) e) read.0,
-  read_follows (told t x) a (with_line b x) xs e read.1,
+  read_follows (with_sums t x) a (with_line b x) xs e read.1,
 )
 
--- Each line of a good base may follow those before it, also as it is read, and all seats are then told.
-pub good_reads : (b : Base) → IsGoodOf b → AllRead (opening_base b.header) untold (base_lines b)
+-- Each line of a good base may follow those before it, also as it is read, and all seats are then with_sums.
+pub good_reads : (b : Base) → IsGoodOf b → AllRead (opening_base b.header) no_sums (base_lines b)
 good_reads b of = (good_told b of.range of.good of.some).follow
 
--- a good base is read as it is told
+-- a good base is read as it is with_sums
 pub good_again : (b : Base) → IsGoodOf b → said b.header (base_lines b) ≡ b
 good_again b of = (good_told b of.range of.good of.some).same
 
-pub good_follows : (b : Base) → IsGoodOf b → AllFollow b untold (base_lines b)
+pub good_follows : (b : Base) → IsGoodOf b → AllFollow b no_sums (base_lines b)
 good_follows b of =
-    read_follows untold b (opening_base b.header) (base_lines b) (good_again b of) (good_reads b of)
+    read_follows no_sums b (opening_base b.header) (base_lines b) (good_again b of) (good_reads b of)
 
 -- lines that may follow each other, and tell all seats, are those of a good base, the one that they say
-pub reads_good : (k : Header) (xs : List BaseLine) → IsInRange k → AllRead (opening_base k) untold xs →
-    AllSeated k (after_told untold xs)
+pub reads_good : (k : Header) (xs : List BaseLine) → IsInRange k → AllRead (opening_base k) no_sums xs →
+    AllSeated k (after_told no_sums xs)
     → IsGoodOf (said k xs) × (base_lines (said k xs) ≡ xs)
 reads_good k xs range read all =
     let whole = whole_told k xs range read all in
     (of_header k (said k xs) range whole.1, sym whole.0)
 
 -- a base that has the shape of its object, and each of whose lines may follow those before it, is good
-first_read : (b : Base) (o : Object) → MayFollow untold b (first_line o b) →
-    (1 ≤ b.entries) × MayFollow untold (opening_base b.header) (first_line o b)
+first_read : (b : Base) (o : Object) → MayFollow no_sums b (first_line o b) →
+    (1 ≤ b.entries) × MayFollow no_sums (opening_base b.header) (first_line o b)
 first_read b (Lock p) may = (may.0.some, may)
 first_read b (ReadWrite p) may = (may.0.some, may)
 first_read b (Semaphore p c) may = (may.0.some, may)
 first_read b (Latch c) may = (may.0.some, may)
 
-follows_told : (b : Base) → IsInRange b.header → HasShape b → AllFollow b untold (base_lines b) → IsTold b
+follows_told : (b : Base) → IsInRange b.header → HasShape b → AllFollow b no_sums (base_lines b) → IsTold b
 follows_told b range shape follow =
     base_told b range shape.seats shape.conditions shape.counted (λ t xs. AllFollow b t xs)
     (λ xs known. (let first = first_read b b.header.object known.0 in (first.0, first.1, known.1)))
@@ -131,7 +131,7 @@ follows_told b range shape follow =
     follow
 
 pub follows_good : (b : Base) → IsInRange b.header → HasShape b →
-    AllFollow b untold (base_lines b) → (1 ≤ b.entries) × IsGood b
+    AllFollow b no_sums (base_lines b) → (1 ≤ b.entries) × IsGood b
 follows_good b range shape follow =
     let is = follows_told b range shape follow in
     let whole = (reads_good b.header (base_lines b) range is.follow is.all).0 in (

@@ -10,7 +10,7 @@ use Rattle.std.proofs.lemmas.List.{get_or_past, append-nil, append_assoc, map-ap
 use Rattle.history.specs.declared.arrival.Arrival.{Arrival}
 use Rattle.history.specs.declared.base.SeatBase.{SeatBase}
 use Rattle.history.specs.declared.base.Sleeper.{Sleeper}
-use Rattle.history.specs.declared.base.Standing.{Standing}
+use Rattle.history.specs.declared.base.LinePlace.{LinePlace}
 use Rattle.history.specs.declared.entry.Mode.{Mode}
 use Rattle.history.specs.declared.entry.Mode.TheVariants.{X, S}
 use Rattle.history.specs.declared.header.Header.{Header}
@@ -34,11 +34,11 @@ use Rattle.history.proofs.Times.{each-append, once_other, once_same, one_if, pig
 use Rattle.history_text.specs.declared.base_line.BaseLine.{BaseLine}
 use Rattle.history_text.specs.declared.base_line.BaseLine.TheVariants.{Folded, Released, CountedDown, Seat, Stands, Sleeps}
 use Rattle.history_text.specs.BaseFollowing.{AllRead, with_lines, after_told}
-use Rattle.history_text.specs.BaseTelling.{Follow, base_by, told_by}
+use Rattle.history_text.specs.BaseTelling.{Follow, base_by, sums_of}
 use Rattle.history_text.specs.ToldBases.{IsToldBase}
 use Rattle.history_text.specs.BaseLines.{base_lines, first_line, seat_lines, sleeper_lines}
 use Rattle.history_text.specs.BaseUnderWay.{lines_so_far}
-use Rattle.history_text.specs.BaseRules.{AllSeated, IsFirst, IsFree, IsSeated, MayFollow, MayHold, Told, told, untold, with_line}
+use Rattle.history_text.specs.BaseRules.{AllSeated, IsFirst, IsFree, IsSeated, MayFollow, MayHold, BaseSums, with_sums, no_sums, with_line}
 use Rattle.history_text.proofs.BasePlaces.{each_then, first_line_same, no_lines, seat_lines_push, sleeper_lines_push, times_stands, total_put, total_sleeps}
 
 -- how often a seat waits
@@ -48,7 +48,7 @@ waits_of b i =
     + total b.header.conditions (λ c. times i (map (λ x. x.seat) (sleepers_of b c)))
 
 -- the numbers and the seats
-pub record Summed (t : Told) (b : Base) : Type 0 where
+pub record Summed (t : BaseSums) (b : Base) : Type 0 where
   pub entries : b.entries ≡ t.entries
   pub unheld : b.unheld ≡ t.unheld
   pub length : length b.seats ≡ b.header.seats
@@ -61,21 +61,21 @@ pub record Summed (t : Told) (b : Base) : Type 0 where
   pub most : t.entries ≤ most_folded
 
 -- the permits of a semaphore so far
-pub record PermitsSoFar (created : ℤ) (t : Told) (b : Base) : Type 0 where
+pub record PermitsSoFar (created : ℤ) (t : BaseSums) (b : Base) : Type 0 where
   pub exclusive : (i : ℕ) → (seat_of b i).exclusive ≡ 0
   pub shared : (i : ℕ) → (seat_of b i).shared ≤ most_permits
   pub lowest : t.shared ≤ t.unheld + at_least_none created
   pub highest : t.seats ≡ b.header.seats →
       t.unheld + at_least_none created ≤ 2147483647 + t.shared + at_least_none (neg_ℤ created)
 
-abbrev pub HeldSoFar : Object → Told → Base → Type 0
+abbrev pub HeldSoFar : Object → BaseSums → Base → Type 0
 HeldSoFar (Lock policy) t b = IsOwned (based b) []
 HeldSoFar (ReadWrite policy) t b = IsOwned (based b) []
 HeldSoFar (Semaphore policy permits) t b = PermitsSoFar permits t b
 HeldSoFar (Latch opening) t b = (i : ℕ) (m : Mode) → held (based b) [] i m ≡ 0
 
 -- who waits
-pub record Waited (t : Told) (b : Base) : Type 0 where
+pub record Waited (t : BaseSums) (b : Base) : Type 0 where
   pub places : length t.waits ≡ 256
   pub free : (i : ℕ) → i < 256 → get_or t.waits i false ≡ false → waits_of b i ≡ 0
   pub once : (i : ℕ) → waits_of b i ≤ 1
@@ -87,11 +87,11 @@ pub record Waited (t : Told) (b : Base) : Type 0 where
   pub nobody : t.seats < b.header.seats → (b.line ≡ []) × ((c : ℕ) → sleepers_of b c ≡ [])
 
 -- which lines those were
-pub record Spelt (done : List BaseLine) (t : Told) (b : Base) : Type 0 where
+pub record Spelt (done : List BaseLine) (t : BaseSums) (b : Base) : Type 0 where
   pub none : t.entries ≡ 0 → (t.seats ≡ 0) × (t.shared ≡ 0) × (done ≡ [])
   pub some : 1 ≤ t.entries → done ≡ lines_so_far t b
 
-pub record SoFar (done : List BaseLine) (t : Told) (b : Base) : Type 0 where
+pub record SoFar (done : List BaseLine) (t : BaseSums) (b : Base) : Type 0 where
   pub range : IsInRange b.header
   pub summed : Summed t b
   pub counted : AreCounted b.header.object b
@@ -99,11 +99,11 @@ pub record SoFar (done : List BaseLine) (t : Told) (b : Base) : Type 0 where
   pub waited : Waited t b
   pub spelt : Spelt done t b
 
--- those told in line and those told on a condition are seats, and each of them once
-pub stands_seated : (b : Base) (p : Standing) → StandsWell b p → p.who.seat < b.header.seats
+-- those with_sums in line and those with_sums on a condition are seats, and each of them once
+pub stands_seated : (b : Base) (p : LinePlace) → StandsWell b p → p.who.seat < b.header.seats
 stands_seated b p well = ⊎_elim (λ asks. asks.1.seat) (λ comes. comes.1.gave.seat) well
 
-line_seated : (b : Base) (q : List Standing) → AllByRecursion (StandsWell b) q →
+line_seated : (b : Base) (q : List LinePlace) → AllByRecursion (StandsWell b) q →
     AllByRecursion (λ i. i < b.header.seats) (seats_of (map (λ p. p.who) q))
 line_seated b [] all = tt
 line_seated b (p ∷ q) all = (stands_seated b p all.0, line_seated b q all.1)
@@ -114,7 +114,7 @@ sleepers_seated b c [] all = tt
 sleepers_seated b c (x ∷ q) all = (all.0.seat, sleepers_seated b c q all.1)
 
 -- so one that waits nowhere finds a place
-pub line_place : (done : List BaseLine) (t : Told) (b : Base) → SoFar done t b → (p : Standing) →
+pub line_place : (done : List BaseLine) (t : BaseSums) (b : Base) → SoFar done t b → (p : LinePlace) →
     StandsWell b p → IsFree t p.who.seat → length b.line < b.header.seats
 line_place done t b so p well is_free =
     let seat = stands_seated b p well in
@@ -123,10 +123,10 @@ line_place done t b so p well is_free =
     (line_seated b b.line so.waited.line) (λ i. let one = so.waited.once i in omega (arith, one)) seat
     (omega (arith, none)) in
     let arrivals = length-map (map (λ q. q.who) b.line) (λ (a : Arrival). a.seat) in
-    let standings = length-map b.line (λ (q : Standing). q.who) in
+    let standings = length-map b.line (λ (q : LinePlace). q.who) in
     omega (arith, few, arrivals, standings)
 
-pub asleep_place : (done : List BaseLine) (t : Told) (b : Base) → SoFar done t b → (c : ℕ) (x : Sleeper) →
+pub asleep_place : (done : List BaseLine) (t : BaseSums) (b : Base) → SoFar done t b → (c : ℕ) (x : Sleeper) →
     SleepsWell b c x → IsFree t x.seat → length (sleepers_of b c) < b.header.seats
 asleep_place done t b so c x well is_free =
     let most = so.range.seats in
@@ -159,7 +159,7 @@ gave_as a b i c n g =
       nothing = g.nothing;
     }
 
-stands_as : (a b : Base) (p : Standing) → StandsWell a p →
+stands_as : (a b : Base) (p : LinePlace) → StandsWell a p →
     StandsWell (record b { header = a.header; seats = a.seats }) p
 stands_as a b p w =
     ⊎_elim (λ x. inl (
@@ -190,7 +190,7 @@ gave_moved a b i c n h s g =
     subst (λ k. GaveUp (record b { header = k }) i c n) h
     (subst (λ l. GaveUp (record b { header = a.header; seats = l }) i c n) s (gave_as a b i c n g))
 
-pub stands_moved : (a b : Base) (p : Standing) → a.header ≡ b.header → a.seats ≡ b.seats → StandsWell a p →
+pub stands_moved : (a b : Base) (p : LinePlace) → a.header ≡ b.header → a.seats ≡ b.seats → StandsWell a p →
     StandsWell b p
 stands_moved a b p h s w =
     subst (λ k. StandsWell (record b { header = k }) p) h
@@ -203,14 +203,14 @@ no_sleepers k c =
     (let e = length-each {A = List Sleeper} k.conditions (λ c. []) in omega (arith, e, l)))
     (cases_lt c k.conditions)
 
--- nothing was told
+-- nothing was with_sums
 module _ (k : Header) (range : IsInRange k) where
   no_sum : (f : SeatBase → ℕ) → f nothing ≡ 0 → total k.seats (λ i. f (seat_of (opening_base k) i)) ≡ 0
   no_sum f z =
       total_same k.seats (λ i. f (seat_of (opening_base k) i)) (λ i. 0) (λ i. ap f (no_seat k i) ∙ z)
       ∙ total_nothing k.seats
 
-  held_none : (o : Object) → AreHeld o (opening_base k) → HeldSoFar o untold (opening_base k)
+  held_none : (o : Object) → AreHeld o (opening_base k) → HeldSoFar o no_sums (opening_base k)
   held_none (Lock p) v = v
   held_none (ReadWrite p) v = v
   held_none (Semaphore p c) v =
@@ -230,7 +230,7 @@ module _ (k : Header) (range : IsInRange k) where
       ∙ total_nothing k.conditions in
       omega (arith, z)
 
-  pub begun : SoFar [] untold (opening_base k)
+  pub begun : SoFar [] no_sums (opening_base k)
   begun =
       record {
         range = range;
@@ -263,11 +263,11 @@ module _ (k : Header) (range : IsInRange k) where
       }
 
 -- the first line
-module _ (done : List BaseLine) (t : Told) (b : Base) (so : SoFar done t b) (n u v q : ℕ) where
+module _ (done : List BaseLine) (t : BaseSums) (b : Base) (so : SoFar done t b) (n u v q : ℕ) where
   abbrev now : Base
   now = record b { entries = n; unheld = v; count = q }
 
-  abbrev then : Told
+  abbrev then : BaseSums
   then = record t { entries = n; unheld = u }
 
   held_first : (o : Object) → t.entries ≡ 0 → HeldSoFar o t b → HeldSoFar o then now
@@ -354,7 +354,7 @@ swap_nil xs ys x z =
     ∙ ap (λ l. (xs ++ x ∷ []) ++ l) (sym z)
 
 -- a part is no more than the sum
-part : (t : Told) (b : Base) → Summed t b → (f : SeatBase → ℕ) → f nothing ≡ 0 → (j : ℕ) →
+part : (t : BaseSums) (b : Base) → Summed t b → (f : SeatBase → ℕ) → f nothing ≡ 0 → (j : ℕ) →
     f (seat_of b j) ≤ total b.header.seats (λ i. f (seat_of b i))
 part t b sums f z j =
     ⊎_elim (λ l. total_part b.header.seats (λ i. f (seat_of b i)) j l)
@@ -363,12 +363,12 @@ part t b sums f z j =
     (cases_lt j b.header.seats)
 
 -- a seat
-module _ (done : List BaseLine) (t : Told) (b : Base) (so : SoFar done t b) (i : ℕ) (has : SeatBase)
+module _ (done : List BaseLine) (t : BaseSums) (b : Base) (so : SoFar done t b) (i : ℕ) (has : SeatBase)
     (seated : IsSeated b.header t i has) where
   abbrev with_seat : Base
   with_seat = record b { seats = set b.seats i has }
 
-  abbrev seat_told : Told
+  abbrev seat_told : BaseSums
   seat_told =
       record t {
         seats = t.seats + 1;
@@ -563,7 +563,7 @@ module _ (done : List BaseLine) (t : Told) (b : Base) (so : SoFar done t b) (i :
           sleeper_lines 0 b.sleepers))) (first_line_same b.header.object b with_seat refl refl refl)
 
 -- who waits is marked, and waits once
-module _ (t : Told) (b : Base) (w : Waited t b) (s : ℕ) (small : s < 256) (is_free : IsFree t s)
+module _ (t : BaseSums) (b : Base) (w : Waited t b) (s : ℕ) (small : s < 256) (is_free : IsFree t s)
     (after : ℕ → ℕ) (more : (i : ℕ) → after i ≡ waits_of b i + one_if (eqb s i)) where
   marked_once : (i : ℕ) → after i ≤ 1
   marked_once i =
@@ -593,13 +593,13 @@ module _ (t : Told) (b : Base) (w : Waited t b) (s : ℕ) (small : s < 256) (is_
   marked_places = length-set t.waits s true ∙ w.places
 
 -- one in line
-module _ (done : List BaseLine) (t : Told) (b : Base) (so : SoFar done t b) (p : Standing)
+module _ (done : List BaseLine) (t : BaseSums) (b : Base) (so : SoFar done t b) (p : LinePlace)
     (all : AllSeated b.header t) (awake : t.asleep ≡ false) (is_free : IsFree t p.who.seat)
     (well : StandsWell b p) where
   abbrev with_standing : Base
   with_standing = record b { line = b.line ++ p ∷ [] }
 
-  abbrev stands_told : Told
+  abbrev stands_told : BaseSums
   stands_told = record t { waits = set t.waits p.who.seat true }
 
   stands_small : p.who.seat < 256
@@ -680,13 +680,13 @@ module _ (done : List BaseLine) (t : Told) (b : Base) (so : SoFar done t b) (p :
           (first_line_same b.header.object b with_standing refl refl refl)
 
 -- one who sleeps
-module _ (done : List BaseLine) (t : Told) (b : Base) (so : SoFar done t b) (c : ℕ) (x : Sleeper)
+module _ (done : List BaseLine) (t : BaseSums) (b : Base) (so : SoFar done t b) (c : ℕ) (x : Sleeper)
     (all : AllSeated b.header t) (order : t.condition ≤ c) (is_free : IsFree t x.seat)
     (well : SleepsWell b c x) where
   abbrev with_sleeper : Base
   with_sleeper = record b { sleepers = set b.sleepers c (sleepers_of b c ++ x ∷ []) }
 
-  abbrev sleeps_told : Told
+  abbrev sleeps_told : BaseSums
   sleeps_told = record t { waits = set t.waits x.seat true; asleep = true; condition = c }
 
   sleeps_small : x.seat < 256
@@ -823,8 +823,8 @@ counted_down (Semaphore p c) b n q t l v = absurd (cc)
 counted_down (Latch c) b n q t l v = ((v.0, l), refl)
 
 -- one line more
-pub goes_on : (done : List BaseLine) (t : Told) (b : Base) (x : BaseLine) → SoFar done t b → MayFollow t b x →
-    SoFar (done ++ x ∷ []) (told t x) (with_line b x)
+pub goes_on : (done : List BaseLine) (t : BaseSums) (b : Base) (x : BaseLine) → SoFar done t b → MayFollow t b x →
+    SoFar (done ++ x ∷ []) (with_sums t x) (with_line b x)
 goes_on done t b (Folded n) so may =
     first_told done t b so n t.unheld b.unheld b.count (Folded n) so.summed.unheld may.0
     (counted_same b.header.object b (record b { entries = n }) refl refl so.counted)
@@ -847,13 +847,13 @@ goes_on done t b (Sleeps c x) so may =
     refl refl so.counted)
 
 -- all lines
-pub all_told : (done xs : List BaseLine) (t : Told) (b : Base) → SoFar done t b → AllRead b t xs →
+pub all_told : (done xs : List BaseLine) (t : BaseSums) (b : Base) → SoFar done t b → AllRead b t xs →
     SoFar (done ++ xs) (after_told t xs) (with_lines b xs)
 all_told done [] t b so follow = subst (λ l. SoFar l t b) (sym (append-nil done)) so
 all_told done (x ∷ xs) t b so follow =
-    subst (λ l. SoFar l (after_told (told t x) xs) (with_lines (with_line b x) xs))
+    subst (λ l. SoFar l (after_told (with_sums t x) xs) (with_lines (with_line b x) xs))
     (append_assoc done (x ∷ []) xs)
-    (all_told (done ++ x ∷ []) xs (told t x) (with_line b x) (goes_on done t b x so follow.0) follow.1)
+    (all_told (done ++ x ∷ []) xs (with_sums t x) (with_line b x) (goes_on done t b x so follow.0) follow.1)
 
 pub header_kept : (b : Base) (x : BaseLine) → (with_line b x).header ≡ b.header
 header_kept b (Folded n) = refl
@@ -868,8 +868,8 @@ header_after b [] = refl
 header_after b (x ∷ xs) = header_after (with_line b x) xs ∙ header_kept b x
 
 pub told_so_far : (k : Header) (xs : List BaseLine) → IsInRange k → Follow k xs →
-    SoFar xs (told_by xs) (base_by k xs)
-told_so_far k xs range follow = all_told [] xs untold (opening_base k) (begun k range) follow
+    SoFar xs (sums_of xs) (base_by k xs)
+told_so_far k xs range follow = all_told [] xs no_sums (opening_base k) (begun k range) follow
 
 -- the free permits, from the numbers
 pub pos_kept : (n : ℕ) → at_least_none (pos n) ≡ n
@@ -893,8 +893,8 @@ few_free (negsuc n) f u s e l m =
     let d : u ≤ 2147483647 + s + suc n = omega (arith, m, a, b) in
     (inr (omega (arith, ints)), omega (arith, ints, d))
 
--- a base that was told whole
-module _ (done : List BaseLine) (t : Told) (b : Base) (so : SoFar done t b) (all : AllSeated b.header t) where
+-- a base that was with_sums whole
+module _ (done : List BaseLine) (t : BaseSums) (b : Base) (so : SoFar done t b) (all : AllSeated b.header t) where
   held_whole : (o : Object) → b.header.object ≡ o → HeldSoFar o t b → AreHeld o b
   held_whole (Lock p) q v = v
   held_whole (ReadWrite p) q v = v
@@ -941,22 +941,22 @@ module _ (done : List BaseLine) (t : Told) (b : Base) (so : SoFar done t b) (all
       (take_all t.seats b.seats (let l = so.summed.length in let e = all.seats in omega (arith, l, e)))
 
 -- Lines that follow one another and tell all seats are those of a good base.
-pub whole_told : (k : Header) (xs : List BaseLine) → IsInRange k → Follow k xs → AllSeated k (told_by xs) →
+pub whole_told : (k : Header) (xs : List BaseLine) → IsInRange k → Follow k xs → AllSeated k (sums_of xs) →
     (xs ≡ base_lines (base_by k xs)) × IsToldBase k (base_by k xs)
 whole_told k xs range follow all = (
-  whole_lines xs (told_by xs) (base_by k xs) so seated,
+  whole_lines xs (sums_of xs) (base_by k xs) so seated,
   record {
     header = same;
     some = let e = so.summed.entries in let l = all.begun in omega (arith, e, l);
-    good = whole_good xs (told_by xs) (base_by k xs) so seated;
+    good = whole_good xs (sums_of xs) (base_by k xs) so seated;
   },
 )
   where
-    so : SoFar xs (told_by xs) (base_by k xs)
+    so : SoFar xs (sums_of xs) (base_by k xs)
     so = told_so_far k xs range follow
 
     same : (base_by k xs).header ≡ k
     same = header_after (opening_base k) xs
 
-    seated : AllSeated (base_by k xs).header (told_by xs)
-    seated = subst (λ h. AllSeated h (told_by xs)) (sym same) all
+    seated : AllSeated (base_by k xs).header (sums_of xs)
+    seated = subst (λ h. AllSeated h (sums_of xs)) (sym same) all

@@ -1,10 +1,10 @@
--- The lines of a base, told one by one: what the base so far has of the whole one.
+-- The lines of a base, with_sums one by one: what the base so far has of the whole one.
 use Rattle.std.proofs.Common.{◌≡◌, ⊎_elim, ℕ, zero, suc, ◌+◌, ◌<◌, ◌≤◌, true, false, eqb, List, [], ◌∷◌, ◌++◌, length, map, get_or, drop, refl, ap, ◌∙◌, sym, subst, arith}
 use Rattle.std.proofs.Math.ListN.{set}
 use Rattle.std.proofs.lemmas.Bool.{cases_eq}
 use Rattle.std.proofs.lemmas.List.{append-nil, append_assoc, drop_all, drop_more, ext_get_or, get_or-replicate, get_or-set_same, get_or-set_other}
 use Rattle.history.specs.declared.base.Sleeper.{Sleeper}
-use Rattle.history.specs.declared.base.Standing.{Standing}
+use Rattle.history.specs.declared.base.LinePlace.{LinePlace}
 use Rattle.history.specs.declared.header.Header.{Header}
 use Rattle.history.specs.declared.header.Object.{Object}
 use Rattle.history.specs.declared.header.Object.TheVariants.{Lock, ReadWrite, Semaphore, Latch}
@@ -18,14 +18,14 @@ use Rattle.history.proofs.Times.{once_same, one_if}
 use Rattle.history_text.specs.declared.base_line.BaseLine.{BaseLine}
 use Rattle.history_text.specs.declared.base_line.BaseLine.TheVariants.{Seat, Stands, Sleeps}
 use Rattle.history_text.specs.BaseFollowing.{IsCountedFor, AllRead, with_lines, after_told}
-use Rattle.history_text.specs.BaseTelling.{Follow, base_by, told_by}
+use Rattle.history_text.specs.BaseTelling.{Follow, base_by, sums_of}
 use Rattle.history_text.specs.BaseLines.{base_lines, first_line, seat_lines, sleeper_lines}
-use Rattle.history_text.specs.BaseRules.{AllSeated, IsFree, MayFollow, Told, told, untold, with_line}
+use Rattle.history_text.specs.BaseRules.{AllSeated, IsFree, MayFollow, BaseSums, with_sums, no_sums, with_line}
 use Rattle.history_text.proofs.BaseTold.{SoFar, all_told, begun, goes_on, no_sleepers, on_condition, sleeps_more, stands_more, waits_of}
 use Rattle.history_text.proofs.BaseWhole.{base-append, follow-append, told-append}
 
 -- what holds behind one part and another holds behind both
-moved : (P : Told → Base → Type 0) (t : Told) (b : Base) (xs ys : List BaseLine) →
+moved : (P : BaseSums → Base → Type 0) (t : BaseSums) (b : Base) (xs ys : List BaseLine) →
     P (after_told (after_told t xs) ys) (with_lines (with_lines b xs) ys) →
     P (after_told t (xs ++ ys)) (with_lines b (xs ++ ys))
 moved P t b xs ys p =
@@ -33,23 +33,23 @@ moved P t b xs ys p =
     (subst (λ a. P a (with_lines (with_lines b xs) ys)) (sym (told-append t xs ys)) p)
 
 -- lines follow, and this holds behind them
-abbrev Goes : (Told → Base → Type 0) → Told → Base → List BaseLine → Type 0
+abbrev Goes : (BaseSums → Base → Type 0) → BaseSums → Base → List BaseLine → Type 0
 Goes P t b xs = AllRead b t xs × P (after_told t xs) (with_lines b xs)
 
 -- one part behind another
-goes-append : (P Q : Told → Base → Type 0) (t : Told) (b : Base) (xs ys : List BaseLine) → Goes P t b xs →
+goes-append : (P Q : BaseSums → Base → Type 0) (t : BaseSums) (b : Base) (xs ys : List BaseLine) → Goes P t b xs →
     Goes Q (after_told t xs) (with_lines b xs) ys → Goes Q t b (xs ++ ys)
 goes-append P Q t b xs ys p q = (follow-append t b xs ys p.0 q.0, moved Q t b xs ys q.1)
 
 -- the base so far is this one's part
-pub record Agrees (g : Base) (t : Told) (b : Base) : Type 0 where
+pub record Agrees (g : Base) (t : BaseSums) (b : Base) : Type 0 where
   pub header : b.header ≡ g.header
   pub entries : b.entries ≡ g.entries
   pub unheld : b.unheld ≡ g.unheld
   pub count : b.count ≡ g.count
   pub free : (i : ℕ) → i < 256 → waits_of b i ≡ 0 → get_or t.waits i false ≡ false
 
-pub record AtSeats (g : Base) (n : ℕ) (t : Told) (b : Base) : Type 0 where
+pub record AtSeats (g : Base) (n : ℕ) (t : BaseSums) (b : Base) : Type 0 where
   pub agrees : Agrees g t b
   pub begun : 1 ≤ t.entries
   pub seats : t.seats ≡ n
@@ -59,7 +59,7 @@ pub record AtSeats (g : Base) (n : ℕ) (t : Told) (b : Base) : Type 0 where
   pub asleep : t.asleep ≡ false
   pub condition : t.condition ≡ 0
 
-pub record AtLine (g : Base) (front : List Standing) (t : Told) (b : Base) : Type 0 where
+pub record AtLine (g : Base) (front : List LinePlace) (t : BaseSums) (b : Base) : Type 0 where
   pub agrees : Agrees g t b
   pub all : AllSeated b.header t
   pub seats : b.seats ≡ g.seats
@@ -68,7 +68,7 @@ pub record AtLine (g : Base) (front : List Standing) (t : Told) (b : Base) : Typ
   pub asleep : t.asleep ≡ false
   pub condition : t.condition ≡ 0
 
-pub record AtSleepers (g : Base) (c : ℕ) (front : List Sleeper) (t : Told) (b : Base) : Type 0 where
+pub record AtSleepers (g : Base) (c : ℕ) (front : List Sleeper) (t : BaseSums) (b : Base) : Type 0 where
   pub agrees : Agrees g t b
   pub all : AllSeated b.header t
   pub seats : b.seats ≡ g.seats
@@ -81,16 +81,16 @@ pub record AtSleepers (g : Base) (c : ℕ) (front : List Sleeper) (t : Told) (b 
 -- the lines of a base tell it
 pub record IsTold (g : Base) : Type 0 where
   pub follow : Follow g.header (base_lines g)
-  pub all : AllSeated g.header (told_by (base_lines g))
+  pub all : AllSeated g.header (sums_of (base_lines g))
   pub same : base_by g.header (base_lines g) ≡ g
-  pub calls : (told_by (base_lines g)).calls ≡ calls (based g) []
+  pub calls : (sums_of (base_lines g)).calls ≡ calls (based g) []
 
 module _ (g : Base) (range : IsInRange g.header) (long : length g.seats ≡ g.header.seats)
     (many : length g.sleepers ≡ g.header.conditions) (counted : IsCountedFor g.header.object g) where
   -- a seat more
-  after_seat : (n : ℕ) (done : List BaseLine) (t : Told) (b : Base) → SoFar done t b → AtSeats g n t b →
+  after_seat : (n : ℕ) (done : List BaseLine) (t : BaseSums) (b : Base) → SoFar done t b → AtSeats g n t b →
       n < g.header.seats →
-      AtSeats g (n + 1) (told t (Seat n (seat_of g n))) (with_line b (Seat n (seat_of g n)))
+      AtSeats g (n + 1) (with_sums t (Seat n (seat_of g n))) (with_line b (Seat n (seat_of g n)))
   after_seat n done t b so at l =
       record {
         agrees = record {
@@ -120,7 +120,7 @@ module _ (g : Base) (range : IsInRange g.header) (long : length g.seats ≡ g.he
           omega (arith, e, h, l)
 
   -- one more is marked
-  free_more : (t : Told) (b : Base) (s : ℕ) (after : ℕ → ℕ) → Agrees g t b →
+  free_more : (t : BaseSums) (b : Base) (s : ℕ) (after : ℕ → ℕ) → Agrees g t b →
       ((i : ℕ) → after i ≡ waits_of b i + one_if (eqb s i)) → (i : ℕ) → i < 256 → after i ≡ 0 →
       get_or (set t.waits s true) i false ≡ false
   free_more t b s after agrees more i l z =
@@ -131,9 +131,9 @@ module _ (g : Base) (range : IsInRange g.header) (long : length g.seats ≡ g.he
       (cases_eq s i)
 
   -- one more in line
-  after_stands : (p : Standing) (front : List Standing) (done : List BaseLine) (t : Told) (b : Base) →
+  after_stands : (p : LinePlace) (front : List LinePlace) (done : List BaseLine) (t : BaseSums) (b : Base) →
       SoFar done t b → AtLine g front t b → IsFree t p.who.seat → StandsWell b p →
-      AtLine g (front ++ p ∷ []) (told t (Stands p)) (with_line b (Stands p))
+      AtLine g (front ++ p ∷ []) (with_sums t (Stands p)) (with_line b (Stands p))
   after_stands p front done t b so at is_free well =
       record {
         agrees = record {
@@ -153,9 +153,9 @@ module _ (g : Base) (range : IsInRange g.header) (long : length g.seats ≡ g.he
       }
 
   -- one more asleep
-  after_sleeps : (c : ℕ) (x : Sleeper) (front : List Sleeper) (done : List BaseLine) (t : Told) (b : Base) →
+  after_sleeps : (c : ℕ) (x : Sleeper) (front : List Sleeper) (done : List BaseLine) (t : BaseSums) (b : Base) →
       SoFar done t b → AtSleepers g c front t b → IsFree t x.seat → SleepsWell b c x →
-      AtSleepers g c (front ++ x ∷ []) (told t (Sleeps c x)) (with_line b (Sleeps c x))
+      AtSleepers g c (front ++ x ∷ []) (with_sums t (Sleeps c x)) (with_line b (Sleeps c x))
   after_sleeps c x front done t b so at is_free well =
       record {
         agrees = record {
@@ -181,7 +181,7 @@ module _ (g : Base) (range : IsInRange g.header) (long : length g.seats ≡ g.he
       }
 
   -- the next condition
-  next_list : (c : ℕ) (t : Told) (b : Base) → AtSleepers g c (sleepers_of g c) t b →
+  next_list : (c : ℕ) (t : BaseSums) (b : Base) → AtSleepers g c (sleepers_of g c) t b →
       AtSleepers g (c + 1) [] t b
   next_list c t b at =
       record {
@@ -199,7 +199,7 @@ module _ (g : Base) (range : IsInRange g.header) (long : length g.seats ≡ g.he
 
   -- the first line
   at_first : (n u v q : ℕ) → 1 ≤ n → n ≡ g.entries → v ≡ g.unheld → q ≡ g.count →
-      AtSeats g 0 (record untold { entries = n; unheld = u })
+      AtSeats g 0 (record no_sums { entries = n; unheld = u })
       (record (opening_base g.header) { entries = n; unheld = v; count = q })
   at_first n u v q some e d c =
       record {
@@ -220,7 +220,7 @@ module _ (g : Base) (range : IsInRange g.header) (long : length g.seats ≡ g.he
       }
 
   after_first : 1 ≤ g.entries → (o : Object) → g.header.object ≡ o → IsCountedFor o g →
-      AtSeats g 0 (told untold (first_line o g)) (with_line (opening_base g.header) (first_line o g))
+      AtSeats g 0 (with_sums no_sums (first_line o g)) (with_line (opening_base g.header) (first_line o g))
   after_first some (Lock p) q v =
       at_first g.entries 0 0 (opening_count g.header.object) some refl (sym v.0)
       (ap opening_count q ∙ sym v.1)
@@ -233,7 +233,7 @@ module _ (g : Base) (range : IsInRange g.header) (long : length g.seats ≡ g.he
   after_first some (Latch c) q v = at_first g.entries 0 0 g.count some refl (sym v) refl
 
   -- from part to part
-  line_next : (done : List BaseLine) (t : Told) (b : Base) → SoFar done t b →
+  line_next : (done : List BaseLine) (t : BaseSums) (b : Base) → SoFar done t b →
       AtSeats g g.header.seats t b → AtLine g [] t b
   line_next done t b so at =
       record {
@@ -253,7 +253,7 @@ module _ (g : Base) (range : IsInRange g.header) (long : length g.seats ≡ g.he
         condition = at.condition;
       }
 
-  sleepers_next : (t : Told) (b : Base) → AtLine g g.line t b → AtSleepers g 0 [] t b
+  sleepers_next : (t : BaseSums) (b : Base) → AtLine g g.line t b → AtSleepers g 0 [] t b
   sleepers_next t b at =
       record {
         agrees = at.agrees;
@@ -266,8 +266,8 @@ module _ (g : Base) (range : IsInRange g.header) (long : length g.seats ≡ g.he
         condition = let c = at.condition in omega (arith, c);
       }
 
-  -- what was told is this base
-  told_same : (done : List BaseLine) (t : Told) (b : Base) → SoFar done t b →
+  -- what was with_sums is this base
+  told_same : (done : List BaseLine) (t : BaseSums) (b : Base) → SoFar done t b →
       AtSleepers g g.header.conditions [] t b → b ≡ g
   told_same done t b so at =
       λ j. record {
@@ -289,25 +289,25 @@ module _ (g : Base) (range : IsInRange g.header) (long : length g.seats ≡ g.he
           (λ d l. at.before d (let e = so_many in omega (arith, e, l)))
 
   -- All lines go so where each may follow, by what is known of it and of those behind it.
-  module _ (Known : Told → List BaseLine → Type 0)
-      (first : (xs : List BaseLine) → Known untold (first_line g.header.object g ∷ xs) →
-      (1 ≤ g.entries) × MayFollow untold (opening_base g.header) (first_line g.header.object g)
-      × Known (told untold (first_line g.header.object g)) xs)
-      (seat : (n : ℕ) (done : List BaseLine) (t : Told) (b : Base) → SoFar done t b → AtSeats g n t b →
+  module _ (Known : BaseSums → List BaseLine → Type 0)
+      (first : (xs : List BaseLine) → Known no_sums (first_line g.header.object g ∷ xs) →
+      (1 ≤ g.entries) × MayFollow no_sums (opening_base g.header) (first_line g.header.object g)
+      × Known (with_sums no_sums (first_line g.header.object g)) xs)
+      (seat : (n : ℕ) (done : List BaseLine) (t : BaseSums) (b : Base) → SoFar done t b → AtSeats g n t b →
       n < g.header.seats → (xs : List BaseLine) → Known t (Seat n (seat_of g n) ∷ xs) →
-      MayFollow t b (Seat n (seat_of g n)) × Known (told t (Seat n (seat_of g n))) xs)
-      (stand : (p : Standing) (front rest : List Standing) (done : List BaseLine) (t : Told) (b : Base) →
+      MayFollow t b (Seat n (seat_of g n)) × Known (with_sums t (Seat n (seat_of g n))) xs)
+      (stand : (p : LinePlace) (front rest : List LinePlace) (done : List BaseLine) (t : BaseSums) (b : Base) →
       SoFar done t b → AtLine g front t b → front ++ p ∷ rest ≡ g.line → (xs : List BaseLine) →
-      Known t (Stands p ∷ xs) → MayFollow t b (Stands p) × Known (told t (Stands p)) xs)
-      (sleep : (c : ℕ) (x : Sleeper) (front rest : List Sleeper) (done : List BaseLine) (t : Told)
+      Known t (Stands p ∷ xs) → MayFollow t b (Stands p) × Known (with_sums t (Stands p)) xs)
+      (sleep : (c : ℕ) (x : Sleeper) (front rest : List Sleeper) (done : List BaseLine) (t : BaseSums)
       (b : Base) → SoFar done t b → AtSleepers g c front t b → front ++ x ∷ rest ≡ sleepers_of g c →
       (xs : List BaseLine) → Known t (Sleeps c x ∷ xs) →
-      MayFollow t b (Sleeps c x) × Known (told t (Sleeps c x)) xs) where
+      MayFollow t b (Sleeps c x) × Known (with_sums t (Sleeps c x)) xs) where
     -- a place with what is known of the lines behind it
-    abbrev With : (Told → Base → Type 0) → List BaseLine → Told → Base → Type 0
+    abbrev With : (BaseSums → Base → Type 0) → List BaseLine → BaseSums → Base → Type 0
     With P xs t b = P t b × Known t xs
 
-    seats_go : (m n : ℕ) (done : List BaseLine) (t : Told) (b : Base) (xs : List BaseLine) → SoFar done t b →
+    seats_go : (m n : ℕ) (done : List BaseLine) (t : BaseSums) (b : Base) (xs : List BaseLine) → SoFar done t b →
         AtSeats g n t b → n + m ≡ g.header.seats → Known t (seat_lines n (drop n g.seats) ++ xs) →
         Goes (With (AtSeats g g.header.seats) xs) t b (seat_lines n (drop n g.seats))
     seats_go zero n done t b xs so at e known =
@@ -322,24 +322,24 @@ module _ (g : Base) (range : IsInRange g.header) (long : length g.seats ≡ g.he
         drop_more g.seats n nothing (omega (arith, l, long)) in
         let may = seat n done t b so at l (seat_lines (n + 1) (drop (n + 1) g.seats) ++ xs)
         (subst (λ l. Known t (seat_lines n l ++ xs)) more known) in
-        let rest = seats_go m (n + 1) (done ++ x ∷ []) (told t x) (with_line b x) xs
+        let rest = seats_go m (n + 1) (done ++ x ∷ []) (with_sums t x) (with_line b x) xs
         (goes_on done t b x so may.0) (after_seat n done t b so at l) (omega (arith, e)) may.1 in
         subst (λ l. Goes (With (AtSeats g g.header.seats) xs) t b (seat_lines n l)) (sym more)
         ((may.0, rest.0), rest.1)
 
-    line_goes : (rest front : List Standing) (done : List BaseLine) (t : Told) (b : Base)
+    line_goes : (rest front : List LinePlace) (done : List BaseLine) (t : BaseSums) (b : Base)
         (xs : List BaseLine) → SoFar done t b → AtLine g front t b → front ++ rest ≡ g.line →
         Known t (map Stands rest ++ xs) → Goes (With (AtLine g g.line) xs) t b (map Stands rest)
     line_goes [] front done t b xs so at e known =
         (tt, (subst (λ l. AtLine g l t b) (sym (append-nil front) ∙ e) at, known))
     line_goes (p ∷ rest) front done t b xs so at e known =
         let may = stand p front rest done t b so at e (map Stands rest ++ xs) known in
-        let go = line_goes rest (front ++ p ∷ []) (done ++ Stands p ∷ []) (told t (Stands p))
+        let go = line_goes rest (front ++ p ∷ []) (done ++ Stands p ∷ []) (with_sums t (Stands p))
         (with_line b (Stands p)) xs (goes_on done t b (Stands p) so may.0)
         (after_stands p front done t b so at may.0.2 may.0.3) (append_assoc front (p ∷ []) rest ∙ e) may.1 in
         ((may.0, go.0), go.1)
 
-    list_goes : (c : ℕ) (rest front : List Sleeper) (done : List BaseLine) (t : Told) (b : Base)
+    list_goes : (c : ℕ) (rest front : List Sleeper) (done : List BaseLine) (t : BaseSums) (b : Base)
         (xs : List BaseLine) → SoFar done t b → AtSleepers g c front t b → front ++ rest ≡ sleepers_of g c →
         Known t (map (Sleeps c) rest ++ xs) →
         Goes (With (AtSleepers g c (sleepers_of g c)) xs) t b (map (Sleeps c) rest)
@@ -347,13 +347,13 @@ module _ (g : Base) (range : IsInRange g.header) (long : length g.seats ≡ g.he
         (tt, (subst (λ l. AtSleepers g c l t b) (sym (append-nil front) ∙ e) at, known))
     list_goes c (x ∷ rest) front done t b xs so at e known =
         let may = sleep c x front rest done t b so at e (map (Sleeps c) rest ++ xs) known in
-        let go = list_goes c rest (front ++ x ∷ []) (done ++ Sleeps c x ∷ []) (told t (Sleeps c x))
+        let go = list_goes c rest (front ++ x ∷ []) (done ++ Sleeps c x ∷ []) (with_sums t (Sleeps c x))
         (with_line b (Sleeps c x)) xs (goes_on done t b (Sleeps c x) so may.0)
         (after_sleeps c x front done t b so at may.0.2 may.0.3) (append_assoc front (x ∷ []) rest ∙ e)
         may.1 in
         ((may.0, go.0), go.1)
 
-    lists_go : (m c : ℕ) (done : List BaseLine) (t : Told) (b : Base) → SoFar done t b →
+    lists_go : (m c : ℕ) (done : List BaseLine) (t : BaseSums) (b : Base) → SoFar done t b →
         AtSleepers g c [] t b → c + m ≡ g.header.conditions →
         Known t (sleeper_lines c (drop c g.sleepers)) →
         Goes (AtSleepers g g.header.conditions []) t b (sleeper_lines c (drop c g.sleepers))
@@ -378,7 +378,7 @@ module _ (g : Base) (range : IsInRange g.header) (long : length g.seats ≡ g.he
         ys here rest)
 
     -- behind the seats
-    wait_goes : (done : List BaseLine) (t : Told) (b : Base) → SoFar done t b → AtSeats g g.header.seats t b →
+    wait_goes : (done : List BaseLine) (t : BaseSums) (b : Base) → SoFar done t b → AtSeats g g.header.seats t b →
         Known t (map Stands g.line ++ sleeper_lines 0 g.sleepers) →
         Goes (AtSleepers g g.header.conditions []) t b (map Stands g.line ++ sleeper_lines 0 g.sleepers)
     wait_goes done t b so at known =
@@ -392,7 +392,7 @@ module _ (g : Base) (range : IsInRange g.header) (long : length g.seats ≡ g.he
         go.1.1)
 
     -- behind the first line
-    rest_goes : (done : List BaseLine) (t : Told) (b : Base) → SoFar done t b → AtSeats g 0 t b →
+    rest_goes : (done : List BaseLine) (t : BaseSums) (b : Base) → SoFar done t b → AtSeats g 0 t b →
         Known t (seat_lines 0 g.seats ++ (map Stands g.line ++ sleeper_lines 0 g.sleepers)) →
         Goes (AtSleepers g g.header.conditions []) t b
         (seat_lines 0 g.seats ++ (map Stands g.line ++ sleeper_lines 0 g.sleepers))
@@ -404,33 +404,33 @@ module _ (g : Base) (range : IsInRange g.header) (long : length g.seats ≡ g.he
         (wait_goes (done ++ xs) (after_told t xs) (with_lines b xs) (all_told done xs t b so go.0) go.1.0
         go.1.1)
 
-    all_go : Known untold (base_lines g) →
-        Goes (AtSleepers g g.header.conditions []) untold (opening_base g.header) (base_lines g)
+    all_go : Known no_sums (base_lines g) →
+        Goes (AtSleepers g g.header.conditions []) no_sums (opening_base g.header) (base_lines g)
     all_go known =
         let x = first_line g.header.object g in
         let k = opening_base g.header in
         let may = first (seat_lines 0 g.seats ++ (map Stands g.line ++ sleeper_lines 0 g.sleepers)) known in
-        let rest = rest_goes (x ∷ []) (told untold x) (with_line k x)
-        (all_told [] (x ∷ []) untold k (begun g.header range) (may.1, tt))
+        let rest = rest_goes (x ∷ []) (with_sums no_sums x) (with_line k x)
+        (all_told [] (x ∷ []) no_sums k (begun g.header range) (may.1, tt))
         (after_first may.0 g.header.object refl counted) may.2 in
         ((may.1, rest.0), rest.1)
 
     -- so all lines tell this base
-    pub base_told : Known untold (base_lines g) → IsTold g
+    pub base_told : Known no_sums (base_lines g) → IsTold g
     base_told known =
         record {
           follow = go.0;
-          all = subst (λ h. AllSeated h (told_by (base_lines g))) go.1.agrees.header go.1.all;
+          all = subst (λ h. AllSeated h (sums_of (base_lines g))) go.1.agrees.header go.1.all;
           same = same;
           calls = sym so.summed.calls
               ∙ ap (λ (a : Base). total a.header.seats (λ i. (seat_of a i).calls)) same;
         }
       where
-        go : Goes (AtSleepers g g.header.conditions []) untold (opening_base g.header) (base_lines g)
+        go : Goes (AtSleepers g g.header.conditions []) no_sums (opening_base g.header) (base_lines g)
         go = all_go known
 
-        so : SoFar (base_lines g) (told_by (base_lines g)) (base_by g.header (base_lines g))
-        so = all_told [] (base_lines g) untold (opening_base g.header) (begun g.header range) go.0
+        so : SoFar (base_lines g) (sums_of (base_lines g)) (base_by g.header (base_lines g))
+        so = all_told [] (base_lines g) no_sums (opening_base g.header) (begun g.header range) go.0
 
         same : base_by g.header (base_lines g) ≡ g
-        same = told_same (base_lines g) (told_by (base_lines g)) (base_by g.header (base_lines g)) so go.1
+        same = told_same (base_lines g) (sums_of (base_lines g)) (base_by g.header (base_lines g)) so go.1

@@ -1,4 +1,4 @@
--- Whatever lines of a base follow one another, more can follow until all seats are told: so some good base
+-- Whatever lines of a base follow one another, more can follow until all seats are with_sums: so some good base
 -- begins with them.
 use Rattle.std.proofs.Common.{◌≡◌, inl, inr, ⊎_elim, ℕ, zero, suc, ◌+◌, ◌-◌, ◌<◌, ◌≤◌, List, [], ◌∷◌, ◌++◌, refl, ap, sym, subst, arith}
 use Rattle.std.specs.Prelude.{ℤ, pos, neg_ℤ, FitsSigned}
@@ -19,48 +19,48 @@ use Rattle.history.specs.Steps.{at_least_none}
 use Rattle.history_text.specs.declared.base_line.BaseLine.{BaseLine}
 use Rattle.history_text.specs.declared.base_line.BaseLine.TheVariants.{Folded, Released, CountedDown, Seat}
 use Rattle.history_text.specs.BaseFollowing.{AllRead, with_lines, after_told}
-use Rattle.history_text.specs.BaseTelling.{Follow, base_by, told_by}
+use Rattle.history_text.specs.BaseTelling.{Follow, base_by, sums_of}
 use Rattle.history_text.specs.ToldBases.{IsToldBase}
 use Rattle.history_text.specs.BaseLines.{base_lines}
-use Rattle.history_text.specs.BaseRules.{AllSeated, MayFollow, MayHold, Told, told, untold, with_line}
+use Rattle.history_text.specs.BaseRules.{AllSeated, MayFollow, MayHold, BaseSums, with_sums, no_sums, with_line}
 use Rattle.history_text.proofs.BaseTold.{HeldSoFar, SoFar, Summed, goes_on, header_after, header_kept, pos_kept, told_so_far, whole_told}
 
 -- lines behind lines
-pub told-append : (t : Told) (xs ys : List BaseLine) →
+pub told-append : (t : BaseSums) (xs ys : List BaseLine) →
     after_told t (xs ++ ys) ≡ after_told (after_told t xs) ys
 told-append t [] ys = refl
-told-append t (x ∷ xs) ys = told-append (told t x) xs ys
+told-append t (x ∷ xs) ys = told-append (with_sums t x) xs ys
 
 pub base-append : (b : Base) (xs ys : List BaseLine) →
     with_lines b (xs ++ ys) ≡ with_lines (with_lines b xs) ys
 base-append b [] ys = refl
 base-append b (x ∷ xs) ys = base-append (with_line b x) xs ys
 
-pub follow-append : (t : Told) (b : Base) (xs ys : List BaseLine) → AllRead b t xs →
+pub follow-append : (t : BaseSums) (b : Base) (xs ys : List BaseLine) → AllRead b t xs →
     AllRead (with_lines b xs) (after_told t xs) ys → AllRead b t (xs ++ ys)
 follow-append t b [] ys p q = q
-follow-append t b (x ∷ xs) ys p q = (p.0, follow-append (told t x) (with_line b x) xs ys p.1 q)
+follow-append t b (x ∷ xs) ys p q = (p.0, follow-append (with_sums t x) (with_line b x) xs ys p.1 q)
 
-pub follow_front : (t : Told) (b : Base) (xs ys : List BaseLine) → AllRead b t (xs ++ ys) → AllRead b t xs
+pub follow_front : (t : BaseSums) (b : Base) (xs ys : List BaseLine) → AllRead b t (xs ++ ys) → AllRead b t xs
 follow_front t b [] ys p = tt
-follow_front t b (x ∷ xs) ys p = (p.0, follow_front (told t x) (with_line b x) xs ys p.1)
+follow_front t b (x ∷ xs) ys p = (p.0, follow_front (with_sums t x) (with_line b x) xs ys p.1)
 
 -- the permits that the next seat takes so that no more are free than may be
-abbrev needed : Object → Told → ℕ
+abbrev needed : Object → BaseSums → ℕ
 needed (Lock policy) t = 0
 needed (ReadWrite policy) t = 0
 needed (Semaphore policy permits) t =
     (t.unheld + at_least_none permits) - (2147483647 + t.shared + at_least_none (neg_ℤ permits))
 needed (Latch opening) t = 0
 
-abbrev next_seat : Object → Told → SeatBase
+abbrev next_seat : Object → BaseSums → SeatBase
 next_seat o t = record { calls = 0; exclusive = 0; shared = needed o t }
 
 few_created : (c : ℤ) → FitsSigned w32 c → at_least_none c ≤ 2147483647
 few_created (pos n) f = let e = pos_kept n in omega (arith, ints, e, f)
 few_created (negsuc n) f = let e : at_least_none (negsuc n) ≡ 0 = refl in omega (arith, e)
 
-may_hold : (t : Told) (b : Base) → Summed t b → (o : Object) → b.header.object ≡ o → HeldSoFar o t b →
+may_hold : (t : BaseSums) (b : Base) → Summed t b → (o : Object) → b.header.object ≡ o → HeldSoFar o t b →
     AreCounted o b → IsOpening o b.header.conditions → MayHold o b.header.seats t (next_seat o t)
 may_hold t b sums (Lock p) q v counted opening = (omega arith, refl, inr refl)
 may_hold t b sums (ReadWrite p) q v counted opening = (
@@ -77,8 +77,8 @@ may_hold t b sums (Semaphore p c) q v counted opening = (
 )
 may_hold t b sums (Latch n) q v counted opening = (refl, refl)
 
--- until all seats are told
-pub seats_follow : (n : ℕ) (done : List BaseLine) (t : Told) (b : Base) → SoFar done t b → 1 ≤ t.entries →
+-- until all seats are with_sums
+pub seats_follow : (n : ℕ) (done : List BaseLine) (t : BaseSums) (b : Base) → SoFar done t b → 1 ≤ t.entries →
     t.seats + n ≡ b.header.seats →
     (more : List BaseLine) × AllRead b t more × AllSeated b.header (after_told t more)
 seats_follow zero done t b so some e = ([], tt, record { begun = some; seats = omega (arith, e) })
@@ -92,13 +92,13 @@ seats_follow (suc n) done t b so some e =
       calls = let few = so.summed.few in omega (arith, few);
       holds = may_hold t b so.summed b.header.object refl so.held so.counted so.range.opening;
     } in
-    let rest = seats_follow n (done ++ Seat t.seats has ∷ []) (told t (Seat t.seats has))
+    let rest = seats_follow n (done ++ Seat t.seats has ∷ []) (with_sums t (Seat t.seats has))
     (with_line b (Seat t.seats has)) (goes_on done t b (Seat t.seats has) so may) some (omega (arith, e)) in
     (Seat t.seats has ∷ rest.0, (may, rest.1), rest.2)
 
--- the first line, if none was told
-first_follows : (t : Told) (b : Base) → t.entries ≡ 0 → (o : Object) → b.header.object ≡ o →
-    (x : BaseLine) × MayFollow t b x × (1 ≤ (told t x).entries) × ((told t x).seats ≡ t.seats)
+-- the first line, if none was with_sums
+first_follows : (t : BaseSums) (b : Base) → t.entries ≡ 0 → (o : Object) → b.header.object ≡ o →
+    (x : BaseLine) × MayFollow t b x × (1 ≤ (with_sums t x).entries) × ((with_sums t x).seats ≡ t.seats)
     × ((with_line b x).header ≡ b.header)
 first_follows t b z (Lock p) q = (
   Folded 1,
@@ -129,7 +129,7 @@ first_follows t b z (Latch c) q = (
   refl,
 )
 
-pub more_follow : (done : List BaseLine) (t : Told) (b : Base) → SoFar done t b →
+pub more_follow : (done : List BaseLine) (t : BaseSums) (b : Base) → SoFar done t b →
     (more : List BaseLine) × AllRead b t more × AllSeated b.header (after_told t more)
 more_follow done t b so = ⊎_elim some none (cases_lt 0 t.entries)
   where
@@ -142,21 +142,21 @@ more_follow done t b so = ⊎_elim some none (cases_lt 0 t.entries)
     none l =
         let first = first_follows t b (omega (arith, l)) b.header.object refl in
         let now = goes_on done t b first.0 so first.1 in
-        let rest = seats_follow ((with_line b first.0).header.seats - (told t first.0).seats)
-        (done ++ first.0 ∷ []) (told t first.0) (with_line b first.0) now first.2
+        let rest = seats_follow ((with_line b first.0).header.seats - (with_sums t first.0).seats)
+        (done ++ first.0 ∷ []) (with_sums t first.0) (with_line b first.0) now first.2
         (let m = now.summed.seats in omega (arith, m)) in (
           first.0 ∷ rest.0,
           (first.1, rest.1),
-          subst (λ h. AllSeated h (after_told (told t first.0) rest.0)) (header_kept b first.0) rest.2,
+          subst (λ h. AllSeated h (after_told (with_sums t first.0) rest.0)) (header_kept b first.0) rest.2,
         )
 
 pub some_base : (k : Header) (xs : List BaseLine) → IsInRange k → Follow k xs →
     (b : Base) × (more : List BaseLine) × IsToldBase k b × (base_lines b ≡ xs ++ more)
 some_base k xs range follow =
-    let rest = more_follow xs (told_by xs) (base_by k xs) (told_so_far k xs range follow) in
-    let all = follow-append untold (opening_base k) xs rest.0 follow rest.1 in
-    let seated : AllSeated k (told_by (xs ++ rest.0)) =
-    subst (λ t. AllSeated k t) (sym (told-append untold xs rest.0))
-    (subst (λ h. AllSeated h (after_told (told_by xs) rest.0)) (header_after (opening_base k) xs) rest.2) in
+    let rest = more_follow xs (sums_of xs) (base_by k xs) (told_so_far k xs range follow) in
+    let all = follow-append no_sums (opening_base k) xs rest.0 follow rest.1 in
+    let seated : AllSeated k (sums_of (xs ++ rest.0)) =
+    subst (λ t. AllSeated k t) (sym (told-append no_sums xs rest.0))
+    (subst (λ h. AllSeated h (after_told (sums_of xs) rest.0)) (header_after (opening_base k) xs) rest.2) in
     let whole = whole_told k (xs ++ rest.0) range all seated in
     (base_by k (xs ++ rest.0), rest.0, whole.1, sym whole.0)

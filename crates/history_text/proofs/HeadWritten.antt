@@ -16,15 +16,15 @@ use Rattle.history_text.specs.declared.base_line.BaseLine.{BaseLine}
 use Rattle.history_text.specs.declared.base_line.BaseLine.TheVariants.{Folded, Released, CountedDown, Seat, Stands, Sleeps}
 use Rattle.history_text.specs.BaseFollowing.{AllFollow}
 use Rattle.history_text.specs.BaseLines.{IsBaseLine, base_lines}
-use Rattle.history_text.specs.BaseRules.{MayFollow, Told, told, untold}
+use Rattle.history_text.specs.BaseRules.{MayFollow, BaseSums, with_sums, no_sums}
 use Rattle.history_text.specs.BaseText.{IsHeadPut, calls_sum, lines_text}
 use Rattle.history_text.specs.HistoryLines.{head_line, head_of, lines_told, name_of}
 use Rattle.history_text.proofs.BaseLineLemmas.{may_follow_spelt}
 use Rattle.history_text.proofs.BaseTheory.{IsGoodOf, good_follows}
 use Rattle.history_text.proofs.HistoryItems.{some_entries, told_some}
 
-few_then : (t : Told) (b : Base) (x : BaseLine) → t.entries ≤ most_folded → MayFollow t b x →
-    (told t x).entries ≤ most_folded
+few_then : (t : BaseSums) (b : Base) (x : BaseLine) → t.entries ≤ most_folded → MayFollow t b x →
+    (with_sums t x).entries ≤ most_folded
 few_then t b (Folded n) few may = may.0.most
 few_then t b (Released n u) few may = may.0.most
 few_then t b (CountedDown n q) few may = may.0.most
@@ -32,17 +32,17 @@ few_then t b (Seat i has) few may = few
 few_then t b (Stands p) few may = few
 few_then t b (Sleeps c x) few may = few
 
-follow_spelt : (t : Told) (b : Base) (xs : List BaseLine) → IsInRange b.header → t.entries ≤ most_folded →
+follow_spelt : (t : BaseSums) (b : Base) (xs : List BaseLine) → IsInRange b.header → t.entries ≤ most_folded →
     AllFollow b t xs → AllByRecursion IsBaseLine xs
 follow_spelt t b [] range few all = tt
 follow_spelt t b (x ∷ xs) range few all = (
   may_follow_spelt t b x range few all.0,
-  follow_spelt (told t x) b xs range (few_then t b x few all.0) all.1,
+  follow_spelt (with_sums t x) b xs range (few_then t b x few all.0) all.1,
 )
 
 -- each line of a good base has numbers that it may have
 pub good_spelt : (b : Base) → IsGoodOf b → AllByRecursion IsBaseLine (base_lines b)
-good_spelt b of = follow_spelt untold b (base_lines b) of.range (omega arith) (good_follows b of)
+good_spelt b of = follow_spelt no_sums b (base_lines b) of.range (omega arith) (good_follows b of)
 
 total_first : (n : ℕ) (f : ℕ → ℕ) → total (suc n) f ≡ f 0 + total n (λ i. f (suc i))
 total_first zero f = omega arith

@@ -5,7 +5,7 @@ use Rattle.std.proofs.lemmas.Bool.{lt-ltb, ltb-true}
 use Rattle.std.proofs.lemmas.List.{length-append, length-map}
 use Rattle.history.specs.declared.base.SeatBase.{SeatBase}
 use Rattle.history.specs.declared.base.Sleeper.{Sleeper}
-use Rattle.history.specs.declared.base.Standing.{Standing}
+use Rattle.history.specs.declared.base.LinePlace.{LinePlace}
 use Rattle.history.specs.declared.entry.Entry.{Entry}
 use Rattle.history.specs.declared.header.Header.{Header}
 use Rattle.history.specs.declared.header.Object.{Object}
@@ -86,9 +86,9 @@ seat_calls : (i : ℕ) (xs : List SeatBase) → sum_of calls_told (map Based (se
 seat_calls i [] = refl
 seat_calls i (x ∷ xs) = omega (arith, seat_calls (i + 1) xs)
 
-module _ (f : Line → ℕ) (stands : (p : Standing) → f (Based (Stands p)) ≡ 0)
+module _ (f : Line → ℕ) (stands : (p : LinePlace) → f (Based (Stands p)) ≡ 0)
     (sleeps : (c : ℕ) (x : Sleeper) → f (Based (Sleeps c x)) ≡ 0) where
-  no_standings : (ps : List Standing) → sum_of f (map Based (map Stands ps)) ≡ 0
+  no_standings : (ps : List LinePlace) → sum_of f (map Based (map Stands ps)) ≡ 0
   no_standings [] = refl
   no_standings (p ∷ ps) = omega (arith, stands p, no_standings ps)
 

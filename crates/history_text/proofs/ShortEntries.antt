@@ -12,7 +12,7 @@ use Rattle.history.specs.declared.entry.Word.TheVariants.{Back, Queued}
 use Rattle.history.specs.declared.fault.Fault.{Fault}
 use Rattle.history.specs.declared.fault.Fault.TheVariants.{NotOwner, TooManyHolds, TooManyPermits, Interrupted, HoldsRead, OutOfPhase, NoSuchCondition, BadAmount, WrongMode, HistoryFull, OutOfMemory, TrimFull}
 use Rattle.history.specs.declared.header.Header.{Header}
-use Rattle.history.specs.declared.base.Standing.{Standing}
+use Rattle.history.specs.declared.base.LinePlace.{LinePlace}
 use Rattle.history.specs.EntryWords.{IsWritten, end_word, entry_words, mode_word, spelt}
 use Rattle.history.specs.Fault.{fault_name}
 use Rattle.history.specs.Header.{IsInRange}
@@ -137,7 +137,7 @@ head_short h range =
       length-append (codes "aqs-history 1 ") (part_of h.header),
     )
 
-pub waiting_short : (p : Standing) (b : Bool) → IsWritten (waiting_by b p) →
+pub waiting_short : (p : LinePlace) (b : Bool) → IsWritten (waiting_by b p) →
     AreShort (entry_words (waiting_by b p)) × (length (entry_words (waiting_by b p)) ≤ 4)
 waiting_short p true written = words_short Back X p.holds p.condition p.how written.amount written.condition
 waiting_short p false written =

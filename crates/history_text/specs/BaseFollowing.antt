@@ -5,21 +5,21 @@ use Rattle.history.specs.declared.header.Object.TheVariants.{Lock, ReadWrite, Se
 use Rattle.history.specs.Base.{Base, nothing}
 use Rattle.history.specs.Object.{opening_count}
 use Rattle.history_text.specs.declared.base_line.BaseLine.{BaseLine}
-use Rattle.history_text.specs.BaseRules.{MayFollow, Told, told, with_line}
+use Rattle.history_text.specs.BaseRules.{MayFollow, BaseSums, with_sums, with_line}
 
 -- in a base that has all its seats
-abbrev pub AllFollow : Base → Told → List BaseLine → Type 0
+abbrev pub AllFollow : Base → BaseSums → List BaseLine → Type 0
 AllFollow b t [] = Unit {0}
-AllFollow b t (x ∷ xs) = MayFollow t b x × AllFollow b (told t x) xs
+AllFollow b t (x ∷ xs) = MayFollow t b x × AllFollow b (with_sums t x) xs
 
 -- in a base that is being read
-abbrev pub AllRead : Base → Told → List BaseLine → Type 0
+abbrev pub AllRead : Base → BaseSums → List BaseLine → Type 0
 AllRead b t [] = Unit {0}
-AllRead b t (x ∷ xs) = MayFollow t b x × AllRead (with_line b x) (told t x) xs
+AllRead b t (x ∷ xs) = MayFollow t b x × AllRead (with_line b x) (with_sums t x) xs
 
-abbrev pub after_told : Told → List BaseLine → Told
+abbrev pub after_told : BaseSums → List BaseLine → BaseSums
 after_told t [] = t
-after_told t (x ∷ xs) = after_told (told t x) xs
+after_told t (x ∷ xs) = after_told (with_sums t x) xs
 
 abbrev pub with_lines : Base → List BaseLine → Base
 with_lines b [] = b
@@ -48,6 +48,6 @@ pub record IsUnused (b : Base) : Type 0 where
   pub sleepers : (length b.sleepers ≡ b.header.conditions) × All (λ list. list ≡ []) b.sleepers
 
 -- whether these lines may follow those that were read, and the sums with them
-abbrev pub HaveFollowed : Bool → Base → Told → Told → List BaseLine → Type 0
+abbrev pub HaveFollowed : Bool → Base → BaseSums → BaseSums → List BaseLine → Type 0
 HaveFollowed true b t new xs = AllFollow b t xs × (new ≡ after_told t xs)
 HaveFollowed false b t new xs = AllFollow b t xs → ⊥

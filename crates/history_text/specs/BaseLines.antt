@@ -2,7 +2,7 @@
 use Rattle.std.specs.Prelude.{◌≡◌, ℕ, ◌+◌, ◌≤◌, Bool, true, false, List, [], ◌∷◌, ◌++◌, map, codes, decimal}
 use Rattle.history.specs.declared.base.SeatBase.{SeatBase}
 use Rattle.history.specs.declared.base.Sleeper.{Sleeper}
-use Rattle.history.specs.declared.base.Standing.{Standing}
+use Rattle.history.specs.declared.base.LinePlace.{LinePlace}
 use Rattle.history.specs.declared.entry.End.TheVariants as end
 use Rattle.history.specs.declared.entry.Entry.{Entry}
 use Rattle.history.specs.declared.entry.Mode.TheVariants.{X}
@@ -17,13 +17,13 @@ use Rattle.history_text.specs.declared.base_line.BaseLine.{BaseLine}
 use Rattle.history_text.specs.declared.base_line.BaseLine.TheVariants.{Folded, Released, CountedDown, Seat, Stands, Sleeps}
 
 -- the entry whose words spell what a waiter waits for
-abbrev pub waiting_by : Bool → Standing → Entry
+abbrev pub waiting_by : Bool → LinePlace → Entry
 waiting_by true p =
     record { seat = p.who.seat; word = Back; mode = X; n = p.holds; at = p.condition; end = p.how }
 waiting_by false p =
     record { seat = p.who.seat; word = Queued; mode = p.who.mode; n = p.who.n; at = 0; end = end.None }
 
-abbrev pub waiting_entry : Standing → Entry
+abbrev pub waiting_entry : LinePlace → Entry
 waiting_entry p = waiting_by p.who.back p
 
 -- the words of a line
@@ -41,7 +41,7 @@ abbrev pub base_line : BaseLine → List ℕ
 base_line x = line_of (base_words x)
 
 -- a waiter that waits for what its acquire asks for, and one that comes back from a condition
-abbrev pub queued : Entry → Standing
+abbrev pub queued : Entry → LinePlace
 queued e =
     record {
       who = record { seat = e.seat; mode = e.mode; n = e.n; back = false };
@@ -50,7 +50,7 @@ queued e =
       how = end.None;
     }
 
-abbrev pub comes_back : Entry → Standing
+abbrev pub comes_back : Entry → LinePlace
 comes_back e =
     record {
       who = record { seat = e.seat; mode = X; n = 1; back = true };
@@ -59,7 +59,7 @@ comes_back e =
       how = e.end;
     }
 
-abbrev pub stood_by : Bool → Entry → Standing
+abbrev pub stood_by : Bool → Entry → LinePlace
 stood_by true e = comes_back e
 stood_by false e = queued e
 

@@ -1,6 +1,6 @@
 -- What the readers of base lines return: what they read, and the words that are left.
 use Rattle.std.specs.Prelude.{ℕ, [], ◌∷◌, Option, None, Some, codes, bytes_eq, if◌then◌else◌}
-use Rattle.history.specs.declared.base.Standing.{Standing}
+use Rattle.history.specs.declared.base.LinePlace.{LinePlace}
 use Rattle.history.specs.declared.entry.Entry.{Entry}
 use Rattle.history.specs.declared.entry.Word.{Word}
 use Rattle.history.specs.declared.entry.Word.TheVariants.{Queued, Back}
@@ -36,7 +36,7 @@ has_at words = do
   Some (Seat i.0 (record { calls = calls.0; exclusive = exclusive.0; shared = shared.0 }), shared.1)
 
 -- the waiter in the queue, from the entry whose words spell what it waits for
-abbrev pub standing_of : Word → Entry → Option Standing
+abbrev pub standing_of : Word → Entry → Option LinePlace
 standing_of Queued e = Some (queued e)
 standing_of Back e = Some (comes_back e)
 standing_of w e = None

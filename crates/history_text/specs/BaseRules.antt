@@ -14,7 +14,7 @@ use Rattle.history_text.specs.declared.base_line.BaseLine.{BaseLine}
 use Rattle.history_text.specs.declared.base_line.BaseLine.TheVariants.{Folded, Released, CountedDown, Seat, Stands, Sleeps}
 
 -- The sums over the lines of a base that were read.
-pub record Told : Type 0 where
+pub record BaseSums : Type 0 where
   pub entries : ℕ  -- how many entries were folded; 0 before the first line
   pub unheld : ℕ
   pub seats : ℕ  -- how many seats were read
@@ -26,8 +26,8 @@ pub record Told : Type 0 where
   pub condition : ℕ
 
 -- before any line
-abbrev pub untold : Told
-untold =
+abbrev pub no_sums : BaseSums
+no_sums =
     record {
       entries = 0;
       unheld = 0;
@@ -41,24 +41,24 @@ untold =
     }
 
 -- after one more line
-abbrev pub told : Told → BaseLine → Told
-told t (Folded entries) = record t { entries = entries }
-told t (Released entries unheld) = record t { entries = entries; unheld = unheld }
-told t (CountedDown entries count) = record t { entries = entries }
-told t (Seat i has) =
+abbrev pub with_sums : BaseSums → BaseLine → BaseSums
+with_sums t (Folded entries) = record t { entries = entries }
+with_sums t (Released entries unheld) = record t { entries = entries; unheld = unheld }
+with_sums t (CountedDown entries count) = record t { entries = entries }
+with_sums t (Seat i has) =
     record t {
       seats = t.seats + 1;
       calls = t.calls + has.calls;
       exclusive = t.exclusive + has.exclusive;
       shared = t.shared + has.shared;
     }
-told t (Stands p) = record t { waits = set t.waits p.who.seat true }
-told t (Sleeps c x) = record t { waits = set t.waits x.seat true; asleep = true; condition = c }
+with_sums t (Stands p) = record t { waits = set t.waits p.who.seat true }
+with_sums t (Sleeps c x) = record t { waits = set t.waits x.seat true; asleep = true; condition = c }
 
 -- What the next seat may hold, after those before it. Only one seat has exclusive holds of a lock, and then
 -- no other has shared ones. The free permits of a semaphore are never fewer than the smaller of 0 and its
 -- opening number. After the last seat they are within the limit.
-abbrev pub MayHold : Object → ℕ → Told → SeatBase → Type 0
+abbrev pub MayHold : Object → ℕ → BaseSums → SeatBase → Type 0
 MayHold (Lock policy) seats t has =
     (has.exclusive ≤ max_holds) × (has.shared ≡ 0) × ((t.exclusive ≡ 0) ⊎ (has.exclusive ≡ 0))
 MayHold (ReadWrite policy) seats t has =
@@ -73,13 +73,13 @@ MayHold (Semaphore policy permits) seats t has =
 MayHold (Latch opening) seats t has = (has.exclusive ≡ 0) × (has.shared ≡ 0)
 
 -- the first line
-pub record IsFirst (t : Told) (entries : ℕ) : Type 0 where
+pub record IsFirst (t : BaseSums) (entries : ℕ) : Type 0 where
   pub none : t.entries ≡ 0
   pub some : 1 ≤ entries
   pub most : entries ≤ most_folded
 
 -- a seat, in order
-pub record IsSeated (k : Header) (t : Told) (i : ℕ) (has : SeatBase) : Type 0 where
+pub record IsSeated (k : Header) (t : BaseSums) (i : ℕ) (has : SeatBase) : Type 0 where
   pub begun : 1 ≤ t.entries
   pub next : i ≡ t.seats
   pub seat : i < k.seats
@@ -87,16 +87,16 @@ pub record IsSeated (k : Header) (t : Told) (i : ℕ) (has : SeatBase) : Type 0 
   pub holds : MayHold k.object k.seats t has
 
 -- all seats were read
-pub record AllSeated (k : Header) (t : Told) : Type 0 where
+pub record AllSeated (k : Header) (t : BaseSums) : Type 0 where
   pub begun : 1 ≤ t.entries
   pub seats : t.seats ≡ k.seats
 
 -- a seat waits nowhere
-abbrev pub IsFree : Told → ℕ → Type 0
+abbrev pub IsFree : BaseSums → ℕ → Type 0
 IsFree t i = get_or t.waits i false ≡ false
 
 -- The line may follow those that were read, in a base with these seats.
-abbrev pub MayFollow : Told → Base → BaseLine → Type 0
+abbrev pub MayFollow : BaseSums → Base → BaseLine → Type 0
 MayFollow t b (Folded entries) = IsFirst t entries × (is_lock b.header.object ≡ true)
 MayFollow t b (Released entries unheld) =
     IsFirst t entries × (is_semaphore b.header.object ≡ true) × (unheld ≤ most_permits)

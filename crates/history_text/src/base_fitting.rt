@@ -6,13 +6,13 @@ ghost use Rattle.history.specs.GoodBase.{IsGood};
 ghost use Rattle.history.specs.Header.{IsInRange};
 ghost use Rattle.history_text.specs.BaseFollowing.{AllFollow, HasShape, HaveFollowed, IsCountedFor, IsUnused};
 ghost use Rattle.history_text.specs.BaseLines.{base_lines, seat_lines, sleeper_lines};
-ghost use Rattle.history_text.specs.BaseRules.{untold};
+ghost use Rattle.history_text.specs.BaseRules.{no_sums};
 ghost use Rattle.history_text.specs.declared.base_line.BaseLine.TheVariants.{Stands, Sleeps};
 
 use crate::base_line::BaseLine;
 use crate::base_so_far::BaseSoFar;
 use crate::base_writing::first_line;
-use history::base::{Base, Sleeper, Standing, opening_count};
+use history::base::{Base, Sleeper, LinePlace, opening_count};
 use history::header::Object;
 
 /// Returns whether the base is that of its object as it is opened.
@@ -84,7 +84,7 @@ fn is_counted_for(base: &Base) -> bool
 fn follows(base: &Base) -> bool
     requires range { IsInRange base.now.header }
     requires shape { HasShape base.now }
-    ensures { IsTrue result ↔ AllFollow base.now untold (base_lines base.now) }
+    ensures { IsTrue result ↔ AllFollow base.now no_sums (base_lines base.now) }
 {
     let mut so_far = BaseSoFar::new();
     if !follow(&mut so_far, base, &first_line(base)) {
@@ -128,7 +128,7 @@ fn follow_seats(so_far: &mut BaseSoFar, base: &Base) -> bool
     true
 }
 
-fn follow_standings(so_far: &mut BaseSoFar, base: &Base, line: &[Standing]) -> bool
+fn follow_standings(so_far: &mut BaseSoFar, base: &Base, line: &[LinePlace]) -> bool
     requires { IsInRange base.now.header }
     ensures { HaveFollowed result base.now so_far.old so_far.new (map Stands line.now) }
 {

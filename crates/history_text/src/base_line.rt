@@ -5,7 +5,7 @@ ghost use Rattle.history.specs.EntryWords.{IsWritten};
 ghost use Rattle.history_text.specs.BaseLines.{IsBaseLine, base_line, waiting_entry};
 ghost use Rattle.history_text.specs.declared.base_line.BaseLine.TheVariants.{Seat, Sleeps, Stands};
 
-use history::base::{SeatBase, Sleeper, Standing};
+use history::base::{SeatBase, Sleeper, LinePlace};
 use history::entry::{End, Entry, Mode, Word};
 use history::number::{put_number, put_wide};
 use std::alloc::AllocError;
@@ -22,16 +22,16 @@ pub enum BaseLine {
     /// A seat, with its calls and holds.
     Seat(u16, SeatBase),
     /// A waiter in the queue.
-    Stands(Standing),
+    Stands(LinePlace),
     /// A waiter of a condition.
     Sleeps(u8, Sleeper),
 }
 
 /// Returns the entry whose words spell what a waiter waits for.
-pub(crate) fn waiting_entry(standing: &Standing) -> Entry
+pub(crate) fn waiting_entry(standing: &LinePlace) -> Entry
     ensures { result ≡ waiting_entry standing.now }
 {
-    let Standing {
+    let LinePlace {
         who,
         condition,
         holds,
@@ -106,7 +106,7 @@ fn put_calls(out: &mut Vec<u8>, seat: u16, calls: u64) -> Result<(), AllocError>
     put_number(out, calls)
 }
 
-fn put_standing(out: &mut Vec<u8>, standing: &Standing) -> Result<(), AllocError>
+fn put_standing(out: &mut Vec<u8>, standing: &LinePlace) -> Result<(), AllocError>
     requires { IsWritten (waiting_entry standing.now) }
     ensures { OnOk result (out.new.items ≡ out.old.items ++ base_line (Stands standing.now)) }
 {

@@ -9,7 +9,7 @@ ghost use Rattle.history_text.specs.BaseReading.{base_line_at, beside_at, folded
 
 use crate::base_line::BaseLine;
 use history::arrival::Arrival;
-use history::base::{SeatBase, Sleeper, Standing};
+use history::base::{SeatBase, Sleeper, LinePlace};
 use history::entry::{End, Entry, Mode, Word};
 use history::words::Words;
 
@@ -78,11 +78,11 @@ fn has(words: &mut Words<'_>) -> Option<BaseLine>
 }
 
 /// Returns the waiter in the queue, from the entry whose words spell what it waits for.
-fn standing_of(entry: &Entry) -> Option<Standing>
+fn standing_of(entry: &Entry) -> Option<LinePlace>
     ensures { result ≡ standing_of entry.now.word entry.now }
 {
     match entry.word {
-        Word::Queued => Some(Standing {
+        Word::Queued => Some(LinePlace {
             who: Arrival {
                 seat: entry.seat,
                 mode: entry.mode,
@@ -93,7 +93,7 @@ fn standing_of(entry: &Entry) -> Option<Standing>
             holds: 0,
             how: End::None,
         }),
-        Word::Back => Some(Standing {
+        Word::Back => Some(LinePlace {
             who: Arrival {
                 seat: entry.seat,
                 mode: Mode::X,

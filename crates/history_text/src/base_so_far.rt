@@ -6,11 +6,11 @@ ghost use Rattle.history.specs.declared.header.Policy.{Policy};
 ghost use Rattle.history.specs.GoodBase.{most_folded};
 ghost use Rattle.history.specs.Header.{IsInRange};
 ghost use Rattle.history_text.specs.declared.base_line.BaseLine.TheVariants.{Seat, Sleeps, Stands};
-ghost use Rattle.history_text.specs.BaseRules.{AllSeated, IsFirst, IsFree, IsSeated, MayFollow, MayHold, told, untold};
+ghost use Rattle.history_text.specs.BaseRules.{AllSeated, IsFirst, IsFree, IsSeated, MayFollow, MayHold, with_sums, no_sums};
 
 use crate::base_line::BaseLine;
 use crate::waiting_rules::{above_none, below_none, gave_up, is_lock, stands_well};
-use history::base::{Base, SeatBase, Sleeper, Standing, opening_count};
+use history::base::{Base, SeatBase, Sleeper, LinePlace, opening_count};
 use history::header::{Header, Object};
 use std::marker::Model;
 
@@ -39,9 +39,9 @@ pub struct BaseSoFar {
 impl Model for BaseSoFar {
     ghost use Rattle.std.specs.Prelude.{◌≤◌, ◌≡◌, length};
     ghost use Rattle.history.specs.GoodBase.{most_folded, most_permits};
-    ghost use Rattle.history_text.specs.BaseRules.{Told};
+    ghost use Rattle.history_text.specs.BaseRules.{BaseSums};
 
-    ghost Value = { Told };
+    ghost Value = { BaseSums };
 
     ghost view = { λ a. record {
       entries = a.entries;
@@ -62,7 +62,7 @@ impl Model for BaseSoFar {
 impl BaseSoFar {
     /// Returns the sums before any line.
     pub fn new() -> Self
-        ensures { result ≡ untold }
+        ensures { result ≡ no_sums }
     {
         BaseSoFar {
             entries: 0,
@@ -179,7 +179,7 @@ impl BaseSoFar {
 }
 
 impl BaseSoFar {
-    fn lets_stand(&self, base: &Base, standing: &Standing) -> bool
+    fn lets_stand(&self, base: &Base, standing: &LinePlace) -> bool
         requires { IsInRange base.now.header }
         ensures { IsTrue result ↔ MayFollow self.now base.now (Stands standing.now) }
     {
@@ -223,7 +223,7 @@ impl BaseSoFar {
     pub fn pass(&mut self, base: &Base, line: &BaseLine)
         requires range { IsInRange base.now.header }
         requires follows { MayFollow self.old base.now line.now }
-        ensures { self.new ≡ told self.old line.now }
+        ensures { self.new ≡ with_sums self.old line.now }
     {
         match line {
             BaseLine::Folded(entries) | BaseLine::CountedDown(entries, _) => self.entries =
@@ -245,7 +245,7 @@ impl BaseSoFar {
     fn pass_seat(&mut self, base: &Base, has: &SeatBase)
         requires range { IsInRange base.now.header }
         requires follows { IsSeated base.now.header self.old self.old.seats has.now }
-        ensures { self.new ≡ told self.old (Seat self.old.seats has.now) }
+        ensures { self.new ≡ with_sums self.old (Seat self.old.seats has.now) }
     {
         self.seats += 1;
         self.calls += has.calls;

@@ -3,7 +3,7 @@
 ghost use Rattle.std.specs.Prelude.{◌≡◌, ◌+◌, ◌<◌, ◌≤◌, ◌∷◌, ◌++◌, [], ℕ, set, get_or, length, map, All, IfOk, IfErr, IsErrOf, None, Ok, vec_capacity};
 ghost use Rattle.history.specs.declared.base.SeatBase.{SeatBase};
 ghost use Rattle.history.specs.declared.base.Sleeper.{Sleeper};
-ghost use Rattle.history.specs.declared.base.Standing.{Standing};
+ghost use Rattle.history.specs.declared.base.LinePlace.{LinePlace};
 ghost use Rattle.history.specs.declared.fault.Fault.TheVariants.{OutOfMemory};
 ghost use Rattle.history.specs.Base.{sleepers_of};
 ghost use Rattle.history.specs.Header.{IsInRange};
@@ -165,7 +165,7 @@ impl BaseUnderWay {
 /// Adds a line that may follow to a base that is being read. It allocates nothing.
 fn take_line(base: &mut Base, line: &BaseLine)
     requires seats { (i : ℕ) (has : SeatBase) → line.now ≡ Seat i has → i < length base.old.seats }
-    requires line { (p : Standing) → line.now ≡ Stands p → length base.old.line < base.old.header.seats }
+    requires line { (p : LinePlace) → line.now ≡ Stands p → length base.old.line < base.old.header.seats }
     requires sleepers { (c : ℕ) (x : Sleeper) → line.now ≡ Sleeps c x → (c < length base.old.sleepers)
         × (length (sleepers_of base.old c) < base.old.header.seats) }
     ensures { base.new ≡ with_line base.old line.now }

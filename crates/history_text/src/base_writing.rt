@@ -7,7 +7,7 @@ ghost use Rattle.history_text.specs.BaseText.{calls_sum, lines_text};
 ghost use Rattle.history_text.specs.declared.base_line.BaseLine.TheVariants.{Stands, Sleeps};
 
 use crate::base_line::{BaseLine, put_base_line};
-use history::base::{Base, SeatBase, Sleeper, Standing};
+use history::base::{Base, SeatBase, Sleeper, LinePlace};
 use history::header::Object;
 use std::alloc::AllocError;
 
@@ -54,7 +54,7 @@ fn put_seats(out: &mut Vec<u8>, seats: &[SeatBase]) -> Result<(), AllocError>
     Ok(())
 }
 
-fn put_standings(out: &mut Vec<u8>, line: &[Standing]) -> Result<(), AllocError>
+fn put_standings(out: &mut Vec<u8>, line: &[LinePlace]) -> Result<(), AllocError>
     requires { AllByRecursion IsBaseLine (map Stands line.now) }
     ensures { OnOk result (out.new.items ≡ out.old.items ++ lines_text (map Stands line.now)) }
 {

@@ -9,7 +9,7 @@ ghost use Rattle.history.specs.Object.{is_lock};
 ghost use Rattle.history.specs.Ownership.{most_exclusive};
 ghost use Rattle.history.specs.Steps.{at_least_none};
 
-use history::base::{Base, SeatBase, Standing};
+use history::base::{Base, SeatBase, LinePlace};
 use history::entry::{End, Mode};
 use history::header::Object;
 
@@ -106,7 +106,7 @@ fn holds_nothing(has: SeatBase) -> bool
 }
 
 /// Returns whether an acquire in the queue asks for what the object has, and comes back from no sleep.
-fn asks(base: &Base, standing: &Standing) -> bool
+fn asks(base: &Base, standing: &LinePlace) -> bool
     ensures { IsTrue result ↔ Asks base.now standing.now }
 {
     let object = base.header.object;
@@ -128,7 +128,7 @@ fn is_none(how: End) -> bool
 
 /// Returns whether a waiter that comes back from a condition gave up its holds, and its wait there has an
 /// end.
-fn returns(base: &Base, standing: &Standing) -> bool
+fn returns(base: &Base, standing: &LinePlace) -> bool
     requires { standing.now.who.back ≡ true }
     ensures { IsTrue result ↔ Returns base.now standing.now }
 {
@@ -140,7 +140,7 @@ fn returns(base: &Base, standing: &Standing) -> bool
 }
 
 /// Returns whether this waiter may be in the queue.
-pub(crate) fn stands_well(base: &Base, standing: &Standing) -> bool
+pub(crate) fn stands_well(base: &Base, standing: &LinePlace) -> bool
     ensures { IsTrue result ↔ StandsWell base.now standing.now }
 {
     if standing.who.back {

@@ -1,4 +1,4 @@
--- What a list of steps is told, with short names for the steps and answers.
+-- What a list of steps is replies, with short names for the steps and answers.
 use Rattle.std.specs.Prelude.{ℕ, List, [], length, Some, None, Result, Ok, Err, ℤ}
 use Rattle.history.specs.declared.entry.End.{End}
 use Rattle.history.specs.declared.entry.End.TheVariants as end
@@ -22,12 +22,12 @@ use Rattle.history.specs.Start.{opening}
 use Rattle.history.specs.Steps.{plain}
 
 infixl 70 ◌wakes◌
-abbrev Told : Type 0
-Told = Result Answer Fault
+abbrev Reply : Type 0
+Reply = Result Answer Fault
 
 -- the answers to a list of steps of an object as opened, the number of entries, and the number of calls
-abbrev pub told : Header → List (ℕ × Step) → List Told × ℕ × ℕ
-told k steps =
+abbrev pub replies : Header → List (ℕ × Step) → List Reply × ℕ × ℕ
+replies k steps =
     let done = results (opening k) [] steps in
     (done.0, length done.1, calls (opening k) done.1)
 
@@ -121,89 +121,89 @@ abbrev pub signalled : End
 signalled = end.Signalled
 
 -- an entry that names nobody, and one that names a seat
-abbrev entered : Entry → Told
+abbrev entered : Entry → Reply
 entered e = Ok (answer.Recorded e None)
 
-abbrev pub ◌wakes◌ : Told → ℕ → Told
+abbrev pub ◌wakes◌ : Reply → ℕ → Reply
 ◌wakes◌ (Ok (answer.Recorded e _)) seat = Ok (answer.Recorded e (Some seat))
-◌wakes◌ told seat = told
+◌wakes◌ replies seat = replies
 
-abbrev pub sleeps : Told
+abbrev pub sleeps : Reply
 sleeps = Ok answer.Sleep
 
-abbrev pub fault : Fault → Told
+abbrev pub fault : Fault → Reply
 fault f = Err f
 
 -- entries, of a lock where no amount is given
-abbrev of_lock : ℕ → Word → Told
+abbrev of_lock : ℕ → Word → Reply
 of_lock seat w = entered (plain seat w X 1)
 
-abbrev of_shared : ℕ → Word → ℕ → Told
+abbrev of_shared : ℕ → Word → ℕ → Reply
 of_shared seat w n = entered (plain seat w S n)
 
-abbrev on_condition : ℕ → Word → ℕ → ℕ → End → Told
+abbrev on_condition : ℕ → Word → ℕ → ℕ → End → Reply
 on_condition seat w c n how = entered (record { seat = seat; word = w; mode = X; n = n; at = c; end = how })
 
-abbrev pub got : ℕ → Told
+abbrev pub got : ℕ → Reply
 got seat = of_lock seat word.Got
 
-abbrev pub try_got : ℕ → Told
+abbrev pub try_got : ℕ → Reply
 try_got seat = of_lock seat word.TryGot
 
-abbrev pub queued : ℕ → Told
+abbrev pub queued : ℕ → Reply
 queued seat = of_lock seat word.Queued
 
-abbrev pub granted : ℕ → Told
+abbrev pub granted : ℕ → Reply
 granted seat = of_lock seat word.Granted
 
-abbrev pub missed : ℕ → Told
+abbrev pub missed : ℕ → Reply
 missed seat = of_lock seat word.Missed
 
-abbrev pub gave : ℕ → Told
+abbrev pub gave : ℕ → Reply
 gave seat = of_lock seat word.Gave
 
-abbrev pub refused : ℕ → Fault → Told
+abbrev pub refused : ℕ → Fault → Reply
 refused seat f = of_lock seat (word.Refused f)
 
-abbrev pub left : ℕ → End → Told
+abbrev pub left : ℕ → End → Reply
 left seat how = entered (record { seat = seat; word = word.Left; mode = X; n = 1; at = 0; end = how })
 
-abbrev pub got_shared : ℕ → ℕ → Told
+abbrev pub got_shared : ℕ → ℕ → Reply
 got_shared seat n = of_shared seat word.Got n
 
-abbrev pub try_got_shared : ℕ → ℕ → Told
+abbrev pub try_got_shared : ℕ → ℕ → Reply
 try_got_shared seat n = of_shared seat word.TryGot n
 
-abbrev pub queued_shared : ℕ → ℕ → Told
+abbrev pub queued_shared : ℕ → ℕ → Reply
 queued_shared seat n = of_shared seat word.Queued n
 
-abbrev pub granted_shared : ℕ → ℕ → Told
+abbrev pub granted_shared : ℕ → ℕ → Reply
 granted_shared seat n = of_shared seat word.Granted n
 
-abbrev pub missed_shared : ℕ → ℕ → Told
+abbrev pub missed_shared : ℕ → ℕ → Reply
 missed_shared seat n = of_shared seat word.Missed n
 
-abbrev pub gave_shared : ℕ → ℕ → Told
+abbrev pub gave_shared : ℕ → ℕ → Reply
 gave_shared seat n = of_shared seat word.Gave n
 
-abbrev pub refused_shared : ℕ → ℕ → Fault → Told
+abbrev pub refused_shared : ℕ → ℕ → Fault → Reply
 refused_shared seat n f = of_shared seat (word.Refused f) n
 
-abbrev pub counted : ℕ → Told
+abbrev pub counted : ℕ → Reply
 counted seat = of_shared seat word.Counted 1
 
-abbrev pub drained : ℕ → ℕ → Told
+abbrev pub drained : ℕ → ℕ → Reply
 drained seat n = of_shared seat word.Drained n
 
 -- entries on a condition: with the holds given up, the sleepers moved, the holds restored
-abbrev pub awaits : ℕ → ℕ → ℕ → Told
+abbrev pub awaits : ℕ → ℕ → ℕ → Reply
 awaits seat c n = on_condition seat word.Await c n end.None
 
-abbrev pub signals : ℕ → ℕ → ℕ → Told
+abbrev pub signals : ℕ → ℕ → ℕ → Reply
 signals seat c n = on_condition seat word.Signal c n end.None
 
-abbrev pub lapses : ℕ → ℕ → End → Told
+abbrev pub lapses : ℕ → ℕ → End → Reply
 lapses seat c how = on_condition seat word.Lapse c 0 how
 
-abbrev pub comes_back : ℕ → ℕ → ℕ → End → Told
+abbrev pub comes_back : ℕ → ℕ → ℕ → End → Reply
 comes_back seat c n how = on_condition seat word.Back c n how

@@ -7,7 +7,7 @@ pub use Rattle.frame.specs.Core.{header_of}
 pub use Rattle.guarded.specs.Guarding.{Guards}
 pub use Rattle.guarded.specs.Reading.{reads}
 pub use Rattle.history.specs.Header.{IsInRange}
-pub use Rattle.monitor.specs.Shown.{IsTrue}
+pub use Rattle.monitor.specs.Shown.{IsSound}
 pub use Rattle.monitor.specs.Stepping.{IsSame}
 pub use Rattle.monitor_fronts.specs.Holding.{holds}
 

@@ -37,7 +37,7 @@ use Rattle.frame.specs.Effects.{IsAllowed}
 use Rattle.frame.specs.Hooks.{drain_answer_of}
 use Rattle.frame.proofs.Counting.{allowed}
 use Rattle.word_lock.specs.Ticket.{LockId, Ticket, first_entries}
-use Rattle.monitor.specs.Lawful.{IsKept, beside_of, point_of, start_at}
+use Rattle.monitor.specs.Lawful.{IsLawfulCore, beside_of, point_of, start_at}
 use Rattle.monitor.specs.Load.{Brings, IsFreeAfter, Moves, given_by}
 use Rattle.monitor.specs.Stepping.{made_by}
 use Rattle.monitor.proofs.Acquiring.{idle_made}
@@ -250,7 +250,7 @@ entry_frees b h i step e can below t q =
     frees_by s h step e e.word refl t (allowed s h e waits known_is at) (made_suits s h i step e q)
 
 -- the free permits behind a step of a core
-pub turn_frees : (v w : CoreView) (i : ℕ) (step : Step) (r : Result Answer Fault) → IsKept v → IsKept w →
+pub turn_frees : (v w : CoreView) (i : ℕ) (step : Step) (r : Result Answer Fault) → IsLawfulCore v → IsLawfulCore w →
     i < v.header.seats → IsAnswered v i step r w → is_semaphore v.base.header.object ≡ true →
     IsFreeAfter step (counts_of v).free (counts_of w).free
 turn_frees v w i step r kept kept' below answered t =

@@ -35,9 +35,9 @@ use Rattle.history.proofs.SleepLemmas.{held_other}
 use Rattle.frame.specs.Core.{CoreView, IsAnswered, IsTrimmed, counts_of, start_of}
 use Rattle.frame.specs.Hooks.{AreAlike}
 use Rattle.word_lock.specs.Point.{header_of, Agrees}
-use Rattle.monitor.specs.Lawful.{IsKept, IsLawful, beside_of, point_of, start_at}
+use Rattle.monitor.specs.Lawful.{IsLawfulCore, IsLawful, beside_of, point_of, start_at}
 use Rattle.monitor.specs.Load.{IsFree, IsOneOwner, IsTurn, holds_at, holds_by, holds_of, is_signal, opened_counts}
-use Rattle.monitor.specs.Shown.{Shown, IsTrue}
+use Rattle.monitor.specs.Shown.{Shown, IsSound}
 use Rattle.monitor.specs.Stepping.{made_by}
 use Rattle.monitor.proofs.Acquiring.{idle_made}
 use Rattle.monitor.proofs.Freeing.{turn_frees}
@@ -56,7 +56,7 @@ one_owner p lawful lock =
     record { one = v.one; alone = v.alone }
 
 -- a step of a seat is a turn
-pub turn : (v w : CoreView) (i : ℕ) (step : Step) (r : Result Answer Fault) → IsKept v → IsKept w →
+pub turn : (v w : CoreView) (i : ℕ) (step : Step) (r : Result Answer Fault) → IsLawfulCore v → IsLawfulCore w →
     i < v.header.seats → IsAnswered v i step r w → IsTurn i (counts_of v) (counts_of w)
 turn v w i step r kept kept' below a =
     let l = left i (point_of v) (point_of w) (beside_of v) (beside_of w) step r
@@ -74,8 +74,8 @@ turn v w i step r kept kept' below a =
       free = λ t. turn_frees v w i step r kept kept' below a t;
     }
 
-pub turn_step : (v w : CoreView) (i : ℕ) (step : Step) (r : Result Answer Fault) (kept : IsKept v)
-    (kept' : IsKept w) (below : i < v.header.seats) (a : IsAnswered v i step r w) →
+pub turn_step : (v w : CoreView) (i : ℕ) (step : Step) (r : Result Answer Fault) (kept : IsLawfulCore v)
+    (kept' : IsLawfulCore w) (below : i < v.header.seats) (a : IsAnswered v i step r w) →
     (turn v w i step r kept kept' below a).step ≡ step
 unfolding turn
 turn_step v w i step r kept kept' below a = refl
@@ -97,7 +97,7 @@ counts_folded b h same =
     }
 
 pub rests_trimmed : (rests : Counts → Type 0) → ((k l : Counts) → AreAlike k l → rests k → rests l) →
-    (v w : CoreView) (r : Result ℕ Fault) → IsKept v → IsTrimmed v r w → rests (counts_of v) → rests (counts_of w)
+    (v w : CoreView) (r : Result ℕ Fault) → IsLawfulCore v → IsTrimmed v r w → rests (counts_of v) → rests (counts_of w)
 rests_trimmed rests alike v w (Ok n) kept t x =
     subst (λ (z : CoreView). rests (counts_of z)) (sym t.2)
     (let can = kept.lawful.may_fold.can in
@@ -121,7 +121,7 @@ own_holds p k i es agrees is =
     ap (λ (z : Header). held (opening z) es i m) (sym is) ∙ sym (agrees.holds m) in
     λ d m. each m d
 
-pub true_holds : (x : Shown) → IsTrue x → holds_of x ≡ holds_at x.seen x.seat
+pub true_holds : (x : Shown) → IsSound x → holds_of x ≡ holds_at x.seen x.seat
 true_holds x t = own_holds x.seen x.lock.header x.seat x.mine t.agrees t.header
 
 -- An entry by which nobody's holds, no free permits and no count change.
@@ -177,7 +177,7 @@ signal_idle _ signal = cc
 
 -- a signal leaves the load where it is
 pub rests_signalled : (rests : Counts → Type 0) → ((k l : Counts) → AreAlike k l → rests k → rests l) →
-    (v w : CoreView) (i : ℕ) (step : Step) (r : Result Answer Fault) → IsKept v → IsKept w →
+    (v w : CoreView) (i : ℕ) (step : Step) (r : Result Answer Fault) → IsLawfulCore v → IsLawfulCore w →
     is_signal step ≡ true → IsAnswered v i step r w → rests (counts_of v) → rests (counts_of w)
 rests_signalled rests alike v w i step r kept kept' signal answered x =
     subst (λ (b : Base). rests (counts (based b) w.entries)) l.base

@@ -8,7 +8,7 @@ use Rattle.word_lock.specs.Ticket.{Ticket, after_lock, after_unlock, first_seat}
 use Rattle.word_lock.proofs.PointLaws.{follows_same, added_more}
 use Rattle.word_lock.proofs.Sections.{follows_taken, section}
 use Rattle.monitor.specs.Lawful.{IsLawful}
-use Rattle.monitor.specs.Shown.{shown, IsPass, IsTrue}
+use Rattle.monitor.specs.Shown.{shown, IsPass, IsSound}
 use Rattle.monitor.specs.Observing.{IsLook}
 use Rattle.monitor.proofs.Sections.{mine_stays, passed, true_pass}
 
@@ -21,7 +21,7 @@ may_give_back o t p seat share taken was =
 -- a pass behind such a section
 pub record Looked (t n : Ticket) (p : Point) (seat share : ℕ) : Type 0 where
   pub pass : IsPass n seat share
-  pub shows : IsTrue (shown n seat share)
+  pub shows : IsSound (shown n seat share)
   pub is : IsLook (shown t seat share) (shown n seat share)
   pub seen : n.seen ≡ p
 

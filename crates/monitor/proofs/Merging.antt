@@ -17,7 +17,7 @@ use Rattle.word_lock.specs.Point.{Before, Agrees}
 use Rattle.word_lock.specs.Ticket.{LockId}
 use Rattle.word_lock.proofs.PointLaws.{before_trans}
 use Rattle.word_lock.specs.Rule.{AllAgree, AreDistinct}
-use Rattle.monitor.specs.Shown.{Shown, IsTrue}
+use Rattle.monitor.specs.Shown.{Shown, IsSound}
 use Rattle.monitor.specs.Closing.{IsWithin, shares, passes_of, IsMissing}
 
 abbrev pub log_of : Shown → SeatLog
@@ -114,23 +114,23 @@ all_below f n (p ∷ ps) all =
     omega (arith, ih, here)
 
 -- a share is what the base and the entries behind it have of the seat
-shares_in : (q : Point) (ps : List Shown) → All (λ p. IsTrue p) ps → All (λ p. Agrees q p.seat p.mine) ps →
+shares_in : (q : Point) (ps : List Shown) → All (λ p. IsSound p) ps → All (λ p. Agrees q p.seat p.mine) ps →
     shares ps ≡ by_passes (calls_of q.base q.entries) ps
 unfolding by_passes Agrees
 shares_in q [] t agree = refl
 shares_in q (p ∷ ps) t agree =
-    let here : IsTrue p = All-head (λ p. IsTrue p) p ps t in
+    let here : IsSound p = All-head (λ p. IsSound p) p ps t in
     let a : points.Agrees q p.seat p.mine = All-head (λ p. points.Agrees q p.seat p.mine) p ps agree in
     let share : p.share ≡ calls_of q.base q.entries p.seat =
     here.counted ∙ sym a.calls ∙ sym (calls_by_seat q.base q.entries p.seat) in
-    let ih = shares_in q ps (All-tail (λ p. IsTrue p) p ps t) (All-tail (λ p. points.Agrees q p.seat
+    let ih = shares_in q ps (All-tail (λ p. IsSound p) p ps t) (All-tail (λ p. points.Agrees q p.seat
     p.mine) p ps
     agree) in
     omega (arith, share, ih)
 
 pub shares_are_calls : (q : Point) (ps : List Shown) → AreSeated (based q.base) q.entries →
     All (λ p. p.seat < q.base.header.seats) ps →
-    ((i : ℕ) → i < q.base.header.seats → passes_of i ps ≡ 1) → All (λ p. IsTrue p) ps →
+    ((i : ℕ) → i < q.base.header.seats → passes_of i ps ≡ 1) → All (λ p. IsSound p) ps →
     All (λ p. Agrees q p.seat p.mine) ps → shares ps ≡ calls (based q.base) q.entries
 shares_are_calls q ps seated below each t agree =
     let f = calls_of q.base q.entries in
@@ -270,10 +270,10 @@ pub shares_more : (p : Shown) (ps all : List Shown) (sum more total : ℕ) → a
 shares_more p ps all sum more total cut is h =
     let whole : shares all ≡ p.share + shares ps = ap shares cut in omega (arith, whole, is, h)
 
-pub all_true_more : (p : Shown) (ps all : List Shown) → all ≡ p ∷ ps → IsTrue p → All (λ p. IsTrue p) ps →
-    All (λ p. IsTrue p) all
+pub all_true_more : (p : Shown) (ps all : List Shown) → all ≡ p ∷ ps → IsSound p → All (λ p. IsSound p) ps →
+    All (λ p. IsSound p) all
 all_true_more p ps all cut t h =
-    subst (λ (l : List Shown). All (λ p. IsTrue p) l) (sym cut) (All-cons (λ p. IsTrue p) p ps t h)
+    subst (λ (l : List Shown). All (λ p. IsSound p) l) (sym cut) (All-cons (λ p. IsSound p) p ps t h)
 
 pub all_last : (P : Shown → Type 0) (all ps : List Shown) (p : Shown) → all ≡ ps ++ p ∷ [] →
     All P all → All P ps × P p
@@ -284,15 +284,15 @@ all_last P all ps p cut a = by ps (subst (All P) cut a)
     by (x ∷ xs) a = let r = by xs (All-tail P x (xs ++ p ∷ []) a) in
         (All-cons P x xs (All-head P x (xs ++ p ∷ []) a) r.0, r.1)
 
-pub seats_below : (lock : LockId) (ps : List Shown) → All (λ p. IsTrue p) ps → All (λ p. p.lock ≡ lock) ps →
+pub seats_below : (lock : LockId) (ps : List Shown) → All (λ p. IsSound p) ps → All (λ p. p.lock ≡ lock) ps →
     All (λ p. p.seat < lock.header.seats) ps
 seats_below lock [] t own = All-nil (λ p. p.seat < lock.header.seats)
 seats_below lock (p ∷ ps) t own =
-    let here : IsTrue p = All-head (λ p. IsTrue p) p ps t in
+    let here : IsSound p = All-head (λ p. IsSound p) p ps t in
     let of : p.lock ≡ lock = All-head (λ p. p.lock ≡ lock) p ps own in
     All-cons (λ p. p.seat < lock.header.seats) p ps (subst
     (λ (l : LockId). p.seat < l.header.seats) of here.below)
-    (seats_below lock ps (All-tail (λ p. IsTrue p) p ps t) (All-tail (λ p. p.lock ≡ lock) p ps own))
+    (seats_below lock ps (All-tail (λ p. IsSound p) p ps t) (All-tail (λ p. p.lock ≡ lock) p ps own))
 
 pub all_seen : (one two : Point) (ps : List Shown) → Before one two → All (λ p. Before p.seen one) ps →
     All (λ p. Before p.seen two) ps

@@ -19,7 +19,7 @@ use Rattle.word_lock.specs.Ticket.{LockId}
 use Rattle.history.specs.Awaiting.{SleepsAs, signalled, lapsed, back_from, lapse_from}
 use Rattle.monitor.specs.Lawful.{start_at, view_of}
 use Rattle.monitor.specs.Load.{holds_of}
-use Rattle.monitor.specs.Shown.{Shown, IsTrue}
+use Rattle.monitor.specs.Shown.{Shown, IsSound}
 use Rattle.monitor.specs.Stepping.{IsSame, IsStep, IsEntered, IsUnparked}
 use Rattle.permit.specs.Deed.{Deed, interrupted}
 use Rattle.monitor.specs.declared.how.How.{How}
@@ -126,7 +126,7 @@ module _ (did : Deed → Type 0) (old mid : Shown) (c : ℕ) (how : How) (e : En
       (subst (λ (l : List Entry). SleepsAs (start_at s.found) l mid.seat (signalled e.at e.n))
       (sym r.entries) here))
 
-  gave : e.word ≡ word.Await → IsSame old mid → IsTrue mid → e.n ≡ holds_of old X
+  gave : e.word ≡ word.Await → IsSame old mid → IsSound mid → e.n ≡ holds_of old X
   unfolding header_of
   gave w same shows =
       let r = records (view_of s.found s.beside) (view_of mid.seen s.beside_left) old.seat (Await c) e
@@ -140,7 +140,7 @@ module _ (did : Deed → Type 0) (old mid : Shown) (c : ℕ) (how : How) (e : En
       (own_holds s.found old.lock.header old.seat old.mine s.agrees header))
 
   -- and the end of the wait behind it
-  pub ends_await : e.word ≡ word.Await → IsSame old mid → IsTrue mid → (new : Shown) (l : Limits) (last : Entry) →
+  pub ends_await : e.word ≡ word.Await → IsSame old mid → IsSound mid → (new : Shown) (l : Limits) (last : Entry) →
       LimitsFor did how l → Before mid.seen new.seen → IsWaited did mid (first_stage how) l last new →
       IsAwait did old c how (Ok last) new
   ends_await w same shows new l last for after waited =

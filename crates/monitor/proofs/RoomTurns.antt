@@ -15,7 +15,7 @@ use Rattle.monitor.specs.Acquire.{WasInterrupted, WasNotInterrupted}
 use Rattle.monitor.specs.Interrupts.{tells_interrupt}
 use Rattle.monitor.specs.Machine.{IsBegun, IsCall, WasShown, begins_wait, begun, first_turn, next_by, step_by}
 use Rattle.monitor.specs.Room.{InRoom, IsBegunIn, IsCallIn, IsEnteredIn, IsStepIn, IsTooMany, at_point, fold_of}
-use Rattle.monitor.specs.Shown.{Shown, IsTrue}
+use Rattle.monitor.specs.Shown.{Shown, IsSound}
 use Rattle.monitor.specs.Stepping.{IsEntered, IsSame, IsStep, IsUnparked, named_in}
 use Rattle.monitor.specs.Waits.{IsReply}
 use Rattle.monitor.specs.declared.how.How.{How}
@@ -97,7 +97,7 @@ after_in w old step r new s = by (steps_at w old step r new s)
 
 -- the seat that it named has a place
 pub place_in : (w : WhenFull) (old new : Shown) (step : Step) (r : Result Answer Fault) (seats : ℕ) →
-    IsStepIn w old step r new → IsTrue new → new.lock.header.seats ≤ seats → IfSome (named_in r) (λ j. j < seats)
+    IsStepIn w old step r new → IsSound new → new.lock.header.seats ≤ seats → IfSome (named_in r) (λ j. j < seats)
 place_in w old new step r seats s shows all = by (steps_at w old step r new s)
   where
     by : StepsAt old step r new ⊎ (Before old.seen new.seen × (r ≡ Err TrimFull)) →
@@ -164,7 +164,7 @@ pub begun_after_in : (w : WhenFull) (old new : Shown) (q : Request) (how : How) 
 begun_after_in w old new q how moment was t (r, s, is) = after_in w old (step_by q how was) r new s
 
 pub place_first_in : (w : WhenFull) (old new : Shown) (q : Request) (how : How) (moment : ℕ) (was : Bool) (t : Turn)
-    (seats : ℕ) → IsBegunIn w old q how moment was t new → IsTrue new → new.lock.header.seats ≤ seats →
+    (seats : ℕ) → IsBegunIn w old q how moment was t new → IsSound new → new.lock.header.seats ≤ seats →
     IfSome t.named (λ j. j < seats)
 place_first_in w old new q how moment was t seats (r, s, is) shows all =
     subst (λ z. IfSome z (λ j. j < seats))
@@ -229,7 +229,7 @@ module _ (w : WhenFull) (did : Deed → Type 0) (old new : Shown) (q : Request) 
     -- and the wait ended it
     pub waited_in : (last : Shown) (next : Waiting) (reply : Result Entry Fault) → WasNotInterrupted did old.seat how →
         IsBegunIn w old q how moment false t new → IsUnparked did t.named → t.next ≡ Waits next → IsSame old new →
-        IsTrue new → WasShown did how moment → Before new.seen last.seen →
+        IsSound new → WasShown did how moment → Before new.seen last.seen →
         IsReply did new next.stage next.limits reply last → IsCallIn w did old q how reply last
     waited_in last next reply none (r, s, is) woken due same shows shown later waited =
         map_room w (λ z. z ≡ step_by q how false) (λ z. (z ≡ step_by q how false) ⊎ (z ≡ step_by q how true))

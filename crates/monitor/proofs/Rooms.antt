@@ -19,11 +19,11 @@ use Rattle.word_lock.specs.Rule.{AllAgree}
 use Rattle.word_lock.specs.Ticket.{LockId, Ticket, first_entries, after_lock, after_unlock}
 use Rattle.word_lock.proofs.PointLaws.{added_behind, before_header, before_refl, before_trans, follows_before, follows_behind, follows_fold, follows_own}
 use Rattle.word_lock.proofs.Sections.{IsSection, section}
-use Rattle.monitor.specs.Lawful.{beside_of, point_of, start_at, view_of, IsKept, IsLawful}
+use Rattle.monitor.specs.Lawful.{beside_of, point_of, start_at, view_of, IsLawfulCore, IsLawful}
 use Rattle.monitor.specs.Load.{Moves, holds_in}
 use Rattle.monitor.specs.Room.{IsCoreFold, IsCoreStep, IsCoreStepIn, IsFold, IsStepIn, IsTooMany, at_point, fold_of, is_full}
 use Rattle.monitor.specs.declared.room.WhenFull.TheVariants.{Trim}
-use Rattle.monitor.specs.Shown.{IsPass, IsTrue, shown}
+use Rattle.monitor.specs.Shown.{IsPass, IsSound, shown}
 use Rattle.monitor.specs.Stepping.{IsStep, made_by}
 use Rattle.monitor.proofs.Freeing.{both_free, moves_own, section_frees, stays}
 use Rattle.monitor.proofs.Loads.{counts_folded}
@@ -39,7 +39,7 @@ pub not_full : (r : Result Answer Fault) → is_full r ≡ false → r ≢ Err H
 not_full r q is = let z = ap is_full is in cc
 
 -- a step that found no room left the history as it was
-pub refused_left : (v w : CoreView) (i : ℕ) (step : Step) (f : Fault) → IsKept v → IsKept w →
+pub refused_left : (v w : CoreView) (i : ℕ) (step : Step) (f : Fault) → IsLawfulCore v → IsLawfulCore w →
     IsCoreStep v i step (Err f) w → point_of w ≡ point_of v
 refused_left v w i step f kept kept' s =
     let l : Left i (point_of v) (point_of w) (Err f) =
@@ -47,20 +47,20 @@ refused_left v w i step f kept kept' s =
     (answered_shown v w i step (Err f) kept kept' s.answered) in
     λ d. record { base = sym l.base d; entries = l.grown d }
 
-pub refused_frees : (v w : CoreView) (i : ℕ) (step : Step) (f : Fault) → IsKept v → IsKept w →
+pub refused_frees : (v w : CoreView) (i : ℕ) (step : Step) (f : Fault) → IsLawfulCore v → IsLawfulCore w →
     IsCoreStep v i step (Err f) w → (counts_of w).free ≡ (counts_of v).free
 refused_frees v w i step f kept kept' s =
     ap (λ (p : Point). free (start_at p) p.entries) (refused_left v w i step f kept kept' s)
 
 -- a fold leaves what each seat holds
-pub trimmed_holds : (v w : CoreView) (n i : ℕ) → IsKept v → IsTrimmed v (Ok n) w → holds_in w i ≡ holds_in v i
+pub trimmed_holds : (v w : CoreView) (n i : ℕ) → IsLawfulCore v → IsTrimmed v (Ok n) w → holds_in w i ≡ holds_in v i
 trimmed_holds v w n i kept t =
     let can = kept.lawful.may_fold.can in
     let same = counts_folded v.base v.entries (fold_alike v.base v.entries can.good can.legal can.seated) in
     ap (λ (z : CoreView). holds_in z i) t.2 ∙ (λ d m. same.held i m d)
 
-module _ {A : Type 0} (counted : Bool) (amount : A → ℕ) (v w : CoreView) (i : ℕ) (step : Step) (kept : IsKept v)
-    (kept' : IsKept w) (x y : A) where
+module _ {A : Type 0} (counted : Bool) (amount : A → ℕ) (v w : CoreView) (i : ℕ) (step : Step) (kept : IsLawfulCore v)
+    (kept' : IsLawfulCore w) (x y : A) where
   -- what a step that found no room leaves with who steps
   pub refused_stays : (f : Fault) → IsCoreStep v i step (Err f) w →
       Moves counted amount x (counts_of v).free y (counts_of w).free → counted ≡ true → y ≡ x
@@ -69,7 +69,7 @@ module _ {A : Type 0} (counted : Bool) (amount : A → ℕ) (v w : CoreView) (i 
 
 -- a step that makes room, from one core to another
 module _ (moved : CoreView → Type 0) (v w : CoreView) (seat : ℕ) (step : Step) (r : Result Answer Fault)
-    (kept : IsKept v) (kept' : IsKept w) where
+    (kept : IsLawfulCore v) (kept' : IsLawfulCore w) where
   fold_at : (f : IsCoreFold moved v seat step r w) → point_of f.fold ≡ fold_of (point_of v)
   fold_at f =
       ap point_of f.trimmed.2 ∙ ap fold_of (refused_left v f.full seat step HistoryFull kept f.kept f.refused)
@@ -113,8 +113,8 @@ pub record Around (t o n : Ticket) (v w : CoreView) (seat share : ℕ) : Type 0 
   pub was : IsPass t seat share
   pub begins : Before t.seen (point_of v)
   pub entries : AllAgree (point_of v) t.logs
-  pub kept : IsKept v
-  pub left_kept : IsKept w
+  pub kept : IsLawfulCore v
+  pub left_kept : IsLawfulCore w
 
 around_step : (t o n : Ticket) (v w : CoreView) (seat share : ℕ) (step : Step) (r : Result Answer Fault) →
     Around t o n v w seat share → IsCoreStep v seat step r w →
@@ -151,7 +151,7 @@ module _ (t o n : Ticket) (v w : CoreView) (seat share : ℕ) (a : Around t o n 
       (is ∙ (ap (λ k. ended_calls (made_by r) + k) a.was.counted
       ∙ (sym (calls_more (made_by r) (first_entries t.logs)) ∙ ap ended_calls (sym mine_in))))
 
-  pub true_in : (next : ℕ) → next ≡ ended_calls (made_by r) + share → IsTrue (shown n seat next)
+  pub true_in : (next : ℕ) → next ≡ ended_calls (made_by r) + share → IsSound (shown n seat next)
   true_in next is = true_pass n seat next (pass_in next is)
 
   agrees : Agrees (point_of v) seat (first_entries t.logs)

@@ -31,8 +31,8 @@ use Rattle.word_lock.specs.Ticket.{LockId, Ticket, first_seat, first_entries, af
 use Rattle.word_lock.proofs.PointLaws.{before_header, follows_more, added_more}
 use Rattle.word_lock.proofs.Sections.{IsSection, section}
 use Rattle.word_lock.proofs.Tokens.{one_log}
-use Rattle.monitor.specs.Lawful.{point_of, start_at, view_of, beside_of, Beside, IsKept, IsLawful}
-use Rattle.monitor.specs.Shown.{Shown, shown, IsPass, IsTrue}
+use Rattle.monitor.specs.Lawful.{point_of, start_at, view_of, beside_of, Beside, IsLawfulCore, IsLawful}
+use Rattle.monitor.specs.Shown.{Shown, shown, IsPass, IsSound}
 use Rattle.monitor.specs.Stepping.{made_by, now_of, IsStep, IsStepNow}
 use Rattle.monitor.specs.declared.step.Now.{Now}
 
@@ -134,7 +134,7 @@ all_calls_few p lawful =
     omega (arith, more, all, most, few)
 
 -- a core that is kept, as its point shows it
-pub core_shown : (v : CoreView) → IsKept v → view_of (point_of v) (beside_of v) ≡ v
+pub core_shown : (v : CoreView) → IsLawfulCore v → view_of (point_of v) (beside_of v) ≡ v
 core_shown v kept = λ d. record {
   header = kept.header d;
   base = v.base;
@@ -143,14 +143,14 @@ core_shown v kept = λ d. record {
   told = v.told;
 }
 
-pub answered_shown : (v w : CoreView) (i : ℕ) (step : Step) (r : Result Answer Fault) → IsKept v → IsKept w →
+pub answered_shown : (v w : CoreView) (i : ℕ) (step : Step) (r : Result Answer Fault) → IsLawfulCore v → IsLawfulCore w →
     IsAnswered v i step r w →
     IsAnswered (view_of (point_of v) (beside_of v)) i step r (view_of (point_of w) (beside_of w))
 answered_shown v w i step r kept left a =
     subst (λ x. IsAnswered x i step r (view_of (point_of w) (beside_of w))) (sym (core_shown v kept))
     (subst (λ y. IsAnswered v i step r y) (sym (core_shown w left)) a)
 
-pub owed_shown : (v : CoreView) (i : ℕ) (step : Step) (r : Result Answer Fault) → IsKept v →
+pub owed_shown : (v : CoreView) (i : ℕ) (step : Step) (r : Result Answer Fault) → IsLawfulCore v →
     (MakesOwed v i step → IsOk r) → MakesOwed (view_of (point_of v) (beside_of v)) i step → IsOk r
 owed_shown v i step r kept owed m = owed (subst (λ x. MakesOwed x i step) (core_shown v kept) m)
 
@@ -173,7 +173,7 @@ own_entries t p seat one own agree =
     subst (λ (k : ℕ). Agrees p k (first_entries t.logs)) own
     (agree 0 _ (ap (λ (l : List SeatLog). get_elem? l 0) (one_log t.logs one)))
 
-pub true_pass : (t : Ticket) (seat share : ℕ) → IsPass t seat share → IsTrue (shown t seat share)
+pub true_pass : (t : Ticket) (seat share : ℕ) → IsPass t seat share → IsSound (shown t seat share)
 true_pass t seat share z =
     record { lawful = z.lawful; header = z.header; below = z.below; agrees = z.agrees; counted = z.counted }
 
@@ -230,7 +230,7 @@ module _ (t o n : Ticket) (p q : Point) (seat share : ℕ) (step : Step) (r : Re
       ∙ (sym (calls_more (made_by r) (first_entries t.logs)) ∙ ap ended_calls (sym (mine_grown s)))))
 
   pub section_true : Section → (next : ℕ) → next ≡ ended_calls (made_by r) + share →
-      IsTrue (shown n seat next)
+      IsSound (shown n seat next)
   section_true s next is = true_pass n seat next (section_pass s next is)
 
   pub section_step : (s : Section) → (next : ℕ) → (MakesOwed (view_of p s.beside) seat step → IsOk r) →

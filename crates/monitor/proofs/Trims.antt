@@ -9,12 +9,12 @@ use Rattle.word_lock.specs.Rule.{AllAgree}
 use Rattle.word_lock.specs.Ticket.{Ticket, first_entries, after_lock, after_unlock}
 use Rattle.word_lock.proofs.PointLaws.{added_more, follows_fold, follows_more}
 use Rattle.word_lock.proofs.Sections.{IsSection, section}
-use Rattle.monitor.specs.Lawful.{point_of, view_of, beside_of, Beside, IsKept, IsLawful}
-use Rattle.monitor.specs.Shown.{shown, IsPass, IsTrue}
+use Rattle.monitor.specs.Lawful.{point_of, view_of, beside_of, Beside, IsLawfulCore, IsLawful}
+use Rattle.monitor.specs.Shown.{shown, IsPass, IsSound}
 use Rattle.monitor.specs.Stepping.{IsTrim}
 use Rattle.monitor.proofs.Sections.{core_shown, mine_stays, own_entries, passed, true_pass}
 
-pub trimmed_shown : (v w : CoreView) (r : Result ℕ Fault) → IsKept v → IsKept w → IsTrimmed v r w →
+pub trimmed_shown : (v w : CoreView) (r : Result ℕ Fault) → IsLawfulCore v → IsLawfulCore w → IsTrimmed v r w →
     IsTrimmed (view_of (point_of v) (beside_of v)) r (view_of (point_of w) (beside_of w))
 trimmed_shown v w r kept left t =
     subst (λ x. IsTrimmed x r (view_of (point_of w) (beside_of w))) (sym (core_shown v kept))
@@ -57,7 +57,7 @@ module _ (t o n : Ticket) (p q : Point) (seat share : ℕ) (r : Result ℕ Fault
   trim_pass s = passed t n p q seat share share (went s) s.was s.lawful
       (s.was.counted ∙ ap ended_calls (sym (mine s)))
 
-  pub trim_true : Trim → IsTrue (shown n seat share)
+  pub trim_true : Trim → IsSound (shown n seat share)
   trim_true s = true_pass n seat share (trim_pass s)
 
   pub trim_is : Trim → IsTrim (shown t seat share) r (shown n seat share)

@@ -26,7 +26,7 @@ use Rattle.monitor.specs.Acquire.{LimitsFor, WasInterrupted, WasNotInterrupted, 
 use Rattle.monitor.specs.Interrupts.{tells_interrupt}
 use Rattle.monitor.specs.Load.{free_of, given_by}
 use Rattle.monitor.specs.Machine.{IsBegun, IsCall, IsGoneOn, WasShown, at_stage, begins_wait, begun, first_turn, later_turn, limits_at, limits_from, next_behind, next_by, stage_for, step_at, step_by, step_of_waiting, step_within}
-use Rattle.monitor.specs.Shown.{Shown, IsTrue}
+use Rattle.monitor.specs.Shown.{Shown, IsSound}
 use Rattle.monitor.specs.Stepping.{IsSame, IsStep, IsStepNow, IsUnparked, answer_of, named_in}
 use Rattle.monitor.specs.declared.step.Now.{Now}
 use Rattle.monitor.specs.declared.step.Now.TheVariants.{Done, Busy}
@@ -109,7 +109,7 @@ step_waits GivenUp l woke = refl
 pub later_gives_none : (w : Waiting) (woke : Woke) → given_by (step_of_waiting w woke) ≡ 0
 later_gives_none w woke = waits_gives_none (step_of_waiting w woke) (step_waits w.stage w.limits woke)
 
-pub goes_on : (old new : Shown) (w : Waiting) (woke : Woke) (r : Result Answer Fault) → IsTrue old →
+pub goes_on : (old new : Shown) (w : Waiting) (woke : Woke) (r : Result Answer Fault) → IsSound old →
     of_waits.Waits old.seen old.seat → IsStep old (step_of_waiting w woke) r new → IsOk r
 goes_on old new w woke (Ok x) t k s = refl
 goes_on old new w woke (Err f) t k s =
@@ -128,7 +128,7 @@ named_later w s (Ok Sleep) = refl
 named_later w s (Err f) = refl
 
 pub place_first : (old new : Shown) (q : Request) (how : How) (moment : ℕ) (was : Bool) (t : Turn) (seats : ℕ) →
-    IsBegun old q how moment was t new → IsTrue new → new.lock.header.seats ≤ seats →
+    IsBegun old q how moment was t new → IsSound new → new.lock.header.seats ≤ seats →
     IfSome t.named (λ j. j < seats)
 place_first old new q how moment was t seats (r, s, is) shows all =
     subst (λ z. IfSome z (λ j. j < seats))
@@ -136,7 +136,7 @@ place_first old new q how moment was t seats (r, s, is) shows all =
     (named_place old new (step_by q how was) r seats s shows all)
 
 pub place_later : (old new : Shown) (w : Waiting) (woke : Woke) (t : Turn) (seats : ℕ) →
-    IsGoneOn old w woke t new → IsTrue new → new.lock.header.seats ≤ seats → IfSome t.named (λ j. j < seats)
+    IsGoneOn old w woke t new → IsSound new → new.lock.header.seats ≤ seats → IfSome t.named (λ j. j < seats)
 place_later old new w woke t seats (r, s, is) shows all =
     subst (λ z. IfSome z (λ j. j < seats))
     (sym (ap (λ (z : Turn). z.named) is ∙ named_later w (step_of_waiting w woke) r))
@@ -295,7 +295,7 @@ may_wait did (AwaitOn c) how moment shown =
 -- and the wait ended the call
 pub waited_ends : (did : Deed → Type 0) (old mid new : Shown) (q : Request) (how : How) (moment : ℕ)
     (reply : Result Entry Fault) → WasNotInterrupted did old.seat how → Begins did old mid q how →
-    IsSame old mid → IsTrue mid → WasShown did how moment → Before mid.seen new.seen →
+    IsSame old mid → IsSound mid → WasShown did how moment → Before mid.seen new.seen →
     IsReply did mid (stage_for q how) (limits_from moment how) reply new → IsCall did old q how reply new
 waited_ends did old mid new (Acquire m n) how moment (Ok e) none b same shows shown later waited =
     ends_in_line did old mid how m n b.entry b.name b.step b.woken none (queued m n b.entry.word b.begins) same
@@ -430,7 +430,7 @@ module _ (did : Deed → Type 0) (first now new : Shown) (s : Stage) (l : Limits
       (λ k stays. waited did first now new k s l w.stage (step_of_waiting w woke) may (still k stays) its gone.0
       x.0 gone.1 named x.1)
 
-  pub waits_on : (next : Waiting) → IsTrue new → t.next ≡ Waits next →
+  pub waits_on : (next : Waiting) → IsSound new → t.next ≡ Waits next →
       AllStillWait did first s l new next.stage × (next.limits ≡ l)
   waits_on next shows is =
       let x = gone_waits w (step_of_waiting w woke) gone.0 next ok

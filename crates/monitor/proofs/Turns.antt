@@ -24,7 +24,7 @@ use Rattle.history.specs.Awaiting.{ReturnsAs, AwaitMakes, sleeps_on, comes_back,
 use Rattle.history.proofs.Awaiting.{await_turn}
 use Rattle.history.proofs.Lasting.{still_awaits_there, still_returns_there, still_stands}
 use Rattle.monitor.specs.Lawful.{view_of, IsLawful}
-use Rattle.monitor.specs.Shown.{Shown, IsTrue}
+use Rattle.monitor.specs.Shown.{Shown, IsSound}
 use Rattle.monitor.specs.Stepping.{IsSame, IsStep, IsUnparked, named_in}
 use Rattle.monitor.specs.declared.waiting.Limits.{Limits}
 use Rattle.monitor.specs.declared.waiting.Stage.{Stage}
@@ -122,7 +122,7 @@ Turn old c step (Ok (answer.Recorded e name)) new = TurnMakes new.seen.base new.
 Turn old c step (Err f) new = ⊥
 
 pub turn : (old new : Shown) (c : Cause) (step : Step) (r : Result Answer Fault) →
-    IsStep old step r new → IsTrue old →
+    IsStep old step r new → IsSound old →
     WaitsAs old.seen old.seat c → waits step ≡ true → Turn old c step r new
 turn old new c step r s t stands w =
     by x.made refl (outcome v (view_of new.seen s.beside_left) i step r x.made x.is s.answered ok)
@@ -371,7 +371,7 @@ module _ (did : Deed → Type 0) (first now new : Shown) (was : Cause) (s : Stag
         behind_stays stage step x.6,
       )
 
-  goes_on : IsSame now new → IsStep now step (Ok answer.Sleep) new → IsTrue new →
+  goes_on : IsSame now new → IsStep now step (Ok answer.Sleep) new → IsSound new →
       StillWaits did first was s l new (stage_asleep stage step)
   goes_on same t shows =
       let sleeps = turned (Ok answer.Sleep) t in record {
@@ -429,7 +429,7 @@ module _ (did : Deed → Type 0) (first now new : Shown) (was : Cause) (s : Stag
 
   lapses_on : (e : Entry) (name : Option ℕ) → IsSame now new →
       IsStep now step (Ok (answer.Recorded e name)) new → IsUnparked did name →
-      is_lapse e.word ≡ true → IsTrue new → StillWaits did first was s l new Looks
+      is_lapse e.word ≡ true → IsSound new → StillWaits did first was s l new Looks
   unfolding Lapsed
   lapses_on e name same t woken lapse shows =
       let x = after_lapse e name t woken lapse in record {
@@ -498,7 +498,7 @@ module _ (did : Deed → Type 0) (first now new : Shown) (was : Cause) (s : Stag
   never_fault (Err f) t = absurd (no_fault f t)
 
   pub still_after : (r : Result Answer Fault) → IsSame now new → IsStep now step r new →
-      IsUnparked did (named_in r) → IsTrue new → ending_of r ≡ None →
+      IsUnparked did (named_in r) → IsSound new → ending_of r ≡ None →
       StillWaits did first was s l new (stage_behind stage step r)
   still_after (Ok answer.Sleep) same t woken shows q = goes_on same t shows
   still_after (Err f) same t woken shows q = absurd (no_fault f t)
@@ -530,7 +530,7 @@ begun did i l s (on_condition w) = inl refl
 begun did i l s (on_way_back w) = inl refl
 
 -- before its first park
-pub waits_first : (did : Deed → Type 0) (p : Shown) (s : Stage) (l : Limits) → IsTrue p →
+pub waits_first : (did : Deed → Type 0) (p : Shown) (s : Stage) (l : Limits) → IsSound p →
     AllStillWait did p s l p s
 waits_first did p s l shows k w = record {
   same = same_self p;

@@ -11,9 +11,9 @@ use Rattle.history.specs.Base.{folded}
 use Rattle.history.specs.GoodBase.{most_folded}
 use Rattle.permit.specs.Deed.{Deed}
 use Rattle.word_lock.specs.Point.{Before}
-use Rattle.monitor.specs.Lawful.{IsKept}
+use Rattle.monitor.specs.Lawful.{IsLawfulCore}
 use Rattle.monitor.specs.Machine.{IsCall, first_turn, step_by}
-use Rattle.monitor.specs.Shown.{Shown, IsTrue}
+use Rattle.monitor.specs.Shown.{Shown, IsSound}
 use Rattle.monitor.specs.Stepping.{IsEntered, IsStep}
 use Rattle.monitor.specs.declared.how.How.{How}
 use Rattle.monitor.specs.declared.machine.Request.{Request}
@@ -41,7 +41,7 @@ pub record IsFold (asks : Step → Type 0) (old : Shown) (found : Point) : Type 
   pub full : IsStep old step (Err HistoryFull) (at_point old found)
   pub few : IsTooMany found → ⊥
   pub begins : Before old.seen (fold_of found)
-  pub shows : IsTrue (at_point old (fold_of found))
+  pub shows : IsSound (at_point old (fold_of found))
 
 -- In that turn the step was made from the fold, and nothing came between. Only where it found no room there the
 -- call was answered that the history is full.
@@ -109,12 +109,12 @@ pub record IsCoreFold (moved : CoreView → Type 0) (v : CoreView) (i : ℕ) (st
     (w : CoreView) : Type 0 where
   pub full : CoreView
   pub refused : IsCoreStep v i step (Err HistoryFull) full
-  pub kept : IsKept full
+  pub kept : IsLawfulCore full
   pub few : IsTrimFull full → ⊥
   pub fold : CoreView
   pub count : ℕ
   pub trimmed : IsTrimmed full (Ok count) fold
-  pub fold_kept : IsKept fold
+  pub fold_kept : IsLawfulCore fold
   pub made : IsCoreStep fold i step r w
   pub since : moved fold
 

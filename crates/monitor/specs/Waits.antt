@@ -22,7 +22,7 @@ use Rattle.history.specs.declared.point.Point.{Point}
 use Rattle.word_lock.specs.Point.{Before}
 use Rattle.history.specs.Awaiting.{AwaitsAs, ReturnsAs, lapsed, back_from, lapse_from}
 use Rattle.monitor.specs.Lawful.{start_at}
-use Rattle.monitor.specs.Shown.{Shown, IsTrue}
+use Rattle.monitor.specs.Shown.{Shown, IsSound}
 use Rattle.monitor.specs.Stepping.{IsSame, IsUnparked}
 use Rattle.monitor.specs.declared.waiting.Limits.{Limits}
 use Rattle.monitor.specs.declared.waiting.Stage.{Stage}
@@ -191,7 +191,7 @@ pub record StillWaits (did : Deed → Type 0) (first : Shown) (was : Cause) (s :
     (now : Shown) (stage : Stage) : Type 0 where
   pub same : IsSame first now
   pub begins : Before first.seen now.seen
-  pub shows : IsTrue now
+  pub shows : IsSound now
   pub cause : Cause
   pub waits : WaitsAs now.seen now.seat cause
   pub so_far : SoFar did first was s l now cause stage

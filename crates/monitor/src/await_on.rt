@@ -4,7 +4,7 @@ ghost use Rattle.word_lock.specs.Point.{Before};
 ghost use Rattle.monitor.specs.Load.{Brings, Moves, free_of, holds_of};
 ghost use Rattle.monitor.specs.Room.{IsCallIn};
 ghost use Rattle.monitor.specs.declared.machine.Request.TheVariants.{AwaitOn};
-ghost use Rattle.monitor.specs.Shown.{IsTrue};
+ghost use Rattle.monitor.specs.Shown.{IsSound};
 ghost use Rattle.monitor.specs.Stepping.{IsSame};
 ghost use Rattle.monitor.specs.AwaitOn.{IsAwait, first_stage};
 
@@ -64,7 +64,7 @@ impl<H: Hooks + Drop> Monitor<H> {
         requires places { self.now.header.seats ≤ P.seats parking.now }
         ensures same { IsSame pass.old pass.new }
         ensures begins { Before pass.old.seen pass.new.seen }
-        ensures shows { IsTrue pass.new }
+        ensures shows { IsSound pass.new }
         ensures awaited { IsAwait (P.did parking.now) pass.old condition how result pass.new }
     {
         self.await_on_with(rt, parking, pass, &mut Empty {}, condition, how)
@@ -89,7 +89,7 @@ impl<H: Hooks + Drop, L: Load> Monitor<H, L> {
         requires brings { Brings L.is_counted (L.amount load.old) 0 }
         ensures same { IsSame pass.old pass.new }
         ensures begins { Before pass.old.seen pass.new.seen }
-        ensures shows { IsTrue pass.new }
+        ensures shows { IsSound pass.new }
         ensures awaited { IsAwait (P.did parking.now) pass.old condition how result pass.new }
         ensures carries { L.carries load.new (holds_of pass.new) }
         ensures moves { Moves L.is_counted L.amount load.old (free_of pass.old) load.new (free_of pass.new) }
@@ -113,7 +113,7 @@ impl<H: Hooks + Drop, L: Load> Monitor<H, L> {
         requires brings { Brings L.is_counted (L.amount load.old) 0 }
         ensures same { IsSame pass.old pass.new }
         ensures begins { Before pass.old.seen pass.new.seen }
-        ensures shows { IsTrue pass.new }
+        ensures shows { IsSound pass.new }
         ensures awaited { IsCallIn when_full (P.did parking.now) pass.old (AwaitOn condition) how result pass.new }
         ensures carries { L.carries load.new (holds_of pass.new) }
         ensures moves { Moves L.is_counted L.amount load.old (free_of pass.old) load.new (free_of pass.new) }

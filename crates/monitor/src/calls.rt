@@ -2,7 +2,7 @@
 ghost use Rattle.std.specs.Prelude.{◌≡◌, ◌≤◌};
 ghost use Rattle.history.specs.declared.entry.Mode.TheVariants.{S};
 ghost use Rattle.history.specs.declared.step.Step.TheVariants.{Try, Give, Signal, SignalAll, Drain};
-ghost use Rattle.monitor.specs.Shown.{IsTrue};
+ghost use Rattle.monitor.specs.Shown.{IsSound};
 ghost use Rattle.monitor.specs.Stepping.{IsSame, IsEntered};
 
 use crate::load::{Empty, Load};
@@ -33,7 +33,7 @@ impl<H: Hooks + Drop> Monitor<H> {
         requires places { self.now.header.seats ≤ P.seats parking.now }
         ensures same { IsSame pass.old pass.new }
         ensures tried { IsEntered (P.did parking.now) pass.old (Try mode n) result pass.new }
-        ensures shows { IsTrue pass.new }
+        ensures shows { IsSound pass.new }
     {
         pass.is_true();
         self.enter(rt, parking, pass, &mut Empty {}, Step::Try(mode, n))
@@ -52,7 +52,7 @@ impl<H: Hooks + Drop> Monitor<H> {
         requires places { self.now.header.seats ≤ P.seats parking.now }
         ensures same { IsSame pass.old pass.new }
         ensures given { IsEntered (P.did parking.now) pass.old (Give mode n) result pass.new }
-        ensures shows { IsTrue pass.new }
+        ensures shows { IsSound pass.new }
     {
         pass.is_true();
         self.enter(rt, parking, pass, &mut Empty {}, Step::Give(mode, n))
@@ -69,7 +69,7 @@ impl<H: Hooks + Drop> Monitor<H> {
         requires places { self.now.header.seats ≤ P.seats parking.now }
         ensures same { IsSame pass.old pass.new }
         ensures counted { IsEntered (P.did parking.now) pass.old (Give S 1) result pass.new }
-        ensures shows { IsTrue pass.new }
+        ensures shows { IsSound pass.new }
     {
         pass.is_true();
         self.enter(rt, parking, pass, &mut Empty {}, Step::Give(Mode::S, 1))
@@ -86,7 +86,7 @@ impl<H: Hooks + Drop> Monitor<H> {
         requires places { self.now.header.seats ≤ P.seats parking.now }
         ensures same { IsSame pass.old pass.new }
         ensures drained { IsEntered (P.did parking.now) pass.old (Drain) result pass.new }
-        ensures shows { IsTrue pass.new }
+        ensures shows { IsSound pass.new }
     {
         pass.is_true();
         self.enter(rt, parking, pass, &mut Empty {}, Step::Drain)
@@ -107,7 +107,7 @@ impl<H: Hooks + Drop, L: Load> Monitor<H, L> {
         requires places { self.now.header.seats ≤ P.seats parking.now }
         ensures same { IsSame pass.old pass.new }
         ensures signalled { IsEntered (P.did parking.now) pass.old (Signal condition) result pass.new }
-        ensures shows { IsTrue pass.new }
+        ensures shows { IsSound pass.new }
     {
         pass.is_true();
         self.tell(rt, parking, pass, Step::Signal(condition))
@@ -125,7 +125,7 @@ impl<H: Hooks + Drop, L: Load> Monitor<H, L> {
         requires places { self.now.header.seats ≤ P.seats parking.now }
         ensures same { IsSame pass.old pass.new }
         ensures signalled { IsEntered (P.did parking.now) pass.old (SignalAll condition) result pass.new }
-        ensures shows { IsTrue pass.new }
+        ensures shows { IsSound pass.new }
     {
         pass.is_true();
         self.tell(rt, parking, pass, Step::SignalAll(condition))

@@ -7,7 +7,7 @@ ghost use Rattle.monitor.specs.Closing.{IsBased, IsWithin, left_by, shares, pass
 ghost use Rattle.history.specs.Counts.{counts};
 ghost use Rattle.monitor.specs.Lawful.{IsLawful};
 ghost use Rattle.word_lock.specs.Point.{Before};
-ghost use Rattle.monitor.specs.Shown.{IsTrue};
+ghost use Rattle.monitor.specs.Shown.{IsSound};
 ghost use Rattle.monitor.specs.Stepping.{IsSame};
 ghost use Rattle.monitor.specs.declared.closing.CloseFault.TheVariants.{MissingPass};
 
@@ -46,7 +46,7 @@ impl<H: Hooks + Drop, L: Load> Monitor<H, L> {
         ensures begins { Before one.seen result.0.seen × Before two.seen result.1.seen }
         ensures mine { (result.0.mine ≡ one.mine) × (result.1.mine ≡ two.mine) }
         ensures share { (result.0.share ≡ one.share) × (result.1.share ≡ two.share) }
-        ensures shows { IsTrue result.0 × IsTrue result.1 }
+        ensures shows { IsSound result.0 × IsSound result.1 }
     {
         let Pass {
             token: a,
@@ -170,7 +170,7 @@ impl<H: Hooks + Drop> Monitor<H> {
 // seat.
 fn merge_shares(passes: &[Pass]) -> u128
     ensures sum { result ≡ shares passes.now }
-    ensures shows { All (λ p. IsTrue p) passes.now }
+    ensures shows { All (λ p. IsSound p) passes.now }
 {
     let mut share: u128 = 0;
     let mut rest = passes;

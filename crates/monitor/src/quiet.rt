@@ -7,7 +7,7 @@ ghost use Rattle.std.specs.Prelude.{◌≡◌, IfNone, IfSome, MatchOption};
 ghost use Rattle.std.specs.Fn.{FnOnceReturnsAt};
 ghost use Rattle.history.specs.Entries.{HistoryView};
 ghost use Rattle.monitor.specs.Observing.{IsHistoryOf, IsLook};
-ghost use Rattle.monitor.specs.Shown.{IsTrue};
+ghost use Rattle.monitor.specs.Shown.{IsSound};
 ghost use Rattle.monitor.specs.Stepping.{IsSame, IsTrim};
 
 use crate::load::Load;
@@ -24,7 +24,7 @@ impl<H: Hooks + Drop, L: Load> Monitor<H, L> {
         requires callable { F.IsAlwaysCallable read }
         ensures busy { IfNone result (pass.new ≡ pass.old) }
         ensures looked { IfSome result (λ _. IsLook pass.old pass.new) }
-        ensures shows { IsTrue pass.new }
+        ensures shows { IsSound pass.new }
         ensures saw { IfSome result (λ answer. (history : HistoryView) × IsHistoryOf pass.new.seen history
             × FnOnceReturnsAt F.FnOnce read history answer) }
     {
@@ -42,7 +42,7 @@ impl<H: Hooks + Drop, L: Load> Monitor<H, L> {
         requires is_of { pass.old.lock ≡ self.now }
         ensures same { IsSame pass.old pass.new }
         ensures trimmed { MatchOption result (pass.new ≡ pass.old) (λ count. IsTrim pass.old count pass.new) }
-        ensures shows { IsTrue pass.new }
+        ensures shows { IsSound pass.new }
     {
         let Some(mut held) = self.lock.lock_now(&mut pass.token) else {
             return None;

@@ -8,7 +8,7 @@
 ghost use Rattle.std.specs.Prelude.{◌≡◌};
 ghost use Rattle.monitor.specs.Load.{Brings, Moves, free_of, given_by, holds_of};
 ghost use Rattle.monitor.specs.Room.{IsStepIn, is_full};
-ghost use Rattle.monitor.specs.Shown.{IsTrue};
+ghost use Rattle.monitor.specs.Shown.{IsSound};
 ghost use Rattle.monitor.specs.Stepping.{IsSame};
 ghost use Rattle.monitor.specs.declared.room.WhenFull.TheVariants.{Trim};
 
@@ -46,7 +46,7 @@ impl<H: Hooks + Drop, L: Load> Monitor<H, L> {
         requires brings { Brings L.is_counted (L.amount load.old) (given_by step) }
         ensures same { IsSame pass.old pass.new }
         ensures stepped { IsStepIn when_full pass.old step result pass.new }
-        ensures shows { IsTrue pass.new }
+        ensures shows { IsSound pass.new }
         ensures carries { L.carries load.new (holds_of pass.new) }
         ensures moves { Moves L.is_counted L.amount load.old (free_of pass.old) load.new (free_of pass.new) }
     {
@@ -69,7 +69,7 @@ impl<H: Hooks + Drop, L: Load> Monitor<H, L> {
         requires brings { Brings L.is_counted (L.amount load.old) (given_by step) }
         ensures same { IsSame pass.old pass.new }
         ensures stepped { IsStepIn Trim pass.old step result pass.new }
-        ensures shows { IsTrue pass.new }
+        ensures shows { IsSound pass.new }
         ensures carries { L.carries load.new (holds_of pass.new) }
         ensures moves { Moves L.is_counted L.amount load.old (free_of pass.old) load.new (free_of pass.new) }
     {

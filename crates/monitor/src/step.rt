@@ -3,7 +3,7 @@ ghost use Rattle.std.specs.Prelude.{◌≡◌, ◌<◌, ◌≤◌, false, true, 
 ghost use Rattle.history.specs.Phase.{waits};
 ghost use Rattle.monitor.specs.Load.{Brings, Moves, free_of, given_by, holds_of, is_signal};
 ghost use Rattle.monitor.specs.Room.{IsEnteredIn, IsStepIn};
-ghost use Rattle.monitor.specs.Shown.{IsTrue};
+ghost use Rattle.monitor.specs.Shown.{IsSound};
 ghost use Rattle.monitor.specs.Stepping.{IsSame, IsStep, IsStepNow, IsEntered, IsUnparked, named_in, now_of};
 
 use crate::load::{Empty, Load};
@@ -31,7 +31,7 @@ impl<H: Hooks + Drop> Monitor<H> {
         requires is_of { pass.old.lock ≡ self.now }
         ensures same { IsSame pass.old pass.new }
         ensures stepped { IsStep pass.old step result pass.new }
-        ensures shows { IsTrue pass.new }
+        ensures shows { IsSound pass.new }
     {
         self.step_with(rt, pass, &mut Empty {}, step)
     }
@@ -41,7 +41,7 @@ impl<H: Hooks + Drop> Monitor<H> {
         requires is_of { pass.old.lock ≡ self.now }
         ensures same { IsSame pass.old pass.new }
         ensures stepped { IsStepNow pass.old step result pass.new }
-        ensures shows { IsTrue pass.new }
+        ensures shows { IsSound pass.new }
     {
         self.step_now_with(pass, &mut Empty {}, step)
     }
@@ -62,7 +62,7 @@ impl<H: Hooks + Drop, L: Load> Monitor<H, L> {
         requires brings { Brings L.is_counted (L.amount load.old) (given_by step) }
         ensures same { IsSame pass.old pass.new }
         ensures stepped { IsStep pass.old step result pass.new }
-        ensures shows { IsTrue pass.new }
+        ensures shows { IsSound pass.new }
         ensures carries { L.carries load.new (holds_of pass.new) }
         ensures moves { Moves L.is_counted L.amount load.old (free_of pass.old) load.new (free_of pass.new) }
     {
@@ -80,7 +80,7 @@ impl<H: Hooks + Drop, L: Load> Monitor<H, L> {
         requires brings { Brings L.is_counted (L.amount load.old) (given_by step) }
         ensures same { IsSame pass.old pass.new }
         ensures stepped { IsStepNow pass.old step result pass.new }
-        ensures shows { IsTrue pass.new }
+        ensures shows { IsSound pass.new }
         ensures carries { L.carries load.new (holds_of pass.new) }
         ensures moves { Moves L.is_counted L.amount load.old (free_of pass.old) load.new (free_of pass.new) }
     {
@@ -96,7 +96,7 @@ impl<H: Hooks + Drop, L: Load> Monitor<H, L> {
         requires brings { Brings L.is_counted (L.amount load.old) (given_by step) }
         ensures same { IsSame pass.old pass.new }
         ensures stepped { IsStepNow pass.old step result pass.new }
-        ensures shows { IsTrue pass.new }
+        ensures shows { IsSound pass.new }
         ensures carries { L.carries load.new (holds_of pass.new) }
         ensures moves { Moves L.is_counted L.amount load.old (free_of pass.old) load.new (free_of pass.new) }
     {
@@ -126,7 +126,7 @@ impl<H: Hooks + Drop, L: Load> Monitor<H, L> {
         ensures same { IsSame pass.old pass.new }
         ensures stepped { IsStepIn when_full pass.old step result pass.new }
         ensures unparked { IsUnparked (P.did parking.now) (named_in result) }
-        ensures shows { IsTrue pass.new }
+        ensures shows { IsSound pass.new }
         ensures carries { L.carries load.new (holds_of pass.new) }
         ensures moves { Moves L.is_counted L.amount load.old (free_of pass.old) load.new (free_of pass.new) }
     {
@@ -152,7 +152,7 @@ impl<H: Hooks + Drop, L: Load> Monitor<H, L> {
         requires brings { Brings L.is_counted (L.amount load.old) (given_by step) }
         ensures same { IsSame pass.old pass.new }
         ensures entered { IsEntered (P.did parking.now) pass.old step result pass.new }
-        ensures shows { IsTrue pass.new }
+        ensures shows { IsSound pass.new }
         ensures carries { L.carries load.new (holds_of pass.new) }
         ensures moves { Moves L.is_counted L.amount load.old (free_of pass.old) load.new (free_of pass.new) }
     {
@@ -176,7 +176,7 @@ impl<H: Hooks + Drop, L: Load> Monitor<H, L> {
         requires brings { Brings L.is_counted (L.amount load.old) (given_by step) }
         ensures same { IsSame pass.old pass.new }
         ensures entered { IsEnteredIn when_full (P.did parking.now) pass.old step result pass.new }
-        ensures shows { IsTrue pass.new }
+        ensures shows { IsSound pass.new }
         ensures carries { L.carries load.new (holds_of pass.new) }
         ensures moves { Moves L.is_counted L.amount load.old (free_of pass.old) load.new (free_of pass.new) }
     {
@@ -193,7 +193,7 @@ impl<H: Hooks + Drop, L: Load> Monitor<H, L> {
         requires signals { is_signal step ≡ true }
         ensures same { IsSame pass.old pass.new }
         ensures stepped { IsStep pass.old step result pass.new }
-        ensures shows { IsTrue pass.new }
+        ensures shows { IsSound pass.new }
     {
         let mut held = self.lock.lock(rt, &mut pass.token);
         let answer = held.value.signal(pass.seat, step);
@@ -216,7 +216,7 @@ impl<H: Hooks + Drop, L: Load> Monitor<H, L> {
         ensures same { IsSame pass.old pass.new }
         ensures stepped { IsStep pass.old step result pass.new }
         ensures unparked { IsUnparked (P.did parking.now) (named_in result) }
-        ensures shows { IsTrue pass.new }
+        ensures shows { IsSound pass.new }
     {
         let told = self.signal_step(rt, pass, step);
         unpark(parking, named_in(told));
@@ -236,7 +236,7 @@ impl<H: Hooks + Drop, L: Load> Monitor<H, L> {
         requires signals { is_signal step ≡ true }
         ensures same { IsSame pass.old pass.new }
         ensures entered { IsEntered (P.did parking.now) pass.old step result pass.new }
-        ensures shows { IsTrue pass.new }
+        ensures shows { IsSound pass.new }
     {
         match self.signal_call(rt, parking, pass, step) {
             Ok(Answer::Recorded(entry, _)) => Ok(entry),

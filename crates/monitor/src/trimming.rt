@@ -1,6 +1,6 @@
 //! Folding what was done to the object.
 ghost use Rattle.std.specs.Prelude.{◌≡◌};
-ghost use Rattle.monitor.specs.Shown.{IsTrue};
+ghost use Rattle.monitor.specs.Shown.{IsSound};
 ghost use Rattle.monitor.specs.Stepping.{IsSame, IsTrim};
 
 use crate::load::Load;
@@ -19,7 +19,7 @@ impl<H: Hooks + Drop, L: Load> Monitor<H, L> {
         requires is_of { pass.old.lock ≡ self.now }
         ensures same { IsSame pass.old pass.new }
         ensures trimmed { IsTrim pass.old result pass.new }
-        ensures shows { IsTrue pass.new }
+        ensures shows { IsSound pass.new }
     {
         let mut held = self.lock.lock(rt, &mut pass.token);
         let count = held.value.trim();

@@ -36,7 +36,7 @@ use Rattle.history.specs.Sleepers.{sleepers}
 use Rattle.monitor.specs.Acquire.{AtOnce, EndsAtOnce, EndsInLine, IsAcquire, IsAtOnce, IsEndFor}
 use Rattle.monitor.specs.Lawful.{start_at, view_of}
 use Rattle.history.specs.declared.point.Point.{Point}
-use Rattle.monitor.specs.Shown.{Shown, IsTrue, opening_pass, opening_passes}
+use Rattle.monitor.specs.Shown.{Shown, IsSound, opening_pass, opening_passes}
 use Rattle.monitor.specs.Load.{is_signal}
 use Rattle.monitor.specs.Stepping.{IsEntered, IsSame, IsStep, IsTrim}
 use Rattle.monitor.specs.Waits.{asking}
@@ -69,7 +69,7 @@ queued_adds_none k i e had w =
 
 -- the object of a history that a step found is that of the lock
 pub found_lock : (old new : Shown) (step : Step) (e : Entry) (name : Option ℕ) →
-    is_lock old.lock.header.object ≡ true → IsSame old new → IsTrue new →
+    is_lock old.lock.header.object ≡ true → IsSame old new → IsSound new →
     (s : IsStep old step (Ok (Recorded e name)) new) → is_lock s.found.base.header.object ≡ true
 unfolding header_of
 found_lock old new step e name lock same shows s =

@@ -30,7 +30,7 @@ use Rattle.word_lock.specs.Point.{header_of}
 use Rattle.word_lock.specs.Ticket.{LockId}
 use Rattle.monitor.specs.Acquire.{AtOnce, EndsAtOnce, EndsInLine, IsAcquire, IsAtOnce, IsEndFor, first_step, has_time, is_timed}
 use Rattle.monitor.specs.Lawful.{start_at, view_of}
-use Rattle.monitor.specs.Shown.{Shown, IsTrue}
+use Rattle.monitor.specs.Shown.{Shown, IsSound}
 use Rattle.monitor.specs.Stepping.{IsEntered, IsSame, IsStep}
 use Rattle.monitor.specs.Waits.{asking}
 use Rattle.monitor.specs.declared.how.How.{How}
@@ -139,7 +139,7 @@ gave_own (Latch c) k i q l = cc
 
 -- what a give of an owner records
 pub gave_is : (did : Deed → Type 0) (old new : Shown) (e : Entry) → is_lock old.lock.header.object ≡ true →
-    IsSame old new → IsTrue new → IsEntered did old (Give X 1) (Ok e) new → 0 < holds old → e ≡ plain old.seat word.Gave X 1
+    IsSame old new → IsSound new → IsEntered did old (Give X 1) (Ok e) new → 0 < holds old → e ≡ plain old.seat word.Gave X 1
 unfolding header_of
 gave_is did old new e lock same shows s some =
     let k = old.lock.header in
@@ -159,7 +159,7 @@ gave_is did old new e lock same shows s some =
 
 -- it takes one hold
 pub give_takes : (did : Deed → Type 0) (old new : Shown) (e : Entry) → is_lock old.lock.header.object ≡ true →
-    IsSame old new → IsTrue new → IsEntered did old (Give X 1) (Ok e) new → 0 < holds old → holds new + 1 ≡ holds old
+    IsSame old new → IsSound new → IsEntered did old (Give X 1) (Ok e) new → 0 < holds old → holds new + 1 ≡ holds old
 give_takes did old new e lock same shows s some =
     let k = old.lock.header in
     let is = gave_is did old new e lock same shows s some in

@@ -23,7 +23,7 @@ use Rattle.permit.specs.Deed.{Deed}
 use Rattle.word_lock.specs.Point.{header_of}
 use Rattle.word_lock.proofs.PointLaws.{before_header}
 use Rattle.monitor.specs.Lawful.{IsLawful, start_at}
-use Rattle.monitor.specs.Shown.{Shown, IsTrue}
+use Rattle.monitor.specs.Shown.{Shown, IsSound}
 use Rattle.monitor.specs.Stepping.{IsEntered, IsSame}
 use Rattle.monitor.proofs.Loads.{own_holds}
 use Rattle.monitor.proofs.Opening.{header_shown}
@@ -66,7 +66,7 @@ point_gives p i l lock some =
 
 -- An owner's give is recorded: it finds room and memory, since it was owed.
 pub give_recorded : (did : Deed → Type 0) (old new : Shown) (r : Result Entry Fault) →
-    is_lock old.lock.header.object ≡ true → IsSame old new → IsTrue old → IsEntered did old (Give X 1) r new → 0 < holds old → IsOk r
+    is_lock old.lock.header.object ≡ true → IsSame old new → IsSound old → IsEntered did old (Give X 1) r new → 0 < holds old → IsOk r
 give_recorded did old new (Ok e) lock same shows s some = refl
 give_recorded did old new (Err f) lock same shows s some =
     let header : header_of s.found ≡ old.lock.header = sym (before_header old.seen s.found s.begins) ∙ shows.header in
@@ -79,7 +79,7 @@ give_recorded did old new (Err f) lock same shows s some =
 
 -- and that is what is told of it
 pub give_told : (did : Deed → Type 0) (old new : Shown) (r : Result Entry Fault) →
-    is_lock old.lock.header.object ≡ true → IsSame old new → IsTrue old → IsTrue new → IsEntered did old (Give X 1) r new → 0 < holds old →
+    is_lock old.lock.header.object ≡ true → IsSame old new → IsSound old → IsSound new → IsEntered did old (Give X 1) r new → 0 < holds old →
     whether_of r ≡ Ok true
 give_told did old new (Ok e) lock same was shows s some =
     ap (λ (z : Entry). whether_of (Ok z)) (gave_is did old new e lock same shows s some)

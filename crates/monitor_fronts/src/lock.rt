@@ -5,7 +5,7 @@ ghost use Rattle.history.specs.declared.entry.Mode.TheVariants.{X};
 ghost use Rattle.history.specs.declared.step.Step.TheVariants.{Try, Give, Signal, SignalAll};
 ghost use Rattle.monitor.specs.Acquire.{IsAcquire};
 ghost use Rattle.monitor.specs.AwaitOn.{IsAwait};
-ghost use Rattle.monitor.specs.Shown.{IsTrue};
+ghost use Rattle.monitor.specs.Shown.{IsSound};
 ghost use Rattle.monitor.specs.Stepping.{IsSame, IsEntered};
 ghost use Rattle.monitor.specs.declared.how.How.TheVariants.{Plain, Interruptible, Timed};
 ghost use Rattle.monitor_fronts.specs.Holding.{holds};
@@ -48,7 +48,7 @@ impl<'m> ReentrantLock<'m> {
         requires places { self.now.monitor.now.header.seats ≤ P.seats parking.now }
         ensures same { IsSame pass.old pass.new }
         ensures begins { Before pass.old.seen pass.new.seen }
-        ensures shows { IsTrue pass.new }
+        ensures shows { IsSound pass.new }
         ensures acquired { Tells done_of
             (λ reply. IsAcquire (P.did parking.now) pass.old X 1 Plain reply pass.new) result }
     {
@@ -69,7 +69,7 @@ impl<'m> ReentrantLock<'m> {
         requires places { self.now.monitor.now.header.seats ≤ P.seats parking.now }
         ensures same { IsSame pass.old pass.new }
         ensures begins { Before pass.old.seen pass.new.seen }
-        ensures shows { IsTrue pass.new }
+        ensures shows { IsSound pass.new }
         ensures acquired { Tells done_of
             (λ reply. IsAcquire (P.did parking.now) pass.old X 1 Interruptible reply pass.new) result }
     {
@@ -90,7 +90,7 @@ impl<'m> ReentrantLock<'m> {
         requires is_of { pass.old.lock ≡ self.now.monitor.now }
         requires places { self.now.monitor.now.header.seats ≤ P.seats parking.now }
         ensures same { IsSame pass.old pass.new }
-        ensures shows { IsTrue pass.new }
+        ensures shows { IsSound pass.new }
         ensures entered { Tells whether_of
             (λ reply. IsEntered (P.did parking.now) pass.old (Try X 1) reply pass.new) result }
     {
@@ -111,7 +111,7 @@ impl<'m> ReentrantLock<'m> {
         requires places { self.now.monitor.now.header.seats ≤ P.seats parking.now }
         ensures same { IsSame pass.old pass.new }
         ensures begins { Before pass.old.seen pass.new.seen }
-        ensures shows { IsTrue pass.new }
+        ensures shows { IsSound pass.new }
         ensures acquired { Tells whether_of
             (λ reply. IsAcquire (P.did parking.now) pass.old X 1 (Timed ms) reply pass.new) result }
     {
@@ -132,7 +132,7 @@ impl<'m> ReentrantLock<'m> {
         requires is_of { pass.old.lock ≡ self.now.monitor.now }
         requires places { self.now.monitor.now.header.seats ≤ P.seats parking.now }
         ensures same { IsSame pass.old pass.new }
-        ensures shows { IsTrue pass.new }
+        ensures shows { IsSound pass.new }
         ensures entered { Tells done_of
             (λ reply. IsEntered (P.did parking.now) pass.old (Give X 1) reply pass.new) result }
         ensures owner { is_lock self.now.monitor.now.header.object ≡ true → 0 < holds pass.old → IsOk result }
@@ -155,7 +155,7 @@ impl<'m> ReentrantLock<'m> {
         requires places { self.now.monitor.now.header.seats ≤ P.seats parking.now }
         ensures same { IsSame pass.old pass.new }
         ensures begins { Before pass.old.seen pass.new.seen }
-        ensures shows { IsTrue pass.new }
+        ensures shows { IsSound pass.new }
         ensures awaited { Tells done_of
             (λ reply. IsAwait (P.did parking.now) pass.old condition Interruptible reply pass.new) result }
     {
@@ -177,7 +177,7 @@ impl<'m> ReentrantLock<'m> {
         requires places { self.now.monitor.now.header.seats ≤ P.seats parking.now }
         ensures same { IsSame pass.old pass.new }
         ensures begins { Before pass.old.seen pass.new.seen }
-        ensures shows { IsTrue pass.new }
+        ensures shows { IsSound pass.new }
         ensures awaited { Tells done_of
             (λ reply. IsAwait (P.did parking.now) pass.old condition Plain reply pass.new) result }
     {
@@ -201,7 +201,7 @@ impl<'m> ReentrantLock<'m> {
         requires places { self.now.monitor.now.header.seats ≤ P.seats parking.now }
         ensures same { IsSame pass.old pass.new }
         ensures begins { Before pass.old.seen pass.new.seen }
-        ensures shows { IsTrue pass.new }
+        ensures shows { IsSound pass.new }
         ensures awaited { Tells whether_of
             (λ reply. IsAwait (P.did parking.now) pass.old condition (Timed ms) reply pass.new) result }
     {
@@ -222,7 +222,7 @@ impl<'m> ReentrantLock<'m> {
         requires is_of { pass.old.lock ≡ self.now.monitor.now }
         requires places { self.now.monitor.now.header.seats ≤ P.seats parking.now }
         ensures same { IsSame pass.old pass.new }
-        ensures shows { IsTrue pass.new }
+        ensures shows { IsSound pass.new }
         ensures entered { Tells done_of
             (λ reply. IsEntered (P.did parking.now) pass.old (Signal condition) reply pass.new) result }
     {
@@ -240,7 +240,7 @@ impl<'m> ReentrantLock<'m> {
         requires is_of { pass.old.lock ≡ self.now.monitor.now }
         requires places { self.now.monitor.now.header.seats ≤ P.seats parking.now }
         ensures same { IsSame pass.old pass.new }
-        ensures shows { IsTrue pass.new }
+        ensures shows { IsSound pass.new }
         ensures entered { Tells done_of
             (λ reply. IsEntered (P.did parking.now) pass.old (SignalAll condition) reply pass.new) result }
     {

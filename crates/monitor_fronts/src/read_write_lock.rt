@@ -4,7 +4,7 @@ ghost use Rattle.history.specs.declared.entry.Mode.TheVariants.{X, S};
 ghost use Rattle.history.specs.declared.step.Step.TheVariants.{Try, Give, Signal, SignalAll};
 ghost use Rattle.monitor.specs.Acquire.{IsAcquire};
 ghost use Rattle.monitor.specs.AwaitOn.{IsAwait};
-ghost use Rattle.monitor.specs.Shown.{IsTrue};
+ghost use Rattle.monitor.specs.Shown.{IsSound};
 ghost use Rattle.monitor.specs.Stepping.{IsSame, IsEntered};
 ghost use Rattle.monitor.specs.declared.how.How.TheVariants.{Plain, Interruptible, Timed};
 ghost use Rattle.monitor_fronts.specs.Told.{Tells, done_of, whether_of};
@@ -47,7 +47,7 @@ impl<'m> ReadWriteLock<'m> {
         requires places { self.now.monitor.now.header.seats ≤ P.seats parking.now }
         ensures same { IsSame pass.old pass.new }
         ensures begins { Before pass.old.seen pass.new.seen }
-        ensures shows { IsTrue pass.new }
+        ensures shows { IsSound pass.new }
         ensures acquired { Tells done_of
             (λ reply. IsAcquire (P.did parking.now) pass.old X 1 Plain reply pass.new) result }
     {
@@ -68,7 +68,7 @@ impl<'m> ReadWriteLock<'m> {
         requires places { self.now.monitor.now.header.seats ≤ P.seats parking.now }
         ensures same { IsSame pass.old pass.new }
         ensures begins { Before pass.old.seen pass.new.seen }
-        ensures shows { IsTrue pass.new }
+        ensures shows { IsSound pass.new }
         ensures acquired { Tells done_of
             (λ reply. IsAcquire (P.did parking.now) pass.old X 1 Interruptible reply pass.new) result }
     {
@@ -89,7 +89,7 @@ impl<'m> ReadWriteLock<'m> {
         requires is_of { pass.old.lock ≡ self.now.monitor.now }
         requires places { self.now.monitor.now.header.seats ≤ P.seats parking.now }
         ensures same { IsSame pass.old pass.new }
-        ensures shows { IsTrue pass.new }
+        ensures shows { IsSound pass.new }
         ensures entered { Tells whether_of
             (λ reply. IsEntered (P.did parking.now) pass.old (Try X 1) reply pass.new) result }
     {
@@ -110,7 +110,7 @@ impl<'m> ReadWriteLock<'m> {
         requires places { self.now.monitor.now.header.seats ≤ P.seats parking.now }
         ensures same { IsSame pass.old pass.new }
         ensures begins { Before pass.old.seen pass.new.seen }
-        ensures shows { IsTrue pass.new }
+        ensures shows { IsSound pass.new }
         ensures acquired { Tells whether_of
             (λ reply. IsAcquire (P.did parking.now) pass.old X 1 (Timed ms) reply pass.new) result }
     {
@@ -130,7 +130,7 @@ impl<'m> ReadWriteLock<'m> {
         requires is_of { pass.old.lock ≡ self.now.monitor.now }
         requires places { self.now.monitor.now.header.seats ≤ P.seats parking.now }
         ensures same { IsSame pass.old pass.new }
-        ensures shows { IsTrue pass.new }
+        ensures shows { IsSound pass.new }
         ensures entered { Tells done_of
             (λ reply. IsEntered (P.did parking.now) pass.old (Give X 1) reply pass.new) result }
     {
@@ -151,7 +151,7 @@ impl<'m> ReadWriteLock<'m> {
         requires places { self.now.monitor.now.header.seats ≤ P.seats parking.now }
         ensures same { IsSame pass.old pass.new }
         ensures begins { Before pass.old.seen pass.new.seen }
-        ensures shows { IsTrue pass.new }
+        ensures shows { IsSound pass.new }
         ensures awaited { Tells done_of
             (λ reply. IsAwait (P.did parking.now) pass.old condition Interruptible reply pass.new) result }
     {
@@ -173,7 +173,7 @@ impl<'m> ReadWriteLock<'m> {
         requires places { self.now.monitor.now.header.seats ≤ P.seats parking.now }
         ensures same { IsSame pass.old pass.new }
         ensures begins { Before pass.old.seen pass.new.seen }
-        ensures shows { IsTrue pass.new }
+        ensures shows { IsSound pass.new }
         ensures awaited { Tells done_of
             (λ reply. IsAwait (P.did parking.now) pass.old condition Plain reply pass.new) result }
     {
@@ -197,7 +197,7 @@ impl<'m> ReadWriteLock<'m> {
         requires places { self.now.monitor.now.header.seats ≤ P.seats parking.now }
         ensures same { IsSame pass.old pass.new }
         ensures begins { Before pass.old.seen pass.new.seen }
-        ensures shows { IsTrue pass.new }
+        ensures shows { IsSound pass.new }
         ensures awaited { Tells whether_of
             (λ reply. IsAwait (P.did parking.now) pass.old condition (Timed ms) reply pass.new) result }
     {
@@ -218,7 +218,7 @@ impl<'m> ReadWriteLock<'m> {
         requires is_of { pass.old.lock ≡ self.now.monitor.now }
         requires places { self.now.monitor.now.header.seats ≤ P.seats parking.now }
         ensures same { IsSame pass.old pass.new }
-        ensures shows { IsTrue pass.new }
+        ensures shows { IsSound pass.new }
         ensures entered { Tells done_of
             (λ reply. IsEntered (P.did parking.now) pass.old (Signal condition) reply pass.new) result }
     {
@@ -236,7 +236,7 @@ impl<'m> ReadWriteLock<'m> {
         requires is_of { pass.old.lock ≡ self.now.monitor.now }
         requires places { self.now.monitor.now.header.seats ≤ P.seats parking.now }
         ensures same { IsSame pass.old pass.new }
-        ensures shows { IsTrue pass.new }
+        ensures shows { IsSound pass.new }
         ensures entered { Tells done_of
             (λ reply. IsEntered (P.did parking.now) pass.old (SignalAll condition) reply pass.new) result }
     {
@@ -255,7 +255,7 @@ impl<'m> ReadWriteLock<'m> {
         requires places { self.now.monitor.now.header.seats ≤ P.seats parking.now }
         ensures same { IsSame pass.old pass.new }
         ensures begins { Before pass.old.seen pass.new.seen }
-        ensures shows { IsTrue pass.new }
+        ensures shows { IsSound pass.new }
         ensures acquired { Tells done_of
             (λ reply. IsAcquire (P.did parking.now) pass.old S 1 Plain reply pass.new) result }
     {
@@ -276,7 +276,7 @@ impl<'m> ReadWriteLock<'m> {
         requires places { self.now.monitor.now.header.seats ≤ P.seats parking.now }
         ensures same { IsSame pass.old pass.new }
         ensures begins { Before pass.old.seen pass.new.seen }
-        ensures shows { IsTrue pass.new }
+        ensures shows { IsSound pass.new }
         ensures acquired { Tells done_of
             (λ reply. IsAcquire (P.did parking.now) pass.old S 1 Interruptible reply pass.new) result }
     {
@@ -297,7 +297,7 @@ impl<'m> ReadWriteLock<'m> {
         requires is_of { pass.old.lock ≡ self.now.monitor.now }
         requires places { self.now.monitor.now.header.seats ≤ P.seats parking.now }
         ensures same { IsSame pass.old pass.new }
-        ensures shows { IsTrue pass.new }
+        ensures shows { IsSound pass.new }
         ensures entered { Tells whether_of
             (λ reply. IsEntered (P.did parking.now) pass.old (Try S 1) reply pass.new) result }
     {
@@ -318,7 +318,7 @@ impl<'m> ReadWriteLock<'m> {
         requires places { self.now.monitor.now.header.seats ≤ P.seats parking.now }
         ensures same { IsSame pass.old pass.new }
         ensures begins { Before pass.old.seen pass.new.seen }
-        ensures shows { IsTrue pass.new }
+        ensures shows { IsSound pass.new }
         ensures acquired { Tells whether_of
             (λ reply. IsAcquire (P.did parking.now) pass.old S 1 (Timed ms) reply pass.new) result }
     {
@@ -338,7 +338,7 @@ impl<'m> ReadWriteLock<'m> {
         requires is_of { pass.old.lock ≡ self.now.monitor.now }
         requires places { self.now.monitor.now.header.seats ≤ P.seats parking.now }
         ensures same { IsSame pass.old pass.new }
-        ensures shows { IsTrue pass.new }
+        ensures shows { IsSound pass.new }
         ensures entered { Tells done_of
             (λ reply. IsEntered (P.did parking.now) pass.old (Give S 1) reply pass.new) result }
     {

@@ -3,7 +3,7 @@ ghost use Rattle.std.specs.Prelude.{◌≡◌, ◌≤◌};
 ghost use Rattle.history.specs.declared.entry.Mode.TheVariants.{S};
 ghost use Rattle.history.specs.declared.step.Step.TheVariants.{Try, Give, Drain};
 ghost use Rattle.monitor.specs.Acquire.{IsAcquire};
-ghost use Rattle.monitor.specs.Shown.{IsTrue};
+ghost use Rattle.monitor.specs.Shown.{IsSound};
 ghost use Rattle.monitor.specs.Stepping.{IsSame, IsEntered};
 ghost use Rattle.monitor.specs.declared.how.How.TheVariants.{Plain, Interruptible, Timed};
 ghost use Rattle.monitor_fronts.specs.Told.{Tells, done_of, number_of, whether_of};
@@ -46,7 +46,7 @@ impl<'m> Semaphore<'m> {
         requires places { self.now.monitor.now.header.seats ≤ P.seats parking.now }
         ensures same { IsSame pass.old pass.new }
         ensures begins { Before pass.old.seen pass.new.seen }
-        ensures shows { IsTrue pass.new }
+        ensures shows { IsSound pass.new }
         ensures acquired { Tells done_of
             (λ reply. IsAcquire (P.did parking.now) pass.old S n Interruptible reply pass.new) result }
     {
@@ -68,7 +68,7 @@ impl<'m> Semaphore<'m> {
         requires places { self.now.monitor.now.header.seats ≤ P.seats parking.now }
         ensures same { IsSame pass.old pass.new }
         ensures begins { Before pass.old.seen pass.new.seen }
-        ensures shows { IsTrue pass.new }
+        ensures shows { IsSound pass.new }
         ensures acquired { Tells done_of
             (λ reply. IsAcquire (P.did parking.now) pass.old S n Plain reply pass.new) result }
     {
@@ -90,7 +90,7 @@ impl<'m> Semaphore<'m> {
         requires is_of { pass.old.lock ≡ self.now.monitor.now }
         requires places { self.now.monitor.now.header.seats ≤ P.seats parking.now }
         ensures same { IsSame pass.old pass.new }
-        ensures shows { IsTrue pass.new }
+        ensures shows { IsSound pass.new }
         ensures entered { Tells whether_of
             (λ reply. IsEntered (P.did parking.now) pass.old (Try S n) reply pass.new) result }
     {
@@ -111,7 +111,7 @@ impl<'m> Semaphore<'m> {
         requires places { self.now.monitor.now.header.seats ≤ P.seats parking.now }
         ensures same { IsSame pass.old pass.new }
         ensures begins { Before pass.old.seen pass.new.seen }
-        ensures shows { IsTrue pass.new }
+        ensures shows { IsSound pass.new }
         ensures acquired { Tells whether_of
             (λ reply. IsAcquire (P.did parking.now) pass.old S n (Timed ms) reply pass.new) result }
     {
@@ -132,7 +132,7 @@ impl<'m> Semaphore<'m> {
         requires is_of { pass.old.lock ≡ self.now.monitor.now }
         requires places { self.now.monitor.now.header.seats ≤ P.seats parking.now }
         ensures same { IsSame pass.old pass.new }
-        ensures shows { IsTrue pass.new }
+        ensures shows { IsSound pass.new }
         ensures entered { Tells done_of
             (λ reply. IsEntered (P.did parking.now) pass.old (Give S n) reply pass.new) result }
     {
@@ -150,7 +150,7 @@ impl<'m> Semaphore<'m> {
         requires is_of { pass.old.lock ≡ self.now.monitor.now }
         requires places { self.now.monitor.now.header.seats ≤ P.seats parking.now }
         ensures same { IsSame pass.old pass.new }
-        ensures shows { IsTrue pass.new }
+        ensures shows { IsSound pass.new }
         ensures entered { Tells number_of
             (λ reply. IsEntered (P.did parking.now) pass.old Drain reply pass.new) result }
     {

@@ -6,7 +6,7 @@ use Rattle.std.proofs.lemmas.Option.{none-some, same_Some}
 use Rattle.std.specs.Option.{option_map}
 use Rattle.node_arena.specs.declared.node.Node.{Node}
 use Rattle.node_arena.specs.declared.node.NodeNo.{NodeNo}
-use Rattle.node_arena.specs.declared.node.Standing.{Standing}
+use Rattle.node_arena.specs.declared.node.NumberedNode.{NumberedNode}
 use Rattle.node_arena.specs.declared.arena.Slot.{Slot}
 use Rattle.node_arena.specs.Arena.{Places, slot_at, taken, standing_by, standing_in, of_generation, find, Changes}
 use Rattle.node_arena.specs.LinkedLists.{LinkedLists, items, list_of, one_before, without, IsIn, IsApart, Moves}
@@ -282,7 +282,7 @@ module _ (a : Places) (l : LinkedLists) (is : IsLinked a l) where
           o ≡ Some number.place
       by None e = cc
       by (Some q) e = ap Some (sym (place_at a.slots q)
-          ∙ ap (λ (x : Standing). x.number.place) (same_Some _ _ e))
+          ∙ ap (λ (x : NumberedNode). x.number.place) (same_Some _ _ e))
 
   pub found_index : (k q : ℕ) → Some q ≡ slice_get (items l 0) k →
       standing_in q (slot_at a q) ≡ slice_get (nodes_of a l) k

@@ -3,7 +3,7 @@ use Rattle.std.specs.Prelude.{◌≡◌, ◌≢◌, ℕ, ◌<◌, ◌==◌, if�
 use Rattle.history.specs.declared.entry.Mode.TheVariants.{X}
 use Rattle.node_arena.specs.declared.node.Node.{Node}
 use Rattle.node_arena.specs.declared.node.NodeNo.{NodeNo}
-use Rattle.node_arena.specs.declared.node.Standing.{Standing}
+use Rattle.node_arena.specs.declared.node.NumberedNode.{NumberedNode}
 use Rattle.node_arena.specs.declared.arena.Slot.{Slot}
 
 -- What is at each place, how many nodes there may be at once, a bound of all places, and how many nodes were
@@ -21,12 +21,12 @@ slot_at a place = slice_index_or a.slots place None
 abbrev pub no_node : Node
 no_node = record { arrival = record { seat = 0; mode = X; n = 0; back = false }; cancelled = false }
 
-abbrev pub standing_by : ℕ → Option Slot → Standing
+abbrev pub standing_by : ℕ → Option Slot → NumberedNode
 standing_by place None = record { number = record { place = place; generation = 0 }; node = no_node }
 standing_by place (Some s) =
     record { number = record { place = place; generation = s.generation }; node = s.node }
 
-abbrev pub standing_in : ℕ → Option Slot → Option Standing
+abbrev pub standing_in : ℕ → Option Slot → Option NumberedNode
 standing_in place None = None
 standing_in place (Some s) = Some (standing_by place (Some s))
 

@@ -4,7 +4,7 @@ ghost use Rattle.std.specs.Prelude.{◌≡◌, ◌≢◌, ℕ, ◌+◌, ◌^◌,
 ghost use Rattle.node_arena.specs.declared.node.NodeNo.{NodeNo};
 ghost use Rattle.node_arena.specs.Arena.{find, slot_at, standing_in, taken, Changes};
 
-use crate::node::{Node, NodeNo, Standing};
+use crate::node::{Node, NodeNo, NumberedNode};
 use history::fault::Fault;
 use slab::Slab;
 use std::alloc::Global;
@@ -92,11 +92,11 @@ impl Arena {
     }
 
     /// Returns the node at a place, with its number.
-    pub fn at(&self, place: usize) -> Option<Standing>
+    pub fn at(&self, place: usize) -> Option<NumberedNode>
         ensures { result ≡ standing_in place (slot_at self.now place) }
     {
         let slot = *self.nodes.get(place)?;
-        Some(Standing {
+        Some(NumberedNode {
             number: NodeNo {
                 place,
                 generation: slot.generation,

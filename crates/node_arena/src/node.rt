@@ -19,7 +19,7 @@ pub struct NodeNo {
 
 /// A node with its number.
 #[derive(Clone, Copy, Debug, PartialEq, Eq)]
-pub struct Standing {
+pub struct NumberedNode {
     pub number: NodeNo,
     pub node: Node,
 }

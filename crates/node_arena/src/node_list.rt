@@ -3,12 +3,12 @@
 ghost use Rattle.std.specs.Prelude.{◌≡◌, ◌≢◌, ℕ, ◌+◌, ◌^◌, ◌<◌, ◌≤◌, ◌==◌, [], ◌∷◌, ◌++◌, drop, length, map, Some, None, IfOk, IfErr, IfSome, IfNone, OnSome, IsSome, slice_get, is_some};
 ghost use Rattle.std.specs.Bool.{OnTrue, OnFalse};
 ghost use Rattle.node_arena.specs.declared.node.Node.{Node};
-ghost use Rattle.node_arena.specs.declared.node.Standing.{Standing};
+ghost use Rattle.node_arena.specs.declared.node.NumberedNode.{NumberedNode};
 ghost use Rattle.node_arena.specs.NodeList.{at_place, under, without_place, cancel_at, StandApart, standing_before};
 
 use crate::arena::Arena;
 use crate::linked_lists::LinkedLists;
-use crate::node::{Node, NodeNo, Standing};
+use crate::node::{Node, NodeNo, NumberedNode};
 use history::fault::Fault;
 use std::alloc::Global;
 use std::marker::Model;
@@ -66,7 +66,7 @@ impl NodeList {
     }
 
     /// Returns the node at the head.
-    pub fn first(&self) -> Option<Standing>
+    pub fn first(&self) -> Option<NumberedNode>
         ensures first { result ≡ slice_get self.now.nodes 0 }
         ensures apart { StandApart self.now.nodes }
     {
@@ -98,7 +98,7 @@ impl NodeList {
     }
 
     /// Returns the node at a place.
-    pub fn at(&self, place: usize) -> Option<Standing>
+    pub fn at(&self, place: usize) -> Option<NumberedNode>
         ensures at { result ≡ at_place place self.now.nodes }
         ensures apart { StandApart self.now.nodes }
     {
@@ -106,7 +106,7 @@ impl NodeList {
     }
 
     /// Returns the node right after another.
-    pub fn behind(&self, number: NodeNo) -> Option<Standing>
+    pub fn behind(&self, number: NodeNo) -> Option<NumberedNode>
         requires { IsSome (under number self.now.nodes) }
         ensures { (k : ℕ) (node : Node) →
             slice_get self.now.nodes k ≡ Some (record { number = number; node = node }) →
@@ -117,7 +117,7 @@ impl NodeList {
     }
 
     /// Returns the node right before another.
-    pub fn before(&self, number: NodeNo) -> Option<Standing>
+    pub fn before(&self, number: NodeNo) -> Option<NumberedNode>
         requires { IsSome (under number self.now.nodes) }
         ensures { (k : ℕ) (node : Node) →
             slice_get self.now.nodes k ≡ Some (record { number = number; node = node }) →

@@ -15,7 +15,7 @@ use Rattle.frame.specs.Owners.{is_owned, is_owner_in, Owns}
 use Rattle.history.proofs.Entering.{seat_is}
 use Rattle.frame.proofs.Owners.{owns_took, owns_gave, owns_restored, shared_kept, exclusive_kept, changed_own, changed_other, some_owned, owned_most, seated_some, no_owner}
 use Rattle.frame.proofs.Tables.{table_total, table_set, in_total, past_table}
-use Rattle.read_write.specs.State.{State, IsSound, StandsFor}
+use Rattle.read_write.specs.State.{State, IsSound, MatchesFor}
 use Rattle.read_write.proofs.Reading.{MayWrite, could_is, may_write}
 
 -- the states
@@ -44,8 +44,8 @@ sound_wrote s i t may seat =
       summed = t.summed;
     }
 
-pub stands_wrote : (s : State) (k : Counts) → IsSound s → StandsFor s k → (i n : ℕ) → MayWrite s i →
-    i < k.seats → StandsFor (owned_by s (Some i) (s.writes + 1)) (took k i X n)
+pub stands_wrote : (s : State) (k : Counts) → IsSound s → MatchesFor s k → (i n : ℕ) → MayWrite s i →
+    i < k.seats → MatchesFor (owned_by s (Some i) (s.writes + 1)) (took k i X n)
 stands_wrote s k t h i n may seat =
     record {
       object = h.object;
@@ -110,8 +110,8 @@ pub sound_read : (s : State) (i : ℕ) → IsSound s → i < length s.reads →
     IsSound (with_reads s i (slice_index s.reads i + 1) (s.readers + 1))
 sound_read s i t seat = sound_reads s i (slice_index s.reads i + 1) (s.readers + 1) t seat (omega arith)
 
-pub stands_read : (s : State) (k : Counts) → StandsFor s k → (i n : ℕ) → i < length s.reads →
-    StandsFor (with_reads s i (slice_index s.reads i + 1) (s.readers + 1)) (took k i S n)
+pub stands_read : (s : State) (k : Counts) → MatchesFor s k → (i n : ℕ) → i < length s.reads →
+    MatchesFor (with_reads s i (slice_index s.reads i + 1) (s.readers + 1)) (took k i S n)
 stands_read s k h i n seat =
     let one : in_holds k.object n ≡ 1 = rw h.object refl in
     let more : ℕ → ℕ = λ had. had + in_holds k.object n in
@@ -131,8 +131,8 @@ sound_read_less s i t seat some =
     let part : slice_index s.reads i ≤ table_total s.reads = in_total s.reads i in
     sound_reads s i (slice_index s.reads i - 1) (s.readers - 1) t seat (omega arith)
 
-pub stands_read_less : (s : State) (k : Counts) → StandsFor s k → (i n : ℕ) → i < length s.reads →
-    StandsFor (with_reads s i (slice_index s.reads i - 1) (s.readers - 1)) (gave_back k i S n)
+pub stands_read_less : (s : State) (k : Counts) → MatchesFor s k → (i n : ℕ) → i < length s.reads →
+    MatchesFor (with_reads s i (slice_index s.reads i - 1) (s.readers - 1)) (gave_back k i S n)
 stands_read_less s k h i n seat =
     let one : in_holds k.object n ≡ 1 = rw h.object refl in
     let less : ℕ → ℕ = λ had. had - in_holds k.object n in
@@ -161,7 +161,7 @@ readers_some s i t some =
     omega arith
 
 -- a write hold less
-owner_known : (s : State) (k : Counts) → StandsFor s k → (i : ℕ) → is_seat s.owner i ≡ true →
+owner_known : (s : State) (k : Counts) → MatchesFor s k → (i : ℕ) → is_seat s.owner i ≡ true →
     Owns (Some i) s.writes k
 owner_known s k h i u =
     let P : Option ℕ → Type 0 = λ o. Owns o s.writes k in
@@ -176,8 +176,8 @@ sound_write_less s i t u some =
     some_owned max_shared i (s.writes - 1) some (omega arith) in
     record { owned = subst P (sym (seat_is s.owner i u)) owned; seated = t.seated; summed = t.summed }
 
-pub stands_write_less : (s : State) (k : Counts) → StandsFor s k → (i n : ℕ) → is_seat s.owner i ≡ true →
-    StandsFor (owned_by s s.owner (s.writes - 1)) (gave_back k i X n)
+pub stands_write_less : (s : State) (k : Counts) → MatchesFor s k → (i n : ℕ) → is_seat s.owner i ≡ true →
+    MatchesFor (owned_by s s.owner (s.writes - 1)) (gave_back k i X n)
 stands_write_less s k h i n u =
     let P : Option ℕ → Type 0 = λ o. Owns o (s.writes - 1) (gave_back k i X n) in
     let owns : Owns (Some i) (s.writes - 1) (gave_back k i X n) =
@@ -190,11 +190,11 @@ stands_write_less s k h i n u =
     }
 
 -- all write holds again
-pub most_restored : (s : State) (k : Counts) → StandsFor s k → (i holds : ℕ) → IsRestorable k i holds →
+pub most_restored : (s : State) (k : Counts) → MatchesFor s k → (i holds : ℕ) → IsRestorable k i holds →
     holds ≤ max_shared
 most_restored s k h i holds r = rw h.object at r.most
 
-pub sound_restored : (s : State) (k : Counts) → IsSound s → StandsFor s k → (i holds : ℕ) →
+pub sound_restored : (s : State) (k : Counts) → IsSound s → MatchesFor s k → (i holds : ℕ) →
     IsRestorable k i holds → IsSound (owned_by s (Some i) holds)
 sound_restored s k t h i holds r =
     let P : ℕ → Type 0 = λ n. i < n in
@@ -204,8 +204,8 @@ sound_restored s k t h i holds r =
       summed = t.summed;
     }
 
-pub stands_restored : (s : State) (k : Counts) → IsSound s → StandsFor s k → (i holds : ℕ) →
-    IsRestorable k i holds → StandsFor (owned_by s (Some i) holds) (restored k i holds)
+pub stands_restored : (s : State) (k : Counts) → IsSound s → MatchesFor s k → (i holds : ℕ) →
+    IsRestorable k i holds → MatchesFor (owned_by s (Some i) holds) (restored k i holds)
 stands_restored s k t h i holds r =
     let may : MayWrite s i = may_write s i t (sym (could_is s k t h i X 1) ∙ r.could) in
     let none : s.owner ≡ None =

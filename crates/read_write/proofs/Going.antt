@@ -14,7 +14,7 @@ use Rattle.frame.specs.Owners.{holds_of}
 use Rattle.std.proofs.Math.Bool.{and-false}
 use Rattle.history.proofs.Entering.{seat_is}
 use Rattle.frame.proofs.Owners.{others_not}
-use Rattle.read_write.specs.State.{State, IsSound, StandsFor, could_by}
+use Rattle.read_write.specs.State.{State, IsSound, MatchesFor, could_by}
 use Rattle.read_write.proofs.Reading.{MayWrite, MayRead, could_is, owner_of, readers_of}
 use Rattle.read_write.proofs.Changing.{owned_by, with_reads, sound_wrote, stands_wrote, sound_read, stands_read, sound_read_less, stands_read_less, sound_write_less, stands_write_less, sound_restored, stands_restored, reader_seated, readers_some}
 
@@ -106,7 +106,7 @@ either true b e = inl refl
 either false b e = inr e
 
 -- After a take of X.
-pub wrote_alone : (s : State) (k : Counts) → IsSound s → StandsFor s k → (i n : ℕ) → MayWrite s i →
+pub wrote_alone : (s : State) (k : Counts) → IsSound s → MatchesFor s k → (i n : ℕ) → MayWrite s i →
     i < k.seats → (j : ℕ) (m : Mode) (b : ℕ) → j ≢ i → could (took k i X n) j m b ≡ false
 wrote_alone s k t h i n may seat j m b ne =
     let P : ℕ → Type 0 = λ seats. i < seats in
@@ -115,7 +115,7 @@ wrote_alone s k t h i n may seat j m b ne =
     (stands_wrote s k t h i n may seat) j m b
     ∙ alone_by i (s.writes + 1) s.readers j m ne
 
-pub wrote_nobody : (s : State) (k : Counts) → IsSound s → StandsFor s k → (i n : ℕ) → MayWrite s i →
+pub wrote_nobody : (s : State) (k : Counts) → IsSound s → MatchesFor s k → (i n : ℕ) → MayWrite s i →
     could_by s.owner s.writes s.readers i X ≡ true → i < k.seats → (j : ℕ) (m : Mode) (b : ℕ) →
     could k j m b ≡ false → could (took k i X n) j m b ≡ false
 wrote_nobody s k t h i n may c seat j m b f =
@@ -127,7 +127,7 @@ wrote_nobody s k t h i n may c seat j m b f =
     ∙ writer_as_before s.owner s.writes s.readers i j m c may.admitted before
 
 -- After a take of S.
-could_read : (s : State) (k : Counts) → IsSound s → StandsFor s k → (i n : ℕ) → i < k.seats →
+could_read : (s : State) (k : Counts) → IsSound s → MatchesFor s k → (i n : ℕ) → i < k.seats →
     (j : ℕ) (m : Mode) (b : ℕ) → could (took k i S n) j m b ≡ could_by s.owner s.writes (s.readers + 1) j m
 could_read s k t h i n seat j m b =
     let P : ℕ → Type 0 = λ seats. i < seats in
@@ -135,18 +135,18 @@ could_read s k t h i n seat j m b =
     could_is (with_reads s i (slice_index s.reads i + 1) (s.readers + 1)) (took k i S n)
     (sound_read s i t within) (stands_read s k h i n within) j m b
 
-pub read_nobody : (s : State) (k : Counts) → IsSound s → StandsFor s k → (i n : ℕ) → i < k.seats →
+pub read_nobody : (s : State) (k : Counts) → IsSound s → MatchesFor s k → (i n : ℕ) → i < k.seats →
     (j : ℕ) (m : Mode) (b : ℕ) → could k j m b ≡ false → could (took k i S n) j m b ≡ false
 read_nobody s k t h i n seat j m b f =
     let before : could_by s.owner s.writes s.readers j m ≡ false = sym (could_is s k t h j m b) ∙ f in
     could_read s k t h i n seat j m b ∙ reader_as_before s.owner s.writes s.readers j m before
 
-pub read_shared : (s : State) (k : Counts) → IsSound s → StandsFor s k → (i n : ℕ) → MayRead s i →
+pub read_shared : (s : State) (k : Counts) → IsSound s → MatchesFor s k → (i n : ℕ) → MayRead s i →
     i < k.seats → (j b : ℕ) → j ≢ i → could (took k i S n) j X b ≡ false
 read_shared s k t h i n may seat j b ne =
     could_read s k t h i n seat j X b ∙ reader_alone s.owner s.writes s.readers i j may.admitted ne
 
-pub read_last : (s : State) (k : Counts) → IsSound s → StandsFor s k → (i n : ℕ) →
+pub read_last : (s : State) (k : Counts) → IsSound s → MatchesFor s k → (i n : ℕ) →
     (eqb (s.readers + 1) max_shared || is_seat s.owner i) ≡ true → i < k.seats → (j b : ℕ) → j ≢ i →
     could (took k i S n) j S b ≡ false
 read_last s k t h i n last seat j b ne =
@@ -158,7 +158,7 @@ read_last s k t h i n last seat j b ne =
     owned : is_seat s.owner i ≡ true → could_by s.owner s.writes (s.readers + 1) j S ≡ false
     owned u = owned_alone s.owner i s.writes (s.readers + 1) j S u ne
 
-pub read_answer : (s : State) (k : Counts) → IsSound s → StandsFor s k → (i n : ℕ) → i < k.seats →
+pub read_answer : (s : State) (k : Counts) → IsSound s → MatchesFor s k → (i n : ℕ) → i < k.seats →
     take_answer (took k i S n) i S ≡ cond (eqb (s.readers + 1) max_shared || is_seat s.owner i)
     take_answers.Last take_answers.More
 read_answer s k t h i n seat =
@@ -166,7 +166,7 @@ read_answer s k t h i n seat =
     let within : i < length s.reads = subst P h.seats seat in
     let now : State = with_reads s i (slice_index s.reads i + 1) (s.readers + 1) in
     let sound : IsSound now = sound_read s i t within in
-    let stands : StandsFor now (took k i S n) = stands_read s k h i n within in
+    let stands : MatchesFor now (took k i S n) = stands_read s k h i n within in
     let own = owner_of now (took k i S n) sound stands in
     let all = readers_of now (took k i S n) sound stands in
     let last : Taken =
@@ -174,13 +174,13 @@ read_answer s k t h i n seat =
     let Q : Object → Type 0 = λ o. take_answer_of o (took k i S n) i S ≡ last in
     subst Q (sym h.object) (rw own (rw all refl))
 
-pub read_less_answer : (s : State) (k : Counts) → IsSound s → StandsFor s k → (i n : ℕ) →
+pub read_less_answer : (s : State) (k : Counts) → IsSound s → MatchesFor s k → (i n : ℕ) →
     give_answer k i S n ≡ open_where (eqb s.readers 1 || eqb s.readers max_shared)
 read_less_answer s k t h i n =
     let all = readers_of s k t h in
     rw h.object (rw all refl)
 
-pub write_less_kept : (s : State) (k : Counts) → IsSound s → StandsFor s k → (i n : ℕ) →
+pub write_less_kept : (s : State) (k : Counts) → IsSound s → MatchesFor s k → (i n : ℕ) →
     is_seat s.owner i ≡ true → 0 < s.writes - 1 → (j : ℕ) (m : Mode) (b : ℕ) → j ≢ i →
     could (given k i X n) j m b ≡ false
 write_less_kept s k t h i n u some j m b ne =
@@ -190,7 +190,7 @@ write_less_kept s k t h i n u some j m b ne =
     (stands_write_less s k h i n u) j m b
     ∙ owned_alone s.owner i (s.writes - 1) s.readers j m u ne)
 
-pub read_less_kept : (s : State) (k : Counts) → IsSound s → StandsFor s k → (i n : ℕ) →
+pub read_less_kept : (s : State) (k : Counts) → IsSound s → MatchesFor s k → (i n : ℕ) →
     0 < slice_index s.reads i → (s.readers ≡ 1 → ⊥) → (s.readers ≡ max_shared → ⊥) →
     s.readers ≤ max_shared → (j : ℕ) (m : Mode) (b : ℕ) → could k j m b ≡ false →
     could (given k i S n) j m b ≡ false
@@ -204,7 +204,7 @@ read_less_kept s k t h i n some last full most j m b f =
     ∙ reader_less s.owner s.writes s.readers j m last full (readers_some s i t some) most before)
 
 -- After a restore.
-pub restored_alone : (s : State) (k : Counts) → IsSound s → StandsFor s k → (i holds : ℕ) →
+pub restored_alone : (s : State) (k : Counts) → IsSound s → MatchesFor s k → (i holds : ℕ) →
     IsRestorable k i holds → (j : ℕ) (m : Mode) (b : ℕ) → j ≢ i → could (restored k i holds) j m b ≡ false
 restored_alone s k t h i holds r j m b ne =
     could_is (owned_by s (Some i) holds) (restored k i holds) (sound_restored s k t h i holds r)

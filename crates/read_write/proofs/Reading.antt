@@ -11,22 +11,22 @@ use Rattle.history.proofs.Sums.{total_same}
 use Rattle.frame.specs.Hooks.{let_go_answer}
 use Rattle.frame.specs.Owners.{holds_of, is_owned}
 use Rattle.frame.proofs.Owners.{owner_is}
-use Rattle.read_write.specs.State.{State, IsSound, StandsFor, state_of, could_by, limit_by, holds_by, reentrant_by}
+use Rattle.read_write.specs.State.{State, IsSound, MatchesFor, state_of, could_by, limit_by, holds_by, reentrant_by}
 use Rattle.read_write.specs.declared.hooks.RwHooks.{RwHooks}
 
 -- the ghost fields
 pub sound_of : (s : RwHooks) → IsSound (state_of s)
 sound_of s = record { owned = s.owned; seated = s.seated; summed = s.summed }
 
-pub owner_of : (s : State) (k : Counts) → IsSound s → StandsFor s k → owner k ≡ s.owner
+pub owner_of : (s : State) (k : Counts) → IsSound s → MatchesFor s k → owner k ≡ s.owner
 owner_of s k t h = owner_is max_shared s.owner s.writes k t.owned h.owns
 
-pub readers_of : (s : State) (k : Counts) → IsSound s → StandsFor s k → readers k ≡ s.readers
+pub readers_of : (s : State) (k : Counts) → IsSound s → MatchesFor s k → readers k ≡ s.readers
 readers_of s k t h =
     let here = total_same k.seats (λ i. k.held i S) (slice_index s.reads) h.shared in
     here ∙ ap (λ n. total n (slice_index s.reads)) h.seats ∙ sym t.summed
 
-pub could_is : (s : State) (k : Counts) → IsSound s → StandsFor s k → (i : ℕ) (m : Mode) (n : ℕ) →
+pub could_is : (s : State) (k : Counts) → IsSound s → MatchesFor s k → (i : ℕ) (m : Mode) (n : ℕ) →
     could k i m n ≡ could_by s.owner s.writes s.readers i m
 could_is s k t h i X n =
     let own = owner_of s k t h in
@@ -38,7 +38,7 @@ could_is s k t h i S n =
     let all = readers_of s k t h in
     rw h.object (rw own (rw all refl))
 
-pub limit_is : (s : State) (k : Counts) → IsSound s → StandsFor s k → (i : ℕ) (m : Mode) →
+pub limit_is : (s : State) (k : Counts) → IsSound s → MatchesFor s k → (i : ℕ) (m : Mode) →
     limit k i m ≡ limit_by s i m
 limit_is s k t h i X = let had = h.owns.held i in rw h.object (rw had refl)
 limit_is s k t h i S =
@@ -50,7 +50,7 @@ or_false : (b : Bool) → (b || false) ≡ b
 or_false true = refl
 or_false false = refl
 
-pub held_back_is : (s : State) (k : Counts) → IsSound s → StandsFor s k →
+pub held_back_is : (s : State) (k : Counts) → IsSound s → MatchesFor s k →
     (first : Option Mode) (i : ℕ) (m : Mode) →
     held_back k first i m ≡ (not (reentrant_by s i m) && line_blocks (ReadWrite s.policy) m first)
 held_back_is s k t h first i X =
@@ -62,7 +62,7 @@ held_back_is s k t h first i S =
     let had = h.shared i in
     rw h.object (rw own (rw had refl))
 
-pub let_go_is : (s : State) (k : Counts) → IsSound s → StandsFor s k → (i : ℕ) →
+pub let_go_is : (s : State) (k : Counts) → IsSound s → MatchesFor s k → (i : ℕ) →
     let_go_answer k i ≡ cond (not (is_seat s.owner i)) (Err fault.NotOwner)
     (cond (ltb 0 (slice_index s.reads i)) (Err fault.HoldsRead) (Ok (holds_of s.owner s.writes i)))
 let_go_is s k t h i =
@@ -105,13 +105,13 @@ may_read s i c =
     let both = and_parts (is_none_or s.owner i) (ltb s.readers max_shared) c in
     record { admitted = both.0; below = ltb-true _ _ both.1 }
 
-pub takes_write : (s : State) (k : Counts) → IsSound s → StandsFor s k → (i : ℕ) (m : Mode) (n : ℕ) →
+pub takes_write : (s : State) (k : Counts) → IsSound s → MatchesFor s k → (i : ℕ) (m : Mode) (n : ℕ) →
     m ≡ X → could k i m n ≡ true → could_by s.owner s.writes s.readers i X ≡ true
 takes_write s k t h i m n e c =
     let P : Mode → Type 0 = λ z. could k i z n ≡ true in
     sym (could_is s k t h i X n) ∙ subst P e c
 
-pub takes_read : (s : State) (k : Counts) → IsSound s → StandsFor s k → (i : ℕ) (m : Mode) (n : ℕ) → m ≡ S →
+pub takes_read : (s : State) (k : Counts) → IsSound s → MatchesFor s k → (i : ℕ) (m : Mode) (n : ℕ) → m ≡ S →
     could k i m n ≡ true → could_by s.owner s.writes s.readers i S ≡ true
 takes_read s k t h i m n e c =
     let P : Mode → Type 0 = λ z. could k i z n ≡ true in

@@ -6,10 +6,10 @@ use Rattle.frame.specs.Hooks.{AreAlike, opening_counts}
 use Rattle.frame.specs.Owners.{Owns}
 use Rattle.frame.proofs.Owners.{owns_alike, owns_opening, owner_seated}
 use Rattle.frame.proofs.Tables.{table_empty}
-use Rattle.read_write.specs.State.{Stands, state_of, rw_of, holds_by, IsOpened}
+use Rattle.read_write.specs.State.{Matches, state_of, rw_of, holds_by, IsOpened}
 use Rattle.read_write.specs.declared.hooks.RwHooks.{RwHooks}
 
-pub opens_so : (s : RwHooks) (seats : ℕ) → IsOpened s seats → Stands s (opening_counts (rw_of s) seats)
+pub opens_so : (s : RwHooks) (seats : ℕ) → IsOpened s seats → Matches s (opening_counts (rw_of s) seats)
 opens_so s seats opened =
     record {
       object = refl;
@@ -18,10 +18,10 @@ opens_so s seats opened =
       shared = λ i. sym (table_empty s.reads.items s.readers s.summed opened.no_readers i);
     }
 
-pub same_policy : (s : RwHooks) (k : Counts) → Stands s k → k.object ≡ rw_of s
+pub same_policy : (s : RwHooks) (k : Counts) → Matches s k → k.object ≡ rw_of s
 same_policy s k h = h.object
 
-pub alike_so : (s : RwHooks) (k l : Counts) → AreAlike k l → Stands s k → Stands s l
+pub alike_so : (s : RwHooks) (k l : Counts) → AreAlike k l → Matches s k → Matches s l
 alike_so s k l same h =
     record {
       object = same.object ∙ h.object;
@@ -40,7 +40,7 @@ some_counts_of s =
       count = 0;
     }
 
-pub some_counts : (s : RwHooks) → (k : Counts) × Stands s k
+pub some_counts : (s : RwHooks) → (k : Counts) × Matches s k
 some_counts s =
     let owns : Owns s.owner s.writes (some_counts_of s) =
     record { held = λ i. refl; seat = owner_seated s.owner (length s.reads.items) s.seated } in

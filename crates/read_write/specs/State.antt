@@ -35,14 +35,14 @@ pub record IsSound (s : State) : Type 0 where
   pub summed : s.readers ≡ total (length s.reads) (slice_index s.reads)
 
 -- The counts are those of a read-write lock with this owner and these readers.
-pub record StandsFor (s : State) (k : Counts) : Type 0 where
+pub record MatchesFor (s : State) (k : Counts) : Type 0 where
   pub object : k.object ≡ ReadWrite s.policy
   pub seats : k.seats ≡ length s.reads
   pub owns : Owns s.owner s.writes k
   pub shared : (i : ℕ) → k.held i S ≡ slice_index s.reads i
 
-abbrev pub Stands : RwHooks → Counts → Type 0
-Stands s k = StandsFor (state_of s) k
+abbrev pub Matches : RwHooks → Counts → Type 0
+Matches s k = MatchesFor (state_of s) k
 
 abbrev pub rw_of : RwHooks → Object
 rw_of s = ReadWrite s.policy

@@ -150,9 +150,9 @@ impl RwHooks {
 
 impl Hooks for RwHooks {
     ghost use Rattle.read_write.specs.Laws.{alike_so, opens_so, same_policy, some_counts};
-    ghost use Rattle.read_write.specs.State.{Stands, rw_of, IsOpened};
+    ghost use Rattle.read_write.specs.State.{Matches, rw_of, IsOpened};
 
-    ghost agrees = { Stands };
+    ghost agrees = { Matches };
 
     ghost object_of = { rw_of };
 

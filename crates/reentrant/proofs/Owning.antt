@@ -14,7 +14,7 @@ use Rattle.frame.specs.Hooks.{let_go_answer, IsRestorable}
 use Rattle.frame.specs.Owners.{holds_of, is_owned, Owns}
 use Rattle.history.proofs.Entering.{seat_is}
 use Rattle.frame.proofs.Owners.{owner_is, all_its_own, others_not, no_owner, shared_kept, owns_took, owns_gave, owns_restored, some_owned, owned_most}
-use Rattle.reentrant.specs.Lock.{StandsBy}
+use Rattle.reentrant.specs.Lock.{MatchesBy}
 
 -- what can be taken, by the fields
 abbrev pub could_by : Option ℕ → ℕ → ℕ → Mode → Bool
@@ -22,7 +22,7 @@ could_by o n i X = is_none_or o i && ltb (holds_of o n i) max_holds
 could_by o n i S = false
 
 pub could_is : (p : Policy) (o : Option ℕ) (n : ℕ) (k : Counts) → is_owned max_holds o n ≡ true →
-    StandsBy p o n k → (i : ℕ) (m : Mode) (a : ℕ) → could k i m a ≡ could_by o n i m
+    MatchesBy p o n k → (i : ℕ) (m : Mode) (a : ℕ) → could k i m a ≡ could_by o n i m
 could_is p o n k t h i X a =
     let w : owner k ≡ o = owner_is max_holds o n k t h.owns in
     let d : k.held i X ≡ holds_of o n i = h.owns.held i in
@@ -30,14 +30,14 @@ could_is p o n k t h i X a =
 could_is p o n k t h i S a = rw h.object refl
 
 pub held_back_is : (p : Policy) (o : Option ℕ) (n : ℕ) (k : Counts) → is_owned max_holds o n ≡ true →
-    StandsBy p o n k → (first : Option Mode) (i : ℕ) (m : Mode) →
+    MatchesBy p o n k → (first : Option Mode) (i : ℕ) (m : Mode) →
     held_back k first i m ≡ (not (is_seat o i) && line_blocks (Lock p) m first)
 held_back_is p o n k t h first i m =
     let w : owner k ≡ o = owner_is max_holds o n k t h.owns in
     rw h.object (rw w refl)
 
 pub let_go_is : (p : Policy) (o : Option ℕ) (n : ℕ) (k : Counts) → is_owned max_holds o n ≡ true →
-    StandsBy p o n k → (i : ℕ) →
+    MatchesBy p o n k → (i : ℕ) →
     let_go_answer k i ≡ cond (not (is_seat o i)) (Err fault.NotOwner) (Ok (holds_of o n i))
 let_go_is p o n k t h i =
     let w : owner k ≡ o = owner_is max_holds o n k t h.owns in
@@ -60,7 +60,7 @@ by_fields o n i X t c =
 by_fields o n i S t c = cc
 
 pub may_take : (p : Policy) (o : Option ℕ) (n : ℕ) (k : Counts) → is_owned max_holds o n ≡ true →
-    StandsBy p o n k → (i : ℕ) (m : Mode) (a : ℕ) → could k i m a ≡ true → MayTake o n i m
+    MatchesBy p o n k → (i : ℕ) (m : Mode) (a : ℕ) → could k i m a ≡ true → MayTake o n i m
 may_take p o n k t h i m a c = by_fields o n i m t (sym (could_is p o n k t h i m a) ∙ c)
 
 pub owned_more : (o : Option ℕ) (n i : ℕ) (m : Mode) → MayTake o n i m →
@@ -68,8 +68,8 @@ pub owned_more : (o : Option ℕ) (n i : ℕ) (m : Mode) → MayTake o n i m →
 owned_more o n i m may = some_owned max_holds i (n + 1) (omega arith) (omega (arith, may.below))
 
 pub stands_took : (p : Policy) (o : Option ℕ) (n : ℕ) (k : Counts) → is_owned max_holds o n ≡ true →
-    StandsBy p o n k → (i : ℕ) (m : Mode) (a : ℕ) → MayTake o n i m → i < k.seats →
-    StandsBy p (Some i) (n + 1) (took k i m a)
+    MatchesBy p o n k → (i : ℕ) (m : Mode) (a : ℕ) → MayTake o n i m → i < k.seats →
+    MatchesBy p (Some i) (n + 1) (took k i m a)
 stands_took p o n k t h i X a may seat =
     record {
       object = h.object;
@@ -80,7 +80,7 @@ stands_took p o n k t h i S a may seat = let e : S ≡ X = may.exclusive in cc
 
 -- nobody but the owner could
 pub alone : (p : Policy) (i n : ℕ) (k : Counts) → is_owned max_holds (Some i) n ≡ true →
-    StandsBy p (Some i) n k → (j : ℕ) (m : Mode) (a : ℕ) → j ≢ i → could k j m a ≡ false
+    MatchesBy p (Some i) n k → (j : ℕ) (m : Mode) (a : ℕ) → j ≢ i → could k j m a ≡ false
 alone p i n k t h j m a ne = could_is p (Some i) n k t h j m a ∙ by m
   where
     by : (m : Mode) → could_by (Some i) n j m ≡ false
@@ -89,14 +89,14 @@ alone p i n k t h j m a ne = could_is p (Some i) n k t h j m a ∙ by m
 
 -- so nobody else could after a give that leaves the giver a hold
 pub kept : (p : Policy) (o : Option ℕ) (n : ℕ) (k : Counts) → is_owned max_holds o n ≡ true →
-    StandsBy p o n k → (i : ℕ) → is_seat o i ≡ true → 0 < n - 1 → (a j : ℕ) (m : Mode) (b : ℕ) → j ≢ i →
+    MatchesBy p o n k → (i : ℕ) → is_seat o i ≡ true → 0 < n - 1 → (a j : ℕ) (m : Mode) (b : ℕ) → j ≢ i →
     could (given k i X a) j m b ≡ false
 kept p o n k t h i u some a j m b ne =
     let e : o ≡ Some i = seat_is o i u in
     let t' : is_owned max_holds (Some i) n ≡ true = rw e at t in
     let owns : Owns (Some i) n k = rw e at h.owns in
     let g : given k i X a ≡ gave_back k i X a = rw h.object refl in
-    let then : StandsBy p (Some i) (n - 1) (gave_back k i X a) =
+    let then : MatchesBy p (Some i) (n - 1) (gave_back k i X a) =
     record {
       object = h.object;
       owns = owns_gave n k i a owns (rw h.object refl);
@@ -107,11 +107,11 @@ kept p o n k t h i u some a j m b ne =
 
 -- and who takes could before
 pub nobody_new : (p : Policy) (o : Option ℕ) (n : ℕ) (k : Counts) → is_owned max_holds o n ≡ true →
-    StandsBy p o n k → (i : ℕ) (m : Mode) (a : ℕ) → MayTake o n i m → i < k.seats →
+    MatchesBy p o n k → (i : ℕ) (m : Mode) (a : ℕ) → MayTake o n i m → i < k.seats →
     (j : ℕ) (m' : Mode) (b : ℕ) → could k j m' b ≡ false → could (took k i m a) j m' b ≡ false
 nobody_new p o n k t h i m a may seat j m' b f = ⊎_elim same other (cases_eq j i)
   where
-    now : StandsBy p (Some i) (n + 1) (took k i m a)
+    now : MatchesBy p (Some i) (n + 1) (took k i m a)
     now = stands_took p o n k t h i m a may seat
 
     then : is_owned max_holds (Some i) (n + 1) ≡ true
@@ -136,7 +136,7 @@ nobody_new p o n k t h i m a may seat j m' b f = ⊎_elim same other (cases_eq j
 
 -- Where a seat may have its holds back, nobody owns.
 pub stands_restored : (p : Policy) (o : Option ℕ) (n : ℕ) (k : Counts) → is_owned max_holds o n ≡ true →
-    StandsBy p o n k → (i holds : ℕ) → IsRestorable k i holds → StandsBy p (Some i) holds (restored k i holds)
+    MatchesBy p o n k → (i holds : ℕ) → IsRestorable k i holds → MatchesBy p (Some i) holds (restored k i holds)
 stands_restored p o n k t h i holds r =
     let may : MayTake o n i X = may_take p o n k t h i X 1 r.could in
     let none : o ≡ None = no_owner max_holds o n i t may.admitted (sym (h.owns.held i) ∙ r.none_held) in
@@ -150,7 +150,7 @@ stands_restored p o n k t h i holds r =
     }
 
 pub restored_alone : (p : Policy) (o : Option ℕ) (n : ℕ) (k : Counts) → is_owned max_holds o n ≡ true →
-    StandsBy p o n k → (i holds : ℕ) → IsRestorable k i holds → (j : ℕ) (m : Mode) (a : ℕ) → j ≢ i →
+    MatchesBy p o n k → (i holds : ℕ) → IsRestorable k i holds → (j : ℕ) (m : Mode) (a : ℕ) → j ≢ i →
     could (restored k i holds) j m a ≡ false
 restored_alone p o n k t h i holds r j m a ne =
     let most : holds ≤ max_holds = rw h.object at r.most in

@@ -7,10 +7,10 @@ use Rattle.history.specs.Counts.{Counts}
 use Rattle.frame.specs.Hooks.{AreAlike, opening_counts}
 use Rattle.frame.specs.Owners.{holds_of, Owns}
 use Rattle.frame.proofs.Owners.{owns_alike, owns_opening, seats_for, owner_below}
-use Rattle.reentrant.specs.Lock.{Stands, lock_of, IsOpened}
+use Rattle.reentrant.specs.Lock.{Matches, lock_of, IsOpened}
 use Rattle.reentrant.specs.declared.lock.LockHooks.{LockHooks}
 
-pub opens_so : (s : LockHooks) (seats : ℕ) → IsOpened s seats → Stands s (opening_counts (lock_of s) seats)
+pub opens_so : (s : LockHooks) (seats : ℕ) → IsOpened s seats → Matches s (opening_counts (lock_of s) seats)
 opens_so s seats opened =
     record {
       object = refl;
@@ -18,10 +18,10 @@ opens_so s seats opened =
       none_shared = λ i. refl;
     }
 
-pub same_policy : (s : LockHooks) (k : Counts) → Stands s k → k.object ≡ lock_of s
+pub same_policy : (s : LockHooks) (k : Counts) → Matches s k → k.object ≡ lock_of s
 same_policy s k h = h.object
 
-pub alike_so : (s : LockHooks) (k l : Counts) → AreAlike k l → Stands s k → Stands s l
+pub alike_so : (s : LockHooks) (k l : Counts) → AreAlike k l → Matches s k → Matches s l
 alike_so s k l same h =
     record {
       object = same.object ∙ h.object;
@@ -43,7 +43,7 @@ some_counts_of s =
       count = 0;
     }
 
-pub some_counts : (s : LockHooks) → (k : Counts) × Stands s k
+pub some_counts : (s : LockHooks) → (k : Counts) × Matches s k
 some_counts s =
     let owns : Owns s.owner s.holds (some_counts_of s) =
     record { held = λ i. refl; seat = owner_below s.owner } in

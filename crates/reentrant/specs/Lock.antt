@@ -9,13 +9,13 @@ use Rattle.frame.specs.Owners.{Owns}
 use Rattle.reentrant.specs.declared.lock.LockHooks.{LockHooks}
 
 -- The counts are those of a lock with this owner and its holds.
-pub record StandsBy (p : Policy) (o : Option ℕ) (n : ℕ) (k : Counts) : Type 0 where
+pub record MatchesBy (p : Policy) (o : Option ℕ) (n : ℕ) (k : Counts) : Type 0 where
   pub object : k.object ≡ Lock p
   pub owns : Owns o n k
   pub none_shared : (i : ℕ) → k.held i S ≡ 0
 
-abbrev pub Stands : LockHooks → Counts → Type 0
-Stands s k = StandsBy s.policy s.owner s.holds k
+abbrev pub Matches : LockHooks → Counts → Type 0
+Matches s k = MatchesBy s.policy s.owner s.holds k
 
 abbrev pub lock_of : LockHooks → Object
 lock_of s = Lock s.policy

@@ -65,9 +65,9 @@ impl LockHooks {
 
 impl Hooks for LockHooks {
     ghost use Rattle.reentrant.specs.Laws.{alike_so, opens_so, same_policy, some_counts};
-    ghost use Rattle.reentrant.specs.Lock.{Stands, lock_of, IsOpened};
+    ghost use Rattle.reentrant.specs.Lock.{Matches, lock_of, IsOpened};
 
-    ghost agrees = { Stands };
+    ghost agrees = { Matches };
 
     ghost object_of = { lock_of };
 

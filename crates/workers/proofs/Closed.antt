@@ -3,7 +3,7 @@ use Rattle.std.proofs.Common.{◌≡◌, ◌∙◌, refl, sym, subst}
 use Rattle.history.specs.declared.header.Header.{Header}
 use Rattle.history.specs.Entries.{HistoryView, base_on, start_on}
 use Rattle.history.specs.Header.{IsInRange}
-use Rattle.deciding.specs.Situation.{IsHistory}
+use Rattle.deciding.specs.ObjectState.{IsHistory}
 use Rattle.monitor.specs.Closing.{IsBased, left_by}
 use Rattle.monitor.specs.Lawful.{IsLawful}
 use Rattle.word_lock.specs.Ticket.{LockId}

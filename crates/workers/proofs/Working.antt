@@ -98,28 +98,28 @@ all_let answers seat (w ∷ ws) (old ∷ olds) (done ∷ dones) u (first, rest) 
 )
 
 -- why the first that stopped did, of workers from a seat on
-abbrev Told : (ℕ → ℕ → Bool → Type 0) → ℕ → List WorkerView → RunFault → Type 0
-Told answers seat ws (GateShut k) = StopsFirst answers seat ws k
-Told answers seat ws (NotStarted k) = k < seat + length ws
-Told answers seat ws Memory = Unit {0}
+abbrev StopsFor : (ℕ → ℕ → Bool → Type 0) → ℕ → List WorkerView → RunFault → Type 0
+StopsFor answers seat ws (GateShut k) = StopsFirst answers seat ws k
+StopsFor answers seat ws (NotStarted k) = k < seat + length ws
+StopsFor answers seat ws Memory = Unit {0}
 
 told_first : (answers : ℕ → ℕ → Bool → Type 0) (seat : ℕ) (w : WorkerView) (ws : List WorkerView)
     (old : List Shown) (fault : RunFault) (new : List Shown) → Ends answers seat w old (Err fault) new →
-    Told answers seat (w ∷ ws) fault
+    StopsFor answers seat (w ∷ ws) fault
 told_first answers seat w ws old (GateShut k) new ends = inl ends
 told_first answers seat w ws old (NotStarted k) new ends = let is = ends.0 in omega (arith, is)
 told_first answers seat w ws old Memory new ends = tt
 
 told_later : (answers : ℕ → ℕ → Bool → Type 0) (seat : ℕ) (w : WorkerView) (ws : List WorkerView)
-    (fault : RunFault) → LetsBelow answers seat (calls_of w) → Told answers (suc seat) ws fault →
-    Told answers seat (w ∷ ws) fault
+    (fault : RunFault) → LetsBelow answers seat (calls_of w) → StopsFor answers (suc seat) ws fault →
+    StopsFor answers seat (w ∷ ws) fault
 told_later answers seat w ws (GateShut k) lets told = inr (lets, told)
 told_later answers seat w ws (NotStarted k) lets told = omega (arith, told)
 told_later answers seat w ws Memory lets told = tt
 
 stopped_from : (answers : ℕ → ℕ → Bool → Type 0) (seat : ℕ) (ws : List WorkerView) (olds : List (List Shown))
     (dones : List Worked) (fault : RunFault) → AllWorked answers seat ws olds dones → HasStopped fault dones →
-    Told answers seat ws fault
+    StopsFor answers seat ws fault
 stopped_from answers seat [] [] [] fault worked stopped = absurd stopped
 stopped_from answers seat [] [] (done ∷ dones) fault worked stopped = absurd worked
 stopped_from answers seat [] (old ∷ olds) dones fault worked stopped = absurd worked
@@ -134,7 +134,7 @@ stopped_from answers seat (w ∷ ws) (old ∷ olds) (done ∷ dones) fault (firs
     (stopped_from answers (suc seat) ws olds dones fault rest others)
 
 told_from : (answers : ℕ → ℕ → Bool → Type 0) (ws : List WorkerView) (fault : RunFault) →
-    Told answers 0 ws fault → IsTold answers ws fault
+    StopsFor answers 0 ws fault → IsTold answers ws fault
 told_from answers ws (GateShut k) told = told
 told_from answers ws (NotStarted k) told = omega (arith, told)
 told_from answers ws Memory told = tt

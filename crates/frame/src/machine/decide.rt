@@ -9,7 +9,7 @@ use super::Core;
 use crate::effects::first_ready;
 use crate::hooks::{Hooks, Line};
 use deciding::decide;
-use deciding::situation::Situation;
+use deciding::situation::ObjectState;
 use deciding::sleep::LastSleep;
 use history::arrival::Arrival;
 use history::entry::{Entry, Mode};
@@ -50,7 +50,7 @@ impl<H: Hooks + Drop> Core<H> {
     }
 }
 
-impl<H: Hooks + Drop> Situation for Core<H> {
+impl<H: Hooks + Drop> ObjectState for Core<H> {
     ghost use Rattle.frame.specs.Core.{StandsFor};
 
     ghost stands = { StandsFor };

@@ -2,7 +2,7 @@
 use Rattle.std.specs.Prelude.{◌≡◌, ℕ, ◌++◌, false, List, [], ◌∷◌, Result, pos, negsuc, refl}
 use Rattle.history.specs.declared.arrival.Arrival.{Arrival}
 use Rattle.history.specs.declared.base.SeatBase.{SeatBase}
-use Rattle.history.specs.declared.base.Standing.{Standing}
+use Rattle.history.specs.declared.base.LinePlace.{LinePlace}
 use Rattle.history.specs.declared.entry.End.TheVariants as end
 use Rattle.history.specs.declared.entry.Mode.TheVariants.{X}
 use Rattle.history.specs.declared.fault.Fault.{Fault}
@@ -30,7 +30,7 @@ left_by b steps = folded b (results (based b) [] steps).1
 abbrev seat : ℕ → ℕ → ℕ → SeatBase
 seat calls exclusive shared = record { calls = calls; exclusive = exclusive; shared = shared }
 
-abbrev asks : Arrival → Standing
+abbrev asks : Arrival → LinePlace
 asks a = record { who = a; condition = 0; holds = 0; how = end.None }
 
 -- An owner sleeps with two holds, and another owns: four entries are folded.

@@ -2,37 +2,37 @@
 use Rattle.std.specs.Prelude.{◌≡◌, [], ◌∷◌, refl}
 use Rattle.history.specs.declared.fault.Fault.TheVariants.{HistoryFull}
 use Rattle.history.specs.declared.header.Policy.TheVariants.{Fair, NonFair, Strict}
-use Rattle.laws.proofs.Told.{told, lock, acquire, try, try_fair, give, look, expire, interrupt, timeout, interrupted, got, try_got, queued, granted, missed, gave, left, sleeps, fault, ◌wakes◌}
+use Rattle.laws.proofs.Told.{replies, lock, acquire, try, try_fair, give, look, expire, interrupt, timeout, interrupted, got, try_got, queued, granted, missed, gave, left, sleeps, fault, ◌wakes◌}
 
 -- A lock is taken and given back.
 taken_and_given_back :
-    told (lock Fair 1 0 16)
+    replies (lock Fair 1 0 16)
     ((0, acquire) ∷ (0, give) ∷ [])
     ≡ (got 0 ∷ gave 0 ∷ [], 2, 2)
 taken_and_given_back = refl
 
 -- Where nothing is asked nothing is recorded.
-nothing_asked : told (lock Fair 1 0 16) [] ≡ ([], 0, 0)
+nothing_asked : replies (lock Fair 1 0 16) [] ≡ ([], 0, 0)
 nothing_asked = refl
 
 -- The barge: seat 2 comes between the release and the look of seat 1, and takes. Seat 1 sleeps on, and is
 -- named again.
 barging :
-    told (lock NonFair 3 0 64)
+    replies (lock NonFair 3 0 64)
     ((0, acquire) ∷ (1, acquire) ∷ (0, give) ∷ (2, acquire) ∷ (1, look) ∷ (2, give) ∷ (1, look) ∷ [])
     ≡ (got 0 ∷ queued 1 ∷ gave 0 wakes 1 ∷ got 2 ∷ sleeps ∷ gave 2 wakes 1 ∷ granted 1 ∷ [], 6, 5)
 barging = refl
 
 -- In a fair lock a try with no time to wait misses behind the line, and an untimed try passes it.
 a_try_passes_a_fair_line :
-    told (lock Fair 3 0 64)
+    replies (lock Fair 3 0 64)
     ((0, acquire) ∷ (1, acquire) ∷ (0, give) ∷ (2, try_fair) ∷ (2, try) ∷ (1, look) ∷ [])
     ≡ (got 0 ∷ queued 1 ∷ gave 0 wakes 1 ∷ missed 2 ∷ try_got 2 ∷ sleeps ∷ [], 5, 4)
 a_try_passes_a_fair_line = refl
 
 -- In a strict lock the untimed try misses too, and the owner's own try takes past the line.
 a_try_waits_behind_a_strict_line :
-    told (lock Strict 3 0 64)
+    replies (lock Strict 3 0 64)
     ((0, acquire) ∷ (1, acquire) ∷ (0, give) ∷ (2, try_fair) ∷ (2, try) ∷ (1, look) ∷ (2, acquire) ∷
     (1, try) ∷ [])
     ≡ (
@@ -44,21 +44,21 @@ a_try_waits_behind_a_strict_line = refl
 
 -- One whose time is up takes all the same where it could go; the next leaves.
 times_up_for_one_that_could_go :
-    told (lock NonFair 3 0 64)
+    replies (lock NonFair 3 0 64)
     ((0, acquire) ∷ (1, acquire) ∷ (2, acquire) ∷ (0, give) ∷ (1, expire) ∷ (2, expire) ∷ [])
     ≡ (got 0 ∷ queued 1 ∷ queued 2 ∷ gave 0 wakes 1 ∷ granted 1 ∷ left 2 timeout ∷ [], 6, 4)
 times_up_for_one_that_could_go = refl
 
 -- One that is interrupted leaves even where it could go, and the next is named.
 interrupt_of_one_that_could_go :
-    told (lock NonFair 3 0 64)
+    replies (lock NonFair 3 0 64)
     ((0, acquire) ∷ (1, acquire) ∷ (2, acquire) ∷ (0, give) ∷ (1, interrupt) ∷ (2, look) ∷ [])
     ≡ (got 0 ∷ queued 1 ∷ queued 2 ∷ gave 0 wakes 1 ∷ left 1 interrupted wakes 2 ∷ granted 2 ∷ [], 6, 4)
 interrupt_of_one_that_could_go = refl
 
 -- Waiters leave from the middle of the line and from its head; one of them comes again, to its end.
 leaving_in_the_middle :
-    told (lock Fair 4 0 64)
+    replies (lock Fair 4 0 64)
     ((0, acquire) ∷ (1, acquire) ∷ (2, acquire) ∷ (3, acquire) ∷ (2, interrupt) ∷ (2, acquire) ∷
     (1, interrupt) ∷ (3, look) ∷ (0, give) ∷ (2, look) ∷ (3, look) ∷ (3, give) ∷ (2, look) ∷ [])
     ≡ (
@@ -71,7 +71,7 @@ leaving_in_the_middle = refl
 
 -- A full history: the last places stay reserved for the gives of those who hold, and for who waits in line.
 full_history :
-    told (lock Fair 3 0 16)
+    replies (lock Fair 3 0 16)
     ((0, acquire) ∷ (1, acquire) ∷ (0, acquire) ∷ (0, acquire) ∷ (0, acquire) ∷ (0, acquire) ∷
     (0, acquire) ∷ (0, acquire) ∷ (2, try) ∷ (2, try) ∷ (0, give) ∷ (0, give) ∷ (0, give) ∷ (0, give) ∷
     (0, give) ∷ (0, give) ∷ (1, look) ∷ (1, give) ∷ (1, give) ∷ [])

@@ -1,11 +1,11 @@
 -- Worked examples of read-write locks.
 use Rattle.std.specs.Prelude.{◌≡◌, [], ◌∷◌, refl}
 use Rattle.history.specs.declared.header.Policy.TheVariants.{Fair, NonFair}
-use Rattle.laws.proofs.Told.{told, read_write, acquire, acquire_shared, give, give_shared, look, expire, timeout, got, got_shared, queued, queued_shared, granted_shared, gave, gave_shared, left, ◌wakes◌}
+use Rattle.laws.proofs.Told.{replies, read_write, acquire, acquire_shared, give, give_shared, look, expire, timeout, got, got_shared, queued, queued_shared, granted_shared, gave, gave_shared, left, ◌wakes◌}
 
 -- A writer in line holds the readers back; when it leaves, they go one after another, each naming the next.
 readers_behind_a_writer_fair :
-    told (read_write Fair 4 0 64)
+    replies (read_write Fair 4 0 64)
     ((0, acquire_shared 1) ∷ (1, acquire) ∷ (2, acquire_shared 1) ∷ (3, acquire_shared 1) ∷ (1, expire) ∷
     (2, look) ∷ (3, look) ∷ [])
     ≡ (
@@ -18,7 +18,7 @@ readers_behind_a_writer_fair = refl
 
 -- The same in a non-fair lock.
 readers_behind_a_writer :
-    told (read_write NonFair 4 0 64)
+    replies (read_write NonFair 4 0 64)
     ((0, acquire_shared 1) ∷ (1, acquire) ∷ (2, acquire_shared 1) ∷ (3, acquire_shared 1) ∷ (1, expire) ∷
     (2, look) ∷ (3, look) ∷ [])
     ≡ (
@@ -32,7 +32,7 @@ readers_behind_a_writer = refl
 -- A writer reads, gives back its write hold, and lets a reader in. A reader that asks to write waits with its
 -- read hold kept.
 downgrading :
-    told (read_write NonFair 2 0 64)
+    replies (read_write NonFair 2 0 64)
     ((0, acquire) ∷ (0, acquire_shared 1) ∷ (1, acquire_shared 1) ∷ (0, give) ∷ (1, look) ∷ (1, acquire) ∷
     (1, expire) ∷ (1, give_shared 1) ∷ (0, give_shared 1) ∷ [])
     ≡ (

@@ -1,6 +1,6 @@
 use Rattle.std.proofs.Common.{◌≡◌, Some, IsSome, sym, ap, ◌∙◌, refl, subst, arith, length}
 use Rattle.std.proofs.lemmas.Option.{none-some, same_Some}
-use Rattle.node_arena.specs.declared.node.Standing.{Standing}
+use Rattle.node_arena.specs.declared.node.NumberedNode.{NumberedNode}
 use Rattle.node_arena.specs.NodeList.{StandApart, without_place}
 use Rattle.acquire_queue.specs.Line.{tidied}
 use Rattle.acquire_queue.proofs.Nodes.{find_node, found_under, at_found, unnot_true, unnot_false}
@@ -64,7 +64,7 @@ returns-then-not-before-clause-nodes c =
     ends_tidied c.args.seat c.args.number c.loop-before.nodes.nodes _
     (once_still c.args.seat c.args.nodes.now.nodes c.loop-before.nodes.nodes i.tidied c.requires.once)
     i.apart f
-    (λ b e. ap (λ (z : Standing). z.node.cancelled) (same_Some _ _ (sym e ∙ c.in-Some.is))
+    (λ b e. ap (λ (z : NumberedNode). z.node.cancelled) (same_Some _ _ (sym e ∙ c.in-Some.is))
     ∙ unnot_true _ c.if-not-before.true)
     ∙ i.tidied
 

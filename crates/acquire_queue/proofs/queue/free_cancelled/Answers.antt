@@ -1,6 +1,6 @@
 use Rattle.std.proofs.Common.{◌≡◌, Some, refl, sym, ap, ◌∙◌, arith}
 use Rattle.std.proofs.lemmas.Option.{none-some, same_Some}
-use Rattle.node_arena.specs.declared.node.Standing.{Standing}
+use Rattle.node_arena.specs.declared.node.NumberedNode.{NumberedNode}
 use Rattle.node_arena.specs.NodeList.{Nodes, without_place}
 use Rattle.acquire_queue.proofs.Nodes.{swept_none, swept_one, swept_skip, swept_all, at_found}
 use Rattle.acquire_queue.proofs.queue.free_cancelled.Goals as goal
@@ -27,7 +27,7 @@ loop-place-preserved c =
           let at = sym c.at.ensures.at ∙ w.in-Some.is in (
             ap (λ (n : Nodes). n.nodes) w.nodes-is
                 ∙ swept_skip c.loop-place.place _ _ c.limit-place-end.ensures.apart c.loop-place.invariant.0
-                (λ x e. ap (λ (y : Standing). y.node.cancelled) (same_Some _ _ (sym e ∙ at))
+                (λ x e. ap (λ (y : NumberedNode). y.node.cancelled) (same_Some _ _ (sym e ∙ at))
                 ∙ w.if-standing.false),
             ap (λ (n : Nodes). n.placed) w.nodes-is ∙ c.loop-place.invariant.1,
             ap (λ (n : Nodes). n.places) w.nodes-is ∙ c.loop-place.invariant.2,

@@ -1,5 +1,5 @@
 use Rattle.std.proofs.Common.{◌≡◌, Some, drop, ap, ◌∙◌, arith, length}
-use Rattle.acquire_queue.specs.Line.{trimmed}
+use Rattle.acquire_queue.specs.Line.{without_dead_head}
 use Rattle.acquire_queue.proofs.Nodes.{first_under, first_without, trimmed_past, shorter_past, trimmed_by, trimmed_none, unnot_true, unnot_false}
 use Rattle.acquire_queue.proofs.queue.free_head.Goals as goal
 use Rattle.acquire_queue.proofs.queue.free_head.Goals.{After-remove}
@@ -18,7 +18,7 @@ loop-first-smaller c =
 
 pub loop-first-preserved : goal.loop-first-preserved
 loop-first-preserved c = (
-  ap trimmed (removed (goal.at.loop-first-preserved c).After-remove)
+  ap without_dead_head (removed (goal.at.loop-first-preserved c).After-remove)
       ∙ trimmed_past _ c.in-Some.first c.in-Some.ensures.first (unnot_false _ c.if-not-first.false)
       ∙ c.loop-first.invariant.0,
   c.remove.ensures.placed ∙ c.loop-first.invariant.1,

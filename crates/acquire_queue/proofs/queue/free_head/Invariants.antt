@@ -1,10 +1,10 @@
 use Rattle.std.proofs.Common.{◌≡◌, length}
-use Rattle.acquire_queue.specs.Line.{trimmed}
+use Rattle.acquire_queue.specs.Line.{without_dead_head}
 use Rattle.acquire_queue.proofs.queue.free_head.Given as goal
 
 abbrev pub invariant-loop-first : goal.invariant-loop-first
 invariant-loop-first l =
-    (trimmed l.nodes.nodes ≡ trimmed l.fn.nodes.nodes)
+    (without_dead_head l.nodes.nodes ≡ without_dead_head l.fn.nodes.nodes)
     × (l.nodes.placed ≡ l.fn.nodes.placed)
     × (l.nodes.places ≡ l.fn.nodes.places)
 

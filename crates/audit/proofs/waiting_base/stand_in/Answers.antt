@@ -1,7 +1,7 @@
 use Rattle.std.proofs.Common.{◌≡◌, ◌∙◌, ◌≤◌, ℕ, false, List, ap, get_or, map, take, subst, arith}
 use Rattle.std.proofs.lemmas.Simd.{map-map}
 use Rattle.history.specs.declared.arrival.Arrival.{Arrival}
-use Rattle.history.specs.declared.base.Standing.{Standing}
+use Rattle.history.specs.declared.base.LinePlace.{LinePlace}
 use Rattle.history.specs.declared.entry.End.TheVariants as end
 use Rattle.history.specs.declared.entry.Mode.TheVariants.{X}
 use Rattle.history.specs.Line.{place_of}
@@ -10,10 +10,10 @@ use Rattle.history.proofs.Times.{never_placed}
 use Rattle.audit.proofs.BaseWaits.{not_before}
 use Rattle.audit.proofs.waiting_base.stand_in.Goals as goal
 
-abbrev seat_of : Standing → ℕ
+abbrev seat_of : LinePlace → ℕ
 seat_of p = p.who.seat
 
-abbrev nobody : Standing
+abbrev nobody : LinePlace
 nobody =
     record {
       who = record { seat = 0; mode = X; n = 0; back = false };
@@ -22,8 +22,8 @@ nobody =
       how = end.None;
     }
 
-seats_are : (xs : List Standing) → seats_of (map (λ p. p.who) xs) ≡ map seat_of xs
-seats_are xs = map-map (λ (a : Arrival). a.seat) (λ (p : Standing). p.who) xs
+seats_are : (xs : List LinePlace) → seats_of (map (λ p. p.who) xs) ≡ map seat_of xs
+seats_are xs = map-map (λ (a : Arrival). a.seat) (λ (p : LinePlace). p.who) xs
 
 pub join-requires-clause-absent : goal.join-requires-clause-absent
 join-requires-clause-absent c =

@@ -9,7 +9,7 @@ use Rattle.deciding.proofs.balance.all_asleep.Given as goal
 abbrev pub invariant-loop-condition : goal.invariant-loop-condition
 invariant-loop-condition g l =
     record {
-      summed : (s : Start) (h : List Entry) → g.T.Situation.stands s h l.state →
+      summed : (s : Start) (h : List Entry) → g.T.ObjectState.stands s h l.state →
           l.all ≡ total l.condition (λ c. length (sleepers s h c));
       few : l.all ≤ 65535 * l.condition;
     }

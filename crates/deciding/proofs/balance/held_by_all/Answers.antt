@@ -19,7 +19,7 @@ few_here : (g : _) (c : After-held-all g) →
     (c.held-all.result ≤ most_at_once) × (c.loop-seat.seat < 256)
 few_here g c =
     let r = c.requires in
-    let past = g.met.T.Situation.is_history r.0 r.1 c.args.state.now r.2 in
+    let past = g.met.T.ObjectState.is_history r.0 r.1 c.args.state.now r.2 in
     let same = ap (λ (k : Header). k.seats) (c.header.ensures r.0 r.1 r.2) in
     let below : c.loop-seat.seat < r.0.header.seats = omega (arith, same, c.loop-seat-test.true) in
     let few = holds_few r.0 r.1 c.loop-seat.seat c.args.mode past r.3 below in

@@ -9,7 +9,7 @@ use Rattle.deciding.proofs.balance.held_by_all.Given as goal
 abbrev pub invariant-loop-seat : goal.invariant-loop-seat
 invariant-loop-seat g l =
     record {
-      summed : (s : Start) (h : List Entry) → g.T.Situation.stands s h l.state →
+      summed : (s : Start) (h : List Entry) → g.T.ObjectState.stands s h l.state →
           l.all ≡ total l.seat (λ i. held s h i l.mode);
       few : l.all ≤ most_at_once * l.seat;
     }

@@ -8,11 +8,11 @@ could_take-requires g c =
       r.0,
       r.1,
       r.2,
-      first_below r.0 r.1 c.in-Some.first (g.met.T.Situation.is_history r.0 r.1 c.args.state.now r.2)
+      first_below r.0 r.1 c.in-Some.first (g.met.T.ObjectState.is_history r.0 r.1 c.args.state.now r.2)
           (sym c.in-Some.is ∙ c.first.ensures r.0 r.1 r.2),
     )
 
 pub returns-then-could_take-clause-below : goal.returns-then-could_take-clause-below
 returns-then-could_take-clause-below g c s h st =
-    first_below s h c.in-Some.first (g.met.T.Situation.is_history s h c.args.state.now st)
+    first_below s h c.in-Some.first (g.met.T.ObjectState.is_history s h c.args.state.now st)
     (sym c.in-Some.is ∙ c.first.ensures s h st)

@@ -1,6 +1,6 @@
 use Rattle.std.proofs.Common.{◌+◌, [], ◌∷◌, false, drop, get_or, map, subst, arith}
 use Rattle.std.proofs.lemmas.List.{drop_all}
-use Rattle.history.specs.declared.base.Standing.{Standing}
+use Rattle.history.specs.declared.base.LinePlace.{LinePlace}
 use Rattle.history.specs.declared.entry.End.TheVariants as end
 use Rattle.history.specs.declared.entry.Mode.TheVariants.{X}
 use Rattle.history_text.specs.declared.base_line.BaseLine.TheVariants.{Stands}
@@ -8,7 +8,7 @@ use Rattle.history_text.proofs.BaseFollowed.{Left, all_taken, none_yet, refused,
 use Rattle.history_text.proofs.base_fitting.follow_standings.Goals as goal
 
 -- one in line that a list has past its end
-abbrev none : Standing
+abbrev none : LinePlace
 none =
     record {
       who = record { seat = 0; mode = X; n = 0; back = false };

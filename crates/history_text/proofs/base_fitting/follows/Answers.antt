@@ -1,17 +1,17 @@
 use Rattle.std.proofs.Common.{true, false, List, map, refl, ap, subst, ◌∙◌}
-use Rattle.history.specs.declared.base.Standing.{Standing}
+use Rattle.history.specs.declared.base.LinePlace.{LinePlace}
 use Rattle.history.specs.Base.{Base}
 use Rattle.history_text.specs.declared.base_line.BaseLine.TheVariants.{Stands}
 use Rattle.history_text.specs.BaseFollowing.{HaveFollowed}
 use Rattle.history_text.specs.BaseLines.{base_lines, seat_lines, sleeper_lines}
-use Rattle.history_text.specs.BaseRules.{untold}
+use Rattle.history_text.specs.BaseRules.{no_sums}
 use Rattle.history_text.proofs.BaseFollowed.{behind_first, behind_seats, first_taken, last_taken, neither, refused, seats_taken, taken}
 use Rattle.history_text.proofs.base_fitting.follows.Goals as goal
 
 pub returns-then-not-follow_seats : goal.returns-then-not-follow_seats
 returns-then-not-follow_seats c =
     let b = c.args.base.now in
-    neither (refused b untold c.follow.new.so_far (base_lines b) (behind_first b) (seat_lines 0 b.seats)
+    neither (refused b no_sums c.follow.new.so_far (base_lines b) (behind_first b) (seat_lines 0 b.seats)
     (behind_seats b) refl (first_taken b c.new-so_far.result c.follow.new.so_far c.first_line.result
     c.new-so_far.ensures c.first_line.ensures c.if-not-follow.ensures) c.if-not-follow_seats.ensures)
 
@@ -19,11 +19,11 @@ pub returns-then-not-follow_standings : goal.returns-then-not-follow_standings
 returns-then-not-follow_standings c =
     let b = c.args.base.now in
     let line = c.deref.ensures.value ∙ ap (λ (a : Base). a.line) c.base.view_is in
-    neither (refused b untold c.follow_seats.new.so_far (base_lines b) (behind_seats b) (map Stands b.line)
+    neither (refused b no_sums c.follow_seats.new.so_far (base_lines b) (behind_seats b) (map Stands b.line)
     (sleeper_lines 0 b.sleepers) refl
     (seats_taken b c.new-so_far.result c.follow.new.so_far c.follow_seats.new.so_far c.first_line.result
     c.new-so_far.ensures c.first_line.ensures c.if-not-follow.ensures c.if-not-follow_seats.ensures)
-    (subst (λ (l : List Standing). HaveFollowed false b c.follow_seats.new.so_far
+    (subst (λ (l : List LinePlace). HaveFollowed false b c.follow_seats.new.so_far
     c.follow_standings.new.so_far (map Stands l)) line c.if-not-follow_standings.ensures))
 
 pub returns : goal.returns
@@ -32,10 +32,10 @@ returns c =
     let line = c.deref.ensures.value ∙ ap (λ (a : Base). a.line) c.base.view_is in
     last_taken c.follow_sleepers.result b c.follow_standings.new.so_far c.follow_sleepers.new.so_far
     (sleeper_lines 0 b.sleepers)
-    (taken b untold c.follow_seats.new.so_far c.follow_standings.new.so_far (base_lines b) (behind_seats b)
+    (taken b no_sums c.follow_seats.new.so_far c.follow_standings.new.so_far (base_lines b) (behind_seats b)
     (map Stands b.line) (sleeper_lines 0 b.sleepers) refl
     (seats_taken b c.new-so_far.result c.follow.new.so_far c.follow_seats.new.so_far c.first_line.result
     c.new-so_far.ensures c.first_line.ensures c.if-not-follow.ensures c.if-not-follow_seats.ensures)
-    (subst (λ (l : List Standing). HaveFollowed true b c.follow_seats.new.so_far
+    (subst (λ (l : List LinePlace). HaveFollowed true b c.follow_seats.new.so_far
     c.follow_standings.new.so_far (map Stands l)) line c.if-not-follow_standings.ensures))
     c.follow_sleepers.ensures

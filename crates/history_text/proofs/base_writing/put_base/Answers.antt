@@ -3,7 +3,7 @@ use Rattle.std.specs.List.{AllByRecursion}
 use Rattle.std.proofs.lemmas.Result.{on_ok_weaker}
 use Rattle.history.specs.declared.base.SeatBase.{SeatBase}
 use Rattle.history.specs.declared.base.Sleeper.{Sleeper}
-use Rattle.history.specs.declared.base.Standing.{Standing}
+use Rattle.history.specs.declared.base.LinePlace.{LinePlace}
 use Rattle.history.specs.Base.{Base}
 use Rattle.history_text.specs.declared.base_line.BaseLine.{BaseLine}
 use Rattle.history_text.specs.declared.base_line.BaseLine.TheVariants.{Stands}
@@ -17,7 +17,7 @@ put_standings-requires c =
     let b = c.args.base.now in
     let line : c.deref-2.result.now ≡ b.line =
     c.deref-2.ensures.value ∙ ap (λ (x : Base). x.line) c.base.view_is in
-    subst (λ (l : List Standing). AllByRecursion IsBaseLine (map Stands l)) (sym line)
+    subst (λ (l : List LinePlace). AllByRecursion IsBaseLine (map Stands l)) (sym line)
     (each_front IsBaseLine (map Stands b.line) (sleeper_lines 0 b.sleepers)
     (each_back IsBaseLine (seat_lines 0 b.seats) _ c.requires.each.1))
 
@@ -46,7 +46,7 @@ returns c =
     c.first_line.ensures)
     (c.in_ok-put_seats.ensures ∙ ap (λ (l : List SeatBase). c.put_line.new.out.items
     ++ lines_text (seat_lines 0 l)) seats)
-    (c.in_ok-put_standings.ensures ∙ ap (λ (l : List Standing). c.put_seats.new.out.items
+    (c.in_ok-put_standings.ensures ∙ ap (λ (l : List LinePlace). c.put_seats.new.out.items
     ++ lines_text (map Stands l)) line)
     (written ∙ ap (λ (l : List (List Sleeper)). c.put_standings.new.out.items
     ++ lines_text (sleeper_lines 0 l)) lists)) c.put_sleepers.ensures

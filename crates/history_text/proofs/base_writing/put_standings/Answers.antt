@@ -1,6 +1,6 @@
 use Rattle.std.proofs.Common.{◌+◌, ◌++◌, drop, get_or, map, subst, ap, sym, ◌∙◌, arith, false, List}
 use Rattle.std.specs.List.{AllByRecursion}
-use Rattle.history.specs.declared.base.Standing.{Standing}
+use Rattle.history.specs.declared.base.LinePlace.{LinePlace}
 use Rattle.history.specs.declared.entry.End.TheVariants as end
 use Rattle.history.specs.declared.entry.Mode.TheVariants.{X}
 use Rattle.history_text.specs.declared.base_line.BaseLine.{BaseLine}
@@ -11,7 +11,7 @@ use Rattle.history_text.proofs.BaseWritten.{left_at, line_written}
 use Rattle.history_text.proofs.base_writing.put_standings.Goals as goal
 
 -- one in line that a list has past its end
-abbrev none : Standing
+abbrev none : LinePlace
 none =
     record {
       who = record { seat = 0; mode = X; n = 0; back = false };

@@ -3,7 +3,7 @@ use mir.Val.{SFits}
 use Rattle.std.proofs.Common.{ℕ, ◌∙◌, rules, sym, ap, subst}
 use Rattle.std.proofs.lemmas.Int.{to_z-of_z}
 use Rattle.frame.specs.Core.{counts_of}
-use Rattle.monitor.specs.Lawful.{IsKept}
+use Rattle.monitor.specs.Lawful.{IsLawfulCore}
 use Rattle.monitor.specs.Load.{Brings, Moves, given_by, holds_in}
 use Rattle.monitor.proofs.Loads.{told_free, turn, turn_step}
 use Rattle.monitor.proofs.kept.step_laden.Goals as goal
@@ -13,7 +13,7 @@ traded : (g : _) (c : goal.After-trade g) → g.L.Load.rests c.trade.new.self (c
     × Moves g.L.Load.is_counted g.L.Load.amount c.args.there.now (counts_of c.args.laden.now.core).free
     c.trade.new.there (counts_of c.step-answer.new.self).free
 traded g c =
-    let kept : IsKept c.step-answer.new.self = search rules in
+    let kept : IsLawfulCore c.step-answer.new.self = search rules in
     let fits : SFits w64 c.available-free.result = search rules in
     c.trade.ensures c.args.seat (counts_of c.args.laden.now.core) (counts_of c.step-answer.new.self)
     (turn c.args.laden.now.core c.step-answer.new.self c.args.seat c.args.step c.step-answer.result c.requires.kept kept

@@ -1,16 +1,16 @@
 use Rattle.std.proofs.Common.{◌≡◌, drop, sym, ap, ◌∙◌, refl, arith, subst, IsSome}
-use Rattle.acquire_queue.specs.Line.{trimmed}
+use Rattle.acquire_queue.specs.Line.{without_dead_head}
 use Rattle.acquire_queue.proofs.Nodes.{first_under, first_without, some_removed, first_seat, left_at_head, kept_taken, line_taken, nobody}
 use Rattle.acquire_queue.proofs.queue.Queue.take_first.Goals as goal
 use Rattle.acquire_queue.proofs.queue.Queue.take_first.Goals.{After-free_head}
 
 -- the head and the cancelled nodes behind it are gone
-taken : (c : After-free_head) → c.free_head.new.nodes.nodes ≡ trimmed (drop 1 c.self.inside.nodes.nodes)
+taken : (c : After-free_head) → c.free_head.new.nodes.nodes ≡ without_dead_head (drop 1 c.self.inside.nodes.nodes)
 taken c =
     let e = c.in_ok-first.ensures.first in
     let some = subst IsSome (sym (first_under _ c.in_ok-first.first e)) refl in
     c.free_head.ensures.nodes
-    ∙ ap trimmed (some_removed _ c.in_ok-first.first.number _ _ c.remove.ensures.found some
+    ∙ ap without_dead_head (some_removed _ c.in_ok-first.first.number _ _ c.remove.ensures.found some
     c.remove.ensures.nodes
     ∙ first_without _ c.in_ok-first.first e c.in_ok-first.ensures.apart)
 

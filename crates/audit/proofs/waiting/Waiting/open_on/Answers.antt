@@ -1,5 +1,5 @@
 use Rattle.std.proofs.Common.{◌∙◌, ap, length, map, arith}
-use Rattle.history.specs.declared.base.Standing.{Standing}
+use Rattle.history.specs.declared.base.LinePlace.{LinePlace}
 use Rattle.history.specs.declared.header.Header.{Header}
 use Rattle.history.specs.Base.{Base, sleep_below}
 use Rattle.deciding.specs.Sleep.{sleep_of}
@@ -58,7 +58,7 @@ returns-clause-stand c =
     let again = c.deref-2.ensures.value ∙ ap (λ (x : Base). x.line) c.base.view_is in
     let laid = c.lay_down.ensures in
     stands_on b c.requires.good c.requires.range _
-    (c.stand_in.ensures.line ∙ ap (map (λ (p : Standing). p.who)) line)
+    (c.stand_in.ensures.line ∙ ap (map (λ (p : LinePlace). p.who)) line)
     (c.stand_in.ensures.joined ∙ ap length line)
     (c.stand_in.ensures.seats ∙ none.places ∙ seats)
     laid.lists laid.above

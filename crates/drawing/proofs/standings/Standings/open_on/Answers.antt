@@ -1,6 +1,6 @@
 use Rattle.std.proofs.Common.{◌≡◌, ◌∙◌, ◌||◌, List, false, get_or, length, map, replicate, ap, rules}
 use Rattle.std.proofs.lemmas.List.{length-replicate}
-use Rattle.history.specs.declared.base.Standing.{Standing}
+use Rattle.history.specs.declared.base.LinePlace.{LinePlace}
 use Rattle.history.specs.declared.entry.Mode.TheVariants.{X, S}
 use Rattle.history.specs.Base.{Base}
 use Rattle.history.specs.Line.{place_of}
@@ -27,6 +27,6 @@ returns c =
     c.in_ok-asleep.ensures
     (tabled b X _ _ (c.deref.ensures.value ∙ seats) x) (tabled b S _ _ (c.deref-2.ensures.value ∙ seats) s)
     (λ i. c.mark_standing.ensures.marked i
-    ∙ ap (λ t. t || is_there (place_of i (map (λ (p : Standing). p.who) c.deref-3.result.now)))
+    ∙ ap (λ t. t || is_there (place_of i (map (λ (p : LinePlace). p.who) c.deref-3.result.now)))
     (ap (λ l. get_or l i false) w ∙ nobody n i)
-    ∙ ap (λ (q : List Standing). is_there (place_of i (map (λ p. p.who) q))) line)
+    ∙ ap (λ (q : List LinePlace). is_there (place_of i (map (λ p. p.who) q))) line)

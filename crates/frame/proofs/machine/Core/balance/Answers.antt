@@ -1,5 +1,5 @@
 use Rattle.std.proofs.Common.{◌≡◌, ◌<◌, ◌^◌, length, refl, subst, arith}
-use Rattle.deciding.specs.Situation.{IsHistory}
+use Rattle.deciding.specs.ObjectState.{IsHistory}
 use Rattle.frame.specs.Core.{CoreView, StandsFor, start_of}
 use Rattle.frame.proofs.Stepping.{history_of}
 use Rattle.frame.proofs.machine.Core.balance.Goals as goal

@@ -1,5 +1,5 @@
 use Rattle.std.proofs.Common.{◌≡◌, refl, subst}
-use Rattle.deciding.specs.Situation.{IsHistory}
+use Rattle.deciding.specs.ObjectState.{IsHistory}
 use Rattle.frame.specs.Core.{CoreView, start_of}
 use Rattle.frame.proofs.Deciding.{made_next}
 use Rattle.frame.proofs.Stepping.{history_of}

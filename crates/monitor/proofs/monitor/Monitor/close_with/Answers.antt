@@ -15,7 +15,7 @@ use Rattle.word_lock.specs.Rule.{AllAgree, AreDistinct}
 use Rattle.word_lock.specs.Ticket.{LockId}
 use Rattle.word_lock.proofs.PointLaws.{before_refl}
 use Rattle.monitor.specs.Lawful.{point_of, start_at, IsLawful}
-use Rattle.monitor.specs.Shown.{Shown, IsTrue}
+use Rattle.monitor.specs.Shown.{Shown, IsSound}
 use Rattle.monitor.specs.Closing.{IsBased, left_by, shares, passes_of}
 use Rattle.monitor.proofs.Opening.{shown_as, header_shown}
 use Rattle.monitor.proofs.Sections.{all_calls_few}
@@ -26,8 +26,8 @@ pub returns-then-len-self-clause-missing : goal.returns-then-len-self-clause-mis
 returns-then-len-self-clause-missing g c =
     let seats : c.self.inside.seats ≡ c.args.self.header.seats =
     c.self.invariant.0 ∙ ap (λ (l : LockId). l.header.seats) c.self.view_is in
-    let true : All (λ (p : Shown). IsTrue p) c.args.passes.items =
-    subst (λ (l : List Shown). All (λ p. IsTrue p) l) c.deref.ensures.value
+    let true : All (λ (p : Shown). IsSound p) c.args.passes.items =
+    subst (λ (l : List Shown). All (λ p. IsSound p) l) c.deref.ensures.value
     c.merge_shares-share.ensures.shows in
     let few : length c.args.passes.items < c.self.inside.seats = search rules in (
       refl,
@@ -123,8 +123,8 @@ ends g c =
     let agree : All (λ (p : Shown). Agrees q p.seat p.mine) ps =
     all_agree q ps (subst (λ (z : Point). AllAgree z (logs_of ps)) is
     (subst (λ (l : List SeatLog). AllAgree core l) logs c.close-kept.ensures.entries)) in
-    let true : All (λ (p : Shown). IsTrue p) ps =
-    subst (λ (l : List Shown). All (λ p. IsTrue p) l) c.deref.ensures.value
+    let true : All (λ (p : Shown). IsSound p) ps =
+    subst (λ (l : List Shown). All (λ p. IsSound p) l) c.deref.ensures.value
     c.merge_shares-share.ensures.shows in
     let seats : c.self.inside.seats ≡ c.args.self.header.seats =
     c.self.invariant.0 ∙ ap (λ (l : LockId). l.header.seats) c.self.view_is in

@@ -7,7 +7,7 @@ use Rattle.word_lock.specs.Ticket.{LockId, first_entries}
 use Rattle.word_lock.proofs.Sections.{follows_taken}
 use Rattle.monitor.specs.Lawful.{point_of}
 use Rattle.monitor.specs.Load.{Moves, free_of, holds_at, holds_of}
-use Rattle.monitor.specs.Shown.{Shown, IsTrue, shown}
+use Rattle.monitor.specs.Shown.{Shown, IsSound, shown}
 use Rattle.monitor.proofs.Loads.{own_holds, true_holds}
 use Rattle.monitor.proofs.Rooms.{Around, follows_in, moves_in, pass_in, sectioned_in, step_in, true_in}
 use Rattle.monitor.proofs.Sections.{own_entries, seat_below, share_few}
@@ -73,7 +73,7 @@ pub returns-clause-stepped : goal.returns-clause-stepped
 returns-clause-stepped g c =
     rw (← c.pass.view_is) (step_in _ _ _ _ _ _ _ (around g c) _ _ _ c.step_in_room-answer.ensures.stepped _)
 
-shows : (g : _) (c : goal.After-pass-1 g) → IsTrue (shown c.unlock.new.token c.pass.inside.seat
+shows : (g : _) (c : goal.After-pass-1 g) → IsSound (shown c.unlock.new.token c.pass.inside.seat
     c.share_behind-pass-inside.result)
 shows g c =
     true_in _ _ _ _ _ _ _ (around g c) _ _ _ c.step_in_room-answer.ensures.stepped _

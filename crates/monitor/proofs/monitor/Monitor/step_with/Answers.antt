@@ -5,7 +5,7 @@ use Rattle.history.specs.declared.entry.Mode.{Mode}
 use Rattle.history.specs.declared.header.Header.{Header}
 use Rattle.history.specs.declared.point.Point.{Point}
 use Rattle.word_lock.specs.Held.{held_ticket}
-use Rattle.monitor.specs.Shown.{Shown, IsTrue, shown}
+use Rattle.monitor.specs.Shown.{Shown, IsSound, shown}
 use Rattle.monitor.specs.Load.{free_of, holds_at, holds_of}
 use Rattle.word_lock.specs.Ticket.{LockId, first_entries}
 use Rattle.word_lock.proofs.Sections.{follows_taken}
@@ -86,7 +86,7 @@ returns-clause-stepped g c =
     c.lock-held.ensures.fact.0
     c.step-answer.ensures.owed))
 
-shows : (g : _) (c : goal.After-pass-1 g) → IsTrue (shown c.unlock.new.token c.pass.inside.seat
+shows : (g : _) (c : goal.After-pass-1 g) → IsSound (shown c.unlock.new.token c.pass.inside.seat
     c.share_behind-pass-inside.result)
 shows g c = section_true _ _ _ _ _ _ _ _ _ (went g c) _ c.share_behind-pass-inside.ensures
 

@@ -1,7 +1,7 @@
 use Rattle.std.proofs.Common.{rules, ◌≡◌, ◌∙◌, ap, refl, sym}
 use Rattle.history.specs.declared.header.Header.{Header}
 use Rattle.history.specs.Entries.{start_on}
-use Rattle.deciding.specs.Situation.{IsHistory}
+use Rattle.deciding.specs.ObjectState.{IsHistory}
 use Rattle.audit.specs.declared.verdict.Judgement.TheVariants.{Legal}
 use Rattle.word_lock.specs.Ticket.{LockId}
 use Rattle.workers.proofs.Closed.{closed_history}

@@ -7,7 +7,7 @@ use Rattle.deciding.proofs.Bounds.{waits_by}
 use Rattle.frame.specs.Core.{CoreView, start_of}
 use Rattle.condition_queue.proofs.Movable.{sleeps_is}
 use Rattle.frame.proofs.Stepping.{history_of}
-use Rattle.frame.proofs.machine.decide.CoreSituation.sleeps.Goals as goal
+use Rattle.frame.proofs.machine.decide.CoreObjectState.sleeps.Goals as goal
 
 pub returns : goal.returns
 returns g c s h st =

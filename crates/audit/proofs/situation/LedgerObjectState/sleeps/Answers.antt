@@ -1,7 +1,7 @@
 use Rattle.std.proofs.Common.{◌∙◌}
 use Rattle.condition_queue.proofs.Movable.{sleeps_is}
 use Rattle.audit.proofs.WaitingFollow.{each_waits_once}
-use Rattle.audit.proofs.situation.LedgerSituation.sleeps.Goals as goal
+use Rattle.audit.proofs.situation.LedgerObjectState.sleeps.Goals as goal
 
 pub returns : goal.returns
 returns c s h st =

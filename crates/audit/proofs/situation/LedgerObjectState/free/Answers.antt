@@ -4,7 +4,7 @@ use Rattle.std.specs.Prelude.{FitsSigned}
 use mir.Val.{to_z, of_z}
 use Rattle.std.proofs.lemmas.Int.{to_z-of_z}
 use Rattle.deciding.proofs.Bounds.{free_wide}
-use Rattle.audit.proofs.situation.LedgerSituation.free.Goals as goal
+use Rattle.audit.proofs.situation.LedgerObjectState.free.Goals as goal
 
 pub overflow_cast-result : goal.overflow_cast-result
 overflow_cast-result c =

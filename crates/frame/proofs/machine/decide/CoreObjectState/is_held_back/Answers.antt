@@ -6,7 +6,7 @@ use Rattle.history.specs.Line.{first_mode}
 use Rattle.history.specs.Start.{Start}
 use Rattle.frame.specs.Core.{CoreView, counts_of, start_of}
 use Rattle.frame.specs.Hooks.{line_mode}
-use Rattle.frame.proofs.machine.decide.CoreSituation.is_held_back.Goals as goal
+use Rattle.frame.proofs.machine.decide.CoreObjectState.is_held_back.Goals as goal
 
 pub returns : goal.returns
 returns g c s h st =

@@ -2,7 +2,7 @@ use Rattle.std.proofs.Common.{◌<◌, ap, ◌∙◌, arith, length}
 use Rattle.std.proofs.lemmas.List.{get_or_read}
 use Rattle.audit.specs.Waiting.{never_slept}
 use Rattle.deciding.specs.Sleep.{sleep_of}
-use Rattle.audit.proofs.situation.LedgerSituation.last_sleep.Goals as goal
+use Rattle.audit.proofs.situation.LedgerObjectState.last_sleep.Goals as goal
 
 pub returns : goal.returns
 returns c s h st away =
