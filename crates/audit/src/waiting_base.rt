@@ -13,7 +13,7 @@ ghost use Rattle.audit.specs.Waiting.{AreAwake, AreSleepers, never_slept, or_kep
 use acquire_queue::queue::Queue;
 use condition_queue::waiters::Waiters;
 use deciding::sleep::LastSleep;
-use history::base::{Base, Sleeper, LinePlace};
+use history::base::{Base, LinePlace, Sleeper};
 use history::entry::End;
 
 /// Puts these waiters into an empty queue, in their order.

@@ -10,7 +10,7 @@ ghost use Rattle.history.specs.NextBase.{count_then, joins_from, seat_then, sign
 ghost use Rattle.history.specs.Object.{is_semaphore};
 
 use crate::arrival::Arrival;
-use crate::base::{SeatBase, Sleeper, LinePlace};
+use crate::base::{LinePlace, SeatBase, Sleeper};
 use crate::entries::ends_call;
 use crate::entry::{End, Entry, Mode, Word};
 use crate::header::Object;

@@ -12,7 +12,7 @@ ghost use Rattle.history_text.specs.declared.base_line.BaseLine.TheVariants.{Sta
 use crate::base_line::BaseLine;
 use crate::base_so_far::BaseSoFar;
 use crate::base_writing::first_line;
-use history::base::{Base, Sleeper, LinePlace, opening_count};
+use history::base::{Base, LinePlace, Sleeper, opening_count};
 use history::header::Object;
 
 /// Returns whether the base is that of its object as it is opened.

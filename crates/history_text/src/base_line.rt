@@ -5,7 +5,7 @@ ghost use Rattle.history.specs.EntryWords.{IsWritten};
 ghost use Rattle.history_text.specs.BaseLines.{IsBaseLine, base_line, waiting_entry};
 ghost use Rattle.history_text.specs.declared.base_line.BaseLine.TheVariants.{Seat, Sleeps, Stands};
 
-use history::base::{SeatBase, Sleeper, LinePlace};
+use history::base::{LinePlace, SeatBase, Sleeper};
 use history::entry::{End, Entry, Mode, Word};
 use history::number::{put_number, put_wide};
 use std::alloc::AllocError;

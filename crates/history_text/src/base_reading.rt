@@ -9,7 +9,7 @@ ghost use Rattle.history_text.specs.BaseReading.{base_line_at, beside_at, folded
 
 use crate::base_line::BaseLine;
 use history::arrival::Arrival;
-use history::base::{SeatBase, Sleeper, LinePlace};
+use history::base::{LinePlace, SeatBase, Sleeper};
 use history::entry::{End, Entry, Mode, Word};
 use history::words::Words;
 

@@ -10,7 +10,7 @@ ghost use Rattle.history_text.specs.BaseRules.{AllSeated, IsFirst, IsFree, IsSea
 
 use crate::base_line::BaseLine;
 use crate::waiting_rules::{above_none, below_none, gave_up, is_lock, stands_well};
-use history::base::{Base, SeatBase, Sleeper, LinePlace, opening_count};
+use history::base::{Base, LinePlace, SeatBase, Sleeper, opening_count};
 use history::header::{Header, Object};
 use std::marker::Model;
 

@@ -7,7 +7,7 @@ ghost use Rattle.history_text.specs.BaseText.{calls_sum, lines_text};
 ghost use Rattle.history_text.specs.declared.base_line.BaseLine.TheVariants.{Stands, Sleeps};
 
 use crate::base_line::{BaseLine, put_base_line};
-use history::base::{Base, SeatBase, Sleeper, LinePlace};
+use history::base::{Base, LinePlace, SeatBase, Sleeper};
 use history::header::Object;
 use std::alloc::AllocError;
 

@@ -9,7 +9,7 @@ ghost use Rattle.history.specs.Object.{is_lock};
 ghost use Rattle.history.specs.Ownership.{most_exclusive};
 ghost use Rattle.history.specs.Steps.{at_least_none};
 
-use history::base::{Base, SeatBase, LinePlace};
+use history::base::{Base, LinePlace, SeatBase};
 use history::entry::{End, Mode};
 use history::header::Object;
 
