@@ -90,7 +90,7 @@ last_may : (t : BaseSums) (b : Base) (xs : List BaseLine) (x : BaseLine) → All
 last_may t b [] x follow = follow.0
 last_may t b (y ∷ xs) x follow = last_may (with_sums t y) (with_line b y) xs x follow.1
 
--- the lines that were with_sums are those that were read
+-- the lines that the sums are of are those that were read
 lines_are : (xs : List BaseLine) (t : BaseSums) (b : Base) → SoFar xs t b → lines_read t b ≡ xs
 lines_are xs t b so = by t.entries refl
   where
@@ -117,8 +117,8 @@ module _ (t : BaseSums) (b : Base) (lines : ℕ) (is : IsUnderWay t b lines) whe
   -- ---- which line may come next
 
   pub may_next : (x : BaseLine) → GoodBeginsSo b.header (xs ++ x ∷ []) → MayFollow t b x
-  may_next x (g, more, with_sums, e) =
-      let all = good_follows b.header g (xs ++ x ∷ []) more is.range with_sums e in
+  may_next x (g, more, told, e) =
+      let all = good_follows b.header g (xs ++ x ∷ []) more is.range told e in
       let last = last_may no_sums (opening_base b.header) xs x all in
       subst (λ (z : BaseSums). MayFollow z b x) is.told
       (subst (λ (z : Base). MayFollow (sums_of xs) z x) is.base last)
@@ -141,8 +141,8 @@ module _ (t : BaseSums) (b : Base) (lines : ℕ) (is : IsUnderWay t b lines) whe
       (base_by b.header xs, whole.1, sym whole.0)
 
   pub whole_has : GoodHas b.header xs → AllSeated b.header t
-  whole_has (g, with_sums, e) =
-      let all = (good_is_told b.header g is.range with_sums).0 in
+  whole_has (g, told, e) =
+      let all = (good_is_told b.header g is.range told).0 in
       subst (AllSeated b.header) (ap sums_of e ∙ is.told) all
 
   -- ---- a line is taken up
@@ -162,7 +162,7 @@ module _ (t : BaseSums) (b : Base) (lines : ℕ) (is : IsUnderWay t b lines) whe
         base = ap (λ (k : Header). base_by k (lines_read (with_sums t x) (with_line b x))) header
             ∙ ap (base_by b.header) line ∙ base-append (opening_base b.header) xs (x ∷ [])
             ∙ ap (λ (z : Base). with_line z x) is.base;
-        with_sums = ap sums_of line ∙ told-append no_sums xs (x ∷ []) ∙ ap (λ (z : BaseSums). with_sums z x) is.told;
+        told = ap sums_of line ∙ told-append no_sums xs (x ∷ []) ∙ ap (λ (z : BaseSums). with_sums z x) is.told;
         count = omega (arith, ap (λ (l : List BaseLine). length l) line, length-append xs (x ∷ []), is.count);
       }
 

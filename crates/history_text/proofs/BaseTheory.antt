@@ -83,11 +83,11 @@ read_follows t a b (x ∷ xs) e read = (
   read_follows (with_sums t x) a (with_line b x) xs e read.1,
 )
 
--- Each line of a good base may follow those before it, also as it is read, and all seats are then with_sums.
+-- Each line of a good base may follow those before it, also as it is read, and all seats are then told.
 pub good_reads : (b : Base) → IsGoodOf b → AllRead (opening_base b.header) no_sums (base_lines b)
 good_reads b of = (good_told b of.range of.good of.some).follow
 
--- a good base is read as it is with_sums
+-- a good base is read as it is told
 pub good_again : (b : Base) → IsGoodOf b → said b.header (base_lines b) ≡ b
 good_again b of = (good_told b of.range of.good of.some).same
 

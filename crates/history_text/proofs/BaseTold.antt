@@ -99,7 +99,7 @@ pub record SoFar (done : List BaseLine) (t : BaseSums) (b : Base) : Type 0 where
   pub waited : Waited t b
   pub spelt : Spelt done t b
 
--- those with_sums in line and those with_sums on a condition are seats, and each of them once
+-- those told in line and those told on a condition are seats, and each of them once
 pub stands_seated : (b : Base) (p : LinePlace) → StandsWell b p → p.who.seat < b.header.seats
 stands_seated b p well = ⊎_elim (λ asks. asks.1.seat) (λ comes. comes.1.gave.seat) well
 
@@ -203,7 +203,7 @@ no_sleepers k c =
     (let e = length-each {A = List Sleeper} k.conditions (λ c. []) in omega (arith, e, l)))
     (cases_lt c k.conditions)
 
--- nothing was with_sums
+-- nothing was told
 module _ (k : Header) (range : IsInRange k) where
   no_sum : (f : SeatBase → ℕ) → f nothing ≡ 0 → total k.seats (λ i. f (seat_of (opening_base k) i)) ≡ 0
   no_sum f z =
@@ -893,7 +893,7 @@ few_free (negsuc n) f u s e l m =
     let d : u ≤ 2147483647 + s + suc n = omega (arith, m, a, b) in
     (inr (omega (arith, ints)), omega (arith, ints, d))
 
--- a base that was with_sums whole
+-- a base that was told whole
 module _ (done : List BaseLine) (t : BaseSums) (b : Base) (so : SoFar done t b) (all : AllSeated b.header t) where
   held_whole : (o : Object) → b.header.object ≡ o → HeldSoFar o t b → AreHeld o b
   held_whole (Lock p) q v = v

@@ -1,4 +1,4 @@
--- The lines of a base, with_sums one by one: what the base so far has of the whole one.
+-- The lines of a base, told one by one: what the base so far has of the whole one.
 use Rattle.std.proofs.Common.{◌≡◌, ⊎_elim, ℕ, zero, suc, ◌+◌, ◌<◌, ◌≤◌, true, false, eqb, List, [], ◌∷◌, ◌++◌, length, map, get_or, drop, refl, ap, ◌∙◌, sym, subst, arith}
 use Rattle.std.proofs.Math.ListN.{set}
 use Rattle.std.proofs.lemmas.Bool.{cases_eq}
@@ -266,7 +266,7 @@ module _ (g : Base) (range : IsInRange g.header) (long : length g.seats ≡ g.he
         condition = let c = at.condition in omega (arith, c);
       }
 
-  -- what was with_sums is this base
+  -- what was told is this base
   told_same : (done : List BaseLine) (t : BaseSums) (b : Base) → SoFar done t b →
       AtSleepers g g.header.conditions [] t b → b ≡ g
   told_same done t b so at =

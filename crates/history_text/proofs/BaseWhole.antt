@@ -1,4 +1,4 @@
--- Whatever lines of a base follow one another, more can follow until all seats are with_sums: so some good base
+-- Whatever lines of a base follow one another, more can follow until all seats are told: so some good base
 -- begins with them.
 use Rattle.std.proofs.Common.{◌≡◌, inl, inr, ⊎_elim, ℕ, zero, suc, ◌+◌, ◌-◌, ◌<◌, ◌≤◌, List, [], ◌∷◌, ◌++◌, refl, ap, sym, subst, arith}
 use Rattle.std.specs.Prelude.{ℤ, pos, neg_ℤ, FitsSigned}
@@ -77,7 +77,7 @@ may_hold t b sums (Semaphore p c) q v counted opening = (
 )
 may_hold t b sums (Latch n) q v counted opening = (refl, refl)
 
--- until all seats are with_sums
+-- until all seats are told
 pub seats_follow : (n : ℕ) (done : List BaseLine) (t : BaseSums) (b : Base) → SoFar done t b → 1 ≤ t.entries →
     t.seats + n ≡ b.header.seats →
     (more : List BaseLine) × AllRead b t more × AllSeated b.header (after_told t more)
@@ -96,7 +96,7 @@ seats_follow (suc n) done t b so some e =
     (with_line b (Seat t.seats has)) (goes_on done t b (Seat t.seats has) so may) some (omega (arith, e)) in
     (Seat t.seats has ∷ rest.0, (may, rest.1), rest.2)
 
--- the first line, if none was with_sums
+-- the first line, if none was told
 first_follows : (t : BaseSums) (b : Base) → t.entries ≡ 0 → (o : Object) → b.header.object ≡ o →
     (x : BaseLine) × MayFollow t b x × (1 ≤ (with_sums t x).entries) × ((with_sums t x).seats ≡ t.seats)
     × ((with_line b x).header ≡ b.header)

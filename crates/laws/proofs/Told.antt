@@ -1,4 +1,4 @@
--- What a list of steps is replies, with short names for the steps and answers.
+-- What a list of steps is answered, with short names for the steps and answers.
 use Rattle.std.specs.Prelude.{ℕ, List, [], length, Some, None, Result, Ok, Err, ℤ}
 use Rattle.history.specs.declared.entry.End.{End}
 use Rattle.history.specs.declared.entry.End.TheVariants as end
