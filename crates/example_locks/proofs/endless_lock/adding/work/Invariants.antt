@@ -1,0 +1,5 @@
+use Rattle.monitor.specs.Stepping.{IsSame}
+use Rattle.example_locks.proofs.endless_lock.adding.work.Given as goal
+
+abbrev pub invariant-loop : goal.invariant-loop
+invariant-loop g l = IsSame l.fn.pass l.worker
