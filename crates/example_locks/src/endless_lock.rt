@@ -1,12 +1,13 @@
 //! A lock that runs on past the cap of its history.
 //!
-//! Four threads share a lock whose history has room for 64 entries. Each thread locks, adds one to a number, and
-//! unlocks, over and over. A call that finds the history full folds all entries into the base and goes on, since the
-//! lock is one of [`WhenFull::Trim`](monitor_fronts::WhenFull). So any number of calls is made in the memory of 64
+//! Four threads share a lock whose history has room for 64 entries. Each thread locks, adds one to a number,
+//! and unlocks, over and over. A call that finds the history full folds all entries into the base and goes
+//! on, as a front made by `ReentrantLock::of` does. So any number of calls is made in the memory of 64
 //! entries.
 //!
-//! `example_locks endless_lock` makes 8,000 calls, and `example_locks endless_lock 10000000` makes so many. Prints how
-//! many calls were made and what the number is, and the audit's verdict on the entries since the last fold.
+//! `example_locks endless_lock` makes 8,000 calls. `example_locks endless_lock 10000000` makes 10,000,000.
+//! Prints how many calls were made and what the number is, and the audit's verdict on the entries since the
+//! last fold.
 
 ghost use Rattle.std.specs.Prelude.{◌≡◌, ◌≤◌, All, IfOk};
 
@@ -68,7 +69,8 @@ fn work_in_threads<R: Threads + Wait + Clock + Sync>(
         rt,
         passes,
         &|pass: Pass| -> Pass
-            requires { (pass.lock ≡ lock.now.monitor.now) × (lock.now.monitor.now.header.seats ≤ parking.now) }
+            requires { (pass.lock ≡ lock.now.monitor.now)
+                × (lock.now.monitor.now.header.seats ≤ parking.now) }
             ensures { result.lock ≡ lock.entry.now.monitor.now }
         { work(rt, parking, lock, sum, pass, turns) },
     )?;

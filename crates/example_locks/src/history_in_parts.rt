@@ -1,4 +1,4 @@
-//! A lock that runs on past the cap of its history.
+//! A lock that runs on past the cap of its history, which is printed in parts.
 //!
 //! Two threads, as seats of a core, take turns at a lock, in rounds of four calls: seat 0 acquires, seat 1
 //! joins the queue, seat 0 releases, seat 1 is granted and releases. Whenever the history has as many entries
@@ -6,9 +6,9 @@
 //! calls in the memory of one part. Each part is a history text, which `aqs audit` judges by itself: the
 //! lines of its base are the state that the parts before it left.
 //!
-//! `example_locks history_in_parts` makes 12 rounds in parts of 17 entries. `example_locks history_in_parts ROUNDS
-//! ENTRIES` chooses both numbers: `example_locks history_in_parts 25000000 1000000` makes 100,000,000 calls in
-//! 125 parts. `checks/parts.py` audits the parts one after the other.
+//! `example_locks history_in_parts` makes 12 rounds in parts of 17 entries. `example_locks history_in_parts
+//! ROUNDS ENTRIES` chooses both numbers: `example_locks history_in_parts 25000000 1000000` makes 100,000,000
+//! calls in 125 parts. `checks/parts.py` audits the parts one after the other.
 //!
 //! Proved for a writer whose bytes are known: if `play` returns without a failure, it has written exactly
 //! five entries for each round. The parts are legal, and each part begins on the fold of those before it.

@@ -1,15 +1,15 @@
--- A call of a front type on a history that may be full: one that has no room for the call's first entry and for all
--- that is owed.
+-- A call of a front type on a history that may be full: one without room for the call's first entry and for
+-- all that is owed.
 --
--- With Refuse it is the call of the monitor. If the history is full, the reply is HistoryFull, and nothing was
--- recorded or folded.
+-- With Refuse it is the call of the monitor. If the history is full, the reply is HistoryFull, and nothing
+-- was recorded or folded.
 --
 -- With Trim it is one of three:
 -- - There was room. It is the call of the monitor, and its reply is not HistoryFull.
--- - There was none. All entries were folded into the base in that turn of the lock, and it is the call of the monitor
---   from there. Its reply is HistoryFull only if a history without entries has no room.
--- - There was none, and more entries would be folded than there may be. The reply is TrimFull, and nothing was
---   recorded or folded.
+-- - There was none. All entries were folded into the base in that turn of the lock, and it is the call of the
+--   monitor from there. Its reply is HistoryFull only if a history without entries has no room.
+-- - There was none, and more entries would be folded than there may be. The reply is TrimFull, and nothing
+--   was recorded or folded.
 use Rattle.std.specs.Prelude.{ℕ, Result}
 use Rattle.history.specs.declared.entry.Entry.{Entry}
 use Rattle.history.specs.declared.entry.Mode.{Mode}
@@ -23,7 +23,8 @@ use Rattle.monitor.specs.declared.machine.Request.TheVariants as request
 use Rattle.monitor.specs.declared.room.WhenFull.{WhenFull}
 
 -- an acquire of `n` in a mode, which waits as `how` says
-abbrev pub Acquires : WhenFull → (Deed → Type 0) → Mode → ℕ → How → Shown → Shown → Result Entry Fault → Type 0
+abbrev pub Acquires : WhenFull → (Deed → Type 0) → Mode → ℕ → How → Shown → Shown →
+    Result Entry Fault → Type 0
 Acquires w did m n how old new reply = IsCallIn w did old (request.Acquire m n) how reply new
 
 -- an await on a condition

@@ -21,11 +21,11 @@ use permit::Parking;
 use std::sync::Wait;
 use std::time::Clock;
 
-/// `java.util.concurrent.CountDownLatch` of Java SE 8 over a monitor.
-/// A call returns an `Err` where Java throws.
+/// `java.util.concurrent.CountDownLatch` of Java SE 8 over a monitor. A call returns an `Err` where Java
+/// throws.
 ///
-/// A call that finds the history full folds it and goes on, or returns `Err(HistoryFull)` if `when_full` says so. Then
-/// a count down may lack room too. Each call costs one entry, and one that waits two.
+/// A call that finds the history full folds it and goes on, or returns `Err(HistoryFull)` if `when_full` says
+/// so. Then a count down may lack room too. Each call costs one entry, and one that waits two.
 #[derive(Clone, Copy)]
 pub struct Latch<'m> {
     pub monitor: &'m Monitor<LatchHooks>,
@@ -34,7 +34,8 @@ pub struct Latch<'m> {
 }
 
 impl<'m> Latch<'m> {
-    /// Over this monitor, which it borrows. A call that finds the history full folds it ([`WhenFull::Trim`]).
+    /// Over this monitor, which it borrows. A call that finds the history full folds it and goes on
+    /// ([`WhenFull::Trim`]).
     pub fn of(monitor: &'m Monitor<LatchHooks>) -> Self
         ensures monitor { result.monitor.now ≡ monitor.now }
         ensures when_full { result.when_full ≡ Trim }

@@ -27,8 +27,9 @@ use std::time::Clock;
 /// `java.util.concurrent.locks.ReentrantLock` of Java SE 8 over a monitor. The thread is the pass, conditions
 /// have numbers, and a call returns an `Err` where Java throws.
 ///
-/// A call that finds the history full folds it and goes on, or returns `Err(HistoryFull)` if `when_full` says so. An
-/// unlock by the owner never lacks room. A lock and an unlock cost one entry each, and a lock that waits two.
+/// A call that finds the history full folds it and goes on, or returns `Err(HistoryFull)` if `when_full` says
+/// so. An unlock by the owner never lacks room. A lock and an unlock cost one entry each, and a lock that
+/// waits two.
 #[derive(Clone, Copy)]
 pub struct ReentrantLock<'m> {
     pub monitor: &'m Monitor<LockHooks>,
@@ -37,7 +38,8 @@ pub struct ReentrantLock<'m> {
 }
 
 impl<'m> ReentrantLock<'m> {
-    /// Over this monitor, which it borrows. A call that finds the history full folds it ([`WhenFull::Trim`]).
+    /// Over this monitor, which it borrows. A call that finds the history full folds it and goes on
+    /// ([`WhenFull::Trim`]).
     pub fn of(monitor: &'m Monitor<LockHooks>) -> Self
         ensures monitor { result.monitor.now ≡ monitor.now }
         ensures when_full { result.when_full ≡ Trim }
@@ -134,8 +136,8 @@ impl<'m> ReentrantLock<'m> {
         whether(self.acquire_as(rt, parking, pass, How::Timed(ms)))
     }
 
-    /// `ReentrantLock.unlock()`: `Err(NotOwner)` where Java throws `IllegalMonitorStateException`. It can't fail
-    /// if the pass holds: room and memory for it were reserved when the hold was recorded.
+    /// `ReentrantLock.unlock()`: `Err(NotOwner)` where Java throws `IllegalMonitorStateException`. It can't
+    /// fail if the pass holds: room and memory for it were reserved when the hold was recorded.
     pub fn unlock<P: Parking, R: Wait + Clock>(
         &self,
         rt: &R,

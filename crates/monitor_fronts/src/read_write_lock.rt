@@ -21,12 +21,12 @@ use read_write::hooks::RwHooks;
 use std::sync::Wait;
 use std::time::Clock;
 
-/// `java.util.concurrent.locks.ReentrantReadWriteLock` of Java SE 8 over a monitor.
-/// The methods of its write lock begin with `write_`, those of its read lock with `read_`.
-/// A call returns an `Err` where Java throws.
+/// `java.util.concurrent.locks.ReentrantReadWriteLock` of Java SE 8 over a monitor. The methods of its write
+/// lock begin with `write_`, those of its read lock with `read_`. A call returns an `Err` where Java throws.
 ///
-/// A call that finds the history full folds it and goes on, or returns `Err(HistoryFull)` if `when_full` says so. An
-/// unlock by an owner never lacks room. A lock and an unlock cost one entry each, and a lock that waits two.
+/// A call that finds the history full folds it and goes on, or returns `Err(HistoryFull)` if `when_full` says
+/// so. An unlock by an owner never lacks room. A lock and an unlock cost one entry each, and a lock that
+/// waits two.
 #[derive(Clone, Copy)]
 pub struct ReadWriteLock<'m> {
     pub monitor: &'m Monitor<RwHooks>,
@@ -35,7 +35,8 @@ pub struct ReadWriteLock<'m> {
 }
 
 impl<'m> ReadWriteLock<'m> {
-    /// Over this monitor, which it borrows. A call that finds the history full folds it ([`WhenFull::Trim`]).
+    /// Over this monitor, which it borrows. A call that finds the history full folds it and goes on
+    /// ([`WhenFull::Trim`]).
     pub fn of(monitor: &'m Monitor<RwHooks>) -> Self
         ensures monitor { result.monitor.now ≡ monitor.now }
         ensures when_full { result.when_full ≡ Trim }

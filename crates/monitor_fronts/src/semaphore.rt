@@ -21,11 +21,12 @@ use permit::Parking;
 use std::sync::Wait;
 use std::time::Clock;
 
-/// `java.util.concurrent.Semaphore` of Java SE 8 over a monitor. It may be opened with fewer than 0
-/// permits, as Java's. A call returns an `Err` where Java throws.
+/// `java.util.concurrent.Semaphore` of Java SE 8 over a monitor. It may be opened with fewer than 0 permits,
+/// as Java's. A call returns an `Err` where Java throws.
 ///
-/// A call that finds the history full folds it and goes on, or returns `Err(HistoryFull)` if `when_full` says so. Then
-/// a release may lack room too. An acquire and a release cost one entry each, and an acquire that waits two.
+/// A call that finds the history full folds it and goes on, or returns `Err(HistoryFull)` if `when_full` says
+/// so. Then a release may lack room too. An acquire and a release cost one entry each, and an acquire that
+/// waits two.
 #[derive(Clone, Copy)]
 pub struct Semaphore<'m> {
     pub monitor: &'m Monitor<SemaphoreHooks>,
@@ -34,7 +35,8 @@ pub struct Semaphore<'m> {
 }
 
 impl<'m> Semaphore<'m> {
-    /// Over this monitor, which it borrows. A call that finds the history full folds it ([`WhenFull::Trim`]).
+    /// Over this monitor, which it borrows. A call that finds the history full folds it and goes on
+    /// ([`WhenFull::Trim`]).
     pub fn of(monitor: &'m Monitor<SemaphoreHooks>) -> Self
         ensures monitor { result.monitor.now ≡ monitor.now }
         ensures when_full { result.when_full ≡ Trim }

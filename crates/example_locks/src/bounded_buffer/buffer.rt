@@ -23,8 +23,8 @@ const MOMENT: u32 = 100;
 
 const PLACES: u64 = 2;
 
-/// Items in the order in which they were put. Only the owner of the lock reads and writes them. No contract says
-/// so: `example_guards` has a lock that guards its buffer.
+/// Items in the order in which they were put. Only the owner of the lock reads and writes them. No contract
+/// says so: `example_guards` has a lock that guards its buffer.
 #[derive(Drop)]
 pub struct Buffer {
     places: [AtomicU64; 2],
@@ -68,8 +68,8 @@ impl Buffer {
     }
 }
 
-/// Waits for a free place, and puts an item there, as the owner of the lock. Returns false if the other thread has
-/// stopped.
+/// Waits for a free place, and puts an item there, as the owner of the lock. Returns false if the other
+/// thread has stopped.
 fn put_alone<P: Parking, R: Wait + Clock>(
     rt: &R,
     parking: &P,
@@ -124,7 +124,7 @@ fn take_alone<P: Parking, R: Wait + Clock>(
     unreachable!()
 }
 
-/// Puts an item under the lock, unless the other thread has stopped. It unlocks in any case, also after a fault.
+/// Puts an item under the lock, unless the other thread has stopped. It unlocks also after a fault.
 fn put<P: Parking, R: Wait + Clock>(
     rt: &R,
     parking: &P,
@@ -146,7 +146,7 @@ fn put<P: Parking, R: Wait + Clock>(
     }
 }
 
-/// Takes an item under the lock, unless the other thread has stopped. It unlocks in any case, also after a fault.
+/// Takes an item under the lock, unless the other thread has stopped. It unlocks also after a fault.
 fn take<P: Parking, R: Wait + Clock>(
     rt: &R,
     parking: &P,
