@@ -9,7 +9,8 @@
 //! Prints how many calls were made and what the number is, and the audit's verdict on the entries since the
 //! last fold.
 
-ghost use Rattle.std.specs.Prelude.{◌≡◌, ◌≤◌, All, IfOk};
+ghost use Rattle.std.specs.Prelude.{◌≡◌, ◌≤◌, true, All, IfOk};
+ghost use Rattle.history.specs.Object.{is_lock};
 
 mod adding;
 
@@ -62,6 +63,7 @@ fn work_in_threads<R: Threads + Wait + Clock + Sync>(
     turns: u64,
 ) -> Result<Vec<Pass>, Fault>
     requires places { lock.now.monitor.now.header.seats ≤ parking.now }
+    requires lock { is_lock lock.now.monitor.now.header.object ≡ true }
     requires own { All (λ p. p.lock ≡ lock.now.monitor.now) passes.items }
     ensures { IfOk result (λ v. All (λ p. p.lock ≡ lock.now.monitor.now) v.items) }
 {
@@ -70,7 +72,8 @@ fn work_in_threads<R: Threads + Wait + Clock + Sync>(
         passes,
         &|pass: Pass| -> Pass
             requires { (pass.lock ≡ lock.now.monitor.now)
-                × (lock.now.monitor.now.header.seats ≤ parking.now) }
+                × (lock.now.monitor.now.header.seats ≤ parking.now)
+                × (is_lock lock.now.monitor.now.header.object ≡ true) }
             ensures { result.lock ≡ lock.entry.now.monitor.now }
         { work(rt, parking, lock, sum, pass, turns) },
     )?;

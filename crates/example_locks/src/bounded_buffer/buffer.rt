@@ -136,7 +136,8 @@ fn put<P: Parking, R: Wait + Clock>(
     requires is_of { pass.old.lock ≡ lock.now.monitor.now }
     requires places { lock.now.monitor.now.header.seats ≤ P.seats parking.now }
     requires lock { is_lock lock.now.monitor.now.header.object ≡ true }
-    ensures { IsSame pass.old pass.new }
+    ensures same { IsSame pass.old pass.new }
+    ensures keeps { holds pass.new ≡ holds pass.old }
 {
     lock.lock(rt, parking, pass)?;
     let outcome = put_alone(rt, parking, lock, buffer, pass, item);
@@ -157,7 +158,8 @@ fn take<P: Parking, R: Wait + Clock>(
     requires is_of { pass.old.lock ≡ lock.now.monitor.now }
     requires places { lock.now.monitor.now.header.seats ≤ P.seats parking.now }
     requires lock { is_lock lock.now.monitor.now.header.object ≡ true }
-    ensures { IsSame pass.old pass.new }
+    ensures same { IsSame pass.old pass.new }
+    ensures keeps { holds pass.new ≡ holds pass.old }
 {
     lock.lock(rt, parking, pass)?;
     let outcome = take_alone(rt, parking, lock, buffer, pass);

@@ -1,6 +1,8 @@
 //! The number, and the threads that add to it.
-ghost use Rattle.std.specs.Prelude.{◌≡◌, ◌≤◌};
+ghost use Rattle.std.specs.Prelude.{◌≡◌, ◌≤◌, true};
+ghost use Rattle.history.specs.Object.{is_lock};
 ghost use Rattle.monitor.specs.Stepping.{IsSame};
+ghost use Rattle.monitor_fronts.specs.Holding.{holds};
 
 use history::fault::Fault;
 use monitor::Pass;
@@ -44,7 +46,7 @@ impl Sum {
     }
 }
 
-/// Adds one under the lock. If the lock isn't acquired, nothing is added, and nothing is held.
+/// Adds one under the lock. If it isn't acquired, nothing is added. Nothing more is held afterwards.
 fn turn<R: Wait + Clock>(
     rt: &R,
     parking: &ThreadParking,
@@ -54,11 +56,16 @@ fn turn<R: Wait + Clock>(
 ) -> Result<(), Fault>
     requires is_of { pass.old.lock ≡ lock.now.monitor.now }
     requires places { lock.now.monitor.now.header.seats ≤ parking.now }
-    ensures { IsSame pass.old pass.new }
+    requires lock { is_lock lock.now.monitor.now.header.object ≡ true }
+    ensures same { IsSame pass.old pass.new }
+    ensures keeps { holds pass.new ≡ holds pass.old }
 {
     lock.lock(rt, parking, pass)?;
     sum.add_one();
-    lock.unlock(rt, parking, pass)
+    match lock.unlock(rt, parking, pass) {
+        Ok(()) => Ok(()),
+        Err(_) => unreachable!(),
+    }
 }
 
 /// Takes all turns of one thread. One that ends with a fault is counted, and is the last.
@@ -72,7 +79,9 @@ pub fn work<R: Wait + Clock>(
 ) -> Pass
     requires is_of { pass.lock ≡ lock.now.monitor.now }
     requires places { lock.now.monitor.now.header.seats ≤ parking.now }
-    ensures { IsSame pass result }
+    requires lock { is_lock lock.now.monitor.now.header.object ≡ true }
+    ensures same { IsSame pass result }
+    ensures keeps { holds result ≡ holds pass }
 {
     let mut worker = pass;
     for _ in 0..turns {
