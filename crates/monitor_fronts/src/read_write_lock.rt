@@ -1,5 +1,6 @@
 //! A lock that one writer or many readers have.
-ghost use Rattle.std.specs.Prelude.{◌≡◌, ◌≤◌, false};
+ghost use Rattle.std.specs.Prelude.{◌≡◌, ◌<◌, ◌≤◌, false, true, IsOk};
+ghost use Rattle.history.specs.Object.{is_lock};
 ghost use Rattle.history.specs.Phase.{waits};
 ghost use Rattle.history.specs.declared.entry.Mode.TheVariants.{X, S};
 ghost use Rattle.history.specs.declared.step.Step.TheVariants.{Try, Give, Signal, SignalAll};
@@ -8,6 +9,7 @@ ghost use Rattle.monitor.specs.Stepping.{IsSame, IsEntered};
 ghost use Rattle.monitor.specs.declared.how.How.TheVariants.{Plain, Interruptible, Timed};
 ghost use Rattle.monitor.specs.declared.room.WhenFull.TheVariants.{Trim};
 ghost use Rattle.monitor_fronts.specs.Full.{Acquires, Awaits, Steps};
+ghost use Rattle.monitor_fronts.specs.Holding.{holds};
 ghost use Rattle.monitor_fronts.specs.Told.{Tells, done_of, whether_of};
 ghost use Rattle.word_lock.specs.Point.{Before};
 
@@ -129,7 +131,8 @@ impl<'m> ReadWriteLock<'m> {
         whether(self.acquire_as(rt, parking, pass, Mode::X, How::Timed(ms)))
     }
 
-    /// `WriteLock.unlock()`: `Err(NotOwner)` where Java throws `IllegalMonitorStateException`.
+    /// `WriteLock.unlock()`: `Err(NotOwner)` where Java throws `IllegalMonitorStateException`. It can't fail if the
+    /// pass has the write lock: room and memory for it were reserved when the hold was recorded.
     pub fn write_unlock<P: Parking, R: Wait + Clock>(
         &self,
         rt: &R,
@@ -143,7 +146,9 @@ impl<'m> ReadWriteLock<'m> {
         ensures shows { IsSound pass.new }
         ensures entered { Tells done_of
             (λ reply. IsEntered (P.did parking.now) pass.old (Give X 1) reply pass.new) result }
+        ensures owner { is_lock self.now.monitor.now.header.object ≡ true → 0 < holds pass.old → IsOk result }
     {
+        pass.is_true();
         done(self.monitor.release(rt, parking, pass, Mode::X, 1))
     }
 
