@@ -1,5 +1,5 @@
 -- The exclusive holds of a pass.
-use Rattle.std.specs.Prelude.{◌≡◌, ◌+◌, ℕ, Bool, true, false, Result, Ok, Err}
+use Rattle.std.specs.Prelude.{◌≡◌, ◌+◌, ℕ, Bool, true, Result, Ok, Err}
 use Rattle.history.specs.Object.{is_lock}
 use Rattle.history.specs.declared.entry.Mode.TheVariants.{X}
 use Rattle.history.specs.declared.fault.Fault.{Fault}

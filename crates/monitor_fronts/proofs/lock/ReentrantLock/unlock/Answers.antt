@@ -1,10 +1,10 @@
-use Rattle.std.proofs.Common.{◌≡◌, Bool, true, Result, Ok, IsOk, refl, sym, ap, ◌∙◌, subst}
+use Rattle.std.proofs.Common.{◌≡◌, true, Result, IsOk, refl, sym, ap, ◌∙◌, subst}
 use Rattle.history.specs.declared.fault.Fault.{Fault}
 use Rattle.history.specs.Object.{is_lock}
 use Rattle.history.specs.declared.entry.Mode.TheVariants.{X}
 use Rattle.history.specs.declared.step.Step.TheVariants.{Give}
 use Rattle.word_lock.specs.Ticket.{LockId}
-use Rattle.monitor_fronts.specs.Told.{done_of, without}
+use Rattle.monitor_fronts.specs.Told.{without}
 use Rattle.monitor_fronts.proofs.Owning.{give_loses, give_told}
 use Rattle.monitor_fronts.proofs.MakingRoom.{entered_begins}
 use Rattle.monitor_fronts.proofs.lock.ReentrantLock.unlock.Goals as goal
