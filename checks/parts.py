@@ -2,7 +2,7 @@
 """The parts of a lock that runs on past its cap, audited one after the other:
 checks/parts.py EXAMPLE_LOCKS AQS [ROUNDS [ENTRIES]].
 
-The parts are those of `example_locks endless_lock`. Each is a history text that `aqs audit` must call legal.
+The parts are those of `example_locks history_in_parts`. Each is a history text that `aqs audit` must call legal.
 Its base must say what the part before it left: so many entries, and of each seat the calls and holds, which
 are counted here once more. The last line is 'N passed, M failed'.
 """
@@ -56,7 +56,7 @@ def main():
     program, aqs = sys.argv[1:3]
     rounds, entries = (sys.argv[3:5] + ["200", "37"])[:2] if len(sys.argv) < 5 else sys.argv[3:5]
     begun, before, passed, failed = time.time(), (0, [0, 0], [0, 0]), 0, 0
-    lock = subprocess.Popen([program, "endless_lock", rounds, entries], stdout=subprocess.PIPE)
+    lock = subprocess.Popen([program, "history_in_parts", rounds, entries], stdout=subprocess.PIPE)
     for lines in parts(lock.stdout):
         audit = subprocess.run([aqs, "audit"], input=b"".join(lines), capture_output=True)
         good = audit.returncode == 0 and audit.stdout.startswith(b"legal\n") and begins_with(lines, before)

@@ -2,8 +2,9 @@
 //!
 //! Prints the sum of what was taken, and the audit's verdict on the history of the lock.
 
-ghost use Rattle.std.specs.Prelude.{◌≡◌, ◌≤◌, All, IfOk, IfSome, length};
+ghost use Rattle.std.specs.Prelude.{◌≡◌, ◌≤◌, true, All, IfOk, IfSome, length};
 ghost use Rattle.frame.specs.Core.{header_of};
+ghost use Rattle.history.specs.Object.{is_lock};
 ghost use Rattle.history.specs.declared.header.Object.TheVariants.{Lock};
 ghost use Rattle.history.specs.declared.header.Policy.TheVariants.{Fair};
 ghost use Rattle.example_locks.specs.declared.bounded_buffer.Failure.TheVariants.{Call};
@@ -16,6 +17,7 @@ use audit::verdict::{Verdict, check};
 use history::fault::Fault;
 use history::header::{Header, Object, Policy};
 use monitor::{Monitor, Pass};
+use monitor_fronts::{ReentrantLock, open_lock};
 use permit::ThreadParking;
 use reentrant::lock::LockHooks;
 use std::alloc::Global;
@@ -74,12 +76,13 @@ type Exchanged = (Result<Pass, Fault>, Result<(Pass, u64), Fault>);
 fn exchange<R: Threads + Wait + Clock + Sync>(
     rt: &R,
     parking: &ThreadParking,
-    monitor: &Monitor<LockHooks>,
+    lock: &ReentrantLock,
     producer: Pass,
     consumer: Pass,
 ) -> Option<Exchanged>
-    requires own { (producer.lock ≡ monitor.now) × (consumer.lock ≡ monitor.now) }
-    requires places { monitor.now.header.seats ≤ parking.now }
+    requires own { (producer.lock ≡ lock.now.monitor.now) × (consumer.lock ≡ lock.now.monitor.now) }
+    requires lock { is_lock lock.now.monitor.now.header.object ≡ true }
+    requires places { lock.now.monitor.now.header.seats ≤ parking.now }
     ensures put { IfSome result (λ r. IfOk r.0 (IsSame producer)) }
     ensures taken { IfSome result (λ r. IfOk r.1 (λ t. IsSame consumer t.0)) }
 {
@@ -89,8 +92,9 @@ fn exchange<R: Threads + Wait + Clock + Sync>(
         thread::scope_env(),
         rt,
         |scope| -> Option<Exchanged>
-            requires { (producer.lock ≡ monitor.now) × (consumer.lock ≡ monitor.now)
-                × (monitor.now.header.seats ≤ parking.now) }
+            requires { (producer.lock ≡ lock.now.monitor.now) × (consumer.lock ≡ lock.now.monitor.now)
+                × (lock.now.monitor.now.header.seats ≤ parking.now)
+                × (is_lock lock.now.monitor.now.header.object ≡ true) }
             ensures put { IfSome result (λ r. IfOk r.0 (IsSame producer)) }
             ensures taken { IfSome result (λ r. IfOk r.1 (λ t. IsSame consumer t.0)) }
         {
@@ -100,14 +104,16 @@ fn exchange<R: Threads + Wait + Clock + Sync>(
             let started = scope.spawn_with(
                 promise,
                 move || -> Result<Pass, Fault>
-                    requires { (producer.lock ≡ monitor.now) × (monitor.now.header.seats ≤ parking.now) }
+                    requires { (producer.lock ≡ lock.now.monitor.now)
+                        × (lock.now.monitor.now.header.seats ≤ parking.now)
+                        × (is_lock lock.now.monitor.now.header.object ≡ true) }
                     ensures { IfOk result (IsSame producer) }
-                { produce(rt, parking, monitor, shared, producer, ITEMS) },
+                { produce(rt, parking, lock, shared, producer, ITEMS) },
             );
             let Ok(handle) = started else {
                 return None;
             };
-            let taken = consume(rt, parking, monitor, shared, consumer, ITEMS);
+            let taken = consume(rt, parking, lock, shared, consumer, ITEMS);
             Some((handle.join(rt), taken))
         },
     )
@@ -117,13 +123,14 @@ fn exchange<R: Threads + Wait + Clock + Sync>(
 fn exchange_all<R: Threads + Wait + Clock + Sync>(
     rt: &R,
     parking: &ThreadParking,
-    monitor: &Monitor<LockHooks>,
+    lock: &ReentrantLock,
     passes: Vec<Pass>,
 ) -> Result<(Vec<Pass>, u64), Failure>
     requires all { length passes.items ≡ 2 }
-    requires own { All (λ p. p.lock ≡ monitor.now) passes.items }
-    requires places { monitor.now.header.seats ≤ parking.now }
-    ensures { IfOk result (λ r. All (λ p. p.lock ≡ monitor.now) r.0.items) }
+    requires own { All (λ p. p.lock ≡ lock.now.monitor.now) passes.items }
+    requires lock { is_lock lock.now.monitor.now.header.object ≡ true }
+    requires places { lock.now.monitor.now.header.seats ≤ parking.now }
+    ensures { IfOk result (λ r. All (λ p. p.lock ≡ lock.now.monitor.now) r.0.items) }
 {
     let mut passes = passes;
     let Some(consumer) = passes.pop() else {
@@ -132,7 +139,7 @@ fn exchange_all<R: Threads + Wait + Clock + Sync>(
     let Some(producer) = passes.pop() else {
         unreachable!()
     };
-    let Some((put, taken)) = exchange(rt, parking, monitor, producer, consumer) else {
+    let Some((put, taken)) = exchange(rt, parking, lock, producer, consumer) else {
         return Err(Failure::NotStarted);
     };
     let (consumer, sum) = taken?;
@@ -178,15 +185,14 @@ fn close<R: Wait>(
 /// Runs the example with a new lock, closes it and judges its history.
 fn play<R: Threads + Wait + Clock + Sync>(rt: &R, alloc: Global) -> Result<Told, Failure> {
     let parking = ThreadParking::open(rt, alloc, HEADER.seats)?;
-    let hooks = LockHooks::open(Policy::Fair);
-    let (monitor, passes) = Monitor::open(
+    let (monitor, passes) = open_lock(
         alloc,
-        hooks,
+        Policy::Fair,
         HEADER.seats,
         HEADER.conditions,
         HEADER.cap,
     )?;
-    let (passes, sum) = exchange_all(rt, &parking, &monitor, passes)?;
+    let (passes, sum) = exchange_all(rt, &parking, &ReentrantLock::of(&monitor), passes)?;
     Ok(close(rt, alloc, monitor, passes, sum)?)
 }
 

@@ -1,56 +1,125 @@
 //! A lock that runs on past the cap of its history.
 //!
-//! Two threads, as seats of a core, take turns at a lock, in rounds of four calls: seat 0 acquires, seat 1
-//! joins the queue, seat 0 releases, seat 1 is granted and releases. Whenever the history has as many entries
-//! as a part, its text is printed, and the entries are folded into the base. So the lock makes any number of
-//! calls in the memory of one part. Each part is a history text, which `aqs audit` judges by itself: the
-//! lines of its base are the state that the parts before it left.
+//! Four threads share a lock whose history has room for 64 entries. Each thread locks, adds one to a number,
+//! and unlocks, over and over. A call that finds the history full folds all entries into the base and goes
+//! on, as a front made by `ReentrantLock::of` does. So any number of calls is made in the memory of 64
+//! entries.
 //!
-//! `example_locks endless_lock` makes 12 rounds in parts of 17 entries. `example_locks endless_lock ROUNDS
-//! ENTRIES` chooses both numbers: `example_locks endless_lock 25000000 1000000` makes 100,000,000 calls in
-//! 125 parts. `checks/parts.py` audits the parts one after the other.
-//!
-//! Proved for a writer whose bytes are known: if `play` returns without a failure, it has written exactly
-//! five entries for each round. The parts are legal, and each part begins on the fold of those before it.
+//! `example_locks endless_lock` makes 8,000 calls. `example_locks endless_lock 10000000` makes 10,000,000.
+//! Prints how many calls were made and what the number is, and the audit's verdict on the entries since the
+//! last fold.
 
-mod failure;
-mod parts;
+ghost use Rattle.std.specs.Prelude.{◌≡◌, ◌≤◌, true, All, IfOk};
+ghost use Rattle.history.specs.Object.{is_lock};
 
-ghost use Rattle.std.specs.Prelude.{◌≤◌};
+mod adding;
 
-use crate::endless_lock::parts::play;
-use std::io;
+use crate::endless_lock::adding::{Sum, work};
+use history::fault::Fault;
+use history::header::{Header, Object, Policy};
+use monitor::Pass;
+use monitor_audit::{Findings, close_and_judge};
+use monitor_fronts::{ReentrantLock, open_lock};
+use permit::ThreadParking;
+use std::alloc::Global;
+use std::sync::Wait;
+use std::thread::Threads;
+use std::time::Clock;
+use std::{io, thread};
 
-/// The rounds and the entries of a part if the command line names none.
-const FEW: (u64, u64) = (12, 17);
+/// The calls in all, if the command line names no number.
+const FEW: u64 = 8_000;
 
-/// The fewest and the most entries of a part.
-const FEWEST: u64 = 8;
+/// A turn of a thread is two calls.
+const CALLS_IN_A_TURN: u64 = 2;
 
-const MOST: u64 = 4_000_000_000;
+const THREADS: u16 = 4;
 
-/// Reads the rounds and the entries of a part. They are the words after the name of the example.
-fn asked(words: &[String]) -> (u64, u64)
-    ensures { (8 ≤ result.1) × (result.1 ≤ 4000000000) }
-{
-    let rounds = words
+const HEADER: Header = Header {
+    object: Object::Lock(Policy::NonFair),
+    seats: THREADS,
+    conditions: 0,
+    cap: 64,
+};
+
+/// Reads how many calls are asked for. It is the word after the name of the example.
+fn asked(words: &[String]) -> u64 {
+    let calls = words
         .get(1)
         .and_then(|word| word.as_str().parse::<u64>().ok());
-    let entries = words
-        .get(2)
-        .and_then(|word| word.as_str().parse::<u64>().ok());
-    match (rounds, entries) {
-        (Some(rounds), Some(entries)) => (rounds, entries.clamp(FEWEST, MOST)),
-        _ => FEW,
+    match calls {
+        Some(calls) => calls,
+        None => FEW,
     }
 }
 
-/// Runs the lock as the words ask. The first word is the name of the example.
-pub fn run<R: Print + Eprint + AllocGlobal>(rt: &R, words: &[String]) -> io::Result<()> {
-    let (rounds, entries) = asked(words);
-    let mut out = io::writer(rt);
-    match play(rt.alloc(), rounds, entries, &mut out) {
-        Ok(()) => Ok(()),
-        Err(failure) => eprintln!(rt; "endless_lock: {failure}"),
-    }
+/// Each thread works with its own pass. Returns the passes.
+fn work_in_threads<R: Threads + Wait + Clock + Sync>(
+    rt: &R,
+    parking: &ThreadParking,
+    lock: &ReentrantLock,
+    sum: &Sum,
+    passes: Vec<Pass>,
+    turns: u64,
+) -> Result<Vec<Pass>, Fault>
+    requires places { lock.now.monitor.now.header.seats ≤ parking.now }
+    requires lock { is_lock lock.now.monitor.now.header.object ≡ true }
+    requires own { All (λ p. p.lock ≡ lock.now.monitor.now) passes.items }
+    ensures { IfOk result (λ v. All (λ p. p.lock ≡ lock.now.monitor.now) v.items) }
+{
+    let passes = thread::map_vec(
+        rt,
+        passes,
+        &|pass: Pass| -> Pass
+            requires { (pass.lock ≡ lock.now.monitor.now)
+                × (lock.now.monitor.now.header.seats ≤ parking.now)
+                × (is_lock lock.now.monitor.now.header.object ≡ true) }
+            ensures { result.lock ≡ lock.entry.now.monitor.now }
+        { work(rt, parking, lock, sum, pass, turns) },
+    )?;
+    Ok(passes)
+}
+
+/// Runs the example, closes the lock and judges its history.
+fn play<R: Threads + Wait + Clock + Sync>(
+    rt: &R,
+    alloc: Global,
+    sum: &Sum,
+    turns: u64,
+) -> Result<Findings, Fault> {
+    let parking = ThreadParking::open(rt, alloc, HEADER.seats)?;
+    let (monitor, passes) = open_lock(
+        alloc,
+        Policy::NonFair,
+        HEADER.seats,
+        HEADER.conditions,
+        HEADER.cap,
+    )?;
+    let lock = ReentrantLock::of(&monitor);
+    let passes = work_in_threads(rt, &parking, &lock, sum, passes, turns)?;
+    close_and_judge(rt, alloc, &HEADER, monitor, passes)
+}
+
+/// Runs all threads, and prints the results. The first word is the name of the example.
+pub fn run<R: Print + AllocGlobal + Threads + Wait + Clock + Sync>(
+    rt: &R,
+    words: &[String],
+) -> io::Result<()> {
+    let turns = asked(words) / CALLS_IN_A_TURN / u64::from(THREADS);
+    let sum = Sum::new();
+    let findings = match play(rt, rt.alloc(), &sum, turns) {
+        Ok(findings) => findings,
+        Err(fault) => return println!(rt; "endless_lock: {fault}"),
+    };
+    println!(rt;
+        "{THREADS} threads, {turns} turns each, faults {}",
+        sum.faults()
+    )?;
+    println!(rt;
+        "calls {}, number {}, room for {} entries",
+        findings.calls,
+        sum.number(),
+        HEADER.cap
+    )?;
+    findings.print(rt)
 }

@@ -44,6 +44,6 @@ fn play<R: Wait + Clock>(rt: &R, alloc: Global) -> Result<bool, Fault> {
 pub fn run<R: Print + AllocGlobal + Wait + Clock>(rt: &R) -> io::Result<()> {
     match play(rt, rt.alloc()) {
         Ok(entered) => println!(rt; "entered: {entered}"),
-        Err(_fault) => println!(rt; "not entered"),
+        Err(fault) => println!(rt; "not entered: {fault}"),
     }
 }

@@ -3,7 +3,8 @@
 //! - `first_lock`: a fair lock, and an acquire that gives up after 50 milliseconds.
 //! - `bounded_buffer`: a lock with two conditions between a thread that puts and a thread that takes.
 //! - `read_mostly_table`: a read-write lock, and writers that downgrade to readers.
-//! - `endless_lock`: a lock that runs on past the cap of its history.
+//! - `endless_lock`: four threads at a lock that runs on past the cap of its history.
+//! - `history_in_parts`: a lock whose history is printed in parts.
 //! - `small_calls`: the callers of the pages `CALLING.md`, each called once.
 //!
 //! `example_locks` runs these one after another, and `example_locks NAME` runs the example of this name.
@@ -12,6 +13,7 @@
 mod bounded_buffer;
 mod endless_lock;
 mod first_lock;
+mod history_in_parts;
 mod read_mostly_table;
 mod small_calls;
 
@@ -31,12 +33,14 @@ fn run<R: Print + Eprint + AllocGlobal + Threads + Wait + Clock + Sync>(
             bounded_buffer::run(rt)?;
             read_mostly_table::run(rt)?;
             endless_lock::run(rt, words)?;
+            history_in_parts::run(rt, words)?;
             small_calls::run(rt)
         }
         Some("first_lock") => first_lock::run(rt),
         Some("bounded_buffer") => bounded_buffer::run(rt),
         Some("read_mostly_table") => read_mostly_table::run(rt),
         Some("endless_lock") => endless_lock::run(rt, words),
+        Some("history_in_parts") => history_in_parts::run(rt, words),
         Some("small_calls") => small_calls::run(rt),
         Some(other) => eprintln!(rt; "example_locks: no example {other}"),
     }

@@ -91,8 +91,9 @@ fn play<R: Threads + Wait + Clock + Sync>(rt: &R, alloc: Global) -> Result<Told,
 
 /// Runs all threads, and prints the results.
 pub fn run<R: Print + AllocGlobal + Threads + Wait + Clock + Sync>(rt: &R) -> io::Result<()> {
-    let Ok(told) = play(rt, rt.alloc()) else {
-        return println!(rt; "out of memory");
+    let told = match play(rt, rt.alloc()) {
+        Ok(told) => told,
+        Err(fault) => return println!(rt; "{fault}"),
     };
     let Told { outcome, findings } = told;
     println!(rt;

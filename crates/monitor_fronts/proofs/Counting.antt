@@ -1,12 +1,10 @@
 -- What the calls of a lock leave of a pass's holds.
-use Rattle.std.proofs.Common.{◌≡◌, ◌⊎◌, inl, inr, ⊎_elim, ℕ, zero, suc, ◌+◌, ◌-◌, ◌<◌, ◌≤◌, ◌==◌, nat_lt, Bool, true, false, ◌&&◌, not, cond, List, [], ◌∷◌, length, Option, Some, Result, Ok, Err, refl, sym, ap, ◌∙◌, subst, arith}
+use Rattle.std.proofs.Common.{◌≡◌, ◌⊎◌, inl, inr, ℕ, zero, suc, ◌+◌, ◌==◌, nat_lt, Bool, true, false, ◌&&◌, not, cond, List, ◌∷◌, length, Option, Result, Ok, Err, refl, sym, ap, ◌∙◌, subst, arith}
 use Rattle.std.specs.List.{All}
-use Rattle.std.proofs.lemmas.Bool.{cond_both}
 use Rattle.std.proofs.lemmas.List.Elements.{All-nil, All-cons}
 use Rattle.history.specs.declared.entry.End.{End}
 use Rattle.history.specs.declared.entry.End.TheVariants as end
 use Rattle.history.specs.declared.entry.Entry.{Entry}
-use Rattle.history.specs.declared.entry.Mode.{Mode}
 use Rattle.history.specs.declared.entry.Mode.TheVariants.{X, S}
 use Rattle.history.specs.declared.entry.Word.{Word}
 use Rattle.history.specs.declared.entry.Word.TheVariants as word
@@ -17,7 +15,7 @@ use Rattle.history.specs.declared.header.Object.{Object}
 use Rattle.history.specs.declared.header.Object.TheVariants.{Lock, ReadWrite, Semaphore, Latch}
 use Rattle.history.specs.declared.step.Answer.TheVariants.{Recorded}
 use Rattle.history.specs.declared.step.Step.{Step}
-use Rattle.history.specs.declared.step.Step.TheVariants.{Acquire, Await, EntryInterrupt, Give, Signal, SignalAll}
+use Rattle.history.specs.declared.step.Step.TheVariants.{Await, Signal, SignalAll}
 use Rattle.history.specs.Base.{Base}
 use Rattle.history.specs.Could.{is_seat}
 use Rattle.history.specs.Awaiting.{back_from, signalled, lapsed, lapse_from}
@@ -26,20 +24,18 @@ use Rattle.std.proofs.lemmas.Bool.{eq-eqb}
 use Rattle.permit.specs.Deed.{Deed}
 use Rattle.word_lock.specs.Point.{header_of}
 use Rattle.word_lock.specs.Ticket.{LockId}
-use Rattle.monitor.specs.AwaitOn.{EndsAwait, IsAwait, IsAwaitRefused, LapsesAndReturns, ReturnsSignalled}
+use Rattle.monitor.specs.AwaitOn.{IsAwait, IsAwaitRefused, LapsesAndReturns, ReturnsSignalled}
 use Rattle.history.specs.Counts.{Counts, counts, held, holds_after, owner}
 use Rattle.history.specs.Entry.{same_mode}
 use Rattle.history.specs.Object.{in_holds, is_lock}
 use Rattle.history.specs.Start.{opening}
-use Rattle.history.specs.Steps.{at_most_one, awaits, ended, entry_for, gave, idle_entry, plain, signals}
+use Rattle.history.specs.Steps.{at_most_one, awaits, plain, signals}
 use Rattle.history.specs.Sleepers.{sleepers}
-use Rattle.monitor.specs.Acquire.{AtOnce, EndsAtOnce, EndsInLine, IsAcquire, IsAtOnce, IsEndFor}
 use Rattle.monitor.specs.Lawful.{start_at, view_of}
 use Rattle.history.specs.declared.point.Point.{Point}
 use Rattle.monitor.specs.Shown.{Shown, IsSound, opening_pass, opening_passes}
 use Rattle.monitor.specs.Load.{is_signal}
 use Rattle.monitor.specs.Stepping.{IsEntered, IsSame, IsStep, IsTrim}
-use Rattle.monitor.specs.Waits.{asking}
 use Rattle.monitor.specs.declared.how.How.{How}
 use Rattle.monitor.proofs.Acquiring.{idle_made}
 use Rattle.monitor.proofs.InLine.{records}

@@ -1,3 +1,4 @@
 pub mod Counting
 pub mod Exactly
+pub mod MakingRoom
 pub mod Owning

@@ -1,5 +1,5 @@
 -- The release of a hold is recorded: whoever owns is idle, and its release was owed room and memory.
-use Rattle.std.proofs.Common.{◌≡◌, ℕ, ◌<◌, Bool, true, false, not, cond, List, Option, Some, Result, Ok, Err, IsOk, refl, ap, ◌∙◌, sym, subst}
+use Rattle.std.proofs.Common.{◌≡◌, ℕ, ◌+◌, ◌<◌, Bool, true, false, not, cond, List, Option, Some, Result, Ok, Err, IsOk, refl, ap, ◌∙◌, sym, subst}
 use Rattle.history.specs.declared.entry.Entry.{Entry}
 use Rattle.history.specs.declared.entry.Mode.{Mode}
 use Rattle.history.specs.declared.entry.Mode.TheVariants.{X}
@@ -29,7 +29,7 @@ use Rattle.monitor.proofs.Loads.{own_holds}
 use Rattle.monitor.proofs.Opening.{header_shown}
 use Rattle.monitor_fronts.specs.Holding.{holds}
 use Rattle.monitor_fronts.specs.Told.{whether_of}
-use Rattle.monitor_fronts.proofs.Exactly.{gave_is, gave_own}
+use Rattle.monitor_fronts.proofs.Exactly.{gave_is, gave_own, give_takes}
 
 -- an owner's give makes one entry
 has_mode : (o : Object) → is_lock o ≡ true → lacks_mode o X ≡ false
@@ -84,4 +84,12 @@ pub give_told : (did : Deed → Type 0) (old new : Shown) (r : Result Entry Faul
 give_told did old new (Ok e) lock same was shows s some =
     ap (λ (z : Entry). whether_of (Ok z)) (gave_is did old new e lock same shows s some)
 give_told did old new (Err f) lock same was shows s some =
+    absurd (let ok = give_recorded did old new (Err f) lock same was s some in cc)
+
+-- it takes one hold
+pub give_loses : (did : Deed → Type 0) (old new : Shown) (r : Result Entry Fault) →
+    is_lock old.lock.header.object ≡ true → IsSame old new → IsSound old → IsSound new →
+    IsEntered did old (Give X 1) r new → 0 < holds old → holds new + 1 ≡ holds old
+give_loses did old new (Ok e) lock same was shows s some = give_takes did old new e lock same shows s some
+give_loses did old new (Err f) lock same was shows s some =
     absurd (let ok = give_recorded did old new (Err f) lock same was s some in cc)

@@ -1,4 +1,4 @@
--- What a front type tells of the entry that ended a call.
+-- What a front type returns for the entry that ended a call.
 use Rattle.std.specs.Prelude.{◌≡◌, ℕ, Bool, true, false, Result, Ok, Err}
 use Rattle.history.specs.declared.entry.End.{End}
 use Rattle.history.specs.declared.entry.End.TheVariants as end
@@ -39,6 +39,6 @@ abbrev pub number_of : Result Entry Fault → Result ℕ Fault
 number_of (Err f) = Err f
 number_of (Ok e) = number_by e.word e.n
 
--- the monitor's call had a reply, and this is what is told of it
+-- the monitor's call had a reply, and this is what is returned for it
 abbrev pub Tells : {A : Type 0} → (Result Entry Fault → A) → (Result Entry Fault → Type 0) → A → Type 0
 Tells told call r = (reply : Result Entry Fault) × call reply × (r ≡ told reply)

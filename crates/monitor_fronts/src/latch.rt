@@ -1,36 +1,54 @@
 //! A count that goes down to 0, and those who wait for that.
-ghost use Rattle.std.specs.Prelude.{◌≡◌, ◌≤◌};
+ghost use Rattle.std.specs.Prelude.{◌≡◌, ◌≤◌, false};
+ghost use Rattle.history.specs.Phase.{waits};
 ghost use Rattle.history.specs.declared.entry.Mode.TheVariants.{S};
 ghost use Rattle.history.specs.declared.step.Step.TheVariants.{Give};
-ghost use Rattle.monitor.specs.Acquire.{IsAcquire};
 ghost use Rattle.monitor.specs.Shown.{IsSound};
-ghost use Rattle.monitor.specs.Stepping.{IsSame, IsEntered};
+ghost use Rattle.monitor.specs.Stepping.{IsSame};
 ghost use Rattle.monitor.specs.declared.how.How.TheVariants.{Interruptible, Timed};
+ghost use Rattle.monitor.specs.declared.room.WhenFull.TheVariants.{Trim};
+ghost use Rattle.monitor_fronts.specs.Full.{Acquires, Steps};
 ghost use Rattle.monitor_fronts.specs.Told.{Tells, done_of, whether_of};
 ghost use Rattle.word_lock.specs.Point.{Before};
 
 use crate::told::{done, whether};
 use counting::latch::LatchHooks;
-use history::entry::Mode;
+use history::entry::{Entry, Mode};
 use history::fault::Fault;
-use monitor::{How, Monitor, Pass};
+use history::step::Step;
+use monitor::{Empty, How, Monitor, Pass, WhenFull};
 use permit::Parking;
 use std::sync::Wait;
 use std::time::Clock;
 
-/// `java.util.concurrent.CountDownLatch` of Java SE 8 over a monitor.
-/// A call answers an `Err` where Java throws.
+/// `java.util.concurrent.CountDownLatch` of Java SE 8 over a monitor. A call returns an `Err` where Java
+/// throws.
+///
+/// A call that finds the history full folds it and goes on, or returns `Err(HistoryFull)` if `when_full` says
+/// so. Then a count down may lack room too. Each call costs one entry, and one that waits two.
 #[derive(Clone, Copy)]
 pub struct Latch<'m> {
     pub monitor: &'m Monitor<LatchHooks>,
+    /// What a call does that finds the history full.
+    pub when_full: WhenFull,
 }
 
 impl<'m> Latch<'m> {
-    /// It borrows the monitor, which stays open to calls of its own.
+    /// Over this monitor, which it borrows. A call that finds the history full folds it and goes on
+    /// ([`WhenFull::Trim`]).
     pub fn of(monitor: &'m Monitor<LatchHooks>) -> Self
-        ensures { result.monitor.now ≡ monitor.now }
+        ensures monitor { result.monitor.now ≡ monitor.now }
+        ensures when_full { result.when_full ≡ Trim }
     {
-        Latch { monitor }
+        Latch::of_when_full(monitor, WhenFull::Trim)
+    }
+
+    /// The same, where the caller says what a call does that finds the history full.
+    pub fn of_when_full(monitor: &'m Monitor<LatchHooks>, when_full: WhenFull) -> Self
+        ensures monitor { result.monitor.now ≡ monitor.now }
+        ensures when_full { result.when_full ≡ when_full }
+    {
+        Latch { monitor, when_full }
     }
 
     /// `CountDownLatch.await()`: waits until the count is 0. `Err(Interrupted)` where Java throws
@@ -47,12 +65,9 @@ impl<'m> Latch<'m> {
         ensures begins { Before pass.old.seen pass.new.seen }
         ensures shows { IsSound pass.new }
         ensures acquired { Tells done_of
-            (λ reply. IsAcquire (P.did parking.now) pass.old S 1 Interruptible reply pass.new) result }
+            (Acquires self.now.when_full (P.did parking.now) S 1 Interruptible pass.old pass.new) result }
     {
-        done(
-            self.monitor
-                .acquire(rt, parking, pass, Mode::S, 1, How::Interruptible),
-        )
+        done(self.acquire_as(rt, parking, pass, How::Interruptible))
     }
 
     /// `CountDownLatch.await(timeout, unit)`: whether the count was 0 within `ms` milliseconds.
@@ -69,12 +84,9 @@ impl<'m> Latch<'m> {
         ensures begins { Before pass.old.seen pass.new.seen }
         ensures shows { IsSound pass.new }
         ensures acquired { Tells whether_of
-            (λ reply. IsAcquire (P.did parking.now) pass.old S 1 (Timed ms) reply pass.new) result }
+            (Acquires self.now.when_full (P.did parking.now) S 1 (Timed ms) pass.old pass.new) result }
     {
-        whether(
-            self.monitor
-                .acquire(rt, parking, pass, Mode::S, 1, How::Timed(ms)),
-        )
+        whether(self.acquire_as(rt, parking, pass, How::Timed(ms)))
     }
 
     /// `CountDownLatch.countDown()`. At 0 it changes nothing.
@@ -87,10 +99,58 @@ impl<'m> Latch<'m> {
         requires is_of { pass.old.lock ≡ self.now.monitor.now }
         requires places { self.now.monitor.now.header.seats ≤ P.seats parking.now }
         ensures same { IsSame pass.old pass.new }
+        ensures begins { Before pass.old.seen pass.new.seen }
         ensures shows { IsSound pass.new }
         ensures entered { Tells done_of
-            (λ reply. IsEntered (P.did parking.now) pass.old (Give S 1) reply pass.new) result }
+            (Steps self.now.when_full (P.did parking.now) (Give S 1) pass.old pass.new) result }
     {
-        done(self.monitor.count_down(rt, parking, pass))
+        done(self.enter(rt, parking, pass, Step::Give(Mode::S, 1)))
+    }
+
+    // An acquire, which makes room if this front does so.
+    fn acquire_as<P: Parking, R: Wait + Clock>(
+        &self,
+        rt: &R,
+        parking: &P,
+        pass: &mut Pass,
+        how: How,
+    ) -> Result<Entry, Fault>
+        requires is_of { pass.old.lock ≡ self.now.monitor.now }
+        requires places { self.now.monitor.now.header.seats ≤ P.seats parking.now }
+        ensures same { IsSame pass.old pass.new }
+        ensures begins { Before pass.old.seen pass.new.seen }
+        ensures shows { IsSound pass.new }
+        ensures acquired { Acquires self.now.when_full (P.did parking.now) S 1 how pass.old pass.new result }
+    {
+        self.monitor.acquire_when_full(
+            rt,
+            parking,
+            pass,
+            &mut Empty {},
+            Mode::S,
+            1,
+            how,
+            self.when_full,
+        )
+    }
+
+    // A step that doesn't wait, which makes room if this front does so.
+    fn enter<P: Parking, R: Wait + Clock>(
+        &self,
+        rt: &R,
+        parking: &P,
+        pass: &mut Pass,
+        step: Step,
+    ) -> Result<Entry, Fault>
+        requires is_of { pass.old.lock ≡ self.now.monitor.now }
+        requires places { self.now.monitor.now.header.seats ≤ P.seats parking.now }
+        requires idle { waits step ≡ false }
+        ensures same { IsSame pass.old pass.new }
+        ensures begins { Before pass.old.seen pass.new.seen }
+        ensures shows { IsSound pass.new }
+        ensures entered { Steps self.now.when_full (P.did parking.now) step pass.old pass.new result }
+    {
+        self.monitor
+            .enter_when_full(rt, parking, pass, &mut Empty {}, step, self.when_full)
     }
 }

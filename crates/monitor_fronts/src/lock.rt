@@ -1,39 +1,58 @@
 //! A lock whose owner may take it again.
-ghost use Rattle.std.specs.Prelude.{◌≡◌, ◌<◌, ◌≤◌, true, IsOk};
+ghost use Rattle.std.specs.Prelude.{◌≡◌, ◌+◌, ◌<◌, ◌≤◌, false, true, IsOk};
 ghost use Rattle.history.specs.Object.{is_lock};
+ghost use Rattle.history.specs.Phase.{waits};
 ghost use Rattle.history.specs.declared.entry.Mode.TheVariants.{X};
 ghost use Rattle.history.specs.declared.step.Step.TheVariants.{Try, Give, Signal, SignalAll};
-ghost use Rattle.monitor.specs.Acquire.{IsAcquire};
-ghost use Rattle.monitor.specs.AwaitOn.{IsAwait};
+ghost use Rattle.monitor.specs.Load.{is_signal};
 ghost use Rattle.monitor.specs.Shown.{IsSound};
 ghost use Rattle.monitor.specs.Stepping.{IsSame, IsEntered};
 ghost use Rattle.monitor.specs.declared.how.How.TheVariants.{Plain, Interruptible, Timed};
-ghost use Rattle.monitor_fronts.specs.Holding.{holds};
+ghost use Rattle.monitor.specs.declared.room.WhenFull.TheVariants.{Trim};
+ghost use Rattle.monitor_fronts.specs.Holding.{Gains, holds, with_yes};
+ghost use Rattle.monitor_fronts.specs.Full.{Acquires, Awaits, Steps};
 ghost use Rattle.monitor_fronts.specs.Told.{Tells, done_of, whether_of};
 ghost use Rattle.word_lock.specs.Point.{Before};
 
 use crate::told::{done, whether};
-use history::entry::Mode;
+use history::entry::{Entry, Mode};
 use history::fault::Fault;
-use monitor::{How, Monitor, Pass};
+use history::step::Step;
+use monitor::{Empty, How, Monitor, Pass, WhenFull};
 use permit::Parking;
 use reentrant::lock::LockHooks;
 use std::sync::Wait;
 use std::time::Clock;
 
 /// `java.util.concurrent.locks.ReentrantLock` of Java SE 8 over a monitor. The thread is the pass, conditions
-/// have numbers, and a call answers an `Err` where Java throws.
+/// have numbers, and a call returns an `Err` where Java throws.
+///
+/// A call that finds the history full folds it and goes on, or returns `Err(HistoryFull)` if `when_full` says
+/// so. An unlock by the owner never lacks room. A lock and an unlock cost one entry each, and a lock that
+/// waits two.
 #[derive(Clone, Copy)]
 pub struct ReentrantLock<'m> {
     pub monitor: &'m Monitor<LockHooks>,
+    /// What a call does that finds the history full.
+    pub when_full: WhenFull,
 }
 
 impl<'m> ReentrantLock<'m> {
-    /// It borrows the monitor, which stays open to calls of its own.
+    /// Over this monitor, which it borrows. A call that finds the history full folds it and goes on
+    /// ([`WhenFull::Trim`]).
     pub fn of(monitor: &'m Monitor<LockHooks>) -> Self
-        ensures { result.monitor.now ≡ monitor.now }
+        ensures monitor { result.monitor.now ≡ monitor.now }
+        ensures when_full { result.when_full ≡ Trim }
     {
-        ReentrantLock { monitor }
+        ReentrantLock::of_when_full(monitor, WhenFull::Trim)
+    }
+
+    /// The same, where the caller says what a call does that finds the history full.
+    pub fn of_when_full(monitor: &'m Monitor<LockHooks>, when_full: WhenFull) -> Self
+        ensures monitor { result.monitor.now ≡ monitor.now }
+        ensures when_full { result.when_full ≡ when_full }
+    {
+        ReentrantLock { monitor, when_full }
     }
 
     /// `ReentrantLock.lock()`: waits until it has the lock. An interrupt doesn't end the wait.
@@ -50,12 +69,10 @@ impl<'m> ReentrantLock<'m> {
         ensures begins { Before pass.old.seen pass.new.seen }
         ensures shows { IsSound pass.new }
         ensures acquired { Tells done_of
-            (λ reply. IsAcquire (P.did parking.now) pass.old X 1 Plain reply pass.new) result }
+            (Acquires self.now.when_full (P.did parking.now) X 1 Plain pass.old pass.new) result }
+        ensures gains { Gains pass.old (with_yes result) pass.new }
     {
-        done(
-            self.monitor
-                .acquire(rt, parking, pass, Mode::X, 1, How::Plain),
-        )
+        done(self.acquire_as(rt, parking, pass, How::Plain))
     }
 
     /// `ReentrantLock.lockInterruptibly()`: `Err(Interrupted)` where Java throws `InterruptedException`.
@@ -71,12 +88,10 @@ impl<'m> ReentrantLock<'m> {
         ensures begins { Before pass.old.seen pass.new.seen }
         ensures shows { IsSound pass.new }
         ensures acquired { Tells done_of
-            (λ reply. IsAcquire (P.did parking.now) pass.old X 1 Interruptible reply pass.new) result }
+            (Acquires self.now.when_full (P.did parking.now) X 1 Interruptible pass.old pass.new) result }
+        ensures gains { Gains pass.old (with_yes result) pass.new }
     {
-        done(
-            self.monitor
-                .acquire(rt, parking, pass, Mode::X, 1, How::Interruptible),
-        )
+        done(self.acquire_as(rt, parking, pass, How::Interruptible))
     }
 
     /// `ReentrantLock.tryLock()`: whether it got the lock. It goes past those who wait, in a fair
@@ -90,11 +105,13 @@ impl<'m> ReentrantLock<'m> {
         requires is_of { pass.old.lock ≡ self.now.monitor.now }
         requires places { self.now.monitor.now.header.seats ≤ P.seats parking.now }
         ensures same { IsSame pass.old pass.new }
+        ensures begins { Before pass.old.seen pass.new.seen }
         ensures shows { IsSound pass.new }
         ensures entered { Tells whether_of
-            (λ reply. IsEntered (P.did parking.now) pass.old (Try X 1) reply pass.new) result }
+            (Steps self.now.when_full (P.did parking.now) (Try X 1) pass.old pass.new) result }
+        ensures gains { Gains pass.old result pass.new }
     {
-        whether(self.monitor.try_acquire(rt, parking, pass, Mode::X, 1))
+        whether(self.enter(rt, parking, pass, Step::Try(Mode::X, 1)))
     }
 
     /// `ReentrantLock.tryLock(time, unit)`: whether it got the lock within `ms` milliseconds.
@@ -113,16 +130,14 @@ impl<'m> ReentrantLock<'m> {
         ensures begins { Before pass.old.seen pass.new.seen }
         ensures shows { IsSound pass.new }
         ensures acquired { Tells whether_of
-            (λ reply. IsAcquire (P.did parking.now) pass.old X 1 (Timed ms) reply pass.new) result }
+            (Acquires self.now.when_full (P.did parking.now) X 1 (Timed ms) pass.old pass.new) result }
+        ensures gains { Gains pass.old result pass.new }
     {
-        whether(
-            self.monitor
-                .acquire(rt, parking, pass, Mode::X, 1, How::Timed(ms)),
-        )
+        whether(self.acquire_as(rt, parking, pass, How::Timed(ms)))
     }
 
-    /// `ReentrantLock.unlock()`: `Err(NotOwner)` where Java throws `IllegalMonitorStateException`. It can't fail
-    /// where the pass holds: room and memory for it were reserved when the hold was recorded.
+    /// `ReentrantLock.unlock()`: `Err(NotOwner)` where Java throws `IllegalMonitorStateException`. It can't
+    /// fail if the pass holds: room and memory for it were reserved when the hold was recorded.
     pub fn unlock<P: Parking, R: Wait + Clock>(
         &self,
         rt: &R,
@@ -132,17 +147,20 @@ impl<'m> ReentrantLock<'m> {
         requires is_of { pass.old.lock ≡ self.now.monitor.now }
         requires places { self.now.monitor.now.header.seats ≤ P.seats parking.now }
         ensures same { IsSame pass.old pass.new }
+        ensures begins { Before pass.old.seen pass.new.seen }
         ensures shows { IsSound pass.new }
         ensures entered { Tells done_of
             (λ reply. IsEntered (P.did parking.now) pass.old (Give X 1) reply pass.new) result }
         ensures owner { is_lock self.now.monitor.now.header.object ≡ true → 0 < holds pass.old → IsOk result }
+        ensures loses { is_lock self.now.monitor.now.header.object ≡ true → 0 < holds pass.old
+            → holds pass.new + 1 ≡ holds pass.old }
     {
         pass.is_true();
         done(self.monitor.release(rt, parking, pass, Mode::X, 1))
     }
 
-    /// `Condition.await()` of the condition of this number. It holds the lock again before it answers,
-    /// also behind `Err(Interrupted)`, where Java throws `InterruptedException`.
+    /// `Condition.await()` of the condition of this number. It holds the lock again before it returns,
+    /// also after `Err(Interrupted)`, where Java throws `InterruptedException`.
     /// There are no spurious wakeups.
     pub fn wait<P: Parking, R: Wait + Clock>(
         &self,
@@ -157,12 +175,10 @@ impl<'m> ReentrantLock<'m> {
         ensures begins { Before pass.old.seen pass.new.seen }
         ensures shows { IsSound pass.new }
         ensures awaited { Tells done_of
-            (λ reply. IsAwait (P.did parking.now) pass.old condition Interruptible reply pass.new) result }
+            (Awaits self.now.when_full (P.did parking.now) condition Interruptible pass.old pass.new) result }
+        ensures keeps { holds pass.new ≡ holds pass.old }
     {
-        done(
-            self.monitor
-                .await_on(rt, parking, pass, condition, How::Interruptible),
-        )
+        done(self.wait_as(rt, parking, pass, condition, How::Interruptible))
     }
 
     /// `Condition.awaitUninterruptibly()` of the condition of this number.
@@ -179,12 +195,10 @@ impl<'m> ReentrantLock<'m> {
         ensures begins { Before pass.old.seen pass.new.seen }
         ensures shows { IsSound pass.new }
         ensures awaited { Tells done_of
-            (λ reply. IsAwait (P.did parking.now) pass.old condition Plain reply pass.new) result }
+            (Awaits self.now.when_full (P.did parking.now) condition Plain pass.old pass.new) result }
+        ensures keeps { holds pass.new ≡ holds pass.old }
     {
-        done(
-            self.monitor
-                .await_on(rt, parking, pass, condition, How::Plain),
-        )
+        done(self.wait_as(rt, parking, pass, condition, How::Plain))
     }
 
     /// `Condition.await(time, unit)` of the condition of this number: whether it was signalled within `ms`
@@ -203,12 +217,10 @@ impl<'m> ReentrantLock<'m> {
         ensures begins { Before pass.old.seen pass.new.seen }
         ensures shows { IsSound pass.new }
         ensures awaited { Tells whether_of
-            (λ reply. IsAwait (P.did parking.now) pass.old condition (Timed ms) reply pass.new) result }
+            (Awaits self.now.when_full (P.did parking.now) condition (Timed ms) pass.old pass.new) result }
+        ensures keeps { holds pass.new ≡ holds pass.old }
     {
-        whether(
-            self.monitor
-                .await_on(rt, parking, pass, condition, How::Timed(ms)),
-        )
+        whether(self.wait_as(rt, parking, pass, condition, How::Timed(ms)))
     }
 
     /// `Condition.signal()` of the condition of this number.
@@ -222,11 +234,13 @@ impl<'m> ReentrantLock<'m> {
         requires is_of { pass.old.lock ≡ self.now.monitor.now }
         requires places { self.now.monitor.now.header.seats ≤ P.seats parking.now }
         ensures same { IsSame pass.old pass.new }
+        ensures begins { Before pass.old.seen pass.new.seen }
         ensures shows { IsSound pass.new }
         ensures entered { Tells done_of
-            (λ reply. IsEntered (P.did parking.now) pass.old (Signal condition) reply pass.new) result }
+            (Steps self.now.when_full (P.did parking.now) (Signal condition) pass.old pass.new) result }
+        ensures keeps { holds pass.new ≡ holds pass.old }
     {
-        done(self.monitor.signal(rt, parking, pass, condition))
+        done(self.enter(rt, parking, pass, Step::Signal(condition)))
     }
 
     /// `Condition.signalAll()` of the condition of this number.
@@ -240,10 +254,90 @@ impl<'m> ReentrantLock<'m> {
         requires is_of { pass.old.lock ≡ self.now.monitor.now }
         requires places { self.now.monitor.now.header.seats ≤ P.seats parking.now }
         ensures same { IsSame pass.old pass.new }
+        ensures begins { Before pass.old.seen pass.new.seen }
         ensures shows { IsSound pass.new }
         ensures entered { Tells done_of
-            (λ reply. IsEntered (P.did parking.now) pass.old (SignalAll condition) reply pass.new) result }
+            (Steps self.now.when_full (P.did parking.now) (SignalAll condition) pass.old pass.new) result }
+        ensures keeps { holds pass.new ≡ holds pass.old }
     {
-        done(self.monitor.signal_all(rt, parking, pass, condition))
+        done(self.enter(rt, parking, pass, Step::SignalAll(condition)))
+    }
+
+    // An acquire, which makes room if this front does so.
+    fn acquire_as<P: Parking, R: Wait + Clock>(
+        &self,
+        rt: &R,
+        parking: &P,
+        pass: &mut Pass,
+        how: How,
+    ) -> Result<Entry, Fault>
+        requires is_of { pass.old.lock ≡ self.now.monitor.now }
+        requires places { self.now.monitor.now.header.seats ≤ P.seats parking.now }
+        ensures same { IsSame pass.old pass.new }
+        ensures begins { Before pass.old.seen pass.new.seen }
+        ensures shows { IsSound pass.new }
+        ensures acquired { Acquires self.now.when_full (P.did parking.now) X 1 how pass.old pass.new result }
+        ensures gains { Gains pass.old (whether_of result) pass.new }
+    {
+        self.monitor.acquire_when_full(
+            rt,
+            parking,
+            pass,
+            &mut Empty {},
+            Mode::X,
+            1,
+            how,
+            self.when_full,
+        )
+    }
+
+    // An await, which makes room if this front does so.
+    fn wait_as<P: Parking, R: Wait + Clock>(
+        &self,
+        rt: &R,
+        parking: &P,
+        pass: &mut Pass,
+        condition: u8,
+        how: How,
+    ) -> Result<Entry, Fault>
+        requires is_of { pass.old.lock ≡ self.now.monitor.now }
+        requires places { self.now.monitor.now.header.seats ≤ P.seats parking.now }
+        ensures same { IsSame pass.old pass.new }
+        ensures begins { Before pass.old.seen pass.new.seen }
+        ensures shows { IsSound pass.new }
+        ensures awaited { Awaits self.now.when_full (P.did parking.now) condition how pass.old pass.new result }
+        ensures keeps { holds pass.new ≡ holds pass.old }
+    {
+        self.monitor.await_when_full(
+            rt,
+            parking,
+            pass,
+            &mut Empty {},
+            condition,
+            how,
+            self.when_full,
+        )
+    }
+
+    // A step that doesn't wait, which makes room if this front does so.
+    fn enter<P: Parking, R: Wait + Clock>(
+        &self,
+        rt: &R,
+        parking: &P,
+        pass: &mut Pass,
+        step: Step,
+    ) -> Result<Entry, Fault>
+        requires is_of { pass.old.lock ≡ self.now.monitor.now }
+        requires places { self.now.monitor.now.header.seats ≤ P.seats parking.now }
+        requires idle { waits step ≡ false }
+        ensures same { IsSame pass.old pass.new }
+        ensures begins { Before pass.old.seen pass.new.seen }
+        ensures shows { IsSound pass.new }
+        ensures entered { Steps self.now.when_full (P.did parking.now) step pass.old pass.new result }
+        ensures gains { step ≡ Try X 1 → Gains pass.old (whether_of result) pass.new }
+        ensures keeps { is_signal step ≡ true → holds pass.new ≡ holds pass.old }
+    {
+        self.monitor
+            .enter_when_full(rt, parking, pass, &mut Empty {}, step, self.when_full)
     }
 }

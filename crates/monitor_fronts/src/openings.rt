@@ -1,7 +1,9 @@
 //! How the monitor of each front type is opened: the constructors of `java.util.concurrent`.
 //!
-//! Each answers the monitor with an empty history, and a pass for each seat, in order. `cap` is the greatest
-//! number of entries of the history. The only error is `OutOfMemory`.
+//! Each returns the monitor with an empty history, and a pass for each seat, in order. `cap` is the greatest
+//! number of entries of the history, those among them that are owed. A full history is no error of an
+//! opening: the front that is then made over the monitor says what its calls do. The only error is
+//! `OutOfMemory`.
 
 ghost use Rattle.std.specs.Prelude.{◌≡◌, [], All, IfOk, IfErr, vec_capacity};
 ghost use Rattle.frame.specs.Core.{header_of};
@@ -59,7 +61,7 @@ pub fn open_read_write_lock(
     Monitor::open(alloc, hooks, seats, conditions, cap)
 }
 
-/// A semaphore with so many free permits, which may be below 0, for a [`Semaphore`](crate::Semaphore).
+/// A semaphore with `permits` free permits, which may be below 0, for a [`Semaphore`](crate::Semaphore).
 pub fn open_semaphore(
     alloc: Global,
     policy: Policy,
@@ -78,7 +80,7 @@ pub fn open_semaphore(
     Monitor::open(alloc, hooks, seats, 0, cap)
 }
 
-/// A latch that opens when it was counted down so often, for a [`Latch`](crate::Latch).
+/// A latch that opens when it was counted down `count` times, for a [`Latch`](crate::Latch).
 pub fn open_latch(
     alloc: Global,
     count: u32,

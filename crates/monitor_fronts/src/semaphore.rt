@@ -1,36 +1,55 @@
 //! Permits to take and to give.
-ghost use Rattle.std.specs.Prelude.{◌≡◌, ◌≤◌};
+ghost use Rattle.std.specs.Prelude.{◌≡◌, ◌≤◌, false};
+ghost use Rattle.history.specs.Phase.{waits};
 ghost use Rattle.history.specs.declared.entry.Mode.TheVariants.{S};
 ghost use Rattle.history.specs.declared.step.Step.TheVariants.{Try, Give, Drain};
-ghost use Rattle.monitor.specs.Acquire.{IsAcquire};
 ghost use Rattle.monitor.specs.Shown.{IsSound};
-ghost use Rattle.monitor.specs.Stepping.{IsSame, IsEntered};
+ghost use Rattle.monitor.specs.Stepping.{IsSame};
 ghost use Rattle.monitor.specs.declared.how.How.TheVariants.{Plain, Interruptible, Timed};
+ghost use Rattle.monitor.specs.declared.room.WhenFull.TheVariants.{Trim};
+ghost use Rattle.monitor_fronts.specs.Full.{Acquires, Steps};
 ghost use Rattle.monitor_fronts.specs.Told.{Tells, done_of, number_of, whether_of};
 ghost use Rattle.word_lock.specs.Point.{Before};
 
 use crate::told::{done, number, whether};
 use counting::semaphore::SemaphoreHooks;
-use history::entry::Mode;
+use history::entry::{Entry, Mode};
 use history::fault::Fault;
-use monitor::{How, Monitor, Pass};
+use history::step::Step;
+use monitor::{Empty, How, Monitor, Pass, WhenFull};
 use permit::Parking;
 use std::sync::Wait;
 use std::time::Clock;
 
-/// `java.util.concurrent.Semaphore` of Java SE 8 over a monitor. It may be opened with fewer than 0
-/// permits, as Java's. A call answers an `Err` where Java throws.
+/// `java.util.concurrent.Semaphore` of Java SE 8 over a monitor. It may be opened with fewer than 0 permits,
+/// as Java's. A call returns an `Err` where Java throws.
+///
+/// A call that finds the history full folds it and goes on, or returns `Err(HistoryFull)` if `when_full` says
+/// so. Then a release may lack room too. An acquire and a release cost one entry each, and an acquire that
+/// waits two.
 #[derive(Clone, Copy)]
 pub struct Semaphore<'m> {
     pub monitor: &'m Monitor<SemaphoreHooks>,
+    /// What a call does that finds the history full.
+    pub when_full: WhenFull,
 }
 
 impl<'m> Semaphore<'m> {
-    /// It borrows the monitor, which stays open to calls of its own.
+    /// Over this monitor, which it borrows. A call that finds the history full folds it and goes on
+    /// ([`WhenFull::Trim`]).
     pub fn of(monitor: &'m Monitor<SemaphoreHooks>) -> Self
-        ensures { result.monitor.now ≡ monitor.now }
+        ensures monitor { result.monitor.now ≡ monitor.now }
+        ensures when_full { result.when_full ≡ Trim }
     {
-        Semaphore { monitor }
+        Semaphore::of_when_full(monitor, WhenFull::Trim)
+    }
+
+    /// The same, where the caller says what a call does that finds the history full.
+    pub fn of_when_full(monitor: &'m Monitor<SemaphoreHooks>, when_full: WhenFull) -> Self
+        ensures monitor { result.monitor.now ≡ monitor.now }
+        ensures when_full { result.when_full ≡ when_full }
+    {
+        Semaphore { monitor, when_full }
     }
 
     /// `Semaphore.acquire(permits)`: waits until `n` permits are free. `Err(Interrupted)` where Java throws
@@ -48,12 +67,9 @@ impl<'m> Semaphore<'m> {
         ensures begins { Before pass.old.seen pass.new.seen }
         ensures shows { IsSound pass.new }
         ensures acquired { Tells done_of
-            (λ reply. IsAcquire (P.did parking.now) pass.old S n Interruptible reply pass.new) result }
+            (Acquires self.now.when_full (P.did parking.now) S n Interruptible pass.old pass.new) result }
     {
-        done(
-            self.monitor
-                .acquire(rt, parking, pass, Mode::S, n, How::Interruptible),
-        )
+        done(self.acquire_as(rt, parking, pass, n, How::Interruptible))
     }
 
     /// `Semaphore.acquireUninterruptibly(permits)`.
@@ -70,12 +86,9 @@ impl<'m> Semaphore<'m> {
         ensures begins { Before pass.old.seen pass.new.seen }
         ensures shows { IsSound pass.new }
         ensures acquired { Tells done_of
-            (λ reply. IsAcquire (P.did parking.now) pass.old S n Plain reply pass.new) result }
+            (Acquires self.now.when_full (P.did parking.now) S n Plain pass.old pass.new) result }
     {
-        done(
-            self.monitor
-                .acquire(rt, parking, pass, Mode::S, n, How::Plain),
-        )
+        done(self.acquire_as(rt, parking, pass, n, How::Plain))
     }
 
     /// `Semaphore.tryAcquire(permits)`: whether `n` permits were free. It goes past those who wait,
@@ -90,11 +103,12 @@ impl<'m> Semaphore<'m> {
         requires is_of { pass.old.lock ≡ self.now.monitor.now }
         requires places { self.now.monitor.now.header.seats ≤ P.seats parking.now }
         ensures same { IsSame pass.old pass.new }
+        ensures begins { Before pass.old.seen pass.new.seen }
         ensures shows { IsSound pass.new }
         ensures entered { Tells whether_of
-            (λ reply. IsEntered (P.did parking.now) pass.old (Try S n) reply pass.new) result }
+            (Steps self.now.when_full (P.did parking.now) (Try S n) pass.old pass.new) result }
     {
-        whether(self.monitor.try_acquire(rt, parking, pass, Mode::S, n))
+        whether(self.enter(rt, parking, pass, Step::Try(Mode::S, n)))
     }
 
     /// `Semaphore.tryAcquire(permits, timeout, unit)`: whether `n` permits were free within
@@ -113,12 +127,9 @@ impl<'m> Semaphore<'m> {
         ensures begins { Before pass.old.seen pass.new.seen }
         ensures shows { IsSound pass.new }
         ensures acquired { Tells whether_of
-            (λ reply. IsAcquire (P.did parking.now) pass.old S n (Timed ms) reply pass.new) result }
+            (Acquires self.now.when_full (P.did parking.now) S n (Timed ms) pass.old pass.new) result }
     {
-        whether(
-            self.monitor
-                .acquire(rt, parking, pass, Mode::S, n, How::Timed(ms)),
-        )
+        whether(self.acquire_as(rt, parking, pass, n, How::Timed(ms)))
     }
 
     /// `Semaphore.release(permits)`: any pass may give permits, also more than it took.
@@ -132,14 +143,15 @@ impl<'m> Semaphore<'m> {
         requires is_of { pass.old.lock ≡ self.now.monitor.now }
         requires places { self.now.monitor.now.header.seats ≤ P.seats parking.now }
         ensures same { IsSame pass.old pass.new }
+        ensures begins { Before pass.old.seen pass.new.seen }
         ensures shows { IsSound pass.new }
         ensures entered { Tells done_of
-            (λ reply. IsEntered (P.did parking.now) pass.old (Give S n) reply pass.new) result }
+            (Steps self.now.when_full (P.did parking.now) (Give S n) pass.old pass.new) result }
     {
-        done(self.monitor.release(rt, parking, pass, Mode::S, n))
+        done(self.enter(rt, parking, pass, Step::Give(Mode::S, n)))
     }
 
-    /// `Semaphore.drainPermits()`: takes all that are free, and answers how many these were.
+    /// `Semaphore.drainPermits()`: takes all that are free, and returns how many these were.
     /// It takes none where fewer than 0 are free; Java's then makes them 0.
     pub fn drain_permits<P: Parking, R: Wait + Clock>(
         &self,
@@ -150,10 +162,59 @@ impl<'m> Semaphore<'m> {
         requires is_of { pass.old.lock ≡ self.now.monitor.now }
         requires places { self.now.monitor.now.header.seats ≤ P.seats parking.now }
         ensures same { IsSame pass.old pass.new }
+        ensures begins { Before pass.old.seen pass.new.seen }
         ensures shows { IsSound pass.new }
         ensures entered { Tells number_of
-            (λ reply. IsEntered (P.did parking.now) pass.old Drain reply pass.new) result }
+            (Steps self.now.when_full (P.did parking.now) Drain pass.old pass.new) result }
     {
-        number(self.monitor.drain(rt, parking, pass))
+        number(self.enter(rt, parking, pass, Step::Drain))
+    }
+
+    // An acquire, which makes room if this front does so.
+    fn acquire_as<P: Parking, R: Wait + Clock>(
+        &self,
+        rt: &R,
+        parking: &P,
+        pass: &mut Pass,
+        n: u32,
+        how: How,
+    ) -> Result<Entry, Fault>
+        requires is_of { pass.old.lock ≡ self.now.monitor.now }
+        requires places { self.now.monitor.now.header.seats ≤ P.seats parking.now }
+        ensures same { IsSame pass.old pass.new }
+        ensures begins { Before pass.old.seen pass.new.seen }
+        ensures shows { IsSound pass.new }
+        ensures acquired { Acquires self.now.when_full (P.did parking.now) S n how pass.old pass.new result }
+    {
+        self.monitor.acquire_when_full(
+            rt,
+            parking,
+            pass,
+            &mut Empty {},
+            Mode::S,
+            n,
+            how,
+            self.when_full,
+        )
+    }
+
+    // A step that doesn't wait, which makes room if this front does so.
+    fn enter<P: Parking, R: Wait + Clock>(
+        &self,
+        rt: &R,
+        parking: &P,
+        pass: &mut Pass,
+        step: Step,
+    ) -> Result<Entry, Fault>
+        requires is_of { pass.old.lock ≡ self.now.monitor.now }
+        requires places { self.now.monitor.now.header.seats ≤ P.seats parking.now }
+        requires idle { waits step ≡ false }
+        ensures same { IsSame pass.old pass.new }
+        ensures begins { Before pass.old.seen pass.new.seen }
+        ensures shows { IsSound pass.new }
+        ensures entered { Steps self.now.when_full (P.did parking.now) step pass.old pass.new result }
+    {
+        self.monitor
+            .enter_when_full(rt, parking, pass, &mut Empty {}, step, self.when_full)
     }
 }

@@ -1,4 +1,4 @@
-//! What a front type tells of the entry that ended a call.
+//! What a front type returns for the entry that ended a call.
 ghost use Rattle.std.specs.Prelude.{◌≡◌};
 ghost use Rattle.monitor_fronts.specs.Told.{done_of, number_of, whether_of};
 
@@ -23,7 +23,7 @@ pub fn whether(reply: Result<Entry, Fault>) -> Result<bool, Fault>
     }
 }
 
-/// The same without an answer.
+/// The same without the yes or no.
 pub fn done(reply: Result<Entry, Fault>) -> Result<(), Fault>
     ensures { result ≡ done_of reply }
 {

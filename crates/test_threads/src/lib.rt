@@ -6,6 +6,8 @@ mod asks;
 #[cfg(test)]
 mod chance;
 #[cfg(test)]
+mod full;
+#[cfg(test)]
 mod memory;
 #[cfg(test)]
 mod noted;

@@ -128,15 +128,16 @@ impl<'t> Table<'t> {
     }
 
     /// Changes the table alone, and then reads it. It takes the read lock before it releases the write lock,
-    /// so no other writer comes between.
+    /// so no other writer comes between. After a fault it holds nothing.
     fn update<R: Wait + Clock>(&self, rt: &R, tally: &Tally, pass: &mut Pass) -> Result<(), Fault>
         requires { pass.old.lock ≡ self.now.lock.monitor.now }
         ensures { IsSame pass.old pass.new }
     {
         self.lock.write_lock(rt, self.parking, pass)?;
         let written = self.rows.change();
-        self.lock.read_lock(rt, self.parking, pass)?;
+        let reads = self.lock.read_lock(rt, self.parking, pass);
         self.lock.write_unlock(rt, self.parking, pass)?;
+        reads?;
         if self.rows.common_version() != Some(written) {
             count(&tally.overwritten);
         }

@@ -1,7 +1,0 @@
-use Rattle.monitor.specs.Stepping.{IsSame}
-use Rattle.example_locks.proofs.bounded_buffer.buffer.put.Given as goal
-
-abbrev pub invariant-loop : goal.invariant-loop
-invariant-loop g l =
-    (goal.iterator-loop g).can_next l.iterator' × (goal.iterator-loop g).is_finite l.iterator'
-    × IsSame l.fn.pass l.pass

@@ -1,0 +1,9 @@
+use Rattle.history.specs.declared.entry.Mode.TheVariants.{S}
+use Rattle.history.specs.declared.step.Step.TheVariants.{Give}
+use Rattle.monitor_fronts.proofs.MakingRoom.{entered_begins}
+use Rattle.monitor_fronts.proofs.read_write_lock.ReadWriteLock.read_unlock.Goals as goal
+
+pub returns-clause-begins : goal.returns-clause-begins
+returns-clause-begins g c =
+    entered_begins (g.P.Parking.did c.args.parking.now) (Give S 1) c.args.pass.now c.release.new.pass
+    c.release.result c.release.ensures.given
