@@ -102,6 +102,7 @@ def check_c(tests):
         return
     kept = tests.histories("c")
     tests.run("each call of aqs.h", [OUT / "calls", kept])
+    tests.run("allocations that fail", [OUT / "memory"])
     tests.run("guards of C++", [OUT / "guards", kept])
     for threads, rounds in STORMS:
         tests.run(f"storms of {threads} threads", [OUT / "storms", kept, threads, rounds], 120)
