@@ -29,7 +29,7 @@ NO_SPACE = 14
 
 
 class Policy(enum.IntEnum):
-    """Which new calls stand behind those who wait."""
+    """Which new calls queue up after those who wait: none, all but tries, or all."""
 
     NONFAIR = 0
     FAIR = 1
