@@ -4,8 +4,8 @@
 The exports, structs and numbers are read from the sources of crates/aqs_c and of the crates below it. They become
 a file in C, which declares all of them once more and includes the headers. So the C compiler compares names, the
 number and types of parameters and results, the fields of each struct with their places, and each constant. What a
-header declares beyond that is found by its name. The declarations of the Rust crate in bindings/ are compared
-with aqs.h in the same way. The last line is 'N passed, M failed'.
+header declares beyond that is found by its name. The declarations of the Rust crate in bindings/, and the numbers of
+statuses in Rust, Python and Java, are compared with aqs.h in the same way. The last line is 'N passed, M failed'.
 """
 import os
 import pathlib
@@ -16,7 +16,14 @@ import sys
 ROOT = pathlib.Path(__file__).resolve().parent.parent
 HEADERS = ROOT / "bindings" / "c"
 ARCHIVE = ROOT / "crates" / "aqs_c" / "out" / "libaqs_c.a"
-SYS = ROOT / "bindings" / "rust" / "aqs" / "src" / "sys.rs"
+RUST = ROOT / "bindings" / "rust" / "aqs" / "src"
+# Where other languages have numbers of aqs.h, and in what form.
+COPIES = (
+    (RUST / "error.rs", r"Error::(\w+) => (\d+),"),
+    (RUST / "object.rs", r"const (\w+): sys::Status = (\d+);"),
+    (ROOT / "bindings" / "python" / "aqs.py", r"(?m)^ *([A-Z_]+) = (\d+)$"),
+    (ROOT / "bindings" / "java" / "src" / "aqs" / "Native.java", r"(?m)^    static final int ([A-Z_]+) = (\d+);$"),
+)
 NUMBERED = ["history/src/fault.rt", "aqs_c/src/answers.rt", "aqs_c/src/calls.rt", "aqs_c/src/opening.rt",
             "aqs_c/src/steps.rt"]
 
@@ -189,7 +196,7 @@ def differences(crates=ROOT / "crates", include=HEADERS):
     return compiled(border.as_c(), include) + beyond(header, border)
 
 
-def rust_differences(declared=SYS, include=HEADERS):
+def rust_differences(declared=RUST / "sys.rs", include=HEADERS):
     """How the Rust crate's declarations differ from aqs.h."""
     text = declared.read_text()
     lines = ['#include "aqs.h"', *functions(text, "pub").values()]
@@ -197,6 +204,17 @@ def rust_differences(declared=SYS, include=HEADERS):
     options = fields(re.search(r"pub struct Options \{\n(.*?)\n\}", text, re.S)[1], {})
     options = [(name, enums.get(name, of)) for name, of in options]
     return compiled([*lines, *struct_as_c("aqs_options_t", options)], include)
+
+
+def copies_differ(include=HEADERS):
+    """How the numbers of statuses and policies in other languages differ from those of aqs.h."""
+    lines = ['#include "aqs.h"']
+    for file, form in COPIES:
+        found = re.findall(form, file.read_text())
+        lines += [same(f"AQS_{name if name.isupper() else words_of(name)} == {n}", file.name) for name, n in found]
+        if not found:
+            lines.append(f"#error {file.name} has no numbers")
+    return compiled(lines, include)
 
 
 def symbols_differ(archive=ARCHIVE):
@@ -211,6 +229,7 @@ CHECKS = (
     ("aqs_core.h declares what crates/aqs_c exports", differences),
     ("the library defines these names", symbols_differ),
     ("the Rust crate declares what aqs.h does", rust_differences),
+    ("Rust, Python and Java have the numbers of aqs.h", copies_differ),
 )
 
 

@@ -45,6 +45,7 @@ class Headers(unittest.TestCase):
     def test_those_of_the_repository_agree(self):
         self.assertEqual(border.differences(), [])
         self.assertEqual(border.rust_differences(), [])
+        self.assertEqual(border.copies_differ(), [])
 
     def test_each_planted_difference_is_found(self):
         for what, old, new, named in PLANTED:
@@ -62,6 +63,17 @@ class Headers(unittest.TestCase):
         self.plant("aqs.h", "aqs_sem_release(aqs_sem_t *semaphore, uint32_t n)",
                    "aqs_sem_release(aqs_sem_t *semaphore, uint64_t n)")
         self.assertIn("aqs_sem_release", "\n".join(border.rust_differences(include=self.room)))
+
+
+    def test_numbers_of_other_languages_are_compared(self):
+        self.plant("aqs.h", "    AQS_NO_SPACE,", "    AQS_MORE,\n    AQS_NO_SPACE,")
+        found = "\n".join(border.copies_differ(include=self.room))
+        self.assertIn("object.rs", found)
+        self.assertIn("aqs.py", found)
+        self.plant("aqs.h", "    AQS_TIMED_OUT,", "    AQS_LESS,\n    AQS_TIMED_OUT,")
+        found = "\n".join(border.copies_differ(include=self.room))
+        self.assertIn("error.rs", found)
+        self.assertIn("Native.java", found)
 
 
 class Sources(unittest.TestCase):

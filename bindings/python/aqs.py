@@ -24,7 +24,10 @@ __all__ = [
     "interrupted",
 ]
 
-OK, TIMED_OUT, INTERRUPTED, WOULD_BLOCK = 0, 1, 2, 3
+OK = 0
+TIMED_OUT = 1
+INTERRUPTED = 2
+WOULD_BLOCK = 3
 NO_SPACE = 14
 
 
