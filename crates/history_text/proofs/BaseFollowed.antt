@@ -29,10 +29,10 @@ follow_behind b t (x ∷ xs) ys p = follow_behind b (with_sums t x) xs ys p.1
 pub record Left (b : Base) (first now : BaseSums) (all left : List BaseLine) : Type 0 where
   pub to : AllFollow b now left → AllFollow b first all
   pub from : AllFollow b first all → AllFollow b now left
-  pub with_sums : after_told now left ≡ after_told first all
+  pub told : after_told now left ≡ after_told first all
 
 pub none_yet : (b : Base) (t : BaseSums) (all : List BaseLine) → Left b t t all all
-none_yet b t all = record { to = λ p. p; from = λ p. p; with_sums = refl }
+none_yet b t all = record { to = λ p. p; from = λ p. p; told = refl }
 
 -- some more are taken up
 pub taken : (b : Base) (first now next : BaseSums) (all left xs rest : List BaseLine) → left ≡ xs ++ rest →
@@ -43,7 +43,7 @@ taken b first now next all left xs rest e was is =
           (follow-append b now xs rest is.0 (subst (λ t. AllFollow b t rest) is.1 p)));
       from = λ p. subst (λ t. AllFollow b t rest) (sym is.1)
           (follow_behind b now xs rest (subst (AllFollow b now) e (was.from p)));
-      with_sums = ap (λ (t : BaseSums). after_told t rest) is.1 ∙ sym (told-append now xs rest)
+      told = ap (λ (t : BaseSums). after_told t rest) is.1 ∙ sym (told-append now xs rest)
           ∙ ap (after_told now) (sym e) ∙ was.told;
     }
 
