@@ -118,7 +118,8 @@ bool aqs_thread_interrupted(void);
 /* Opens a lock, and puts a pointer to it into *lock. NULL options are the defaults. After another status
    *lock is NULL. AQS_OUT_OF_RANGE: an option is out of its range. */
 aqs_status_t aqs_lock_open(aqs_lock_t **lock, const aqs_options_t *options);
-/* Closes a lock and frees its memory, whether it is owned or not. NULL does nothing. */
+/* Closes a lock and frees its memory. Nobody should own it: a thread that does keeps its number for good.
+   NULL does nothing. */
 void aqs_lock_close(aqs_lock_t *lock);
 
 /* Acquires the lock, and waits while another thread owns it. The owner acquires it once more at once, and has
