@@ -9,6 +9,7 @@ judged by `aqs audit`, if the program is built (crates/aqs/out/aqs, or AQS), and
 import glob
 import os
 import pathlib
+import re
 import shutil
 import subprocess
 import sys
@@ -102,6 +103,7 @@ def check_c(tests):
         return
     kept = tests.histories("c")
     tests.run("each call of aqs.h", [OUT / "calls", kept])
+    tests.run("allocations that fail", [OUT / "memory"])
     tests.run("guards of C++", [OUT / "guards", kept])
     for threads, rounds in STORMS:
         tests.run(f"storms of {threads} threads", [OUT / "storms", kept, threads, rounds], 120)
@@ -112,14 +114,32 @@ def check_c(tests):
 
 
 def check_install(tests):
+    """What `make install` leaves is enough for a program, by the flags that pkg-config gives."""
     with tempfile.TemporaryDirectory() as room:
-        if not tests.run("make install", ["make", "-s", "install", f"DESTDIR={room}", "PREFIX=/usr"]):
+        if not tests.run("make install", ["make", "-s", "install", f"PREFIX={room}"]):
             return
-        include, lib = f"{room}/usr/include", f"{room}/usr/lib"
-        words = ["cc", "-std=gnu11", f"-I{include}", "-Itest", "test/calls.c", f"-L{lib}", "-laqs", "-pthread"]
+        flags = flags_of(room)
+        if not tests.count("the flags of aqs.pc", f"-I{room}/include" in flags and f"-L{room}/lib" in flags):
+            return
         program, kept = f"{room}/calls", tests.histories("shared")
-        if tests.run("a program links with what was installed", [*words, "-o", program]):
-            tests.run("it runs with libaqs.so", [program, kept], LD_LIBRARY_PATH=lib)
+        words = ["cc", "-std=gnu11", "-Itest", "test/calls.c", *flags, "-o", program]
+        if tests.run("a program links with what was installed", words):
+            tests.run("it runs with libaqs.so", [program, kept], LD_LIBRARY_PATH=f"{room}/lib")
+
+
+def flags_of(prefix):
+    """The flags that pkg-config gives for an installed library. Without it the file is read here."""
+    folder = f"{prefix}/lib/pkgconfig"
+    if has("pkg-config"):
+        words = ["pkg-config", "--cflags", "--libs", "aqs"]
+        environment = {**os.environ, "PKG_CONFIG_PATH": folder}
+        return subprocess.run(words, capture_output=True, env=environment, text=True).stdout.split()
+    lines = pathlib.Path(f"{folder}/aqs.pc").read_text().splitlines()
+    values = dict(line.split("=", 1) for line in lines if re.match(r"\w+=", line))
+    text = " ".join(line.split(": ", 1)[1] for line in lines if line.startswith(("Cflags: ", "Libs: ")))
+    while "${" in text:
+        text = re.sub(r"\$\{(\w+)\}", lambda it: values[it[1]], text)
+    return text.split()
 
 
 # What a sanitizer is given beside the sources. ThreadSanitizer wants addresses where it expects them.

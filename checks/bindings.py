@@ -1,16 +1,18 @@
 #!/usr/bin/env python3
 """The callers in other languages: checks/bindings.py [PROGRAM].
 
-Builds the library over crates/aqs_c/out/libaqs_c.a, as rt ci leaves it, or by rt lib if it is missing, and
-runs `make check` in bindings/: the tests of C, C++, Rust, Python and Java, the sanitizers, and the audit of the
-histories by PROGRAM (crates/aqs/out/aqs). What the machine has no tools for is left out, and told. C and C++
-must be there. The last line is 'N passed, M failed'.
+Builds the library over crates/aqs_c/out/libaqs_c.a, as rt ci leaves it, or by rt lib if it is missing. The headers
+are compared with what it exports (`border.py`). Then `make check` in bindings/ runs the tests of C, C++, Rust,
+Python and Java, the sanitizers, and the audit of the histories by PROGRAM (crates/aqs/out/aqs). What the machine
+has no tools for is left out, and printed. C and C++ must be there. The last line is 'N passed, M failed'.
 """
 import os
 import re
 import shutil
 import subprocess
 import sys
+
+import border
 
 HERE = os.path.dirname(os.path.realpath(__file__))
 ROOT = os.path.dirname(HERE)
@@ -57,7 +59,8 @@ def checked(program):
         return 0, 1
     found = numbers_of("\n".join(line for line in told.splitlines() if not line.startswith("make")))
     print("\n".join(line for line in told.splitlines() if not re.fullmatch(COUNTED, line)), flush=True)
-    return found or (0, 1)
+    tests, headers = found or (0, 1), border.checked()
+    return tests[0] + headers[0], tests[1] + headers[1]
 
 
 def main(words):

@@ -13,12 +13,17 @@
 
 #include "aqs_core.h"
 
+#include <linux/futex.h>
 #include <pthread.h>
 #include <sched.h>
 #include <stdatomic.h>
 #include <stdlib.h>
-#include <string.h>
+#include <sys/syscall.h>
 #include <time.h>
+#include <unistd.h>
+
+/* What is called seldom stays out of the short ways. */
+#define COLD __attribute__((noinline, cold))
 
 /* ThreadSanitizer doesn't see into the library: a turn orders what its thread does before and after it. */
 #if defined(__SANITIZE_THREAD__)
@@ -45,10 +50,6 @@ enum { PERMIT = 1, INTERRUPT = 2, SLEEPS = 4 };
 
 typedef struct {
     _Alignas(64) _Atomic uint32_t word;
-#ifndef __linux__
-    pthread_mutex_t mutex;
-    pthread_cond_t changed;
-#endif
 } place_t;
 
 static place_t places[AQS_THREADS];
@@ -59,11 +60,6 @@ static uint64_t now_in_milliseconds(void) {
     return (uint64_t)now.tv_sec * 1000 + (uint64_t)now.tv_nsec / 1000000;
 }
 
-#ifdef __linux__
-#include <linux/futex.h>
-#include <sys/syscall.h>
-#include <unistd.h>
-
 static void wake(place_t *place) {
     syscall(SYS_futex, &place->word, FUTEX_WAKE_PRIVATE, 1, NULL, NULL, 0);
 }
@@ -72,27 +68,6 @@ static void wake(place_t *place) {
 static void sleep_while(place_t *place, uint32_t read, const struct timespec *moment) {
     syscall(SYS_futex, &place->word, FUTEX_WAIT_BITSET_PRIVATE, read, moment, NULL, FUTEX_BITSET_MATCH_ANY);
 }
-#else
-static void wake(place_t *place) {
-    pthread_mutex_lock(&place->mutex);
-    pthread_cond_signal(&place->changed);
-    pthread_mutex_unlock(&place->mutex);
-}
-
-static void sleep_while(place_t *place, uint32_t read, const struct timespec *moment) {
-    struct timespec soon;
-    clock_gettime(CLOCK_REALTIME, &soon);
-    soon.tv_nsec += 1000000;
-    soon.tv_sec += soon.tv_nsec / 1000000000;
-    soon.tv_nsec %= 1000000000;
-    pthread_mutex_lock(&place->mutex);
-    if (atomic_load(&place->word) == read) {
-        if (moment) pthread_cond_timedwait(&place->changed, &place->mutex, &soon);
-        else pthread_cond_wait(&place->changed, &place->mutex);
-    }
-    pthread_mutex_unlock(&place->mutex);
-}
-#endif
 
 /* Sets a signal, and wakes the thread of the place if it sleeps. */
 static void send(place_t *place, uint32_t signal) {
@@ -129,42 +104,39 @@ static uint8_t park(place_t *place, const aqs_answer_t *answer) {
 static _Atomic uint64_t taken[AQS_THREADS / 64];
 static pthread_key_t at_end;
 static pthread_once_t once = PTHREAD_ONCE_INIT;
-static _Thread_local aqs_thread_t self = AQS_THREADS;
-/* How many holds of locks the thread has. One that ends with some keeps its number, and its holds, for
-   good. */
-static _Thread_local uint64_t holds;
+
+/* The calling thread: its number, and how many holds of locks it has. One that ends with some keeps its
+   number, and its holds, for good. */
+static _Thread_local struct {
+    uint64_t holds;
+    aqs_thread_t number;
+} self = {0, AQS_THREADS};
 
 static void give_number_back(void *number) {
     aqs_thread_t thread = (aqs_thread_t)((uintptr_t)number - 1);
-    if (holds == 0) atomic_fetch_and(&taken[thread / 64], ~(UINT64_C(1) << thread % 64));
-    self = AQS_THREADS;
+    if (self.holds == 0) atomic_fetch_and(&taken[thread / 64], ~(UINT64_C(1) << thread % 64));
+    self.number = AQS_THREADS;
 }
 
 static void prepare(void) {
     pthread_key_create(&at_end, give_number_back);
-#ifndef __linux__
-    for (int i = 0; i < AQS_THREADS; i++) {
-        pthread_mutex_init(&places[i].mutex, NULL);
-        pthread_cond_init(&places[i].changed, NULL);
-    }
-#endif
 }
 
-static aqs_thread_t take_number(void) {
+static COLD aqs_thread_t take_number(void) {
     pthread_once(&once, prepare);
     for (aqs_thread_t thread = 0; thread < AQS_THREADS; thread++) {
         uint64_t bit = UINT64_C(1) << thread % 64;
         if (!(atomic_load(&taken[thread / 64]) & bit) && !(atomic_fetch_or(&taken[thread / 64], bit) & bit)) {
             atomic_store(&places[thread].word, 0);
             pthread_setspecific(at_end, (void *)(uintptr_t)(thread + 1));
-            return self = thread;
+            return self.number = thread;
         }
     }
     return AQS_THREADS;
 }
 
 aqs_thread_t aqs_thread_self(void) {
-    return self < AQS_THREADS ? self : take_number();
+    return self.number < AQS_THREADS ? self.number : take_number();
 }
 
 aqs_status_t aqs_thread_interrupt(aqs_thread_t thread) {
@@ -230,9 +202,9 @@ static uint8_t trim(aqs_object_t *object, aqs_thread_t me, uint64_t *count) {
     return kind;
 }
 
-/* Whether the history was full, and the call is to be made again. A fold that finds nothing may have come
-   right after another thread's. `empty` counts such folds, since the room of an object may also be too small
-   for its threads: then they all find nothing. */
+/* Whether the history was full, and was folded. A fold that finds nothing may have come right after another
+   thread's. `empty` counts such folds, since the room of an object may also be too small for its threads:
+   then they all find nothing. */
 static bool makes_room(aqs_object_t *object, aqs_thread_t me, uint8_t fault, unsigned *empty) {
     uint64_t count = 0;
     if (fault != AQS_FAULT_HISTORY_FULL || !object->trims) return false;
@@ -240,49 +212,49 @@ static bool makes_room(aqs_object_t *object, aqs_thread_t me, uint8_t fault, uns
     return count > 0 || ++*empty < 100;
 }
 
+/* Looks and folds that found nothing, of one call. */
+typedef struct {
+    unsigned looks, empty;
+} tries_t;
+
+/* Whether a first turn changed nothing and is to be made again: others had the object, or it has room now. */
+static bool is_made_again(aqs_object_t *object, aqs_thread_t me, const aqs_answer_t *answer, tries_t *tries) {
+    if (answer->kind == AQS_IS_BUSY) {
+        back_off(&tries->looks);
+        return true;
+    }
+    return answer->kind == AQS_IS_FAULT && makes_room(object, me, answer->fault, &tries->empty);
+}
+
 /* What a caller owes after each turn. */
-static void settle(aqs_object_t *object, aqs_thread_t me, const aqs_answer_t *answer) {
-    __tsan_acquire(object);
+static void settle(aqs_thread_t me, const aqs_answer_t *answer) {
     if (answer->has_wakes) send(&places[answer->wakes], PERMIT);
     if (answer->again) send(&places[me], INTERRUPT);
 }
 
-static aqs_answer_t make_step(aqs_object_t *object, aqs_thread_t me, aqs_step_t step) {
-    aqs_answer_t answer;
-    unsigned looks = 0, empty = 0;
+/* Each turn is made between these two lines, of which only ThreadSanitizer takes note. */
+static inline void first_turn(aqs_object_t *object, aqs_thread_t me, aqs_call_t call, aqs_answer_t *answer) {
     __tsan_release(object);
-    for (;;) {
-        aqs_step_now(&object->seats[me].pass, step, &answer);
-        if (answer.kind == AQS_IS_BUSY) back_off(&looks);
-        else if (answer.kind != AQS_IS_FAULT || !makes_room(object, me, answer.fault, &empty)) break;
-    }
-    settle(object, me, &answer);
-    return answer;
+    aqs_begin(&object->seats[me].pass, call, answer);
+    __tsan_acquire(object);
 }
 
-static aqs_answer_t make_call(aqs_object_t *object, aqs_thread_t me, aqs_call_t call) {
-    aqs_answer_t answer;
-    unsigned looks = 0, empty = 0;
-    place_t *place = &places[me];
-    call.interrupted = call.how != AQS_HOW_PLAIN && take(place, INTERRUPT);
-    call.moment = call.how == AQS_HOW_TIMED ? now_in_milliseconds() : 0;
+static inline void one_step(aqs_object_t *object, aqs_thread_t me, aqs_step_t step, aqs_answer_t *answer) {
     __tsan_release(object);
-    for (;;) {
-        aqs_begin(&object->seats[me].pass, call, &answer);
-        if (answer.kind == AQS_IS_BUSY) back_off(&looks);
-        else if (answer.kind != AQS_IS_FAULT || !makes_room(object, me, answer.fault, &empty)) break;
+    aqs_step_now(&object->seats[me].pass, step, answer);
+    __tsan_acquire(object);
+}
+
+/* The next turn of a call that waits, after its park. */
+static void next_turn(aqs_object_t *object, aqs_thread_t me, aqs_answer_t *answer) {
+    uint8_t woke = answer->parks ? park(&places[me], answer) : AQS_WOKE_PERMIT;
+    unsigned looks = 0;
+    __tsan_release(object);
+    for (;; back_off(&looks)) {
+        aqs_go_on(&object->seats[me].pass, woke, answer);
+        if (answer->kind != AQS_IS_BUSY) break;
     }
-    settle(object, me, &answer);
-    while (answer.kind == AQS_IS_WAITING) {
-        uint8_t woke = answer.parks ? park(place, &answer) : AQS_WOKE_PERMIT;
-        __tsan_release(object);
-        for (looks = 0;; back_off(&looks)) {
-            aqs_go_on(&object->seats[me].pass, woke, &answer);
-            if (answer.kind != AQS_IS_BUSY) break;
-        }
-        settle(object, me, &answer);
-    }
-    return answer;
+    __tsan_acquire(object);
 }
 
 /* Answers as statuses ------------------------------------------------------------------------------------ */
@@ -333,41 +305,86 @@ const char *aqs_status_name(aqs_status_t status) {
 }
 
 /* One step of the calling thread, or one call. `owned` says by how many holds of a lock it changes the
-   thread's. */
+   thread's. Most end in their first turn, and nothing is left to do: that way is short, and the other is
+   elsewhere. */
 
-static aqs_status_t do_step(aqs_object_t *object, aqs_step_t step, int owned, uint32_t *n) {
-    aqs_thread_t me = aqs_thread_self();
-    if (me >= object->count) return AQS_TOO_MANY_THREADS;
-    aqs_answer_t answer = make_step(object, me, step);
-    aqs_status_t status = status_of(&answer);
-    if (status == AQS_OK) {
-        holds += (uint64_t)(int64_t)owned;
-        if (n) *n = answer.n;
-    }
+/* Whether it ended with an entry that gives what was asked for, after which nothing is owed. */
+static inline bool is_plain_end(const aqs_answer_t *answer) {
+    return answer->kind == AQS_IS_ENTRY && answer->word != AQS_WORD_MISSED && answer->fault == 0
+           && answer->end == AQS_END_NONE && !answer->has_wakes && !answer->again;
+}
+
+/* The calling thread's number if it has a seat in the object, and else AQS_THREADS. */
+static inline aqs_thread_t seat_of_self(const aqs_object_t *object) {
+    aqs_thread_t me = self.number < AQS_THREADS ? self.number : take_number();
+    return me < object->count ? me : AQS_THREADS;
+}
+
+static aqs_status_t ended(const aqs_answer_t *answer, int owned) {
+    aqs_status_t status = status_of(answer);
+    if (status == AQS_OK) self.holds += (uint64_t)(int64_t)owned;
     return status;
 }
 
-static aqs_status_t do_call(aqs_object_t *object, aqs_call_t call, int owned) {
-    aqs_thread_t me = aqs_thread_self();
-    if (me >= object->count) return AQS_TOO_MANY_THREADS;
-    aqs_answer_t answer = make_call(object, me, call);
-    aqs_status_t status = status_of(&answer);
-    if (status == AQS_OK) holds += (uint64_t)(int64_t)owned;
+/* The rest of a step, from its first answer on. */
+static COLD aqs_status_t
+end_step(aqs_object_t *object, aqs_thread_t me, aqs_step_t step, aqs_answer_t *answer, int owned) {
+    tries_t tries = {0, 0};
+    while (is_made_again(object, me, answer, &tries)) one_step(object, me, step, answer);
+    settle(me, answer);
+    return ended(answer, owned);
+}
+
+/* The rest of a call, from its first answer on. */
+static COLD aqs_status_t
+end_call(aqs_object_t *object, aqs_thread_t me, aqs_call_t call, aqs_answer_t *answer, int owned) {
+    tries_t tries = {0, 0};
+    while (is_made_again(object, me, answer, &tries)) first_turn(object, me, call, answer);
+    settle(me, answer);
+    while (answer->kind == AQS_IS_WAITING) {
+        next_turn(object, me, answer);
+        settle(me, answer);
+    }
+    aqs_status_t status = ended(answer, owned);
     return status == AQS_WOULD_BLOCK ? AQS_TIMED_OUT : status;
 }
 
-static aqs_status_t acquire(
+static inline aqs_status_t do_step(aqs_object_t *object, aqs_step_t step, int owned, uint32_t *n) {
+    aqs_thread_t me = seat_of_self(object);
+    if (me == AQS_THREADS) return AQS_TOO_MANY_THREADS;
+    aqs_answer_t answer;
+    one_step(object, me, step, &answer);
+    aqs_status_t status = AQS_OK;
+    if (is_plain_end(&answer)) self.holds += (uint64_t)(int64_t)owned;
+    else status = end_step(object, me, step, &answer, owned);
+    if (n && status == AQS_OK) *n = answer.n;
+    return status;
+}
+
+static inline aqs_status_t do_call(aqs_object_t *object, aqs_call_t call, int owned) {
+    aqs_thread_t me = seat_of_self(object);
+    if (me == AQS_THREADS) return AQS_TOO_MANY_THREADS;
+    aqs_answer_t answer;
+    call.interrupted = call.how != AQS_HOW_PLAIN && take(&places[me], INTERRUPT);
+    call.moment = call.how == AQS_HOW_TIMED ? now_in_milliseconds() : 0;
+    first_turn(object, me, call, &answer);
+    if (!is_plain_end(&answer)) return end_call(object, me, call, &answer, owned);
+    self.holds += (uint64_t)(int64_t)owned;
+    return AQS_OK;
+}
+
+static inline aqs_status_t acquire(
     aqs_object_t *object, uint8_t mode, uint32_t n, uint8_t how, uint32_t time, int owned) {
     aqs_call_t call = {.kind = AQS_CALL_ACQUIRE, .mode = mode, .n = n, .how = how, .time = time};
     return do_call(object, call, owned);
 }
 
-static aqs_status_t await(aqs_object_t *object, uint8_t condition, uint8_t how, uint32_t time) {
+static inline aqs_status_t await(aqs_object_t *object, uint8_t condition, uint8_t how, uint32_t time) {
     aqs_call_t call = {.kind = AQS_CALL_AWAIT, .mode = condition, .how = how, .time = time};
     return do_call(object, call, 0);
 }
 
-static aqs_status_t step(aqs_object_t *object, uint8_t code, uint8_t mode, uint32_t n, int owned) {
+static inline aqs_status_t step(aqs_object_t *object, uint8_t code, uint8_t mode, uint32_t n, int owned) {
     return do_step(object, (aqs_step_t){.n = n, .code = code, .mode = mode}, owned, NULL);
 }
 
@@ -423,7 +440,10 @@ static void close_object(aqs_object_t *object) {
     do {                                                                                     \
         if (!(*(place) = malloc(sizeof **(place)))) return AQS_OUT_OF_MEMORY;                \
         aqs_status_t status_ = open_object(&(*(place))->object, (kind), (number), (options)); \
-        if (status_ != AQS_OK) free(*(place));                                               \
+        if (status_ != AQS_OK) {                                                             \
+            free(*(place));                                                                  \
+            *(place) = NULL;                                                                 \
+        }                                                                                    \
         return status_;                                                                      \
     } while (0)
 #define CLOSE(it)                            \

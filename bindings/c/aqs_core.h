@@ -64,9 +64,18 @@ enum { AQS_CALL_ACQUIRE, AQS_CALL_AWAIT };
 enum { AQS_HOW_PLAIN, AQS_HOW_INTERRUPTIBLE, AQS_HOW_TIMED };
 enum { AQS_WOKE_PERMIT, AQS_WOKE_DEADLINE, AQS_WOKE_INTERRUPT };
 
-/* What a call is answered: AQS_IS_ENTRY with the entry; AQS_IS_FAULT with the fault; AQS_IS_WAITING with
-   how the seat parks, if it parks before the next turn. If has_wakes, the seat `wakes` has to be unparked.
-   If again, the seat's own interrupt has to be set again. */
+/* What a turn comes to. `kind` says which of the other fields mean something:
+   - AQS_IS_ENTRY: it ended with this entry: n, seat, word, mode, at, end, and fault if the word is
+     AQS_WORD_REFUSED.
+   - AQS_IS_FAULT: it ended with this fault, and nothing was recorded.
+   - AQS_IS_WAITING: the call waits. If `parks`, the seat parks before the next turn: until it is unparked, or
+     until the clock shows `until` if has_until, or until its interrupt if interruptible.
+   - AQS_IS_SLEEP: the seat of the step waits on.
+   - AQS_IS_BUSY: another call had the object, and nothing has changed. Try again.
+   - AQS_IS_NO_CODE, AQS_IS_NO_PASS, AQS_IS_NO_ENTRY, AQS_IS_IN_CALL, AQS_IS_IN_NO_CALL: nothing has changed.
+   After an entry, a fault or AQS_IS_WAITING the caller owes, in this order: to unpark the seat `wakes` if
+   has_wakes; to set its own interrupt if `again`; to park and go on if the call waits. After any other kind
+   has_wakes, again and parks are false. */
 typedef struct {
     uint64_t until;
     uint32_t n;
@@ -96,29 +105,32 @@ enum {
    number of the header is out of range or `count` isn't the number of seats. */
 uint8_t aqs_open(aqs_header_t header, aqs_pass_t *places, size_t count);
 
-/* One step. AQS_IS_BUSY, from this and the calls below, says that another call had the object and nothing has
-   changed. AQS_IS_IN_CALL says that the seat is in a call that waits. */
+/* Makes one step, and writes what it came to. AQS_IS_IN_CALL: the seat is in a call that waits. AQS_IS_NO_CODE:
+   these are the numbers of no step. */
 void aqs_step_now(aqs_pass_t *pass, aqs_step_t step, aqs_answer_t *answer);
 
-/* The first turn of a call that may wait. */
+/* Makes the first turn of a call that may wait. AQS_IS_IN_CALL: the seat is in another. AQS_IS_NO_CODE: these
+   are the numbers of no call. */
 void aqs_begin(aqs_pass_t *pass, aqs_call_t call, aqs_answer_t *answer);
 
-/* The next turn of a call that waits. woke: AQS_WOKE_*, how its park ended; any of them if it didn't park. */
+/* Makes the next turn of a call that waits. woke: AQS_WOKE_*, how its park ended; any of them if it didn't park.
+   AQS_IS_IN_NO_CALL: the seat is in none. AQS_IS_NO_CODE: no park ends so. */
 void aqs_go_on(aqs_pass_t *pass, uint8_t woke, aqs_answer_t *answer);
 
-/* The entry of a number since the last trim, counted from 0, or AQS_IS_NO_ENTRY. */
+/* Writes the entry of a number since the last trim, counted from 0, or AQS_IS_NO_ENTRY. */
 void aqs_entry_now(aqs_pass_t *pass, uint64_t number, aqs_answer_t *answer);
 
-/* The text of the history since the last trim, as `aqs audit` reads it: 0, its length, and the text where
-   it fits in `size`. Else AQS_IS_BUSY, AQS_IS_FAULT or AQS_IS_NO_PASS. `out` is not null, even where `size`
-   is 0. */
+/* Writes the text of the history since the last trim, as `aqs audit` reads it, if it fits in `size`, and its
+   length in any case: returns AQS_IS_ENTRY. Or returns AQS_IS_BUSY, AQS_IS_NO_PASS, or AQS_IS_FAULT if memory
+   lacks, and *length is as it was. `out` is not null, even if `size` is 0. */
 uint8_t aqs_text_now(aqs_pass_t *pass, uint8_t *out, size_t size, uint64_t *length);
 
-/* Folds all entries, so that their room comes back: 0, and their number. Nothing else changes. Else as
-   above. */
+/* Folds all entries, so that their room comes back, and writes their number: returns AQS_IS_ENTRY. What the
+   object does next is the same as before. Or returns AQS_IS_BUSY, AQS_IS_NO_PASS, or AQS_IS_FAULT if more than
+   10^15 entries would have been folded. */
 uint8_t aqs_trim_now(aqs_pass_t *pass, uint64_t *count);
 
-/* Gives a pass back. The object goes with the last of its passes. */
+/* Gives a pass back, and leaves AQS_NO_PASS. The object is freed with the last of its passes. */
 void aqs_drop(aqs_pass_t *pass);
 
 #ifdef __cplusplus

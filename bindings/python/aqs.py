@@ -24,12 +24,15 @@ __all__ = [
     "interrupted",
 ]
 
-OK, TIMED_OUT, INTERRUPTED, WOULD_BLOCK = 0, 1, 2, 3
+OK = 0
+TIMED_OUT = 1
+INTERRUPTED = 2
+WOULD_BLOCK = 3
 NO_SPACE = 14
 
 
 class Policy(enum.IntEnum):
-    """Which new calls stand behind those who wait."""
+    """Which new calls queue up after those who wait: none, all but tries, or all."""
 
     NONFAIR = 0
     FAIR = 1

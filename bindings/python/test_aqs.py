@@ -1,10 +1,29 @@
 """Each class once: python3 -m unittest test_aqs. AQS_HISTORIES names a folder for the histories."""
+import ctypes
 import os
+import pathlib
+import re
 import threading
 import time
 import unittest
 
 import aqs
+
+HEADER = pathlib.Path(aqs.__file__).resolve().parent.parent / "c" / "aqs.h"
+NUMBERS = {
+    "uint8_t": ctypes.c_uint8, "uint32_t": ctypes.c_uint32, "int32_t": ctypes.c_int32, "size_t": ctypes.c_size_t,
+    "aqs_thread_t": ctypes.c_uint16, "aqs_status_t": ctypes.c_int, "bool": ctypes.c_bool, "void": None,
+}
+
+
+def in_c(declared):
+    """The type of a parameter in C: of a number ctypes' own, and else "pointer"."""
+    return "pointer" if "*" in declared else NUMBERS[declared.split()[0]]
+
+
+def in_python(declared):
+    is_pointer = declared in (ctypes.c_void_p, ctypes.c_char_p) or hasattr(declared, "contents")
+    return "pointer" if is_pointer else declared
 
 
 def run_all(count, work):
@@ -138,6 +157,20 @@ class Objects(unittest.TestCase):
             aqs.Lock(threads=257)
         with self.assertRaises(aqs.Error):
             aqs.Latch(2**31)
+
+
+class Declarations(unittest.TestCase):
+    def test_they_are_those_of_the_header(self):
+        text = re.sub(r"/\*.*?\*/", "", HEADER.read_text(encoding="ascii"), flags=re.S)
+        compared = 0
+        for result, name, taken in re.findall(r"(?m)^([\w ]+ \*?)(aqs_\w+)\(([^)]*)\);$", text):
+            function = getattr(aqs._library, name)
+            if function.argtypes is not None:
+                wanted = [in_c(it.strip()) for it in taken.split(",") if it != "void"]
+                self.assertEqual([in_python(it) for it in function.argtypes], wanted, name)
+                self.assertEqual(in_python(function.restype), in_c(result), name)
+                compared += 1
+        self.assertGreater(compared, 40)
 
 
 if __name__ == "__main__":

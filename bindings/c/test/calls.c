@@ -171,6 +171,25 @@ static void read_write_locks(void) {
     aqs_rwlock_close(lock);
 }
 
+/* Either side of a read-write lock can be held 65535 times. */
+static void hold_limits(void) {
+    aqs_rwlock_t *lock;
+    aqs_status_t status;
+    long reads = 0, writes = 0;
+    IS(aqs_rwlock_open(&lock, &(aqs_options_t){.threads = 2}), AQS_OK);
+    while ((status = aqs_rwlock_wrlock(lock)) == AQS_OK) writes++;
+    IS(status, AQS_TOO_MANY_HOLDS);
+    IS(aqs_rwlock_trywrlock(lock), AQS_TOO_MANY_HOLDS);
+    while ((status = aqs_rwlock_rdlock(lock)) == AQS_OK) reads++;
+    IS(status, AQS_TOO_MANY_HOLDS);
+    CHECK(reads == 65535 && writes == 65535);
+    while (writes-- > 0) IS(aqs_rwlock_wrunlock(lock), AQS_OK);
+    while (reads-- > 0) IS(aqs_rwlock_rdunlock(lock), AQS_OK);
+    IS(in_other(try_write, lock), AQS_OK);
+    keep_history(aqs_rwlock_object(lock), folder, "calls-holds");
+    aqs_rwlock_close(lock);
+}
+
 static aqs_status_t acquire_three(void *semaphore) { return aqs_sem_acquire(semaphore, 3); }
 
 static void semaphores(void) {
@@ -252,6 +271,12 @@ static void histories(void) {
     IS(aqs_history_text(object, text, length, &length), AQS_OK);
     CHECK(memcmp(text, "aqs-history ", 12) == 0);
     free(text);
+    FILE *full = fopen("/dev/full", "w");
+    if (full) {
+        setvbuf(full, NULL, _IONBF, 0);
+        IS(aqs_history_write(object, full), AQS_IO_ERROR);
+        fclose(full);
+    }
     keep_history(object, folder, "calls-trimmed");
     IS(aqs_history_trim(object, &count), AQS_OK);
     CHECK(count > 0);
@@ -273,7 +298,9 @@ static void options_and_statuses(void) {
     aqs_lock_t *lock;
     aqs_latch_t *latch;
     aqs_sem_t *semaphore;
+    lock = (aqs_lock_t *)&lock;
     IS(aqs_lock_open(&lock, &(aqs_options_t){.threads = 257}), AQS_OUT_OF_RANGE);
+    CHECK(!lock);
     IS(aqs_lock_open(&lock, &(aqs_options_t){.conditions = 17}), AQS_OUT_OF_RANGE);
     IS(aqs_lock_open(&lock, &(aqs_options_t){.history = 15}), AQS_OUT_OF_RANGE);
     IS(aqs_lock_open(&lock, &(aqs_options_t){.policy = 3}), AQS_OUT_OF_RANGE);
@@ -349,6 +376,7 @@ int main(int count, char **words) {
     locks();
     conditions();
     read_write_locks();
+    hold_limits();
     semaphores();
     latches();
     owners_that_end();

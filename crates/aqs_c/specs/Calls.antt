@@ -14,15 +14,16 @@ use Rattle.monitor.specs.declared.machine.Turn.{Turn}
 use Rattle.monitor.specs.declared.machine.Waiting.{Waiting}
 use Rattle.monitor.specs.declared.step.Now.{Now}
 use Rattle.permit.specs.declared.parking.Woke.{Woke}
-use Rattle.aqs_c.specs.Codes.{IsAnswerOf, IsCallOf, IsCodeOf, IsEntry, IsTurnOf, IsWoke}
+use Rattle.aqs_c.specs.Codes.{IsAnswerOf, IsCallOf, IsCodeOf, IsEntry, IsQuiet, IsTurnOf, IsWoke}
 use Rattle.aqs_c.specs.Seated.{Seated, waiting_in}
 use Rattle.aqs_c.specs.declared.answers.AqsAnswer.{AqsAnswer}
 use Rattle.aqs_c.specs.declared.calls.AqsCall.{AqsCall}
 use Rattle.aqs_c.specs.declared.steps.AqsStep.{AqsStep}
 
--- an answer of this kind, after which nothing has changed
+-- an answer of this kind, after which nothing has changed and the caller owes nothing
 pub record IsRefused (kind : ℕ) (old : Seated) (a : AqsAnswer) (new : Seated) : Type 0 where
   pub kind_is : a.kind ≡ kind
+  pub quiet : IsQuiet a
   pub pass : new.pass ≡ old.pass
   pub waiting : new.waiting ≡ old.waiting
 
@@ -88,17 +89,21 @@ IsSeatGoneOn old number a new =
     ((old.waiting ≡ None) × IsRefused 9 old a new)
     ⊎ ((w : Waiting) × (old.waiting ≡ Some w) × IsCallGoneOn w old number a new)
 
+-- the pass is empty
+abbrev pub IsNoPass : AqsAnswer → Type 0
+IsNoPass a = (a.kind ≡ 5) × IsQuiet a
+
 -- The same of a pass, which may be empty: it stays so.
 abbrev pub IsPassStep : Option Seated → AqsStep → AqsAnswer → Option Seated → Type 0
-IsPassStep None code a new = (a.kind ≡ 5) × (new ≡ None)
+IsPassStep None code a new = IsNoPass a × (new ≡ None)
 IsPassStep (Some old) code a new = (seat : Seated) × (new ≡ Some seat) × IsSeatStep old code a seat
 
 abbrev pub IsPassBegun : Option Seated → AqsCall → AqsAnswer → Option Seated → Type 0
-IsPassBegun None c a new = (a.kind ≡ 5) × (new ≡ None)
+IsPassBegun None c a new = IsNoPass a × (new ≡ None)
 IsPassBegun (Some old) c a new = (seat : Seated) × (new ≡ Some seat) × IsSeatBegun old c a seat
 
 abbrev pub IsPassGoneOn : Option Seated → ℕ → AqsAnswer → Option Seated → Type 0
-IsPassGoneOn None number a new = (a.kind ≡ 5) × (new ≡ None)
+IsPassGoneOn None number a new = IsNoPass a × (new ≡ None)
 IsPassGoneOn (Some old) number a new = (seat : Seated) × (new ≡ Some seat) × IsSeatGoneOn old number a seat
 
 -- the pass may have seen more, and nothing else has changed
@@ -108,8 +113,8 @@ pub record IsSeatLook (old new : Seated) : Type 0 where
 
 -- an entry, or none of that number
 abbrev pub IsEntryAt : Option Entry → AqsAnswer → Type 0
-IsEntryAt None a = a.kind ≡ 6
-IsEntryAt (Some e) a = IsEntry e a
+IsEntryAt None a = (a.kind ≡ 6) × IsQuiet a
+IsEntryAt (Some e) a = IsEntry e a × IsQuiet a
 
 abbrev pub IsSeatEntry : Seated → ℕ → AqsAnswer → Seated → Type 0
 IsSeatEntry old number a new =
@@ -117,7 +122,7 @@ IsSeatEntry old number a new =
     ⊎ (IsSeatLook old new × IsEntryAt (slice_get (reverse new.pass.seen.entries) number) a)
 
 abbrev pub IsPassEntry : Option Seated → ℕ → AqsAnswer → Option Seated → Type 0
-IsPassEntry None number a new = (a.kind ≡ 5) × (new ≡ None)
+IsPassEntry None number a new = IsNoPass a × (new ≡ None)
 IsPassEntry (Some old) number a new = (seat : Seated) × (new ≡ Some seat) × IsSeatEntry old number a seat
 
 -- the text of what a pass has seen

@@ -116,11 +116,15 @@ IsEntry e a =
 abbrev pub IsNamed : Option ℕ → AqsAnswer → Type 0
 IsNamed named a = (a.has_wakes ≡ is_some named) × (a.wakes ≡ unwrap_or named 0)
 
+-- the caller owes nothing: no seat is to be unparked, no interrupt to be set again, and it doesn't park
+abbrev pub IsQuiet : AqsAnswer → Type 0
+IsQuiet a = IsNamed None a × (a.again ≡ false) × (a.parks ≡ false)
+
 abbrev pub IsAnswerOf : Result Now Fault → AqsAnswer → Type 0
-IsAnswerOf (Ok (Done (Recorded e named))) a = IsEntry e a × IsNamed named a
-IsAnswerOf (Ok (Done Sleep)) a = a.kind ≡ 1
-IsAnswerOf (Ok Busy) a = a.kind ≡ 3
-IsAnswerOf (Err fault) a = (a.kind ≡ 2) × (a.fault ≡ fault_number fault)
+IsAnswerOf (Ok (Done (Recorded e named))) a = IsEntry e a × IsNamed named a × (a.again ≡ false)
+IsAnswerOf (Ok (Done Sleep)) a = (a.kind ≡ 1) × IsQuiet a
+IsAnswerOf (Ok Busy) a = (a.kind ≡ 3) × IsQuiet a
+IsAnswerOf (Err fault) a = (a.kind ≡ 2) × (a.fault ≡ fault_number fault) × IsQuiet a
 
 -- whether and how the seat parks
 abbrev pub IsParkOf : Option Limits → AqsAnswer → Type 0

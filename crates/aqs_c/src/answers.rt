@@ -1,7 +1,7 @@
 //! Answers as numbers.
-ghost use Rattle.std.specs.Prelude.{◌≡◌, false, None};
+ghost use Rattle.std.specs.Prelude.{◌≡◌, false};
 ghost use Rattle.history.specs.Fault.{fault_number};
-ghost use Rattle.aqs_c.specs.Codes.{IsAnswerOf, IsEntry, IsNamed, IsNextOf, IsParkOf, end_number, fault_in, mode_number, word_number};
+ghost use Rattle.aqs_c.specs.Codes.{IsAnswerOf, IsEntry, IsNamed, IsNextOf, IsParkOf, IsQuiet, end_number, fault_in, mode_number, word_number};
 
 use history::entry::{End, Entry, Mode, Word};
 use history::fault::Fault;
@@ -121,7 +121,7 @@ fn fault_in(word: Word) -> u8
 /// An answer that is no entry, and after which nothing has to be done.
 pub(crate) fn nothing(kind: u8, fault: u8) -> AqsAnswer
     ensures kind { (result.kind ≡ kind) × (result.fault ≡ fault) }
-    ensures none { IsNamed None result × (result.again ≡ false) × (result.parks ≡ false) }
+    ensures quiet { IsQuiet result }
 {
     AqsAnswer {
         until: 0,
@@ -146,7 +146,7 @@ pub(crate) fn nothing(kind: u8, fault: u8) -> AqsAnswer
 pub(crate) fn entry_answer(entry: Entry, named: Option<u16>, again: bool) -> AqsAnswer
     ensures entry { IsEntry entry result }
     ensures named { IsNamed named result }
-    ensures again { result.again ≡ again }
+    ensures again { (result.again ≡ again) × (result.parks ≡ false) }
 {
     AqsAnswer {
         until: 0,

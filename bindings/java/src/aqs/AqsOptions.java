@@ -8,13 +8,13 @@ public final class AqsOptions {
     int threads;
     int conditions;
 
-    /** New calls stand behind those who wait, but for tries without time. */
+    /** New calls queue up after those who wait. Tries without a time barge. */
     public AqsOptions fair() {
         policy = 1;
         return this;
     }
 
-    /** New calls stand behind those who wait, tries too. */
+    /** New calls queue up after those who wait. A try fails if others wait. */
     public AqsOptions strict() {
         policy = 2;
         return this;

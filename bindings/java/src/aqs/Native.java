@@ -2,7 +2,10 @@ package aqs;
 
 /** The calls of libaqs, through aqs_jni.c. */
 final class Native {
-    static final int OK = 0, TIMED_OUT = 1, INTERRUPTED = 2, WOULD_BLOCK = 3;
+    static final int OK = 0;
+    static final int TIMED_OUT = 1;
+    static final int INTERRUPTED = 2;
+    static final int WOULD_BLOCK = 3;
 
     /** What an object is. The numbers are those of aqs_jni.c. */
     static final int LOCK = 0, READ_WRITE = 1, SEMAPHORE = 2, LATCH = 3;

@@ -19,13 +19,13 @@ impl Options {
         Options::default()
     }
 
-    /// New calls stand behind those who wait, but for tries without time.
+    /// New calls queue up after those who wait. Tries without a time barge.
     pub fn fair(mut self) -> Options {
         self.0.policy = 1;
         self
     }
 
-    /// New calls stand behind those who wait, tries too.
+    /// New calls queue up after those who wait. A try fails if others wait.
     pub fn strict(mut self) -> Options {
         self.0.policy = 2;
         self

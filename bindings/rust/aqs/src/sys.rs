@@ -1,4 +1,4 @@
-//! `aqs.h`, declared by hand. Nothing compares the two.
+//! `aqs.h`, declared by hand. `checks/border.py` compares the two.
 
 use std::os::raw::{c_char, c_int};
 

@@ -1,0 +1,135 @@
+/* memory.c: what the calls of aqs.h return and leave if an allocation fails. The linker puts the functions
+   below in the place of malloc and the like (see the Makefile). */
+#include "check.h"
+
+#include <limits.h>
+
+void *__real_malloc(size_t size);
+void *__real_calloc(size_t count, size_t size);
+void *__real_realloc(void *old, size_t size);
+void *__real_aligned_alloc(size_t alignment, size_t size);
+void __real_free(void *block);
+
+/* How many allocations still succeed, and how many blocks are held. */
+static long left = LONG_MAX, held;
+
+static bool fails(void) {
+    if (left == 0) return true;
+    left--;
+    return false;
+}
+
+static void *counted(void *block) {
+    held += block != NULL;
+    return block;
+}
+
+void *__wrap_malloc(size_t size) { return fails() ? NULL : counted(__real_malloc(size)); }
+void *__wrap_calloc(size_t count, size_t size) { return fails() ? NULL : counted(__real_calloc(count, size)); }
+void *__wrap_aligned_alloc(size_t alignment, size_t size) {
+    return fails() ? NULL : counted(__real_aligned_alloc(alignment, size));
+}
+void *__wrap_realloc(void *old, size_t size) {
+    if (fails()) return NULL;
+    return old ? __real_realloc(old, size) : counted(__real_realloc(old, size));
+}
+void __wrap_free(void *block) {
+    held -= block != NULL;
+    __real_free(block);
+}
+
+/* An object that can be opened and closed. */
+typedef aqs_status_t (*open_t)(void **object, const aqs_options_t *options);
+
+static aqs_status_t open_lock(void **object, const aqs_options_t *options) {
+    return aqs_lock_open((aqs_lock_t **)object, options);
+}
+static aqs_status_t open_rwlock(void **object, const aqs_options_t *options) {
+    return aqs_rwlock_open((aqs_rwlock_t **)object, options);
+}
+static aqs_status_t open_semaphore(void **object, const aqs_options_t *options) {
+    return aqs_sem_open((aqs_sem_t **)object, 2, options);
+}
+static aqs_status_t open_latch(void **object, const aqs_options_t *options) {
+    return aqs_latch_open((aqs_latch_t **)object, 2, options);
+}
+static void close_lock(void *object) { aqs_lock_close(object); }
+static void close_rwlock(void *object) { aqs_rwlock_close(object); }
+static void close_semaphore(void *object) { aqs_sem_close(object); }
+static void close_latch(void *object) { aqs_latch_close(object); }
+
+/* Opens with room for no allocation, for one, and so on until that is enough. Each time before, nothing
+   stays. */
+static void opens(open_t open, void (*close)(void *)) {
+    const aqs_options_t options = {.threads = 3, .history = 100};
+    aqs_status_t status = AQS_OUT_OF_MEMORY;
+    long before = held, enough = -1;
+    while (status != AQS_OK) {
+        void *object = &status;
+        left = ++enough;
+        status = open(&object, &options);
+        left = LONG_MAX;
+        if (status == AQS_OK) {
+            close(object);
+        } else {
+            IS(status, AQS_OUT_OF_MEMORY);
+            CHECK(!object);
+        }
+        CHECK(held == before);
+    }
+    CHECK(enough > 5);
+}
+
+/* An acquire that finds no memory leaves the lock as it was. Unlocks need none. */
+static void unlocks(void) {
+    const aqs_options_t options = {.when_full = AQS_REFUSE, .threads = 2};
+    aqs_lock_t *lock;
+    aqs_status_t status;
+    long holds = 0;
+    IS(aqs_lock_open(&lock, &options), AQS_OK);
+    left = 0;
+    while ((status = aqs_lock_lock(lock)) == AQS_OK) holds++;
+    IS(status, AQS_OUT_OF_MEMORY);
+    IS(aqs_lock_timedlock(lock, 1), AQS_OUT_OF_MEMORY);
+    CHECK(holds > 100);
+    for (long i = 0; i < holds; i++) IS(aqs_lock_unlock(lock), AQS_OK);
+    IS(aqs_lock_lock(lock), AQS_OUT_OF_MEMORY);
+    IS(aqs_lock_trylock(lock), AQS_OUT_OF_MEMORY);
+    left = LONG_MAX;
+    IS(aqs_lock_lock(lock), AQS_OK);
+    IS(aqs_lock_unlock(lock), AQS_OK);
+    IS(aqs_lock_unlock(lock), AQS_NOT_OWNER);
+    aqs_lock_close(lock);
+}
+
+/* A history that is written without memory leaves no block behind. */
+static void histories(void) {
+    aqs_sem_t *semaphore;
+    FILE *file = fopen("/dev/null", "w");
+    CHECK(file);
+    IS(aqs_sem_open(&semaphore, 1, NULL), AQS_OK);
+    IS(aqs_sem_acquire(semaphore, 1), AQS_OK);
+    long before = held;
+    left = 0;
+    IS(aqs_history_write(aqs_sem_object(semaphore), file), AQS_OUT_OF_MEMORY);
+    left = 1;
+    IS(aqs_history_write(aqs_sem_object(semaphore), file), AQS_OUT_OF_MEMORY);
+    left = LONG_MAX;
+    IS(aqs_history_write(aqs_sem_object(semaphore), file), AQS_OK);
+    CHECK(held == before);
+    CHECK(fclose(file) == 0);
+    aqs_sem_close(semaphore);
+}
+
+int main(void) {
+    alarm(60);
+    opens(open_lock, close_lock);
+    opens(open_rwlock, close_rwlock);
+    opens(open_semaphore, close_semaphore);
+    opens(open_latch, close_latch);
+    unlocks();
+    histories();
+    CHECK(held == 0);
+    puts("memory: good");
+    return 0;
+}
