@@ -23,7 +23,7 @@ use Rattle.monitor.specs.declared.machine.Request.{Request}
 use Rattle.monitor.specs.declared.machine.Request.TheVariants.{Acquire, AwaitOn}
 use Rattle.monitor.specs.declared.room.WhenFull.{WhenFull}
 use Rattle.monitor.specs.declared.room.WhenFull.TheVariants.{Refuse, Trim}
-use Rattle.monitor_fronts.specs.Full.{Acquires, Awaits, Steps}
+use Rattle.monitor_fronts.specs.FrontCalls.{Acquires, Awaits, Steps}
 use Rattle.monitor_fronts.specs.Holding.{Gains, gained, holds, with_yes}
 use Rattle.monitor_fronts.specs.Told.{done_of, whether_of, without}
 use Rattle.monitor_fronts.proofs.Counting.{await_holds, signal_keeps}

@@ -1,3 +1,3 @@
 pub mod Told
-pub mod Full
+pub mod FrontCalls
 pub mod Holding

@@ -7,7 +7,7 @@ ghost use Rattle.monitor.specs.Shown.{IsSound};
 ghost use Rattle.monitor.specs.Stepping.{IsSame};
 ghost use Rattle.monitor.specs.declared.how.How.TheVariants.{Interruptible, Timed};
 ghost use Rattle.monitor.specs.declared.room.WhenFull.TheVariants.{Trim};
-ghost use Rattle.monitor_fronts.specs.Full.{Acquires, Steps};
+ghost use Rattle.monitor_fronts.specs.FrontCalls.{Acquires, Steps};
 ghost use Rattle.monitor_fronts.specs.Told.{Tells, done_of, whether_of};
 ghost use Rattle.word_lock.specs.Point.{Before};
 
