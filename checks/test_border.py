@@ -16,7 +16,7 @@ PLANTED = (
     ("a narrower field", "uint64_t until", "uint32_t until", "aqs_answer_t"),
     ("fields in another order", "uint16_t seat, wakes", "uint16_t wakes, seat", "aqs_answer_t.seat"),
     ("a field of another type", "bool has_wakes, again", "uint8_t has_wakes; bool again", "has_wakes"),
-    ("a field too many", "bool live;", "bool live, more;", "aqs_pass_t"),
+    ("a field too many", "uint64_t live;", "uint64_t live, more;", "aqs_pass_t"),
     ("a struct too many", "#define AQS_NO_PASS", "typedef struct { int n; } aqs_more_t;\n#define AQS_NO_PASS",
      "aqs_more_t"),
     ("constants in another order", "AQS_KIND_LOCK, AQS_KIND_READ_WRITE", "AQS_KIND_READ_WRITE, AQS_KIND_LOCK",

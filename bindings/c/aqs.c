@@ -233,7 +233,8 @@ static void settle(aqs_thread_t me, const aqs_answer_t *answer) {
 }
 
 /* Each turn is made between these two lines, of which only ThreadSanitizer takes note. */
-static inline void first_turn(aqs_object_t *object, aqs_thread_t me, aqs_call_t call, aqs_answer_t *answer) {
+static inline void
+first_turn(aqs_object_t *object, aqs_thread_t me, const aqs_call_t *call, aqs_answer_t *answer) {
     __tsan_release(object);
     aqs_begin(&object->seats[me].pass, call, answer);
     __tsan_acquire(object);
@@ -308,10 +309,11 @@ const char *aqs_status_name(aqs_status_t status) {
    thread's. Most end in their first turn, and nothing is left to do: that way is short, and the other is
    elsewhere. */
 
-/* Whether it ended with an entry that gives what was asked for, after which nothing is owed. */
+/* Whether a first turn gave what was asked for, and leaves nothing to do. Its entry ends no wait, and asks for
+   no interrupt to be set again. */
 static inline bool is_plain_end(const aqs_answer_t *answer) {
-    return answer->kind == AQS_IS_ENTRY && answer->word != AQS_WORD_MISSED && answer->fault == 0
-           && answer->end == AQS_END_NONE && !answer->has_wakes && !answer->again;
+    return answer->kind == AQS_IS_ENTRY && answer->word != AQS_WORD_MISSED && answer->word != AQS_WORD_REFUSED
+           && !answer->has_wakes;
 }
 
 /* The calling thread's number if it has a seat in the object, and else AQS_THREADS. */
@@ -337,7 +339,7 @@ end_step(aqs_object_t *object, aqs_thread_t me, aqs_step_t step, aqs_answer_t *a
 
 /* The rest of a call, from its first answer on. */
 static COLD aqs_status_t
-end_call(aqs_object_t *object, aqs_thread_t me, aqs_call_t call, aqs_answer_t *answer, int owned) {
+end_call(aqs_object_t *object, aqs_thread_t me, const aqs_call_t *call, aqs_answer_t *answer, int owned) {
     tries_t tries = {0, 0};
     while (is_made_again(object, me, answer, &tries)) first_turn(object, me, call, answer);
     settle(me, answer);
@@ -367,8 +369,8 @@ static inline aqs_status_t do_call(aqs_object_t *object, aqs_call_t call, int ow
     aqs_answer_t answer;
     call.interrupted = call.how != AQS_HOW_PLAIN && take(&places[me], INTERRUPT);
     call.moment = call.how == AQS_HOW_TIMED ? now_in_milliseconds() : 0;
-    first_turn(object, me, call, &answer);
-    if (!is_plain_end(&answer)) return end_call(object, me, call, &answer, owned);
+    first_turn(object, me, &call, &answer);
+    if (!is_plain_end(&answer)) return end_call(object, me, &call, &answer, owned);
     self.holds += (uint64_t)(int64_t)owned;
     return AQS_OK;
 }

@@ -59,7 +59,8 @@ typedef enum {
     AQS_HOLDS_READ,        /* the thread waits on a condition while it holds the lock to read */
     AQS_NO_SUCH_CONDITION, /* the object was opened with fewer conditions */
     AQS_BAD_AMOUNT,        /* more than 2147483647 permits in one call */
-    AQS_HISTORY_FULL,      /* the history is full and kept, or too small for as many threads as wait */
+    AQS_HISTORY_FULL,      /* the history is full and kept, or too small for all holds and waiters: each of
+                              them keeps room for the entry that ends it */
     AQS_OUT_OF_MEMORY,
     AQS_OUT_OF_RANGE,      /* a number that the object can't be opened with, or that no thread has */
     AQS_TOO_MANY_THREADS,  /* the object was opened for fewer threads, or AQS_THREADS of them live */

@@ -23,10 +23,10 @@ extern "C" {
 
 typedef struct {
     void *at;
-    bool live;
+    uint64_t live;
 } aqs_pass_t;
 
-#define AQS_NO_PASS {NULL, false}
+#define AQS_NO_PASS {NULL, 0}
 
 /* kind: AQS_KIND_*. policy: AQS_CORE_*. number: a semaphore's permits, or a latch's count. */
 typedef struct {
@@ -111,7 +111,7 @@ void aqs_step_now(aqs_pass_t *pass, aqs_step_t step, aqs_answer_t *answer);
 
 /* Makes the first turn of a call that may wait. AQS_IS_IN_CALL: the seat is in another. AQS_IS_NO_CODE: these
    are the numbers of no call. */
-void aqs_begin(aqs_pass_t *pass, aqs_call_t call, aqs_answer_t *answer);
+void aqs_begin(aqs_pass_t *pass, const aqs_call_t *call, aqs_answer_t *answer);
 
 /* Makes the next turn of a call that waits. woke: AQS_WOKE_*, how its park ended; any of them if it didn't park.
    AQS_IS_IN_NO_CALL: the seat is in none. AQS_IS_NO_CODE: no park ends so. */

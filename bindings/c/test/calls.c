@@ -171,12 +171,17 @@ static void read_write_locks(void) {
     aqs_rwlock_close(lock);
 }
 
-/* Either side of a read-write lock can be held 65535 times. */
+/* Either side of a read-write lock can be held 65535 times, if the history has room for as many unlocks. */
 static void hold_limits(void) {
     aqs_rwlock_t *lock;
     aqs_status_t status;
     long reads = 0, writes = 0;
     IS(aqs_rwlock_open(&lock, &(aqs_options_t){.threads = 2}), AQS_OK);
+    while ((status = aqs_rwlock_wrlock(lock)) == AQS_OK) writes++;
+    IS(status, AQS_HISTORY_FULL);
+    while (writes > 0) writes -= aqs_rwlock_wrunlock(lock) == AQS_OK;
+    aqs_rwlock_close(lock);
+    IS(aqs_rwlock_open(&lock, &(aqs_options_t){.threads = 2, .history = 400000}), AQS_OK);
     while ((status = aqs_rwlock_wrlock(lock)) == AQS_OK) writes++;
     IS(status, AQS_TOO_MANY_HOLDS);
     IS(aqs_rwlock_trywrlock(lock), AQS_TOO_MANY_HOLDS);
@@ -327,7 +332,7 @@ static void numbers(void) {
     CHECK(aqs_open(header, passes, 2) == AQS_CORE_NOT_EMPTY);
     aqs_step_now(&none, (aqs_step_t){.code = AQS_STEP_TRY}, &answer);
     CHECK(answer.kind == AQS_IS_NO_PASS);
-    aqs_begin(&none, (aqs_call_t){.kind = AQS_CALL_ACQUIRE}, &answer);
+    aqs_begin(&none, &(aqs_call_t){.kind = AQS_CALL_ACQUIRE}, &answer);
     CHECK(answer.kind == AQS_IS_NO_PASS);
     CHECK(aqs_text_now(&none, &byte, 1, &number) == AQS_IS_NO_PASS);
     CHECK(aqs_trim_now(&none, &number) == AQS_IS_NO_PASS);
@@ -338,19 +343,19 @@ static void numbers(void) {
     }
     aqs_step_now(&passes[0], (aqs_step_t){.code = AQS_STEP_TRY, .mode = 2}, &answer);
     CHECK(answer.kind == AQS_IS_NO_CODE);
-    aqs_begin(&passes[0], (aqs_call_t){.kind = 2}, &answer);
+    aqs_begin(&passes[0], &(aqs_call_t){.kind = 2}, &answer);
     CHECK(answer.kind == AQS_IS_NO_CODE);
-    aqs_begin(&passes[0], (aqs_call_t){.n = 1, .how = 3}, &answer);
+    aqs_begin(&passes[0], &(aqs_call_t){.n = 1, .how = 3}, &answer);
     CHECK(answer.kind == AQS_IS_NO_CODE);
-    aqs_begin(&passes[0], (aqs_call_t){.n = 1, .interrupted = 1}, &answer);
+    aqs_begin(&passes[0], &(aqs_call_t){.n = 1, .interrupted = 1}, &answer);
     CHECK(answer.kind == AQS_IS_NO_CODE);
     aqs_go_on(&passes[0], AQS_WOKE_PERMIT, &answer);
     CHECK(answer.kind == AQS_IS_IN_NO_CALL);
-    aqs_begin(&passes[0], (aqs_call_t){.n = 1}, &answer);
+    aqs_begin(&passes[0], &(aqs_call_t){.n = 1}, &answer);
     CHECK(answer.kind == AQS_IS_ENTRY && answer.word == AQS_WORD_GOT && answer.seat == 0);
-    aqs_begin(&passes[1], (aqs_call_t){.n = 1}, &answer);
+    aqs_begin(&passes[1], &(aqs_call_t){.n = 1}, &answer);
     CHECK(answer.kind == AQS_IS_WAITING && answer.parks && !answer.has_until && !answer.interruptible);
-    aqs_begin(&passes[1], (aqs_call_t){.n = 1}, &answer);
+    aqs_begin(&passes[1], &(aqs_call_t){.n = 1}, &answer);
     CHECK(answer.kind == AQS_IS_IN_CALL);
     aqs_step_now(&passes[1], (aqs_step_t){.code = AQS_STEP_LOOK}, &answer);
     CHECK(answer.kind == AQS_IS_IN_CALL);

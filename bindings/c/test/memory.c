@@ -87,6 +87,8 @@ static void unlocks(void) {
     aqs_status_t status;
     long holds = 0;
     IS(aqs_lock_open(&lock, &options), AQS_OK);
+    IS(aqs_lock_lock(lock), AQS_OK);
+    IS(aqs_lock_unlock(lock), AQS_OK);
     left = 0;
     while ((status = aqs_lock_lock(lock)) == AQS_OK) holds++;
     IS(status, AQS_OUT_OF_MEMORY);

@@ -77,17 +77,17 @@ pub extern "C" fn aqs_step_now(
 pub extern "C" fn aqs_begin(
     alloc: Global,
     pass: &mut AqsPass,
-    call: AqsCall,
+    call: &AqsCall,
     answer: &mut AqsAnswer,
 )
-    ensures { IsPassBegun pass.old.held.value call answer.new pass.new.held.value }
+    ensures { IsPassBegun pass.old.held.value call.now answer.new pass.new.held.value }
 {
     match pass.take(alloc) {
         None => {
             *answer = nothing(NO_PASS, 0);
         }
         Some(mut seat) => {
-            *answer = seat.begin(call);
+            *answer = seat.begin(*call);
             *pass = AqsPass::of(seat);
         }
     }

@@ -8,13 +8,14 @@ use std::alloc::Global;
 use std::mem;
 use std::ptr::null_mut;
 
-/// A seat, or none: all bytes 0.
+/// A seat, or none: all bytes 0. `live` is 1 or 0. It is as wide as a pointer, so that no byte between the
+/// fields is copied.
 #[repr(C)]
 #[derive(Drop)]
 pub struct AqsPass {
     pub held: Held,
-    live: bool,
-    ghost known: { IsTrue live ↔ IsSome held.value },
+    live: u64,
+    ghost known: { (live ≡ 1) ↔ IsSome held.value },
 }
 
 impl AqsPass {
@@ -23,20 +24,20 @@ impl AqsPass {
     {
         let at = null_mut();
         let held = Held::none(at, alloc);
-        AqsPass { held, live: false }
+        AqsPass { held, live: 0 }
     }
 
     pub(crate) fn of(seat: Box<Seat>) -> AqsPass
         ensures { result.held.value ≡ Some seat.value }
     {
         let held = Held::of(Loose::of(sent(seat)));
-        AqsPass { held, live: true }
+        AqsPass { held, live: 1 }
     }
 
     pub(crate) fn is_empty(&self) -> bool
         ensures { IsTrue result ↔ (self.now.held.value ≡ None) }
     {
-        !self.live
+        self.live != 1
     }
 
     /// Takes the seat out.
@@ -46,7 +47,7 @@ impl AqsPass {
             (λ seat. self.old.held.value ≡ Some seat.value) }
     {
         let AqsPass { held, live } = mem::replace(self, AqsPass::none(alloc));
-        if live {
+        if live == 1 {
             Some(held.into_loose().into_box())
         } else {
             None

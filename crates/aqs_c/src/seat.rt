@@ -158,8 +158,18 @@ fn begin_idle(
     let Some(turn) = turn else {
         return nothing(BUSY, 0);
     };
-    *waiting = waiting_in(turn.next);
+    begin_wait(waiting, turn.next);
     turn_answer(turn)
+}
+
+// Keeps a call that waits. Most calls end at once, and then nothing is written.
+fn begin_wait(waiting: &mut Option<Waiting>, next: Next)
+    requires { waiting.old ≡ None }
+    ensures { waiting.new ≡ waiting_in next }
+{
+    if let Next::Waits(call) = next {
+        *waiting = Some(call);
+    }
 }
 
 // The next turn of a call in which a seat waits.

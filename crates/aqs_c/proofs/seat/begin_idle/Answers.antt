@@ -6,7 +6,7 @@ use Rattle.aqs_c.proofs.seat.begin_idle.Goals as goal
 
 pub returns-clause-stands : goal.returns-clause-stands
 returns-clause-stands c =
-    subst (λ (w : Option Waiting). StandsBy w c.begin_quietly-turn.new.pass) (sym c.waiting_in.ensures)
+    subst (λ (w : Option Waiting). StandsBy w c.begin_quietly-turn.new.pass) (sym c.begin_wait.ensures)
     (stands_begun c.args.pass.now c.begin_quietly-turn.new.pass c.in-Some.asked.request c.in-Some.asked.how
     c.args.call.moment c.in-Some.asked.interrupted c.in-Some-turn.turn c.in-Some-turn.ensures.begun
     c.begin_quietly-turn.ensures.same)
@@ -21,5 +21,5 @@ returns-clause-begun c =
       is_call = c.in-Some.ensures.some;
       begun = c.in-Some-turn.ensures.begun;
       is_turn = (c.turn_answer.ensures.next, c.turn_answer.ensures.named);
-      waiting = c.waiting_in.ensures;
+      waiting = c.begin_wait.ensures;
     }))
