@@ -27,7 +27,7 @@ fn add<R: Wait + Clock>(
     Ok(*value)
 }
 
-/// Opens a lock that guards 0, for two threads that add. The later one returns the sum.
+/// Opens a lock that guards 0, lets two threads add, and locks again to read the sum.
 fn sum<R: Threads + Wait + Clock + Sync>(rt: &R, alloc: Global) -> Result<u64, Fault> {
     let parking = ThreadParking::open(rt, alloc, 2)?;
     let opened = Mutex::open(alloc, 0u64, Policy::Fair, WhenFull::Trim, 2, 0, 64);
@@ -40,12 +40,15 @@ fn sum<R: Threads + Wait + Clock + Sync>(rt: &R, alloc: Global) -> Result<u64, F
     let Some(mut two) = passes.pop() else {
         unreachable!()
     };
-    let (a, b) = thread::join(
+    let (a, b) = thread::join_mut(
         rt,
-        || add(rt, &parking, &number, &mut one, 40),
-        || add(rt, &parking, &number, &mut two, 2),
+        &mut || add(rt, &parking, &number, &mut one, 40),
+        &mut || add(rt, &parking, &number, &mut two, 2),
     );
-    Ok(a?.max(b?))
+    a?;
+    b?;
+    let guard = Mutex::lock(&mut one, &number, rt, &parking)?;
+    Ok(*guard.value())
 }
 
 fn main(rt: HostRuntime) -> io::Result<()> {

@@ -1,9 +1,9 @@
-//! A pool of connections: a client acquires one, uses it and releases it. Whoever has a connection has it by
-//! ownership, so it is in one hand at a time.
+//! A pool of connections: a client acquires one, uses it and releases it. A client owns the connection that it
+//! acquired, so no other client has it.
 //!
-//! First one client has all connections, and no other gets one in time. Then all clients share them. Prints
-//! how many requests were served and refused, how many connections lie in the pool at the end, and what the
-//! audit says of the history of its semaphore.
+//! First one client acquires all connections, and no other gets one in time. Then all clients share them. Prints
+//! how many requests were served and how many were not, how many connections are in the pool at the end, and
+//! what the audit finds in the history of its semaphore.
 
 ghost use Rattle.std.specs.Prelude.{◌≡◌, ◌≤◌, All, IfOk, pos};
 ghost use Rattle.frame.specs.Core.{header_of};
@@ -31,7 +31,7 @@ use std::{io, thread};
 
 const CONNECTIONS: u32 = 3;
 
-/// One seat for whoever takes all connections, and one for each of six clients.
+/// One seat for the client that acquires all connections, and one for each of six others.
 const HEADER: Header = Header {
     object: Object::Semaphore(Policy::Fair, 3),
     seats: 7,
@@ -39,28 +39,28 @@ const HEADER: Header = Header {
     cap: 10_000,
 };
 
-/// What the clients of a round ask for.
+/// What each client of a round does.
 #[derive(Clone, Copy)]
 struct Round {
-    /// How many requests each makes.
+    /// How many requests it makes.
     requests: u64,
     /// How many milliseconds it waits for a connection.
     patience: u32,
 }
 
-/// Nobody gives a connection back meanwhile.
+/// No connection is released during this round, so a short wait is enough.
 const WHILE_ALL_ARE_TAKEN: Round = Round {
     requests: 2,
     patience: 5,
 };
 
-/// A connection is free long before that.
+/// A connection is released long before that time is up.
 const WHILE_ALL_ARE_SHARED: Round = Round {
     requests: 40,
     patience: 60_000,
 };
 
-/// Each client makes its requests in a thread of its own.
+/// A round: each client makes its requests in a thread of its own.
 fn play_round<R: Threads + Wait + Clock + Sync>(
     rt: &R,
     service: &Service,
@@ -82,7 +82,7 @@ fn play_round<R: Threads + Wait + Clock + Sync>(
     Ok(played)
 }
 
-/// A round while one pass has all connections, and so nobody else has one.
+/// A round while one pass has all connections.
 fn play_while_taken<R: Threads + Wait + Clock + Sync>(
     rt: &R,
     service: &Service,
@@ -100,8 +100,7 @@ fn play_while_taken<R: Threads + Wait + Clock + Sync>(
     played
 }
 
-/// Both rounds with the passes of a pool as it is opened. Gives the passes back, and says what came of the
-/// requests.
+/// Both rounds, with the passes of a new pool. Returns the passes and the outcome of all requests.
 fn play_rounds<R: Threads + Wait + Clock + Sync>(
     rt: &R,
     alloc: Global,
@@ -129,21 +128,20 @@ fn play_rounds<R: Threads + Wait + Clock + Sync>(
     }
 }
 
-/// What is told at the end.
+/// What is printed at the end.
 #[derive(Clone, Copy)]
 struct Told {
     outcome: Outcome,
-    /// Requests that the connections counted.
+    /// How many requests the connections counted.
     by_connections: u64,
-    /// Connections that lie in the pool.
+    /// How many connections are in the pool.
     lie: usize,
-    /// Permits that are free by the history.
+    /// How many permits are free, by the history.
     free: i64,
     findings: Findings,
 }
 
-/// Closes the pool, and has the history of its semaphore judged. In the pool lies a connection for each free
-/// permit.
+/// Closes the pool and audits the history of its semaphore. The pool has a connection for each free permit.
 fn close<R: Wait>(
     rt: &R,
     alloc: Global,
@@ -171,7 +169,7 @@ fn close<R: Wait>(
     }
 }
 
-/// Opens a pool, plays with it, and closes it.
+/// Opens a pool, plays both rounds, and closes it.
 fn play<R: Threads + Wait + Clock + Sync>(rt: &R, alloc: Global) -> Result<Told, Fault>
     ensures { IfOk result (λ told. pos told.lie ≡ told.free) }
 {
@@ -194,7 +192,7 @@ fn play<R: Threads + Wait + Clock + Sync>(rt: &R, alloc: Global) -> Result<Told,
     }
 }
 
-/// Runs all clients, and prints what came of it.
+/// Plays, and prints the outcome.
 pub fn run<R: Print + AllocGlobal + Threads + Wait + Clock + Sync>(rt: &R) -> io::Result<()> {
     let told = match play(rt, rt.alloc()) {
         Ok(told) => told,

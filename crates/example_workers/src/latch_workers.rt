@@ -1,8 +1,9 @@
-//! Workers that start together at one latch, and are waited for at another.
+//! Workers that start together at one latch. The foreman waits for them at another.
 //!
-//! A foreman lays the work out, opens the start, and waits until each worker has counted the end down. Each
-//! worker has a thread of its own. If the system refuses one, the others are let go, and nobody works. Prints
-//! what the workers made, and what the audit says of the histories of both latches.
+//! The foreman lays the work out, counts the first latch down, and waits until each worker has counted the second
+//! one down. Each worker has a thread of its own. If the system refuses a thread, the other workers are sent
+//! away, and nobody works. Prints what the workers made, and what the audit finds in the histories of both
+//! latches.
 
 ghost use Rattle.std.specs.Prelude.{◌≡◌, All, IfOk};
 ghost use Rattle.example_workers.specs.Opened.{IsOpened};
@@ -33,7 +34,7 @@ use std::sync::Wait;
 use std::thread::Threads;
 use std::time::Clock;
 
-/// The foreman opens it.
+/// The latch that the foreman counts down.
 const START: Header = Header {
     object: Object::Latch(1),
     seats: SEATS,
@@ -41,7 +42,7 @@ const START: Header = Header {
     cap: 100,
 };
 
-/// It opens when each worker has counted it down.
+/// The latch that each worker counts down.
 const END: Header = Header {
     object: Object::Latch(4),
     seats: SEATS,
@@ -84,7 +85,7 @@ fn open_shift<R: Wait + Clock>(
     Ok((shift, starts, ends))
 }
 
-/// All work with these passes, and give them back.
+/// All threads work with these passes. Returns the passes.
 fn work<R: Threads + Wait + Clock + Sync>(
     rt: &R,
     alloc: Global,
@@ -108,7 +109,7 @@ fn work<R: Threads + Wait + Clock + Sync>(
     Ok(part(alloc, shift, workers)?)
 }
 
-/// What is told at the end.
+/// What is printed at the end.
 #[derive(Clone, Copy)]
 struct Told {
     outcome: Outcome,
@@ -116,7 +117,7 @@ struct Told {
     end: Findings,
 }
 
-/// Plays, closes both latches and has their histories judged.
+/// Plays, closes both latches and audits their histories.
 fn play<R: Threads + Wait + Clock + Sync>(rt: &R, alloc: Global) -> Result<Told, ShiftFault> {
     let (shift, starts, ends) = open_shift(rt, alloc)?;
     let (starts, ends) = work(rt, alloc, &shift, starts, ends)?;
@@ -131,7 +132,7 @@ fn play<R: Threads + Wait + Clock + Sync>(rt: &R, alloc: Global) -> Result<Told,
     })
 }
 
-/// Runs the shift, and prints what came of it.
+/// Runs the shift, and prints its outcome.
 pub fn run<R: Print + AllocGlobal + Threads + Wait + Clock + Sync>(rt: &R) -> io::Result<()> {
     let told = match play(rt, rt.alloc()) {
         Ok(told) => told,

@@ -1,8 +1,7 @@
 //! Example programs with workers in threads.
 //!
-//! - `connection_pool`: clients that share connections, and a fair semaphore with a permit for each that is
-//!   free.
-//! - `latch_workers`: workers that start together at one latch, and are waited for at another.
+//! - `connection_pool`: clients that share connections. A fair semaphore has a permit for each free connection.
+//! - `latch_workers`: workers that start together at one latch. The foreman waits for them at another.
 //!
 //! `example_workers` runs these one after another, and `example_workers NAME` runs the example of this name.
 #![tactic(auto)]

@@ -9,6 +9,7 @@ use Rattle.history.specs.declared.entry.Mode.TheVariants.{X}
 use Rattle.history.specs.declared.step.Step.TheVariants.{Give}
 use Rattle.monitor.specs.Shown.{Shown, IsSound}
 use Rattle.monitor.specs.Stepping.{IsEntered, IsSame}
+use Rattle.monitor.specs.declared.room.WhenFull.{WhenFull}
 use Rattle.monitor_fronts.specs.Holding.{gained, holds}
 use Rattle.monitor_fronts.specs.Told.{whether_of}
 use Rattle.monitor_fronts.proofs.Counting.{await_holds}
@@ -16,20 +17,34 @@ use Rattle.monitor_fronts.proofs.Exactly.{acquire_gains, give_takes, try_gains}
 use Rattle.monitor_fronts.proofs.Owning.{give_recorded}
 use Rattle.guarded.specs.declared.asking.Asked.{Asked}
 use Rattle.guarded.specs.declared.asking.Asked.TheVariants as asked
-use Rattle.guarded.specs.declared.full.WhenFull.{WhenFull}
 use Rattle.guarded.specs.Asking.{IsTake, call_of, gained_by}
 use Rattle.guarded.specs.declared.slot.Slot.{Slot}
 use Rattle.guarded.specs.declared.slot.Slot.TheVariants.{Empty, Full}
 use Rattle.guarded.specs.Stowed.{Carries, IsFull, IsOfLock, MutexView, mutex_view}
+use Rattle.guarded.proofs.Room.{in_room}
+
+-- a pass with the same lock is of a lock too
+pub as_lock : (old from : Shown) → is_lock old.lock.header.object ≡ true → from.lock ≡ old.lock →
+    is_lock from.lock.header.object ≡ true
+as_lock old from lock of = ap (λ (l : LockId). is_lock l.header.object) of ∙ lock
 
 -- a call adds the holds that it tells of
-pub call_gains : (did : Deed → Type 0) (a : Asked) (old new : Shown) (r : Result Entry Fault) →
-    is_lock old.lock.header.object ≡ true → IsSame old new → call_of did a old r new →
+pub call_gains : (did : Deed → Type 0) (w : WhenFull) (a : Asked) (old new : Shown) (r : Result Entry Fault) →
+    is_lock old.lock.header.object ≡ true → IsSame old new → call_of did a w old r new →
     holds new ≡ holds old + gained_by a r
-call_gains did (asked.Acquire how) old new r lock same made = acquire_gains did old new how r lock same made
-call_gains did (asked.Try) old new r lock same made = try_gains did old new r lock same made
-call_gains did (asked.Await condition how) old new r lock same made =
-    let keeps = await_holds did old new condition how r same made in omega (arith, keeps)
+call_gains did w (asked.Acquire how) old new r lock same made =
+    in_room (λ (from : Shown). λ (s : Result Entry Fault). holds new ≡ holds from + gained (whether_of s)) w _ _ old
+    new r same (λ p. λ x. x) (λ x. x)
+    (λ from. λ s. λ of. λ at. λ one. acquire_gains did from new how s (as_lock old from lock of) at one) made
+call_gains did w (asked.Try) old new r lock same made =
+    in_room (λ (from : Shown). λ (s : Result Entry Fault). holds new ≡ holds from + gained (whether_of s)) w _ _ old
+    new r same (λ p. λ x. x) (λ x. x)
+    (λ from. λ s. λ of. λ at. λ one. try_gains did from new s (as_lock old from lock of) at one) made
+call_gains did w (asked.Await condition how) old new r lock same made =
+    let keeps =
+        in_room (λ (from : Shown). λ (s : Result Entry Fault). holds new ≡ holds from) w _ _ old new r same
+        (λ p. λ x. x) (λ x. x) (λ from. λ s. λ of. λ at. λ one. await_holds did from new condition how s at one) made in
+    omega (arith, keeps)
 
 -- a pass of such a lock is of a lock
 pub is_of_lock : (monitor : LockId) (when_full : WhenFull) (m : MutexView) (p : Shown) →

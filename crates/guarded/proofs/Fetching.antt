@@ -35,19 +35,18 @@ use Rattle.monitor.specs.Stepping.{IsEntered, IsSame}
 use Rattle.monitor.specs.Waits.{asking}
 use Rattle.monitor.specs.declared.how.How.{How}
 use Rattle.monitor.specs.declared.how.How.TheVariants.{Plain, Interruptible, Timed}
+use Rattle.monitor.specs.declared.room.WhenFull.{WhenFull}
 use Rattle.monitor.proofs.Acquiring.{idle_made}
 use Rattle.monitor.proofs.InLine.{records}
 use Rattle.monitor_fronts.specs.Told.{whether_of}
 use Rattle.guarded.specs.declared.asking.PoolCall.{PoolCall}
 use Rattle.guarded.specs.declared.asking.PoolCall.TheVariants as asks
-use Rattle.guarded.specs.declared.full.WhenFull.{WhenFull}
 use Rattle.guarded.specs.declared.shelf.Shelf.{Shelf}
-use Rattle.guarded.specs.declared.full.WhenFull.TheVariants.{Refuse, Trim}
 use Rattle.guarded.specs.Asking.{told_of}
-use Rattle.guarded.specs.Full.{lacks_room}
 use Rattle.guarded.specs.Pooling.{Answers, asked_by, brought_by, free_after_call, free_if, has_after, is_done, pool_call}
 use Rattle.guarded.specs.Shelved.{IsOfSemaphore}
 use Rattle.guarded.specs.Stowed.{MutexView, mutex_view}
+use Rattle.guarded.proofs.Room.{in_room}
 
 -- an entry that leaves the free permits as the answer to its call says
 record Frees (asked : PoolCall) (e : Entry) : Type 0 where
@@ -219,13 +218,25 @@ release_left did old new n (Err f) semaphore same shows s =
       answers = tt;
     }
 
-pub call_left : (did : Deed → Type 0) (asked : PoolCall) (old new : Shown) (r : Result Entry Fault) →
-    is_semaphore old.lock.header.object ≡ true → IsSame old new → IsSound new → pool_call did asked old r new →
+pub call_left : (did : Deed → Type 0) (w : WhenFull) (asked : PoolCall) (old new : Shown) (r : Result Entry Fault) →
+    is_semaphore old.lock.header.object ≡ true → IsSame old new → IsSound new → pool_call did asked w old r new →
     Left asked old r new
-call_left did (asks.Acquire n how) old new r semaphore same shows made = acquire_left did old new n how r same made
-call_left did (asks.Try n) old new r semaphore same shows made = try_left did old new n r same made
-call_left did (asks.Release n) old new r semaphore same shows made =
-    release_left did old new n r semaphore same shows made
+call_left did w (asks.Acquire n how) old new r semaphore same shows made =
+    in_room (λ (from : Shown). λ (s : Result Entry Fault). Left (asks.Acquire n how) from s new) w _ _ old new r same
+    (λ p. λ x. record { free = x.free; answers = x.answers })
+    (λ x. record { free = x.free; answers = x.answers })
+    (λ from. λ s. λ of. λ at. λ one. acquire_left did from new n how s at one) made
+call_left did w (asks.Try n) old new r semaphore same shows made =
+    in_room (λ (from : Shown). λ (s : Result Entry Fault). Left (asks.Try n) from s new) w _ _ old new r same
+    (λ p. λ x. record { free = x.free; answers = x.answers })
+    (λ x. record { free = x.free; answers = x.answers })
+    (λ from. λ s. λ of. λ at. λ one. try_left did from new n s at one) made
+call_left did w (asks.Release n) old new r semaphore same shows made =
+    in_room (λ (from : Shown). λ (s : Result Entry Fault). Left (asks.Release n) from s new) w _ _ old new r same
+    (λ p. λ x. record { free = x.free; answers = x.answers })
+    (λ x. record { free = x.free; answers = x.answers })
+    (λ from. λ s. λ of. λ at. λ one. release_left did from new n s
+    (ap (λ (l : LockId). is_semaphore l.header.object) of ∙ semaphore) at shows one) made
 
 -- a pass of a pool is of a semaphore
 pub is_of_semaphore : (monitor : LockId) (when_full : WhenFull) (m : MutexView) (p : Shown) →
@@ -254,20 +265,6 @@ pub keeps_then : {T : Type 0} (asked : PoolCall) (told : Result Bool Fault) (x y
     g ≡ free_after_call asked told f → Moves true (λ (s : Shelf T). length s.items) x f y g →
     is_done told ≡ false → y ≡ x
 keeps_then asked told x y f g is m missed = m.1 (is ∙ ap (λ (b : Bool). free_if b asked f) missed)
-
--- a call that found no room did nothing
-pub full_is : (w : WhenFull) (r : Result Entry Fault) → lacks_room w r ≡ true → r ≡ Err HistoryFull
-full_is Refuse r q = cc
-full_is Trim (Ok e) q = cc
-full_is Trim (Err HistoryFull) q = refl
-full_is Trim (Err _) q = cc
-
-pub full_not_done : (w : WhenFull) (r : Result Entry Fault) → lacks_room w r ≡ true →
-    is_done (whether_of r) ≡ false
-full_not_done w r q = ap (λ (z : Result Entry Fault). is_done (whether_of z)) (full_is w r q)
-
-pub same_length : {T : Type 0} (x y : Shelf T) → y ≡ x → length y.items ≡ length x.items
-same_length {T} x y q = ap (λ (s : Shelf T). length s.items) q
 
 -- an acquire that waits as long as it must has items
 pub never_none : {A : Type 0} (n : ℕ) (how : How) (got : Option A) → (is_timed how → ⊥) → got ≡ None →

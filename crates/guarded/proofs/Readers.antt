@@ -37,20 +37,22 @@ use Rattle.monitor.specs.Stepping.{IsEntered, IsSame}
 use Rattle.monitor.specs.Waits.{asking}
 use Rattle.monitor.specs.declared.how.How.{How}
 use Rattle.monitor.specs.declared.how.How.TheVariants.{Plain, Interruptible, Timed}
+use Rattle.monitor.specs.declared.room.WhenFull.{WhenFull}
 use Rattle.monitor.proofs.Acquiring.{idle_made}
 use Rattle.monitor.proofs.InLine.{records}
 use Rattle.monitor.proofs.Loads.{own_holds, true_holds}
 use Rattle.monitor_fronts.specs.Holding.{gained, holds}
 use Rattle.monitor_fronts.specs.Told.{done_of, whether_by, whether_of}
 use Rattle.monitor_fronts.proofs.Counting.{found_lock, one_hold}
-use Rattle.guarded.specs.Full.{WithRoom}
 use Rattle.guarded.specs.Guarding.{told_by}
-use Rattle.guarded.specs.declared.full.WhenFull.{WhenFull}
-use Rattle.guarded.specs.Reading.{GainsReads, Saw, Sees, reads, reads_by}
+use Rattle.guarded.specs.declared.asking.Reading.{Reading}
+use Rattle.guarded.specs.declared.asking.Reading.TheVariants as asks
+use Rattle.guarded.specs.Reading.{GainsReads, Saw, Sees, reading_of, reads, reads_by}
 use Rattle.guarded.specs.Stowed.{Rests}
 use Rattle.guarded.specs.declared.slot.Slot.{Slot}
 use Rattle.guarded.specs.declared.slot.Slot.TheVariants.{Empty, Full}
-use Rattle.guarded.proofs.Room.{last_call}
+use Rattle.guarded.proofs.Calling.{as_lock}
+use Rattle.guarded.proofs.Room.{in_room}
 use Rattle.guarded.proofs.Stowing.{rests_as}
 
 -- the holds of a seat in a mode, with an entry in front
@@ -179,7 +181,7 @@ one_more old new e same mine g =
     }
 
 -- an acquire adds one read hold exactly where it tells so
-pub acquire_reads : (did : Deed → Type 0) (old new : Shown) (how : How) (r : Result Entry Fault) →
+acquire_reads : (did : Deed → Type 0) (old new : Shown) (how : How) (r : Result Entry Fault) →
     is_lock old.lock.header.object ≡ true → IsSame old new → IsAcquire did old S 1 how r new →
     GainsReads old (whether_of r) new
 acquire_reads did old new how (Ok e) lock same (inl a) =
@@ -223,7 +225,7 @@ tries_gain k i w lock (inr (inr q)) =
     (gains_by k i word.TryGot 1 0 end.None (λ had. got k had lock))
 
 -- a try adds one read hold exactly where it tells so
-pub try_reads : (did : Deed → Type 0) (old new : Shown) (r : Result Entry Fault) →
+try_reads : (did : Deed → Type 0) (old new : Shown) (r : Result Entry Fault) →
     is_lock old.lock.header.object ≡ true → IsSame old new → IsEntered did old (Try S 1) r new →
     GainsReads old (whether_of r) new
 try_reads did old new (Ok e) lock same s =
@@ -357,8 +359,23 @@ waits_to_the_end did old new how (Ok e) never (inr x) told = ends_untimed how ol
 waits_to_the_end did old new how (Err f) never x told = cc
 
 pub never_missed : (did : Deed → Type 0) (w : WhenFull) (how : How) (old new : Shown) (r : Result Entry Fault) →
-    (is_timed how → ⊥) → WithRoom w (reads_by did how) old r new → whether_of r ≡ Ok false → ⊥
-never_missed did w how old new r never made told =
-    ⊎_elim (λ x. waits_to_the_end did x.0 new how r never x.1 told)
-    (λ x. let t = ap whether_of (sym x.1) ∙ told in cc)
-    (last_call w (reads_by did how) old new r made)
+    (is_timed how → ⊥) → IsSame old new → reads_by did how w old r new → whether_of r ≡ Ok false → ⊥
+never_missed did w how old new r never same made =
+    in_room (λ (from : Shown). λ (s : Result Entry Fault). whether_of s ≡ Ok false → ⊥) w _ _ old new r same
+    (λ p. λ x. x) (λ x. λ told. let no : whether_of (Err fault.TrimFull) ≡ Ok false = told in cc)
+    (λ from. λ s. λ of. λ at. λ one. waits_to_the_end did from new how s never one) made
+
+-- a call of a reader adds the read holds that it tells of
+pub reading_gains : (did : Deed → Type 0) (w : WhenFull) (a : Reading) (old new : Shown) (r : Result Entry Fault) →
+    is_lock old.lock.header.object ≡ true → IsSame old new → reading_of did a w old r new →
+    GainsReads old (whether_of r) new
+reading_gains did w (asks.Acquire how) old new r lock same made =
+    in_room (λ (from : Shown). λ (s : Result Entry Fault). GainsReads from (whether_of s) new) w _ _ old new r same
+    (λ p. λ x. record { reads = x.reads; writes = x.writes })
+    (λ x. record { reads = x.reads; writes = x.writes })
+    (λ from. λ s. λ of. λ at. λ one. acquire_reads did from new how s (as_lock old from lock of) at one) made
+reading_gains did w (asks.Try) old new r lock same made =
+    in_room (λ (from : Shown). λ (s : Result Entry Fault). GainsReads from (whether_of s) new) w _ _ old new r same
+    (λ p. λ x. record { reads = x.reads; writes = x.writes })
+    (λ x. record { reads = x.reads; writes = x.writes })
+    (λ from. λ s. λ of. λ at. λ one. try_reads did from new s (as_lock old from lock of) at one) made

@@ -1,24 +1,65 @@
 -- Calls that make room where there is none.
-use Rattle.std.proofs.Common.{◌≡◌, ◌⊎◌, inl, inr, ⊎_elim, true, false, Result, Ok, Err, refl, sym, ap, ◌∙◌, subst}
+use Rattle.std.proofs.Common.{◌≡◌, ◌⊎◌, inl, inr, true, false, Result, Ok, Err, refl, sym, ap, ◌∙◌, subst}
 use Rattle.history.specs.declared.entry.Entry.{Entry}
 use Rattle.history.specs.declared.fault.Fault.{Fault}
-use Rattle.history.specs.declared.fault.Fault.TheVariants.{HistoryFull}
+use Rattle.history.specs.declared.fault.Fault.TheVariants.{HistoryFull, TrimFull}
+use Rattle.history.specs.declared.point.Point.{Point}
 use Rattle.history.specs.declared.step.Step.{Step}
 use Rattle.permit.specs.Deed.{Deed}
 use Rattle.word_lock.specs.Point.{Before}
+use Rattle.word_lock.specs.Ticket.{LockId}
+use Rattle.word_lock.proofs.PointLaws.{before_trans}
 use Rattle.monitor.specs.Acquire.{is_timed}
+use Rattle.monitor.specs.Room.{InRoom, IsEnteredIn, at_point, fold_of}
 use Rattle.monitor.specs.Shown.{Shown}
 use Rattle.monitor.specs.Stepping.{IsEntered, IsSame}
 use Rattle.monitor.specs.declared.how.How.{How}
+use Rattle.monitor.specs.declared.room.WhenFull.{WhenFull}
+use Rattle.monitor.specs.declared.room.WhenFull.TheVariants.{Refuse, Trim}
 use Rattle.monitor_fronts.specs.Told.{whether_of}
 use Rattle.monitor_fronts.proofs.Exactly.{waits_to_the_end}
-use Rattle.guarded.specs.declared.asking.Asked.{Asked}
-use Rattle.guarded.specs.declared.asking.Asked.TheVariants as asked
-use Rattle.guarded.specs.declared.full.WhenFull.{WhenFull}
-use Rattle.guarded.specs.declared.full.WhenFull.TheVariants.{Refuse, Trim}
-use Rattle.guarded.specs.Asking.{acquires, gained_by}
-use Rattle.guarded.specs.Full.{Call, MakesRoom, WithRoom, lacks_room}
+use Rattle.guarded.specs.Asking.{acquires}
+use Rattle.guarded.specs.Full.{InTurns, MakesRoom, Once, lacks_room}
 
+-- What holds of a call from any pass with the same own entries holds of one that makes room: a fold adds no entry
+-- of the pass, and to be refused because there are too many to fold is to be refused for want of room.
+pub in_room : (is : Shown → Result Entry Fault → Type 0) (w : WhenFull) (asks : Step → Type 0) (call : Once)
+    (old new : Shown) (r : Result Entry Fault) → IsSame old new →
+    ((p : Point) → is (at_point old p) r → is old r) → (is old (Err HistoryFull) → is old (Err TrimFull)) →
+    ((from : Shown) (s : Result Entry Fault) → from.lock ≡ old.lock → IsSame from new → call from s new → is from s) →
+    InRoom w asks call old r new → is old r
+in_room is Refuse asks call old new r same folded full each x = each old r refl same x
+in_room is Trim asks call old new r same folded full each (inl x) = each old r refl same x.0
+in_room is Trim asks call old new r same folded full each (inr (inl x)) =
+    folded (fold_of x.found)
+    (each (at_point old (fold_of x.found)) r refl record { lock = same.lock; seat = same.seat } x.made.again)
+in_room is Trim asks call old new r same folded full each (inr (inr x)) =
+    subst (λ (s : Result Entry Fault). is old s) (sym x.is) (full (each old (Err HistoryFull) refl same x.full))
+
+entered_after : (did : Deed → Type 0) (old new : Shown) (step : Step) (r : Result Entry Fault) →
+    IsEntered did old step r new → Before old.seen new.seen
+entered_after did old new step (Ok e) s = s.1.after
+entered_after did old new step (Err f) s = s.after
+
+-- what a step has seen comes after what was seen, whether it made room or not
+pub entered_in_after : (w : WhenFull) (did : Deed → Type 0) (old new : Shown) (step : Step)
+    (r : Result Entry Fault) → IsEnteredIn w did old step r new → Before old.seen new.seen
+entered_in_after Refuse did old new step r x = entered_after did old new step r x
+entered_in_after Trim did old new step r (inl x) = entered_after did old new step r x.0
+entered_in_after Trim did old new step r (inr (inl x)) =
+    before_trans old.seen (fold_of x.found) new.seen x.fold.begins
+    (entered_after did (at_point old (fold_of x.found)) new step r x.made.again)
+entered_in_after Trim did old new step r (inr (inr x)) = entered_after did old new step (Err HistoryFull) x.full
+
+-- an acquire that waits as long as it must isn't told as missed
+pub never_missed : (did : Deed → Type 0) (w : WhenFull) (how : How) (old new : Shown) (r : Result Entry Fault) →
+    (is_timed how → ⊥) → IsSame old new → acquires did how w old r new → whether_of r ≡ Ok false → ⊥
+never_missed did w how old new r never same made =
+    in_room (λ (from : Shown). λ (s : Result Entry Fault). whether_of s ≡ Ok false → ⊥) w _ _ old new r same
+    (λ p. λ x. x) (λ x. λ told. let no : whether_of (Err TrimFull) ≡ Ok false = told in cc)
+    (λ from. λ s. λ of. λ at. λ one. waits_to_the_end did from new how s never one) made
+
+-- Signals, which make room by turns of their own.
 lacks_trims : (w : WhenFull) (r : Result Entry Fault) → lacks_room w r ≡ true →
     (w ≡ Trim) × (r ≡ Err HistoryFull)
 lacks_trims Refuse r q = cc
@@ -26,18 +67,18 @@ lacks_trims Trim (Ok e) q = cc
 lacks_trims Trim (Err HistoryFull) q = (refl, refl)
 lacks_trims Trim (Err _) q = cc
 
-pub direct : (w : WhenFull) (call : Call) (old mid new : Shown) (r : Result Entry Fault) → call old r mid →
-    MakesRoom w r mid (Ok false) new → WithRoom w call old r new
+pub direct : (w : WhenFull) (call : Once) (old mid new : Shown) (r : Result Entry Fault) → call old r mid →
+    MakesRoom w r mid (Ok false) new → InTurns w call old r new
 direct w call old mid new r x m = inl (subst (λ (z : Shown). call old r z) (sym m.1) x, m.0)
 
-found_full : (w : WhenFull) (call : Call) (old mid : Shown) (r : Result Entry Fault) → call old r mid →
+found_full : (w : WhenFull) (call : Once) (old mid : Shown) (r : Result Entry Fault) → call old r mid →
     lacks_room w r ≡ true → call old (Err HistoryFull) mid
 found_full w call old mid r x lacks =
     subst (λ (z : Result Entry Fault). call old z mid) (lacks_trims w r lacks).1 x
 
-pub made_again : (w : WhenFull) (call : Call) (old mid folded new : Shown) (r s : Result Entry Fault) →
+pub made_again : (w : WhenFull) (call : Once) (old mid folded new : Shown) (r s : Result Entry Fault) →
     call old r mid → MakesRoom w r mid (Ok true) folded → IsSame mid folded → call folded s new →
-    WithRoom w call old s new
+    InTurns w call old s new
 made_again w call old mid folded new r s x m same again =
     inr (inl record {
       trims = (lacks_trims w r m.0).0;
@@ -50,8 +91,8 @@ made_again w call old mid folded new r s x m same again =
       again = again;
     })
 
-pub cannot_fold : (w : WhenFull) (call : Call) (old mid new : Shown) (r : Result Entry Fault) (f : Fault) →
-    call old r mid → MakesRoom w r mid (Err f) new → WithRoom w call old (Err f) new
+pub cannot_fold : (w : WhenFull) (call : Once) (old mid new : Shown) (r : Result Entry Fault) (f : Fault) →
+    call old r mid → MakesRoom w r mid (Err f) new → InTurns w call old (Err f) new
 cannot_fold w call old mid new r f x m =
     inr (inr record {
       trims = (lacks_trims w r m.0).0;
@@ -61,37 +102,3 @@ cannot_fold w call old mid new r f x m =
       trim = m.1;
       is = refl;
     })
-
--- the reply is a call's, or a fault
-pub last_call : (w : WhenFull) (call : Call) (old new : Shown) (r : Result Entry Fault) →
-    WithRoom w call old r new → ((o : Shown) × call o r new) ⊎ ((f : Fault) × (r ≡ Err f))
-last_call w call old new r (inl x) = inl (old, x.0)
-last_call w call old new r (inr (inl x)) = inl (x.folded, x.again)
-last_call w call old new r (inr (inr x)) = inr (x.fault, x.is)
-
--- an acquire that waits as long as it must isn't told as missed
-pub never_missed : (did : Deed → Type 0) (w : WhenFull) (how : How) (old new : Shown) (r : Result Entry Fault) →
-    (is_timed how → ⊥) → WithRoom w (acquires did how) old r new → whether_of r ≡ Ok false → ⊥
-never_missed did w how old new r never made told =
-    ⊎_elim (λ x. waits_to_the_end did x.0 new how r never x.1 told)
-    (λ x. let t = ap whether_of (sym x.1) ∙ told in cc)
-    (last_call w (acquires did how) old new r made)
-
--- a call that found no room added no holds
-pub full_gains : (w : WhenFull) (a : Asked) (r : Result Entry Fault) → lacks_room w r ≡ true → gained_by a r ≡ 0
-full_gains w a r lacks = ap (gained_by a) (lacks_trims w r lacks).1 ∙ none a
-  where
-    none : (a : Asked) → gained_by a (Err HistoryFull) ≡ 0
-    none (asked.Acquire how) = refl
-    none (asked.Try) = refl
-    none (asked.Await condition how) = refl
-
-pub fault_gains : (a : Asked) (f : Fault) → gained_by a (Err f) ≡ 0
-fault_gains (asked.Acquire how) f = refl
-fault_gains (asked.Try) f = refl
-fault_gains (asked.Await condition how) f = refl
-
-pub entered_after : (did : Deed → Type 0) (old new : Shown) (step : Step) (r : Result Entry Fault) →
-    IsEntered did old step r new → Before old.seen new.seen
-entered_after did old new step (Ok e) s = s.1.after
-entered_after did old new step (Err f) s = s.after

@@ -5,36 +5,39 @@ use Rattle.history.specs.declared.entry.Mode.TheVariants.{X}
 use Rattle.history.specs.declared.fault.Fault.{Fault}
 use Rattle.history.specs.declared.step.Step.{Step}
 use Rattle.history.specs.declared.step.Step.TheVariants.{Try, Signal, SignalAll}
-use Rattle.monitor.specs.Acquire.{IsAcquire}
-use Rattle.monitor.specs.AwaitOn.{IsAwait}
+use Rattle.monitor.specs.Room.{IsCallIn, IsEnteredIn}
 use Rattle.monitor.specs.Shown.{Shown}
 use Rattle.monitor.specs.Stepping.{IsEntered}
 use Rattle.monitor.specs.declared.how.How.{How}
+use Rattle.monitor.specs.declared.machine.Request.TheVariants.{Acquire, AwaitOn}
+use Rattle.monitor.specs.declared.room.WhenFull.{WhenFull}
 use Rattle.monitor_fronts.specs.Holding.{gained}
 use Rattle.monitor_fronts.specs.Told.{done_of, whether_of}
 use Rattle.permit.specs.Deed.{Deed}
 use Rattle.guarded.specs.declared.asking.Asked.{Asked}
 use Rattle.guarded.specs.declared.asking.Asked.TheVariants as asked
-use Rattle.guarded.specs.declared.full.WhenFull.{WhenFull}
-use Rattle.guarded.specs.Full.{Call, WithRoom}
+use Rattle.guarded.specs.Full.{Call, InTurns, Once}
 
 -- the calls of the monitor
 abbrev pub acquires : (Deed → Type 0) → How → Call
-acquires did how old reply new = IsAcquire did old X 1 how reply new
+acquires did how w old reply new = IsCallIn w did old (Acquire X 1) how reply new
 
 abbrev pub tries : (Deed → Type 0) → Call
-tries did old reply new = IsEntered did old (Try X 1) reply new
+tries did w old reply new = IsEnteredIn w did old (Try X 1) reply new
 
 abbrev pub awaits : (Deed → Type 0) → ℕ → How → Call
-awaits did condition how old reply new = IsAwait did old condition how reply new
+awaits did condition how w old reply new = IsCallIn w did old (AwaitOn condition) how reply new
 
 -- to one sleeper, or to all
 abbrev pub signal_step : Bool → ℕ → Step
 signal_step true condition = SignalAll condition
 signal_step false condition = Signal condition
 
+abbrev pub signals_once : (Deed → Type 0) → Bool → ℕ → Once
+signals_once did all condition old reply new = IsEntered did old (signal_step all condition) reply new
+
 abbrev pub signals : (Deed → Type 0) → Bool → ℕ → Call
-signals did all condition old reply new = IsEntered did old (signal_step all condition) reply new
+signals did all condition w old reply new = InTurns w (signals_once did all condition) old reply new
 
 abbrev pub call_of : (Deed → Type 0) → Asked → Call
 call_of did (asked.Acquire how) = acquires did how
@@ -55,12 +58,12 @@ gained_by (asked.Await condition how) reply = 0
 -- the call had a reply, and this is what is told of it
 abbrev pub Tells : WhenFull → Call → Shown → Shown → Result Bool Fault → Type 0
 Tells w call old new told =
-    (reply : Result Entry Fault) × WithRoom w call old reply new × (told ≡ whether_of reply)
+    (reply : Result Entry Fault) × call w old reply new × (told ≡ whether_of reply)
 
 -- the same of a call that is told of without a yes or no
 abbrev pub TellsDone : WhenFull → Call → Shown → Shown → Result (Unit {0}) Fault → Type 0
 TellsDone w call old new done =
-    (reply : Result Entry Fault) × WithRoom w call old reply new × (done ≡ done_of reply)
+    (reply : Result Entry Fault) × call w old reply new × (done ≡ done_of reply)
 
 -- an answer without a yes or no as one with a yes
 abbrev pub with_yes : Result (Unit {0}) Fault → Result Bool Fault

@@ -1,16 +1,20 @@
--- A call that may find the history full.
+-- Calls of a lock or pool, which says what they do where its history is full.
 use Rattle.std.specs.Prelude.{◌≡◌, ◌⊎◌, ℕ, Bool, true, false, Result, Ok, Err}
 use Rattle.history.specs.declared.entry.Entry.{Entry}
 use Rattle.history.specs.declared.fault.Fault.{Fault}
 use Rattle.history.specs.declared.fault.Fault.TheVariants.{HistoryFull}
 use Rattle.monitor.specs.Shown.{Shown}
 use Rattle.monitor.specs.Stepping.{IsSame, IsTrim}
-use Rattle.guarded.specs.declared.full.WhenFull.{WhenFull}
-use Rattle.guarded.specs.declared.full.WhenFull.TheVariants.{Refuse, Trim}
+use Rattle.monitor.specs.declared.room.WhenFull.{WhenFull}
+use Rattle.monitor.specs.declared.room.WhenFull.TheVariants.{Refuse, Trim}
 
--- a call's reply, with the pass before and behind it
+-- a call's reply, with the pass before and after it, by what the lock does where its history is full
 abbrev pub Call : Type 1
-Call = Shown → Result Entry Fault → Shown → Type 0
+Call = WhenFull → Shown → Result Entry Fault → Shown → Type 0
+
+-- a call that says nothing of a full history
+abbrev pub Once : Type 1
+Once = Shown → Result Entry Fault → Shown → Type 0
 
 -- the reply says that there was no room, and the lock is one that makes room
 abbrev pub lacks_room : WhenFull → Result Entry Fault → Bool
@@ -18,8 +22,8 @@ lacks_room Refuse reply = false
 lacks_room Trim (Err HistoryFull) = true
 lacks_room Trim _ = false
 
--- The call found no room. The history was folded, and the call was made again.
-pub record MadeAgain (w : WhenFull) (call : Call) (old : Shown) (reply : Result Entry Fault) (new : Shown) :
+-- The call found no room. The history was folded in a turn of its own, and the call was made again.
+pub record MadeAgain (w : WhenFull) (call : Once) (old : Shown) (reply : Result Entry Fault) (new : Shown) :
     Type 0 where
   pub trims : w ≡ Trim
   pub full : Shown
@@ -31,7 +35,7 @@ pub record MadeAgain (w : WhenFull) (call : Call) (old : Shown) (reply : Result 
   pub again : call folded reply new
 
 -- The call found no room, and more entries would be folded than there may be.
-pub record CannotFold (w : WhenFull) (call : Call) (old : Shown) (reply : Result Entry Fault) (new : Shown) :
+pub record CannotFold (w : WhenFull) (call : Once) (old : Shown) (reply : Result Entry Fault) (new : Shown) :
     Type 0 where
   pub trims : w ≡ Trim
   pub full : Shown
@@ -40,14 +44,15 @@ pub record CannotFold (w : WhenFull) (call : Call) (old : Shown) (reply : Result
   pub trim : IsTrim full (Err fault) new
   pub is : reply ≡ Err fault
 
--- A call on a lock that does so where its history is full. It folds only where there was no room.
-abbrev pub WithRoom : WhenFull → Call → Shown → Result Entry Fault → Shown → Type 0
-WithRoom w call old reply new =
+-- A call that makes room by turns of its own. It folds only where there was no room. Between its turns other
+-- threads may fill the history again.
+abbrev pub InTurns : WhenFull → Once → Shown → Result Entry Fault → Shown → Type 0
+InTurns w call old reply new =
     (call old reply new × (lacks_room w reply ≡ false))
     ⊎ MadeAgain w call old reply new
     ⊎ CannotFold w call old reply new
 
--- what making room leaves of a pass, behind a reply
+-- what making room leaves of a pass, after a reply
 abbrev pub MakesRoom : WhenFull → Result Entry Fault → Shown → Result Bool Fault → Shown → Type 0
 MakesRoom w reply old (Ok false) new = (lacks_room w reply ≡ false) × (new ≡ old)
 MakesRoom w reply old (Ok true) new = (lacks_room w reply ≡ true) × ((n : ℕ) × IsTrim old (Ok n) new)

@@ -4,8 +4,8 @@ use Rattle.history.specs.declared.fault.Fault.{Fault}
 use Rattle.word_lock.specs.Point.{Before}
 use Rattle.monitor.specs.Shown.{Shown, IsSound}
 use Rattle.monitor.specs.Stepping.{IsSame}
+use Rattle.monitor.specs.declared.room.WhenFull.{WhenFull}
 use Rattle.monitor_fronts.specs.Holding.{holds}
-use Rattle.guarded.specs.declared.full.WhenFull.{WhenFull}
 use Rattle.guarded.specs.declared.try_lock.TryLockFault.{TryLockFault}
 use Rattle.guarded.specs.declared.try_lock.TryLockFault.TheVariants.{Missed, Failed}
 use Rattle.guarded.specs.Asking.{Tells}

@@ -5,26 +5,27 @@ use Rattle.history.specs.declared.entry.Mode.TheVariants.{S}
 use Rattle.history.specs.declared.fault.Fault.{Fault}
 use Rattle.history.specs.declared.fault.Fault.TheVariants.{OutOfMemory}
 use Rattle.history.specs.declared.step.Step.TheVariants.{Give, Try}
-use Rattle.monitor.specs.Acquire.{IsAcquire, is_timed}
+use Rattle.monitor.specs.Acquire.{is_timed}
+use Rattle.monitor.specs.Room.{IsCallIn, IsEnteredIn}
 use Rattle.monitor.specs.Shown.{Shown}
-use Rattle.monitor.specs.Stepping.{IsEntered}
 use Rattle.monitor.specs.declared.how.How.{How}
+use Rattle.monitor.specs.declared.machine.Request.TheVariants.{Acquire}
+use Rattle.monitor.specs.declared.room.WhenFull.{WhenFull}
 use Rattle.permit.specs.Deed.{Deed}
 use Rattle.guarded.specs.declared.asking.PoolCall.{PoolCall}
 use Rattle.guarded.specs.declared.asking.PoolCall.TheVariants as asks
-use Rattle.guarded.specs.declared.full.WhenFull.{WhenFull}
 use Rattle.guarded.specs.Asking.{Tells}
 use Rattle.guarded.specs.Full.{Call}
 
 -- the calls of the monitor
 abbrev pub fetches : (Deed → Type 0) → ℕ → How → Call
-fetches did n how old reply new = IsAcquire did old S n how reply new
+fetches did n how w old reply new = IsCallIn w did old (Acquire S n) how reply new
 
 abbrev pub tries_fetch : (Deed → Type 0) → ℕ → Call
-tries_fetch did n old reply new = IsEntered did old (Try S n) reply new
+tries_fetch did n w old reply new = IsEnteredIn w did old (Try S n) reply new
 
 abbrev pub gives_back : (Deed → Type 0) → ℕ → Call
-gives_back did n old reply new = IsEntered did old (Give S n) reply new
+gives_back did n w old reply new = IsEnteredIn w did old (Give S n) reply new
 
 abbrev pub pool_call : (Deed → Type 0) → PoolCall → Call
 pool_call did (asks.Acquire n how) = fetches did n how
@@ -47,11 +48,11 @@ abbrev pub is_done : Result Bool Fault → Bool
 is_done (Ok b) = b
 is_done (Err f) = false
 
--- how many items one has behind a call, by what is told of it
+-- how many items one has after a call, by what is told of it
 abbrev pub has_after : PoolCall → Result Bool Fault → ℕ
 has_after asked told = if is_done told then asked_by asked else brought_by asked
 
--- the free permits that the pass's own entries leave behind a call
+-- the free permits that the pass's own entries leave after a call
 abbrev pub free_if : Bool → PoolCall → ℤ → ℤ
 free_if true (asks.Acquire n how) f = f -ℤ pos n
 free_if true (asks.Try n) f = f -ℤ pos n

@@ -5,12 +5,13 @@ use Rattle.history.specs.declared.entry.Mode.TheVariants.{S}
 use Rattle.history.specs.Counts.{counts}
 use Rattle.history.specs.declared.fault.Fault.{Fault}
 use Rattle.history.specs.declared.step.Step.TheVariants.{Give, Try}
-use Rattle.monitor.specs.Acquire.{IsAcquire}
 use Rattle.monitor.specs.Lawful.{start_at}
 use Rattle.monitor.specs.Load.{holds_of}
+use Rattle.monitor.specs.Room.{IsCallIn, IsEnteredIn}
 use Rattle.monitor.specs.Shown.{Shown}
 use Rattle.monitor.specs.Stepping.{IsEntered}
 use Rattle.monitor.specs.declared.how.How.{How}
+use Rattle.monitor.specs.declared.machine.Request.TheVariants.{Acquire}
 use Rattle.monitor_fronts.specs.Holding.{gained, holds}
 use Rattle.monitor_fronts.specs.Told.{done_of}
 use Rattle.permit.specs.Deed.{Deed}
@@ -27,10 +28,10 @@ reads p = holds_of p S
 
 -- the calls of the monitor
 abbrev pub reads_by : (Deed → Type 0) → How → Call
-reads_by did how old reply new = IsAcquire did old S 1 how reply new
+reads_by did how w old reply new = IsCallIn w did old (Acquire S 1) how reply new
 
 abbrev pub tries_read : (Deed → Type 0) → Call
-tries_read did old reply new = IsEntered did old (Try S 1) reply new
+tries_read did w old reply new = IsEnteredIn w did old (Try S 1) reply new
 
 abbrev pub reading_of : (Deed → Type 0) → Reading → Call
 reading_of did (asks.Acquire how) = reads_by did how

@@ -6,7 +6,7 @@ use Rattle.history.specs.Counts.{Counts}
 use Rattle.history.specs.Object.{is_lock}
 use Rattle.frame.specs.Hooks.{AreAlike}
 use Rattle.word_lock.specs.Ticket.{LockId}
-use Rattle.guarded.specs.declared.full.WhenFull.{WhenFull}
+use Rattle.monitor.specs.declared.room.WhenFull.{WhenFull}
 use Rattle.guarded.specs.declared.slot.Slot.{Slot}
 use Rattle.guarded.specs.declared.slot.Slot.TheVariants.{Empty, Full}
 

@@ -25,7 +25,6 @@
 
 mod acquiring;
 mod asking;
-mod full;
 mod guard;
 mod locking;
 mod mutex;
@@ -33,11 +32,12 @@ mod pool;
 mod reading;
 mod rw_mutex;
 mod shelf;
+mod signalling;
 mod slot;
 mod try_lock;
 
-pub use full::WhenFull;
 pub use guard::Guard;
+pub use monitor::WhenFull;
 pub use mutex::Mutex;
 pub use pool::Pool;
 pub use rw_mutex::RwMutex;

@@ -16,16 +16,14 @@ ghost use Rattle.monitor.specs.Closing.{IsBased, IsMissing, IsWithin, left_by, p
 ghost use Rattle.monitor.specs.declared.closing.CloseFault.TheVariants.{MissingPass};
 ghost use Rattle.monitor.specs.Lawful.{IsLawful, blank};
 ghost use Rattle.monitor.specs.Shown.{IsSound, opening_passes};
-ghost use Rattle.monitor.specs.Stepping.{IsEntered, IsSame};
+ghost use Rattle.monitor.specs.Stepping.{IsSame};
 ghost use Rattle.monitor_fronts.specs.Holding.{gained, holds};
-ghost use Rattle.guarded.specs.Asking.{IsRecorded, IsTake, Tells, acquires, awaits, call_of, gained_by, signal_step, signals};
-ghost use Rattle.guarded.specs.Full.{MakesRoom, WithRoom};
+ghost use Rattle.guarded.specs.Asking.{IsRecorded, IsTake, Tells, acquires, awaits, call_of, gained_by};
 ghost use Rattle.guarded.specs.Guarding.{Guards, Locked, NotLocked, told_try};
 ghost use Rattle.guarded.specs.Stowed.{Carries, Rests, slot_of};
 ghost use Rattle.word_lock.specs.Point.{Before};
 
 use crate::asking::Asked;
-use crate::full::{WhenFull, lacks_room};
 use crate::slot::Slot;
 use crate::try_lock::TryLockFault;
 use frame::hooks::Hooks;
@@ -33,7 +31,7 @@ use history::entry::{Entry, Mode};
 use history::fault::Fault;
 use history::header::Policy;
 use history::step::Step;
-use monitor::{CloseFault, Closed, How, Monitor, Pass};
+use monitor::{CloseFault, Closed, How, Monitor, Pass, WhenFull};
 use monitor_fronts::whether;
 use permit::Parking;
 use reentrant::lock::LockHooks;
@@ -144,65 +142,7 @@ impl<T: Drop, H: Hooks + Drop> Mutex<T, H> {
 
 /// What all calls are made of.
 impl<T: Drop, H: Hooks + Drop> Mutex<T, H> {
-    // Folds a full history, where the lock is one that does so: whether it did.
-    pub(crate) fn makes_room<R: Wait>(
-        &self,
-        rt: &R,
-        pass: &mut Pass,
-        reply: Result<Entry, Fault>,
-    ) -> Result<bool, Fault>
-        requires is_of { pass.old.lock ≡ self.now.lock }
-        requires shows { IsSound pass.old }
-        ensures same { IsSame pass.old pass.new }
-        ensures begins { Before pass.old.seen pass.new.seen }
-        ensures shows { IsSound pass.new }
-        ensures makes { MakesRoom self.now.when_full reply pass.old result pass.new }
-        ensures keeps { holds pass.new ≡ holds pass.old }
-    {
-        if !lacks_room(self.when_full, reply) {
-            return Ok(false);
-        }
-        match self.monitor.trim(rt, pass) {
-            Ok(_) => Ok(true),
-            Err(fault) => Err(fault),
-        }
-    }
-
-    // A call of the monitor.
-    pub(crate) fn once<P: Parking, R: Wait + Clock>(
-        &self,
-        rt: &R,
-        parking: &P,
-        pass: &mut Pass,
-        slot: &mut Slot<T>,
-        asked: Asked,
-    ) -> Result<Entry, Fault>
-        requires is_of { pass.old.lock ≡ self.now.lock }
-        requires places { self.now.lock.header.seats ≤ P.seats parking.now }
-        requires carries { Carries (holds pass.old) slot.old }
-        ensures same { IsSame pass.old pass.new }
-        ensures begins { Before pass.old.seen pass.new.seen }
-        ensures shows { IsSound pass.new }
-        ensures called { call_of (P.did parking.now) asked pass.old result pass.new }
-        ensures gains { holds pass.new ≡ holds pass.old + gained_by asked result }
-        ensures carries { Carries (holds pass.new) slot.new }
-    {
-        match asked {
-            Asked::Acquire(how) => {
-                self.monitor
-                    .acquire_with(rt, parking, pass, slot, Mode::X, 1, how)
-            }
-            Asked::Try => self
-                .monitor
-                .enter(rt, parking, pass, slot, Step::Try(Mode::X, 1)),
-            Asked::Await(condition, how) => {
-                self.monitor
-                    .await_on_with(rt, parking, pass, slot, condition, how)
-            }
-        }
-    }
-
-    // A call that makes room where there is none.
+    // A call by one who carries the value exactly if the pass holds.
     pub(crate) fn call<P: Parking, R: Wait + Clock>(
         &self,
         rt: &R,
@@ -217,15 +157,25 @@ impl<T: Drop, H: Hooks + Drop> Mutex<T, H> {
         ensures same { IsSame pass.old pass.new }
         ensures begins { Before pass.old.seen pass.new.seen }
         ensures shows { IsSound pass.new }
-        ensures called { WithRoom self.now.when_full (call_of (P.did parking.now) asked) pass.old result pass.new }
+        ensures called { call_of (P.did parking.now) asked self.now.when_full pass.old result pass.new }
         ensures gains { holds pass.new ≡ holds pass.old + gained_by asked result }
         ensures carries { Carries (holds pass.new) slot.new }
     {
-        let reply = self.once(rt, parking, pass, slot, asked);
-        match self.makes_room(rt, pass, reply) {
-            Ok(false) => reply,
-            Ok(true) => self.once(rt, parking, pass, slot, asked),
-            Err(fault) => Err(fault),
+        let when_full = self.when_full;
+        match asked {
+            Asked::Acquire(how) => {
+                self.monitor
+                    .acquire_when_full(rt, parking, pass, slot, Mode::X, 1, how, when_full)
+            }
+            Asked::Try => {
+                let step = Step::Try(Mode::X, 1);
+                self.monitor
+                    .enter_when_full(rt, parking, pass, slot, step, when_full)
+            }
+            Asked::Await(condition, how) => {
+                self.monitor
+                    .await_when_full(rt, parking, pass, slot, condition, how, when_full)
+            }
         }
     }
 
@@ -378,52 +328,5 @@ impl<T: Drop, H: Hooks + Drop> Mutex<T, H> {
         ensures loses { holds pass.new + 1 ≡ holds pass.old }
     {
         self.give(rt, parking, pass, slot);
-    }
-
-    // A signal, to one sleeper or to all.
-    fn signal_once<P: Parking, R: Wait + Clock>(
-        &self,
-        rt: &R,
-        parking: &P,
-        pass: &mut Pass,
-        condition: u8,
-        all: bool,
-    ) -> Result<Entry, Fault>
-        requires is_of { pass.old.lock ≡ self.now.lock }
-        requires places { self.now.lock.header.seats ≤ P.seats parking.now }
-        ensures same { IsSame pass.old pass.new }
-        ensures shows { IsSound pass.new }
-        ensures signalled { IsEntered (P.did parking.now) pass.old (signal_step all condition) result pass.new }
-        ensures keeps { holds pass.new ≡ holds pass.old }
-    {
-        if all {
-            self.monitor.signal_all(rt, parking, pass, condition)
-        } else {
-            self.monitor.signal(rt, parking, pass, condition)
-        }
-    }
-
-    // The same, with room made where there is none.
-    pub(crate) fn tell<P: Parking, R: Wait + Clock>(
-        &self,
-        rt: &R,
-        parking: &P,
-        pass: &mut Pass,
-        condition: u8,
-        all: bool,
-    ) -> Result<Entry, Fault>
-        requires is_of { pass.old.lock ≡ self.now.lock }
-        requires places { self.now.lock.header.seats ≤ P.seats parking.now }
-        ensures same { IsSame pass.old pass.new }
-        ensures shows { IsSound pass.new }
-        ensures signalled { WithRoom self.now.when_full (signals (P.did parking.now) all condition) pass.old result pass.new }
-        ensures keeps { holds pass.new ≡ holds pass.old }
-    {
-        let reply = self.signal_once(rt, parking, pass, condition, all);
-        match self.makes_room(rt, pass, reply) {
-            Ok(false) => reply,
-            Ok(true) => self.signal_once(rt, parking, pass, condition, all),
-            Err(fault) => Err(fault),
-        }
     }
 }

@@ -14,7 +14,6 @@ ghost use Rattle.monitor.specs.Shown.{IsSound, opening_passes};
 ghost use Rattle.monitor.specs.Stepping.{IsSame};
 ghost use Rattle.monitor_fronts.specs.Told.{whether_of};
 ghost use Rattle.guarded.specs.Asking.{Tells, told_of};
-ghost use Rattle.guarded.specs.Full.{MakesRoom, WithRoom};
 ghost use Rattle.guarded.specs.Guarding.{told_by};
 ghost use Rattle.guarded.specs.Pooling.{Answers, asked_by, brought_by, fetches, has_after};
 ghost use Rattle.guarded.specs.Pooling.{is_done, pool_call};
@@ -22,14 +21,13 @@ ghost use Rattle.guarded.specs.Shelved.{Lies};
 ghost use Rattle.word_lock.specs.Point.{Before};
 
 use crate::asking::PoolCall;
-use crate::full::{WhenFull, lacks_room};
 use crate::shelf::Shelf;
 use counting::semaphore::SemaphoreHooks;
 use history::entry::{Entry, Mode};
 use history::fault::Fault;
 use history::header::Policy;
 use history::step::Step;
-use monitor::{CloseFault, Closed, How, Monitor, Pass};
+use monitor::{CloseFault, Closed, How, Monitor, Pass, WhenFull};
 use monitor_fronts::whether;
 use permit::Parking;
 use std::alloc::Global;
@@ -157,64 +155,7 @@ impl<T: Drop> Pool<T> {
 
 /// What all calls are made of.
 impl<T: Drop> Pool<T> {
-    // Folds a full history, where the pool is one that does so: whether it did.
-    fn makes_room<R: Wait>(
-        &self,
-        rt: &R,
-        pass: &mut Pass,
-        reply: Result<Entry, Fault>,
-    ) -> Result<bool, Fault>
-        requires is_of { pass.old.lock ≡ self.now.lock }
-        requires shows { IsSound pass.old }
-        ensures same { IsSame pass.old pass.new }
-        ensures begins { Before pass.old.seen pass.new.seen }
-        ensures shows { IsSound pass.new }
-        ensures makes { MakesRoom self.now.when_full reply pass.old result pass.new }
-    {
-        if !lacks_room(self.when_full, reply) {
-            return Ok(false);
-        }
-        match self.monitor.trim(rt, pass) {
-            Ok(_) => Ok(true),
-            Err(fault) => Err(fault),
-        }
-    }
-
-    // A call of the monitor.
-    fn once<P: Parking, R: Wait + Clock>(
-        &self,
-        rt: &R,
-        parking: &P,
-        pass: &mut Pass,
-        shelf: &mut Shelf<T>,
-        asked: PoolCall,
-    ) -> Result<Entry, Fault>
-        requires is_of { pass.old.lock ≡ self.now.lock }
-        requires places { self.now.lock.header.seats ≤ P.seats parking.now }
-        requires brings { length shelf.old.items ≡ brought_by asked }
-        ensures same { IsSame pass.old pass.new }
-        ensures begins { Before pass.old.seen pass.new.seen }
-        ensures shows { IsSound pass.new }
-        ensures called { pool_call (P.did parking.now) asked pass.old result pass.new }
-        ensures answers { Answers asked (whether_of result) }
-        ensures has { length shelf.new.items ≡ has_after asked (whether_of result) }
-        ensures keeps { is_done (whether_of result) ≡ false → shelf.new ≡ shelf.old }
-    {
-        match asked {
-            PoolCall::Acquire(n, how) => {
-                self.monitor
-                    .acquire_with(rt, parking, pass, shelf, Mode::S, n, how)
-            }
-            PoolCall::Try(n) => self
-                .monitor
-                .enter(rt, parking, pass, shelf, Step::Try(Mode::S, n)),
-            PoolCall::Release(n) => self
-                .monitor
-                .enter(rt, parking, pass, shelf, Step::Give(Mode::S, n)),
-        }
-    }
-
-    // A call that makes room where there is none.
+    // A call by one who brings as many items as it releases.
     pub(crate) fn call<P: Parking, R: Wait + Clock>(
         &self,
         rt: &R,
@@ -229,17 +170,27 @@ impl<T: Drop> Pool<T> {
         ensures same { IsSame pass.old pass.new }
         ensures begins { Before pass.old.seen pass.new.seen }
         ensures shows { IsSound pass.new }
-        ensures called { WithRoom self.now.when_full (pool_call (P.did parking.now) asked) pass.old
-            result pass.new }
+        ensures called { pool_call (P.did parking.now) asked self.now.when_full pass.old result pass.new }
         ensures answers { Answers asked (whether_of result) }
         ensures has { length shelf.new.items ≡ has_after asked (whether_of result) }
         ensures keeps { is_done (whether_of result) ≡ false → shelf.new ≡ shelf.old }
     {
-        let reply = self.once(rt, parking, pass, shelf, asked);
-        match self.makes_room(rt, pass, reply) {
-            Ok(false) => reply,
-            Ok(true) => self.once(rt, parking, pass, shelf, asked),
-            Err(fault) => Err(fault),
+        let when_full = self.when_full;
+        match asked {
+            PoolCall::Acquire(n, how) => {
+                self.monitor
+                    .acquire_when_full(rt, parking, pass, shelf, Mode::S, n, how, when_full)
+            }
+            PoolCall::Try(n) => {
+                let step = Step::Try(Mode::S, n);
+                self.monitor
+                    .enter_when_full(rt, parking, pass, shelf, step, when_full)
+            }
+            PoolCall::Release(n) => {
+                let step = Step::Give(Mode::S, n);
+                self.monitor
+                    .enter_when_full(rt, parking, pass, shelf, step, when_full)
+            }
         }
     }
 

@@ -9,7 +9,6 @@ ghost use Rattle.monitor.specs.Stepping.{IsSame};
 ghost use Rattle.monitor_fronts.specs.Holding.{gained, holds};
 ghost use Rattle.monitor_fronts.specs.Told.{whether_of};
 ghost use Rattle.guarded.specs.Asking.{Tells};
-ghost use Rattle.guarded.specs.Full.{WithRoom};
 ghost use Rattle.guarded.specs.Guarding.{Guards, told_by, told_if};
 ghost use Rattle.guarded.specs.Reading.{GainsReads, GivesRead, Saw, Sees, reading_of, reads, reads_by};
 ghost use Rattle.guarded.specs.Stowed.{Carries};
@@ -32,37 +31,7 @@ use std::time::Clock;
 
 /// What the calls of readers are made of. A pass that writes carries the value meanwhile, in its slot.
 impl<T: Drop, H: Hooks + Drop> Mutex<T, H> {
-    // A call of the monitor.
-    fn read_once<P: Parking, R: Wait + Clock>(
-        &self,
-        rt: &R,
-        parking: &P,
-        pass: &mut Pass,
-        slot: &mut Slot<T>,
-        asked: Reading,
-    ) -> Result<Entry, Fault>
-        requires is_of { pass.old.lock ≡ self.now.lock }
-        requires places { self.now.lock.header.seats ≤ P.seats parking.now }
-        requires carries { Carries (holds pass.old) slot.old }
-        ensures same { IsSame pass.old pass.new }
-        ensures begins { Before pass.old.seen pass.new.seen }
-        ensures shows { IsSound pass.new }
-        ensures called { reading_of (P.did parking.now) asked pass.old result pass.new }
-        ensures gains { GainsReads pass.old (whether_of result) pass.new }
-        ensures carries { Carries (holds pass.new) slot.new }
-    {
-        match asked {
-            Reading::Acquire(how) => {
-                self.monitor
-                    .acquire_with(rt, parking, pass, slot, Mode::S, 1, how)
-            }
-            Reading::Try => self
-                .monitor
-                .enter(rt, parking, pass, slot, Step::Try(Mode::S, 1)),
-        }
-    }
-
-    // A call that makes room where there is none.
+    // A call by one who carries the value exactly if the pass writes.
     pub(crate) fn start_reading<P: Parking, R: Wait + Clock>(
         &self,
         rt: &R,
@@ -77,15 +46,21 @@ impl<T: Drop, H: Hooks + Drop> Mutex<T, H> {
         ensures same { IsSame pass.old pass.new }
         ensures begins { Before pass.old.seen pass.new.seen }
         ensures shows { IsSound pass.new }
-        ensures called { WithRoom self.now.when_full (reading_of (P.did parking.now) asked) pass.old result pass.new }
+        ensures called { reading_of (P.did parking.now) asked self.now.when_full pass.old result pass.new }
         ensures gains { GainsReads pass.old (whether_of result) pass.new }
         ensures carries { Carries (holds pass.new) slot.new }
     {
-        let reply = self.read_once(rt, parking, pass, slot, asked);
-        match self.makes_room(rt, pass, reply) {
-            Ok(false) => reply,
-            Ok(true) => self.read_once(rt, parking, pass, slot, asked),
-            Err(fault) => Err(fault),
+        let when_full = self.when_full;
+        match asked {
+            Reading::Acquire(how) => {
+                self.monitor
+                    .acquire_when_full(rt, parking, pass, slot, Mode::S, 1, how, when_full)
+            }
+            Reading::Try => {
+                let step = Step::Try(Mode::S, 1);
+                self.monitor
+                    .enter_when_full(rt, parking, pass, slot, step, when_full)
+            }
         }
     }
 

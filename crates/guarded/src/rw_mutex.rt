@@ -28,14 +28,13 @@ ghost use Rattle.guarded.specs.Stowed.{Rests, slot_of};
 ghost use Rattle.word_lock.specs.Point.{Before};
 
 use crate::asking::Reading;
-use crate::full::WhenFull;
 use crate::guard::Guard;
 use crate::mutex::Mutex;
 use crate::slot::Slot;
 use crate::try_lock::TryLockFault;
 use history::fault::Fault;
 use history::header::Policy;
-use monitor::{CloseFault, Closed, How, Monitor, Pass};
+use monitor::{CloseFault, Closed, How, Monitor, Pass, WhenFull};
 use permit::Parking;
 use read_write::hooks::RwHooks;
 use std::alloc::Global;

@@ -30,7 +30,7 @@
 //!     Ok(*value)
 //! }
 //!
-//! /// Opens a lock that guards 0, for two threads that add. The later one returns the sum.
+//! /// Opens a lock that guards 0, lets two threads add, and locks again to read the sum.
 //! fn sum<R: Threads + Wait + Clock + Sync>(rt: &R, alloc: Global) -> Result<u64, Fault> {
 //!     let parking = ThreadParking::open(rt, alloc, 2)?;
 //!     let opened = Mutex::open(alloc, 0u64, Policy::Fair, WhenFull::Trim, 2, 0, 64);
@@ -43,12 +43,15 @@
 //!     let Some(mut two) = passes.pop() else {
 //!         unreachable!()
 //!     };
-//!     let (a, b) = thread::join(
+//!     let (a, b) = thread::join_mut(
 //!         rt,
-//!         || add(rt, &parking, &number, &mut one, 40),
-//!         || add(rt, &parking, &number, &mut two, 2),
+//!         &mut || add(rt, &parking, &number, &mut one, 40),
+//!         &mut || add(rt, &parking, &number, &mut two, 2),
 //!     );
-//!     Ok(a?.max(b?))
+//!     a?;
+//!     b?;
+//!     let guard = Mutex::lock(&mut one, &number, rt, &parking)?;
+//!     Ok(*guard.value())
 //! }
 //! ```
 //!
@@ -76,8 +79,9 @@
 //! `Policy` chooses who goes first. With `Fair` a new acquire waits if others wait. With `NonFair` it may
 //! overtake them. With `Strict`, which Java lacks, not even an untimed try overtakes.
 //!
-//! `WhenFull` chooses what a lock or a pool does when its history is full. `Trim` is for a program that runs
-//! on; `Refuse` is for one that wants every entry. The lock without a value, the semaphore and the latch
+//! `WhenFull` chooses what a lock or a pool does when its history is full. `Refuse` is for a program that wants
+//! every entry: the call returns `HistoryFull`. `Trim` is for a program that goes on: the call folds the entries
+//! and is made from there, in one turn of the lock. The lock without a value, the semaphore and the latch
 //! refuse, until the program calls `trim` of their monitor.
 //!
 //! ## What is promised
@@ -128,6 +132,9 @@
 //! | `OutOfPhase` | a pass that was left in the middle of another call of the monitor | end that call first |
 //! | `WrongMode` | a step that the object does not have; no call of these types makes one | |
 //! | `TrimFull` | 1000000000000000 entries were folded | close the lock, and open a new one |
+//!
+//! With `WhenFull::Trim`, `HistoryFull` comes only if a history without entries has no room, or if other threads
+//! filled the history between the two turns of a signal that made room.
 //!
 //! A try that did not get the lock returns `TryLockFault::Missed`, or `false`. A lock that is closed without
 //! all of its passes returns `CloseFault::MissingPass`, and everything with it.

@@ -13,6 +13,8 @@ mod cores;
 #[cfg(test)]
 mod devices;
 #[cfg(test)]
+mod guards;
+#[cfg(test)]
 mod kept;
 #[cfg(test)]
 mod monitors;

@@ -1,4 +1,4 @@
-//! The clients of a pool, and what came of their requests.
+//! The clients of a pool, and the outcome of their requests.
 ghost use Rattle.std.specs.Prelude.{◌≡◌, All, IfOk};
 ghost use Rattle.example_workers.specs.Client.{IsOf};
 
@@ -7,19 +7,19 @@ use guarded::Pool;
 use monitor::Pass;
 use std::alloc::{AllocError, Global};
 
-/// What came of requests.
+/// The outcome of requests, as numbers.
 #[derive(Clone, Copy)]
 pub struct Outcome {
     pub served: u64,
     /// Requests that got no connection in time.
     pub timed_out: u64,
-    /// Requests that a fault ended before they had a connection.
+    /// Requests that ended with a fault before they had a connection.
     pub failed: u64,
-    /// Connections that were given up, since a fault kept them from the pool.
+    /// Connections that were dropped, since their release returned a fault.
     pub given_up: u64,
 }
 
-/// A client, and what came of its requests so far.
+/// A client, and the outcome of its requests so far.
 #[derive(Drop)]
 pub struct Client {
     pub pass: Pass,
@@ -34,7 +34,7 @@ impl Outcome {
         given_up: 0,
     };
 
-    /// Both together.
+    /// The sum of both.
     pub fn with(self, other: Outcome) -> Outcome {
         Outcome {
             served: self.served.saturating_add(other.served),
@@ -62,7 +62,7 @@ pub fn enroll(
     Ok(clients)
 }
 
-/// The passes of all clients, and what came of their requests.
+/// Returns the passes of all clients, and the outcome of their requests.
 pub fn dismiss(
     alloc: Global,
     pool: &Pool<Connection>,

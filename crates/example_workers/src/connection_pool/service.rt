@@ -18,7 +18,7 @@ use std::time::Clock;
 /// A connection, which counts the requests that it served.
 #[derive(Drop)]
 pub struct Connection {
-    /// As it was opened: the first is 0.
+    /// The first connection has number 0.
     pub number: u32,
     pub requests: u64,
 }
@@ -31,7 +31,7 @@ pub struct Service<'p> {
     ghost places: { pool.now.lock.header.seats ≤ parking.now },
 }
 
-/// So many connections.
+/// Opens this number of connections.
 pub fn connect(alloc: Global, count: u32) -> Result<LinkedList<Connection>, Fault>
     ensures all { IfOk result (λ connections. length connections ≡ count) }
     ensures err { IfErr result (λ fault. fault ≡ OutOfMemory) }
@@ -49,7 +49,7 @@ pub fn connect(alloc: Global, count: u32) -> Result<LinkedList<Connection>, Faul
     Ok(connections)
 }
 
-/// How many requests the connections served.
+/// Returns how many requests the connections served.
 pub fn requests_of(connections: LinkedList<Connection>) -> u64 {
     let mut sum = 0u64;
     for connection in connections {
@@ -59,7 +59,7 @@ pub fn requests_of(connections: LinkedList<Connection>) -> u64 {
 }
 
 impl Service<'_> {
-    /// Acquires all connections: then nobody else has one.
+    /// Acquires all connections.
     pub fn take_all<R: Wait + Clock>(
         &self,
         rt: &R,
@@ -73,7 +73,7 @@ impl Service<'_> {
             .acquire_uninterruptibly(rt, self.parking, owner, CONNECTIONS)
     }
 
-    /// Releases all connections. Where that fails, they are given up.
+    /// Releases all connections. If that fails, they are dropped.
     pub fn put_all_back<R: Wait + Clock>(
         &self,
         rt: &R,
@@ -90,8 +90,8 @@ impl Service<'_> {
         }
     }
 
-    /// Makes a request, if a connection is free within so many milliseconds. A connection that can't be put
-    /// back is given up.
+    /// Makes a request, if a connection is free within this number of milliseconds. A connection whose release
+    /// fails is dropped.
     fn request<R: Wait + Clock>(&self, rt: &R, pass: &mut Pass, milliseconds: u32) -> Outcome
         requires { pass.old.lock ≡ self.now.pool.now.lock }
         ensures { IsSame pass.old pass.new }
@@ -112,7 +112,7 @@ impl Service<'_> {
         }
     }
 
-    /// Serves a request by this connection, and puts it back.
+    /// Serves a request by this connection, and releases it.
     fn serve<R: Wait + Clock>(&self, rt: &R, pass: &mut Pass, connection: Connection) -> Outcome
         requires { pass.old.lock ≡ self.now.pool.now.lock }
         ensures { IsSame pass.old pass.new }
@@ -131,7 +131,7 @@ impl Service<'_> {
         }
     }
 
-    /// Makes so many requests, and waits for a connection so many milliseconds each time.
+    /// Makes this number of requests, and waits at most so many milliseconds for each connection.
     pub fn request_all<R: Wait + Clock>(
         &self,
         rt: &R,

@@ -11,7 +11,7 @@ use thiserror::Error;
 /// Workers are counted from 0.
 #[derive(Clone, Copy, Debug, PartialEq, Eq, Error)]
 pub enum ShiftFault {
-    /// A call of a latch ended with this fault, or memory was refused. No history is told.
+    /// A call of a latch returned this fault, or an allocation failed. No history is printed.
     #[error("{0}")]
     Call(Fault),
     /// The system refused the thread of this worker. Nobody worked.

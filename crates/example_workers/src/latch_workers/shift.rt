@@ -12,10 +12,10 @@ use permit::{Parking, ThreadParking};
 use std::sync::Wait;
 use std::time::Clock;
 
-/// How many workers there are. Their seats are below this.
+/// How many workers there are. Their seats have the numbers below this.
 const WORKERS: u16 = 4;
 
-/// The seat of the foreman, behind those of the workers.
+/// The seat of the foreman, after those of the workers.
 const FOREMAN: u16 = 4;
 
 /// A seat for each worker and for the foreman.
@@ -44,7 +44,7 @@ impl Shift {
         Latch::of(&self.end).count_down(rt, &self.parking, &mut worker.end)
     }
 
-    /// What a worker does. One that cannot work tells the foreman, who would wait for its count.
+    /// What a worker does. A worker that cannot work interrupts the foreman, who would wait for its count.
     pub fn take_part<R: Wait + Clock>(&self, rt: &R, worker: Worker) -> Worker
         requires { IsAt self.now.start self.now.end worker }
         ensures { IsAt self.now.start self.now.end result }
@@ -57,7 +57,7 @@ impl Shift {
         worker
     }
 
-    /// Lays the work out, opens the start, waits for the end, and looks at what was made.
+    /// Lays the work out, opens the first latch, waits at the second, and notes what was made.
     fn oversee<R: Wait + Clock>(&self, rt: &R, foreman: &mut Worker) -> Result<(), Fault>
         requires { IsAt self.now.start self.now.end foreman.old }
         ensures { IsAt self.now.start self.now.end foreman.new }
@@ -69,7 +69,7 @@ impl Shift {
         Ok(())
     }
 
-    /// What the foreman does once all workers were started.
+    /// What the foreman does when all workers have been started.
     pub fn lead<R: Wait + Clock>(&self, rt: &R, foreman: Worker) -> Worker
         requires { IsAt self.now.start self.now.end foreman }
         ensures { IsAt self.now.start self.now.end result }
@@ -82,7 +82,7 @@ impl Shift {
         foreman
     }
 
-    /// Lets each worker go who waits for the start, or comes to it. They are interrupted, and don't work.
+    /// Interrupts each worker. One that waits for the start, or comes to it, does not work.
     pub fn call_off(&self) {
         for worker in 0..WORKERS {
             self.parking.interrupt(worker);

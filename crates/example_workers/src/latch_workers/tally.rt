@@ -1,4 +1,4 @@
-//! The work, and what came of it.
+//! The work, and its outcome.
 
 use std::sync::atomic::{AtomicBool, AtomicU64, Ordering};
 
@@ -16,7 +16,7 @@ pub struct Tally {
     faults: AtomicU64,
 }
 
-/// What came of the work.
+/// The outcome of the work.
 #[derive(Clone, Copy)]
 pub struct Outcome {
     /// The sum that the foreman saw.
@@ -39,7 +39,7 @@ impl Tally {
         }
     }
 
-    /// Lets the work be done from now on.
+    /// Lays the work out.
     pub fn lay_out(&self) {
         self.is_laid_out.store(true, Ordering::SeqCst);
     }
@@ -70,7 +70,7 @@ impl Tally {
         self.faults.fetch_add(1, Ordering::SeqCst);
     }
 
-    /// What came of it so far.
+    /// The outcome so far.
     pub fn outcome(&self) -> Outcome {
         Outcome {
             sum_at_end: self.sum_at_end.load(Ordering::SeqCst),

@@ -11,7 +11,7 @@ use std::thread;
 use std::thread::{Promise, PromisedHandle, Scope, Threads};
 use std::time::Clock;
 
-/// That a worker comes back with passes of the latches of this shift.
+/// The promise that a worker returns with passes of the latches of this shift.
 #[derive(Clone, Copy, Drop)]
 struct ComesBack<'s> {
     shift: &'s Shift,
@@ -23,7 +23,7 @@ impl<'s> Promise<Worker> for ComesBack<'s> {
     ghost kept_by = { λ p worker. IsAt p.shift.now.start p.shift.now.end worker };
 }
 
-/// Starts a thread for each worker. Where the system refuses one, those before it were started.
+/// Starts a thread for each worker. If the system refuses one, the earlier ones have been started.
 fn start_all<'s, E: 's, R: Threads + Wait + Clock + Sync>(
     rt: &'s R,
     alloc: Global,
@@ -52,7 +52,7 @@ fn start_all<'s, E: 's, R: Threads + Wait + Clock + Sync>(
     Ok(handles)
 }
 
-/// The workers, once each has come back, and the foreman behind them.
+/// Joins all threads. Returns the workers, and the foreman as the last.
 fn join_all<'s, R: Threads>(
     rt: &R,
     alloc: Global,
@@ -72,9 +72,9 @@ fn join_all<'s, R: Threads>(
     Ok(workers)
 }
 
-/// The workers work, each in a thread of its own, and the foreman leads them. All come back.
+/// The workers work, each in a thread of its own, and the foreman in this one. All are returned.
 ///
-/// If the system refuses a thread, nobody works: the workers who came are interrupted, and go.
+/// If the system refuses a thread, nobody works: the workers that were started are interrupted.
 pub fn work_in_threads<R: Threads + Wait + Clock + Sync>(
     rt: &R,
     alloc: Global,

@@ -1,36 +1,42 @@
-use Rattle.std.proofs.Common.{rules, ◌≡◌, Bool, true, Ok, Result, subst}
-use Rattle.history.specs.declared.fault.Fault.{Fault}
-use Rattle.word_lock.proofs.PointLaws.{before_trans}
-use Rattle.guarded.specs.Asking.{call_of}
-use Rattle.guarded.specs.Full.{MakesRoom}
-use Rattle.guarded.proofs.Room.{cannot_fold, made_again}
+use Rattle.std.proofs.Common.{◌≡◌, ◌+◌, sym, subst}
+use Rattle.history.specs.declared.entry.Mode.TheVariants.{X}
+use Rattle.history.specs.declared.step.Step.TheVariants.{Try}
+use Rattle.monitor_fronts.specs.Holding.{holds}
+use Rattle.guarded.specs.declared.asking.Asked.{Asked}
+use Rattle.guarded.specs.declared.asking.Asked.TheVariants as asked
+use Rattle.guarded.specs.Asking.{gained_by}
+use Rattle.guarded.proofs.Calling.{call_gains, is_of_lock}
+use Rattle.guarded.proofs.Room.{entered_in_after}
 use Rattle.guarded.proofs.mutex.Mutex.call.Goals as goal
 
-pub returns-in-Ok-true-clause-begins : goal.returns-in-Ok-true-clause-begins
-returns-in-Ok-true-clause-begins g c =
-    before_trans c.args.pass.now.seen c.makes_room.new.pass.seen c.once.new.pass.seen
-    (before_trans c.args.pass.now.seen c.once-reply.new.pass.seen c.makes_room.new.pass.seen
-    c.once-reply.ensures.begins c.makes_room.ensures.begins) c.once.ensures.begins
+pub returns-in-Acquire-clause-gains : goal.returns-in-Acquire-clause-gains
+returns-in-Acquire-clause-gains g c =
+    let lock = is_of_lock c.self.inside.monitor c.self.inside.when_full c.args.self.now c.args.pass.now c.self.view_is
+    c.self.invariant c.requires.is_of in
+    subst (λ (z : Asked). holds c.acquire_when_full.new.pass ≡ holds c.args.pass.now + gained_by z c.acquire_when_full.result)
+    (sym c.in-Acquire.is)
+    (call_gains (g.P.Parking.did c.args.parking.now) c.self.inside.when_full (asked.Acquire c.in-Acquire.how) c.args.pass.now
+    c.acquire_when_full.new.pass c.acquire_when_full.result lock c.acquire_when_full.ensures.same c.acquire_when_full.ensures.acquired)
 
-pub returns-in-Ok-true-clause-called : goal.returns-in-Ok-true-clause-called
-returns-in-Ok-true-clause-called g c =
-    let is : c.makes_room.result ≡ Ok true = search rules in
-    made_again c.args.self.now.when_full (call_of (g.P.Parking.did c.args.parking.now) c.args.asked)
-    c.args.pass.now c.once-reply.new.pass c.makes_room.new.pass c.once.new.pass c.once-reply.result c.once.result
-    c.once-reply.ensures.called
-    (subst (λ (z : Result Bool Fault). MakesRoom c.args.self.now.when_full c.once-reply.result
-    c.once-reply.new.pass z c.makes_room.new.pass) is c.makes_room.ensures.makes)
-    c.makes_room.ensures.same c.once.ensures.called
+pub returns-in-Try-clause-begins : goal.returns-in-Try-clause-begins
+returns-in-Try-clause-begins g c =
+    entered_in_after c.self.inside.when_full (g.P.Parking.did c.args.parking.now) c.args.pass.now
+    c.enter_when_full.new.pass (Try X 1) c.enter_when_full.result c.enter_when_full.ensures.entered
 
-pub returns-in-Err-clause-begins : goal.returns-in-Err-clause-begins
-returns-in-Err-clause-begins g c =
-    before_trans c.args.pass.now.seen c.once-reply.new.pass.seen c.makes_room.new.pass.seen
-    c.once-reply.ensures.begins c.makes_room.ensures.begins
+pub returns-in-Try-clause-gains : goal.returns-in-Try-clause-gains
+returns-in-Try-clause-gains g c =
+    let lock = is_of_lock c.self.inside.monitor c.self.inside.when_full c.args.self.now c.args.pass.now c.self.view_is
+    c.self.invariant c.requires.is_of in
+    subst (λ (z : Asked). holds c.enter_when_full.new.pass ≡ holds c.args.pass.now + gained_by z c.enter_when_full.result)
+    (sym c.in-Try.is)
+    (call_gains (g.P.Parking.did c.args.parking.now) c.self.inside.when_full asked.Try c.args.pass.now
+    c.enter_when_full.new.pass c.enter_when_full.result lock c.enter_when_full.ensures.same c.enter_when_full.ensures.entered)
 
-pub returns-in-Err-clause-called : goal.returns-in-Err-clause-called
-returns-in-Err-clause-called g c =
-    cannot_fold c.args.self.now.when_full (call_of (g.P.Parking.did c.args.parking.now) c.args.asked)
-    c.args.pass.now c.once-reply.new.pass c.makes_room.new.pass c.once-reply.result c.in-Err.fault
-    c.once-reply.ensures.called
-    (subst (λ (z : Result Bool Fault). MakesRoom c.args.self.now.when_full c.once-reply.result
-    c.once-reply.new.pass z c.makes_room.new.pass) c.in-Err.is c.makes_room.ensures.makes)
+pub returns-in-Await-clause-gains : goal.returns-in-Await-clause-gains
+returns-in-Await-clause-gains g c =
+    let lock = is_of_lock c.self.inside.monitor c.self.inside.when_full c.args.self.now c.args.pass.now c.self.view_is
+    c.self.invariant c.requires.is_of in
+    subst (λ (z : Asked). holds c.await_when_full.new.pass ≡ holds c.args.pass.now + gained_by z c.await_when_full.result)
+    (sym c.in-Await.is)
+    (call_gains (g.P.Parking.did c.args.parking.now) c.self.inside.when_full (asked.Await c.in-Await.condition c.in-Await.how) c.args.pass.now
+    c.await_when_full.new.pass c.await_when_full.result lock c.await_when_full.ensures.same c.await_when_full.ensures.awaited)

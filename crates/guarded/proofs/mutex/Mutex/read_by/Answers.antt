@@ -7,5 +7,5 @@ pub unreachable-requires : goal.unreachable-requires
 unreachable-requires g c =
     let tells = c.try_read_by.ensures.tells in
     never_missed (g.P.Parking.did c.args.parking.now) c.args.self.now.when_full c.args.how c.args.pass.now
-    c.try_read_by.new.pass tells.0 c.requires.untimed tells.1
+    c.try_read_by.new.pass tells.0 c.requires.untimed c.try_read_by.ensures.same tells.1
     (sym tells.2 ∙ (ap told_if c.in-Err-Missed.is ∙ ap told_try c.in-Err-Missed.field-0-is))

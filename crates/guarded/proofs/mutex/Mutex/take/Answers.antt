@@ -7,5 +7,5 @@ pub unreachable-requires : goal.unreachable-requires
 unreachable-requires g c =
     let tells = c.in-Err-Missed.ensures.not_locked.tells in
     never_missed (g.P.Parking.did c.args.parking.now) c.args.self.now.when_full c.args.how c.args.pass.now
-    c.try_take.new.pass tells.0 c.requires.untimed tells.1
+    c.try_take.new.pass tells.0 c.requires.untimed c.in-Err-Missed.ensures.not_locked.same tells.1
     (sym tells.2 ∙ ap told_try c.in-Err-Missed.field-0-is)

@@ -1,7 +1,6 @@
 use Rattle.std.proofs.Common.{rules, ◌≡◌, ◌∙◌, ℕ, Bool, true, false, Ok, Result, sym, ap, subst}
 use Rattle.history.specs.declared.fault.Fault.{Fault}
 use Rattle.guarded.specs.declared.asking.PoolCall.TheVariants as asks
-use Rattle.guarded.specs.Full.{WithRoom}
 use Rattle.guarded.specs.Pooling.{Answers, gives_back, has_after, is_done}
 use Rattle.guarded.proofs.pool.Pool.release.Goals as goal
 
@@ -27,7 +26,7 @@ pub returns-in-Ok-true-clause-told : goal.returns-in-Ok-true-clause-told
 returns-in-Ok-true-clause-told g c =
     let is : c.whether.result ≡ Ok true = search rules in (
       c.call-reply.result,
-      subst (λ (n : ℕ). WithRoom c.args.self.now.when_full (gives_back (g.P.Parking.did c.args.parking.now) n)
+      subst (λ (n : ℕ). gives_back (g.P.Parking.did c.args.parking.now) n c.args.self.now.when_full
           c.args.pass.now c.call-reply.result c.call-reply.new.pass) c.len-n.ensures.value c.call-reply.ensures.called,
       sym is ∙ c.whether.ensures,
     )
@@ -35,7 +34,7 @@ returns-in-Ok-true-clause-told g c =
 pub returns-in-Err-clause-told : goal.returns-in-Err-clause-told
 returns-in-Err-clause-told g c = (
   c.call-reply.result,
-  subst (λ (n : ℕ). WithRoom c.args.self.now.when_full (gives_back (g.P.Parking.did c.args.parking.now) n)
+  subst (λ (n : ℕ). gives_back (g.P.Parking.did c.args.parking.now) n c.args.self.now.when_full
       c.args.pass.now c.call-reply.result c.call-reply.new.pass) c.len-n.ensures.value c.call-reply.ensures.called,
   sym c.in-Err.is ∙ c.whether.ensures,
 )
