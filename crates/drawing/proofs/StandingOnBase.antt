@@ -1,5 +1,5 @@
 -- What the tables of holds, of the line and of sleepers stand for on a good base.
-use Rattle.std.proofs.Common.{◌≡◌, ℕ, zero, suc, ◌<◌, Bool, false, List, [], ◌∷◌, length, map, get_or, replicate, refl, ap, ◌∙◌, sym, arith}
+use Rattle.std.proofs.Common.{◌≡◌, ℕ, zero, suc, ◌<◌, false, List, [], ◌∷◌, length, map, get_or, replicate, refl, ap, ◌∙◌, sym, arith}
 use Rattle.std.specs.List.{All, AllByRecursion}
 use Rattle.std.proofs.lemmas.List.Elements.{All-cons, All-nil}
 use Rattle.history.specs.declared.base.Sleeper.{Sleeper}
@@ -13,13 +13,14 @@ use Rattle.history.proofs.SmallBases.{few_exclusive}
 use Rattle.deciding.proofs.HeldTables.{shared_few}
 use Rattle.drawing.specs.declared.standings.Standings.{Standings}
 use Rattle.drawing.specs.Levels.{is_there}
-use Rattle.drawing.specs.Standings.{AreStanding, sleeping_seats}
+use Rattle.drawing.specs.Standings.{AreStanding}
+use Rattle.drawing.specs.inner.Tables.{sleeping_seats}
 
--- nobody is marked in a new table
-pub nobody : (n i : ℕ) → ◌≡◌ {A = Bool} (get_or (replicate n false) i false) false
-nobody zero i = refl
-nobody (suc n) zero = refl
-nobody (suc n) (suc i) = nobody n i
+-- a new table has the same item everywhere
+pub blank : {X : Type 0} (n i : ℕ) (d : X) → get_or (replicate n d) i d ≡ d
+blank zero i d = refl
+blank (suc n) zero d = refl
+blank (suc n) (suc i) d = blank n i d
 
 sleepers_seated : (b : Base) (c : ℕ) (xs : List Sleeper) → AllByRecursion (SleepsWell b c) xs →
     All (λ i. i < b.header.seats) (map (λ (x : Sleeper). x.seat) xs)

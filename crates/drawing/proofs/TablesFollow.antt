@@ -1,6 +1,7 @@
 -- That the tables of holds, of the line and of sleepers follow each entry.
 use Rattle.std.proofs.Common.{◌≡◌, ⊎_elim, ℕ, ◌<◌, Bool, true, false, ◌&&◌, ◌||◌, not, cond, eqb, List, [], ◌∷◌, ◌++◌, length, get_or, set, map, take, Some, None, refl, ap, ◌∙◌, sym}
 use Rattle.std.specs.List.{All, filter, list_any}
+use Rattle.std.proofs.Math.Bool.{and-true, and-false}
 use Rattle.std.proofs.lemmas.Bool.{cases_eq, eq-eqb, ne_eqb, eqb-true}
 use Rattle.std.proofs.lemmas.List.Elements.{All-push, All-drop, All-nil, All-filter}
 use Rattle.history.specs.declared.arrival.Arrival.{Arrival}
@@ -16,8 +17,7 @@ use Rattle.history.specs.Start.{Start}
 use Rattle.deciding.proofs.HoldsFollow.{at_set, table_follows}
 use Rattle.history.proofs.LineLemmas.{line_after, stays}
 use Rattle.drawing.specs.Levels.{is_there}
-use Rattle.drawing.specs.Standings.{holds_by, line_by}
-use Rattle.drawing.specs.Woken.{woken}
+use Rattle.drawing.specs.inner.Tables.{holds_by, line_by, woken}
 
 pub any_has : (i : ℕ) (xs : List ℕ) → list_any (λ y. eqb y i) xs ≡ has i xs
 any_has i [] = refl
@@ -40,14 +40,6 @@ there-append i (a ∷ p) q = by (eqb a.seat i) (there-append i p q)
         ≡ (is_there (cond b (Some a) (place_of i p)) || is_there (place_of i q))
     by true ih = refl
     by false ih = ih
-
-and_true : (b : Bool) → (b && true) ≡ b
-and_true true = refl
-and_true false = refl
-
-and_false : (b : Bool) → (b && false) ≡ false
-and_false true = refl
-and_false false = refl
 
 all_stay : (i : ℕ) (q : List Arrival) →
     is_there (place_of i (filter (λ a. true) q)) ≡ is_there (place_of i q)
@@ -101,15 +93,15 @@ others_left i j (a ∷ q) ne = by (eqb j a.seat) refl (others_left i j q ne)
 there-left : (i j : ℕ) (b : Bool) (q : List Arrival) →
     is_there (place_of i (filter (λ a. not (b && eqb j a.seat)) q))
     ≡ (is_there (place_of i q) && not (b && eqb j i))
-there-left i j false q = all_stay i q ∙ sym (and_true (is_there (place_of i q)))
+there-left i j false q = all_stay i q ∙ sym (and-true (is_there (place_of i q)))
 there-left i j true q =
     ⊎_elim
     (λ same. none_left i j q same
     ∙ sym (ap (λ b. is_there (place_of i q) && not b) (eq-eqb j i same)
-    ∙ and_false (is_there (place_of i q))))
+    ∙ and-false (is_there (place_of i q))))
     (λ ne. others_left i j q ne
     ∙ sym (ap (λ b. is_there (place_of i q) && not b) (ne_eqb j i ne)
-    ∙ and_true (is_there (place_of i q))))
+    ∙ and-true (is_there (place_of i q))))
     (cases_eq j i)
 
 there-coming_back : (i : ℕ) (xs : List ℕ) → is_there (place_of i (map coming_back xs)) ≡ has i xs
@@ -173,12 +165,12 @@ line_follows s e h t i seat is =
       where
         woke : (xs : List ℕ) → (get_or t i false || has i xs)
             ≡ ((get_or t i false && true) || is_there (place_of i (map coming_back xs)))
-        woke xs = rw (there-coming_back i xs, and_true (get_or t i false)) refl
+        woke xs = rw (there-coming_back i xs, and-true (get_or t i false)) refl
     by word.SignalAll = woke (sleepers s h e.at)
       where
         woke : (xs : List ℕ) → (get_or t i false || has i xs)
             ≡ ((get_or t i false && true) || is_there (place_of i (map coming_back xs)))
-        woke xs = rw (there-coming_back i xs, and_true (get_or t i false)) refl
+        woke xs = rw (there-coming_back i xs, and-true (get_or t i false)) refl
     by _ = stayed (get_or t i false)
 
 -- the sleepers of a condition are seats of the object

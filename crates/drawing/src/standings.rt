@@ -10,7 +10,8 @@ ghost use Rattle.history.specs.declared.entry.Entry.{Entry};
 ghost use Rattle.history.specs.declared.entry.Mode.TheVariants.{X, S};
 ghost use Rattle.history.specs.declared.header.Header.{Header};
 ghost use Rattle.drawing.specs.Levels.{is_there, level};
-ghost use Rattle.drawing.specs.Standings.{AreStanding, holds_by, line_by, sleeping_seats, table_by};
+ghost use Rattle.drawing.specs.Standings.{AreStanding};
+ghost use Rattle.drawing.specs.inner.Tables.{holds_by, line_by, sleeping_seats, table_by};
 
 use crate::kind::Kind;
 use crate::sleepers::Sleepers;
