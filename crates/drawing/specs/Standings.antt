@@ -10,7 +10,7 @@ use Rattle.history.specs.Line.{line, place_of}
 use Rattle.history.specs.Sleepers.{sleepers}
 use Rattle.history.specs.Start.{Start}
 use Rattle.drawing.specs.declared.standings.Standings.{Standings}
-use Rattle.drawing.specs.Levels.{is_there}
+use Rattle.history.specs.Marks.{is_placed}
 
 pub record AreStanding (s : Start) (h : List Entry) (a : Standings) : Type 0 where
   pub exclusive_seats : length a.exclusive.items ≡ s.header.seats
@@ -20,7 +20,7 @@ pub record AreStanding (s : Start) (h : List Entry) (a : Standings) : Type 0 whe
   pub exclusive : (i : ℕ) → slice_index a.exclusive.items i ≡ held s h i X
   pub shared : (i : ℕ) → slice_index a.shared.items i ≡ held s h i S
   pub waits : (i : ℕ) → i < s.header.seats →
-      slice_index_or a.in_line.items i false ≡ is_there (place_of i (line s h))
+      slice_index_or a.in_line.items i false ≡ is_placed (place_of i (line s h))
   pub sleeps : (c : ℕ) → c < 256 → slice_index_or a.asleep.items c [] ≡ sleepers s h c
   pub seated : (c : ℕ) → All (λ i. i < s.header.seats) (sleepers s h c)
   pub exclusive_bound : (i : ℕ) → held s h i X ≤ most_held MOST_BASE_PERMITS h
