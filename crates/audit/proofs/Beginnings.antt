@@ -1,12 +1,10 @@
 -- What a history begins from, and that behind it a legal history is one as decisions ask for.
-use Rattle.std.proofs.Common.{◌≡◌, List, [], Option, None, Some, refl, sym}
-use Rattle.history.specs.declared.entry.Entry.{Entry}
+use Rattle.std.proofs.Common.{◌≡◌, [], Option, None, Some, refl, sym}
 use Rattle.history.specs.declared.header.Header.{Header}
 use Rattle.history.specs.Base.{Base, based, opening_base}
 use Rattle.history.specs.Entries.{IsBasedWell, or_opening}
 use Rattle.history.specs.GoodBase.{IsGood}
 use Rattle.history.specs.Header.{IsInRange}
-use Rattle.history.specs.Legal.{AreSeated, IsLegal}
 use Rattle.history.specs.Start.{opening}
 use Rattle.history.proofs.OpeningBase.{based_opening, opening_good}
 use Rattle.deciding.specs.ObjectState.{IsHistory}
@@ -30,16 +28,3 @@ good_from k (Some b) range based = based.1
 pub header_from : (k : Header) (o : Option Base) → IsBasedWell k o → (or_opening k o).header ≡ k
 header_from k None based = refl
 header_from k (Some b) based = based.0
-
-pub history_from : (k : Header) (o : Option Base) (h : List Entry) → IsInRange k → IsBasedWell k o →
-    IsLegal (based (or_opening k o)) h → AreSeated (based (or_opening k o)) h →
-    IsHistory (based (or_opening k o)) h
-history_from k o h range well legal seated =
-    record {
-      base = or_opening k o;
-      good = good_from k o range well;
-      start = refl;
-      range = rw (header_from k o well) range;
-      legal = legal;
-      seated = seated;
-    }

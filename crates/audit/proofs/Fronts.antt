@@ -34,11 +34,6 @@ front_next h n e l q =
     (read_at h n (length h - (n + 1)) e (omega (arith, l)) q)
     ∙ ap (λ i. e ∷ drop i h) next
 
-pub legal_drop : (s : Start) (n : ℕ) (h : List Entry) → IsLegal s h → IsLegal s (drop n h)
-legal_drop s zero h legal = legal
-legal_drop s (suc n) [] legal = legal
-legal_drop s (suc n) (e ∷ h) legal = legal_drop s n h legal.1
-
 pub seated_drop : (s : Start) (n : ℕ) (h : List Entry) → AreSeated s h → AreSeated s (drop n h)
 seated_drop s zero h seated = seated
 seated_drop s (suc n) [] seated = seated
@@ -54,16 +49,6 @@ next_seat s h n e seated l q =
 pub has_seat : (s : Start) (h : List Entry) (l : Ledger) (i : ℕ) → LedgerStand s h l → i < s.header.seats →
     length h + 1 < 4294967296 → HasSeat l i
 has_seat s h l i st seat room = record { start = s; front = h; stand = st; seat = seat; room = room }
-
--- the seat of the next entry
-pub has_seat_next : (s : Start) (h : List Entry) (n end : ℕ) (e : Entry) (l : Ledger) →
-    LedgerStand s (front n h) l → AreSeated s h → n < end → end ≡ length h → end < 4294967296 →
-    slice_get (reverse h) n ≡ Some e → HasSeat l e.seat
-has_seat_next s h n end e l st seated less is few q =
-    let long = front_length h n (omega (arith, less, is)) in
-    has_seat s (front n h) l e.seat st
-    (next_seat s h n e seated (omega (arith, less, is)) q)
-    (omega (arith, long, less, few))
 
 -- one more entry, behind those that were followed
 front_more : (h : List Entry) (e : Entry) (n : ℕ) → n ≤ length h → front n (e ∷ h) ≡ front n h

@@ -1,5 +1,5 @@
 -- That what the tables of holds stand for follows each entry.
-use Rattle.std.proofs.Common.{◌≡◌, ⊎_elim, ℕ, zero, suc, ◌+◌, ◌-◌, ◌<◌, ◌≤◌, Bool, true, false, cond, ltb, List, [], ◌∷◌, length, get_or, set, replicate, Option, Some, None, refl, ap, ◌∙◌, sym, arith}
+use Rattle.std.proofs.Common.{◌≡◌, ⊎_elim, ℕ, ◌+◌, ◌-◌, ◌<◌, ◌≤◌, Bool, true, false, cond, ltb, List, [], ◌∷◌, length, get_or, set, Option, Some, None, refl, ap, ◌∙◌, sym, arith}
 use Rattle.std.proofs.lemmas.Bool.{cases_eq, eq-eqb, ne_eqb, ltb-true, ltb-false}
 use Rattle.std.proofs.Math.ListN.{length-set}
 use Rattle.history.specs.declared.entry.Entry.{Entry}
@@ -9,7 +9,7 @@ use Rattle.history.specs.declared.header.Object.{Object}
 use Rattle.history.specs.Could.{is_seat}
 use Rattle.history.specs.Counts.{counts, held, holds_after, owner, readers}
 use Rattle.history.specs.Entry.{same_mode}
-use Rattle.history.specs.GoodBase.{most_permits}
+use Rattle.history.specs.declared.limits.TheConstants.{MOST_BASE_PERMITS}
 use Rattle.history.specs.Object.{is_lock}
 use Rattle.history.specs.declared.header.Header.{Header}
 use Rattle.history.specs.Start.{Start, opening}
@@ -19,7 +19,8 @@ use Rattle.history.proofs.Sums.{seat_with_none, total_change, total_nothing, tot
 use Rattle.history.proofs.Times.{total_part}
 use Rattle.audit.specs.declared.holds.Holds.{Holds}
 use Rattle.deciding.proofs.HoldsFollow.{bound_follows, holds_more, table_follows}
-use Rattle.audit.specs.Holds.{HoldsStand, IsOnlyOwner, owner_after}
+use Rattle.audit.specs.Holds.{HoldsStand}
+use Rattle.audit.specs.inner.Holds.{IsOnlyOwner, owner_after}
 use Rattle.audit.proofs.HoldsLemmas.{held_here, held_other_mode, seat_with_same, seat_with_zero, seat_with_only}
 
 -- the owner behind an entry in mode X, where nobody owns beside another
@@ -97,7 +98,7 @@ stands_exclusive s e h old new st seat mode amount only x sh ow re =
           ∙ owner_follows s e h old.owner seat same (only l).0 (only l).1 (st.owns l);
       reads = re ∙ st.reads ∙ total_same s.header.seats (λ i. held s h i S) (λ i. held s (e ∷ h) i S)
           (λ i. sym (held_other_mode s e h i S other));
-      exclusive_bound = bound_follows most_permits s e h X amount st.exclusive_bound;
+      exclusive_bound = bound_follows MOST_BASE_PERMITS s e h X amount st.exclusive_bound;
       shared_bound = let a : readers (counts s (e ∷ h)) ≡ readers (counts s h) =
           total_same s.header.seats (λ i. held s (e ∷ h) i S) (λ i. held s h i S)
           (λ i. held_other_mode s e h i S other) in omega (arith, a, st.shared_bound);
@@ -136,7 +137,7 @@ stands_shared s e h old new st seat mode amount sh x ow re =
       owns = λ l. ow ∙ st.owns l ∙ seat_with_same s.header.seats (λ i. held s h i X)
           (λ i. held s (e ∷ h) i X) (λ i b. sym (held_other_mode s e h i X other));
       reads = omega (arith, re, had, has, part, change, st.reads);
-      exclusive_bound = bound_follows most_permits s e h X amount st.exclusive_bound;
+      exclusive_bound = bound_follows MOST_BASE_PERMITS s e h X amount st.exclusive_bound;
       shared_bound = omega (arith, had, has, part, change, more, st.shared_bound);
     }
 
@@ -176,8 +177,3 @@ stands_opened k holds x sh zx zs ow re =
       exclusive_bound = λ i. omega arith;
       shared_bound = omega (arith, total_nothing k.seats);
     }
-
-pub zeros : (n i : ℕ) → ◌≡◌ {A = ℕ} (get_or (replicate n 0) i 0) 0
-zeros zero i = refl
-zeros (suc n) zero = refl
-zeros (suc n) (suc i) = zeros n i

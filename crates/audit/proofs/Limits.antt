@@ -7,7 +7,7 @@ use Rattle.history.specs.Object.{is_lock}
 use Rattle.history.specs.Start.{Start}
 use Rattle.deciding.specs.ObjectState.{IsHistory}
 use Rattle.deciding.proofs.Bounds.{owned_by}
-use Rattle.audit.specs.Holds.{IsOnlyOwner}
+use Rattle.audit.specs.inner.Holds.{IsOnlyOwner}
 use Rattle.audit.specs.Ledger.{IsNext}
 
 pub only_owner : (s : Start) (h : List Entry) → IsHistory s h → is_lock s.header.object ≡ true →

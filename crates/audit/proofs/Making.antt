@@ -2,6 +2,7 @@
 use Rattle.std.proofs.Common.{◌≡◌, ◌⊎◌, inl, inr, ⊎_elim, ℕ, Bool, true, false, not, cond, leb, leb-false, ltb, arith, List, length, Option, Some, None, Result, Ok, refl, ap, ◌∙◌, sym, subst, pos, ◌+ℤ◌}
 use Rattle.std.specs.Prelude.{int_lt}
 use Rattle.std.proofs.lemmas.Bool.{lt-leb}
+use Rattle.std.proofs.lemmas.Option.{same_Some}
 use Rattle.audit.specs.declared.candidates.Candidates.{Candidates}
 use Rattle.audit.specs.Ledger.{IsNext}
 use Rattle.history.specs.declared.arrival.Arrival.{Arrival}
@@ -19,7 +20,8 @@ use Rattle.history.specs.declared.step.Step.{Step}
 use Rattle.history.specs.declared.step.Step.TheVariants.{Acquire, Try, TryFair, EntryInterrupt, Give, Look, Expire, Interrupt, Await, Signal, SignalAll, Drain}
 use Rattle.history.specs.Could.{is_seat, limit, held_back, could, try_held_back}
 use Rattle.history.specs.Counts.{Counts, counts, owner}
-use Rattle.history.specs.Faults.{is_wrong_mode, is_no_condition, max_amount}
+use Rattle.history.specs.declared.limits.TheConstants.{MOST_AMOUNT}
+use Rattle.history.specs.Faults.{is_wrong_mode, is_no_condition}
 use Rattle.history.specs.Line.{first_mode}
 use Rattle.history.specs.Naming.{ready}
 use Rattle.history.specs.Object.{is_lock}
@@ -29,17 +31,18 @@ use Rattle.history.specs.Start.{Start}
 use Rattle.history.specs.Steps.{plain, gave, awaits, at_most_one, idle_entry, back, lapse, ended, queued_entry, line_entry, sleeping_entry, phase_entry, entry_for}
 use Rattle.history.proofs.Entering.{Admitted}
 use Rattle.history.proofs.Entering as entering
-use Rattle.audit.specs.Candidates.{candidates, IsCandidate}
+use Rattle.audit.specs.inner.Candidates.{candidates}
 use Rattle.deciding.proofs.InPhase.{entry_admitted, in_phase_made}
+
+abbrev IsCandidate : Entry → Step → Type 0
+IsCandidate e step =
+    ((candidates e).first ≡ step) ⊎ (((candidates e).second ≡ step) ⊎ ((candidates e).third ≡ step))
 
 -- A candidate that makes an entry.
 pub record Found (s : Start) (h : List Entry) (i : ℕ) (e : Entry) : Type 0 where
   pub step : Step
   pub candidate : IsCandidate e step
   pub makes : entry_for s h i step ≡ Ok (Some e)
-
-some_same : (x e : Entry) → Some x ≡ Some e → x ≡ e
-some_same x e q = cc
 
 made_same : (x e : Entry) → x ≡ e → ◌≡◌ {A = Result (Option Entry) Fault} (Ok (Some x)) (Ok (Some e))
 made_same x e q = let made : Entry → Result (Option Entry) Fault = λ y. Ok (Some y) in ap made q
@@ -93,7 +96,7 @@ gave_by : (o : Object) (k : Counts) (i : ℕ) (m : Mode) (n : ℕ) →
     IsCandidate (plain i (gave o k i m n) m n) (Give m n)
 gave_by (Lock p) k i m n = gave_hold (ltb 0 (k.held i m)) i m n
 gave_by (ReadWrite p) k i m n = gave_hold (ltb 0 (k.held i m)) i m n
-gave_by (Semaphore p c) k i m n = gave_permits (int_lt (pos max_amount) (k.free +ℤ pos n)) i m n
+gave_by (Semaphore p c) k i m n = gave_permits (int_lt (pos MOST_AMOUNT) (k.free +ℤ pos n)) i m n
 gave_by (Latch c) k i m n = inl refl
 
 -- A call on a condition, by whether its seat isn't the owner and whether it reads.
@@ -214,37 +217,37 @@ line_found : (s : Start) (h : List Entry) (i : ℕ) (step : Step) (e : Entry) (a
     cond comes (cond goes (Some (back s h i)) None) (queued_entry goes i a step) ≡ Some e →
     entry_for s h i step ≡ Ok (Some e) → Found s h i e
 line_found s h i step e a true true is b g made q =
-    let same = some_same (back s h i) e made in
+    let same = same_Some (back s h i) e made in
     found_itself s h i Look _ e (inl refl) same (look_made s h i a true true is b g ∙ made_same _ e same)
 line_found s h i step e a true false is b g made q = absurd (cc)
 line_found s h i Look e a false true is b g made q =
-    found_itself s h i Look _ e (inl refl) (some_same _ e made) q
+    found_itself s h i Look _ e (inl refl) (same_Some _ e made) q
 line_found s h i Look e a false false is b g made q = absurd (cc)
 line_found s h i Expire e a false true is b g made q =
-    let same = some_same (ended i word.Granted a end.None) e made in
+    let same = same_Some (ended i word.Granted a end.None) e made in
     found_itself s h i Look _ e (inl refl) same (look_made s h i a false true is b g ∙ made_same _ e same)
 line_found s h i Expire e a false false is b g made q =
-    found_itself s h i Expire _ e (inl refl) (some_same (ended i word.Left a end.Timeout) e made) q
+    found_itself s h i Expire _ e (inl refl) (same_Some (ended i word.Left a end.Timeout) e made) q
 line_found s h i Interrupt e a false true is b g made q =
-    found_itself s h i Interrupt _ e (inr (inl refl)) (some_same (ended i word.Left a end.Interrupt) e made) q
+    found_itself s h i Interrupt _ e (inr (inl refl)) (same_Some (ended i word.Left a end.Interrupt) e made) q
 line_found s h i Interrupt e a false false is b g made q =
-    found_itself s h i Interrupt _ e (inr (inl refl)) (some_same (ended i word.Left a end.Interrupt) e made) q
+    found_itself s h i Interrupt _ e (inr (inl refl)) (same_Some (ended i word.Left a end.Interrupt) e made) q
 line_found s h i _ e a false true is b g made q = absurd (cc)
 line_found s h i _ e a false false is b g made q = absurd (cc)
 
 sleeping_found : (s : Start) (h : List Entry) (i : ℕ) (step : Step) (e : Entry) →
     sleeping_entry s h i step ≡ Some e → entry_for s h i step ≡ Ok (Some e) → Found s h i e
 sleeping_found s h i Expire e made q =
-    found_itself s h i Expire _ e (inl refl) (some_same (lapse s h i end.Timeout) e made) q
+    found_itself s h i Expire _ e (inl refl) (same_Some (lapse s h i end.Timeout) e made) q
 sleeping_found s h i Interrupt e made q =
-    found_itself s h i Interrupt _ e (inr (inl refl)) (some_same (lapse s h i end.Interrupt) e made) q
+    found_itself s h i Interrupt _ e (inr (inl refl)) (same_Some (lapse s h i end.Interrupt) e made) q
 sleeping_found s h i _ e made q = absurd (cc)
 
 phase_found : (s : Start) (h : List Entry) (i : ℕ) (step : Step) (e : Entry) (p : Phase) → phase s h i ≡ p →
     Admitted s h i step e → suits p step ≡ true → phase_entry s h i step p ≡ Some e →
     entry_for s h i step ≡ Ok (Some e) → Found s h i e
 phase_found s h i step e Idle is a suit made q =
-    idle_found s h i step e is a.mode a.condition suit (some_same _ e made) q
+    idle_found s h i step e is a.mode a.condition suit (same_Some _ e made) q
 phase_found s h i step e (InLine a) is v suit made q =
     line_found s h i step e a a.back (is_seat (ready s h) i) is refl refl made q
 phase_found s h i step e Sleeping is a suit made q = sleeping_found s h i step e made q

@@ -1,5 +1,5 @@
 -- That the audit's line and sleepers stand for one more entry, and are as it needs them.
-use Rattle.std.proofs.Common.{◌≡◌, ⊎_elim, ℕ, zero, suc, ◌+◌, ◌<◌, None, true, false, eqb, List, [], ◌∷◌, length, get_or, set, replicate, refl, ap, ◌∙◌, sym, arith}
+use Rattle.std.proofs.Common.{◌≡◌, ⊎_elim, ℕ, ◌+◌, ◌<◌, None, true, false, eqb, List, [], ◌∷◌, length, get_or, set, replicate, refl, ap, ◌∙◌, sym, arith}
 use Rattle.std.proofs.Math.ListN.{length-set}
 use Rattle.std.proofs.lemmas.Bool.{cases_eq, eq-eqb, ne_eqb}
 use Rattle.std.proofs.lemmas.List.{length-replicate, get_or-set_same, get_or-set_other}
@@ -19,10 +19,12 @@ use Rattle.condition_queue.proofs.Movable.{movable}
 use Rattle.deciding.proofs.Bounds.{waits_by}
 use Rattle.deciding.specs.Sleep.{sleep_of}
 use Rattle.deciding.specs.declared.sleep.LastSleep.{LastSleep}
+use Rattle.audit.proofs.HoldsLemmas.{blank}
 use Rattle.audit.specs.declared.ledger.Ledger.{Ledger}
 use Rattle.audit.specs.declared.waiting.Waiting.{Waiting}
 use Rattle.audit.specs.Ledger.{IsNext, LedgerStand}
-use Rattle.audit.specs.Waiting.{ended_by, never_slept, NobodyWaits, saved_by, sleep_by, WaitingStand}
+use Rattle.audit.specs.Waiting.{never_slept, WaitingStand}
+use Rattle.audit.specs.inner.Waiting.{ended_by, NobodyWaits, saved_by, sleep_by}
 
 -- a table of last sleeps that stays, or is written at the entry's seat
 slept_same : (s : Start) (e : Entry) (h : List Entry) (table : List LastSleep) →
@@ -90,11 +92,6 @@ stands_next s h e old new st seat kept joined is =
     }
 
 -- nobody waits at the opening
-never : (n i : ℕ) → ◌≡◌ {A = LastSleep} (get_or (replicate n never_slept) i never_slept) never_slept
-never zero i = refl
-never (suc n) zero = refl
-never (suc n) (suc i) = never n i
-
 pub nobody_waits : (k : Header) (w : Waiting) → w.line.arrivals ≡ [] → w.line.joined ≡ 0 →
     w.line.seats ≡ k.seats → ((c : ℕ) → asleep_on w.asleep c ≡ []) →
     ((i : ℕ) → sleeper_of w.asleep i ≡ None) → w.asleep.conditions ≡ k.conditions →
@@ -109,7 +106,7 @@ nobody_waits k w line joined places asleep awake conditions beds is =
       conditions = conditions;
       beds = beds;
       seats = ap length is ∙ length-replicate k.seats never_slept;
-      slept = λ i. ap (λ l. get_or l i never_slept) is ∙ never k.seats i;
+      slept = λ i. ap (λ l. get_or l i never_slept) is ∙ blank k.seats i never_slept;
     }
 
 pub stands_opened : (k : Header) (w : Waiting) → NobodyWaits k w → WaitingStand (opening k) [] w

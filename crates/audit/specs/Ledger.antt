@@ -25,13 +25,6 @@ pub record HasSeat (l : Ledger) (i : ℕ) : Type 0 where
   pub seat : i < start.header.seats
   pub room : length front + 1 < 2 ^ 32
 
--- a ledger of some entries
-pub record IsLedger (l : Ledger) : Type 0 where
-  pub start : Start
-  pub front : List Entry
-  pub stand : LedgerStand start front l
-  pub room : length front < 2 ^ 32
-
 -- whether some step of its seat makes an entry after these entries
 abbrev pub IsNext : Start → List Entry → Entry → Type 0
 IsNext s h e = (step : Step) × (entry_for s h e.seat step ≡ Ok (Some e))

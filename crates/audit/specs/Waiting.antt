@@ -1,69 +1,17 @@
 -- What the audit's queue and waiters represent.
-use Rattle.std.specs.Prelude.{◌≡◌, ◌<◌, ◌≤◌, ◌+◌, ℕ, true, List, [], length, map, slice_index_or, slice_set, Option, Some, None}
-use Rattle.std.specs.List.{AllByRecursion}
+use Rattle.std.specs.Prelude.{◌≡◌, ◌+◌, ℕ, List, length, slice_index_or}
 use Rattle.history.specs.declared.entry.Entry.{Entry}
-use Rattle.history.specs.declared.entry.End.{End}
 use Rattle.history.specs.declared.entry.End.TheVariants as end
-use Rattle.history.specs.declared.entry.Word.{Word}
-use Rattle.history.specs.declared.header.Header.{Header}
-use Rattle.history.specs.declared.entry.Word.TheVariants.{Await, Lapse}
-use Rattle.history.specs.Base.{Base, sleepers_of}
-use Rattle.history.specs.Sleepers.{has, last_sleep}
-use Rattle.history.specs.Start.{Sleep, Start}
-use Rattle.history.specs.Waiting.{times}
+use Rattle.history.specs.Sleepers.{last_sleep}
+use Rattle.history.specs.Start.{Start}
 use Rattle.condition_queue.specs.Following.{JoinedBy, Keeps}
-use Rattle.condition_queue.specs.Sleepers.{Sleepers, asleep_on, sleeper_of}
 use Rattle.deciding.specs.Sleep.{sleep_of}
 use Rattle.deciding.specs.declared.sleep.LastSleep.{LastSleep}
 use Rattle.audit.specs.declared.waiting.Waiting.{Waiting}
 
--- what a seat saves at an await
-abbrev pub sleep_by : Entry → LastSleep
-sleep_by e = record { condition = e.at; holds = e.n; how = end.Signalled }
-
--- a sleep that ended in this way
-abbrev pub ended_by : End → LastSleep → LastSleep
-ended_by how was = record { condition = was.condition; holds = was.holds; how = how }
-
+-- what a seat saved that never waited on a condition
 abbrev pub never_slept : LastSleep
 never_slept = record { condition = 0; holds = 0; how = end.None }
-
--- the table of last sleeps after an entry
-abbrev pub saved_by : Word → Entry → List LastSleep → List LastSleep
-saved_by Await e table = slice_set table e.seat (sleep_by e)
-saved_by Lapse e table = slice_set table e.seat (ended_by e.end (slice_index_or table e.seat never_slept))
-saved_by _ e table = table
-
--- a sleep that was found, else the one that was kept before
-abbrev pub or_kept : Option Sleep → Sleep → Sleep
-or_kept None was = was
-or_kept (Some found) was = found
-
--- the seats that wait on a condition of a base
-abbrev pub sleeping_seats : Base → ℕ → List ℕ
-sleeping_seats b c = map (λ x. x.seat) (sleepers_of b c)
-
--- none of these seats waits on a condition
-abbrev pub AreAwake : List ℕ → Sleepers → Type 0
-AreAwake seats waiters = (i : ℕ) → has i seats ≡ true → sleeper_of waiters i ≡ None
-
--- The waiters of a base's conditions are among the first `seats` seats, and each waits once.
-pub record AreSleepers (seats : ℕ) (b : Base) : Type 0 where
-  pub seated : (c : ℕ) → AllByRecursion (λ x. x.seat < seats) (sleepers_of b c)
-  pub once : (c i : ℕ) → times i (sleeping_seats b c) ≤ 1
-  pub apart : (c d i : ℕ) → has i (sleeping_seats b c) ≡ true → has i (sleeping_seats b d) ≡ true → c ≡ d
-
--- Nobody waits, and nobody ever did, at an object with this header.
-pub record NobodyWaits (k : Header) (w : Waiting) : Type 0 where
-  pub line : w.line.arrivals ≡ []
-  pub joined : w.line.joined ≡ 0
-  pub places : w.line.seats ≡ k.seats
-  pub asleep : (c : ℕ) → asleep_on w.asleep c ≡ []
-  pub awake : (i : ℕ) → sleeper_of w.asleep i ≡ None
-  pub conditions : w.asleep.conditions ≡ k.conditions
-  pub beds : w.asleep.seats ≡ k.seats
-  pub seats : length w.last_sleep.items ≡ k.seats
-  pub slept : (i : ℕ) → slice_index_or w.last_sleep.items i never_slept ≡ never_slept
 
 pub record WaitingStand (s : Start) (h : List Entry) (w : Waiting) : Type 0 where
   pub kept : Keeps s h w.line w.asleep

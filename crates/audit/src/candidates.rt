@@ -2,7 +2,7 @@
 
 ghost use Rattle.std.specs.Prelude.{◌≡◌};
 ghost use Rattle.history.specs.declared.entry.Entry.{Entry};
-ghost use Rattle.audit.specs.Candidates.{candidates, refusal_candidates, only, either};
+ghost use Rattle.audit.specs.inner.Candidates.{candidates, refusal_candidates, only, either};
 
 use history::entry::{Entry, Word};
 use history::fault::Fault;

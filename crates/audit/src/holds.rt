@@ -10,7 +10,8 @@ ghost use Rattle.history.specs.Start.{Start, opening};
 ghost use Rattle.history.specs.declared.entry.Entry.{Entry};
 ghost use Rattle.history.specs.declared.entry.Mode.TheVariants.{X, S};
 ghost use Rattle.history.specs.declared.header.Header.{Header};
-ghost use Rattle.audit.specs.Holds.{HoldsStand, IsOnlyOwner, owner_after};
+ghost use Rattle.audit.specs.Holds.{HoldsStand};
+ghost use Rattle.audit.specs.inner.Holds.{IsOnlyOwner, owner_after};
 
 use deciding::tables::{held_in, sum};
 use history::base::{Base, SeatBase};
@@ -95,7 +96,7 @@ impl Holds {
 
 /// Returns the seat of a base that has exclusive holds, if any.
 fn owner_of(seats: &[SeatBase]) -> Option<u16>
-    requires { length seats.now ≤ 65535 }
+    requires { length seats.now ≤ u16.MAX }
     ensures { result ≡ seat_with (length seats.now) (λ i. (get_or seats.now i nothing).exclusive) }
 {
     let mut owner = None;

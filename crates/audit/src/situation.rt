@@ -14,12 +14,13 @@ use deciding::sleep::LastSleep;
 use history::arrival::Arrival;
 use history::entry::Mode;
 use history::header::{Header, Object};
+use history::limits::{MOST_HOLDS, MOST_READ_WRITE_HOLDS};
 
 /// The most holds of a lock by one seat.
-const MAX_HOLDS: u128 = 2_147_483_647;
+const MAX_HOLDS: u128 = MOST_HOLDS as u128;
 
 /// The most write holds of a read-write lock, and the most read holds of all seats together.
-const MAX_READ_WRITE_HOLDS: u128 = 65_535;
+const MAX_READ_WRITE_HOLDS: u128 = MOST_READ_WRITE_HOLDS as u128;
 
 impl Ledger {
     fn owns(&self, seat: u16) -> bool

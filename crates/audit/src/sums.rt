@@ -5,7 +5,8 @@ ghost use Rattle.history.specs.Start.{Start};
 ghost use Rattle.history.specs.declared.entry.Entry.{Entry};
 ghost use Rattle.deciding.specs.Balance.{balance};
 ghost use Rattle.deciding.specs.ObjectState.{IsHistory};
-ghost use Rattle.audit.specs.Ledger.{IsLedger, LedgerStand};
+ghost use Rattle.audit.specs.Ledger.{LedgerStand};
+ghost use Rattle.audit.specs.inner.Ledger.{IsLedger};
 ghost use Rattle.audit.specs.Totals.{no_totals, numbers_of, totals_of};
 
 use crate::ledger::Ledger;

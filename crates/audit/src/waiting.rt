@@ -8,7 +8,8 @@ ghost use Rattle.history.specs.Start.{Start, opening};
 ghost use Rattle.history.specs.declared.entry.Entry.{Entry};
 ghost use Rattle.condition_queue.specs.Following.{IsMovable};
 ghost use Rattle.deciding.specs.ObjectState.{IsHistory};
-ghost use Rattle.audit.specs.Waiting.{NobodyWaits, saved_by, WaitingStand};
+ghost use Rattle.audit.specs.Waiting.{WaitingStand};
+ghost use Rattle.audit.specs.inner.Waiting.{NobodyWaits, saved_by};
 
 use crate::waiting_base::{lay_down, save_returning, save_sleepers, stand_in};
 use acquire_queue::queue::Queue;

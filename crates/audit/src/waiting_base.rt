@@ -8,7 +8,8 @@ ghost use Rattle.deciding.specs.Sleep.{sleep_of};
 ghost use Rattle.history.specs.Base.{sleep_below, sleep_in_line, sleep_on, sleepers_of};
 ghost use Rattle.history.specs.Sleepers.{has};
 ghost use Rattle.history.specs.Waiting.{seats_of, times};
-ghost use Rattle.audit.specs.Waiting.{AreAwake, AreSleepers, never_slept, or_kept, sleeping_seats};
+ghost use Rattle.audit.specs.Waiting.{never_slept};
+ghost use Rattle.audit.specs.inner.Waiting.{AreAwake, AreSleepers, or_kept, sleeping_seats};
 
 use acquire_queue::queue::Queue;
 use condition_queue::waiters::Waiters;

@@ -7,9 +7,10 @@ use frame::hooks::{Gave, Hooks, Line, Taken};
 use history::entry::Mode;
 use history::fault::Fault;
 use history::header::{Object, Policy};
+use history::limits::MOST_AMOUNT;
 
 /// The greatest number of free permits.
-const MAX_PERMITS: i64 = 2_147_483_647;
+const MAX_PERMITS: i64 = MOST_AMOUNT as i64;
 
 /// The hooks of a semaphore. As in Java's Semaphore, the state is the number of free permits, which may be
 /// negative at the opening. Who holds permits isn't kept.

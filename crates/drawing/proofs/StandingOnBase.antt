@@ -1,5 +1,5 @@
 -- What the tables of holds, of the line and of sleepers stand for on a good base.
-use Rattle.std.proofs.Common.{◌≡◌, ℕ, zero, suc, ◌<◌, Bool, false, List, [], ◌∷◌, length, map, get_or, replicate, refl, ap, ◌∙◌, sym, arith}
+use Rattle.std.proofs.Common.{◌≡◌, ℕ, zero, suc, ◌<◌, false, List, [], ◌∷◌, length, map, get_or, replicate, refl, ap, ◌∙◌, sym, arith}
 use Rattle.std.specs.List.{All, AllByRecursion}
 use Rattle.std.proofs.lemmas.List.Elements.{All-cons, All-nil}
 use Rattle.history.specs.declared.base.Sleeper.{Sleeper}
@@ -12,14 +12,15 @@ use Rattle.history.proofs.LineLemmas.{line_at_first}
 use Rattle.history.proofs.SmallBases.{few_exclusive}
 use Rattle.deciding.proofs.HeldTables.{shared_few}
 use Rattle.drawing.specs.declared.standings.Standings.{Standings}
-use Rattle.drawing.specs.Levels.{is_there}
-use Rattle.drawing.specs.Standings.{AreStanding, sleeping_seats}
+use Rattle.history.specs.Marks.{is_placed}
+use Rattle.drawing.specs.Standings.{AreStanding}
+use Rattle.drawing.specs.inner.Tables.{sleeping_seats}
 
--- nobody is marked in a new table
-pub nobody : (n i : ℕ) → ◌≡◌ {A = Bool} (get_or (replicate n false) i false) false
-nobody zero i = refl
-nobody (suc n) zero = refl
-nobody (suc n) (suc i) = nobody n i
+-- a new table has the same item everywhere
+pub blank : {X : Type 0} (n i : ℕ) (d : X) → get_or (replicate n d) i d ≡ d
+blank zero i d = refl
+blank (suc n) zero d = refl
+blank (suc n) (suc i) d = blank n i d
 
 sleepers_seated : (b : Base) (c : ℕ) (xs : List Sleeper) → AllByRecursion (SleepsWell b c) xs →
     All (λ i. i < b.header.seats) (map (λ (x : Sleeper). x.seat) xs)
@@ -34,7 +35,7 @@ pub stands_on : (b : Base) (a : Standings) → IsGood b → length a.exclusive.i
     ((i : ℕ) → get_or a.exclusive.items i 0 ≡ (seat_of b i).exclusive) →
     ((i : ℕ) → get_or a.shared.items i 0 ≡ (seat_of b i).shared) →
     ((i : ℕ) → get_or a.in_line.items i false
-    ≡ is_there (place_of i (map (λ (p : LinePlace). p.who) b.line))) →
+    ≡ is_placed (place_of i (map (λ (p : LinePlace). p.who) b.line))) →
     AreStanding (based b) [] a
 stands_on b a good x sh waiting asleep exclusive shared waits =
     record {
@@ -44,7 +45,7 @@ stands_on b a good x sh waiting asleep exclusive shared waits =
       conditions = ap length asleep ∙ length-each 256 (sleeping_seats b);
       exclusive = exclusive;
       shared = shared;
-      waits = λ i l. waits i ∙ ap (λ q. is_there (place_of i q)) (sym (line_at_first (based b)));
+      waits = λ i l. waits i ∙ ap (λ q. is_placed (place_of i q)) (sym (line_at_first (based b)));
       sleeps = λ c l. ap (λ t. get_or t c []) asleep ∙ get_or-each 256 (sleeping_seats b) c [] l;
       seated = λ c. sleepers_seated b c (sleepers_of b c) (good.sleepers c);
       exclusive_bound = λ i. let few = few_exclusive b b.header.object refl good.held i in omega (arith, few);

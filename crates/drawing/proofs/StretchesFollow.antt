@@ -9,7 +9,8 @@ use Rattle.drawing.specs.declared.bar.Bar.{Bar}
 use Rattle.drawing.specs.declared.bar.Stretch.{Stretch}
 use Rattle.drawing.specs.Bars.{bar_at, ended, ended_by, lasting}
 use Rattle.drawing.specs.Levels.{Track, level_of, tracks}
-use Rattle.drawing.specs.Stretches.{bar_of, ending, fresh, going_on, stretch, stretches}
+use Rattle.drawing.specs.Stretches.{fresh, stretch, stretches}
+use Rattle.drawing.specs.inner.Stretches.{bar_of, ending, going_on}
 
 -- how long a level has lasted, behind one more entry
 lasting_more : (s : Start) (from : ℕ) (e : Entry) (h : List Entry) (t : Track) → from ≤ length h →

@@ -1,6 +1,7 @@
 -- That the tables of holds, of the line and of sleepers follow each entry.
 use Rattle.std.proofs.Common.{◌≡◌, ⊎_elim, ℕ, ◌<◌, Bool, true, false, ◌&&◌, ◌||◌, not, cond, eqb, List, [], ◌∷◌, ◌++◌, length, get_or, set, map, take, Some, None, refl, ap, ◌∙◌, sym}
 use Rattle.std.specs.List.{All, filter, list_any}
+use Rattle.std.proofs.Math.Bool.{and-true, and-false}
 use Rattle.std.proofs.lemmas.Bool.{cases_eq, eq-eqb, ne_eqb, eqb-true}
 use Rattle.std.proofs.lemmas.List.Elements.{All-push, All-drop, All-nil, All-filter}
 use Rattle.history.specs.declared.arrival.Arrival.{Arrival}
@@ -15,9 +16,8 @@ use Rattle.history.specs.Sleepers.{has, sleepers, sleepers_after}
 use Rattle.history.specs.Start.{Start}
 use Rattle.deciding.proofs.HoldsFollow.{at_set, table_follows}
 use Rattle.history.proofs.LineLemmas.{line_after, stays}
-use Rattle.drawing.specs.Levels.{is_there}
-use Rattle.drawing.specs.Standings.{holds_by, line_by}
-use Rattle.drawing.specs.Woken.{woken}
+use Rattle.history.specs.Marks.{is_placed}
+use Rattle.drawing.specs.inner.Tables.{holds_by, line_by, woken}
 
 pub any_has : (i : ℕ) (xs : List ℕ) → list_any (λ y. eqb y i) xs ≡ has i xs
 any_has i [] = refl
@@ -31,42 +31,34 @@ holds_follow s e h m table = table_follows s e h m table (same_mode e.mode m) re
 
 -- whether a seat stands in one of two lines, in what is left of a line, and among those who come back
 there-append : (i : ℕ) (p q : List Arrival) →
-    is_there (place_of i (p ++ q)) ≡ (is_there (place_of i p) || is_there (place_of i q))
+    is_placed (place_of i (p ++ q)) ≡ (is_placed (place_of i p) || is_placed (place_of i q))
 there-append i [] q = refl
 there-append i (a ∷ p) q = by (eqb a.seat i) (there-append i p q)
   where
-    by : (b : Bool) → is_there (place_of i (p ++ q)) ≡ (is_there (place_of i p) || is_there (place_of i q)) →
-        is_there (cond b (Some a) (place_of i (p ++ q)))
-        ≡ (is_there (cond b (Some a) (place_of i p)) || is_there (place_of i q))
+    by : (b : Bool) → is_placed (place_of i (p ++ q)) ≡ (is_placed (place_of i p) || is_placed (place_of i q)) →
+        is_placed (cond b (Some a) (place_of i (p ++ q)))
+        ≡ (is_placed (cond b (Some a) (place_of i p)) || is_placed (place_of i q))
     by true ih = refl
     by false ih = ih
 
-and_true : (b : Bool) → (b && true) ≡ b
-and_true true = refl
-and_true false = refl
-
-and_false : (b : Bool) → (b && false) ≡ false
-and_false true = refl
-and_false false = refl
-
 all_stay : (i : ℕ) (q : List Arrival) →
-    is_there (place_of i (filter (λ a. true) q)) ≡ is_there (place_of i q)
+    is_placed (place_of i (filter (λ a. true) q)) ≡ is_placed (place_of i q)
 all_stay i [] = refl
 all_stay i (a ∷ q) = by (eqb a.seat i) (all_stay i q)
   where
-    by : (b : Bool) → is_there (place_of i (filter (λ a. true) q)) ≡ is_there (place_of i q) →
-        is_there (cond b (Some a) (place_of i (filter (λ a. true) q)))
-        ≡ is_there (cond b (Some a) (place_of i q))
+    by : (b : Bool) → is_placed (place_of i (filter (λ a. true) q)) ≡ is_placed (place_of i q) →
+        is_placed (cond b (Some a) (place_of i (filter (λ a. true) q)))
+        ≡ is_placed (cond b (Some a) (place_of i q))
     by true ih = refl
     by false ih = ih
 
 none_left : (i j : ℕ) (q : List Arrival) → j ≡ i →
-    is_there (place_of i (filter (λ a. not (eqb j a.seat)) q)) ≡ false
+    is_placed (place_of i (filter (λ a. not (eqb j a.seat)) q)) ≡ false
 none_left i j [] same = refl
 none_left i j (a ∷ q) same = by (eqb j a.seat) refl (none_left i j q same)
   where
-    by : (b : Bool) → eqb j a.seat ≡ b → is_there (place_of i (filter (λ a. not (eqb j a.seat)) q)) ≡ false →
-        is_there (place_of i (cond (not b) (a ∷ filter (λ a. not (eqb j a.seat)) q)
+    by : (b : Bool) → eqb j a.seat ≡ b → is_placed (place_of i (filter (λ a. not (eqb j a.seat)) q)) ≡ false →
+        is_placed (place_of i (cond (not b) (a ∷ filter (λ a. not (eqb j a.seat)) q)
         (filter (λ a. not (eqb j a.seat)) q))) ≡ false
     by true t ih = ih
     by false t ih =
@@ -78,52 +70,52 @@ none_left i j (a ∷ q) same = by (eqb j a.seat) refl (none_left i j q same)
         both f t = cc
 
 others_left : (i j : ℕ) (q : List Arrival) → (j ≡ i → ⊥) →
-    is_there (place_of i (filter (λ a. not (eqb j a.seat)) q)) ≡ is_there (place_of i q)
+    is_placed (place_of i (filter (λ a. not (eqb j a.seat)) q)) ≡ is_placed (place_of i q)
 others_left i j [] ne = refl
 others_left i j (a ∷ q) ne = by (eqb j a.seat) refl (others_left i j q ne)
   where
     by : (b : Bool) → eqb j a.seat ≡ b
-        → is_there (place_of i (filter (λ a. not (eqb j a.seat)) q)) ≡ is_there (place_of i q)
-        → is_there (place_of i (cond (not b) (a ∷ filter (λ a. not (eqb j a.seat)) q)
-        (filter (λ a. not (eqb j a.seat)) q))) ≡ is_there (cond (eqb a.seat i) (Some a) (place_of i q))
+        → is_placed (place_of i (filter (λ a. not (eqb j a.seat)) q)) ≡ is_placed (place_of i q)
+        → is_placed (place_of i (cond (not b) (a ∷ filter (λ a. not (eqb j a.seat)) q)
+        (filter (λ a. not (eqb j a.seat)) q))) ≡ is_placed (cond (eqb a.seat i) (Some a) (place_of i q))
     by true t ih =
         let other : eqb a.seat i ≡ false = ne_eqb a.seat i (λ x. ne (eqb-true j a.seat t ∙ x)) in
         rw other ih
     by false t ih = kept (eqb a.seat i) ih
       where
         kept : (b : Bool)
-            → is_there (place_of i (filter (λ a. not (eqb j a.seat)) q)) ≡ is_there (place_of i q)
-            → is_there (cond b (Some a) (place_of i (filter (λ a. not (eqb j a.seat)) q)))
-            ≡ is_there (cond b (Some a) (place_of i q))
+            → is_placed (place_of i (filter (λ a. not (eqb j a.seat)) q)) ≡ is_placed (place_of i q)
+            → is_placed (cond b (Some a) (place_of i (filter (λ a. not (eqb j a.seat)) q)))
+            ≡ is_placed (cond b (Some a) (place_of i q))
         kept true ih = refl
         kept false ih = ih
 
 there-left : (i j : ℕ) (b : Bool) (q : List Arrival) →
-    is_there (place_of i (filter (λ a. not (b && eqb j a.seat)) q))
-    ≡ (is_there (place_of i q) && not (b && eqb j i))
-there-left i j false q = all_stay i q ∙ sym (and_true (is_there (place_of i q)))
+    is_placed (place_of i (filter (λ a. not (b && eqb j a.seat)) q))
+    ≡ (is_placed (place_of i q) && not (b && eqb j i))
+there-left i j false q = all_stay i q ∙ sym (and-true (is_placed (place_of i q)))
 there-left i j true q =
     ⊎_elim
     (λ same. none_left i j q same
-    ∙ sym (ap (λ b. is_there (place_of i q) && not b) (eq-eqb j i same)
-    ∙ and_false (is_there (place_of i q))))
+    ∙ sym (ap (λ b. is_placed (place_of i q) && not b) (eq-eqb j i same)
+    ∙ and-false (is_placed (place_of i q))))
     (λ ne. others_left i j q ne
-    ∙ sym (ap (λ b. is_there (place_of i q) && not b) (ne_eqb j i ne)
-    ∙ and_true (is_there (place_of i q))))
+    ∙ sym (ap (λ b. is_placed (place_of i q) && not b) (ne_eqb j i ne)
+    ∙ and-true (is_placed (place_of i q))))
     (cases_eq j i)
 
-there-coming_back : (i : ℕ) (xs : List ℕ) → is_there (place_of i (map coming_back xs)) ≡ has i xs
+there-coming_back : (i : ℕ) (xs : List ℕ) → is_placed (place_of i (map coming_back xs)) ≡ has i xs
 there-coming_back i [] = refl
 there-coming_back i (x ∷ xs) = by (eqb x i) (there-coming_back i xs)
   where
-    by : (b : Bool) → is_there (place_of i (map coming_back xs)) ≡ has i xs →
-        is_there (cond b (Some (coming_back x)) (place_of i (map coming_back xs))) ≡ (b || has i xs)
+    by : (b : Bool) → is_placed (place_of i (map coming_back xs)) ≡ has i xs →
+        is_placed (cond b (Some (coming_back x)) (place_of i (map coming_back xs))) ≡ (b || has i xs)
     by true ih = refl
     by false ih = ih
 
 -- what an entry makes of a seat's place in line, by the word
 joined : (c b : Bool) (a : Arrival) →
-    (cond c true b || false) ≡ ((b && true) || is_there (cond c (Some a) None))
+    (cond c true b || false) ≡ ((b && true) || is_placed (cond c (Some a) None))
 joined true true a = refl
 joined true false a = refl
 joined false true a = refl
@@ -141,22 +133,22 @@ stayed false = refl
 
 -- the table of the line, to which those are added whom the entry wakes
 pub line_follows : (s : Start) (e : Entry) (h : List Entry) (t : List Bool) (i : ℕ) → e.seat < length t →
-    get_or t i false ≡ is_there (place_of i (line s h)) →
+    get_or t i false ≡ is_placed (place_of i (line s h)) →
     (get_or (line_by e.word e.seat t) i false || has i (woken e.word e.n (sleepers s h e.at)))
-    ≡ is_there (place_of i (line s (e ∷ h)))
+    ≡ is_placed (place_of i (line s (e ∷ h)))
 line_follows s e h t i seat is =
     by e.word
     ∙ ap (λ b. (b && not (ends_arrival e.word && eqb e.seat i))
-    || is_there (place_of i (arrivals_by s e.word e h))) is
-    ∙ sym (ap (λ q. is_there (place_of i q)) (line_after s e h)
+    || is_placed (place_of i (arrivals_by s e.word e h))) is
+    ∙ sym (ap (λ q. is_placed (place_of i q)) (line_after s e h)
     ∙ there-append i (filter (stays e.word e.seat) (line s h)) (arrivals_by s e.word e h)
-    ∙ ap (λ b. b || is_there (place_of i (arrivals_by s e.word e h)))
+    ∙ ap (λ b. b || is_placed (place_of i (arrivals_by s e.word e h)))
     (there-left i e.seat (ends_arrival e.word) (line s h)))
   where
     by : (w : Word) →
         (get_or (line_by w e.seat t) i false || has i (woken w e.n (sleepers s h e.at)))
         ≡ ((get_or t i false && not (ends_arrival w && eqb e.seat i))
-        || is_there (place_of i (arrivals_by s w e h)))
+        || is_placed (place_of i (arrivals_by s w e h)))
     by word.Queued =
         ap (λ b. b || false) (at_set t e.seat i true false seat)
         ∙ joined (eqb e.seat i) (get_or t i false) _
@@ -172,13 +164,13 @@ line_follows s e h t i seat is =
     by word.Signal = woke (take e.n (sleepers s h e.at))
       where
         woke : (xs : List ℕ) → (get_or t i false || has i xs)
-            ≡ ((get_or t i false && true) || is_there (place_of i (map coming_back xs)))
-        woke xs = rw (there-coming_back i xs, and_true (get_or t i false)) refl
+            ≡ ((get_or t i false && true) || is_placed (place_of i (map coming_back xs)))
+        woke xs = rw (there-coming_back i xs, and-true (get_or t i false)) refl
     by word.SignalAll = woke (sleepers s h e.at)
       where
         woke : (xs : List ℕ) → (get_or t i false || has i xs)
-            ≡ ((get_or t i false && true) || is_there (place_of i (map coming_back xs)))
-        woke xs = rw (there-coming_back i xs, and_true (get_or t i false)) refl
+            ≡ ((get_or t i false && true) || is_placed (place_of i (map coming_back xs)))
+        woke xs = rw (there-coming_back i xs, and-true (get_or t i false)) refl
     by _ = stayed (get_or t i false)
 
 -- the sleepers of a condition are seats of the object

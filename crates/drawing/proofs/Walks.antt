@@ -1,6 +1,7 @@
 -- A list that is changed from its front on, and what is gathered on the way.
 use Rattle.std.proofs.Common.{◌≡◌, ℕ, zero, suc, ◌+◌, ◌<◌, Bool, true, false, ◌||◌, eqb, List, [], ◌∷◌, ◌++◌, length, get_or, set, map, take, drop, refl, ap, ◌∙◌, sym, arith}
 use Rattle.std.specs.List.{flat_map}
+use Rattle.std.proofs.Math.Bool.{or-false}
 use Rattle.std.specs.Prelude.{Result, Ok, Err, IfOk}
 use Rattle.std.proofs.lemmas.List.{append-nil, append_assoc, set-get_or}
 use Rattle.history.specs.Sleepers.{has}
@@ -69,11 +70,7 @@ has_more i xs n l = ap (λ k. has i (take k xs)) (next n) ∙ by xs n l
     by : (xs : List ℕ) (n : ℕ) → n < length xs →
         has i (take (suc n) xs) ≡ (has i (take n xs) || eqb (get_or xs n 0) i)
     by [] n l = absurd (omega (arith, l))
-    by (x ∷ xs) zero l = alone (eqb x i)
-      where
-        alone : (b : Bool) → (b || false) ≡ b
-        alone true = refl
-        alone false = refl
+    by (x ∷ xs) zero l = or-false (eqb x i)
     by (x ∷ xs) (suc n) l =
         ap (λ b. eqb x i || b) (by xs n (omega (arith, l)))
         ∙ assoc (eqb x i) (has i (take n xs)) (eqb (get_or xs n 0) i)

@@ -1,19 +1,15 @@
 -- The state of a seat after a history, as a number for each kind of bar.
-use Rattle.std.specs.Prelude.{ℕ, zero, suc, Bool, true, false, if◌then◌else◌, List, [], ◌∷◌, ◌++◌, Option, Some, None}
-use Rattle.history.specs.declared.arrival.Arrival.{Arrival}
+use Rattle.std.specs.Prelude.{ℕ, zero, suc, Bool, if◌then◌else◌, List, [], ◌∷◌, ◌++◌}
 use Rattle.history.specs.declared.entry.Entry.{Entry}
 use Rattle.history.specs.declared.entry.Mode.TheVariants.{X, S}
 use Rattle.history.specs.declared.header.Header.{Header}
 use Rattle.history.specs.Counts.{held}
 use Rattle.history.specs.Line.{line, place_of}
+use Rattle.history.specs.Marks.{is_placed}
 use Rattle.history.specs.Sleepers.{sleepers, has}
 use Rattle.history.specs.Start.{Start}
 use Rattle.drawing.specs.declared.kind.Kind.{Kind}
 use Rattle.drawing.specs.declared.kind.Kind.TheVariants.{Exclusive, Shared, InLine, Asleep}
-
-abbrev pub is_there : Option Arrival → Bool
-is_there None = false
-is_there (Some a) = true
 
 abbrev pub one_if : Bool → ℕ
 one_if b = if b then 1 else 0
@@ -23,7 +19,7 @@ one_if b = if b then 1 else 0
 abbrev pub level : Start → List Entry → ℕ → Kind → ℕ
 level s h i Exclusive = held s h i X
 level s h i Shared = held s h i S
-level s h i InLine = one_if (is_there (place_of i (line s h)))
+level s h i InLine = one_if (is_placed (place_of i (line s h)))
 level s h i (Asleep c) = one_if (has i (sleepers s h c))
 
 -- A seat and a kind: a picture has bars for each such pair.

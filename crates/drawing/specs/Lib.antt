@@ -1,9 +1,9 @@
 pub mod Levels
 pub mod IsBar
 pub mod Bars
-pub mod Woken
 pub mod Standings
 pub mod Stretches
 pub mod Marks
 pub mod Curve
 pub mod Drawing
+pub mod inner

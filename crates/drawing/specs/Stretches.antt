@@ -1,10 +1,9 @@
 -- The stretches that a drawing keeps, one for each track, and how an entry changes them.
-use Rattle.std.specs.Prelude.{ℕ, ◌-◌, ◌==◌, nat_lt, if◌then◌else◌, List, [], ◌∷◌, length, map}
+use Rattle.std.specs.Prelude.{ℕ, ◌-◌, nat_lt, if◌then◌else◌, List, length, map}
 use Rattle.history.specs.declared.entry.Entry.{Entry}
 use Rattle.history.specs.Start.{Start}
-use Rattle.drawing.specs.declared.bar.Bar.{Bar}
 use Rattle.drawing.specs.declared.bar.Stretch.{Stretch}
-use Rattle.drawing.specs.Levels.{Track, level, level_of, tracks}
+use Rattle.drawing.specs.Levels.{Track, level_of, tracks}
 use Rattle.drawing.specs.Bars.{lasting}
 
 -- a stretch begins with no holds at the first entry that is drawn
@@ -25,23 +24,3 @@ stretch s from h t =
 
 abbrev pub stretches : Start → ℕ → List Entry → List Stretch
 stretches s from h = map (stretch s from h) (tracks s.header)
-
--- the bar of a stretch that ends before the entry of a number, if the stretch has holds
-abbrev pub bar_of : ℕ → Stretch → List Bar
-bar_of number x =
-    if x.holds == 0 then []
-    else
-    record { seat = x.seat; kind = x.kind; first = x.first; last = number - 1; holds = x.holds } ∷ []
-
--- the level after a history of the stretch's seat and kind
-abbrev pub level_now : Start → List Entry → Stretch → ℕ
-level_now s h x = level s h x.seat x.kind
-
--- a stretch after the newest entry, which has this number, and the bar that ends before it
-abbrev pub going_on : Start → List Entry → ℕ → Stretch → Stretch
-going_on s h number x =
-    if level_now s h x == x.holds then x
-    else record { seat = x.seat; kind = x.kind; first = number; holds = level_now s h x }
-
-abbrev pub ending : Start → List Entry → ℕ → Stretch → List Bar
-ending s h number x = if level_now s h x == x.holds then [] else bar_of number x

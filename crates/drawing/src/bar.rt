@@ -1,7 +1,7 @@
 //! Bars, and the stretches that become bars.
 
 ghost use Rattle.std.specs.Prelude.{◌≡◌, ◌<◌, ◌++◌, OnOk};
-ghost use Rattle.drawing.specs.Stretches.{bar_of};
+ghost use Rattle.drawing.specs.inner.Stretches.{bar_of};
 
 use crate::kind::Kind;
 use std::alloc::AllocError;

@@ -3,7 +3,7 @@
 ghost use Rattle.std.specs.Prelude.{◌≡◌, ℕ, ◌<◌, ◌≤◌, ◌||◌, [], false, length, drop, map, slice_index_or, IfOk, OnOk};
 ghost use Rattle.std.specs.List.{All};
 ghost use Rattle.history.specs.Sleepers.{has, sleepers_after, without};
-ghost use Rattle.drawing.specs.Woken.{woken};
+ghost use Rattle.drawing.specs.inner.Tables.{woken};
 
 use history::base::Sleeper;
 use history::entry::{Entry, Word};

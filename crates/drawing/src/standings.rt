@@ -5,12 +5,14 @@ ghost use Rattle.std.specs.List.{AllByRecursion};
 ghost use Rattle.history.specs.Base.{based, each_below};
 ghost use Rattle.history.specs.GoodBase.{IsGood};
 ghost use Rattle.history.specs.Line.{place_of};
+ghost use Rattle.history.specs.Marks.{is_placed};
 ghost use Rattle.history.specs.Start.{Start, opening};
 ghost use Rattle.history.specs.declared.entry.Entry.{Entry};
 ghost use Rattle.history.specs.declared.entry.Mode.TheVariants.{X, S};
 ghost use Rattle.history.specs.declared.header.Header.{Header};
-ghost use Rattle.drawing.specs.Levels.{is_there, level};
-ghost use Rattle.drawing.specs.Standings.{AreStanding, holds_by, line_by, sleeping_seats, table_by};
+ghost use Rattle.drawing.specs.Levels.{level};
+ghost use Rattle.drawing.specs.Standings.{AreStanding};
+ghost use Rattle.drawing.specs.inner.Tables.{holds_by, line_by, sleeping_seats, table_by};
 
 use crate::kind::Kind;
 use crate::sleepers::Sleepers;
@@ -160,7 +162,7 @@ fn all_asleep(alloc: Global, base: &Base) -> Result<Vec<Sleepers>, AllocError>
 fn mark_standing(in_line: &mut Vec<bool>, line: &[LinePlace])
     requires { AllByRecursion (λ p. p.who.seat < length in_line.old.items) line.now }
     ensures marked { (i : ℕ) → slice_index_or in_line.new.items i false
-        ≡ (slice_index_or in_line.old.items i false || is_there (place_of i (map (λ p. p.who) line.now))) }
+        ≡ (slice_index_or in_line.old.items i false || is_placed (place_of i (map (λ p. p.who) line.now))) }
     ensures seats { length in_line.new.items ≡ length in_line.old.items }
 {
     for place in (0..line.len()).rev() {

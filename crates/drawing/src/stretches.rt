@@ -6,7 +6,8 @@ ghost use Rattle.history.specs.Start.{Start, opening};
 ghost use Rattle.history.specs.declared.entry.Entry.{Entry};
 ghost use Rattle.drawing.specs.Levels.{asleep_tracks, track, tracks, tracks_of_seat};
 ghost use Rattle.drawing.specs.Standings.{AreStanding};
-ghost use Rattle.drawing.specs.Stretches.{bar_of, ending, fresh, going_on};
+ghost use Rattle.drawing.specs.Stretches.{fresh};
+ghost use Rattle.drawing.specs.inner.Stretches.{bar_of, ending, going_on};
 
 use crate::bar::{Bar, Stretch, put_bar};
 use crate::kind::Kind;

@@ -6,8 +6,8 @@
 //! entries.
 //!
 //! `example_locks endless_lock` makes 8,000 calls. `example_locks endless_lock 10000000` makes 10,000,000.
-//! Prints how many calls were made and what the number is, and the audit's verdict on the entries since the
-//! last fold.
+//! Prints how many calls were made, what the number is, and what the lock was left with. `close` promises that
+//! the history is legal, from its last fold on, and has each call.
 
 ghost use Rattle.std.specs.Prelude.{◌≡◌, ◌≤◌, true, All, IfOk};
 ghost use Rattle.history.specs.Object.{is_lock};
@@ -17,8 +17,7 @@ mod adding;
 use crate::endless_lock::adding::{Sum, work};
 use history::fault::Fault;
 use history::header::{Header, Object, Policy};
-use monitor::Pass;
-use monitor_audit::{Findings, close_and_judge};
+use monitor::{Closed, Pass};
 use monitor_fronts::{ReentrantLock, open_lock};
 use permit::ThreadParking;
 use std::alloc::Global;
@@ -80,13 +79,13 @@ fn work_in_threads<R: Threads + Wait + Clock + Sync>(
     Ok(passes)
 }
 
-/// Runs the example, closes the lock and judges its history.
+/// Runs the example, and closes the lock.
 fn play<R: Threads + Wait + Clock + Sync>(
     rt: &R,
     alloc: Global,
     sum: &Sum,
     turns: u64,
-) -> Result<Findings, Fault> {
+) -> Result<Closed, Fault> {
     let parking = ThreadParking::open(rt, alloc, HEADER.seats)?;
     let (monitor, passes) = open_lock(
         alloc,
@@ -97,7 +96,10 @@ fn play<R: Threads + Wait + Clock + Sync>(
     )?;
     let lock = ReentrantLock::of(&monitor);
     let passes = work_in_threads(rt, &parking, &lock, sum, passes, turns)?;
-    close_and_judge(rt, alloc, &HEADER, monitor, passes)
+    match monitor.close(rt, passes) {
+        Ok(closed) => Ok(closed),
+        Err(_) => Err(Fault::OutOfPhase),
+    }
 }
 
 /// Runs all threads, and prints the results. The first word is the name of the example.
@@ -107,8 +109,8 @@ pub fn run<R: Print + AllocGlobal + Threads + Wait + Clock + Sync>(
 ) -> io::Result<()> {
     let turns = asked(words) / CALLS_IN_A_TURN / u64::from(THREADS);
     let sum = Sum::new();
-    let findings = match play(rt, rt.alloc(), &sum, turns) {
-        Ok(findings) => findings,
+    let closed = match play(rt, rt.alloc(), &sum, turns) {
+        Ok(closed) => closed,
         Err(fault) => return println!(rt; "endless_lock: {fault}"),
     };
     println!(rt;
@@ -117,9 +119,12 @@ pub fn run<R: Print + AllocGlobal + Threads + Wait + Clock + Sync>(
     )?;
     println!(rt;
         "calls {}, number {}, room for {} entries",
-        findings.calls,
+        closed.share,
         sum.number(),
         HEADER.cap
     )?;
-    findings.print(rt)
+    println!(rt;
+        "holds {}, in the queue {}",
+        closed.balance.exclusive, closed.balance.line
+    )
 }

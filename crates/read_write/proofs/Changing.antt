@@ -7,7 +7,8 @@ use Rattle.std.proofs.lemmas.List.{get_or-set_other}
 use Rattle.history.specs.declared.entry.Mode.{Mode}
 use Rattle.history.specs.declared.entry.Mode.TheVariants.{X, S}
 use Rattle.history.specs.Changes.{holds_with, took, gave_back, restored}
-use Rattle.history.specs.Could.{is_seat, max_shared}
+use Rattle.history.specs.Could.{is_seat}
+use Rattle.history.specs.declared.limits.TheConstants.{MOST_READ_WRITE_HOLDS}
 use Rattle.history.specs.Counts.{Counts}
 use Rattle.history.specs.Object.{in_holds}
 use Rattle.frame.specs.Hooks.{IsRestorable}
@@ -15,8 +16,8 @@ use Rattle.frame.specs.Owners.{is_owned, is_owner_in, Owns}
 use Rattle.history.proofs.Entering.{seat_is}
 use Rattle.frame.proofs.Owners.{owns_took, owns_gave, owns_restored, shared_kept, exclusive_kept, changed_own, changed_other, some_owned, owned_most, seated_some, no_owner}
 use Rattle.frame.proofs.Tables.{table_total, table_set, in_total, past_table}
-use Rattle.read_write.specs.State.{State, IsSound, MatchesFor}
-use Rattle.read_write.proofs.Reading.{MayWrite, could_is, may_write}
+use Rattle.read_write.specs.State.{State, MatchesFor}
+use Rattle.read_write.proofs.Reading.{IsSound, MayWrite, could_is, may_write}
 
 -- the states
 abbrev pub owned_by : State → Option ℕ → ℕ → State
@@ -39,7 +40,7 @@ pub sound_wrote : (s : State) (i : ℕ) → IsSound s → MayWrite s i → i < l
 sound_wrote s i t may seat =
     let below = may.below in
     record {
-      owned = some_owned max_shared i (s.writes + 1) (omega arith) (omega arith);
+      owned = some_owned MOST_READ_WRITE_HOLDS i (s.writes + 1) (omega arith) (omega arith);
       seated = seated_some i (length s.reads) seat;
       summed = t.summed;
     }
@@ -50,7 +51,7 @@ stands_wrote s k t h i n may seat =
     record {
       object = h.object;
       seats = h.seats;
-      owns = owns_took max_shared s.owner s.writes k i n t.owned h.owns (rw h.object refl) seat may.admitted;
+      owns = owns_took MOST_READ_WRITE_HOLDS s.owner s.writes k i n t.owned h.owns (rw h.object refl) seat may.admitted;
       shared = λ j. shared_kept i (λ had. had + in_holds k.object n) k.held j ∙ h.shared j;
     }
 
@@ -97,7 +98,7 @@ same_place s i at had q e p f readers =
     ∙ ap (λ x. with_reads s at (f x) readers) now
 
 pub room_for_read : (s : State) (i at had : ℕ) → IsSound s → at ≡ i → had ≡ get_or s.reads at had →
-    i < length s.reads → s.readers < max_shared → had + 1 ≤ max_shared
+    i < length s.reads → s.readers < MOST_READ_WRITE_HOLDS → had + 1 ≤ MOST_READ_WRITE_HOLDS
 room_for_read s i at had t q e p below =
     let within : at < length s.reads = omega (arith, q, p) in
     let read : had ≡ slice_index s.reads at = e ∙ get_or_default_zero s.reads at had within in
@@ -170,10 +171,10 @@ owner_known s k h i u =
 pub sound_write_less : (s : State) (i : ℕ) → IsSound s → is_seat s.owner i ≡ true → 0 < s.writes - 1 →
     IsSound (owned_by s s.owner (s.writes - 1))
 sound_write_less s i t u some =
-    let most : s.writes ≤ max_shared = owned_most max_shared s.owner s.writes t.owned in
-    let P : Option ℕ → Type 0 = λ o. is_owned max_shared o (s.writes - 1) ≡ true in
-    let owned : is_owned max_shared (Some i) (s.writes - 1) ≡ true =
-    some_owned max_shared i (s.writes - 1) some (omega arith) in
+    let most : s.writes ≤ MOST_READ_WRITE_HOLDS = owned_most MOST_READ_WRITE_HOLDS s.owner s.writes t.owned in
+    let P : Option ℕ → Type 0 = λ o. is_owned MOST_READ_WRITE_HOLDS o (s.writes - 1) ≡ true in
+    let owned : is_owned MOST_READ_WRITE_HOLDS (Some i) (s.writes - 1) ≡ true =
+    some_owned MOST_READ_WRITE_HOLDS i (s.writes - 1) some (omega arith) in
     record { owned = subst P (sym (seat_is s.owner i u)) owned; seated = t.seated; summed = t.summed }
 
 pub stands_write_less : (s : State) (k : Counts) → MatchesFor s k → (i n : ℕ) → is_seat s.owner i ≡ true →
@@ -191,7 +192,7 @@ stands_write_less s k h i n u =
 
 -- all write holds again
 pub most_restored : (s : State) (k : Counts) → MatchesFor s k → (i holds : ℕ) → IsRestorable k i holds →
-    holds ≤ max_shared
+    holds ≤ MOST_READ_WRITE_HOLDS
 most_restored s k h i holds r = rw h.object at r.most
 
 pub sound_restored : (s : State) (k : Counts) → IsSound s → MatchesFor s k → (i holds : ℕ) →
@@ -199,7 +200,7 @@ pub sound_restored : (s : State) (k : Counts) → IsSound s → MatchesFor s k �
 sound_restored s k t h i holds r =
     let P : ℕ → Type 0 = λ n. i < n in
     record {
-      owned = some_owned max_shared i holds r.some (most_restored s k h i holds r);
+      owned = some_owned MOST_READ_WRITE_HOLDS i holds r.some (most_restored s k h i holds r);
       seated = seated_some i (length s.reads) (subst P h.seats r.seat);
       summed = t.summed;
     }
@@ -209,8 +210,8 @@ pub stands_restored : (s : State) (k : Counts) → IsSound s → MatchesFor s k 
 stands_restored s k t h i holds r =
     let may : MayWrite s i = may_write s i t (sym (could_is s k t h i X 1) ∙ r.could) in
     let none : s.owner ≡ None =
-    no_owner max_shared s.owner s.writes i t.owned may.admitted (sym (h.owns.held i) ∙ r.none_held) in
-    let Q : Option ℕ → Type 0 = λ o. is_owned max_shared o s.writes ≡ true in
+    no_owner MOST_READ_WRITE_HOLDS s.owner s.writes i t.owned may.admitted (sym (h.owns.held i) ∙ r.none_held) in
+    let Q : Option ℕ → Type 0 = λ o. is_owned MOST_READ_WRITE_HOLDS o s.writes ≡ true in
     let zero : s.writes ≡ 0 = eqb-true s.writes 0 (subst Q none t.owned) in
     let P : Option ℕ → Type 0 = λ o. Owns o s.writes k in
     let R : ℕ → Type 0 = λ w. Owns None w k in

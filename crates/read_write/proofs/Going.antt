@@ -4,7 +4,8 @@ use Rattle.std.proofs.lemmas.Bool.{cases_eq, eqb-true, eq-eqb, ne_eqb, le-ltb, l
 use Rattle.history.specs.declared.entry.Mode.{Mode}
 use Rattle.history.specs.declared.entry.Mode.TheVariants.{X, S}
 use Rattle.history.specs.Changes.{took, gave_back, given, restored}
-use Rattle.history.specs.Could.{could, is_seat, is_none_or, max_shared}
+use Rattle.history.specs.Could.{could, is_seat, is_none_or}
+use Rattle.history.specs.declared.limits.TheConstants.{MOST_READ_WRITE_HOLDS}
 use Rattle.history.specs.Counts.{Counts}
 use Rattle.frame.specs.declared.hooks.Taken.{Taken}
 use Rattle.frame.specs.declared.hooks.Taken.TheVariants as take_answers
@@ -14,8 +15,9 @@ use Rattle.frame.specs.Owners.{holds_of}
 use Rattle.std.proofs.Math.Bool.{and-false}
 use Rattle.history.proofs.Entering.{seat_is}
 use Rattle.frame.proofs.Owners.{others_not}
-use Rattle.read_write.specs.State.{State, IsSound, MatchesFor, could_by}
-use Rattle.read_write.proofs.Reading.{MayWrite, MayRead, could_is, owner_of, readers_of}
+use Rattle.read_write.specs.State.{State, MatchesFor}
+use Rattle.read_write.specs.inner.{could_by}
+use Rattle.read_write.proofs.Reading.{IsSound, MayWrite, MayRead, could_is, owner_of, readers_of}
 use Rattle.read_write.proofs.Changing.{owned_by, with_reads, sound_wrote, stands_wrote, sound_read, stands_read, sound_read_less, stands_read_less, sound_write_less, stands_write_less, sound_restored, stands_restored, reader_seated, readers_some}
 
 -- beside an owner nobody else could
@@ -49,7 +51,7 @@ writer_as_before o w r i j m c t f =
     same S e g =
         let P : ℕ → Type 0 = λ z. could_by o w r z S ≡ false in
         let no : could_by o w r i S ≡ false = subst P e g in
-        let full : ltb r max_shared ≡ false = rw t at no in
+        let full : ltb r MOST_READ_WRITE_HOLDS ≡ false = rw t at no in
         rw full (and-false (eqb i j))
 
 -- beside a reader nobody else could write
@@ -58,15 +60,15 @@ reader_alone o w r i j t ne =
     let some : eqb (r + 1) 0 ≡ false = ne_eqb (r + 1) 0 (λ e. omega (arith, e)) in
     rw (none_other o i j t ne) (rw some (and-false (is_none_or o j)))
 
-full_alone : (o : Option ℕ) (w r j : ℕ) → r ≡ max_shared → could_by o w r j S ≡ false
+full_alone : (o : Option ℕ) (w r j : ℕ) → r ≡ MOST_READ_WRITE_HOLDS → could_by o w r j S ≡ false
 full_alone o w r j e =
-    let full : ltb r max_shared ≡ false = le-ltb r max_shared (omega (arith, e)) in
+    let full : ltb r MOST_READ_WRITE_HOLDS ≡ false = le-ltb r MOST_READ_WRITE_HOLDS (omega (arith, e)) in
     rw full (and-false (is_none_or o j))
 
 -- a read hold more makes nobody able
 reader_as_before : (o : Option ℕ) (w r j : ℕ) (m : Mode) → could_by o w r j m ≡ false →
     could_by o w (r + 1) j m ≡ false
-reader_as_before o w r j X f = by (is_seat o j) (ltb (holds_of o w j) max_shared) f
+reader_as_before o w r j X f = by (is_seat o j) (ltb (holds_of o w j) MOST_READ_WRITE_HOLDS) f
   where
     by : (b a : Bool) → cond b a (is_none_or o j && eqb r 0) ≡ false →
         cond b a (is_none_or o j && eqb (r + 1) 0) ≡ false
@@ -76,16 +78,16 @@ reader_as_before o w r j X f = by (is_seat o j) (ltb (holds_of o w j) max_shared
         rw some (and-false (is_none_or o j))
 reader_as_before o w r j S f = by (is_none_or o j) f
   where
-    by : (b : Bool) → (b && ltb r max_shared) ≡ false → (b && ltb (r + 1) max_shared) ≡ false
+    by : (b : Bool) → (b && ltb r MOST_READ_WRITE_HOLDS) ≡ false → (b && ltb (r + 1) MOST_READ_WRITE_HOLDS) ≡ false
     by true g =
-        let full : max_shared ≤ r = ltb-false r max_shared g in
-        le-ltb (r + 1) max_shared (omega (arith, full))
+        let full : MOST_READ_WRITE_HOLDS ≤ r = ltb-false r MOST_READ_WRITE_HOLDS g in
+        le-ltb (r + 1) MOST_READ_WRITE_HOLDS (omega (arith, full))
     by false g = refl
 
 -- a read hold less makes somebody able at the last one and at the limit alone
-reader_less : (o : Option ℕ) (w r j : ℕ) (m : Mode) → (r ≡ 1 → ⊥) → (r ≡ max_shared → ⊥) → 0 < r →
-    r ≤ max_shared → could_by o w r j m ≡ false → could_by o w (r - 1) j m ≡ false
-reader_less o w r j X last full some most f = by (is_seat o j) (ltb (holds_of o w j) max_shared) f
+reader_less : (o : Option ℕ) (w r j : ℕ) (m : Mode) → (r ≡ 1 → ⊥) → (r ≡ MOST_READ_WRITE_HOLDS → ⊥) → 0 < r →
+    r ≤ MOST_READ_WRITE_HOLDS → could_by o w r j m ≡ false → could_by o w (r - 1) j m ≡ false
+reader_less o w r j X last full some most f = by (is_seat o j) (ltb (holds_of o w j) MOST_READ_WRITE_HOLDS) f
   where
     by : (b a : Bool) → cond b a (is_none_or o j && eqb r 0) ≡ false →
         cond b a (is_none_or o j && eqb (r - 1) 0) ≡ false
@@ -95,9 +97,9 @@ reader_less o w r j X last full some most f = by (is_seat o j) (ltb (holds_of o 
         rw left (and-false (is_none_or o j))
 reader_less o w r j S last full some most f = by (is_none_or o j) f
   where
-    by : (b : Bool) → (b && ltb r max_shared) ≡ false → (b && ltb (r - 1) max_shared) ≡ false
+    by : (b : Bool) → (b && ltb r MOST_READ_WRITE_HOLDS) ≡ false → (b && ltb (r - 1) MOST_READ_WRITE_HOLDS) ≡ false
     by true g =
-        let all : max_shared ≤ r = ltb-false r max_shared g in
+        let all : MOST_READ_WRITE_HOLDS ≤ r = ltb-false r MOST_READ_WRITE_HOLDS g in
         absurd (full (omega (arith, all, most)))
     by false g = refl
 
@@ -147,19 +149,19 @@ read_shared s k t h i n may seat j b ne =
     could_read s k t h i n seat j X b ∙ reader_alone s.owner s.writes s.readers i j may.admitted ne
 
 pub read_last : (s : State) (k : Counts) → IsSound s → MatchesFor s k → (i n : ℕ) →
-    (eqb (s.readers + 1) max_shared || is_seat s.owner i) ≡ true → i < k.seats → (j b : ℕ) → j ≢ i →
+    (eqb (s.readers + 1) MOST_READ_WRITE_HOLDS || is_seat s.owner i) ≡ true → i < k.seats → (j b : ℕ) → j ≢ i →
     could (took k i S n) j S b ≡ false
 read_last s k t h i n last seat j b ne =
     could_read s k t h i n seat j S b ∙ ⊎_elim full owned (either _ _ last)
   where
-    full : eqb (s.readers + 1) max_shared ≡ true → could_by s.owner s.writes (s.readers + 1) j S ≡ false
+    full : eqb (s.readers + 1) MOST_READ_WRITE_HOLDS ≡ true → could_by s.owner s.writes (s.readers + 1) j S ≡ false
     full e = full_alone s.owner s.writes (s.readers + 1) j (eqb-true _ _ e)
 
     owned : is_seat s.owner i ≡ true → could_by s.owner s.writes (s.readers + 1) j S ≡ false
     owned u = owned_alone s.owner i s.writes (s.readers + 1) j S u ne
 
 pub read_answer : (s : State) (k : Counts) → IsSound s → MatchesFor s k → (i n : ℕ) → i < k.seats →
-    take_answer (took k i S n) i S ≡ cond (eqb (s.readers + 1) max_shared || is_seat s.owner i)
+    take_answer (took k i S n) i S ≡ cond (eqb (s.readers + 1) MOST_READ_WRITE_HOLDS || is_seat s.owner i)
     take_answers.Last take_answers.More
 read_answer s k t h i n seat =
     let P : ℕ → Type 0 = λ seats. i < seats in
@@ -170,12 +172,12 @@ read_answer s k t h i n seat =
     let own = owner_of now (took k i S n) sound stands in
     let all = readers_of now (took k i S n) sound stands in
     let last : Taken =
-    cond (eqb (s.readers + 1) max_shared || is_seat s.owner i) take_answers.Last take_answers.More in
+    cond (eqb (s.readers + 1) MOST_READ_WRITE_HOLDS || is_seat s.owner i) take_answers.Last take_answers.More in
     let Q : Object → Type 0 = λ o. take_answer_of o (took k i S n) i S ≡ last in
     subst Q (sym h.object) (rw own (rw all refl))
 
 pub read_less_answer : (s : State) (k : Counts) → IsSound s → MatchesFor s k → (i n : ℕ) →
-    give_answer k i S n ≡ open_where (eqb s.readers 1 || eqb s.readers max_shared)
+    give_answer k i S n ≡ open_where (eqb s.readers 1 || eqb s.readers MOST_READ_WRITE_HOLDS)
 read_less_answer s k t h i n =
     let all = readers_of s k t h in
     rw h.object (rw all refl)
@@ -191,8 +193,8 @@ write_less_kept s k t h i n u some j m b ne =
     ∙ owned_alone s.owner i (s.writes - 1) s.readers j m u ne)
 
 pub read_less_kept : (s : State) (k : Counts) → IsSound s → MatchesFor s k → (i n : ℕ) →
-    0 < slice_index s.reads i → (s.readers ≡ 1 → ⊥) → (s.readers ≡ max_shared → ⊥) →
-    s.readers ≤ max_shared → (j : ℕ) (m : Mode) (b : ℕ) → could k j m b ≡ false →
+    0 < slice_index s.reads i → (s.readers ≡ 1 → ⊥) → (s.readers ≡ MOST_READ_WRITE_HOLDS → ⊥) →
+    s.readers ≤ MOST_READ_WRITE_HOLDS → (j : ℕ) (m : Mode) (b : ℕ) → could k j m b ≡ false →
     could (given k i S n) j m b ≡ false
 read_less_kept s k t h i n some last full most j m b f =
     let g : given k i S n ≡ gave_back k i S n = rw h.object refl in
@@ -220,12 +222,12 @@ or_true true b t f = cc
 or_true false b t f = cc
 
 -- neither the last reader nor at the limit
-pub not_either : (r : ℕ) → (eqb r 1 || eqb r max_shared) ≡ false → (r ≡ 1 → ⊥) × (r ≡ max_shared → ⊥)
+pub not_either : (r : ℕ) → (eqb r 1 || eqb r MOST_READ_WRITE_HOLDS) ≡ false → (r ≡ 1 → ⊥) × (r ≡ MOST_READ_WRITE_HOLDS → ⊥)
 not_either r f = (λ e. no_first e, λ e. no_second e)
   where
     no_first : r ≡ 1 → ⊥
-    no_first e = let t : eqb r 1 ≡ true = eq-eqb r 1 e in true_or (eqb r 1) (eqb r max_shared) t f
+    no_first e = let t : eqb r 1 ≡ true = eq-eqb r 1 e in true_or (eqb r 1) (eqb r MOST_READ_WRITE_HOLDS) t f
 
-    no_second : r ≡ max_shared → ⊥
+    no_second : r ≡ MOST_READ_WRITE_HOLDS → ⊥
     no_second e =
-        let t : eqb r max_shared ≡ true = eq-eqb r max_shared e in or_true (eqb r 1) (eqb r max_shared) t f
+        let t : eqb r MOST_READ_WRITE_HOLDS ≡ true = eq-eqb r MOST_READ_WRITE_HOLDS e in or_true (eqb r 1) (eqb r MOST_READ_WRITE_HOLDS) t f

@@ -1,25 +1,34 @@
 -- What a read-write lock's hooks say of the counts that they stand for.
-use Rattle.std.proofs.Common.{◌≡◌, ℕ, ◌<◌, Bool, true, false, not, ◌&&◌, ◌||◌, cond, ltb, eqb, slice_index, Option, Some, None, Ok, Err, refl, ap, ◌∙◌, sym, subst, arith}
+use Rattle.std.proofs.Common.{◌≡◌, ℕ, ◌<◌, Bool, true, false, not, ◌&&◌, cond, ltb, eqb, length, slice_index, Option, Some, None, Ok, Err, refl, ap, ◌∙◌, sym, subst, arith}
+use Rattle.std.proofs.Math.Bool.{or-false}
 use Rattle.std.proofs.lemmas.Bool.{ltb-true, eqb-true, and_parts}
 use Rattle.history.specs.declared.entry.Mode.{Mode}
 use Rattle.history.specs.declared.entry.Mode.TheVariants.{X, S}
 use Rattle.history.specs.declared.fault.Fault.TheVariants as fault
 use Rattle.history.specs.declared.header.Object.TheVariants.{ReadWrite}
-use Rattle.history.specs.Could.{could, limit, held_back, line_blocks, is_seat, is_none_or, max_shared}
+use Rattle.history.specs.Could.{could, limit, held_back, line_blocks, is_seat, is_none_or}
+use Rattle.history.specs.declared.limits.TheConstants.{MOST_READ_WRITE_HOLDS}
 use Rattle.history.specs.Counts.{Counts, owner, readers, total}
 use Rattle.history.proofs.Sums.{total_same}
 use Rattle.frame.specs.Hooks.{let_go_answer}
-use Rattle.frame.specs.Owners.{holds_of, is_owned}
+use Rattle.frame.specs.Owners.{holds_of, is_owned, is_owner_in}
 use Rattle.frame.proofs.Owners.{owner_is}
-use Rattle.read_write.specs.State.{State, IsSound, MatchesFor, state_of, could_by, limit_by, holds_by, reentrant_by}
+use Rattle.read_write.specs.State.{State, MatchesFor, state_of, holds_by}
+use Rattle.read_write.specs.inner.{could_by, reentrant_by}
 use Rattle.read_write.specs.declared.hooks.RwHooks.{RwHooks}
+
+-- An owner has a write hold and is one of the seats. The number of readers is the sum of the table.
+pub record IsSound (s : State) : Type 0 where
+  pub owned : is_owned MOST_READ_WRITE_HOLDS s.owner s.writes ≡ true
+  pub seated : is_owner_in (length s.reads) s.owner ≡ true
+  pub summed : s.readers ≡ total (length s.reads) (slice_index s.reads)
 
 -- the ghost fields
 pub sound_of : (s : RwHooks) → IsSound (state_of s)
 sound_of s = record { owned = s.owned; seated = s.seated; summed = s.summed }
 
 pub owner_of : (s : State) (k : Counts) → IsSound s → MatchesFor s k → owner k ≡ s.owner
-owner_of s k t h = owner_is max_shared s.owner s.writes k t.owned h.owns
+owner_of s k t h = owner_is MOST_READ_WRITE_HOLDS s.owner s.writes k t.owned h.owns
 
 pub readers_of : (s : State) (k : Counts) → IsSound s → MatchesFor s k → readers k ≡ s.readers
 readers_of s k t h =
@@ -38,6 +47,11 @@ could_is s k t h i S n =
     let all = readers_of s k t h in
     rw h.object (rw own (rw all refl))
 
+-- when a seat is at its limit
+abbrev limit_by : State → ℕ → Mode → Bool
+limit_by s i X = eqb (holds_of s.owner s.writes i) MOST_READ_WRITE_HOLDS
+limit_by s i S = is_none_or s.owner i && eqb s.readers MOST_READ_WRITE_HOLDS
+
 pub limit_is : (s : State) (k : Counts) → IsSound s → MatchesFor s k → (i : ℕ) (m : Mode) →
     limit k i m ≡ limit_by s i m
 limit_is s k t h i X = let had = h.owns.held i in rw h.object (rw had refl)
@@ -46,17 +60,13 @@ limit_is s k t h i S =
     let all = readers_of s k t h in
     rw h.object (rw own (rw all refl))
 
-or_false : (b : Bool) → (b || false) ≡ b
-or_false true = refl
-or_false false = refl
-
 pub held_back_is : (s : State) (k : Counts) → IsSound s → MatchesFor s k →
     (first : Option Mode) (i : ℕ) (m : Mode) →
     held_back k first i m ≡ (not (reentrant_by s i m) && line_blocks (ReadWrite s.policy) m first)
 held_back_is s k t h first i X =
     let own = owner_of s k t h in
     rw h.object
-    (rw own (ap (λ b. not b && line_blocks (ReadWrite s.policy) X first) (or_false (is_seat s.owner i))))
+    (rw own (ap (λ b. not b && line_blocks (ReadWrite s.policy) X first) (or-false (is_seat s.owner i))))
 held_back_is s k t h first i S =
     let own = owner_of s k t h in
     let had = h.shared i in
@@ -74,16 +84,16 @@ let_go_is s k t h i =
 -- Who could write is nobody else's subject and below the limit.
 pub record MayWrite (s : State) (i : ℕ) : Type 0 where
   pub admitted : is_none_or s.owner i ≡ true
-  pub below : s.writes < max_shared
+  pub below : s.writes < MOST_READ_WRITE_HOLDS
 
-by_some : (b : Bool) (w r : ℕ) → cond b (ltb (cond b w 0) max_shared) (b && eqb r 0) ≡ true → (b ≡ true)
-    × (w < max_shared)
+by_some : (b : Bool) (w r : ℕ) → cond b (ltb (cond b w 0) MOST_READ_WRITE_HOLDS) (b && eqb r 0) ≡ true → (b ≡ true)
+    × (w < MOST_READ_WRITE_HOLDS)
 by_some true w r c = (refl, ltb-true _ _ c)
 by_some false w r c = cc
 
-by_owner : (o : Option ℕ) (w r i : ℕ) → is_owned max_shared o w ≡ true →
-    cond (is_seat o i) (ltb (holds_of o w i) max_shared) (is_none_or o i && eqb r 0) ≡ true →
-    (is_none_or o i ≡ true) × (w < max_shared)
+by_owner : (o : Option ℕ) (w r i : ℕ) → is_owned MOST_READ_WRITE_HOLDS o w ≡ true →
+    cond (is_seat o i) (ltb (holds_of o w i) MOST_READ_WRITE_HOLDS) (is_none_or o i && eqb r 0) ≡ true →
+    (is_none_or o i ≡ true) × (w < MOST_READ_WRITE_HOLDS)
 by_owner None w r i t c =
     let none : w ≡ 0 = eqb-true w 0 t in
     (refl, omega (arith, none))
@@ -98,11 +108,11 @@ may_write s i t c =
 -- Who could read is beside no other writer, and there is a read hold left.
 pub record MayRead (s : State) (i : ℕ) : Type 0 where
   pub admitted : is_none_or s.owner i ≡ true
-  pub below : s.readers < max_shared
+  pub below : s.readers < MOST_READ_WRITE_HOLDS
 
 pub may_read : (s : State) (i : ℕ) → could_by s.owner s.writes s.readers i S ≡ true → MayRead s i
 may_read s i c =
-    let both = and_parts (is_none_or s.owner i) (ltb s.readers max_shared) c in
+    let both = and_parts (is_none_or s.owner i) (ltb s.readers MOST_READ_WRITE_HOLDS) c in
     record { admitted = both.0; below = ltb-true _ _ both.1 }
 
 pub takes_write : (s : State) (k : Counts) → IsSound s → MatchesFor s k → (i : ℕ) (m : Mode) (n : ℕ) →

@@ -2,7 +2,8 @@
 
 ghost use Rattle.std.specs.Prelude.{◌≡◌, ◌==◌, ◌||◌, ℕ, length, slice_index, true, IfOk, OnErr, Err};
 ghost use Rattle.frame.specs.Owners.{holds_of, is_owned, is_owner_in};
-ghost use Rattle.history.specs.Could.{is_none_or, is_seat, max_shared};
+ghost use Rattle.history.specs.Could.{is_none_or, is_seat};
+ghost use Rattle.history.specs.declared.limits.TheConstants.{MOST_READ_WRITE_HOLDS};
 ghost use Rattle.history.specs.Counts.{total};
 ghost use Rattle.history.specs.declared.entry.Mode.TheVariants.{X, S};
 ghost use Rattle.history.specs.declared.header.Object.TheVariants.{ReadWrite};
@@ -11,10 +12,11 @@ use frame::hooks::{Gave, Hooks, Line, Taken};
 use history::entry::Mode;
 use history::fault::Fault;
 use history::header::{Object, Policy};
+use history::limits::MOST_READ_WRITE_HOLDS;
 use std::alloc::Global;
 
 /// The greatest number of write holds, and of read holds of all seats together.
-const MAX_READ_WRITE_HOLDS: u16 = 65_535;
+const MAX_READ_WRITE_HOLDS: u16 = MOST_READ_WRITE_HOLDS as u16;
 
 /// The hooks of a read-write lock. As in ReentrantReadWriteLock, the state is the owner's write holds, each
 /// seat's read holds, and the sum of all read holds. An owner may read too, and so downgrade from writing to
@@ -28,7 +30,7 @@ pub struct RwHooks {
     reads: Vec<u16>,
     /// Their sum, so that the seats needn't be searched.
     readers: u16,
-    ghost owned: { is_owned max_shared owner writes ≡ true },
+    ghost owned: { is_owned MOST_READ_WRITE_HOLDS owner writes ≡ true },
     ghost seated: { is_owner_in (length reads.items) owner ≡ true },
     ghost summed: { readers ≡ total (length reads.items) (slice_index reads.items) },
 }
@@ -88,7 +90,8 @@ impl RwHooks {
 
 impl RwHooks {
     ghost use Rattle.frame.specs.Hooks.{line_mode};
-    ghost use Rattle.read_write.specs.State.{state_of, could_by, reentrant_by};
+    ghost use Rattle.read_write.specs.State.{state_of};
+    ghost use Rattle.read_write.specs.inner.{could_by, reentrant_by};
     ghost use Rattle.history.specs.Could.{line_blocks};
 
     fn could_write(&self, who: u16) -> bool
@@ -109,14 +112,14 @@ impl RwHooks {
 
     /// Returns whether no other seat could read now: no read hold is left, or the reader writes too.
     fn is_last_read(&self, who: u16) -> bool
-        ensures { result ≡ ((self.now.readers == max_shared) || is_seat self.now.owner who) }
+        ensures { result ≡ ((self.now.readers == MOST_READ_WRITE_HOLDS) || is_seat self.now.owner who) }
     {
         self.readers == MAX_READ_WRITE_HOLDS || self.owns(who)
     }
 
     /// Returns whether the release of a read hold lets another seat write, or read again.
     fn opens_by_read(&self) -> bool
-        ensures { result ≡ ((self.now.readers == 1) || (self.now.readers == max_shared)) }
+        ensures { result ≡ ((self.now.readers == 1) || (self.now.readers == MOST_READ_WRITE_HOLDS)) }
     {
         self.readers == 1 || self.readers == MAX_READ_WRITE_HOLDS
     }

@@ -2,16 +2,15 @@
 
 ghost use Rattle.std.specs.Prelude.{◌≡◌, ℕ, true};
 ghost use Rattle.frame.specs.Owners.{holds_of, is_owned};
-ghost use Rattle.history.specs.Could.{is_none_or, is_seat, max_holds};
+ghost use Rattle.history.specs.Could.{is_none_or, is_seat};
+ghost use Rattle.history.specs.declared.limits.TheConstants.{MOST_HOLDS};
 ghost use Rattle.history.specs.declared.header.Object.TheVariants.{Lock};
 
 use frame::hooks::{Gave, Hooks, Line, Taken};
 use history::entry::Mode;
 use history::fault::Fault;
 use history::header::{Object, Policy};
-
-/// The greatest number of holds of one seat.
-const MAX_HOLDS: u32 = 2_147_483_647;
+use history::limits::MOST_HOLDS;
 
 /// The hooks of a lock. As in ReentrantLock, the state is the owner and its number of holds.
 #[derive(Drop)]
@@ -20,7 +19,7 @@ pub struct LockHooks {
     owner: Option<u16>,
     holds: u32,
     // An owner has at least one hold, and without an owner there is none.
-    ghost owned: { is_owned max_holds owner holds ≡ true },
+    ghost owned: { is_owned MOST_HOLDS owner holds ≡ true },
 }
 
 impl LockHooks {
@@ -83,14 +82,14 @@ impl Hooks for LockHooks {
 
     fn could(&self, who: u16, mode: Mode, _n: u32) -> bool {
         match mode {
-            Mode::X => self.admits(who) && self.holds_of(who) < MAX_HOLDS,
+            Mode::X => self.admits(who) && self.holds_of(who) < MOST_HOLDS,
             Mode::S => false,
         }
     }
 
     fn at_limit(&self, who: u16, mode: Mode) -> bool {
         match mode {
-            Mode::X => self.holds_of(who) == MAX_HOLDS,
+            Mode::X => self.holds_of(who) == MOST_HOLDS,
             Mode::S => false,
         }
     }

@@ -1,7 +1,8 @@
 use Rattle.std.proofs.Common.{◌≡◌, ℕ, drop, length, get_or}
 use Rattle.deciding.specs.Sleep.{sleep_of}
 use Rattle.history.specs.Base.{sleep_on}
-use Rattle.audit.specs.Waiting.{never_slept, or_kept}
+use Rattle.audit.specs.Waiting.{never_slept}
+use Rattle.audit.specs.inner.Waiting.{or_kept}
 use Rattle.audit.proofs.waiting_base.save_on.Given as goal
 
 -- the sleeps of those behind are kept

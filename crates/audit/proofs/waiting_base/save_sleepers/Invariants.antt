@@ -1,7 +1,8 @@
 use Rattle.std.proofs.Common.{◌≡◌, ℕ, length, get_or}
 use Rattle.deciding.specs.Sleep.{sleep_of}
 use Rattle.history.specs.Base.{sleep_below}
-use Rattle.audit.specs.Waiting.{never_slept, or_kept}
+use Rattle.audit.specs.Waiting.{never_slept}
+use Rattle.audit.specs.inner.Waiting.{or_kept}
 use Rattle.audit.proofs.waiting_base.save_sleepers.Given as goal
 
 -- the sleeps on the conditions passed are kept

@@ -1,6 +1,6 @@
 use Rattle.std.proofs.Common.{◌≡◌}
 use Rattle.history.specs.Base.{each_below}
-use Rattle.drawing.specs.Standings.{sleeping_seats}
+use Rattle.drawing.specs.inner.Tables.{sleeping_seats}
 use Rattle.drawing.proofs.standings.all_asleep.Given as goal
 
 -- those on the conditions passed

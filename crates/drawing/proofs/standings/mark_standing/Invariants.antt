@@ -1,6 +1,6 @@
 use Rattle.std.proofs.Common.{◌≡◌, ℕ, ◌||◌, false, drop, length, map, get_or}
 use Rattle.history.specs.Line.{place_of}
-use Rattle.drawing.specs.Levels.{is_there}
+use Rattle.history.specs.Marks.{is_placed}
 use Rattle.drawing.proofs.standings.mark_standing.Given as goal
 
 -- those behind stand in line
@@ -10,5 +10,5 @@ invariant-loop-place l =
       seats : length l.in_line.items ≡ length l.initial.in_line.items;
       marked : (i : ℕ) → get_or l.in_line.items i false
           ≡ (get_or l.initial.in_line.items i false
-          || is_there (place_of i (map (λ p. p.who) (drop l.place l.line))));
+          || is_placed (place_of i (map (λ p. p.who) (drop l.place l.line))));
     }

@@ -1,6 +1,6 @@
 use Rattle.std.proofs.Common.{◌≡◌, ◌++◌, take}
 use Rattle.std.specs.List.{flat_map}
-use Rattle.drawing.specs.Stretches.{bar_of}
+use Rattle.drawing.specs.inner.Stretches.{bar_of}
 use Rattle.drawing.proofs.stretches.end_all.Given as goal
 
 abbrev pub invariant-loop-stretch : goal.invariant-loop-stretch

@@ -5,7 +5,7 @@ use Rattle.std.proofs.lemmas.List.{append-nil, take_all}
 use Rattle.history.specs.declared.entry.Entry.{Entry}
 use Rattle.history.specs.Start.{Start}
 use Rattle.drawing.specs.declared.bar.Stretch.{Stretch}
-use Rattle.drawing.specs.Stretches.{bar_of, ending, going_on, level_now}
+use Rattle.drawing.specs.inner.Stretches.{bar_of, ending, going_on, level_now}
 use Rattle.drawing.proofs.Walks.{gathers, leaves, reads, writes}
 use Rattle.drawing.proofs.stretches.go_on.Goals as goal
 use Rattle.drawing.proofs.stretches.go_on.Goals.{then-level-was+in_ok-put_bar, else-level-was}

@@ -3,7 +3,7 @@ use Rattle.std.specs.List.{flat_map}
 use Rattle.history.specs.declared.entry.Entry.{Entry}
 use Rattle.history.specs.Start.{Start}
 use Rattle.drawing.specs.Standings.{AreStanding}
-use Rattle.drawing.specs.Stretches.{ending, going_on}
+use Rattle.drawing.specs.inner.Stretches.{ending, going_on}
 use Rattle.drawing.proofs.stretches.go_on.Given as goal
 
 abbrev pub invariant-loop-index : goal.invariant-loop-index

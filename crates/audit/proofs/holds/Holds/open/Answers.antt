@@ -1,6 +1,7 @@
 use Rattle.std.proofs.Common.{◌≡◌, length, get_or, replicate, refl, ap, ◌∙◌, sym, rules}
 use Rattle.std.proofs.lemmas.List.{length-replicate}
-use Rattle.audit.proofs.HoldsFollow.{stands_opened, zeros}
+use Rattle.audit.proofs.HoldsFollow.{stands_opened}
+use Rattle.audit.proofs.HoldsLemmas.{blank}
 use Rattle.audit.proofs.holds.Holds.open.Goals as goal
 
 pub returns-clause-stand : goal.returns-clause-stand
@@ -11,5 +12,5 @@ returns-clause-stand c k seats =
     c.in_ok-shared.ensures.items_if_clones_equal (λ y q. search rules) in
     stands_opened k _ (ap length x ∙ length-replicate c.args.seats 0 ∙ sym seats)
     (ap length s ∙ length-replicate c.args.seats 0 ∙ sym seats)
-    (λ i. ap (λ l. get_or l i 0) x ∙ zeros c.args.seats i)
-    (λ i. ap (λ l. get_or l i 0) s ∙ zeros c.args.seats i) refl refl
+    (λ i. ap (λ l. get_or l i 0) x ∙ blank c.args.seats i 0)
+    (λ i. ap (λ l. get_or l i 0) s ∙ blank c.args.seats i 0) refl refl

@@ -3,7 +3,7 @@ use Rattle.history.specs.declared.base.LinePlace.{LinePlace}
 use Rattle.history.specs.declared.header.Header.{Header}
 use Rattle.history.specs.Base.{Base, sleep_below}
 use Rattle.deciding.specs.Sleep.{sleep_of}
-use Rattle.audit.specs.Waiting.{or_kept}
+use Rattle.audit.specs.inner.Waiting.{or_kept}
 use Rattle.audit.proofs.WaitingOnBase.{all_seated, are_sleepers, kept_behind, line_once, line_seated, line_short, stands_on}
 use Rattle.audit.proofs.waiting.Waiting.open_on.Goals as goal
 

@@ -3,7 +3,8 @@ use Rattle.std.specs.List.{flat_map}
 use Rattle.std.proofs.lemmas.List.Elements.{All-same}
 use Rattle.drawing.specs.declared.bar.Stretch.{Stretch}
 use Rattle.drawing.specs.Bars.{ended}
-use Rattle.drawing.specs.Stretches.{bar_of, stretches}
+use Rattle.drawing.specs.Stretches.{stretches}
+use Rattle.drawing.specs.inner.Stretches.{bar_of}
 use Rattle.drawing.proofs.StretchesFollow.{all_bars}
 use Rattle.drawing.proofs.TracksSeated.{stretches_before}
 use Rattle.drawing.proofs.drawing.Drawing.finish.Goals as goal

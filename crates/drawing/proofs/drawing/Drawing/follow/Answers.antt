@@ -4,7 +4,8 @@ use Rattle.std.proofs.lemmas.List.Elements.{All-same}
 use Rattle.history.specs.declared.header.Header.{Header}
 use Rattle.drawing.specs.declared.bar.Stretch.{Stretch}
 use Rattle.drawing.specs.Bars.{ended}
-use Rattle.drawing.specs.Stretches.{ending, going_on, stretches}
+use Rattle.drawing.specs.Stretches.{stretches}
+use Rattle.drawing.specs.inner.Stretches.{ending, going_on}
 use Rattle.drawing.proofs.StretchesFollow.{all_end, all_go_on, none_ends, none_goes_on}
 use Rattle.drawing.specs.Curve.{amount_of, curve, point}
 use Rattle.drawing.specs.Marks.{mark_of, marks, sign_of}

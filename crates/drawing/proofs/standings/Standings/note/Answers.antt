@@ -8,10 +8,9 @@ use Rattle.history.specs.declared.entry.Word.{Word}
 use Rattle.history.specs.declared.entry.Word.TheVariants as word
 use Rattle.history.specs.declared.header.Object.{Object}
 use Rattle.history.specs.Entry.{same_mode}
-use Rattle.history.specs.GoodBase.{most_permits}
+use Rattle.history.specs.declared.limits.TheConstants.{MOST_BASE_PERMITS}
 use Rattle.history.specs.Sleepers.{has, sleepers_after}
-use Rattle.drawing.specs.Standings.{holds_by, line_by, table_by}
-use Rattle.drawing.specs.Woken.{woken}
+use Rattle.drawing.specs.inner.Tables.{holds_by, line_by, table_by, woken}
 use Rattle.deciding.proofs.HoldsFollow.{bound_follows}
 use Rattle.drawing.proofs.TablesFollow.{holds_follow, line_follows, seated_follow, sleepers_follow}
 use Rattle.drawing.proofs.standings.Standings.note.Goals as goal
@@ -81,6 +80,6 @@ returns c =
           (slept ∙ ap (sleepers_after e.word e.seat e.n) was)
           ∙ sleepers_follow s e h old.asleep.items i within st.sleeps l at;
       seated = λ i. seated_follow s e h i seat st.seated;
-      exclusive_bound = bound_follows most_permits s e h X (omega arith) st.exclusive_bound;
-      shared_bound = bound_follows most_permits s e h S (omega arith) st.shared_bound;
+      exclusive_bound = bound_follows MOST_BASE_PERMITS s e h X (omega arith) st.exclusive_bound;
+      shared_bound = bound_follows MOST_BASE_PERMITS s e h S (omega arith) st.shared_bound;
     })

@@ -1,13 +1,8 @@
-use Rattle.std.proofs.Common.{◌≡◌, ℕ, zero, suc, false, List, [], length, get_or, replicate, refl, ap, ◌∙◌, sym, arith, rules}
+use Rattle.std.proofs.Common.{◌≡◌, ℕ, false, List, [], length, get_or, replicate, ap, ◌∙◌, sym, arith, rules}
 use Rattle.std.proofs.lemmas.List.{length-replicate, get_or-replicate}
 use Rattle.std.proofs.lemmas.List.Elements.{All-nil}
-use Rattle.drawing.proofs.StandingOnBase.{nobody}
+use Rattle.drawing.proofs.StandingOnBase.{blank}
 use Rattle.drawing.proofs.standings.Standings.open.Goals as goal
-
-zeros : (n i : ℕ) → ◌≡◌ {A = ℕ} (get_or (replicate n 0) i 0) 0
-zeros zero i = refl
-zeros (suc n) zero = refl
-zeros (suc n) (suc i) = zeros n i
 
 pub returns : goal.returns
 returns c k seats =
@@ -23,9 +18,9 @@ returns c k seats =
       shared_seats = ap length s ∙ length-replicate c.args.seats 0 ∙ sym seats;
       line_seats = ap length w ∙ length-replicate c.args.seats false ∙ sym seats;
       conditions = ap length a ∙ length-replicate {A = List ℕ} 256 [];
-      exclusive = λ i. ap (λ l. get_or l i 0) x ∙ zeros c.args.seats i;
-      shared = λ i. ap (λ l. get_or l i 0) s ∙ zeros c.args.seats i;
-      waits = λ i l. ap (λ l. get_or l i false) w ∙ nobody c.args.seats i;
+      exclusive = λ i. ap (λ l. get_or l i 0) x ∙ blank c.args.seats i 0;
+      shared = λ i. ap (λ l. get_or l i 0) s ∙ blank c.args.seats i 0;
+      waits = λ i l. ap (λ l. get_or l i false) w ∙ blank c.args.seats i false;
       sleeps = λ i l. ap (λ l. get_or l i []) a ∙ get_or-replicate {A = List ℕ} 256 i [] [] l;
       seated = λ i. All-nil _;
       exclusive_bound = λ i. omega arith;

@@ -5,8 +5,8 @@ use Rattle.history.specs.declared.entry.Mode.TheVariants.{X, S}
 use Rattle.history.specs.Base.{Base}
 use Rattle.history.specs.Line.{place_of}
 use Rattle.deciding.proofs.HeldTables.{table_length, tabled}
-use Rattle.drawing.specs.Levels.{is_there}
-use Rattle.drawing.proofs.StandingOnBase.{nobody, stands_on}
+use Rattle.history.specs.Marks.{is_placed}
+use Rattle.drawing.proofs.StandingOnBase.{blank, stands_on}
 use Rattle.drawing.proofs.standings.Standings.open_on.Goals as goal
 
 pub returns : goal.returns
@@ -27,6 +27,6 @@ returns c =
     c.in_ok-asleep.ensures
     (tabled b X _ _ (c.deref.ensures.value ∙ seats) x) (tabled b S _ _ (c.deref-2.ensures.value ∙ seats) s)
     (λ i. c.mark_standing.ensures.marked i
-    ∙ ap (λ t. t || is_there (place_of i (map (λ (p : LinePlace). p.who) c.deref-3.result.now)))
-    (ap (λ l. get_or l i false) w ∙ nobody n i)
-    ∙ ap (λ (q : List LinePlace). is_there (place_of i (map (λ p. p.who) q))) line)
+    ∙ ap (λ t. t || is_placed (place_of i (map (λ (p : LinePlace). p.who) c.deref-3.result.now)))
+    (ap (λ l. get_or l i false) w ∙ blank n i false)
+    ∙ ap (λ (q : List LinePlace). is_placed (place_of i (map (λ p. p.who) q))) line)

@@ -1,8 +1,7 @@
 use Rattle.std.proofs.Common.{ℕ, ◌≤◌, ◌-◌, ◌∙◌, sym, subst, refl, arith, rules}
-use Rattle.history.specs.Could.{max_shared}
+use Rattle.history.specs.declared.limits.TheConstants.{MOST_READ_WRITE_HOLDS}
 use Rattle.read_write.specs.State.{state_of}
-use Rattle.read_write.specs.State.{IsSound}
-use Rattle.read_write.proofs.Reading.{sound_of, gives_write, gives_read}
+use Rattle.read_write.proofs.Reading.{IsSound, sound_of, gives_write, gives_read}
 use Rattle.read_write.proofs.Changing.{reader_seated, readers_some, sound_read_less, same_place}
 use Rattle.read_write.proofs.Going.{write_less_kept, read_less_kept, read_less_answer, not_either}
 use Rattle.read_write.proofs.hooks.RwHooksHooks.give.Goals as goal
@@ -57,7 +56,7 @@ returns-else-opens-clause-kept c _ k h j m b _ _ ne f =
     gives_read (state_of s) c.args.who c.args.mode c.holds.result c.holds.ensures c.if-holds-eq0.false
     c.in-S.is in
     let neither = not_either s.readers (sym c.opens_by_read-opens.ensures ∙ c.if-opens.false) in
-    let most : s.readers ≤ max_shared = omega arith in
+    let most : s.readers ≤ MOST_READ_WRITE_HOLDS = omega arith in
     rw c.in-S.is (read_less_kept (state_of s) k (sound_of s) h c.args.who c.args._n some neither.0 neither.1
     most j m b f)
 

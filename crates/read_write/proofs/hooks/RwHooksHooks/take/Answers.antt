@@ -1,8 +1,7 @@
 use Rattle.std.proofs.Common.{ℕ, ◌+◌, ◌<◌, ◌∙◌, sym, subst, refl, arith, rules}
 use Rattle.history.specs.declared.entry.Mode.TheVariants.{S}
 use Rattle.read_write.specs.State.{state_of}
-use Rattle.read_write.specs.State.{IsSound}
-use Rattle.read_write.proofs.Reading.{sound_of, takes_write, takes_read, may_write, may_read}
+use Rattle.read_write.proofs.Reading.{IsSound, sound_of, takes_write, takes_read, may_write, may_read}
 use Rattle.read_write.proofs.Changing.{sound_wrote, stands_wrote, sound_read, same_place, room_for_read}
 use Rattle.read_write.proofs.Going.{wrote_alone, wrote_nobody, read_nobody, read_shared, read_last, read_answer}
 use Rattle.read_write.proofs.hooks.RwHooksHooks.take.Goals as goal

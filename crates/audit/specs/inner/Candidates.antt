@@ -1,5 +1,5 @@
 -- The steps that may have made an entry.
-use Rattle.std.specs.Prelude.{◌≡◌, ◌⊎◌, ℕ}
+use Rattle.std.specs.Prelude.{ℕ}
 use Rattle.history.specs.declared.entry.Entry.{Entry}
 use Rattle.history.specs.declared.entry.Mode.{Mode}
 use Rattle.history.specs.declared.entry.Word.{Word}
@@ -45,7 +45,3 @@ candidates_by word.Drained m n c = only Drain
 
 abbrev pub candidates : Entry → Candidates
 candidates e = candidates_by e.word e.mode e.n e.at
-
-abbrev pub IsCandidate : Entry → Step → Type 0
-IsCandidate e step =
-    ((candidates e).first ≡ step) ⊎ (((candidates e).second ≡ step) ⊎ ((candidates e).third ≡ step))

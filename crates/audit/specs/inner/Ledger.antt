@@ -1,0 +1,13 @@
+-- A ledger whose entries are added up.
+use Rattle.std.specs.Prelude.{◌<◌, ◌^◌, List, length}
+use Rattle.history.specs.declared.entry.Entry.{Entry}
+use Rattle.history.specs.Start.{Start}
+use Rattle.audit.specs.declared.ledger.Ledger.{Ledger}
+use Rattle.audit.specs.Ledger.{LedgerStand}
+
+-- a ledger of some entries
+pub record IsLedger (l : Ledger) : Type 0 where
+  pub start : Start
+  pub front : List Entry
+  pub stand : LedgerStand start front l
+  pub room : length front < 2 ^ 32

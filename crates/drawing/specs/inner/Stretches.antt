@@ -1,0 +1,27 @@
+-- How an entry changes the stretches that a drawing keeps, and which bars it ends.
+use Rattle.std.specs.Prelude.{ℕ, ◌-◌, ◌==◌, if◌then◌else◌, List, [], ◌∷◌}
+use Rattle.history.specs.declared.entry.Entry.{Entry}
+use Rattle.history.specs.Start.{Start}
+use Rattle.drawing.specs.declared.bar.Bar.{Bar}
+use Rattle.drawing.specs.declared.bar.Stretch.{Stretch}
+use Rattle.drawing.specs.Levels.{level}
+
+-- the bar of a stretch that ends before the entry of a number, if the stretch has holds
+abbrev pub bar_of : ℕ → Stretch → List Bar
+bar_of number x =
+    if x.holds == 0 then []
+    else
+    record { seat = x.seat; kind = x.kind; first = x.first; last = number - 1; holds = x.holds } ∷ []
+
+-- the level after a history of the stretch's seat and kind
+abbrev pub level_now : Start → List Entry → Stretch → ℕ
+level_now s h x = level s h x.seat x.kind
+
+-- a stretch after the newest entry, which has this number, and the bar that ends before it
+abbrev pub going_on : Start → List Entry → ℕ → Stretch → Stretch
+going_on s h number x =
+    if level_now s h x == x.holds then x
+    else record { seat = x.seat; kind = x.kind; first = number; holds = level_now s h x }
+
+abbrev pub ending : Start → List Entry → ℕ → Stretch → List Bar
+ending s h number x = if level_now s h x == x.holds then [] else bar_of number x
