@@ -1,6 +1,7 @@
 //! A semaphore that has an item for each free permit.
 ghost use Rattle.std.specs.Prelude.{◌≡◌, ◌<◌, ◌≤◌, ◌^◌, All, IfErr, IfOk, IfSome, ℕ, false, length, pos};
 ghost use Rattle.counting.specs.Semaphore.{IsOpened, semaphore_of};
+ghost use Rattle.deciding.specs.Balance.{balance};
 ghost use Rattle.frame.specs.Core.{header_of};
 ghost use Rattle.history.specs.Counts.{counts};
 ghost use Rattle.history.specs.Entries.{IsBasedWell, start_on};
@@ -9,7 +10,9 @@ ghost use Rattle.history.specs.Legal.{AreSeated, calls};
 ghost use Rattle.history.specs.declared.fault.Fault.TheVariants.{OutOfMemory};
 ghost use Rattle.history.specs.declared.header.Object.TheVariants.{Semaphore};
 ghost use Rattle.monitor.specs.Acquire.{is_timed};
-ghost use Rattle.monitor.specs.Lawful.{blank};
+ghost use Rattle.monitor.specs.Closing.{IsBased, IsMissing, IsWithin, left_by, passes_of, shares};
+ghost use Rattle.monitor.specs.declared.closing.CloseFault.TheVariants.{MissingPass};
+ghost use Rattle.monitor.specs.Lawful.{IsLawful, blank};
 ghost use Rattle.monitor.specs.Shown.{IsSound, opening_passes};
 ghost use Rattle.monitor.specs.Stepping.{IsSame};
 ghost use Rattle.monitor_fronts.specs.Told.{whether_of};
@@ -116,11 +119,23 @@ impl<T: Drop> Pool<T> {
         ensures items { IfOk result (λ r.
             Lies r.1 (counts (start_on self.lock.header r.0.history) r.0.history.entries)) }
         ensures each { IfOk result (λ r. pos (length r.1) ≡ r.0.balance.available) }
+        ensures lawful { IfOk result (λ r. IsLawful (left_by self.lock r.0.history)) }
+        ensures within { IfOk result (λ r.
+            All (λ p. IsWithin (left_by self.lock r.0.history) p) passes.items) }
+        ensures base { IfOk result (λ r. IsBased self.lock r.0.history) }
         ensures good { IfOk result (λ r. IsBasedWell self.lock.header r.0.history.base) }
         ensures seated { IfOk result (λ r.
             AreSeated (start_on self.lock.header r.0.history) r.0.history.entries) }
+        ensures cap { IfOk result (λ r. r.0.history.cap ≡ self.lock.header.cap) }
+        ensures one_pass { IfOk result (λ _. (seat : _)
+            → seat < self.lock.header.seats → passes_of seat passes.items ≡ 1) }
+        ensures share { IfOk result (λ r. r.0.share ≡ shares passes.items) }
         ensures calls { IfOk result (λ r.
             r.0.share ≡ calls (start_on self.lock.header r.0.history) r.0.history.entries) }
+        ensures balance { IfOk result (λ r.
+            r.0.balance ≡ balance (start_on self.lock.header r.0.history) r.0.history.entries) }
+        ensures missing { IfErr result (λ r.
+            (r.2 ≡ MissingPass) × IsMissing self.lock.header.seats passes.items) }
         ensures back { IfErr result (λ r. (r.0 ≡ self) × (r.1 ≡ passes)) }
     {
         let Pool {
