@@ -1,5 +1,5 @@
 -- Calls that make room where there is none.
-use Rattle.std.proofs.Common.{◌≡◌, ◌⊎◌, inl, inr, true, false, Result, Ok, Err, refl, sym, ap, ◌∙◌, subst}
+use Rattle.std.proofs.Common.{◌≡◌, inl, inr, true, false, Result, Ok, Err, refl, sym, subst}
 use Rattle.history.specs.declared.entry.Entry.{Entry}
 use Rattle.history.specs.declared.fault.Fault.{Fault}
 use Rattle.history.specs.declared.fault.Fault.TheVariants.{HistoryFull, TrimFull}
@@ -7,7 +7,6 @@ use Rattle.history.specs.declared.point.Point.{Point}
 use Rattle.history.specs.declared.step.Step.{Step}
 use Rattle.permit.specs.Deed.{Deed}
 use Rattle.word_lock.specs.Point.{Before}
-use Rattle.word_lock.specs.Ticket.{LockId}
 use Rattle.word_lock.proofs.PointLaws.{before_trans}
 use Rattle.monitor.specs.Acquire.{is_timed}
 use Rattle.monitor.specs.Room.{InRoom, IsEnteredIn, at_point, fold_of}

@@ -39,16 +39,15 @@ use std::marker::Model;
 use std::sync::Wait;
 use std::time::Clock;
 
-/// Items that threads share: `java.util.concurrent.Semaphore` of Java SE 8 with an item for each permit.
-/// Whoever acquires has the items, by ownership, and nobody else has them. The thread is the pass. A contract
-/// sees which semaphore it is, with its header, and what it does where its history is full.
+/// Items that threads share: `java.util.concurrent.Semaphore` of Java SE 8 with an item for each permit. The thread
+/// that acquired an item owns it. A pass stands for a thread. A contract sees which semaphore it is, with its
+/// header, and what it does if its history is full.
 ///
-/// As many items as free permits lie in the pool, at any time. An item that was acquired is its holder's own:
-/// it may be given to another thread, and any pass may release it. A holder that drops an item takes it out
-/// of the pool for good.
+/// The pool always has as many items as permits are free. An item that was acquired may be given to another thread,
+/// and any pass may release it. An item that is dropped is gone from the pool.
 ///
-/// The item that was released last is acquired first. Items come and go as a `LinkedList`, since so they move
-/// without memory: to acquire some takes a step for each, and to release them takes one step.
+/// The item that was released last is acquired first. Items come and go as a `LinkedList`, which moves without
+/// memory: to acquire some takes time for each item, to release them doesn't.
 #[derive(Drop)]
 pub struct Pool<T: Drop> {
     monitor: Monitor<SemaphoreHooks, Shelf<T>>,
@@ -68,9 +67,8 @@ impl<T: Drop> Model for Pool<T> {
 }
 
 impl<T: Drop> Pool<T> {
-    /// A pool of these items, with a permit for each, and a pass for each seat, in order. `cap` is the
-    /// greatest number of entries of its history, those among them that are owed. Where memory is refused,
-    /// the items come back.
+    /// Opens a pool of these items, with a permit for each. Returns a pass for each seat too, in order. `cap` is the
+    /// greatest number of entries of its history, owed ones included. If memory is refused, it returns the items.
     pub fn open(
         alloc: Global,
         items: LinkedList<T>,
@@ -106,10 +104,11 @@ impl<T: Drop> Pool<T> {
         }
     }
 
-    /// Takes the pool for good, and waits until nobody is in a call. It gives back the history, and the items
-    /// that lie there: one for each permit that is free then. The others are with whoever acquired them.
+    /// Ends the pool, after the calls that are under way. Returns the history, and the items of the pool: one for
+    /// each free permit. The other items are with the threads that acquired them.
     ///
-    /// The passes of all seats are needed, in any order. Where one is missing, all comes back as it was.
+    /// The passes of all seats are needed, in any order. If one is missing, it returns the pool and the passes as
+    /// they were.
     pub fn close<R: Wait>(
         self,
         rt: &R,
@@ -160,7 +159,7 @@ impl<T: Drop> Pool<T> {
         }
     }
 
-    /// The monitor, for what it tells of the semaphore, and for `trim` and `meet`.
+    /// Returns the monitor, for its observers, and for `trim` and `meet`.
     pub fn monitor(&self) -> &Monitor<SemaphoreHooks, Shelf<T>>
         ensures { result.now ≡ self.now.lock }
     {
@@ -168,9 +167,9 @@ impl<T: Drop> Pool<T> {
     }
 }
 
-/// What all calls are made of.
+/// The parts of all calls.
 impl<T: Drop> Pool<T> {
-    // A call by one who brings as many items as it releases.
+    // A call. The shelf has as many items as the call releases.
     pub(crate) fn call<P: Parking, R: Wait + Clock>(
         &self,
         rt: &R,
@@ -209,7 +208,7 @@ impl<T: Drop> Pool<T> {
         }
     }
 
-    // A call that brings nothing: the items that it asks for, unless it missed them.
+    // An acquire or a try. Returns the items, or None if there were too few in time.
     pub(crate) fn take<P: Parking, R: Wait + Clock>(
         &self,
         rt: &R,
@@ -248,7 +247,7 @@ impl<T: Drop> Pool<T> {
         }
     }
 
-    // The same of an acquire that waits as long as it must.
+    // An acquire without a time.
     pub(crate) fn fetch<P: Parking, R: Wait + Clock>(
         &self,
         rt: &R,
