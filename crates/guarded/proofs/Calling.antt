@@ -42,8 +42,8 @@ call_gains did w (asked.Try) old new r lock same made =
     (λ from. λ s. λ of. λ at. λ one. try_gains did from new s (as_lock old from lock of) at one) made
 call_gains did w (asked.Await condition how) old new r lock same made =
     let keeps =
-        in_room (λ (from : Shown). λ (s : Result Entry Fault). holds new ≡ holds from) w _ _ old new r same
-        (λ p. λ x. x) (λ x. x) (λ from. λ s. λ of. λ at. λ one. await_holds did from new condition how s at one) made in
+    in_room (λ (from : Shown). λ (s : Result Entry Fault). holds new ≡ holds from) w _ _ old new r same
+    (λ p. λ x. x) (λ x. x) (λ from. λ s. λ of. λ at. λ one. await_holds did from new condition how s at one) made in
     omega (arith, keeps)
 
 -- a pass of such a lock is of a lock

@@ -1,5 +1,5 @@
 -- Calls that make room where there is none.
-use Rattle.std.proofs.Common.{◌≡◌, ◌⊎◌, inl, inr, true, false, Result, Ok, Err, refl, sym, ap, ◌∙◌, subst}
+use Rattle.std.proofs.Common.{◌≡◌, inl, inr, true, false, Result, Ok, Err, refl, sym, subst}
 use Rattle.history.specs.declared.entry.Entry.{Entry}
 use Rattle.history.specs.declared.fault.Fault.{Fault}
 use Rattle.history.specs.declared.fault.Fault.TheVariants.{HistoryFull, TrimFull}
@@ -7,7 +7,6 @@ use Rattle.history.specs.declared.point.Point.{Point}
 use Rattle.history.specs.declared.step.Step.{Step}
 use Rattle.permit.specs.Deed.{Deed}
 use Rattle.word_lock.specs.Point.{Before}
-use Rattle.word_lock.specs.Ticket.{LockId}
 use Rattle.word_lock.proofs.PointLaws.{before_trans}
 use Rattle.monitor.specs.Acquire.{is_timed}
 use Rattle.monitor.specs.Room.{InRoom, IsEnteredIn, at_point, fold_of}
@@ -32,7 +31,7 @@ in_room is Refuse asks call old new r same folded full each x = each old r refl 
 in_room is Trim asks call old new r same folded full each (inl x) = each old r refl same x.0
 in_room is Trim asks call old new r same folded full each (inr (inl x)) =
     folded (fold_of x.found)
-    (each (at_point old (fold_of x.found)) r refl record { lock = same.lock; seat = same.seat } x.made.again)
+    (each (at_point old (fold_of x.found)) r refl record { lock = same.lock; seat = same.seat } x.again)
 in_room is Trim asks call old new r same folded full each (inr (inr x)) =
     subst (λ (s : Result Entry Fault). is old s) (sym x.is) (full (each old (Err HistoryFull) refl same x.full))
 
@@ -48,7 +47,7 @@ entered_in_after Refuse did old new step r x = entered_after did old new step r 
 entered_in_after Trim did old new step r (inl x) = entered_after did old new step r x.0
 entered_in_after Trim did old new step r (inr (inl x)) =
     before_trans old.seen (fold_of x.found) new.seen x.fold.begins
-    (entered_after did (at_point old (fold_of x.found)) new step r x.made.again)
+    (entered_after did (at_point old (fold_of x.found)) new step r x.again)
 entered_in_after Trim did old new step r (inr (inr x)) = entered_after did old new step (Err HistoryFull) x.full
 
 -- an acquire that waits as long as it must isn't told as missed

@@ -44,7 +44,7 @@ call_of did (asked.Acquire how) = acquires did how
 call_of did (asked.Try) = tries did
 call_of did (asked.Await condition how) = awaits did condition how
 
--- the calls of one who doesn't hold yet
+-- the calls of a pass that doesn't hold the lock
 abbrev pub IsTake : Asked → Type 0
 IsTake (asked.Await condition how) = ⊥
 IsTake _ = Unit {0}

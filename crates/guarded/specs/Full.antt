@@ -1,4 +1,4 @@
--- Calls of a lock or pool, which says what they do where its history is full.
+-- Calls of a lock or pool, which says what they do if its history is full.
 use Rattle.std.specs.Prelude.{◌≡◌, ◌⊎◌, ℕ, Bool, true, false, Result, Ok, Err}
 use Rattle.history.specs.declared.entry.Entry.{Entry}
 use Rattle.history.specs.declared.fault.Fault.{Fault}
@@ -8,7 +8,7 @@ use Rattle.monitor.specs.Stepping.{IsSame, IsTrim}
 use Rattle.monitor.specs.declared.room.WhenFull.{WhenFull}
 use Rattle.monitor.specs.declared.room.WhenFull.TheVariants.{Refuse, Trim}
 
--- a call's reply, with the pass before and after it, by what the lock does where its history is full
+-- a call's reply, with the pass before and after it, by what the lock does if its history is full
 abbrev pub Call : Type 1
 Call = WhenFull → Shown → Result Entry Fault → Shown → Type 0
 
@@ -44,8 +44,8 @@ pub record CannotFold (w : WhenFull) (call : Once) (old : Shown) (reply : Result
   pub trim : IsTrim full (Err fault) new
   pub is : reply ≡ Err fault
 
--- A call that makes room by turns of its own. It folds only where there was no room. Between its turns other
--- threads may fill the history again.
+-- A call that makes room by turns of its own. It folds only if there was no room. Between its turns other threads
+-- may fill the history again.
 abbrev pub InTurns : WhenFull → Once → Shown → Result Entry Fault → Shown → Type 0
 InTurns w call old reply new =
     (call old reply new × (lacks_room w reply ≡ false))

@@ -1,4 +1,4 @@
--- What a guard ends with, by what the caller leaves behind its value.
+-- What a guard ends with, by what the caller makes of its value.
 use Rattle.std.specs.Prelude.{[]}
 use Rattle.std.specs.Borrow.{Lends, MutBor, Fml, RattleType}
 use mir.Syntax.{named}

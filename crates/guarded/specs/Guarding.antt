@@ -1,4 +1,4 @@
--- What is known of one who has the lock, or has it not.
+-- What is known of a pass that has the lock, or has it not.
 use Rattle.std.specs.Prelude.{◌≡◌, ◌<◌, ◌≤◌, ℕ, Bool, true, false, Result, Ok, Err}
 use Rattle.history.specs.declared.fault.Fault.{Fault}
 use Rattle.word_lock.specs.Point.{Before}

@@ -1,4 +1,4 @@
--- What a slot ends with, by what the caller leaves behind the value that it was lent.
+-- What a slot ends with, by what the caller makes of the value that it was lent.
 use Rattle.std.specs.Borrow.{Lends, MutBor, Fml, RattleType}
 use Rattle.guarded.specs.declared.slot.Slot.{Slot}
 use Rattle.guarded.specs.declared.slot.Slot.TheVariants.{Full}

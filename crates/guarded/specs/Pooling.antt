@@ -48,7 +48,7 @@ abbrev pub is_done : Result Bool Fault → Bool
 is_done (Ok b) = b
 is_done (Err f) = false
 
--- how many items one has after a call, by what is told of it
+-- how many items the caller has after a call, by what is told of it
 abbrev pub has_after : PoolCall → Result Bool Fault → ℕ
 has_after asked told = if is_done told then asked_by asked else brought_by asked
 

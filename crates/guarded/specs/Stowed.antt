@@ -20,7 +20,7 @@ pub record Rests {T : Type 0} (value : Slot T) (k : Counts) : Type 0 where
   pub lock : is_lock k.object ≡ true
   pub stowed : IsStowed (λ i. k.held i X) value
 
--- one with so many holds has the value exactly where it holds
+-- a pass with this number of holds has the value exactly if that is above 0
 abbrev pub Carries : {T : Type 0} → ℕ → Slot T → Type 0
 Carries n Empty = n ≡ 0
 Carries n (Full x) = 0 < n
@@ -59,7 +59,7 @@ slot_of (Some x) = Full x
 abbrev pub IsOfLock : LockId → Type 0
 IsOfLock l = is_lock l.header.object ≡ true
 
--- What is seen of such a lock: which it is, and what it does where its history is full.
+-- What is seen of such a lock: which it is, and what it does if its history is full.
 pub record MutexView : Type 0 where
   pub lock : LockId
   pub when_full : WhenFull

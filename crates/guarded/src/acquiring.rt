@@ -20,11 +20,11 @@ use std::collections::LinkedList;
 use std::sync::Wait;
 use std::time::Clock;
 
-/// Each acquire returns as many items as were asked for. After an `Err` or a `None` no item is lost, and the
-/// caller has none. A fault is the monitor's: `HistoryFull` if the history has no room, `OutOfMemory` if
-/// memory for it is refused, `BadAmount` above 2147483647, and `Interrupted` where that is said.
+/// Each acquire returns as many items as were asked for. After an `Err` or a `None` the pool has all items that it
+/// had. `HistoryFull` and `TrimFull` come as the page of this crate says, `OutOfMemory` if memory for the history
+/// is refused, `BadAmount` above 2147483647, and `Interrupted` where a method says so.
 impl<T: Drop> Pool<T> {
-    /// Waits until `n` items lie there, or is interrupted: `Err(Interrupted)`, also where an interrupt was
+    /// Waits until the pool has `n` items, or is interrupted: `Err(Interrupted)`, also if an interrupt was
     /// pending. The interrupt is taken. This is `Semaphore.acquire(permits)`.
     pub fn acquire<P: Parking, R: Wait + Clock>(
         &self,
@@ -66,7 +66,7 @@ impl<T: Drop> Pool<T> {
         self.fetch(rt, parking, pass, n, How::Plain)
     }
 
-    /// Takes `n` items if they lie there now. It goes past those in line, under a fair policy too, but not
+    /// Acquires `n` items if the pool has them now. It overtakes waiters, under a fair policy too, but not
     /// under a strict one. This is `Semaphore.tryAcquire(permits)`.
     pub fn try_acquire<P: Parking, R: Wait + Clock>(
         &self,
@@ -88,7 +88,7 @@ impl<T: Drop> Pool<T> {
     }
 
     /// Waits for `n` items, for `ms` milliseconds at most, or until it is interrupted. With 0 it doesn't wait,
-    /// and under a fair or strict policy it doesn't go past those in line. This is
+    /// and under a fair or strict policy it doesn't overtake waiters. This is
     /// `Semaphore.tryAcquire(permits, timeout, unit)`.
     pub fn try_acquire_for<P: Parking, R: Wait + Clock>(
         &self,
@@ -110,9 +110,9 @@ impl<T: Drop> Pool<T> {
         self.take(rt, parking, pass, PoolCall::Acquire(n, How::Timed(ms)))
     }
 
-    /// Puts the items into the pool. If it fails, they come back with the fault: `HistoryFull` and
-    /// `OutOfMemory` as above, `TooManyPermits` if more than 2147483647 would lie there, and `BadAmount` for
-    /// more than that at once. This is `Semaphore.release(permits)`.
+    /// Puts the items into the pool. If it fails, it returns them with the fault: `HistoryFull`, `TrimFull` and
+    /// `OutOfMemory` as above, `TooManyPermits` if more than 2147483647 permits would be free, and `BadAmount`
+    /// for more than that at once. This is `Semaphore.release(permits)`.
     pub fn release<P: Parking, R: Wait + Clock>(
         &self,
         rt: &R,

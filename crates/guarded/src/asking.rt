@@ -6,9 +6,9 @@ use monitor::How;
 pub(crate) enum Asked {
     /// Waits in line for the lock.
     Acquire(How),
-    /// Takes the lock past those in line.
+    /// Acquires the lock, past all waiters.
     Try,
-    /// Gives the lock up, sleeps on the condition, and has the lock again.
+    /// Releases the lock, waits on the condition, and acquires the lock again.
     Await(u8, How),
 }
 
@@ -17,7 +17,7 @@ pub(crate) enum Asked {
 pub(crate) enum Reading {
     /// Waits in line for a read hold.
     Acquire(How),
-    /// Takes a read hold past those in line.
+    /// Acquires a read hold, past all waiters.
     Try,
 }
 
@@ -26,8 +26,8 @@ pub(crate) enum Reading {
 pub(crate) enum PoolCall {
     /// Waits in line for this many items.
     Acquire(u32, How),
-    /// Takes this many items past those in line.
+    /// Acquires this many items, past all waiters.
     Try(u32),
-    /// Gives this many items back.
+    /// Releases this many items.
     Release(u32),
 }

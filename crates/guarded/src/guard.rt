@@ -27,12 +27,13 @@ use std::time::Clock;
 /// The value of a lock, with its owner. Dropping it unlocks the lock, so a `?` may leave a section. That can't
 /// fail: room and memory for the entry were reserved when the hold was recorded.
 ///
-/// It borrows its pass, which makes no other call meanwhile, and knows that the pass holds the lock. To drop it
-/// asks for just one hold, so whoever took the lock [`again`](Guard::again) must [`leave`](Guard::leave) first.
+/// It borrows its pass, so the pass makes no other call while the guard lives. The guard must have exactly one
+/// hold when it is dropped: call [`leave`](Guard::leave) once for each [`again`](Guard::again).
 ///
-/// A fault of its calls is the monitor's. Behind it nothing was recorded, and the pass holds as before, with the
-/// value: `HistoryFull` where the history has no room, `OutOfMemory` where memory for it is refused,
-/// `NoSuchCondition`, and `Interrupted` where that is said.
+/// After an `Err` the pass has as many holds as before, and the guard has the value. `HistoryFull` and `TrimFull` come
+/// as the page of this crate says, `OutOfMemory` if memory for the history is refused, and `NoSuchCondition` if the
+/// lock lacks the condition: after these nothing was recorded. `HoldsRead` is the answer to a wait by a writer that
+/// reads too.
 pub struct Guard<'a, T: Drop, P: Parking, R: Wait + Clock, H: Hooks + Drop = LockHooks> {
     pub(crate) pass: &'a mut Pass,
     pub(crate) slot: Slot<T>,
@@ -44,7 +45,7 @@ pub struct Guard<'a, T: Drop, P: Parking, R: Wait + Clock, H: Hooks + Drop = Loc
 impl<'a, T: Drop, P: Parking, R: Wait + Clock, H: Hooks + Drop> Guard<'a, T, P, R, H> {
     ghost use Rattle.guarded.specs.GuardLending.{LendsValue};
 
-    /// The value.
+    /// Returns the value.
     pub fn value(&self) -> &T
         requires there { IsFull self.now.slot }
         ensures value { Full result.now ≡ self.now.slot }
@@ -52,7 +53,7 @@ impl<'a, T: Drop, P: Parking, R: Wait + Clock, H: Hooks + Drop> Guard<'a, T, P, 
         self.slot.value()
     }
 
-    /// The value, to be changed.
+    /// Returns the value, to be changed.
     pub fn value_mut(&mut self) -> &mut T
         requires there { IsFull self.old.slot }
         ensures* lends { sem 𝓛 (LendsValue T.row P.row R.row H.row H.Hooks self.entry result) }
@@ -61,10 +62,10 @@ impl<'a, T: Drop, P: Parking, R: Wait + Clock, H: Hooks + Drop> Guard<'a, T, P, 
         self.slot.value_mut()
     }
 
-    /// Sleeps on the condition until it is signalled, or interrupted: `Err(Interrupted)`, and the interrupt is taken.
-    /// Meanwhile it has given up the lock and the value, and it has both again before it answers, whatever ended the
-    /// sleep. Others may have changed the value, so test again what was waited for. This is `Condition.await()` of
-    /// Java SE 8.
+    /// Waits on the condition until it is signalled, or interrupted: `Err(Interrupted)`, and the interrupt is taken.
+    /// It releases the lock and the value while it waits, and has both again when it returns, whatever ended the
+    /// wait. Another thread may have changed the value, so test again what was waited for. This is
+    /// `Condition.await()` of Java SE 8.
     pub fn wait(&mut self, condition: u8) -> Result<bool, Fault>
         requires guards { Guards self.old.lock.now (P.seats self.old.parking.now) self.old.pass.now self.old.slot }
         ensures same_reference { self.new.pass.ghost_name ≡ self.old.pass.ghost_name }
@@ -85,7 +86,8 @@ impl<'a, T: Drop, P: Parking, R: Wait + Clock, H: Hooks + Drop> Guard<'a, T, P, 
         )
     }
 
-    /// The same, for `ms` milliseconds at most: whether it was signalled. This is `Condition.await(time, unit)`.
+    /// [`wait`](Guard::wait), for `ms` milliseconds at most. Returns whether it was signalled. This is
+    /// `Condition.await(time, unit)`.
     pub fn wait_for(&mut self, condition: u8, ms: u32) -> Result<bool, Fault>
         requires guards { Guards self.old.lock.now (P.seats self.old.parking.now) self.old.pass.now self.old.slot }
         ensures same_reference { self.new.pass.ghost_name ≡ self.old.pass.ghost_name }
@@ -106,7 +108,7 @@ impl<'a, T: Drop, P: Parking, R: Wait + Clock, H: Hooks + Drop> Guard<'a, T, P, 
         )
     }
 
-    /// The same, but an interrupt doesn't end the sleep, and stays pending. This is
+    /// [`wait`](Guard::wait), but an interrupt doesn't end it, and stays pending. This is
     /// `Condition.awaitUninterruptibly()`.
     pub fn wait_uninterruptibly(&mut self, condition: u8) -> Result<bool, Fault>
         requires guards { Guards self.old.lock.now (P.seats self.old.parking.now) self.old.pass.now self.old.slot }
@@ -128,8 +130,8 @@ impl<'a, T: Drop, P: Parking, R: Wait + Clock, H: Hooks + Drop> Guard<'a, T, P, 
         )
     }
 
-    /// Moves the longest sleeper of the condition into the line, if any sleeps. The value stays where it is. This is
-    /// `Condition.signal()`.
+    /// Moves the first waiter of the condition into the wait queue of the lock, if there is one. The guard keeps the
+    /// value. This is `Condition.signal()`.
     pub fn signal(&mut self, condition: u8) -> Result<(), Fault>
         requires guards { Guards self.old.lock.now (P.seats self.old.parking.now) self.old.pass.now self.old.slot }
         ensures same_reference { self.new.pass.ghost_name ≡ self.old.pass.ghost_name }
@@ -147,8 +149,8 @@ impl<'a, T: Drop, P: Parking, R: Wait + Clock, H: Hooks + Drop> Guard<'a, T, P, 
         )
     }
 
-    /// Moves all sleepers of the condition into the line, in order. The value stays where it is. This is
-    /// `Condition.signalAll()`.
+    /// Moves all waiters of the condition into the wait queue of the lock, in order. The guard keeps the value. This
+    /// is `Condition.signalAll()`.
     pub fn signal_all(&mut self, condition: u8) -> Result<(), Fault>
         requires guards { Guards self.old.lock.now (P.seats self.old.parking.now) self.old.pass.now self.old.slot }
         ensures same_reference { self.new.pass.ghost_name ≡ self.old.pass.ghost_name }
@@ -163,7 +165,7 @@ impl<'a, T: Drop, P: Parking, R: Wait + Clock, H: Hooks + Drop> Guard<'a, T, P, 
         done(self.lock.tell(self.rt, self.parking, pass, condition, true))
     }
 
-    /// Takes the lock once more: whether it did. `Err(TooManyHolds)` with 2147483647 holds. This is
+    /// Acquires the lock once more, and returns whether it did. `Err(TooManyHolds)` with 2147483647 holds. This is
     /// `ReentrantLock.lock()` by its owner.
     pub fn again(&mut self) -> Result<bool, Fault>
         requires guards { Guards self.old.lock.now (P.seats self.old.parking.now) self.old.pass.now self.old.slot }
@@ -178,7 +180,7 @@ impl<'a, T: Drop, P: Parking, R: Wait + Clock, H: Hooks + Drop> Guard<'a, T, P, 
         self.lock.again(self.rt, self.parking, pass, &mut self.slot)
     }
 
-    /// Gives one of several holds back. It can't fail.
+    /// Releases one of several holds. It can't fail.
     pub fn leave(&mut self)
         requires guards { Guards self.old.lock.now (P.seats self.old.parking.now) self.old.pass.now self.old.slot }
         requires several { 1 < holds self.old.pass.now }

@@ -1,26 +1,38 @@
-//! Locks and pools that guard data: who owns the lock has the value, who acquired has the items, and nobody
-//! else has them.
+//! Locks and pools that own data. The thread that holds the lock has the value. The thread that acquired items
+//! has them. No other thread has either.
 //!
-//! A [`Mutex`] is a reentrant lock with conditions over a monitor with a load ([`Slot`]). The value lies
-//! under the monitor's lock while nobody holds, and is with the owner while somebody does. It changes hands
-//! in the very turn in which the first hold comes or the last one goes, so the value is never in two places
-//! and never in none.
+//! A [`Mutex`] is a reentrant lock with conditions, over a monitor with a load ([`Slot`]). While no thread holds
+//! the lock, the value is in the monitor. While a thread holds it, that thread has the value. The value moves in
+//! the turn of the lock that records the first hold or releases the last one. So it is always in exactly one
+//! place.
 //!
-//! An [`RwMutex`] is a read-write lock of the same kind: a writer has the value, and while nobody writes, the
-//! value lies in the lock, which shows it to its readers, one at a time.
+//! An [`RwMutex`] is a read-write lock of the same kind. A writer has the value. While no thread writes, the
+//! value is in the lock, which shows it to one reader at a time.
 //!
-//! A [`Pool`] is a semaphore with an item for each permit ([`Shelf`]). As many items as free permits lie in
-//! it. An acquire hands items out, in the very turn in which it takes the permits, and a release takes them
-//! back. Who holds an item owns it, and may give it to another thread.
+//! A [`Pool`] is a semaphore with an item for each permit ([`Shelf`]). It has as many items as permits are free.
+//! An acquire returns items, which move in the turn that takes the permits. A release puts items back. The thread
+//! that acquired an item owns it, and may give it to another thread.
 //!
-//! A [`Guard`] has the value between `lock` and the end of its scope, where it unlocks. It borrows its pass,
-//! so a pass that holds makes no other call. An invariant of the value is what a ghost field of its type
-//! says: whoever has the value may use it, and whoever changed it has proved it.
+//! A [`Guard`] has the value from `lock` until the end of its scope, where it unlocks. It borrows its pass, so
+//! a pass that holds the lock makes no other call. An invariant of the value is a ghost field of its type: a
+//! thread that has the value may use it, and must prove it again after a change.
 //!
-//! Each call records its steps in the history of the lock or pool. Where the history is full, one that was
-//! opened with [`WhenFull::Trim`] folds all entries and makes the step again; one with [`WhenFull::Refuse`]
-//! returns `Err(HistoryFull)`. An `unlock` always has room. A `release` of items may have none, and then returns
-//! the items with the fault, so there is no guard of an item that releases it where it is dropped.
+//! ## A full history
+//!
+//! Each call records its steps in the history of the lock or pool, which has room for `cap` entries, owed ones
+//! included. [`WhenFull`] says what a call does if its first step finds no room:
+//!
+//! - [`WhenFull::Refuse`]: it returns `HistoryFull`. Nothing is recorded and nothing is folded.
+//! - [`WhenFull::Trim`]: it folds all entries and makes the step from there, in the same turn of the lock. It folds
+//!   only if there was no room. It returns `HistoryFull` only if a history without entries has no room, and
+//!   `TrimFull` only if more than 1000000000000000 entries would be folded.
+//!
+//! A [signal](Guard::signal) folds in a turn of its own and signals again. So it returns `HistoryFull` also if
+//! other threads filled the history between these turns.
+//!
+//! An `unlock` always has room and memory: both were reserved when the hold was recorded. So have `unread` and
+//! [`downgrade`](Guard::downgrade). A `release` of items may lack them, and then returns the items with the fault.
+//! That is why no guard releases an item where it is dropped.
 #![tactic(auto)]
 
 mod acquiring;

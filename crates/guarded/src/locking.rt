@@ -18,9 +18,9 @@ use permit::Parking;
 use std::sync::Wait;
 use std::time::Clock;
 
-/// Each of these is called by a pass that doesn't hold the lock, and answers a guard, which has the value. Behind an
-/// `Err` the pass holds nothing, and nobody has lost the value. A fault is the monitor's: `HistoryFull` where the
-/// history has no room, `OutOfMemory` where memory for it is refused, and `Interrupted` where that is said.
+/// Each of these is called by a pass that doesn't hold the lock, and returns a guard, which has the value. After an
+/// `Err` the pass doesn't hold the lock. `HistoryFull` and `TrimFull` come as the page of this crate says,
+/// `OutOfMemory` if memory for the history is refused, and `Interrupted` where a method says so.
 ///
 /// The pass is the first argument, as in `Mutex::lock(pass, &lock, rt, parking)`, since the guard borrows it.
 impl<T: Drop, H: Hooks + Drop> Mutex<T, H> {
@@ -53,7 +53,7 @@ impl<T: Drop, H: Hooks + Drop> Mutex<T, H> {
         })
     }
 
-    /// Waits until it has the lock, or is interrupted: `Err(Interrupted)`, also where an interrupt was pending. The
+    /// Waits until it has the lock, or is interrupted: `Err(Interrupted)`, also if an interrupt was pending. The
     /// interrupt is taken. This is `ReentrantLock.lockInterruptibly()`.
     pub fn lock_interruptibly<'a, P: Parking, R: Wait + Clock>(
         pass: &'a mut Pass,
@@ -82,7 +82,7 @@ impl<T: Drop, H: Hooks + Drop> Mutex<T, H> {
         })
     }
 
-    /// Takes the lock if nobody holds it now. It goes past those in line, under a fair policy too, but not under a
+    /// Acquires the lock if no thread holds it now. It overtakes waiters, under a fair policy too, but not under a
     /// strict one. This is `ReentrantLock.tryLock()`.
     pub fn try_lock<'a, P: Parking, R: Wait + Clock>(
         pass: &'a mut Pass,
@@ -112,7 +112,7 @@ impl<T: Drop, H: Hooks + Drop> Mutex<T, H> {
     }
 
     /// Waits for the lock, for `ms` milliseconds at most, or until it is interrupted: `Err(Failed(Interrupted))`. With 0
-    /// it doesn't wait, and under a fair or strict policy it doesn't go past those in line. This is
+    /// it doesn't wait, and under a fair or strict policy it doesn't overtake waiters. This is
     /// `ReentrantLock.tryLock(time, unit)`.
     pub fn try_lock_for<'a, P: Parking, R: Wait + Clock>(
         pass: &'a mut Pass,

@@ -41,8 +41,8 @@ use std::sync::Wait;
 use std::time::Clock;
 
 /// A lock that guards a value: `java.util.concurrent.locks.ReentrantLock` of Java SE 8 with its conditions, and
-/// `std::sync::Mutex` of Rust in what it guards. The thread is the pass. A contract sees which lock it is, with
-/// its header, and what it does where its history is full.
+/// `std::sync::Mutex` of Rust in what it guards. A pass stands for a thread. A contract sees which lock it is, with
+/// its header, and what it does if its history is full.
 #[derive(Drop)]
 pub struct Mutex<T: Drop, H: Hooks + Drop = LockHooks> {
     pub(crate) monitor: Monitor<H, Slot<T>>,
@@ -60,9 +60,9 @@ impl<T: Drop, H: Hooks + Drop> Model for Mutex<T, H> {
 }
 
 impl<T: Drop> Mutex<T> {
-    /// A lock with conditions 0 to `conditions - 1` that guards the value, and a pass for each seat, in order.
-    /// `cap` is the greatest number of entries of its history, those among them that are owed. Where memory is
-    /// refused, the value comes back.
+    /// Opens a lock with conditions 0 to `conditions - 1` that guards the value. Returns a pass for each seat too, in
+    /// order. `cap` is the greatest number of entries of its history, owed ones included. If memory is refused,
+    /// it returns the value.
     pub fn open(
         alloc: Global,
         value: T,
@@ -94,10 +94,11 @@ impl<T: Drop> Mutex<T> {
 }
 
 impl<T: Drop, H: Hooks + Drop> Mutex<T, H> {
-    /// Takes the lock for good, and waits until nobody is in a call. It gives back the history, and the value
-    /// unless some seat still holds: then whoever holds has the value.
+    /// Ends the lock, after the calls that are under way. Returns the history, and the value unless a seat still
+    /// holds the lock and so has the value.
     ///
-    /// The passes of all seats are needed, in any order. Where one is missing, all comes back as it was.
+    /// The passes of all seats are needed, in any order. If one is missing, it returns the lock and the passes as
+    /// they were.
     pub fn close<R: Wait>(
         self,
         rt: &R,
@@ -132,7 +133,7 @@ impl<T: Drop, H: Hooks + Drop> Mutex<T, H> {
         }
     }
 
-    /// The monitor, for what it tells of the lock, and for `trim` and `meet`.
+    /// Returns the monitor, for its observers, and for `trim` and `meet`.
     pub fn monitor(&self) -> &Monitor<H, Slot<T>>
         ensures { result.now ≡ self.now.lock }
     {
@@ -140,9 +141,9 @@ impl<T: Drop, H: Hooks + Drop> Mutex<T, H> {
     }
 }
 
-/// What all calls are made of.
+/// The parts of all calls.
 impl<T: Drop, H: Hooks + Drop> Mutex<T, H> {
-    // A call by one who carries the value exactly if the pass holds.
+    // A call. The slot has the value exactly if the pass holds the lock.
     pub(crate) fn call<P: Parking, R: Wait + Clock>(
         &self,
         rt: &R,
@@ -179,7 +180,7 @@ impl<T: Drop, H: Hooks + Drop> Mutex<T, H> {
         }
     }
 
-    // A call by one who doesn't hold yet: a slot with the value, if it has the lock then.
+    // A call by a pass that doesn't hold the lock. Returns a slot with the value if it acquired the lock.
     pub(crate) fn try_take<P: Parking, R: Wait + Clock>(
         &self,
         rt: &R,
@@ -205,7 +206,7 @@ impl<T: Drop, H: Hooks + Drop> Mutex<T, H> {
         }
     }
 
-    // The same of an acquire that waits as long as it must.
+    // An acquire without a time.
     pub(crate) fn take<P: Parking, R: Wait + Clock>(
         &self,
         rt: &R,
@@ -229,7 +230,7 @@ impl<T: Drop, H: Hooks + Drop> Mutex<T, H> {
         }
     }
 
-    // Gives a hold back: with the last one the value goes.
+    // Releases a hold. With the last one the value goes back into the lock.
     pub(crate) fn give<P: Parking, R: Wait + Clock>(
         &self,
         rt: &R,
@@ -257,7 +258,7 @@ impl<T: Drop, H: Hooks + Drop> Mutex<T, H> {
         }
     }
 
-    // The same with the last hold.
+    // Releases the last hold, and puts the value back.
     pub(crate) fn put_back<P: Parking, R: Wait + Clock>(
         &self,
         rt: &R,
@@ -276,7 +277,7 @@ impl<T: Drop, H: Hooks + Drop> Mutex<T, H> {
         self.give(rt, parking, pass, &mut slot);
     }
 
-    // A wait by one who holds: it has the value again then.
+    // A wait on a condition. The slot has the value again when it returns.
     pub(crate) fn sleep<P: Parking, R: Wait + Clock>(
         &self,
         rt: &R,
@@ -295,7 +296,7 @@ impl<T: Drop, H: Hooks + Drop> Mutex<T, H> {
         whether(self.call(rt, parking, pass, slot, Asked::Await(condition, how)))
     }
 
-    // One hold more for one who holds.
+    // One more hold.
     pub(crate) fn again<P: Parking, R: Wait + Clock>(
         &self,
         rt: &R,
@@ -312,7 +313,7 @@ impl<T: Drop, H: Hooks + Drop> Mutex<T, H> {
         whether(self.call(rt, parking, pass, slot, Asked::Acquire(How::Plain)))
     }
 
-    // One hold less for one who has several.
+    // Releases one of several holds.
     pub(crate) fn leave<P: Parking, R: Wait + Clock>(
         &self,
         rt: &R,

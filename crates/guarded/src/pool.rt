@@ -1,6 +1,7 @@
 //! A semaphore that has an item for each free permit.
 ghost use Rattle.std.specs.Prelude.{◌≡◌, ◌<◌, ◌≤◌, ◌^◌, All, IfErr, IfOk, IfSome, ℕ, false, length, pos};
 ghost use Rattle.counting.specs.Semaphore.{IsOpened, semaphore_of};
+ghost use Rattle.deciding.specs.Balance.{balance};
 ghost use Rattle.frame.specs.Core.{header_of};
 ghost use Rattle.history.specs.Counts.{counts};
 ghost use Rattle.history.specs.Entries.{IsBasedWell, start_on};
@@ -9,7 +10,9 @@ ghost use Rattle.history.specs.Legal.{AreSeated, calls};
 ghost use Rattle.history.specs.declared.fault.Fault.TheVariants.{OutOfMemory};
 ghost use Rattle.history.specs.declared.header.Object.TheVariants.{Semaphore};
 ghost use Rattle.monitor.specs.Acquire.{is_timed};
-ghost use Rattle.monitor.specs.Lawful.{blank};
+ghost use Rattle.monitor.specs.Closing.{IsBased, IsMissing, IsWithin, left_by, passes_of, shares};
+ghost use Rattle.monitor.specs.declared.closing.CloseFault.TheVariants.{MissingPass};
+ghost use Rattle.monitor.specs.Lawful.{IsLawful, blank};
 ghost use Rattle.monitor.specs.Shown.{IsSound, opening_passes};
 ghost use Rattle.monitor.specs.Stepping.{IsSame};
 ghost use Rattle.monitor_fronts.specs.Told.{whether_of};
@@ -36,16 +39,15 @@ use std::marker::Model;
 use std::sync::Wait;
 use std::time::Clock;
 
-/// Items that threads share: `java.util.concurrent.Semaphore` of Java SE 8 with an item for each permit.
-/// Whoever acquires has the items, by ownership, and nobody else has them. The thread is the pass. A contract
-/// sees which semaphore it is, with its header, and what it does where its history is full.
+/// Items that threads share: `java.util.concurrent.Semaphore` of Java SE 8 with an item for each permit. The thread
+/// that acquired an item owns it. A pass stands for a thread. A contract sees which semaphore it is, with its
+/// header, and what it does if its history is full.
 ///
-/// As many items as free permits lie in the pool, at any time. An item that was acquired is its holder's own:
-/// it may be given to another thread, and any pass may release it. A holder that drops an item takes it out
-/// of the pool for good.
+/// The pool always has as many items as permits are free. An item that was acquired may be given to another thread,
+/// and any pass may release it. An item that is dropped is gone from the pool.
 ///
-/// The item that was released last is acquired first. Items come and go as a `LinkedList`, since so they move
-/// without memory: to acquire some takes a step for each, and to release them takes one step.
+/// The item that was released last is acquired first. Items come and go as a `LinkedList`, which moves without
+/// memory: to acquire some takes time for each item, to release them doesn't.
 #[derive(Drop)]
 pub struct Pool<T: Drop> {
     monitor: Monitor<SemaphoreHooks, Shelf<T>>,
@@ -65,9 +67,8 @@ impl<T: Drop> Model for Pool<T> {
 }
 
 impl<T: Drop> Pool<T> {
-    /// A pool of these items, with a permit for each, and a pass for each seat, in order. `cap` is the
-    /// greatest number of entries of its history, those among them that are owed. Where memory is refused,
-    /// the items come back.
+    /// Opens a pool of these items, with a permit for each. Returns a pass for each seat too, in order. `cap` is the
+    /// greatest number of entries of its history, owed ones included. If memory is refused, it returns the items.
     pub fn open(
         alloc: Global,
         items: LinkedList<T>,
@@ -103,10 +104,11 @@ impl<T: Drop> Pool<T> {
         }
     }
 
-    /// Takes the pool for good, and waits until nobody is in a call. It gives back the history, and the items
-    /// that lie there: one for each permit that is free then. The others are with whoever acquired them.
+    /// Ends the pool, after the calls that are under way. Returns the history, and the items of the pool: one for
+    /// each free permit. The other items are with the threads that acquired them.
     ///
-    /// The passes of all seats are needed, in any order. Where one is missing, all comes back as it was.
+    /// The passes of all seats are needed, in any order. If one is missing, it returns the pool and the passes as
+    /// they were.
     pub fn close<R: Wait>(
         self,
         rt: &R,
@@ -116,11 +118,23 @@ impl<T: Drop> Pool<T> {
         ensures items { IfOk result (λ r.
             Lies r.1 (counts (start_on self.lock.header r.0.history) r.0.history.entries)) }
         ensures each { IfOk result (λ r. pos (length r.1) ≡ r.0.balance.available) }
+        ensures lawful { IfOk result (λ r. IsLawful (left_by self.lock r.0.history)) }
+        ensures within { IfOk result (λ r.
+            All (λ p. IsWithin (left_by self.lock r.0.history) p) passes.items) }
+        ensures base { IfOk result (λ r. IsBased self.lock r.0.history) }
         ensures good { IfOk result (λ r. IsBasedWell self.lock.header r.0.history.base) }
         ensures seated { IfOk result (λ r.
             AreSeated (start_on self.lock.header r.0.history) r.0.history.entries) }
+        ensures cap { IfOk result (λ r. r.0.history.cap ≡ self.lock.header.cap) }
+        ensures one_pass { IfOk result (λ _. (seat : _)
+            → seat < self.lock.header.seats → passes_of seat passes.items ≡ 1) }
+        ensures share { IfOk result (λ r. r.0.share ≡ shares passes.items) }
         ensures calls { IfOk result (λ r.
             r.0.share ≡ calls (start_on self.lock.header r.0.history) r.0.history.entries) }
+        ensures balance { IfOk result (λ r.
+            r.0.balance ≡ balance (start_on self.lock.header r.0.history) r.0.history.entries) }
+        ensures missing { IfErr result (λ r.
+            (r.2 ≡ MissingPass) × IsMissing self.lock.header.seats passes.items) }
         ensures back { IfErr result (λ r. (r.0 ≡ self) × (r.1 ≡ passes)) }
     {
         let Pool {
@@ -145,7 +159,7 @@ impl<T: Drop> Pool<T> {
         }
     }
 
-    /// The monitor, for what it tells of the semaphore, and for `trim` and `meet`.
+    /// Returns the monitor, for its observers, and for `trim` and `meet`.
     pub fn monitor(&self) -> &Monitor<SemaphoreHooks, Shelf<T>>
         ensures { result.now ≡ self.now.lock }
     {
@@ -153,9 +167,9 @@ impl<T: Drop> Pool<T> {
     }
 }
 
-/// What all calls are made of.
+/// The parts of all calls.
 impl<T: Drop> Pool<T> {
-    // A call by one who brings as many items as it releases.
+    // A call. The shelf has as many items as the call releases.
     pub(crate) fn call<P: Parking, R: Wait + Clock>(
         &self,
         rt: &R,
@@ -194,7 +208,7 @@ impl<T: Drop> Pool<T> {
         }
     }
 
-    // A call that brings nothing: the items that it asks for, unless it missed them.
+    // An acquire or a try. Returns the items, or None if there were too few in time.
     pub(crate) fn take<P: Parking, R: Wait + Clock>(
         &self,
         rt: &R,
@@ -233,7 +247,7 @@ impl<T: Drop> Pool<T> {
         }
     }
 
-    // The same of an acquire that waits as long as it must.
+    // An acquire without a time.
     pub(crate) fn fetch<P: Parking, R: Wait + Clock>(
         &self,
         rt: &R,

@@ -29,9 +29,9 @@ use permit::Parking;
 use std::sync::Wait;
 use std::time::Clock;
 
-/// What the calls of readers are made of. A pass that writes carries the value meanwhile, in its slot.
+/// The parts of the calls of readers. If the pass writes too, its slot has the value.
 impl<T: Drop, H: Hooks + Drop> Mutex<T, H> {
-    // A call by one who carries the value exactly if the pass writes.
+    // A call for a read hold. The slot has the value exactly if the pass writes.
     pub(crate) fn start_reading<P: Parking, R: Wait + Clock>(
         &self,
         rt: &R,
@@ -64,7 +64,7 @@ impl<T: Drop, H: Hooks + Drop> Mutex<T, H> {
         }
     }
 
-    // A call by one who doesn't write.
+    // A call for a read hold, by a pass that doesn't write.
     pub(crate) fn try_read_by<P: Parking, R: Wait + Clock>(
         &self,
         rt: &R,
@@ -90,7 +90,7 @@ impl<T: Drop, H: Hooks + Drop> Mutex<T, H> {
         }
     }
 
-    // The same of an acquire that waits as long as it must.
+    // An acquire without a time.
     pub(crate) fn read_by<P: Parking, R: Wait + Clock>(
         &self,
         rt: &R,
@@ -115,7 +115,7 @@ impl<T: Drop, H: Hooks + Drop> Mutex<T, H> {
         }
     }
 
-    // A read hold for one who writes.
+    // A read hold for a pass that writes.
     pub(crate) fn read_too<P: Parking, R: Wait + Clock>(
         &self,
         rt: &R,
@@ -132,7 +132,7 @@ impl<T: Drop, H: Hooks + Drop> Mutex<T, H> {
         whether(self.start_reading(rt, parking, pass, slot, Reading::Acquire(How::Plain)))
     }
 
-    // Gives a read hold back.
+    // Releases a read hold.
     pub(crate) fn end_reading<P: Parking, R: Wait + Clock>(
         &self,
         rt: &R,

@@ -43,14 +43,15 @@ use std::sync::Wait;
 use std::time::Clock;
 
 /// A lock that guards a value: `java.util.concurrent.locks.ReentrantReadWriteLock` of Java SE 8 with the conditions
-/// of its write lock, and `std::sync::RwLock` of Rust in what it guards. The thread is the pass.
+/// of its write lock, and `std::sync::RwLock` of Rust in what it guards. A pass stands for a
+/// thread.
 ///
-/// A writer has the value, in a [`Guard`]. Readers hold the lock together, and meanwhile the value lies in it:
-/// `read_with` shows it to one of them at a time, for as long as a closure looks. There is no guard with a `&T`,
-/// since the value lies under the monitor's lock, which is taken anew for each look.
+/// A writer has the value, in a [`Guard`]. Readers hold the lock together, and the value stays in it: `read_with`
+/// shows it to one reader at a time, until its closure returns. There is no guard with a `&T`, since the value is under
+/// the monitor's lock, which is acquired for each look.
 ///
-/// A writer may read too, and then unlock: so it becomes a reader, with nobody in between. A reader can't become
-/// a writer: its `write` waits for its own read hold, and never ends, unless it is interrupted or has a time.
+/// A writer that acquires a read hold and then unlocks becomes a reader, and no other writer comes between. A reader
+/// can't become a writer: its `write` waits for its own read hold until an interrupt or its time ends it.
 #[derive(Drop)]
 pub struct RwMutex<T: Drop> {
     pub(crate) mutex: Mutex<T, RwHooks>,
@@ -65,9 +66,9 @@ impl<T: Drop> Model for RwMutex<T> {
 }
 
 impl<T: Drop> RwMutex<T> {
-    /// A lock whose write lock has conditions 0 to `conditions - 1` that guards the value, and a pass for each seat,
-    /// in order. `cap` is the greatest number of entries of its history, those among them that are owed. Where
-    /// memory is refused, the value comes back.
+    /// Opens a lock that guards the value, and whose write lock has conditions 0 to `conditions - 1`. Returns a pass for
+    /// each seat too, in order. `cap` is the greatest number of entries of its history, owed ones included. If memory
+    /// is refused, it returns the value.
     pub fn open(
         alloc: Global,
         value: T,
@@ -102,10 +103,11 @@ impl<T: Drop> RwMutex<T> {
         }
     }
 
-    /// Takes the lock for good, and waits until nobody is in a call. It gives back the history, and the value
-    /// unless some seat still writes: then whoever writes has the value.
+    /// Ends the lock, after the calls that are under way. Returns the history, and the value unless a seat still
+    /// writes and so has the value.
     ///
-    /// The passes of all seats are needed, in any order. Where one is missing, all comes back as it was.
+    /// The passes of all seats are needed, in any order. If one is missing, it returns the lock and the passes as
+    /// they were.
     pub fn close<R: Wait>(
         self,
         rt: &R,
@@ -139,7 +141,7 @@ impl<T: Drop> RwMutex<T> {
         }
     }
 
-    /// The monitor, for what it tells of the lock, and for `trim` and `meet`.
+    /// Returns the monitor, for its observers, and for `trim` and `meet`.
     pub fn monitor(&self) -> &Monitor<RwHooks, Slot<T>>
         ensures { result.now ≡ self.now.lock }
     {
@@ -147,10 +149,10 @@ impl<T: Drop> RwMutex<T> {
     }
 }
 
-/// Each of these is called by a pass that doesn't write, and answers a guard, which has the value. Behind an `Err`
-/// the pass writes nothing, and nobody has lost the value. A fault is the monitor's, as at [`Mutex`].
+/// Each of these is called by a pass that doesn't write, and returns a guard, which has the value. After an `Err` the
+/// pass doesn't write. The faults are those of [`Mutex`].
 ///
-/// A pass that reads waits for itself here: it calls `unread` first.
+/// A pass that reads would wait for its own read hold: it calls `unread` first.
 ///
 /// The pass is the first argument, as in `RwMutex::write(pass, &lock, rt, parking)`, since the guard borrows it.
 impl<T: Drop> RwMutex<T> {
@@ -176,7 +178,7 @@ impl<T: Drop> RwMutex<T> {
         Mutex::lock(pass, &lock.mutex, rt, parking)
     }
 
-    /// Waits until it has the lock, or is interrupted: `Err(Interrupted)`, also where an interrupt was pending. The
+    /// Waits until it has the lock, or is interrupted: `Err(Interrupted)`, also if an interrupt was pending. The
     /// interrupt is taken. This is `WriteLock.lockInterruptibly()`.
     pub fn write_interruptibly<'a, P: Parking, R: Wait + Clock>(
         pass: &'a mut Pass,
@@ -198,7 +200,7 @@ impl<T: Drop> RwMutex<T> {
         Mutex::lock_interruptibly(pass, &lock.mutex, rt, parking)
     }
 
-    /// Takes the lock if nobody writes or reads now. It goes past those in line, under a fair policy too, but not
+    /// Acquires the lock if no thread writes or reads now. It overtakes waiters, under a fair policy too, but not
     /// under a strict one. This is `WriteLock.tryLock()`.
     pub fn try_write<'a, P: Parking, R: Wait + Clock>(
         pass: &'a mut Pass,
@@ -221,7 +223,7 @@ impl<T: Drop> RwMutex<T> {
     }
 
     /// Waits for the lock, for `ms` milliseconds at most, or until it is interrupted: `Err(Failed(Interrupted))`.
-    /// With 0 it doesn't wait, and under a fair or strict policy it doesn't go past those in line. This is
+    /// With 0 it doesn't wait, and under a fair or strict policy it doesn't overtake waiters. This is
     /// `WriteLock.tryLock(time, unit)`.
     pub fn try_write_for<'a, P: Parking, R: Wait + Clock>(
         pass: &'a mut Pass,
@@ -245,7 +247,7 @@ impl<T: Drop> RwMutex<T> {
     }
 }
 
-/// Each of these is called by a pass that doesn't write, and may read already: it then has one read hold more. Behind
+/// Each of these is called by a pass that doesn't write, and may read already: it then has one read hold more. After
 /// an `Err` it has as many as before. There are 65535 read holds for all passes together, and then
 /// `Err(TooManyHolds)`; the other faults are the monitor's, as at [`Mutex`].
 impl<T: Drop> RwMutex<T> {
@@ -269,7 +271,7 @@ impl<T: Drop> RwMutex<T> {
         self.mutex.read_by(rt, parking, pass, How::Plain)
     }
 
-    /// Waits until it reads, or is interrupted: `Err(Interrupted)`, also where an interrupt was pending. The interrupt
+    /// Waits until it reads, or is interrupted: `Err(Interrupted)`, also if an interrupt was pending. The interrupt
     /// is taken. This is `ReadLock.lockInterruptibly()`.
     pub fn read_interruptibly<P: Parking, R: Wait + Clock>(
         &self,
@@ -289,7 +291,8 @@ impl<T: Drop> RwMutex<T> {
         self.mutex.read_by(rt, parking, pass, How::Interruptible)
     }
 
-    /// Reads if nobody writes now. It goes past those in line, under a fair policy too, but not under a strict one.
+    /// Acquires a read hold if no thread writes now. It overtakes waiters, under a fair policy too, but not under a
+    /// strict one.
     /// This is `ReadLock.tryLock()`.
     pub fn try_read<P: Parking, R: Wait + Clock>(
         &self,
@@ -310,7 +313,7 @@ impl<T: Drop> RwMutex<T> {
     }
 
     /// Waits for a read hold, for `ms` milliseconds at most, or until it is interrupted: `Err(Failed(Interrupted))`.
-    /// With 0 it doesn't wait, and under a fair or strict policy it doesn't go past those in line. This is
+    /// With 0 it doesn't wait, and under a fair or strict policy it doesn't overtake waiters. This is
     /// `ReadLock.tryLock(time, unit)`.
     pub fn try_read_for<P: Parking, R: Wait + Clock>(
         &self,
@@ -334,8 +337,8 @@ impl<T: Drop> RwMutex<T> {
 }
 
 impl<T: Drop> RwMutex<T> {
-    /// Shows the value to `look`, in one turn of the lock: nobody has it otherwise meanwhile, a reader neither, so
-    /// let it be short. The pass reads, and goes on reading.
+    /// Shows the value to `look`, in one turn of the lock. No other thread makes a call until `look` returns, so it
+    /// should be short. The pass keeps its read holds.
     pub fn read_with<R: Wait, A, F: FnOnce(&T) -> A>(&self, rt: &R, pass: &mut Pass, look: F) -> A
         requires is_of { pass.old.lock ≡ self.now.lock }
         requires reads { 0 < reads pass.old }
@@ -350,8 +353,8 @@ impl<T: Drop> RwMutex<T> {
         self.mutex.look(rt, pass, look)
     }
 
-    /// Gives a read hold back. It never lacks room or memory: `Err(OutOfPhase)` where the pass was left in the
-    /// middle of another call, by steps of its own on the monitor. This is `ReadLock.unlock()`.
+    /// Releases a read hold. It never lacks room or memory. `Err(OutOfPhase)` if the pass was left in the middle of
+    /// another call, by steps of its own on the monitor. This is `ReadLock.unlock()`.
     pub fn unread<P: Parking, R: Wait + Clock>(
         &self,
         rt: &R,
@@ -375,7 +378,7 @@ impl<T: Drop> RwMutex<T> {
 
 /// A writer may read too, and so become a reader.
 impl<T: Drop, P: Parking, R: Wait + Clock> Guard<'_, T, P, R, RwHooks> {
-    /// Takes a read hold beside the write hold: whether it did. This is `ReadLock.lock()` by the owner of the write
+    /// Acquires a read hold beside the write hold, and returns whether it did. This is `ReadLock.lock()` by the owner of the write
     /// lock.
     pub fn read(&mut self) -> Result<bool, Fault>
         requires guards { Guards self.old.lock.now (P.seats self.old.parking.now) self.old.pass.now self.old.slot }
@@ -391,7 +394,7 @@ impl<T: Drop, P: Parking, R: Wait + Clock> Guard<'_, T, P, R, RwHooks> {
             .read_too(self.rt, self.parking, pass, &mut self.slot)
     }
 
-    /// Unlocks now, and keeps the read holds: so a writer becomes a reader, and nobody writes in between. It can't
+    /// Unlocks now, and keeps the read holds: a writer becomes a reader, and no other writer comes between. It can't
     /// fail. This is `WriteLock.unlock()` by an owner that reads too.
     pub fn downgrade(self)
         requires guards { Guards self.lock.now (P.seats self.parking.now) self.pass.now self.slot }

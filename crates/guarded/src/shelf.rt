@@ -1,18 +1,18 @@
-//! Items that lie in a pool, one for each free permit, or in the hand of one who fetches or brings some.
+//! Items of a pool, one for each free permit, and items on their way into the pool or out of it.
 ghost use Rattle.std.specs.Prelude.{◌≡◌, ◌<◌, ◌+◌, ◌^◌, ◌++◌, ℕ, [], drop, length, pos, take};
 
 use monitor::{Holds, Load};
 use std::collections::LinkedList;
 
-/// A place for items: under the lock, or with one who fetches or brings some. Items move with their nodes, so
-/// to move some takes no memory.
+/// A place for items: in the pool, or with a call that acquires or releases some. Items move with their nodes, so a
+/// move takes no memory.
 #[derive(Drop)]
 pub struct Shelf<T> {
     pub(crate) items: LinkedList<T>,
 }
 
 impl<T: Drop> Shelf<T> {
-    // An empty one is put away, and no item with it.
+    // Drops an empty shelf.
     pub(crate) fn put_away(self)
         requires { length self.items ≡ 0 }
     {
@@ -21,7 +21,7 @@ impl<T: Drop> Shelf<T> {
     }
 }
 
-// `free` items stay here. Whoever takes some brought none; whoever gave some back brought them.
+// Leaves `free` items here. An acquire brought none, a release brought those that it releases.
 fn settle<T: Drop>(here: &mut LinkedList<T>, there: &mut LinkedList<T>, free: usize)
     requires { free < 2 ^ 63 }
     ensures takes { free < length here.old → there.old ≡ [] → (here.new ≡ take free here.old)
@@ -44,7 +44,7 @@ fn settle<T: Drop>(here: &mut LinkedList<T>, there: &mut LinkedList<T>, free: us
     *there = taken;
 }
 
-// The same by a number of permits, which may be below 0 where nothing lies here.
+// The same for a number of permits, which may be below 0 if nothing is here.
 fn trade<T: Drop>(here: &mut LinkedList<T>, there: &mut LinkedList<T>, free: i64)
     ensures takes { (n : ℕ) → free ≡ pos n → n < length here.old → there.old ≡ []
         → (here.new ≡ take n here.old) × (there.new ≡ drop n here.old) }

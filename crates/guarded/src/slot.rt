@@ -1,4 +1,4 @@
-//! A value that lies under a lock while nobody holds it, and is with the owner while somebody does.
+//! The place of the value of a lock: in the lock while no thread holds it, with the owner while one does.
 ghost use Rattle.std.specs.Prelude.{◌≡◌, if◌then◌else◌};
 ghost use Rattle.std.specs.Borrow.{sem};
 ghost use Rattle.guarded.specs.Stowed.{IsFull, crosses, slot_of};
@@ -7,7 +7,7 @@ ghost use Rattle.guarded.specs.declared.slot.Slot.TheVariants.{Full};
 use monitor::{Holds, Load};
 use std::mem;
 
-/// A place for the value: under the lock, or with the owner.
+/// A place for the value: in the lock, or with the owner.
 #[derive(Drop)]
 pub enum Slot<T> {
     /// The value is elsewhere.
@@ -50,7 +50,7 @@ impl<T: Drop> Slot<T> {
     }
 }
 
-// The value changes hands where the first hold came or the last one went.
+// The value moves if the first hold came or the last one went.
 #[inline(always)]
 fn trade<T>(here: &mut Slot<T>, there: &mut Slot<T>, before: u128, after: u128)
     ensures here { here.new ≡ (if crosses before after then there.old else here.old) }

@@ -1,11 +1,11 @@
-//! Why a try has no lock.
+//! Why a try has not acquired the lock.
 use history::fault::Fault;
 
-/// Why a call that may give up has no lock.
+/// Why a call that may give up has not acquired the lock.
 #[derive(Clone, Copy, Debug, PartialEq, Eq)]
 pub enum TryLockFault {
-    /// Somebody else has it, or stands in line for it where the call may not pass, or the time was up.
+    /// Another thread holds it, or waits for it and may not be overtaken, or the time was up.
     Missed,
-    /// The call failed: an interrupt ended it, or the history or memory had no room for its entry.
+    /// The call returned this fault: an interrupt ended it, or there was no room or no memory for its entry.
     Failed(Fault),
 }
