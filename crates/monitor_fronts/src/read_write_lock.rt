@@ -131,8 +131,8 @@ impl<'m> ReadWriteLock<'m> {
         whether(self.acquire_as(rt, parking, pass, Mode::X, How::Timed(ms)))
     }
 
-    /// `WriteLock.unlock()`: `Err(NotOwner)` where Java throws `IllegalMonitorStateException`. It can't fail if the
-    /// pass has the write lock: room and memory for it were reserved when the hold was recorded.
+    /// `WriteLock.unlock()`: `Err(NotOwner)` where Java throws `IllegalMonitorStateException`. It can't fail
+    /// if the pass has the write lock: room and memory for it were reserved when the hold was recorded.
     pub fn write_unlock<P: Parking, R: Wait + Clock>(
         &self,
         rt: &R,
