@@ -13,10 +13,6 @@ use Rattle.workers.specs.declared.report.ObjectReport.{ObjectReport}
 use Rattle.workers.specs.declared.report.Report.{Report}
 use Rattle.workers.specs.Reports.{IsReport, is_legal}
 
--- the audit judges the history of an object legal
-abbrev pub EndsWell : ObjectReport → Type 0
-EndsWell part = is_legal part.judgement ≡ true
-
 -- The text is that of a script, a run of it has this report, and this is written for the report.
 pub record IsRun (text : List ℕ) (Written : List ℕ → Type 0) : Type 0 where
   pub script : ScriptView
@@ -47,19 +43,6 @@ Runs left old new (Err Usage) = ⊥
 Runs left old new (Err BadFrom) = ⊥
 Runs left old new (Err BadTo) = ⊥
 Runs left old new (Err Memory) = Keeps old new
-
--- why a script can't be read
-abbrev pub IsFaultOfScript : Option (List ℕ) → Fault → Type 0
-IsFaultOfScript left (Script fault) = IfSome left (λ text. IsFault text fault)
-IsFaultOfScript left (Stream ReadFailed) = Unit {0}
-IsFaultOfScript left (Stream StreamMemory) = Unit {0}
-IsFaultOfScript left (Stream WriteFailed) = ⊥
-IsFaultOfScript left (Stream (Text fault)) = ⊥
-IsFaultOfScript left (Run fault) = ⊥
-IsFaultOfScript left Usage = ⊥
-IsFaultOfScript left BadFrom = ⊥
-IsFaultOfScript left BadTo = ⊥
-IsFaultOfScript left Memory = ⊥
 
 -- a script was read to its end, unless reading failed or an allocation for its text did
 abbrev pub IsReadOut : {T : Type 0} → Result T Fault → Option (List ℕ) → Type 0

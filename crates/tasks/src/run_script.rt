@@ -4,7 +4,8 @@ ghost use Rattle.std.specs.Prelude.{◌≡◌, ◌≤◌, ◌⊎◌, ◌↔◌, 
 ghost use Rattle.std.specs.Io.KnownBytes.{IsAtEnd};
 ghost use Rattle.script.specs.Reading.{Reads};
 ghost use Rattle.streams.specs.declared.stream_fault.StreamFault.TheVariants.{ReadFailed, WriteFailed};
-ghost use Rattle.tasks.specs.RunScript.{EndsWell, IsFaultOfScript, IsReadOut, Runs};
+ghost use Rattle.tasks.specs.RunScript.{IsReadOut, Runs};
+ghost use Rattle.tasks.specs.inner.{EndsWell, IsFaultOfScript};
 ghost use Rattle.tasks.specs.declared.fault.Fault.TheVariants.{Stream};
 
 use crate::fault::Fault;

@@ -1,0 +1,25 @@
+-- What only contracts of private functions cite: no promise of the crate rests on it.
+use Rattle.std.specs.Prelude.{◌≡◌, ℕ, List, Option, IfSome, true}
+use Rattle.script.specs.Reading.{IsFault}
+use Rattle.streams.specs.declared.stream_fault.StreamFault.TheVariants.{Text, ReadFailed, WriteFailed, Memory as StreamMemory}
+use Rattle.tasks.specs.declared.fault.Fault.{Fault}
+use Rattle.tasks.specs.declared.fault.Fault.TheVariants.{Usage, BadFrom, BadTo, Memory, Stream, Script, Run}
+use Rattle.workers.specs.declared.report.ObjectReport.{ObjectReport}
+use Rattle.workers.specs.Reports.{is_legal}
+
+-- the audit judges the history of an object legal
+abbrev pub EndsWell : ObjectReport → Type 0
+EndsWell part = is_legal part.judgement ≡ true
+
+-- why a script can't be read
+abbrev pub IsFaultOfScript : Option (List ℕ) → Fault → Type 0
+IsFaultOfScript left (Script fault) = IfSome left (λ text. IsFault text fault)
+IsFaultOfScript left (Stream ReadFailed) = Unit {0}
+IsFaultOfScript left (Stream StreamMemory) = Unit {0}
+IsFaultOfScript left (Stream WriteFailed) = ⊥
+IsFaultOfScript left (Stream (Text fault)) = ⊥
+IsFaultOfScript left (Run fault) = ⊥
+IsFaultOfScript left Usage = ⊥
+IsFaultOfScript left BadFrom = ⊥
+IsFaultOfScript left BadTo = ⊥
+IsFaultOfScript left Memory = ⊥
