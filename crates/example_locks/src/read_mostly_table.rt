@@ -1,7 +1,8 @@
 //! A table that is mostly read, under a read-write lock: readers share it, and a writer has it alone.
 //!
 //! A writer changes the whole table, downgrades to a reader, and reads what it wrote. Prints how many updates
-//! and reads there were, and the audit's verdict on the history of the lock.
+//! and reads there were, and what the lock was left with. `close` promises that its history is legal and has
+//! each call.
 
 ghost use Rattle.std.specs.Prelude.{◌≡◌, ◌≤◌, All, IfOk};
 
@@ -10,8 +11,7 @@ mod table;
 use crate::read_mostly_table::table::{Outcome, Table, Tally, work};
 use history::fault::Fault;
 use history::header::{Header, Object, Policy};
-use monitor::Pass;
-use monitor_audit::{Findings, close_and_judge};
+use monitor::{Closed, Pass};
 use monitor_fronts::{ReadWriteLock, open_read_write_lock};
 use permit::ThreadParking;
 use std::alloc::Global;
@@ -68,13 +68,13 @@ fn work_at<R: Threads + Wait + Clock + Sync>(
 }
 
 /// What is printed at the end.
-#[derive(Clone, Copy)]
+#[derive(Drop)]
 struct Told {
     outcome: Outcome,
-    findings: Findings,
+    closed: Closed,
 }
 
-/// Runs the example, closes the lock and judges its history.
+/// Runs the example, and closes the lock.
 fn play<R: Threads + Wait + Clock + Sync>(rt: &R, alloc: Global) -> Result<Told, Fault> {
     let parking = ThreadParking::open(rt, alloc, HEADER.seats)?;
     let (monitor, passes) = open_read_write_lock(
@@ -85,8 +85,10 @@ fn play<R: Threads + Wait + Clock + Sync>(rt: &R, alloc: Global) -> Result<Told,
         HEADER.cap,
     )?;
     let (passes, outcome) = work_at(rt, &parking, ReadWriteLock::of(&monitor), passes)?;
-    let findings = close_and_judge(rt, alloc, &HEADER, monitor, passes)?;
-    Ok(Told { outcome, findings })
+    match monitor.close(rt, passes) {
+        Ok(closed) => Ok(Told { outcome, closed }),
+        Err(_) => Err(Fault::OutOfPhase),
+    }
 }
 
 /// Runs all threads, and prints the results.
@@ -94,7 +96,7 @@ pub fn run<R: Print + AllocGlobal + Threads + Wait + Clock + Sync>(rt: &R) -> io
     let Ok(told) = play(rt, rt.alloc()) else {
         return println!(rt; "out of memory");
     };
-    let Told { outcome, findings } = told;
+    let Told { outcome, closed } = told;
     println!(rt;
         "version {} after {} updates",
         outcome.version, outcome.updates
@@ -107,6 +109,9 @@ pub fn run<R: Print + AllocGlobal + Threads + Wait + Clock + Sync>(rt: &R) -> io
         "updates overwritten before their writer looked {}",
         outcome.overwritten
     )?;
-    println!(rt; "faults {}, calls {}", outcome.faults, findings.calls)?;
-    findings.print(rt)
+    println!(rt; "faults {}, calls {}", outcome.faults, closed.share)?;
+    println!(rt;
+        "write holds {}, read holds {}, in the queue {}",
+        closed.balance.exclusive, closed.balance.shared, closed.balance.line
+    )
 }

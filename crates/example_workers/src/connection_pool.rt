@@ -17,11 +17,11 @@ mod service;
 
 use crate::connection_pool::clients::{Client, Outcome, dismiss, enroll};
 use crate::connection_pool::service::{Connection, Service, connect, requests_of};
+use audit::verdict::{Verdict, check};
 use guarded::{Pool, WhenFull};
 use history::fault::Fault;
 use history::header::{Header, Object, Policy};
 use monitor::Pass;
-use monitor_audit::Findings;
 use permit::ThreadParking;
 use std::alloc::Global;
 use std::sync::Wait;
@@ -139,7 +139,9 @@ struct Told {
     lie: usize,
     /// Permits that are free by the history.
     free: i64,
-    findings: Findings,
+    /// How many calls the passes saw end.
+    calls: u64,
+    verdict: Verdict,
 }
 
 /// Closes the pool, and has the history of its semaphore judged. In the pool lies a connection for each free
@@ -157,14 +159,15 @@ fn close<R: Wait>(
 {
     match pool.close(rt, passes) {
         Ok((closed, connections)) => {
-            let findings = Findings::of(alloc, &HEADER, &closed)?;
+            let verdict = check(alloc, &HEADER, &closed.history)?;
             let lie = connections.len();
             Ok(Told {
                 outcome,
                 by_connections: requests_of(connections),
                 lie,
                 free: closed.balance.available,
-                findings,
+                calls: closed.share,
+                verdict,
             })
         }
         Err(_) => Err(Fault::OutOfPhase),
@@ -205,7 +208,8 @@ pub fn run<R: Print + AllocGlobal + Threads + Wait + Clock + Sync>(rt: &R) -> io
         by_connections,
         lie,
         free: _,
-        findings,
+        calls,
+        verdict,
     } = told;
     println!(rt;
         "served {}, of them by the connections {by_connections}",
@@ -216,6 +220,9 @@ pub fn run<R: Print + AllocGlobal + Threads + Wait + Clock + Sync>(rt: &R) -> io
         "connections in the pool {lie}, given up {}, faults {}",
         outcome.given_up, outcome.failed
     )?;
-    println!(rt; "calls {}", findings.calls)?;
-    findings.print(rt)
+    println!(rt; "calls {calls}")?;
+    match verdict {
+        Verdict::Legal => println!(rt; "the history is legal"),
+        Verdict::NotLegal(number) => println!(rt; "not legal at {number}"),
+    }
 }

@@ -2,10 +2,12 @@
 //!
 //! A foreman lays the work out, opens the start, and waits until each worker has counted the end down. Each
 //! worker has a thread of its own. If the system refuses one, the others are let go, and nobody works. Prints
-//! what the workers made, and what the audit says of the histories of both latches.
+//! what the workers made, and what both latches were left with. `close` promises that their histories are
+//! legal and have each call.
 
 ghost use Rattle.std.specs.Prelude.{◌≡◌, All, IfOk};
 ghost use Rattle.example_workers.specs.Opened.{IsOpened};
+ghost use Rattle.monitor.specs.Closing.{shares};
 ghost use Rattle.monitor.specs.Lawful.{blank};
 ghost use Rattle.monitor.specs.Shown.{opening_passes};
 
@@ -23,8 +25,7 @@ use crate::latch_workers::worker::{Worker, pair_up, part};
 use counting::latch::LatchHooks;
 use history::fault::Fault;
 use history::header::{Header, Object};
-use monitor::{Monitor, Pass};
-use monitor_audit::{Findings, close_and_judge};
+use monitor::{Closed, Monitor, Pass};
 use monitor_fronts::open_latch;
 use permit::ThreadParking;
 use std::alloc::Global;
@@ -109,21 +110,32 @@ fn work<R: Threads + Wait + Clock + Sync>(
 }
 
 /// What is told at the end.
-#[derive(Clone, Copy)]
+#[derive(Drop)]
 struct Told {
     outcome: Outcome,
-    start: Findings,
-    end: Findings,
+    start: Closed,
+    end: Closed,
 }
 
-/// Plays, closes both latches and has their histories judged.
+/// Closes a latch with its passes.
+fn close<R: Wait>(rt: &R, latch: Monitor<LatchHooks>, passes: Vec<Pass>) -> Result<Closed, Fault>
+    requires { All (λ p. p.lock ≡ latch) passes.items }
+    ensures { IfOk result (λ closed. closed.share ≡ shares passes.items) }
+{
+    match latch.close(rt, passes) {
+        Ok(closed) => Ok(closed),
+        Err(_) => Err(Fault::OutOfPhase),
+    }
+}
+
+/// Plays, and closes both latches.
 fn play<R: Threads + Wait + Clock + Sync>(rt: &R, alloc: Global) -> Result<Told, ShiftFault> {
     let (shift, starts, ends) = open_shift(rt, alloc)?;
     let (starts, ends) = work(rt, alloc, &shift, starts, ends)?;
     let outcome = shift.tally.outcome();
     let Shift { start, end, .. } = shift;
-    let start = close_and_judge(rt, alloc, &START, start, starts);
-    let end = close_and_judge(rt, alloc, &END, end, ends);
+    let start = close(rt, start, starts);
+    let end = close(rt, end, ends);
     Ok(Told {
         outcome,
         start: start?,
@@ -150,8 +162,6 @@ pub fn run<R: Print + AllocGlobal + Threads + Wait + Clock + Sync>(rt: &R) -> io
         "began before the start {}, faults {}",
         outcome.early, outcome.faults
     )?;
-    println!(rt; "start: calls {}", start.calls)?;
-    start.print(rt)?;
-    println!(rt; "end: calls {}", end.calls)?;
-    end.print(rt)
+    println!(rt; "start: calls {}, count {}", start.share, start.balance.count)?;
+    println!(rt; "end: calls {}, count {}", end.share, end.balance.count)
 }

@@ -4,10 +4,9 @@ ghost use Rattle.history.specs.Header.{IsInRange};
 
 use crate::asks::{Ask, DONE, Front, NO, Reply, perform};
 use crate::noted::NotedParking;
-use audit::verdict::Judgement;
+use audit::verdict::{Verdict, check};
 use history::header::{Header, Object, Policy};
-use monitor::{Monitor, Pass};
-use monitor_audit::Findings;
+use monitor::{Closed, Monitor, Pass};
 use monitor_fronts::{open_latch, open_lock, open_read_write_lock, open_semaphore};
 use permit::{Call, Woke};
 use std::process::Abort;
@@ -22,7 +21,7 @@ pub fn close_and_audit<H: Front, R: Abort + AllocGlobal + Wait>(
     monitor: Monitor<H>,
     header: &Header,
     passes: Vec<Pass>,
-) -> Findings
+) -> Closed
     requires is_of { All (λ p. p.lock ≡ monitor) passes.items }
     requires header { monitor.header ≡ header.now }
     requires range { IsInRange header.now }
@@ -30,10 +29,10 @@ pub fn close_and_audit<H: Front, R: Abort + AllocGlobal + Wait>(
     let Ok(closed) = monitor.close(rt, passes) else {
         panic!(rt; "a pass is missing")
     };
-    let findings = Findings::of(rt.alloc(), header, &closed).expect(rt, "memory");
-    assert!(rt; matches!(&findings.judgement, Judgement::Legal(_)));
-    assert_eq!(rt; findings.share, findings.calls);
-    findings
+    let verdict = check(rt.alloc(), header, &closed.history).expect(rt, "memory");
+    assert!(rt; verdict == Verdict::Legal);
+    assert_eq!(rt; closed.share, closed.history.calls());
+    closed
 }
 
 /// A seat, its call, and the call's result.
@@ -238,8 +237,8 @@ fn end<H: Front, R: Abort + AllocGlobal + Wait + Clock>(
     requires range { IsInRange tale.now.header }
 {
     if tale.behind.is_empty() {
-        let findings = close_and_audit(rt, monitor, &tale.header, passes);
-        assert_eq!(rt; findings.calls, tale.calls, "{}", tale.name);
+        let closed = close_and_audit(rt, monitor, &tale.header, passes);
+        assert_eq!(rt; closed.share, tale.calls, "{}", tale.name);
         return;
     }
     match monitor.close(rt, passes) {

@@ -7,12 +7,11 @@ ghost use Rattle.monitor.specs.Stepping.{IsSame};
 use crate::asks::{Ask, DONE, Front};
 use crate::chance::Chance;
 use crate::plays::close_and_audit;
-use audit::verdict::Judgement;
 use history::entry::Word;
 use history::fault::Fault;
 use history::header::{Header, Object, Policy};
 use history::step::{Answer, Step};
-use monitor::{Monitor, Now, Pass};
+use monitor::{Closed, Monitor, Now, Pass};
 use monitor_fronts::{open_latch, open_lock, open_read_write_lock, open_semaphore};
 use permit::{Parking, ThreadParking};
 use std::process::Abort;
@@ -278,14 +277,14 @@ fn work_and_interrupt<H: Front + Send, R: Abort + Threads + Wait + Clock + Sync>
     worked
 }
 
-/// Returns whether nobody waits or holds a lock.
-fn is_idle(judgement: &Judgement) -> bool {
-    match judgement {
-        Judgement::Legal(totals) => {
-            totals.x == 0 && totals.s == 0 && totals.line == 0 && totals.sleepers == 0
-        }
-        Judgement::NotLegal(_) => false,
-    }
+/// Returns whether nobody waits or holds a lock. A semaphore's permits may be held.
+fn is_idle(object: &Object, closed: &Closed) -> bool {
+    let balance = closed.balance;
+    let reads = match object {
+        Object::Semaphore(_, _) => 0,
+        Object::Lock(_) | Object::ReadWrite(_) | Object::Latch(_) => balance.shared,
+    };
+    balance.exclusive == 0 && reads == 0 && balance.line == 0 && balance.sleepers == 0
 }
 
 /// Runs a storm. Then the monitor is closed and audited, and nobody waits or holds a lock.
@@ -303,9 +302,9 @@ fn rage<H: Front + Send, R: Abort + AllocGlobal + Threads + Wait + Clock + Sync>
     assert!(rt; 4 <= seats);
     let (monitor, passes) = opened;
     let passes = work_and_interrupt(rt, &monitor, &parking, passes, storm);
-    let findings = close_and_audit(rt, monitor, &storm.header, passes);
-    assert!(rt; storm.least <= findings.calls, "{} calls", findings.calls);
-    assert!(rt; is_idle(&findings.judgement), "somebody waits or holds");
+    let closed = close_and_audit(rt, monitor, &storm.header, passes);
+    assert!(rt; storm.least <= closed.share, "{} calls", closed.share);
+    assert!(rt; is_idle(&storm.header.object, &closed), "somebody waits or holds");
 }
 
 fn storm_at<R: Abort + AllocGlobal + Threads + Wait + Clock + Sync>(rt: &R, storm: &Storm) {
