@@ -304,7 +304,10 @@ fn rage<H: Front + Send, R: Abort + AllocGlobal + Threads + Wait + Clock + Sync>
     let passes = work_and_interrupt(rt, &monitor, &parking, passes, storm);
     let closed = close_and_audit(rt, monitor, &storm.header, passes);
     assert!(rt; storm.least <= closed.share, "{} calls", closed.share);
-    assert!(rt; is_idle(&storm.header.object, &closed), "somebody waits or holds");
+    assert!(rt;
+        is_idle(&storm.header.object, &closed),
+        "somebody waits or holds"
+    );
 }
 
 fn storm_at<R: Abort + AllocGlobal + Threads + Wait + Clock + Sync>(rt: &R, storm: &Storm) {
