@@ -159,6 +159,7 @@ def check_sanitizers(tests):
         kept = tests.histories("valgrind")
         words = ["valgrind", "-q", "--error-exitcode=9", "--leak-check=full"]
         tests.run("valgrind: calls", [*words, OUT / "calls", kept], 120, silent=True)
+        tests.run("valgrind: allocations that fail", [*words, OUT / "memory"], 120, silent=True)
         storm = [*words, OUT / "storms", kept, "4", "20"]
         tests.run("valgrind: storms of 4 threads", storm, 120, silent=True)
 
