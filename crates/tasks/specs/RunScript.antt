@@ -10,6 +10,7 @@ use Rattle.tasks.specs.declared.fault.Fault.{Fault}
 use Rattle.tasks.specs.declared.fault.Fault.TheVariants.{Usage, BadFrom, BadTo, Memory, Stream, Script, Run}
 use Rattle.workers.specs.declared.fault.RunFault.TheVariants.{GateShut, NotStarted, Memory as RunMemory}
 use Rattle.workers.specs.declared.report.ObjectReport.{ObjectReport}
+use Rattle.workers.specs.Refused.{WasRefused}
 use Rattle.workers.specs.declared.report.Report.{Report}
 use Rattle.workers.specs.Reports.{IsReport, is_legal}
 
