@@ -145,8 +145,8 @@ def json_limits():
         yield RUN, script(one, 1, ["x"]).replace('"x"', nested), fault
     yield RUN, '{"objects":1E308}', "bad top"
     yield RUN, '{"objects":1E309}', "not JSON"
-    # A script of 17 MiB, and one whose bad call stands behind 2 MiB.
-    yield RUN, script(one, 1, ["a give s 1"]).replace("[", "[" + " " * (17 << 20), 1), None
+    # A script of 20 MiB, and one whose bad call stands behind 2 MiB.
+    yield RUN, script(one, 1, ["a give s 1"]).replace("[", "[" + " " * (20 << 20), 1), None
     works = [{"repeat": 1, "calls": ["a give s 1"] * 10_000} for _ in range(16)]
     works[15]["calls"][9_999] = "a give s"
     objects = [["a", "latch seats 16 count 0 cap 16"]]

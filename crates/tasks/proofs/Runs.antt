@@ -21,7 +21,7 @@ pub not_run : (left old : Option (List ℕ)) (script : ScriptView) (fault : RunF
     Runs left old old (Err (Run fault))
 not_run left old script RunMemory reads is = Keeps-refl old
 not_run left old script (NotStarted worker) reads is = (
-  IfSome_then left reads (λ text p. record { script = script; reads = p; among = is }),
+  IfSome_then left reads (λ text p. record { script = script; reads = p; among = is.0; refused = is.1 }),
   Keeps-refl old,
 )
 not_run left old script (GateShut worker) reads is = stops_nobody 0 script.workers worker is

@@ -10,6 +10,7 @@ use Rattle.tasks.specs.declared.fault.Fault.{Fault}
 use Rattle.tasks.specs.declared.fault.Fault.TheVariants.{Usage, BadFrom, BadTo, Memory, Stream, Script, Run}
 use Rattle.workers.specs.declared.fault.RunFault.TheVariants.{GateShut, NotStarted, Memory as RunMemory}
 use Rattle.workers.specs.declared.report.ObjectReport.{ObjectReport}
+use Rattle.workers.specs.Refused.{WasRefused}
 use Rattle.workers.specs.declared.report.Report.{Report}
 use Rattle.workers.specs.Reports.{IsReport, is_legal}
 
@@ -21,11 +22,12 @@ pub record IsRun (text : List ℕ) (Written : List ℕ → Type 0) : Type 0 wher
   pub is : IsReport script report
   pub written : Written (run_text script.objects report.objects.items report.unrecorded)
 
--- The text is that of a script, which has this worker.
+-- The text is that of a script, which has this worker, and the system refused a thread.
 pub record HasWorker (text : List ℕ) (worker : ℕ) : Type 0 where
   pub script : ScriptView
   pub reads : Reads text (Ok script)
   pub among : worker < length script.workers
+  pub refused : WasRefused worker
 
 -- The source's bytes, and what the sink held before and holds after. No gate refuses a call.
 abbrev pub Runs : Option (List ℕ) → Option (List ℕ) → Option (List ℕ) → Result ℕ Fault → Type 0

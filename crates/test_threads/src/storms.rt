@@ -26,7 +26,7 @@ use std::time::{Clock, Duration};
 enum Way {
     /// Pseudo-random calls.
     Calls,
-    /// Pseudo-random steps, none of which waits for the critical section.
+    /// Pseudo-random steps. None but those of the first seat waits for the critical section.
     Steps,
     /// Each acquires the lock and releases it.
     Pairs,
@@ -80,6 +80,23 @@ fn step_by_turn<H: Front, R: Abort + Clock>(
     panic!(rt; "the monitor is always busy")
 }
 
+/// Makes a step. The first seat sleeps while the monitor is busy, so a step that waits for nobody must wake it.
+fn step_once<H: Front, R: Abort + Wait + Clock>(
+    rt: &R,
+    monitor: &Monitor<H>,
+    pass: &mut Pass,
+    step: Step,
+) -> Result<Answer, Fault>
+    requires { pass.old.lock ≡ monitor.now }
+    ensures { IsSame pass.old pass.new }
+{
+    if pass.seat() == 0 {
+        monitor.step(rt, pass, step)
+    } else {
+        step_by_turn(rt, monitor, pass, step)
+    }
+}
+
 /// Returns whether a seat waits after an answer. A fault leaves that as it was.
 fn waits_behind(answer: Result<Answer, Fault>, waited: bool) -> bool {
     match answer {
@@ -93,7 +110,7 @@ fn waits_behind(answer: Result<Answer, Fault>, waited: bool) -> bool {
 
 /// Makes pseudo-random steps, and then gives up what the seat waits for. A seat within an await waits for the
 /// lock.
-fn step_all<H: Front, R: Abort + Clock>(
+fn step_all<H: Front, R: Abort + Wait + Clock>(
     rt: &R,
     monitor: &Monitor<H>,
     pass: &mut Pass,
@@ -106,16 +123,16 @@ fn step_all<H: Front, R: Abort + Clock>(
     let mut waits = false;
     for _ in 0..storm.rounds {
         let step = chance.step(storm.header.object, waits);
-        waits = waits_behind(step_by_turn(rt, monitor, pass, step), waits);
+        waits = waits_behind(step_once(rt, monitor, pass, step), waits);
         chance.pause(rt);
     }
-    waits = waits_behind(step_by_turn(rt, monitor, pass, Step::Expire), waits);
+    waits = waits_behind(step_once(rt, monitor, pass, Step::Expire), waits);
     for _ in 0..LOOKS {
         if !waits {
             break;
         }
         rest(rt);
-        waits = waits_behind(step_by_turn(rt, monitor, pass, Step::Look), waits);
+        waits = waits_behind(step_once(rt, monitor, pass, Step::Look), waits);
     }
 }
 

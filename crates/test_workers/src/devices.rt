@@ -80,8 +80,13 @@ fn is_whole<R: Abort + Threads + Wait + Clock + AllocGlobal + Sync>(
     };
     match run_over(rt, read, write, written) {
         Ok(status) => {
-            let calls = if is_read { SCRIPT.len() } else { WRITTEN.len() };
-            assert!(rt; status == 0 && calls as u64 <= number);
+            // The end is asked for once.
+            let calls = if is_read {
+                SCRIPT.len().saturating_add(1)
+            } else {
+                WRITTEN.len()
+            };
+            assert!(rt; status == 0 && number == calls as u64);
             assert!(rt; written.as_slice() == WRITTEN.as_bytes());
             true
         }

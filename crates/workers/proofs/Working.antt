@@ -8,6 +8,7 @@ use Rattle.workers.specs.declared.fault.RunFault.TheVariants.{Memory, GateShut, 
 use Rattle.workers.specs.declared.work.Worked.{Worked}
 use Rattle.workers.specs.Calls.{Made, rounds}
 use Rattle.workers.specs.Reports.{AllMade}
+use Rattle.workers.specs.Refused.{WasRefused}
 use Rattle.workers.specs.Works.{AddUp, AllWorked, Ends, HasStopped, HasWorked, IsTold, LetsAll, LetsBelow, StopsBelow, StopsFirst, WorksAt, calls_of, passes_left}
 
 same_some : {A : Type 0} (x y : A) → Some x ≡ Some y → x ≡ y
@@ -100,21 +101,22 @@ all_let answers seat (w ∷ ws) (old ∷ olds) (done ∷ dones) u (first, rest) 
 -- why the first that stopped did, of workers from a seat on
 abbrev StopsFor : (ℕ → ℕ → Bool → Type 0) → ℕ → List WorkerView → RunFault → Type 0
 StopsFor answers seat ws (GateShut k) = StopsFirst answers seat ws k
-StopsFor answers seat ws (NotStarted k) = k < seat + length ws
+StopsFor answers seat ws (NotStarted k) = (k < seat + length ws) × WasRefused k
 StopsFor answers seat ws Memory = Unit {0}
 
 told_first : (answers : ℕ → ℕ → Bool → Type 0) (seat : ℕ) (w : WorkerView) (ws : List WorkerView)
     (old : List Shown) (fault : RunFault) (new : List Shown) → Ends answers seat w old (Err fault) new →
     StopsFor answers seat (w ∷ ws) fault
 told_first answers seat w ws old (GateShut k) new ends = inl ends
-told_first answers seat w ws old (NotStarted k) new ends = let is = ends.0 in omega (arith, is)
+told_first answers seat w ws old (NotStarted k) new ends =
+    let is = ends.0 in (omega (arith, is), ends.2)
 told_first answers seat w ws old Memory new ends = tt
 
 told_later : (answers : ℕ → ℕ → Bool → Type 0) (seat : ℕ) (w : WorkerView) (ws : List WorkerView)
     (fault : RunFault) → LetsBelow answers seat (calls_of w) → StopsFor answers (suc seat) ws fault →
     StopsFor answers seat (w ∷ ws) fault
 told_later answers seat w ws (GateShut k) lets told = inr (lets, told)
-told_later answers seat w ws (NotStarted k) lets told = omega (arith, told)
+told_later answers seat w ws (NotStarted k) lets told = let below = told.0 in (omega (arith, below), told.1)
 told_later answers seat w ws Memory lets told = tt
 
 stopped_from : (answers : ℕ → ℕ → Bool → Type 0) (seat : ℕ) (ws : List WorkerView) (olds : List (List Shown))
@@ -136,7 +138,7 @@ stopped_from answers seat (w ∷ ws) (old ∷ olds) (done ∷ dones) fault (firs
 told_from : (answers : ℕ → ℕ → Bool → Type 0) (ws : List WorkerView) (fault : RunFault) →
     StopsFor answers 0 ws fault → IsTold answers ws fault
 told_from answers ws (GateShut k) told = told
-told_from answers ws (NotStarted k) told = omega (arith, told)
+told_from answers ws (NotStarted k) told = let below = told.0 in (omega (arith, below), told.1)
 told_from answers ws Memory told = tt
 
 -- why a worker stopped

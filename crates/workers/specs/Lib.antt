@@ -1,4 +1,5 @@
 pub mod Calls
 pub mod Rows
 pub mod Works
+pub mod Refused
 pub mod Reports

@@ -6,6 +6,7 @@ use Rattle.workers.specs.declared.fault.RunFault.{RunFault}
 use Rattle.workers.specs.declared.fault.RunFault.TheVariants.{Memory, GateShut, NotStarted}
 use Rattle.workers.specs.declared.work.Worked.{Worked}
 use Rattle.workers.specs.Calls.{Made, homes, rounds}
+use Rattle.workers.specs.Refused.{WasRefused}
 
 -- how many calls a worker makes
 abbrev pub calls_of : WorkerView → ℕ
@@ -30,7 +31,7 @@ abbrev pub Ends : (ℕ → ℕ → Bool → Type 0) → ℕ → WorkerView → L
 Ends answers seat w old (Ok u) new =
     Made (rounds w.repeat w.calls) old u new × LetsBelow answers seat (calls_of w)
 Ends answers seat w old (Err (GateShut k)) new = (k ≡ seat) × StopsBelow answers seat (calls_of w)
-Ends answers seat w old (Err (NotStarted k)) new = (k ≡ seat) × (new ≡ old)
+Ends answers seat w old (Err (NotStarted k)) new = (k ≡ seat) × (new ≡ old) × WasRefused k
 Ends answers seat w old (Err Memory) new = ⊥
 
 -- the greatest number of calls of a worker
@@ -92,11 +93,11 @@ StopsFirst answers seat (w ∷ ws) k =
 -- why a run of these workers returned no report
 abbrev pub IsTold : (ℕ → ℕ → Bool → Type 0) → List WorkerView → RunFault → Type 0
 IsTold answers ws (GateShut k) = StopsFirst answers 0 ws k
-IsTold answers ws (NotStarted k) = k < length ws
+IsTold answers ws (NotStarted k) = (k < length ws) × WasRefused k
 IsTold answers ws Memory = Unit {0}
 
 -- no gate refused a call
 abbrev pub IsRefused : ℕ → RunFault → Type 0
 IsRefused n (GateShut k) = ⊥
-IsRefused n (NotStarted k) = k < n
+IsRefused n (NotStarted k) = (k < n) × WasRefused k
 IsRefused n Memory = Unit {0}

@@ -117,8 +117,7 @@ fn close_all<R: Wait>(
 /// # Errors
 ///
 /// - [`RunFault::NotStarted`] if the system refuses a thread: the first such worker by number. No worker made
-///   a call. The contract states only that the script has this worker, since no contract says whether the
-///   system refused a thread.
+///   a call.
 /// - [`RunFault::GateShut`] if the gate refused a call: the first such worker by number. The others ran to
 ///   their ends.
 /// - [`RunFault::Memory`] if an allocation fails, before the calls or after them. No contract says when.

@@ -1,5 +1,9 @@
 //! The start of all workers.
+ghost use Rattle.std.specs.Prelude.{◌≡◌, IfErr};
+ghost use Rattle.workers.specs.Refused.{WasRefused};
+ghost use Rattle.workers.specs.declared.fault.RunFault.TheVariants.{NotStarted};
 
+use crate::fault::RunFault;
 use std::sync::Wait;
 use std::sync::atomic::{AtomicU64, Ordering};
 
@@ -40,13 +44,16 @@ impl Start {
         self.word.wake_all();
     }
 
-    /// Waits until the workers may begin or must end, and returns whether they may begin.
-    pub(crate) fn wait<R: Wait>(&self, rt: &R) -> bool {
+    /// Waits until the workers may begin. If they were called off instead, `NotStarted` is returned for this one.
+    #[tactic(auto, using(crate::specs::Refused::refused))]
+    pub(crate) fn wait<R: Wait>(&self, rt: &R, worker: u16) -> Result<(), RunFault>
+        ensures { IfErr result (λ fault. (fault ≡ NotStarted worker) × WasRefused worker) }
+    {
         for _ in rt.forever() {
             match self.word.load(Ordering::SeqCst) {
                 STARTING => self.word.park(rt, STARTING as u32),
-                GO => return true,
-                _ => return false,
+                GO => return Ok(()),
+                _ => return Err(RunFault::NotStarted(worker)),
             }
         }
         unreachable!()

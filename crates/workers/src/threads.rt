@@ -1,7 +1,9 @@
 //! The threads of a run.
 ghost use Rattle.std.specs.Prelude.{◌≡◌, ◌<◌, ◌≤◌, ℕ, All, IfErr, IfOk, Some, length, map, slice_get, slice_index_or, vec_len};
 ghost use Rattle.script.specs.Script.{IsWorker};
+ghost use Rattle.workers.specs.declared.fault.RunFault.TheVariants.{NotStarted};
 ghost use Rattle.workers.specs.Calls.{lock_of};
+ghost use Rattle.workers.specs.Refused.{WasRefused};
 ghost use Rattle.workers.specs.Works.{HasWorked, IsRefused, WorksAt};
 
 use crate::fault::RunFault;
@@ -13,7 +15,7 @@ use std::alloc::Global;
 use std::snapshot::Snapshot;
 use std::sync::Wait;
 use std::thread;
-use std::thread::{Promise, PromisedHandle, Scope, Threads};
+use std::thread::{Promise, PromisedHandle, Scope, SpawnError, Threads};
 use std::time::Clock;
 
 /// The promise that the worker at a place makes its calls with the passes that it was started with.
@@ -29,6 +31,15 @@ impl<'s, G: Gate> Promise<Worked> for Works<'s, G> {
     ghost use Rattle.workers.specs.Works.{HasWorked};
 
     ghost kept_by = { λ p done. HasWorked (G.answers p.gate.now) p.seat p.worker.now p.passes.value done };
+}
+
+/// Returns the fault of a worker whose thread the system refused.
+#[tactic(auto, using(crate::specs::Refused::refused))]
+fn not_started<F: Drop>(_refused: SpawnError<F>, worker: u16) -> RunFault
+    ensures fault { result ≡ NotStarted worker }
+    ensures refused { WasRefused worker }
+{
+    RunFault::NotStarted(worker)
 }
 
 /// Starts a thread for each worker. If the system refuses one, the earlier ones are running.
@@ -77,8 +88,9 @@ fn start_all<'s, E: 's, G: Gate + Sync, R: Threads + Wait + Clock + Sync>(
                 ensures { HasWorked (G.answers gate.entry.now) seat worker.entry.now passes result }
             { work(rt, shared, gate, passes, seat, worker) },
         );
-        let Ok(handle) = child else {
-            return Err(RunFault::NotStarted(seat));
+        let handle = match child {
+            Ok(handle) => handle,
+            Err(refused) => return Err(not_started(refused, seat)),
         };
         handles.push(handle)?;
         place += 1;

@@ -132,8 +132,8 @@ pub(crate) fn work<G: Gate, R: Wait + Clock>(
     ensures { HasWorked (G.answers gate.now) seat worker.now passes result }
 {
     let mut passes = passes;
-    if !shared.start.wait(rt) {
-        let ended = Err(RunFault::NotStarted(seat));
+    if let Err(fault) = shared.start.wait(rt, seat) {
+        let ended = Err(fault);
         return Worked { passes, ended };
     }
     let ended = match make_rounds(rt, shared, gate, &mut passes, seat, worker) {
