@@ -59,7 +59,9 @@ fn main(rt: HostRuntime) -> io::Result<()> {
         }
         Some(word) => match word.parse::<u32>() {
             Ok(times) => counter::run(&rt, times),
-            Err(_) => eprintln!(rt; "example_guards: how often? {word} is no number below 4294967296"),
+            Err(_) => eprintln!(rt;
+                "example_guards: how often? {word} is no number below 4294967296"
+            ),
         },
     }
 }

@@ -109,15 +109,7 @@ fn play_with<R: Threads + Wait + Clock + Sync>(
 /// Opens the lock, and plays.
 fn play<R: Threads + Wait + Clock + Sync>(rt: &R, alloc: Global) -> Result<Told, Failure> {
     let parking = ThreadParking::open(rt, alloc, 2)?;
-    let opened = RwMutex::open(
-        alloc,
-        Rows::new(),
-        Policy::Fair,
-        WhenFull::Trim,
-        2,
-        0,
-        CAP,
-    );
+    let opened = RwMutex::open(alloc, Rows::new(), Policy::Fair, WhenFull::Trim, 2, 0, CAP);
     match opened {
         Ok((lock, passes)) => play_with(rt, &parking, lock, passes),
         Err((_, fault)) => Err(Failure::Call(fault)),
