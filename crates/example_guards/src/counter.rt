@@ -8,7 +8,7 @@ ghost use Rattle.std.specs.Prelude.{◌≡◌, ◌≤◌, ◌+◌, ◌*◌, ◌^
 ghost use Rattle.monitor_fronts.specs.Holding.{holds};
 
 use crate::Failure;
-use crate::counting::{Counter, Sum, Worker, count_of, count_share};
+use crate::adding::{Counter, Sum, Worker, count_of, count_share};
 use guarded::{Mutex, WhenFull};
 use history::fault::Fault;
 use history::header::Policy;

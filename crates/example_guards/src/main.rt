@@ -12,10 +12,10 @@
 ghost use Rattle.std.specs.Prelude.{◌≡◌};
 ghost use Rattle.example_guards.specs.declared.Failure.TheVariants.{Call};
 
+mod adding;
 mod bounded;
 mod buffer;
 mod counter;
-mod counting;
 mod rows;
 mod table;
 mod working;

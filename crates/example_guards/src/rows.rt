@@ -53,8 +53,13 @@ pub fn update<P: Parking, R: Wait + Clock>(
     ensures same { IsSame pass.old pass.new }
     ensures free { holds pass.new ≡ 0 }
 {
-    let mut guard = RwMutex::write(pass, lock, rt, parking)?;
-    Ok(guard.value_mut().change())
+    match RwMutex::write(pass, lock, rt, parking) {
+        Ok(guard) => {
+            let mut guard = guard;
+            Ok(guard.value_mut().change())
+        }
+        Err(fault) => Err(fault),
+    }
 }
 
 /// Reads both rows beside other readers. Both are of one version.

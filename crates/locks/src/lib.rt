@@ -144,11 +144,11 @@
 //! `wait_for`.
 #![tactic(auto)]
 
-pub use guarded::{Guard, Mutex, Pool, RwMutex, TryLockFault, WhenFull};
+pub use guarded::{Guard, Mutex, Pool, RwMutex, TryLockFault};
 pub use history::entries::History;
 pub use history::fault::Fault;
 pub use history::header::{Header, Object, Policy};
-pub use monitor::{CloseFault, Closed, How, Monitor, Pass};
+pub use monitor::{CloseFault, Closed, How, Monitor, Pass, WhenFull};
 pub use monitor_fronts::{
     Latch, ReadWriteLock, ReentrantLock, Semaphore, open_latch, open_lock, open_read_write_lock,
     open_semaphore,

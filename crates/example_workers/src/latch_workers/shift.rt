@@ -57,7 +57,7 @@ impl Shift {
         worker
     }
 
-    /// Lays the work out, opens the first latch, waits at the second, and notes what was made.
+    /// Lays the work out, opens the start, waits for the end, and looks at what was made.
     fn oversee<R: Wait + Clock>(&self, rt: &R, foreman: &mut Worker) -> Result<(), Fault>
         requires { IsAt self.now.start self.now.end foreman.old }
         ensures { IsAt self.now.start self.now.end foreman.new }

@@ -1,7 +1,7 @@
 use Rattle.std.proofs.Common.{◌≡◌, ◌+◌}
 use Rattle.monitor.specs.Stepping.{IsSame}
 use Rattle.monitor_fronts.specs.Holding.{holds}
-use Rattle.example_guards.proofs.counting.count_share.Given as goal
+use Rattle.example_guards.proofs.adding.count_share.Given as goal
 
 abbrev pub invariant-loop-done : goal.invariant-loop-done
 invariant-loop-done g l =
