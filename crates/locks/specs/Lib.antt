@@ -18,8 +18,10 @@ pub use Rattle.monitor.specs.AwaitOn
 pub use Rattle.monitor.specs.Closing
 pub use Rattle.monitor.specs.Lawful
 pub use Rattle.monitor.specs.Observing
+pub use Rattle.monitor.specs.Room
 pub use Rattle.monitor.specs.Shown
 pub use Rattle.monitor.specs.Stepping
+pub use Rattle.monitor_fronts.specs.FrontCalls
 pub use Rattle.monitor_fronts.specs.Holding
 pub use Rattle.monitor_fronts.specs.Told
 pub use Rattle.permit.specs.Deed

@@ -81,8 +81,8 @@
 //!
 //! `WhenFull` chooses what a lock or a pool does when its history is full. `Refuse` is for a program that wants
 //! every entry: the call returns `HistoryFull`. `Trim` is for a program that goes on: the call folds the entries
-//! and is made from there, in one turn of the lock. The lock without a value, the semaphore and the latch
-//! refuse, until the program calls `trim` of their monitor.
+//! and is made from there, in one turn of the lock. The types without a value are made by `of`, and then they
+//! trim, or by `of_when_full`.
 //!
 //! ## What is promised
 //!
@@ -134,7 +134,7 @@
 //! | `TrimFull` | 1000000000000000 entries were folded | close the lock, and open a new one |
 //!
 //! With `WhenFull::Trim`, `HistoryFull` comes only if a history without entries has no room, or if other threads
-//! filled the history between the two turns of a signal that made room.
+//! filled the history between the two turns of a guard's signal that made room.
 //!
 //! A try that did not get the lock returns `TryLockFault::Missed`, or `false`. A lock that is closed without
 //! all of its passes returns `CloseFault::MissingPass`, and everything with it.
