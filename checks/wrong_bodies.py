@@ -137,7 +137,7 @@ def try_sample(ledgers, seed):
 
 def build(crates):
     """Builds these crates' rlibs, and those below them, and says whether they stand."""
-    libraries = {it.name: it for crate in crates for it in (*crate.below(), crate) if not it.is_program}
+    libraries = {it.name: it for crate in crates for it in (*crate.below(), crate) if not (it.is_program or it.is_static)}
     upwards = sorted(libraries.values(), key=lambda it: len(it.below()))
     return not any(it.build_rlib(ONE_JOB, anew=False) for it in upwards)
 
@@ -146,7 +146,7 @@ def lacking(crates, is_built):
     """Returns why the crates can't be tried, or None."""
     if not is_built:
         return None if build(crates) else "a library is not proved"
-    libraries = {it.name: it for crate in crates for it in (*crate.below(), crate) if not it.is_program}
+    libraries = {it.name: it for crate in crates for it in (*crate.below(), crate) if not (it.is_program or it.is_static)}
     found = [name for name, it in libraries.items() if not os.path.exists(it.rlib)]
     return f"the library {found[0]} is not built" if found else None
 
