@@ -65,6 +65,7 @@ impl Hooks for AnyHooks {
 
     ghost stands = { some_counts };
 
+    #[inline(always)]
     fn could(&self, who: u16, mode: Mode, n: u32) -> bool {
         match self {
             AnyHooks::Lock(hooks) => hooks.could(who, mode, n),
@@ -74,6 +75,7 @@ impl Hooks for AnyHooks {
         }
     }
 
+    #[inline(always)]
     fn at_limit(&self, who: u16, mode: Mode) -> bool {
         match self {
             AnyHooks::Lock(hooks) => hooks.at_limit(who, mode),
@@ -101,6 +103,7 @@ impl Hooks for AnyHooks {
         }
     }
 
+    #[inline(always)]
     fn take(&mut self, who: u16, mode: Mode, n: u32) -> Taken {
         match self {
             AnyHooks::Lock(hooks) => hooks.take(who, mode, n),
@@ -110,6 +113,7 @@ impl Hooks for AnyHooks {
         }
     }
 
+    #[inline(always)]
     fn give(&mut self, who: u16, mode: Mode, n: u32) -> Result<Gave, Fault> {
         match self {
             AnyHooks::Lock(hooks) => hooks.give(who, mode, n),
