@@ -76,13 +76,13 @@ type Exchanged = (Result<Pass, Fault>, Result<(Pass, u64), Fault>);
 fn exchange<R: Threads + Wait + Clock + Sync>(
     rt: &R,
     parking: &ThreadParking,
-    lock: &ReentrantLock,
+    monitor: &Monitor<LockHooks>,
     producer: Pass,
     consumer: Pass,
 ) -> Option<Exchanged>
-    requires own { (producer.lock ≡ lock.now.monitor.now) × (consumer.lock ≡ lock.now.monitor.now) }
-    requires lock { is_lock lock.now.monitor.now.header.object ≡ true }
-    requires places { lock.now.monitor.now.header.seats ≤ parking.now }
+    requires own { (producer.lock ≡ monitor.now) × (consumer.lock ≡ monitor.now) }
+    requires lock { is_lock monitor.now.header.object ≡ true }
+    requires places { monitor.now.header.seats ≤ parking.now }
     ensures put { IfSome result (λ r. IfOk r.0 (IsSame producer)) }
     ensures taken { IfSome result (λ r. IfOk r.1 (λ t. IsSame consumer t.0)) }
 {
@@ -92,9 +92,9 @@ fn exchange<R: Threads + Wait + Clock + Sync>(
         thread::scope_env(),
         rt,
         |scope| -> Option<Exchanged>
-            requires { (producer.lock ≡ lock.now.monitor.now) × (consumer.lock ≡ lock.now.monitor.now)
-                × (lock.now.monitor.now.header.seats ≤ parking.now)
-                × (is_lock lock.now.monitor.now.header.object ≡ true) }
+            requires { (producer.lock ≡ monitor.now) × (consumer.lock ≡ monitor.now)
+                × (monitor.now.header.seats ≤ parking.now)
+                × (is_lock monitor.now.header.object ≡ true) }
             ensures put { IfSome result (λ r. IfOk r.0 (IsSame producer)) }
             ensures taken { IfSome result (λ r. IfOk r.1 (λ t. IsSame consumer t.0)) }
         {
@@ -104,16 +104,32 @@ fn exchange<R: Threads + Wait + Clock + Sync>(
             let started = scope.spawn_with(
                 promise,
                 move || -> Result<Pass, Fault>
-                    requires { (producer.lock ≡ lock.now.monitor.now)
-                        × (lock.now.monitor.now.header.seats ≤ parking.now)
-                        × (is_lock lock.now.monitor.now.header.object ≡ true) }
+                    requires { (producer.lock ≡ monitor.now)
+                        × (monitor.now.header.seats ≤ parking.now)
+                        × (is_lock monitor.now.header.object ≡ true) }
                     ensures { IfOk result (IsSame producer) }
-                { produce(rt, parking, lock, shared, producer, ITEMS) },
+                {
+                    produce(
+                        rt,
+                        parking,
+                        &ReentrantLock::of(monitor),
+                        shared,
+                        producer,
+                        ITEMS,
+                    )
+                },
             );
             let Ok(handle) = started else {
                 return None;
             };
-            let taken = consume(rt, parking, lock, shared, consumer, ITEMS);
+            let taken = consume(
+                rt,
+                parking,
+                &ReentrantLock::of(monitor),
+                shared,
+                consumer,
+                ITEMS,
+            );
             Some((handle.join(rt), taken))
         },
     )
@@ -123,14 +139,14 @@ fn exchange<R: Threads + Wait + Clock + Sync>(
 fn exchange_all<R: Threads + Wait + Clock + Sync>(
     rt: &R,
     parking: &ThreadParking,
-    lock: &ReentrantLock,
+    monitor: &Monitor<LockHooks>,
     passes: Vec<Pass>,
 ) -> Result<(Vec<Pass>, u64), Failure>
     requires all { length passes.items ≡ 2 }
-    requires own { All (λ p. p.lock ≡ lock.now.monitor.now) passes.items }
-    requires lock { is_lock lock.now.monitor.now.header.object ≡ true }
-    requires places { lock.now.monitor.now.header.seats ≤ parking.now }
-    ensures { IfOk result (λ r. All (λ p. p.lock ≡ lock.now.monitor.now) r.0.items) }
+    requires own { All (λ p. p.lock ≡ monitor.now) passes.items }
+    requires lock { is_lock monitor.now.header.object ≡ true }
+    requires places { monitor.now.header.seats ≤ parking.now }
+    ensures { IfOk result (λ r. All (λ p. p.lock ≡ monitor.now) r.0.items) }
 {
     let mut passes = passes;
     let Some(consumer) = passes.pop() else {
@@ -139,7 +155,7 @@ fn exchange_all<R: Threads + Wait + Clock + Sync>(
     let Some(producer) = passes.pop() else {
         unreachable!()
     };
-    let Some((put, taken)) = exchange(rt, parking, lock, producer, consumer) else {
+    let Some((put, taken)) = exchange(rt, parking, monitor, producer, consumer) else {
         return Err(Failure::NotStarted);
     };
     let (consumer, sum) = taken?;
@@ -192,7 +208,7 @@ fn play<R: Threads + Wait + Clock + Sync>(rt: &R, alloc: Global) -> Result<Told,
         HEADER.conditions,
         HEADER.cap,
     )?;
-    let (passes, sum) = exchange_all(rt, &parking, &ReentrantLock::of(&monitor), passes)?;
+    let (passes, sum) = exchange_all(rt, &parking, &monitor, passes)?;
     Ok(close(rt, alloc, monitor, passes, sum)?)
 }
 

@@ -1,12 +1,10 @@
-//! Openings of locks and pools that guard data, while one allocation after another fails.
+//! Openings of locks that guard data, while one allocation after another fails.
 //!
 //! An opening that fails returns what it was to guard, and frees its memory; otherwise it would never succeed.
 
-use guarded::{Mutex, Pool, RwMutex, WhenFull};
+use guarded::{Mutex, RwMutex, WhenFull};
 use history::fault::Fault;
 use history::header::Policy;
-use std::alloc::Global;
-use std::collections::LinkedList;
 use std::process::Abort;
 use test_support::memory::Memory;
 
@@ -53,38 +51,6 @@ fn refusals_of_rw_mutex<R: Abort + AllocGlobal>(rt: &R, memory: &mut Memory) -> 
     MOST
 }
 
-/// Returns how often a pool of these items with two threads is refused memory.
-fn refusals_of_pool<R: Abort + AllocGlobal>(
-    rt: &R,
-    memory: &mut Memory,
-    items: LinkedList<u64>,
-) -> usize {
-    let mut items = items;
-    for refused in 0..MOST {
-        match Pool::open(rt.alloc(), items, Policy::Fair, WhenFull::Trim, 2, 16) {
-            Ok((_pool, passes)) => {
-                assert_eq!(rt; passes.len(), 2);
-                return refused;
-            }
-            Err((back, fault)) => {
-                assert!(rt; back.len() == 1 && fault == Fault::OutOfMemory);
-                items = back;
-            }
-        }
-        let _was_left = memory.give_piece();
-    }
-    MOST
-}
-
-/// A list of one item.
-fn one_item(alloc: Global) -> Result<LinkedList<u64>, Fault> {
-    let mut items = LinkedList::new(alloc);
-    match items.push_back(VALUE) {
-        Ok(()) => Ok(items),
-        Err(_) => Err(Fault::OutOfMemory),
-    }
-}
-
 #[test]
 fn a_mutex_is_opened_whole_or_gives_its_value_back(rt: HostRuntime) {
     let mut memory = Memory::take_all(rt.alloc(), FINE).expect(&rt, "memory");
@@ -96,13 +62,5 @@ fn a_mutex_is_opened_whole_or_gives_its_value_back(rt: HostRuntime) {
 fn a_read_write_mutex_is_opened_whole_or_gives_its_value_back(rt: HostRuntime) {
     let mut memory = Memory::take_all(rt.alloc(), FINE).expect(&rt, "memory");
     let refused = refusals_of_rw_mutex(&rt, &mut memory);
-    assert!(rt; 4 <= refused && refused < MOST, "refused {refused} times");
-}
-
-#[test]
-fn a_pool_is_opened_whole_or_gives_its_items_back(rt: HostRuntime) {
-    let items = one_item(rt.alloc()).expect(&rt, "memory");
-    let mut memory = Memory::take_all(rt.alloc(), FINE).expect(&rt, "memory");
-    let refused = refusals_of_pool(&rt, &mut memory, items);
     assert!(rt; 4 <= refused && refused < MOST, "refused {refused} times");
 }
