@@ -54,11 +54,11 @@ class References(unittest.TestCase):
     PAGE = f"{TOP}/crates/guarded/CALLING.md"
 
     def test_a_reference_that_is_not_as_the_sources_is_a_stray(self):
-        made = pages.made_of(self.PAGE, "WhenFull")
-        text = f"{pages.OPENS % 'WhenFull'}\n{made}{pages.ENDS}\n"
+        made = pages.made_of(self.PAGE, "TryLockFault")
+        text = f"{pages.OPENS % 'TryLockFault'}\n{made}{pages.ENDS}\n"
         self.assertEqual(pages.strays_of(self.PAGE, text, []), (1, []))
-        spoilt = text.replace("Trim", "Trims")
-        self.assertEqual(pages.strays_of(self.PAGE, spoilt, []), (1, ["the reference of WhenFull as it stands"]))
+        spoilt = text.replace("Missed", "Misses")
+        self.assertEqual(pages.strays_of(self.PAGE, spoilt, []), (1, ["the reference of TryLockFault as it stands"]))
 
     def test_a_reference_has_the_contracts_of_all_files(self):
         made = pages.made_of(self.PAGE, "Mutex Guard")
