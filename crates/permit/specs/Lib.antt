@@ -1,2 +1,3 @@
 pub mod Deed
 pub mod Script
+pub mod Signal

@@ -13,19 +13,87 @@
 //! word has changed and the thread doesn't sleep. If it comes later, the count isn't 0, and the sender wakes
 //! all who sleep. A sender that finds its signal set already does nothing more. The thread that set it has
 //! woken, or is about to wake, all who slept then, and any thread that comes later sees the signal.
+ghost use Rattle.std.specs.Prelude.{◌≡◌, ◌+◌, ◌-◌, ◌^◌, ◌↔◌, true};
+ghost use Rattle.permit.specs.Signal.{IsAwaited, IsSet, bit_of, woke_by};
 
+use crate::parking::Woke;
 use std::sync::Wait;
 use std::sync::atomic::{AtomicU64, Ordering};
 use std::time::Duration;
 
-pub(crate) const PERMIT: u64 = 1;
-
-pub(crate) const INTERRUPT: u64 = 2;
+/// What a seat is sent, and what a park takes.
+#[derive(Clone, Copy)]
+pub(crate) enum Signal {
+    Permit,
+    Interrupt,
+}
 
 const SLEEPER: u64 = 4;
 
 // The bits that the system compares.
 const LOW: u64 = 0xffff_ffff;
+
+impl Signal {
+    #[inline(always)]
+    fn bit(self) -> u64
+        ensures { result ≡ bit_of self }
+    {
+        match self {
+            Signal::Permit => 1,
+            Signal::Interrupt => 2,
+        }
+    }
+
+    // All bits except its own.
+    #[inline(always)]
+    fn others(self) -> u64
+        ensures { result + bit_of self ≡ 2 ^ 64 - 1 }
+    {
+        u64::MAX - self.bit()
+    }
+
+    #[inline(always)]
+    fn is_set(self, word: u64) -> bool
+        ensures { result ≡ true ↔ IsSet self word }
+    {
+        match self {
+            Signal::Permit => word % 2 == 1,
+            Signal::Interrupt => word / 2 % 2 == 1,
+        }
+    }
+
+    /// Why a park that takes it ends.
+    #[inline(always)]
+    pub(crate) fn woke(self) -> Woke
+        ensures { result ≡ woke_by self }
+    {
+        match self {
+            Signal::Permit => Woke::Permit,
+            Signal::Interrupt => Woke::Interrupted,
+        }
+    }
+}
+
+/// Returns the signal of the word that a park takes, if there is one.
+#[inline(always)]
+pub(crate) fn awaited(word: u64, interruptible: bool) -> Option<Signal>
+    ensures { IsAwaited word interruptible result }
+{
+    if interruptible && Signal::Interrupt.is_set(word) {
+        Some(Signal::Interrupt)
+    } else if Signal::Permit.is_set(word) {
+        Some(Signal::Permit)
+    } else {
+        None
+    }
+}
+
+/// A thread that is counted as one that sleeps, until it was struck off. Only `strike_off` takes this, and it
+/// can't be dropped.
+struct Sleeper {
+    // the word as it was read after the thread was counted
+    read: u64,
+}
 
 #[derive(Drop)]
 pub(crate) struct Signals {
@@ -45,41 +113,64 @@ impl Signals {
 
     /// Sets a signal and wakes all threads that sleep here. It costs one read if the signal is set already,
     /// and no system call if nobody sleeps.
-    pub(crate) fn send(&self, signal: u64) {
-        if self.read() & signal != 0 {
+    pub(crate) fn send(&self, signal: Signal) {
+        if signal.is_set(self.read()) {
             return;
         }
-        let was = self.word.fetch_or(signal, Ordering::SeqCst);
+        let was = self.word.fetch_or(signal.bit(), Ordering::SeqCst);
         if SLEEPER <= was {
             self.word.wake_all();
         }
     }
 
     /// Returns whether the signal was set, and clears it.
-    pub(crate) fn take(&self, signal: u64) -> bool {
-        self.read() & signal != 0 && self.word.fetch_and(!signal, Ordering::SeqCst) & signal != 0
+    pub(crate) fn take(&self, signal: Signal) -> bool {
+        signal.is_set(self.read())
+            && signal.is_set(self.word.fetch_and(signal.others(), Ordering::SeqCst))
     }
 
-    /// Clears a signal and returns whether it did: not if the word has changed since it was read.
-    pub(crate) fn take_unchanged(&self, read: u64, signal: u64) -> bool {
+    /// Clears a signal that was read and returns whether it did: not if the word has changed since.
+    pub(crate) fn take_unchanged(&self, read: u64, signal: Signal) -> bool
+        requires { IsSet signal read }
+    {
+        let rest = without(read, signal);
         self.word
-            .compare_exchange(read, read & !signal, Ordering::SeqCst, Ordering::SeqCst)
+            .compare_exchange(read, rest, Ordering::SeqCst, Ordering::SeqCst)
             .is_ok()
     }
 
-    /// Sleeps until a signal among `awaited` is set, or for the time `left` if there is one. It may return
-    /// early.
+    /// Sleeps until a signal that the park takes is set, or until the time `left` is over, if there is one.
+    /// It may return early.
     #[cold]
-    pub(crate) fn sleep<R: Wait>(&self, rt: &R, awaited: u64, left: Option<Duration>) {
-        self.word.fetch_add(SLEEPER, Ordering::SeqCst);
-        let read = self.read();
-        if read & awaited == 0 {
-            let low = (read & LOW) as u32;
+    pub(crate) fn sleep<R: Wait>(&self, rt: &R, interruptible: bool, left: Option<Duration>) {
+        let sleeper = self.count_in();
+        if awaited(sleeper.read, interruptible).is_none() {
+            let low = (sleeper.read & LOW) as u32;
             match left {
                 Some(left) => self.word.park_timeout(rt, low, left),
                 None => self.word.park(rt, low),
             }
         }
+        self.strike_off(sleeper);
+    }
+
+    // Counts the thread as one that sleeps, and reads the word.
+    fn count_in(&self) -> Sleeper {
+        self.word.fetch_add(SLEEPER, Ordering::SeqCst);
+        Sleeper { read: self.read() }
+    }
+
+    fn strike_off(&self, sleeper: Sleeper) {
+        let Sleeper { read: _ } = sleeper;
         self.word.fetch_sub(SLEEPER, Ordering::SeqCst);
     }
+}
+
+// The word after a signal was taken.
+#[inline(always)]
+fn without(word: u64, signal: Signal) -> u64
+    requires { IsSet signal word }
+    ensures { result + bit_of signal ≡ word }
+{
+    word - signal.bit()
 }

@@ -3,3 +3,5 @@ pub mod Rule
 pub mod Ticket
 pub mod Held
 pub mod Ready
+pub mod Woken
+pub mod Sleeping

@@ -4,11 +4,12 @@ ghost use Rattle.word_lock.specs.Point.{header_of, Agrees, Before, Follows};
 ghost use Rattle.word_lock.specs.Rule.{view_after_take, view_after_give, AllAgree, AreDistinct, IsFound};
 ghost use Rattle.word_lock.specs.Ticket.{opening_tickets, after_lock, after_unlock, after_meet, first_seat, IsIdle};
 ghost use Rattle.word_lock.specs.Held.{held_ticket};
+ghost use Rattle.word_lock.specs.Woken.{WasWoken};
 
 use crate::chronicle::Chronicle;
 use crate::dealing::{LockTable, make_table, split_token};
 use crate::held::Held;
-use crate::sleepers::Sleepers;
+use crate::sleepers::{Enlisted, Sleepers};
 use crate::steps::{Give, JoinTokens, Look, Take};
 use crate::token::Token;
 use crate::view::View;
@@ -103,7 +104,7 @@ impl<T: Chronicle> WordLock<T> {
     }
 
     /// Puts the value back. What was added since it was taken must be of the token's own seat. It wakes one
-    /// sleeping thread, allocates nothing and waits for nobody.
+    /// sleeping thread, if there is one, allocates nothing and waits for nobody.
     #[inline(always)]
     pub fn unlock(&self, token: &mut Token, held: Held<T>)
         requires own { (held_ticket held).lock ≡ self.now }
@@ -112,7 +113,8 @@ impl<T: Chronicle> WordLock<T> {
         requires fact { T.fact held.value }
         requires follows { Follows (first_seat (held_ticket held).logs) (held_ticket held).seen
             (T.point held.value) }
-        ensures { token.new ≡ after_unlock (held_ticket held) (T.point held.value) }
+        ensures token { token.new ≡ after_unlock (held_ticket held) (T.point held.value) }
+        ensures woken { WasWoken self.now }
     {
         self.unlock_quietly(token, held);
         self.wake();
@@ -192,17 +194,16 @@ impl<T: Chronicle> WordLock<T> {
         ensures entries { AllAgree (T.point result.value) token.old.logs }
         ensures distinct { AreDistinct token.old.logs }
     {
-        let mut was_enlisted = false;
+        let mut enlisted = None;
         for _ in rt.forever() {
             if let Some(held) = self.take_now(token) {
-                if was_enlisted {
-                    self.sleepers.arrive();
+                if let Some(enlisted) = enlisted {
+                    self.sleepers.arrive(enlisted);
                 }
                 return held;
             }
             if self.stays_taken() {
-                self.sleep(rt);
-                was_enlisted = true;
+                enlisted = Some(self.sleep(rt, enlisted));
             }
         }
         unreachable!()
@@ -312,17 +313,21 @@ impl<T: Chronicle> WordLock<T> {
 
     // Sleeps, unless the word is 0 after the thread is enlisted.
     #[cold]
-    fn sleep<R: Wait>(&self, rt: &R) {
-        let wakes = self.sleepers.enlist();
+    fn sleep<R: Wait>(&self, rt: &R, before: Option<Enlisted>) -> Enlisted {
+        let enlisted = self.sleepers.enlist(before);
         if self.table.shared.peek(0) != 0 {
-            self.sleepers.sleep(rt, wakes);
+            self.sleepers.sleep(rt, &enlisted);
         }
+        enlisted
     }
 
     /// Wakes one sleeping thread, if the value is there. It costs one load if nobody sleeps. If the value was
     /// taken again nobody is woken, since the holder wakes one as it unlocks.
     #[inline(always)]
-    pub fn wake(&self) {
+    #[tactic(auto, using(crate::specs::Woken::woken))]
+    pub fn wake(&self)
+        ensures { WasWoken self.now }
+    {
         if self.sleepers.are_some() && self.table.shared.peek(0) == 0 {
             self.sleepers.wake_one();
         }

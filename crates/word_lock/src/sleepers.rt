@@ -7,16 +7,19 @@
 //! | 33 and up | how many threads are enlisted for which no wake was sent |
 //!
 //! **No wake is lost.** A thread enlists, reads the lock once more, and then sleeps unless a wake was sent
-//! since it enlisted. So there are never more threads asleep than enlisted. A thread that unlocks takes one
-//! off the list and sends a wake, unless nobody is enlisted or a woken thread is on its way. The woken thread
-//! clears its bit when it takes the lock, and so does each thread that enlists. If the bit was set while
-//! somebody slept, one of them is now awake and will clear it. If it was set while nobody slept, any thread
-//! that slept later has cleared it. So while a thread sleeps, either the next unlock sends a wake, or a
-//! thread that is awake will take the lock and unlock it.
+//! since it enlisted. So there are never more threads asleep than enlisted. A thread that unlocks removes one
+//! from the count of enlisted ones and sends a wake, unless that count is 0 or a woken thread is on its way.
+//! The woken thread clears its bit when it takes the lock, and so does each thread that enlists. If the bit
+//! was set while somebody slept, one of them is now awake and will clear it. If it was set while nobody
+//! slept, any thread that slept later has cleared it. So while a thread sleeps, either the next unlock sends
+//! a wake, or a thread that is awake will take the lock and unlock it.
 //!
 //! **Few are awake.** A wake is a system call, and the woken thread takes the lock from the running ones.
 //! Since only one is on its way at a time, the others sleep, and a running thread takes the lock many times
 //! in between.
+
+ghost use Rattle.std.specs.Prelude.{◌≡◌, ◌↔◌, ◌+◌, ◌%◌, ◌^◌, IfSome, IsNone};
+ghost use Rattle.word_lock.specs.Sleeping.{IsDue, enlisted, on_the_way, wakes};
 
 use std::sync::Wait;
 use std::sync::atomic::{AtomicU64, Ordering};
@@ -29,6 +32,13 @@ const WAKES: u64 = 0xffff_ffff;
 const ON_THE_WAY: u64 = 1 << 32;
 
 const ENLISTED: u64 = 1 << 33;
+
+/// An enlisted thread. When it takes the lock, it must clear the bit of the woken thread. So only `arrive`
+/// takes this value, and it can't be dropped.
+pub(crate) struct Enlisted {
+    // how many wakes were sent as it enlisted
+    wakes: u32,
+}
 
 #[derive(Drop)]
 pub(crate) struct Sleepers {
@@ -47,20 +57,28 @@ impl Sleepers {
         ENLISTED <= self.word.load(Ordering::SeqCst)
     }
 
-    /// Enlists a thread, and returns the number of wakes so far.
-    pub(crate) fn enlist(&self) -> u32 {
+    /// Enlists a thread. It may have been enlisted before.
+    pub(crate) fn enlist(&self, before: Option<Enlisted>) -> Enlisted {
         let was = self.word.fetch_add(ENLISTED, Ordering::SeqCst);
-        self.arrive();
-        (was & WAKES) as u32
+        self.clear();
+        if let Some(Enlisted { wakes: _ }) = before {}
+        let wakes = (was & WAKES) as u32;
+        Enlisted { wakes }
     }
 
     /// Sleeps until the number of wakes has changed. It may return early.
-    pub(crate) fn sleep<R: Wait>(&self, rt: &R, wakes: u32) {
-        self.word.park(rt, wakes);
+    pub(crate) fn sleep<R: Wait>(&self, rt: &R, enlisted: &Enlisted) {
+        self.word.park(rt, enlisted.wakes);
     }
 
-    /// Clears the bit of the woken thread.
-    pub(crate) fn arrive(&self) {
+    /// Notes that an enlisted thread took the lock.
+    pub(crate) fn arrive(&self, enlisted: Enlisted) {
+        let Enlisted { wakes: _ } = enlisted;
+        self.clear();
+    }
+
+    // Clears the bit of the woken thread.
+    fn clear(&self) {
         self.word.fetch_and(!ON_THE_WAY, Ordering::SeqCst);
     }
 
@@ -77,10 +95,16 @@ impl Sleepers {
 }
 
 /// Returns the word after a wake, if one is due.
-fn with_wake(word: u64) -> Option<u64> {
-    if word < ENLISTED || word & ON_THE_WAY != 0 {
+fn with_wake(word: u64) -> Option<u64>
+    ensures none { IsNone result ↔ (IsDue word → ⊥) }
+    ensures enlisted { IfSome result (λ after. enlisted after + 1 ≡ enlisted word) }
+    ensures on_the_way { IfSome result (λ after. on_the_way after ≡ 1) }
+    ensures wakes { IfSome result (λ after. wakes after ≡ (wakes word + 1) % 2 ^ 32) }
+{
+    if word < ENLISTED || word / ON_THE_WAY % 2 == 1 {
         return None;
     }
-    let rest = (word - ENLISTED) & !WAKES;
-    Some(rest | ON_THE_WAY | (word.wrapping_add(WAKE) & WAKES))
+    let rest = word / ENLISTED - 1;
+    let wakes = (word % ON_THE_WAY + WAKE) % ON_THE_WAY;
+    Some(rest * ENLISTED + ON_THE_WAY + wakes)
 }
