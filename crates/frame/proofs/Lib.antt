@@ -14,3 +14,4 @@ pub mod Opening
 pub mod Trimming
 pub mod Runs
 pub mod Acting
+pub mod Tidying

@@ -6,3 +6,4 @@ pub mod AtOnce
 pub mod Owners
 pub mod Runs
 pub mod Acts
+pub mod Tidied

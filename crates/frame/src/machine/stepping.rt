@@ -1,12 +1,15 @@
 //! One step of a seat.
 
-ghost use Rattle.std.specs.Prelude.{◌≡◌, ◌≢◌, ◌<◌, ◌++◌, IsOk, IfOk, OnErr, Some};
+ghost use Rattle.std.specs.Prelude.{◌≡◌, ◌≢◌, ◌<◌, ◌^◌, ◌++◌, IsOk, IfOk, OnErr, Some};
+ghost use Rattle.acquire_queue.specs.Line.{IsTidy};
 ghost use Rattle.frame.specs.Core.{made_by, places_behind, ready_of, unmarked_at};
 ghost use Rattle.frame.specs.Core.{IsAnswered, IsOf, IsTold, KeepsHolds, MakesOwed, NamesBelow};
+ghost use Rattle.frame.specs.Tidied.{WasTidied};
 
 use super::Core;
 use crate::hooks::Hooks;
 use crate::seat::untell;
+use acquire_queue::queue::Queue;
 use history::entry::Word;
 use history::fault::Fault;
 use history::step::{Answer, Step};
@@ -14,11 +17,10 @@ use history::step::{Answer, Step};
 impl<H: Hooks + Drop> Core<H> {
     /// If the seat is in the queue, frees the cancelled nodes right before it.
     fn tidy_before(&mut self, seat: u16)
-        ensures { self.new ≡ self.old }
+        ensures same { self.new ≡ self.old }
+        ensures tidied { WasTidied seat }
     {
-        if self.queue.live_len() < self.queue.standing() {
-            self.queue.tidy_before(seat);
-        }
+        tidy_before(&mut self.queue, seat);
     }
 
     /// Clears the mark of a seat that can't go now.
@@ -35,7 +37,8 @@ impl<H: Hooks + Drop> Core<H> {
     pub(super) fn sleep(&mut self, seat: u16)
         requires seat { seat < self.old.header.seats }
         requires waits { ready_of self.old ≢ Some seat }
-        ensures { self.new ≡ unmarked_at seat self.old }
+        ensures unmarked { self.new ≡ unmarked_at seat self.old }
+        ensures tidied { WasTidied seat }
     {
         self.tidy_before(seat);
         self.untell(seat);
@@ -130,5 +133,21 @@ impl<H: Hooks + Drop> Core<H> {
             }
             Ok(Some(entry)) => self.record(entry),
         }
+    }
+}
+
+// Frees the cancelled nodes right before a seat's. It searches for the seat only if there are cancelled nodes.
+#[tactic(auto, using(crate::specs::Tidied::tidied))]
+#[inline(always)]
+fn tidy_before(queue: &mut Queue, seat: u16)
+    requires few { queue.old.seats < 2 ^ 15 }
+    ensures tidied { WasTidied seat }
+    ensures tidy { IsTidy seat queue.new.nodes }
+    ensures line { queue.new.arrivals ≡ queue.old.arrivals }
+    ensures joined { queue.new.joined ≡ queue.old.joined }
+    ensures seats { queue.new.seats ≡ queue.old.seats }
+{
+    if queue.live_len() < queue.standing() {
+        queue.tidy_before(seat);
     }
 }
