@@ -33,7 +33,8 @@ use Rattle.monitor.specs.declared.how.How.TheVariants.{Plain, Interruptible, Tim
 use Rattle.monitor.specs.declared.waiting.Limits.{Limits}
 use Rattle.monitor.specs.declared.waiting.Stage.TheVariants.{Parks}
 use Rattle.monitor.specs.Acquire.{AtOnce, IsEndFor, IsUntil, LimitsFor, EndsAtOnce, EndsUnrecorded, IsAcquire, WasInterrupted, WasNotInterrupted, first_step, is_interruptible, is_timed, has_time}
-use Rattle.monitor.specs.Waits.{AfterPark, StandsFor, IsMade, IsLast, IsEnd, in_line, IsWait, IsWaited, WaitsAs, asking}
+use Rattle.monitor.specs.Waits.{AfterPark, StandsFor, IsMade, IsLast, IsNotLost, in_line, WaitsAs, asking}
+use Rattle.monitor.specs.inner.Waits.{IsEnd, IsWait, IsWaited}
 use Rattle.monitor.proofs.Turns.{there_later}
 use Rattle.history.proofs.Staying.{place_filter, place_behind}
 use Rattle.monitor.proofs.InLine.{records, made_in, same_self}
@@ -156,7 +157,7 @@ at_once did old new step e s =
     let made = made_in did old old new step e s.0 (same_self old) (before_refl old.seen) s.1 s.2 in
     record { made = made.0; last = made.1; mine = s.1.mine }
 
--- what was made behind a later pass was made behind an earlier one
+-- what was made after a later pass was made after an earlier one
 pub made_later : (did : Deed → Type 0) (old mid new : Shown) (step : Step) (e : Entry) →
     Before old.seen mid.seen → mid.seat ≡ old.seat →
     IsMade did mid.seen mid.seat step e new.seen → IsMade did old.seen old.seat step e new.seen
@@ -218,7 +219,7 @@ module _ (did : Deed → Type 0) (old mid : Shown) (how : How) (m : Mode) (n : �
             Some (asking old.seat m n)) (sym r.entries) q)),
       )
 
-  -- and the end of the wait behind it
+  -- and the end of the wait after it
   pub ends_in_line : e.word ≡ word.Queued → IsSame old mid → (new : Shown) (l : Limits) (last : Entry) →
       LimitsFor did how l → Before mid.seen new.seen → IsWaited did mid Parks l last new →
       IsAcquire did old m n how (Ok last) new
@@ -255,6 +256,7 @@ module _ (did : Deed → Type 0) (old mid : Shown) (how : How) (m : Mode) (n : �
             limited = for;
             step = x.step;
             comes = subst (λ (i : ℕ). AfterPark did i l x.step) same.seat z.2;
+            again = λ q. subst (λ (i : ℕ). IsNotLost did i (Ok last)) same.seat (x.again q);
             made = made_later did old mid new x.step last s.after same.seat x.made;
             last = x.last;
             end = ends_for z.1;

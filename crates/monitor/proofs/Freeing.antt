@@ -1,4 +1,4 @@
--- How many permits are free behind a step, and what that makes of a counted load.
+-- How many permits are free after a step, and what that makes of a counted load.
 use Rattle.std.proofs.Common.{◌≡◌, ◌⊎◌, inl, inr, ⊎_elim, ℕ, ◌<◌, Bool, true, false, not, cond, nat_lt, length, Some, List, [], ◌∷◌, ◌++◌, Result, Ok, Err, refl, sym, ap, ◌∙◌, subst, arith}
 use Rattle.std.specs.Prelude.{ℤ, pos, negsuc, ◌+ℤ◌, ◌-ℤ◌, ◌≤ℤ◌, int_lt}
 use Rattle.std.proofs.lemmas.Int.{ints}
@@ -249,7 +249,7 @@ entry_frees b h i step e can below t q =
     let at : e.seat < s.header.seats = subst (λ (j : ℕ). j < s.header.seats) (sym seat) below in
     frees_by s h step e e.word refl t (allowed s h e waits known_is at) (made_suits s h i step e q)
 
--- the free permits behind a step of a core
+-- the free permits after a step of a core
 pub turn_frees : (v w : CoreView) (i : ℕ) (step : Step) (r : Result Answer Fault) → IsLawfulCore v → IsLawfulCore w →
     i < v.header.seats → IsAnswered v i step r w → is_semaphore v.base.header.object ≡ true →
     IsFreeAfter step (counts_of v).free (counts_of w).free

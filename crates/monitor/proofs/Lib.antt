@@ -12,3 +12,4 @@ pub mod Loads
 pub mod TurnByTurn
 pub mod Rooms
 pub mod RoomTurns
+pub mod StillWaiting

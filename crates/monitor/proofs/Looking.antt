@@ -18,7 +18,7 @@ pub may_give_back : (o t : Ticket) (p : Point) (seat share : ℕ) → o ≡ afte
 may_give_back o t p seat share taken was =
     follows_taken o t p p seat taken was.seat_is (follows_same seat p)
 
--- a pass behind such a section
+-- a pass after such a section
 pub record Looked (t n : Ticket) (p : Point) (seat share : ℕ) : Type 0 where
   pub pass : IsPass n seat share
   pub shows : IsSound (shown n seat share)

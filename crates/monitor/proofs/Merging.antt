@@ -113,7 +113,7 @@ all_below f n (p ∷ ps) all =
     ap (λ b. cond b (f p.seat) 0) (lt-ltb p.seat n (All-head (λ p. p.seat < n) p ps all)) in
     omega (arith, ih, here)
 
--- a share is what the base and the entries behind it have of the seat
+-- a share is what the base and the entries after it have of the seat
 shares_in : (q : Point) (ps : List Shown) → All (λ p. IsSound p) ps → All (λ p. Agrees q p.seat p.mine) ps →
     shares ps ≡ by_passes (calls_of q.base q.entries) ps
 unfolding by_passes Agrees

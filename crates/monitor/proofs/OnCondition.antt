@@ -27,7 +27,8 @@ use Rattle.monitor.specs.declared.how.How.TheVariants.{Plain, Interruptible, Tim
 use Rattle.monitor.specs.declared.waiting.Limits.{Limits}
 use Rattle.monitor.specs.Acquire.{IsUntil, LimitsFor, WasInterrupted, WasNotInterrupted}
 use Rattle.monitor.specs.AwaitOn.{IsAwait, MayLapseFor, LapsesAndReturns, ReturnsSignalled, first_stage, stage_by}
-use Rattle.monitor.specs.Waits.{ComesOf, EndComesOf, IsMade, IsWait, IsWaited, WaitsAs, on_condition, MayBegin, MayLapse, BackFromLapse}
+use Rattle.monitor.specs.Waits.{ComesOf, EndComesOf, IsMade, IsNotLost, WaitsAs, on_condition}
+use Rattle.monitor.specs.inner.Waits.{IsWait, IsWaited, MayBegin, MayLapse, BackFromLapse}
 use Rattle.history.proofs.Awaiting.{falls_asleep}
 use Rattle.monitor.proofs.Acquiring.{idle_made, at_once, made_later, only_timed, refused_at_once}
 use Rattle.monitor.proofs.InLine.{records}
@@ -139,7 +140,7 @@ module _ (did : Deed → Type 0) (old mid : Shown) (c : ℕ) (how : How) (e : En
       ∙ sym (ap (λ (f : Mode → ℕ). f X)
       (own_holds s.found old.lock.header old.seat old.mine s.agrees header))
 
-  -- and the end of the wait behind it
+  -- and the end of the wait after it
   pub ends_await : e.word ≡ word.Await → IsSame old mid → IsSound mid → (new : Shown) (l : Limits) (last : Entry) →
       LimitsFor did how l → Before mid.seen new.seen → IsWaited did mid (first_stage how) l last new →
       IsAwait did old c how (Ok last) new
@@ -161,15 +162,17 @@ module _ (did : Deed → Type 0) (old mid : Shown) (c : ℕ) (how : How) (e : En
         made = made_later did old mid new x.step last s.after same.seat x.made;
         last = x.last;
         end = end x.end;
+        again = λ q. subst (λ (i : ℕ). IsNotLost did i (Ok last)) same.seat (x.again q);
       }
         where
           end : ((new.mine ≡ last ∷ mid.mine) × (last ≡ back_from mid.seat (signalled e.at e.n))
-              × EndComesOf did mid.seat l (first_stage how) (on_condition (signalled e.at e.n)) x.step)
+              × EndComesOf did mid.seat l (first_stage how) (on_condition (signalled e.at e.n))
+              (IsNotLost did mid.seat (Ok last)) x.step)
               ⊎ BackFromLapse did mid (signalled e.at e.n) (first_stage how) l x.step last new →
               ReturnsSignalled did old how l e x.step last new ⊎ LapsesAndReturns did old how l e x.step last new
           end (inl z) = inl record {
             comes = subst (λ (i : ℕ). EndComesOf did i l (first_stage how)
-                (on_condition (signalled e.at e.n)) x.step) same.seat z.2;
+                (on_condition (signalled e.at e.n)) (IsNotLost did i (Ok last)) x.step) same.seat z.2;
             back = z.1 ∙ ap (λ (i : ℕ). back_from i (signalled e.at e.n)) same.seat;
             mine = z.0 ∙ ap (λ (l : List Entry). last ∷ l) s.mine;
           }

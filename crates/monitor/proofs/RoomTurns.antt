@@ -17,7 +17,7 @@ use Rattle.monitor.specs.Machine.{IsBegun, IsCall, WasShown, begins_wait, begun,
 use Rattle.monitor.specs.Room.{InRoom, IsBegunIn, IsCallIn, IsEnteredIn, IsStepIn, IsTooMany, at_point, fold_of}
 use Rattle.monitor.specs.Shown.{Shown, IsSound}
 use Rattle.monitor.specs.Stepping.{IsEntered, IsSame, IsStep, IsUnparked, named_in}
-use Rattle.monitor.specs.Waits.{IsReply}
+use Rattle.monitor.specs.inner.Waits.{IsReply}
 use Rattle.monitor.specs.declared.how.How.{How}
 use Rattle.monitor.specs.declared.machine.Next.TheVariants.{Ends, Waits}
 use Rattle.monitor.specs.declared.machine.Request.{Request}

@@ -21,7 +21,8 @@ use Rattle.word_lock.proofs.PointLaws.{added_behind, before_header, before_refl,
 use Rattle.word_lock.proofs.Sections.{IsSection, section}
 use Rattle.monitor.specs.Lawful.{beside_of, point_of, start_at, view_of, IsLawfulCore, IsLawful}
 use Rattle.monitor.specs.Load.{Moves, holds_in}
-use Rattle.monitor.specs.Room.{IsCoreFold, IsCoreStep, IsCoreStepIn, IsFold, IsStepIn, IsTooMany, at_point, fold_of, is_full}
+use Rattle.monitor.specs.Room.{IsFold, IsStepIn, IsTooMany, at_point, fold_of}
+use Rattle.monitor.specs.inner.CoreSteps.{IsCoreFold, IsCoreStep, IsCoreStepIn, is_full}
 use Rattle.monitor.specs.declared.room.WhenFull.TheVariants.{Trim}
 use Rattle.monitor.specs.Shown.{IsPass, IsSound, shown}
 use Rattle.monitor.specs.Stepping.{IsStep, made_by}

@@ -177,7 +177,7 @@ pub true_pass : (t : Ticket) (seat share : ℕ) → IsPass t seat share → IsSo
 true_pass t seat share z =
     record { lawful = z.lawful; header = z.header; below = z.below; agrees = z.agrees; counted = z.counted }
 
--- the pass behind a section whose calls were counted, where what was left is lawful
+-- the pass after a section whose calls were counted, where what was left is lawful
 pub passed : (t n : Ticket) (p q : Point) (seat share next : ℕ) → IsSection t n p q seat →
     IsPass t seat share → IsLawful q → next ≡ ended_calls (first_entries n.logs) → IsPass n seat next
 passed t n p q seat share next x was lawful counted =
@@ -198,7 +198,7 @@ pub mine_stays : (t n : Ticket) (p q : Point) (seat : ℕ) → IsSection t n p q
     first_entries n.logs ≡ first_entries t.logs
 mine_stays t n p q seat x none = x.grown ∙ ap (λ (l : List Entry). l ++ first_entries t.logs) none
 
--- a pass behind a section with one step
+-- a pass after a section with one step
 module _ (t o n : Ticket) (p q : Point) (seat share : ℕ) (step : Step) (r : Result Answer Fault) where
   pub record Section : Type 0 where
     pub taken : o ≡ after_lock t p

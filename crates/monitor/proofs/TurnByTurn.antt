@@ -30,7 +30,9 @@ use Rattle.monitor.specs.Shown.{Shown, IsSound}
 use Rattle.monitor.specs.Stepping.{IsSame, IsStep, IsStepNow, IsUnparked, answer_of, named_in}
 use Rattle.monitor.specs.declared.step.Now.{Now}
 use Rattle.monitor.specs.declared.step.Now.TheVariants.{Done, Busy}
-use Rattle.monitor.specs.Waits.{AfterPark, AllStillWait, Cause, ComesOf, IsReply, IsWaited, MayBegin, SoFar, StillWaits, WaitsAs, ending_of, in_line, is_lapse, no_limits, on_condition, stage_asleep, stage_behind, unless_lapse, asking}
+use Rattle.monitor.specs.Waits.{AfterPark, Cause, ComesOf, IsNotLost, WaitsAs, in_line, is_lapse, no_limits, on_condition, stage_asleep, asking}
+use Rattle.monitor.specs.inner.Waits.{IsReply, IsWaited, MayBegin}
+use Rattle.monitor.proofs.StillWaiting.{AllStillWait, SoFar, StillWaits, ending_of, stage_behind, unless_lapse}
 use Rattle.monitor.specs.Waits as of_waits
 use Rattle.monitor.specs.declared.how.How.{How}
 use Rattle.monitor.specs.declared.how.How.TheVariants.{Plain, Interruptible, Timed}
@@ -228,20 +230,20 @@ begun_free did old new q how same b =
     ∙ begins_free q b.entry.word b.entry.n (free_of old) b.begins)
 
 -- nor has one who still waits
-still_free : (did : Deed → Type 0) (first : Shown) (was : Cause) (s : Stage) (l : Limits) (now : Shown)
-    (stage : Stage) → StillWaits did first was s l now stage → free_of now ≡ free_of first
-still_free did first was s l now stage still =
+still_free : (did : Deed → Type 0) (first : Shown) (was : Cause) (s : Stage) (l : Limits) (kept : Type 0)
+    (now : Shown) (stage : Stage) → StillWaits did first was s l kept now stage → free_of now ≡ free_of first
+still_free did first was s l kept now stage still =
     ap (λ (k : LockId). free (opening k.header) now.mine) still.same.lock ∙ by still.so_far
   where
-    by : SoFar did first was s l now still.cause stage → free (opening first.lock.header) now.mine ≡ free_of first
+    by : SoFar did first was s l kept now still.cause stage → free (opening first.lock.header) now.mine ≡ free_of first
     by (inl x) = ap (λ (z : List Entry). free (opening first.lock.header) z) x.1
     by (inr x) = ap (λ (z : List Entry). free (opening first.lock.header) z) x.5
 
-pub all_still_free : (did : Deed → Type 0) (first : Shown) (s : Stage) (l : Limits) (now : Shown)
-    (stage : Stage) → of_waits.Waits first.seen first.seat → AllStillWait did first s l now stage →
+pub all_still_free : (did : Deed → Type 0) (first : Shown) (s : Stage) (l : Limits) (kept : Type 0) (now : Shown)
+    (stage : Stage) → of_waits.Waits first.seen first.seat → AllStillWait did first s l kept now stage →
     free_of now ≡ free_of first
-all_still_free did first s l now stage began still =
-    still_free did first began.0 s l now stage (still began.0 began.1)
+all_still_free did first s l kept now stage began still =
+    still_free did first began.0 s l kept now stage (still began.0 began.1)
 
 waits_by : (old new : Shown) (q : Request) (how : How) (moment : ℕ) (was : Bool)
     (r : Result Answer Fault) (w : Waiting) → IsStep old (step_by q how was) r new →
@@ -400,10 +402,11 @@ gone_waits w s (Ok Sleep) next ok is =
 gone_waits w s (Err f) next ok is = cc
 
 -- a turn of one who still waits
-module _ (did : Deed → Type 0) (first now new : Shown) (s : Stage) (l : Limits) (w : Waiting) (woke : Woke)
-    (t : Turn) (began : of_waits.Waits first.seen first.seat) (may : MayBegin l s)
-    (still : AllStillWait did first s l now w.stage) (limits : w.limits ≡ l)
-    (comes : ComesOf did first.seat w.limits w.stage (step_of_waiting w woke)) (same : IsSame now new)
+module _ (did : Deed → Type 0) (first now new : Shown) (s : Stage) (l : Limits) (kept : Type 0) (w : Waiting)
+    (woke : Woke) (t : Turn) (began : of_waits.Waits first.seen first.seat) (may : MayBegin l s)
+    (still : AllStillWait did first s l kept now w.stage) (limits : w.limits ≡ l)
+    (comes : ComesOf did first.seat w.limits w.stage (step_of_waiting w woke))
+    (noted : step_of_waiting w woke ≡ step.Interrupt → kept) (same : IsSame now new)
     (gone : IsGoneOn now w woke t new) (woken : IsUnparked did t.named) where
   its : ComesOf did first.seat l w.stage (step_of_waiting w woke)
   its = subst (λ (z : Limits). ComesOf did first.seat z w.stage (step_of_waiting w woke)) limits comes
@@ -415,29 +418,30 @@ module _ (did : Deed → Type 0) (first now new : Shown) (s : Stage) (l : Limits
 
   ok : IsOk gone.0
   ok =
-      never_fault did first now new began.0 s l w.stage (step_of_waiting w woke) may
-      (still began.0 began.1) its gone.0 gone.1
+      never_fault did first now new began.0 s l kept w.stage (step_of_waiting w woke) may
+      (still began.0 began.1) its noted gone.0 gone.1
 
   pub later : Before first.seen new.seen
   later = before_trans first.seen now.seen new.seen (still began.0 began.1).begins gone.1.after
 
   pub replies : (reply : Result Entry Fault) (again : Bool) → t.next ≡ Ends reply again →
-      IsReply did first s l reply new
-  replies reply again ends =
+      (kept → IsNotLost did first.seat reply) → IsReply did first s l reply new
+  replies reply again ends settled =
       let x = gone_ends w (step_of_waiting w woke) gone.0 reply again ok
       (ap (λ (z : Turn). z.next) (sym gone.2) ∙ ends) in
       subst (λ (z : Result Entry Fault). IsReply did first s l z new) (sym x.2)
-      (λ k stays. waited did first now new k s l w.stage (step_of_waiting w woke) may (still k stays) its gone.0
-      x.0 gone.1 named x.1)
+      (λ k stays. waited did first now new k s l kept w.stage (step_of_waiting w woke) may (still k stays) its noted
+      gone.0 x.0 gone.1 named x.1
+      (subst (λ (z : Result Entry Fault). kept → IsNotLost did first.seat z) x.2 settled))
 
   pub waits_on : (next : Waiting) → IsSound new → t.next ≡ Waits next →
-      AllStillWait did first s l new next.stage × (next.limits ≡ l)
+      AllStillWait did first s l kept new next.stage × (next.limits ≡ l)
   waits_on next shows is =
       let x = gone_waits w (step_of_waiting w woke) gone.0 next ok
       (ap (λ (z : Turn). z.next) (sym gone.2) ∙ is) in (
-        subst (λ (z : Stage). AllStillWait did first s l new z) (sym x.1)
-            (λ k stays. still_after did first now new k s l w.stage (step_of_waiting w woke) may (still k stays)
-            its gone.0 same gone.1 named shows x.0),
+        subst (λ (z : Stage). AllStillWait did first s l kept new z) (sym x.1)
+            (λ k stays. still_after did first now new k s l kept w.stage (step_of_waiting w woke) may
+            (still k stays) its noted gone.0 same gone.1 named shows x.0),
         x.2 ∙ limits,
       )
 
@@ -468,6 +472,20 @@ comes_at did i l Expires woke p = refl
 comes_at did i l Parks woke p = parked_within did i l woke (p l refl)
 comes_at did i l Looks woke p = refl
 comes_at did i l GivenUp woke p = parked_none did i woke (p no_limits refl)
+
+-- a step that an interrupt led to comes of a park
+pub is_noted : (l : Limits) (stage : Stage) (woke : Woke) (kept : Type 0) →
+    (IsSome (limits_at stage l) → woke ≡ Interrupted → kept) → step_at stage l woke ≡ step.Interrupt → kept
+is_noted l Expires woke kept noted q = cc
+is_noted l Parks Permit kept noted q = cc
+is_noted l Parks Deadline kept noted q = absurd (by (is_some l.until) q)
+  where
+    by : (b : Bool) → cond b step.Expire step.Look ≡ step.Interrupt → ⊥
+    by true u = cc
+    by false u = cc
+is_noted l Parks Interrupted kept noted q = noted refl refl
+is_noted l Looks woke kept noted q = cc
+is_noted l GivenUp woke kept noted q = cc
 
 -- a step that waited for nobody
 pub stepped_now : (old new : Shown) (step : Step) (reply : Result Now Fault) (r : Result Answer Fault) →

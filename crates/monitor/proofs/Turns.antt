@@ -30,7 +30,9 @@ use Rattle.monitor.specs.declared.waiting.Limits.{Limits}
 use Rattle.monitor.specs.declared.waiting.Stage.{Stage}
 use Rattle.monitor.specs.declared.waiting.Stage.TheVariants.{Expires, Parks, Looks, GivenUp}
 use Rattle.permit.specs.Deed.{Deed}
-use Rattle.monitor.specs.Waits.{IsMade, with_entry, Cause, in_line, on_condition, on_way_back, WaitsAs, IsAllowed, AfterPark, ComesOf, MayBegin, HasGivenUp, EndComesOf, no_limits, IsEnd, EndsBy, MayLapse, HasLapsed, EndsLapsed, IsWait, IsStage, IsBehindLapse, SoFar, StillWaits, AllStillWait, is_lapse, unless_lapse, ending_of, stage_asleep, stage_behind}
+use Rattle.monitor.specs.Waits.{IsMade, with_entry, Cause, in_line, on_condition, on_way_back, WaitsAs, IsAllowed, AfterPark, ComesOf, HasGivenUp, EndComesOf, IsNotLost, no_limits, is_lapse, stage_asleep}
+use Rattle.monitor.specs.inner.Waits.{MayBegin, IsEnd, EndsBy, MayLapse, HasLapsed, EndsLapsed, IsWait}
+use Rattle.monitor.proofs.StillWaiting.{IsStage, IsBehindLapse, SoFar, StillWaits, AllStillWait, unless_lapse, ending_of, stage_behind}
 use Rattle.monitor.proofs.InLine.{queued_made, ends_by, looks_by, owed_by, IsEndBy, outcome, Outcome, made_in, same_self}
 use Rattle.monitor.proofs.Sections.{left}
 
@@ -198,34 +200,78 @@ behind_looks did i l GivenUp step b c = only_looks did i step c
 behind_looks did i l _ step b c = absurd b
 
 -- what a step comes of, by the stages that there are before a lapse
-end_comes : (did : Deed → Type 0) (i : ℕ) (l : Limits) (s : Stage) (was : Cause) (stage : Stage) (step : Step) →
-    IsStage did i l s was stage → ComesOf did i l stage step → EndComesOf did i l s was step
-end_comes did i l s (in_line a) stage step q c = subst (λ (z : Stage). ComesOf did i l z step) q c
-end_comes did i l s (on_condition w) stage step (inl q) c =
+end_comes : (did : Deed → Type 0) (i : ℕ) (l : Limits) (s : Stage) (was : Cause) (kept : Type 0) (stage : Stage)
+    (step : Step) → IsStage did i l s was kept stage → ComesOf did i l stage step → EndComesOf did i l s was kept step
+end_comes did i l s (in_line a) kept stage step q c = subst (λ (z : Stage). ComesOf did i l z step) q c
+end_comes did i l s (on_condition w) kept stage step (inl q) c =
     inl (subst (λ (z : Stage). ComesOf did i l z step) q c)
-end_comes did i l s (on_condition w) stage step (inr q) c =
+end_comes did i l s (on_condition w) kept stage step (inr q) c =
     inr (q.1, subst (λ (z : Stage). ComesOf did i l z step) q.0 c)
-end_comes did i l s (on_way_back w) stage step (inl q) c =
+end_comes did i l s (on_way_back w) kept stage step (inl q) c =
     inl (subst (λ (z : Stage). ComesOf did i l z step) q c)
-end_comes did i l s (on_way_back w) stage step (inr q) c =
+end_comes did i l s (on_way_back w) kept stage step (inr q) c =
     inr (q.1, subst (λ (z : Stage). ComesOf did i l z step) q.0 c)
+
+-- what is kept of an interrupt may be said otherwise
+given_up_as : (did : Deed → Type 0) (i : ℕ) (l : Limits) (s : Stage) (kept more : Type 0) → (kept → more) →
+    HasGivenUp did i l s kept → HasGivenUp did i l s more
+given_up_as did i l s kept more so (inl x) = inl x
+given_up_as did i l s kept more so (inr x) = inr (x.0, so x.1)
+
+end_as : (did : Deed → Type 0) (i : ℕ) (l : Limits) (s : Stage) (was : Cause) (kept more : Type 0) (step : Step) →
+    (kept → more) → EndComesOf did i l s was kept step → EndComesOf did i l s was more step
+end_as did i l s (in_line a) kept more step so x = x
+end_as did i l s (on_condition w) kept more step so (inl x) = inl x
+end_as did i l s (on_condition w) kept more step so (inr x) = inr (given_up_as did i l s kept more so x.0, x.1)
+end_as did i l s (on_way_back w) kept more step so (inl x) = inl x
+end_as did i l s (on_way_back w) kept more step so (inr x) = inr (given_up_as did i l s kept more so x.0, x.1)
+
+stage_as : (did : Deed → Type 0) (i : ℕ) (l : Limits) (s : Stage) (was : Cause) (kept more : Type 0) (stage : Stage) →
+    (kept → more) → IsStage did i l s was kept stage → IsStage did i l s was more stage
+stage_as did i l s (in_line a) kept more stage so x = x
+stage_as did i l s (on_condition w) kept more stage so (inl x) = inl x
+stage_as did i l s (on_condition w) kept more stage so (inr x) = inr (x.0, given_up_as did i l s kept more so x.1)
+stage_as did i l s (on_way_back w) kept more stage so (inl x) = inl x
+stage_as did i l s (on_way_back w) kept more stage so (inr x) = inr (x.0, given_up_as did i l s kept more so x.1)
+
+still_as : (did : Deed → Type 0) (first : Shown) (was : Cause) (s : Stage) (l : Limits) (kept more : Type 0)
+    (now : Shown) (stage : Stage) → (kept → more) → StillWaits did first was s l kept now stage →
+    StillWaits did first was s l more now stage
+still_as did first was s l kept more now stage so still = record {
+  same = still.same;
+  begins = still.begins;
+  shows = still.shows;
+  cause = still.cause;
+  waits = still.waits;
+  so_far = by still.so_far;
+}
+  where
+    by : SoFar did first was s l kept now still.cause stage → SoFar did first was s l more now still.cause stage
+    by (inl x) = inl (x.0, x.1, stage_as did first.seat l s was kept more stage so x.2)
+    by (inr x) = inr x
+
+pub all_still_as : (did : Deed → Type 0) (first : Shown) (s : Stage) (l : Limits) (kept more : Type 0) (now : Shown)
+    (stage : Stage) → (kept → more) → AllStillWait did first s l kept now stage →
+    AllStillWait did first s l more now stage
+all_still_as did first s l kept more now stage so all k waits =
+    still_as did first k s l kept more now stage so (all k waits)
 
 look_allowed : (l : Limits) (step : Step) → step ≡ Look → IsAllowed l step
 look_allowed l step q = subst (IsAllowed l) (sym q) tt
 
-end_allowed : (did : Deed → Type 0) (i : ℕ) (l : Limits) (s : Stage) (was : Cause) (step : Step) →
-    MayBegin l s → EndComesOf did i l s was step → IsAllowed l step
-end_allowed did i l s (in_line a) step may c = first_allowed did i l s step may c
-end_allowed did i l s (on_condition w) step may (inl c) = first_allowed did i l s step may c
-end_allowed did i l s (on_condition w) step may (inr c) = look_allowed l step (only_looks did i step c.1)
-end_allowed did i l s (on_way_back w) step may (inl c) = first_allowed did i l s step may c
-end_allowed did i l s (on_way_back w) step may (inr c) = look_allowed l step (only_looks did i step c.1)
+end_allowed : (did : Deed → Type 0) (i : ℕ) (l : Limits) (s : Stage) (was : Cause) (kept : Type 0) (step : Step) →
+    MayBegin l s → EndComesOf did i l s was kept step → IsAllowed l step
+end_allowed did i l s (in_line a) kept step may c = first_allowed did i l s step may c
+end_allowed did i l s (on_condition w) kept step may (inl c) = first_allowed did i l s step may c
+end_allowed did i l s (on_condition w) kept step may (inr c) = look_allowed l step (only_looks did i step c.1)
+end_allowed did i l s (on_way_back w) kept step may (inl c) = first_allowed did i l s step may c
+end_allowed did i l s (on_way_back w) kept step may (inr c) = look_allowed l step (only_looks did i step c.1)
 
 -- a look is no lapse, so a lapse comes of what the wait began with
-lapse_comes : (did : Deed → Type 0) (i : ℕ) (l : Limits) (s : Stage) (w : Sleep) (step : Step) (how : End) →
-    EndComesOf did i l s (on_condition w) step → LapsesBy step how → ComesOf did i l s step
-lapse_comes did i l s w step how (inl c) by = c
-lapse_comes did i l s w step how (inr c) by =
+lapse_comes : (did : Deed → Type 0) (i : ℕ) (l : Limits) (s : Stage) (w : Sleep) (kept : Type 0) (step : Step)
+    (how : End) → EndComesOf did i l s (on_condition w) kept step → LapsesBy step how → ComesOf did i l s step
+lapse_comes did i l s w kept step how (inl c) by = c
+lapse_comes did i l s w kept step how (inr c) by =
     absurd (subst (λ (z : Step). LapsesBy z how) (only_looks did i step c.1) by)
 
 -- a look leaves the stage that a wait began with
@@ -235,7 +281,7 @@ looks_on did i l Expires may c = cc
 looks_on did i l Parks may c = refl
 looks_on did i l _ may c = absurd may
 
--- the stage behind a step that recorded nothing
+-- the stage after a step that recorded nothing
 expired : (s : Stage) → stage_asleep s Expire ≡ GivenUp
 expired Expires = refl
 expired Parks = refl
@@ -248,34 +294,37 @@ interrupts Parks = refl
 interrupts Looks = refl
 interrupts GivenUp = refl
 
-abbrev WaitsOn : (Deed → Type 0) → ℕ → Limits → Stage → Stage → Type 0
-WaitsOn did i l s stage = (stage ≡ s) ⊎ ((stage ≡ GivenUp) × HasGivenUp did i l s)
+abbrev WaitsOn : (Deed → Type 0) → ℕ → Limits → Stage → (kept : Type 0) → Stage → Type 0
+WaitsOn did i l s kept stage = (stage ≡ s) ⊎ ((stage ≡ GivenUp) × HasGivenUp did i l s kept)
 
-first_asleep : (did : Deed → Type 0) (i : ℕ) (l : Limits) (s : Stage) (step : Step) → MayBegin l s →
-    ComesOf did i l s step → WaitsOn did i l s (stage_asleep s step)
-first_asleep did i l s Look may c = inl (looks_on did i l s may c)
-first_asleep did i l s Expire may c = inr (expired s, inl c)
-first_asleep did i l s Interrupt may c = inr (interrupts s, inr c)
-first_asleep did i l s step may c = absurd (first_allowed did i l s step may c)
+first_asleep : (did : Deed → Type 0) (i : ℕ) (l : Limits) (s : Stage) (kept : Type 0) (step : Step) →
+    (step ≡ Interrupt → kept) → MayBegin l s → ComesOf did i l s step → WaitsOn did i l s kept (stage_asleep s step)
+first_asleep did i l s kept Look noted may c = inl (looks_on did i l s may c)
+first_asleep did i l s kept Expire noted may c = inr (expired s, inl c)
+first_asleep did i l s kept Interrupt noted may c = inr (interrupts s, inr (c, noted refl))
+first_asleep did i l s kept step noted may c = absurd (first_allowed did i l s step may c)
 
-on_asleep : (did : Deed → Type 0) (i : ℕ) (l : Limits) (s stage : Stage) (step : Step) → MayBegin l s →
-    WaitsOn did i l s stage → ComesOf did i l stage step → WaitsOn did i l s (stage_asleep stage step)
-on_asleep did i l s stage step may (inl q) c =
-    subst (λ (z : Stage). WaitsOn did i l s (stage_asleep z step)) (sym q)
-    (first_asleep did i l s step may (subst (λ (z : Stage). ComesOf did i l z step) q c))
-on_asleep did i l s stage step may (inr q) c =
+on_asleep : (did : Deed → Type 0) (i : ℕ) (l : Limits) (s : Stage) (kept : Type 0) (stage : Stage) (step : Step) →
+    (step ≡ Interrupt → kept) → MayBegin l s → WaitsOn did i l s kept stage → ComesOf did i l stage step →
+    WaitsOn did i l s kept (stage_asleep stage step)
+on_asleep did i l s kept stage step noted may (inl q) c =
+    subst (λ (z : Stage). WaitsOn did i l s kept (stage_asleep z step)) (sym q)
+    (first_asleep did i l s kept step noted may (subst (λ (z : Stage). ComesOf did i l z step) q c))
+on_asleep did i l s kept stage step noted may (inr q) c =
     inr (subst (λ (z : Stage). stage_asleep z step ≡ GivenUp) (sym q.0) refl, q.1)
 
-stage_stays : (did : Deed → Type 0) (i : ℕ) (l : Limits) (s : Stage) (was : Cause) (stage : Stage)
-    (step : Step) → MayBegin l s → IsStage did i l s was stage → StaysBy was step →
-    ComesOf did i l stage step → IsStage did i l s was (stage_asleep stage step)
-stage_stays did i l s (in_line a) stage step may q looked c =
+stage_stays : (did : Deed → Type 0) (i : ℕ) (l : Limits) (s : Stage) (was : Cause) (kept : Type 0) (stage : Stage)
+    (step : Step) → (step ≡ Interrupt → kept) → MayBegin l s → IsStage did i l s was kept stage →
+    StaysBy was step → ComesOf did i l stage step → IsStage did i l s was kept (stage_asleep stage step)
+stage_stays did i l s (in_line a) kept stage step noted may q looked c =
     let at : ComesOf did i l s Look =
     subst (λ (z : Step). ComesOf did i l s z) looked (subst (λ (z : Stage). ComesOf did i l z step) q c) in
     subst (λ (z : Stage). stage_asleep z step ≡ s) (sym q)
     (subst (λ (z : Step). stage_asleep s z ≡ s) (sym looked) (looks_on did i l s may at))
-stage_stays did i l s (on_condition w) stage step may q looked c = on_asleep did i l s stage step may q c
-stage_stays did i l s (on_way_back w) stage step may q looked c = on_asleep did i l s stage step may q c
+stage_stays did i l s (on_condition w) kept stage step noted may q looked c =
+    on_asleep did i l s kept stage step noted may q c
+stage_stays did i l s (on_way_back w) kept stage step noted may q looked c =
+    on_asleep did i l s kept stage step noted may q c
 
 behind_stays : (stage : Stage) (step : Step) → IsBehindLapse stage → IsBehindLapse (stage_asleep stage step)
 behind_stays Looks step b = tt
@@ -318,11 +367,11 @@ there_later did p q r i step e m b =
     }
 
 -- a turn of one who still waits, or the end of its wait
-module _ (did : Deed → Type 0) (first now new : Shown) (was : Cause) (s : Stage) (l : Limits) (stage : Stage)
-    (step : Step) (may : MayBegin l s) (stays : StillWaits did first was s l now stage)
-    (comes : ComesOf did first.seat l stage step) where
-  ends_of : IsStage did first.seat l s was stage → EndComesOf did first.seat l s was step
-  ends_of q = end_comes did first.seat l s was stage step q comes
+module _ (did : Deed → Type 0) (first now new : Shown) (was : Cause) (s : Stage) (l : Limits) (kept : Type 0)
+    (stage : Stage) (step : Step) (may : MayBegin l s) (stays : StillWaits did first was s l kept now stage)
+    (comes : ComesOf did first.seat l stage step) (noted : step ≡ Interrupt → kept) where
+  ends_of : IsStage did first.seat l s was kept stage → EndComesOf did first.seat l s was kept step
+  ends_of q = end_comes did first.seat l s was kept stage step q comes
 
   looked : IsBehindLapse stage → step ≡ Look
   looked b = behind_looks did first.seat l stage step b comes
@@ -330,8 +379,8 @@ module _ (did : Deed → Type 0) (first now new : Shown) (was : Cause) (s : Stag
   allowed : IsAllowed l step
   allowed = by stays.so_far
     where
-      by : SoFar did first was s l now stays.cause stage → IsAllowed l step
-      by (inl x) = end_allowed did first.seat l s was step may (ends_of x.2)
+      by : SoFar did first was s l kept now stays.cause stage → IsAllowed l step
+      by (inl x) = end_allowed did first.seat l s was kept step may (ends_of x.2)
       by (inr x) = look_allowed l step (looked x.6)
 
   turned : (r : Result Answer Fault) → IsStep now step r new → Turn now stays.cause step r new
@@ -344,15 +393,15 @@ module _ (did : Deed → Type 0) (first now new : Shown) (was : Cause) (s : Stag
       (turned (Ok (answer.Recorded e name)) t)
 
   so_far_later : Before now.seen new.seen → new.mine ≡ now.mine → StaysBy stays.cause step →
-      SoFar did first was s l new stays.cause (stage_asleep stage step)
+      SoFar did first was s l kept new stays.cause (stage_asleep stage step)
   so_far_later b mine by_look = by stays.so_far
     where
-      by : SoFar did first was s l now stays.cause stage →
-          SoFar did first was s l new stays.cause (stage_asleep stage step)
+      by : SoFar did first was s l kept now stays.cause stage →
+          SoFar did first was s l kept new stays.cause (stage_asleep stage step)
       by (inl x) = inl (
         x.0,
         mine ∙ x.1,
-        stage_stays did first.seat l s was stage step may x.2
+        stage_stays did first.seat l s was kept stage step noted may x.2
             (subst (λ (k : Cause). StaysBy k step) x.0 by_look) comes,
       )
       by (inr x) = inr (
@@ -372,7 +421,7 @@ module _ (did : Deed → Type 0) (first now new : Shown) (was : Cause) (s : Stag
       )
 
   goes_on : IsSame now new → IsStep now step (Ok answer.Sleep) new → IsSound new →
-      StillWaits did first was s l new (stage_asleep stage step)
+      StillWaits did first was s l kept new (stage_asleep stage step)
   goes_on same t shows =
       let sleeps = turned (Ok answer.Sleep) t in record {
         same = record { lock = same.lock ∙ stays.same.lock; seat = same.seat ∙ stays.same.seat };
@@ -383,28 +432,28 @@ module _ (did : Deed → Type 0) (first now new : Shown) (was : Cause) (s : Stag
         so_far = so_far_later t.after t.mine sleeps.1;
       }
 
-  -- behind its lapse a sleeper is on its way back
+  -- after its lapse a sleeper is on its way back
   has_lapsed : (e : Entry) (name : Option ℕ) → IsStep now step (Ok (answer.Recorded e name)) new →
       IsUnparked did name → (w : Sleep) (how : End) → LapsesBy step how →
-      EndComesOf did first.seat l s (on_condition w) step → e ≡ lapse_from first.seat w how →
+      EndComesOf did first.seat l s (on_condition w) kept step → e ≡ lapse_from first.seat w how →
       HasLapsed did first w s l how new.seen
   has_lapsed e name t woken w how ends began is = record {
     may = lapses_as l step how allowed ends;
     step = step;
-    comes = lapse_comes did first.seat l s w step how began ends;
+    comes = lapse_comes did first.seat l s w kept step how began ends;
     made = subst (λ (x : Entry). IsMade did first.seen first.seat step x new.seen) is
         (made_in did first now new step e name stays.same stays.begins t woken).0;
   }
 
   Lapsed : Entry → Type 0
-  Lapsed e = (k : Cause) × WaitsAs new.seen first.seat k × SoFar did first was s l new k Looks
+  Lapsed e = (k : Cause) × WaitsAs new.seen first.seat k × SoFar did first was s l kept new k Looks
 
   after_lapse : (e : Entry) (name : Option ℕ) → IsStep now step (Ok (answer.Recorded e name)) new →
       IsUnparked did name → is_lapse e.word ≡ true → Lapsed e
   unfolding Lapsed
   after_lapse e name t woken lapse = by stays.cause stays.so_far (makes e name t)
     where
-      by : (k : Cause) → SoFar did first was s l now k stage →
+      by : (k : Cause) → SoFar did first was s l kept now k stage →
           TurnMakes new.seen.base new.seen.entries first.seat k step e → Lapsed e
       by (in_line a) f m = absurd (true_false (is_lapse e.word) lapse (no_lapse step first.seat a e m))
       by (on_way_back w) f m =
@@ -420,7 +469,7 @@ module _ (did : Deed → Type 0) (first now new : Shown) (was : Cause) (s : Stag
           sym f.0,
           refl,
           has_lapsed e name t woken w m.0 m.1
-              (subst (λ (k : Cause). EndComesOf did first.seat l s k step) (sym f.0) (ends_of f.2)) m.2,
+              (subst (λ (k : Cause). EndComesOf did first.seat l s k kept step) (sym f.0) (ends_of f.2)) m.2,
           t.mine ∙ (ap (λ (x : List Entry). e ∷ x) f.1 ∙ ap (λ (x : Entry). x ∷ first.mine) m.2),
           tt,
         ),
@@ -429,7 +478,7 @@ module _ (did : Deed → Type 0) (first now new : Shown) (was : Cause) (s : Stag
 
   lapses_on : (e : Entry) (name : Option ℕ) → IsSame now new →
       IsStep now step (Ok (answer.Recorded e name)) new → IsUnparked did name →
-      is_lapse e.word ≡ true → IsSound new → StillWaits did first was s l new Looks
+      is_lapse e.word ≡ true → IsSound new → StillWaits did first was s l kept new Looks
   unfolding Lapsed
   lapses_on e name same t woken lapse shows =
       let x = after_lapse e name t woken lapse in record {
@@ -443,34 +492,39 @@ module _ (did : Deed → Type 0) (first now new : Shown) (was : Cause) (s : Stag
 
   Ends : Entry → Type 0
   Ends e =
-      ((new.mine ≡ e ∷ first.mine) × EndsBy l first.seat was e × EndComesOf did first.seat l s was step)
+      ((new.mine ≡ e ∷ first.mine) × EndsBy l first.seat was e
+      × EndComesOf did first.seat l s was (IsNotLost did first.seat (Ok e)) step)
       ⊎ EndsLapsed did first was s l step e new
 
   ends : (e : Entry) (name : Option ℕ) → IsStep now step (Ok (answer.Recorded e name)) new →
-      is_lapse e.word ≡ false → Ends e
+      is_lapse e.word ≡ false → (kept → IsNotLost did first.seat (Ok e)) → Ends e
   unfolding Ends
-  ends e name t lapse = by stays.cause stays.so_far (makes e name t)
+  ends e name t lapse settled = by stays.cause stays.so_far (makes e name t)
     where
       alone : now.mine ≡ first.mine → new.mine ≡ e ∷ first.mine
       alone f = t.mine ∙ ap (λ (x : List Entry). e ∷ x) f
 
-      by : (k : Cause) → SoFar did first was s l now k stage →
+      end_of : IsStage did first.seat l s was kept stage →
+          EndComesOf did first.seat l s was (IsNotLost did first.seat (Ok e)) step
+      end_of q = end_as did first.seat l s was kept (IsNotLost did first.seat (Ok e)) step settled (ends_of q)
+
+      by : (k : Cause) → SoFar did first was s l kept now k stage →
           TurnMakes new.seen.base new.seen.entries first.seat k step e → Ends e
       by (in_line a) (inl f) m =
           inl (
             alone f.1,
             subst (λ (k : Cause). EndsBy l first.seat k e) f.0
                 (ends_as l step first.seat a e allowed m),
-            ends_of f.2,
+            end_of f.2,
           )
       by (in_line a) (inr f) m = let z = f.3 in cc
       by (on_condition w) (inl f) (inl m) =
-          inl (alone f.1, subst (λ (k : Cause). EndsBy l first.seat k e) f.0 m, ends_of f.2)
+          inl (alone f.1, subst (λ (k : Cause). EndsBy l first.seat k e) f.0 m, end_of f.2)
       by (on_condition w) (inl f) (inr m) =
           absurd (true_false (is_lapse e.word) (ap (λ (z : Entry). is_lapse z.word) m.2) lapse)
       by (on_condition w) (inr f) m = let z = f.3 in cc
       by (on_way_back w) (inl f) m =
-          inl (alone f.1, subst (λ (k : Cause). EndsBy l first.seat k e) f.0 m, ends_of f.2)
+          inl (alone f.1, subst (λ (k : Cause). EndsBy l first.seat k e) f.0 m, end_of f.2)
       by (on_way_back w) (inr f) m =
           let is : w ≡ lapsed f.0 f.1 = same_sleep w (lapsed f.0 f.1) f.3 in
           inr (subst (λ (k : Cause). EndsLapsed did first k s l step e new) (sym f.2) record {
@@ -499,44 +553,54 @@ module _ (did : Deed → Type 0) (first now new : Shown) (was : Cause) (s : Stag
 
   pub still_after : (r : Result Answer Fault) → IsSame now new → IsStep now step r new →
       IsUnparked did (named_in r) → IsSound new → ending_of r ≡ None →
-      StillWaits did first was s l new (stage_behind stage step r)
+      StillWaits did first was s l kept new (stage_behind stage step r)
   still_after (Ok answer.Sleep) same t woken shows q = goes_on same t shows
   still_after (Err f) same t woken shows q = absurd (no_fault f t)
   still_after (Ok (answer.Recorded e name)) same t woken shows q = by (is_lapse e.word) refl q
     where
-      by : (b : Bool) → is_lapse e.word ≡ b → unless_lapse b e ≡ None → StillWaits did first was s l new Looks
+      by : (b : Bool) → is_lapse e.word ≡ b → unless_lapse b e ≡ None → StillWaits did first was s l kept new Looks
       by true u q = lapses_on e name same t woken u shows
       by false u q = cc
 
   pub waited : (r : Result Answer Fault) (last : Entry) → IsStep now step r new →
-      IsUnparked did (named_in r) → ending_of r ≡ Some last → IsWait did first was s l last new
+      IsUnparked did (named_in r) → ending_of r ≡ Some last → (kept → IsNotLost did first.seat (Ok last)) →
+      IsWait did first was s l last new
   unfolding Ends
-  waited (Ok answer.Sleep) last t woken q = cc
-  waited (Err f) last t woken q = cc
-  waited (Ok (answer.Recorded e name)) last t woken q = by (is_lapse e.word) refl q
+  waited (Ok answer.Sleep) last t woken q settled = cc
+  waited (Err f) last t woken q settled = cc
+  waited (Ok (answer.Recorded e name)) last t woken q settled = by (is_lapse e.word) refl q
     where
-      at : (is_lapse e.word ≡ false) → IsWait did first was s l e new
-      at u = let m = made_in did first now new step e name stays.same stays.begins t woken in
-          record { step = step; made = m.0; last = m.1; end = ends e name t u }
+      at : (is_lapse e.word ≡ false) → (kept → IsNotLost did first.seat (Ok e)) → IsWait did first was s l e new
+      at u keeps = let m = made_in did first now new step e name stays.same stays.begins t woken in
+          record {
+            step = step;
+            made = m.0;
+            last = m.1;
+            end = ends e name t u keeps;
+            again = λ z. keeps (noted z);
+          }
 
       by : (b : Bool) → is_lapse e.word ≡ b → unless_lapse b e ≡ Some last → IsWait did first was s l last new
       by true u q = cc
       by false u q =
-          let same : e ≡ last = cc in subst (λ (x : Entry). IsWait did first was s l x new) same (at u)
+          let same : e ≡ last = cc in
+          subst (λ (x : Entry). (kept → IsNotLost did first.seat (Ok x)) → IsWait did first was s l x new) same
+          (at u) settled
 
-begun : (did : Deed → Type 0) (i : ℕ) (l : Limits) (s : Stage) (was : Cause) → IsStage did i l s was s
-begun did i l s (in_line a) = refl
-begun did i l s (on_condition w) = inl refl
-begun did i l s (on_way_back w) = inl refl
+begun : (did : Deed → Type 0) (i : ℕ) (l : Limits) (s : Stage) (was : Cause) (kept : Type 0) →
+    IsStage did i l s was kept s
+begun did i l s (in_line a) kept = refl
+begun did i l s (on_condition w) kept = inl refl
+begun did i l s (on_way_back w) kept = inl refl
 
 -- before its first park
-pub waits_first : (did : Deed → Type 0) (p : Shown) (s : Stage) (l : Limits) → IsSound p →
-    AllStillWait did p s l p s
-waits_first did p s l shows k w = record {
+pub waits_first : (did : Deed → Type 0) (p : Shown) (s : Stage) (l : Limits) (kept : Type 0) → IsSound p →
+    AllStillWait did p s l kept p s
+waits_first did p s l kept shows k w = record {
   same = same_self p;
   begins = before_refl p.seen;
   shows = shows;
   cause = k;
   waits = w;
-  so_far = inl (refl, refl, begun did p.seat l s k);
+  so_far = inl (refl, refl, begun did p.seat l s k kept);
 }

@@ -9,12 +9,12 @@ use Rattle.history.specs.declared.entry.Word.TheVariants as word
 use Rattle.history.specs.declared.fault.Fault.{Fault}
 use Rattle.history.specs.declared.fault.Fault.TheVariants as fault
 use Rattle.history.specs.declared.step.Step.{Step}
-use Rattle.history.specs.declared.step.Step.TheVariants.{Acquire, TryFair, EntryInterrupt}
+use Rattle.history.specs.declared.step.Step.TheVariants.{Acquire, TryFair, Interrupt, EntryInterrupt}
 use Rattle.history.specs.Steps.{ended}
 use Rattle.permit.specs.Deed.{Deed, interrupted, showed, took_interrupt}
 use Rattle.monitor.specs.Shown.{Shown}
 use Rattle.monitor.specs.Stepping.{IsStep}
-use Rattle.monitor.specs.Waits.{AfterPark, IsMade, IsLast, asking}
+use Rattle.monitor.specs.Waits.{AfterPark, IsMade, IsLast, IsNotLost, asking}
 use Rattle.monitor.specs.declared.how.How.{How}
 use Rattle.monitor.specs.declared.how.How.TheVariants.{Plain, Interruptible, Timed}
 use Rattle.monitor.specs.declared.waiting.Limits.{Limits}
@@ -32,7 +32,7 @@ abbrev pub is_timed : How → Type 0
 is_timed (Timed ms) = Unit {0}
 is_timed _ = ⊥
 
--- the moment that is so many milliseconds behind another, or the last one
+-- the moment that comes this number of milliseconds after another, or the last one
 abbrev pub moment_after : ℕ → ℕ → ℕ
 moment_after moment ms = min (moment + ms) (2 ^ 64 - 1)
 
@@ -97,7 +97,8 @@ IsEndFor how i a e =
     ⊎ ((e ≡ ended i word.Left a end.Timeout) × has_time how)
     ⊎ ((e ≡ ended i word.Left a end.Interrupt) × (is_interruptible how ≡ true))
 
--- a call that joined the line, and left it by the step that a park of its seat led to
+-- A call that joined the line, and left it by the step that a park of its seat led to. An interrupt that ended the
+-- park is told by the entry, or pending again.
 pub record EndsInLine (did : Deed → Type 0) (old : Shown) (m : Mode) (n : ℕ) (how : How) (e : Entry)
     (new : Shown) : Type 0 where
   pub asked : first_step how m n ≡ Acquire m n
@@ -109,6 +110,7 @@ pub record EndsInLine (did : Deed → Type 0) (old : Shown) (m : Mode) (n : ℕ)
   pub limited : LimitsFor did how limits
   pub step : Step
   pub comes : AfterPark did old.seat limits step
+  pub again : step ≡ Interrupt → IsNotLost did old.seat (Ok e)
   pub made : IsMade did old.seen old.seat step e new.seen
   pub last : IsLast e new.seen
   pub end : IsEndFor how old.seat (asking old.seat m n) e

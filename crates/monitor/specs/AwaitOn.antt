@@ -9,13 +9,13 @@ use Rattle.history.specs.declared.entry.Word.TheVariants as word
 use Rattle.history.specs.declared.fault.Fault.{Fault}
 use Rattle.history.specs.declared.fault.Fault.TheVariants as fault
 use Rattle.history.specs.declared.step.Step.{Step}
-use Rattle.history.specs.declared.step.Step.TheVariants.{Await, EntryInterrupt, Look}
+use Rattle.history.specs.declared.step.Step.TheVariants.{Await, EntryInterrupt, Interrupt, Look}
 use Rattle.history.specs.Awaiting.{signalled, lapsed, back_from, lapse_from}
 use Rattle.permit.specs.Deed.{Deed}
 use Rattle.monitor.specs.Acquire.{EndsAtOnce, EndsUnrecorded, LimitsFor, WasInterrupted, WasNotInterrupted, is_interruptible, is_timed}
 use Rattle.monitor.specs.Load.{holds_of}
 use Rattle.monitor.specs.Shown.{Shown}
-use Rattle.monitor.specs.Waits.{ComesOf, EndComesOf, IsMade, IsLast, on_condition}
+use Rattle.monitor.specs.Waits.{ComesOf, EndComesOf, IsMade, IsLast, IsNotLost, on_condition}
 use Rattle.monitor.specs.declared.how.How.{How}
 use Rattle.monitor.specs.declared.how.How.TheVariants.{Timed}
 use Rattle.monitor.specs.declared.waiting.Limits.{Limits}
@@ -45,7 +45,7 @@ MayLapseFor how end.Interrupt = is_interruptible how ≡ true
 MayLapseFor how _ = ⊥
 
 -- A lapse by the end of its time or an interrupt, which a park told, but for the time that was up at once; and
--- the end of the await behind it, by a look.
+-- the end of the await after it, by a look.
 pub record LapsesAndReturns (did : Deed → Type 0) (old : Shown) (how : How) (limits : Limits) (slept : Entry)
     (back_step : Step) (e : Entry) (new : Shown) : Type 0 where
   pub end : End
@@ -60,11 +60,13 @@ pub record LapsesAndReturns (did : Deed → Type 0) (old : Shown) (how : How) (l
 -- it came back as it was signalled, by the step that a park led to, but for the time that was up at once
 pub record ReturnsSignalled (did : Deed → Type 0) (old : Shown) (how : How) (limits : Limits) (slept : Entry)
     (step : Step) (e : Entry) (new : Shown) : Type 0 where
-  pub comes : EndComesOf did old.seat limits (first_stage how) (on_condition (signalled slept.at slept.n)) step
+  pub comes : EndComesOf did old.seat limits (first_stage how) (on_condition (signalled slept.at slept.n))
+      (IsNotLost did old.seat (Ok e)) step
   pub back : e ≡ back_from old.seat (signalled slept.at slept.n)
   pub mine : new.mine ≡ e ∷ slept ∷ old.mine
 
--- an await that slept, and came back as it was signalled or behind its lapse. It gave up all that the pass held
+-- An await that slept, and came back as it was signalled or after its lapse. It gave up all that the pass held. An
+-- interrupt that ended one of its parks is told by the entry, or pending again.
 pub record EndsAwait (did : Deed → Type 0) (old : Shown) (c : ℕ) (how : How) (e : Entry)
     (new : Shown) : Type 0 where
   pub not_interrupted : WasNotInterrupted did old.seat how
@@ -80,6 +82,7 @@ pub record EndsAwait (did : Deed → Type 0) (old : Shown) (c : ℕ) (how : How)
   pub end :
       ReturnsSignalled did old how limits slept step e new
       ⊎ LapsesAndReturns did old how limits slept step e new
+  pub again : step ≡ Interrupt → IsNotLost did old.seat (Ok e)
 
 -- the entries of an await, by its answer
 abbrev pub IsAwait : (Deed → Type 0) → Shown → ℕ → How → Result Entry Fault → Shown → Type 0

@@ -51,7 +51,7 @@ abbrev pub given_by : Step → ℕ
 given_by (Give m n) = n
 given_by _ = 0
 
--- The free permits of a semaphore behind a step: as many as before, or fewer by what was taken, which was free, or
+-- The free permits of a semaphore after a step: as many as before, or fewer by what was taken, which was free, or
 -- more by what was given back. An acquire that has what it asked for, a grant and a drain take.
 abbrev pub IsFreeAfter : Step → ℤ → ℤ → Type 0
 IsFreeAfter step had left =

@@ -113,7 +113,7 @@ abbrev pub at_stage : Waiting → Step → Stage → Waiting
 at_stage w s stage =
     record { limits = w.limits; stage = stage; interrupted = w.interrupted || is_interrupt s }
 
--- behind its lapse it waits on; any other entry ends the call
+-- after its lapse it waits on; any other entry ends the call
 abbrev pub next_behind : Bool → Waiting → Step → Entry → Next
 next_behind true w s e = Waits (at_stage w s Looks)
 next_behind false w s e =

@@ -1,6 +1,5 @@
 -- A step that makes room where there is none.
-use Rattle.std.specs.Prelude.{◌≡◌, ◌≢◌, ◌⊎◌, ◌<◌, ℕ, ◌+◌, [], length, Result, Ok, Err, IsOk, Bool, true, false}
-use Rattle.frame.specs.Core.{CoreView, IsAnswered, IsTold, IsTrimmed, IsTrimFull, MakesOwed}
+use Rattle.std.specs.Prelude.{◌≡◌, ◌≢◌, ◌⊎◌, ◌<◌, ℕ, ◌+◌, [], length, Result, Err, Bool, true, false}
 use Rattle.history.specs.declared.entry.Entry.{Entry}
 use Rattle.history.specs.declared.fault.Fault.{Fault}
 use Rattle.history.specs.declared.fault.Fault.TheVariants.{HistoryFull, TrimFull}
@@ -11,7 +10,6 @@ use Rattle.history.specs.Base.{folded}
 use Rattle.history.specs.GoodBase.{most_folded}
 use Rattle.permit.specs.Deed.{Deed}
 use Rattle.word_lock.specs.Point.{Before}
-use Rattle.monitor.specs.Lawful.{IsLawfulCore}
 use Rattle.monitor.specs.Machine.{IsCall, first_turn, step_by}
 use Rattle.monitor.specs.Shown.{Shown, IsSound}
 use Rattle.monitor.specs.Stepping.{IsEntered, IsStep}
@@ -97,35 +95,3 @@ IsBegunIn w old q how moment was turn new =
 abbrev pub IsCallIn : WhenFull → (Deed → Type 0) → Shown → Request → How → Result Entry Fault → Shown → Type 0
 IsCallIn w did old q how r new =
     InRoom w (λ s. (s ≡ step_by q how false) ⊎ (s ≡ step_by q how true)) (λ o a n. IsCall did o q how a n) old r new
-
--- What a step of a core is known by.
-pub record IsCoreStep (v : CoreView) (i : ℕ) (step : Step) (r : Result Answer Fault) (w : CoreView) : Type 0 where
-  pub answered : IsAnswered v i step r w
-  pub told : IsTold v i r w
-  pub owed : MakesOwed v i step → IsOk r
-
--- A step of a core found no room, all was folded, and the step was made from the fold.
-pub record IsCoreFold (moved : CoreView → Type 0) (v : CoreView) (i : ℕ) (step : Step) (r : Result Answer Fault)
-    (w : CoreView) : Type 0 where
-  pub full : CoreView
-  pub refused : IsCoreStep v i step (Err HistoryFull) full
-  pub kept : IsLawfulCore full
-  pub few : IsTrimFull full → ⊥
-  pub fold : CoreView
-  pub count : ℕ
-  pub trimmed : IsTrimmed full (Ok count) fold
-  pub fold_kept : IsLawfulCore fold
-  pub made : IsCoreStep fold i step r w
-  pub since : moved fold
-
--- A step of a core that makes room. `moved` says what changed hands since the core that it was made from.
-abbrev pub IsCoreStepIn : (CoreView → Type 0) → CoreView → ℕ → Step → Result Answer Fault → CoreView → Type 0
-IsCoreStepIn moved v i step r w =
-    (IsCoreStep v i step r w × moved v × (r ≢ Err HistoryFull))
-    ⊎ IsCoreFold moved v i step r w
-    ⊎ (IsCoreStep v i step (Err HistoryFull) w × moved v × IsTrimFull w × (r ≡ Err TrimFull))
-
--- the answer says that there was no room
-abbrev pub is_full : Result Answer Fault → Bool
-is_full (Err HistoryFull) = true
-is_full _ = false

@@ -25,7 +25,7 @@ pub record IsSame (old new : Shown) : Type 0 where
   pub lock : new.lock ≡ old.lock
   pub seat : new.seat ≡ old.seat
 
--- The step found a history that comes behind what was seen, and which has no entries of the seat but those
+-- The step found a history that comes after what was seen, and which has no entries of the seat but those
 -- that the pass knows. What it left, the marks of who was told, and the answer are those of the core's step.
 pub record IsStep (old : Shown) (step : Step) (r : Result Answer Fault) (new : Shown) : Type 0 where
   pub found : Point

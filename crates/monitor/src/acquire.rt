@@ -1,4 +1,4 @@
-//! An acquire, which may wait in line.
+//! An acquire, which may join the wait queue.
 ghost use Rattle.std.specs.Prelude.{◌≡◌, ◌≤◌, true};
 ghost use Rattle.word_lock.specs.Point.{Before};
 ghost use Rattle.monitor.specs.Load.{Brings, Moves, free_of, holds_of};
@@ -25,7 +25,7 @@ use permit::Parking;
 use std::sync::Wait;
 use std::time::Clock;
 
-// A call without time doesn't join the line.
+// A call with a time of 0 doesn't join the wait queue.
 pub(crate) fn first_step(how: How, mode: Mode, n: u32) -> Step
     ensures { result ≡ first_step how mode n }
 {
@@ -43,17 +43,17 @@ pub(crate) fn first_step(how: How, mode: Mode, n: u32) -> Step
 }
 
 impl<H: Hooks + Drop> Monitor<H> {
-    /// Acquires `n` in a mode, and waits in line as long as `how` says.
+    /// Acquires `n` in a mode, and waits in the queue as long as `how` says.
     ///
-    /// The answer is the entry that ended the call, the last one that the pass has seen:
-    /// - `Got`, or `Granted` behind `Queued`: the seat has what it asked for.
+    /// Returns the entry that ended the call, the last one that the pass has seen:
+    /// - `Got`, or `Granted` after `Queued`: the seat has what it asked for.
     /// - `Refused`: the seat has as many holds as it may, or an interrupt was pending.
-    /// - `Left` behind `Queued`: the time was up, or an interrupt came.
+    /// - `Left` after `Queued`: the time was up, or an interrupt came.
     /// - `Missed`: the call had no time, and had to wait.
     ///
-    /// A fault is the answer to the first step, and nothing was recorded. Behind `Queued` there is none. A
-    /// pending interrupt is taken and ends the call; where that couldn't be recorded, it is pending again.
-    /// This is the acquire of Java SE 8's AbstractQueuedSynchronizer, with its interruptible and timed kinds.
+    /// A fault is the answer to the first step, and nothing was recorded. After `Queued` there is none. A
+    /// pending interrupt is taken and ends the call. If that couldn't be recorded, it is pending again. This
+    /// is the acquire of Java SE 8's AbstractQueuedSynchronizer, with its interruptible and timed kinds.
     pub fn acquire<P: Parking, R: Wait + Clock>(
         &self,
         rt: &R,
@@ -101,7 +101,7 @@ impl<H: Hooks + Drop, L: Load> Monitor<H, L> {
         self.acquire_when_full(rt, parking, pass, load, mode, n, how, WhenFull::Refuse)
     }
 
-    /// The same, where the caller says what it does if the history is full.
+    /// The same. `when_full` says what it does if the history is full.
     pub fn acquire_when_full<P: Parking, R: Wait + Clock>(
         &self,
         rt: &R,
@@ -169,7 +169,7 @@ impl<H: Hooks + Drop, L: Load> Monitor<H, L> {
         }
     }
 
-    // A call that an interrupt ends before it began.
+    // A call that an interrupt ended before it began.
     fn refuse<P: Parking, R: Wait + Clock>(
         &self,
         rt: &R,

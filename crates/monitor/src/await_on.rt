@@ -40,17 +40,17 @@ pub(crate) fn first_stage(how: How) -> Stage
 }
 
 impl<H: Hooks + Drop> Monitor<H> {
-    /// Gives up all its holds, sleeps on a condition until it is signalled, and holds them again.
+    /// Releases all holds of the seat, waits on a condition until it is signalled, and acquires them again.
     ///
-    /// The answer is the entry that ended the call, the last one that the pass has seen:
+    /// Returns the entry that ended the call, the last one that the pass has seen:
     /// - `Refused`: the seat doesn't own the lock, or holds it to read, or an interrupt was pending.
-    /// - `Back` behind `Await`, with the end Signalled.
-    /// - `Back` behind `Await` and `Lapse`: the time was up, or an interrupt came, before any signal. The end
-    ///   of both says which.
+    /// - `Back` after `Await`, with the end Signalled.
+    /// - `Back` after `Await` and `Lapse`: the time was up, or an interrupt came, before any signal. The end
+    ///   in both entries says which.
     ///
-    /// The call waits for the lock however its sleep ended, and neither its time nor an interrupt ends that.
-    /// A fault is the answer to the first step, and nothing was recorded. Behind `Await` there is none. An
-    /// interrupt that the parking told and that didn't end the sleep is pending again. This is the await of
+    /// However its sleep ended, the call waits for the lock, and neither its time nor an interrupt ends that.
+    /// A fault is the answer to the first step, and nothing was recorded. After `Await` there is none. An
+    /// interrupt that a park returned and that didn't end the sleep is pending again. This is the await of
     /// Java SE 8's Condition, with its uninterruptible and timed kinds.
     pub fn await_on<P: Parking, R: Wait + Clock>(
         &self,
@@ -96,7 +96,7 @@ impl<H: Hooks + Drop, L: Load> Monitor<H, L> {
     {
         self.await_when_full(rt, parking, pass, load, condition, how, WhenFull::Refuse)
     }
-    /// The same, where the caller says what it does if the history is full.
+    /// The same. `when_full` says what it does if the history is full.
     pub fn await_when_full<P: Parking, R: Wait + Clock>(
         &self,
         rt: &R,

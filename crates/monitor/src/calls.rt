@@ -1,13 +1,16 @@
-//! Calls that record one entry and never wait in line.
+//! Calls that record one entry and never join the wait queue.
 ghost use Rattle.std.specs.Prelude.{◌≡◌, ◌≤◌};
 ghost use Rattle.history.specs.declared.entry.Mode.TheVariants.{S};
 ghost use Rattle.history.specs.declared.step.Step.TheVariants.{Try, Give, Signal, SignalAll, Drain};
+ghost use Rattle.monitor.specs.Room.{IsEnteredIn};
 ghost use Rattle.monitor.specs.Shown.{IsSound};
 ghost use Rattle.monitor.specs.Stepping.{IsSame, IsEntered};
+ghost use Rattle.word_lock.specs.Woken.{WasWoken};
 
 use crate::load::{Empty, Load};
 use crate::monitor::Monitor;
 use crate::pass::Pass;
+use crate::room::WhenFull;
 use frame::hooks::Hooks;
 use history::entry::{Entry, Mode};
 use history::fault::Fault;
@@ -16,11 +19,11 @@ use permit::Parking;
 use std::sync::Wait;
 use std::time::Clock;
 
-/// Each of these records one entry, which the answer is, and unparks the seat that its step names. Behind an
-/// `Err` nothing is recorded, and the pass may call again.
+/// Each of these records one entry and returns it, and unparks the seat that its step names. After an `Err`
+/// nothing was recorded, and the pass may call again.
 impl<H: Hooks + Drop> Monitor<H> {
-    /// Takes what is free, past everybody who stands in line: `TryGot`, or `Missed`. `Refused` if the seat
-    /// has too many holds.
+    /// Acquires what is free, past everybody in the wait queue unless the object is strict: `TryGot`, or
+    /// `Missed`. `Refused` if the seat has too many holds.
     pub fn try_acquire<P: Parking, R: Wait + Clock>(
         &self,
         rt: &R,
@@ -34,12 +37,13 @@ impl<H: Hooks + Drop> Monitor<H> {
         ensures same { IsSame pass.old pass.new }
         ensures tried { IsEntered (P.did parking.now) pass.old (Try mode n) result pass.new }
         ensures shows { IsSound pass.new }
+        ensures woken { WasWoken self.now }
     {
         pass.is_true();
         self.enter(rt, parking, pass, &mut Empty {}, Step::Try(mode, n))
     }
 
-    /// Gives a hold or permits back: `Gave`. `Refused` if the seat doesn't own what it gives back.
+    /// Releases a hold or permits: `Gave`. `Refused` if the seat doesn't own what it releases.
     pub fn release<P: Parking, R: Wait + Clock>(
         &self,
         rt: &R,
@@ -53,6 +57,7 @@ impl<H: Hooks + Drop> Monitor<H> {
         ensures same { IsSame pass.old pass.new }
         ensures given { IsEntered (P.did parking.now) pass.old (Give mode n) result pass.new }
         ensures shows { IsSound pass.new }
+        ensures woken { WasWoken self.now }
     {
         pass.is_true();
         self.enter(rt, parking, pass, &mut Empty {}, Step::Give(mode, n))
@@ -70,6 +75,7 @@ impl<H: Hooks + Drop> Monitor<H> {
         ensures same { IsSame pass.old pass.new }
         ensures counted { IsEntered (P.did parking.now) pass.old (Give S 1) result pass.new }
         ensures shows { IsSound pass.new }
+        ensures woken { WasWoken self.now }
     {
         pass.is_true();
         self.enter(rt, parking, pass, &mut Empty {}, Step::Give(Mode::S, 1))
@@ -87,6 +93,7 @@ impl<H: Hooks + Drop> Monitor<H> {
         ensures same { IsSame pass.old pass.new }
         ensures drained { IsEntered (P.did parking.now) pass.old (Drain) result pass.new }
         ensures shows { IsSound pass.new }
+        ensures woken { WasWoken self.now }
     {
         pass.is_true();
         self.enter(rt, parking, pass, &mut Empty {}, Step::Drain)
@@ -95,7 +102,7 @@ impl<H: Hooks + Drop> Monitor<H> {
 
 /// A signal changes nobody's holds, so a load stays where it is.
 impl<H: Hooks + Drop, L: Load> Monitor<H, L> {
-    /// Moves the longest sleeper of a condition into the line. `Refused` if the seat isn't the owner.
+    /// Moves the longest waiter of a condition into the wait queue. `Refused` if the seat isn't the owner.
     pub fn signal<P: Parking, R: Wait + Clock>(
         &self,
         rt: &R,
@@ -108,12 +115,32 @@ impl<H: Hooks + Drop, L: Load> Monitor<H, L> {
         ensures same { IsSame pass.old pass.new }
         ensures signalled { IsEntered (P.did parking.now) pass.old (Signal condition) result pass.new }
         ensures shows { IsSound pass.new }
+        ensures woken { WasWoken self.now }
     {
-        pass.is_true();
-        self.tell(rt, parking, pass, Step::Signal(condition))
+        self.signal_when_full(rt, parking, pass, condition, WhenFull::Refuse)
     }
 
-    /// Moves all sleepers of a condition into the line, in order. `Refused` if the seat isn't the owner.
+    /// [`signal`](Monitor::signal), where the caller says what it does if the history is full.
+    pub fn signal_when_full<P: Parking, R: Wait + Clock>(
+        &self,
+        rt: &R,
+        parking: &P,
+        pass: &mut Pass,
+        condition: u8,
+        when_full: WhenFull,
+    ) -> Result<Entry, Fault>
+        requires is_of { pass.old.lock ≡ self.now }
+        requires places { self.now.header.seats ≤ P.seats parking.now }
+        ensures same { IsSame pass.old pass.new }
+        ensures signalled { IsEnteredIn when_full (P.did parking.now) pass.old (Signal condition) result pass.new }
+        ensures shows { IsSound pass.new }
+        ensures woken { WasWoken self.now }
+    {
+        pass.is_true();
+        self.tell(rt, parking, pass, Step::Signal(condition), when_full)
+    }
+
+    /// Moves all waiters of a condition into the wait queue, in order. `Refused` if the seat isn't the owner.
     pub fn signal_all<P: Parking, R: Wait + Clock>(
         &self,
         rt: &R,
@@ -126,8 +153,28 @@ impl<H: Hooks + Drop, L: Load> Monitor<H, L> {
         ensures same { IsSame pass.old pass.new }
         ensures signalled { IsEntered (P.did parking.now) pass.old (SignalAll condition) result pass.new }
         ensures shows { IsSound pass.new }
+        ensures woken { WasWoken self.now }
+    {
+        self.signal_all_when_full(rt, parking, pass, condition, WhenFull::Refuse)
+    }
+
+    /// [`signal_all`](Monitor::signal_all), where the caller says what it does if the history is full.
+    pub fn signal_all_when_full<P: Parking, R: Wait + Clock>(
+        &self,
+        rt: &R,
+        parking: &P,
+        pass: &mut Pass,
+        condition: u8,
+        when_full: WhenFull,
+    ) -> Result<Entry, Fault>
+        requires is_of { pass.old.lock ≡ self.now }
+        requires places { self.now.header.seats ≤ P.seats parking.now }
+        ensures same { IsSame pass.old pass.new }
+        ensures signalled { IsEnteredIn when_full (P.did parking.now) pass.old (SignalAll condition) result pass.new }
+        ensures shows { IsSound pass.new }
+        ensures woken { WasWoken self.now }
     {
         pass.is_true();
-        self.tell(rt, parking, pass, Step::SignalAll(condition))
+        self.tell(rt, parking, pass, Step::SignalAll(condition), when_full)
     }
 }

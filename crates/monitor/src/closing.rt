@@ -22,11 +22,11 @@ use std::sync::Wait;
 /// What a monitor leaves.
 #[derive(Debug, Drop)]
 pub struct Closed {
-    /// All that was done to the object, in order: the base that was folded, and the entries behind it.
+    /// All that was done to the object, in order: the base that was folded, and the entries after it.
     pub history: History,
-    /// The merged share: how many calls the passes saw end, all together.
+    /// The merged share: how many calls all passes together saw end.
     pub share: u64,
-    /// What the seats still hold, how many still wait, and what is free: the numbers behind the last entry.
+    /// What the seats still hold, how many still wait, and what is free: the numbers after the last entry.
     pub balance: Balance,
 }
 
@@ -38,7 +38,7 @@ pub enum CloseFault {
 }
 
 impl<H: Hooks + Drop, L: Load> Monitor<H, L> {
-    /// Ties what two passes have seen. It takes no memory and waits for nobody.
+    /// Lets two passes see the same history. It allocates nothing and waits for nobody.
     pub fn meet(&self, one: Pass, two: Pass) -> (Pass, Pass)
         requires is_of { (one.lock ≡ self.now) × (two.lock ≡ self.now) }
         ensures same { IsSame one result.0 × IsSame two result.1 }
@@ -72,8 +72,8 @@ impl<H: Hooks + Drop, L: Load> Monitor<H, L> {
         (one, two)
     }
 
-    /// [`close`](Monitor::close) with a load: what lay under the lock comes with the history. What somebody still
-    /// holds is with whoever holds it.
+    /// [`close`](Monitor::close) with a load: it also returns what lay under the lock. What a holder still
+    /// carries stays with that holder.
     pub fn close_with<R: Wait>(
         self,
         rt: &R,
@@ -130,10 +130,10 @@ impl<H: Hooks + Drop, L: Load> Monitor<H, L> {
 }
 
 impl<H: Hooks + Drop> Monitor<H> {
-    /// Takes the object for good, and waits until nobody has it. It takes no memory.
+    /// Takes the object for good, and waits until nobody has it. It allocates nothing.
     ///
-    /// The passes of all seats are needed, in any order, since only all of them together know what
-    /// everybody did. Where one is missing, the monitor and the passes come back as they were.
+    /// The passes of all seats are needed, in any order, since only all of them together know what everybody
+    /// did. If one is missing, it returns the monitor and the passes as they were.
     pub fn close<R: Wait>(
         self,
         rt: &R,

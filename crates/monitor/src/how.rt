@@ -14,7 +14,7 @@ pub enum How {
     Plain,
     /// An interrupt, before the call or while it waits.
     Interruptible,
-    /// An interrupt, or so many milliseconds.
+    /// An interrupt, or the end of this number of milliseconds.
     Timed(u32),
 }
 
@@ -28,7 +28,7 @@ pub(crate) fn is_interruptible(how: How) -> bool
     }
 }
 
-// The moment that is so many milliseconds behind another, or the last one.
+// The moment that is this number of milliseconds after another, or the last moment.
 fn moment_after(moment: u64, milliseconds: u32) -> u64
     ensures { result ≡ moment_after moment milliseconds }
 {

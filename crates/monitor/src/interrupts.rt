@@ -1,4 +1,4 @@
-//! Interrupts that a parking told a call.
+//! Interrupts that a parking returned to a call.
 ghost use Rattle.std.specs.Prelude.{◌≡◌, ◌≢◌, ◌<◌, ◌≤◌, false, true, is_some, IfSome, IsSome};
 ghost use Rattle.monitor.specs.Acquire.{is_interruptible};
 ghost use Rattle.monitor.specs.Interrupts.{ends_interrupted, refuses_interrupted, tells_interrupt};
@@ -18,8 +18,8 @@ use permit::{Parking, Woke};
 use std::sync::Wait;
 use std::time::Clock;
 
-/// Whether a parking told a call of an interrupt, whose flag it then cleared. Such an interrupt may not be
-/// lost: the reply tells it, or it is pending again. So only `settle` takes this, and it can't be dropped.
+/// Whether a parking returned an interrupt to a call, and cleared its flag. Such an interrupt may not be
+/// lost: the reply reports it, or it is set again. So only `settle` takes this, and it can't be dropped.
 pub(crate) struct Interrupts {
     seat: u16,
     taken: bool,
@@ -34,7 +34,7 @@ impl Interrupts {
         Interrupts { seat, taken: false }
     }
 
-    /// The interrupt that was pending as a call began, if the call minds interrupts. It is taken.
+    /// The interrupt that was pending as a call began, if the call heeds interrupts. It is taken.
     pub(crate) fn at_entry<P: Parking>(parking: &P, pass: &Pass, how: How) -> Option<Interrupts>
         requires places { pass.now.lock.header.seats ≤ P.seats parking.now }
         ensures asked { is_interruptible how ≡ true
@@ -95,7 +95,7 @@ impl Interrupts {
         woke
     }
 
-    /// The call ends with this reply. An interrupt that it doesn't tell is pending again.
+    /// Ends the call with this reply. An interrupt that the reply doesn't report is set again.
     #[tactic(auto, using(crate::specs::Settled::settled))]
     pub(crate) fn settle<P: Parking>(self, parking: &P, reply: Result<Entry, Fault>)
         requires place { self.seat < P.seats parking.now }

@@ -14,9 +14,9 @@ pub struct Holds {
 /// belongs.
 ///
 /// A counted load is one for a semaphore. It has an item for each permit, which moves as the permit does.
-/// Permits may be given back by a pass that holds none, so who carries how many items is said by the pass's
-/// own entries: whoever gives permits back brings as many items, and whoever takes some has as many items
-/// more.
+/// A pass that holds no permits may release some. So the pass's own entries say how many items it
+/// carries: whoever releases permits brings as many items, and whoever acquires permits has as many more
+/// items.
 pub trait Load: Drop {
     ghost use Rattle.std.specs.Prelude.{Bool, ℕ};
     ghost use Rattle.history.specs.declared.entry.Mode.{Mode};
@@ -24,10 +24,10 @@ pub trait Load: Drop {
     ghost use Rattle.frame.specs.Hooks.{AreAlike};
     ghost use Rattle.monitor.specs.Load.{AreOf, Brings, IsFree, IsTurn, Moves, given_by};
 
-    // What lies under the lock whenever it is free, by what is held and what is free.
+    // What is true of the part under the lock while that is free, by the counts of the object.
     ghost rests: { Self → Counts → Type 0 };
 
-    // What one carries who holds so much.
+    // What is true of the part that a seat with these holds carries.
     ghost carries: { Self → (Mode → ℕ) → Type 0 };
 
     // Whether it has an item for each permit of a semaphore.
@@ -36,8 +36,8 @@ pub trait Load: Drop {
     // How many items it has, if it is counted.
     ghost amount: { Self → ℕ };
 
-    /// Moves what changes hands as a seat that held `before` holds `after`, and so many permits are free
-    /// then.
+    /// Moves what changes hands as a seat that held `before` comes to hold `after`. Then `free` permits are
+    /// free.
     fn trade(&mut self, there: &mut Self, before: Holds, after: Holds, free: i64)
         ensures { (i : ℕ) (k l : Counts) → (turn : IsTurn i k l) → AreOf before (k.held i)
             → AreOf after (l.held i) → IsFree free l → rests self.old k → carries there.old (k.held i)
@@ -45,7 +45,7 @@ pub trait Load: Drop {
             → rests self.new l × carries there.new (l.held i)
             × Moves is_counted amount there.old k.free there.new l.free };
 
-    // It knows of counts what they say of what the object has.
+    // Counts that are alike say the same of it.
     ghost alike: { (x : Self) (k l : Counts) → AreAlike k l → rests x k → rests x l };
 }
 

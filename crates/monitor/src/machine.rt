@@ -1,13 +1,13 @@
-//! The calls that may wait, as a machine.
+//! The calls that may wait, turn by turn.
 //!
 //! A call is made of turns. Each is one critical section, and between them the seat may have to park. Here
-//! are the turns alone: who makes the call reads the clock, takes interrupts, parks and unparks. `acquire`
-//! and `await_on` do so by a [`Parking`](permit::Parking). A program that has none, as a static library, makes
-//! the same calls by its own means.
+//! are the turns alone: the caller reads the clock, takes interrupts, parks and unparks. `acquire` and
+//! `await_on` do so by a [`Parking`](permit::Parking). A program that has none, such as a static library,
+//! makes the same calls by its own means.
 //!
-//! A call begins by [`begin`](Monitor::begin). Each turn says which seat its step named: unpark it. It says
-//! too whether the call has ended, or waits. One that waits goes on by [`go_on`](Monitor::go_on), once its
-//! seat was parked as [`Waiting`] says, or at once.
+//! A call begins by [`begin`](Monitor::begin). Each turn returns the seat that its step named: unpark it. It
+//! also returns whether the call has ended or waits. A call that waits goes on by [`go_on`](Monitor::go_on),
+//! once its seat was parked as [`Waiting`] says, or at once.
 ghost use Rattle.std.specs.Prelude.{◌≡◌, ◌≢◌, IfNone, IfSome, IsOk};
 ghost use Rattle.history.specs.declared.step.Answer.TheVariants.{Sleep};
 ghost use Rattle.monitor.specs.Load.{Brings, Moves, free_of, holds_of};
@@ -16,6 +16,7 @@ ghost use Rattle.monitor.specs.Room.{IsBegunIn};
 ghost use Rattle.monitor.specs.Shown.{IsSound};
 ghost use Rattle.monitor.specs.Stepping.{IsSame, answer_of};
 ghost use Rattle.monitor.specs.Waits.{Waits, is_lapse};
+ghost use Rattle.word_lock.specs.Woken.{WasWoken};
 
 use crate::acquire::first_step;
 use crate::await_on::first_stage;
@@ -54,8 +55,8 @@ pub struct Waiting {
 /// What comes of a turn.
 #[derive(Clone, Copy)]
 pub enum Next {
-    /// The call ended with this reply. With `again`, an interrupt was taken that the reply doesn't tell, and must
-    /// be set again.
+    /// The call ended with this reply. With `again`, an interrupt was taken that the reply doesn't report,
+    /// and must be set again.
     Ends {
         reply: Result<Entry, Fault>,
         again: bool,
@@ -125,7 +126,7 @@ impl Waiting {
         }
     }
 
-    /// How its seat parks before the next turn. None if that is due at once.
+    /// How its seat parks before the next turn. None if the next turn is due at once.
     pub fn limits(&self) -> Option<Limits>
         ensures { result ≡ limits_at self.now.stage self.now.limits }
     {
@@ -178,7 +179,7 @@ impl Waiting {
         }
     }
 
-    // Behind its lapse it waits on. Any other entry ends the call.
+    // After its lapse it waits on. Any other entry ends the call.
     fn next(self, step: Step, entry: Entry) -> Next
         ensures { result ≡ next_behind (is_lapse entry.word) self step entry }
     {
@@ -226,7 +227,7 @@ fn is_interrupt(step: Step) -> bool
     }
 }
 
-// What a step was answered, unless the object was busy.
+// What a step returned, unless the object was busy.
 fn answer_of(reply: Result<Now, Fault>) -> Option<Result<Answer, Fault>>
     ensures { result ≡ answer_of reply }
 {
@@ -269,12 +270,13 @@ fn first_turn(
     }
 }
 
-/// A caller that parks keeps three duties behind each turn, in this order: it unparks the seat that was named; if the
-/// call has ended with `again`, it sets the interrupt of its own seat; if the call waits, it parks its own seat as
-/// [`Waiting::limits`] says, if it says so, and goes on.
+/// A caller that parks has three duties after each turn, in this order: it unparks the seat that was named;
+/// if the call has ended with `again`, it sets the interrupt of its own seat; if the call waits, it parks its
+/// own seat as [`Waiting::limits`] says, if it says so, and goes on.
 impl<H: Hooks + Drop, L: Load> Monitor<H, L> {
-    /// The first turn of a call. `interrupted` says that the call minds interrupts and that one was pending: it was
-    /// taken. `moment` is what the clock shows, from which a timed call counts; others don't read it.
+    /// The first turn of a call. `interrupted` says that the call heeds interrupts and that one was pending:
+    /// it was taken. `moment` is what the clock shows. A timed call counts from it, and other calls ignore
+    /// it.
     pub fn begin<R: Wait>(
         &self,
         rt: &R,
@@ -291,6 +293,7 @@ impl<H: Hooks + Drop, L: Load> Monitor<H, L> {
         ensures same { IsSame pass.old pass.new }
         ensures begun { IsBegun pass.old request how moment interrupted result pass.new }
         ensures shows { IsSound pass.new }
+        ensures woken { WasWoken self.now }
         ensures carries { L.carries load.new (holds_of pass.new) }
         ensures moves { Moves L.is_counted L.amount load.old (free_of pass.old) load.new (free_of pass.new) }
     {
@@ -298,7 +301,7 @@ impl<H: Hooks + Drop, L: Load> Monitor<H, L> {
         self.begin_when_full(rt, pass, load, request, how, moment, interrupted, when_full)
     }
 
-    /// [`begin`](Monitor::begin), where the caller says what it does if the history is full.
+    /// [`begin`](Monitor::begin). `when_full` says what it does if the history is full.
     pub fn begin_when_full<R: Wait>(
         &self,
         rt: &R,
@@ -316,6 +319,7 @@ impl<H: Hooks + Drop, L: Load> Monitor<H, L> {
         ensures same { IsSame pass.old pass.new }
         ensures begun { IsBegunIn when_full pass.old request how moment interrupted result pass.new }
         ensures shows { IsSound pass.new }
+        ensures woken { WasWoken self.now }
         ensures carries { L.carries load.new (holds_of pass.new) }
         ensures moves { Moves L.is_counted L.amount load.old (free_of pass.old) load.new (free_of pass.new) }
     {
@@ -324,8 +328,8 @@ impl<H: Hooks + Drop, L: Load> Monitor<H, L> {
         first_turn(request, how, moment, interrupted, answer)
     }
 
-    /// The first turn, if nobody has the object: None changes nothing. It waits for nobody and wakes nobody who
-    /// waits for the object, as a static library must.
+    /// The first turn, unless another call has its turn: then None, and nothing has changed. It waits for
+    /// nobody and wakes nobody who waits for the object, as a static library must.
     pub fn begin_quietly(
         &self,
         pass: &mut Pass,
@@ -352,7 +356,7 @@ impl<H: Hooks + Drop, L: Load> Monitor<H, L> {
         Some(first_turn(request, how, moment, interrupted, answer))
     }
 
-    /// The next turn of a call that waits, behind the park that ended so. `woke` doesn't matter if no park was due.
+    /// The next turn of a call that waits. `woke` says how its park ended; it doesn't matter if none was due.
     pub fn go_on<R: Wait>(
         &self,
         rt: &R,
@@ -368,6 +372,7 @@ impl<H: Hooks + Drop, L: Load> Monitor<H, L> {
         ensures same { IsSame pass.old pass.new }
         ensures gone_on { IsGoneOn pass.old waiting woke result pass.new }
         ensures shows { IsSound pass.new }
+        ensures woken { WasWoken self.now }
         ensures carries { L.carries load.new (holds_of pass.new) }
         ensures moves { Moves L.is_counted L.amount load.old (free_of pass.old) load.new (free_of pass.new) }
     {
@@ -377,7 +382,7 @@ impl<H: Hooks + Drop, L: Load> Monitor<H, L> {
         waiting.turn(step, answer)
     }
 
-    /// The next turn, if nobody has the object: None changes nothing.
+    /// The next turn, unless another call has its turn: then None, and nothing has changed.
     pub fn go_on_quietly(
         &self,
         pass: &mut Pass,

@@ -59,7 +59,7 @@ fn give_passes<H: Hooks + Drop, L: Load>(
 }
 
 impl<H: Hooks + Drop> Monitor<H> {
-    /// A monitor with an empty history, and a pass for each seat, in order.
+    /// Returns a monitor with an empty history, and a pass for each seat, in order.
     pub fn open(
         alloc: Global,
         hooks: H,
@@ -84,8 +84,8 @@ impl<H: Hooks + Drop> Monitor<H> {
 }
 
 impl<H: Hooks + Drop, L: Load> Monitor<H, L> {
-    /// The same with a load. Nobody holds anything yet, so all of it lies under the lock. Where memory is
-    /// refused, the load comes back.
+    /// The same with a load. Nobody holds anything yet, so all of the load lies under the lock. If memory is
+    /// refused, it returns the load.
     pub fn open_with(
         alloc: Global,
         hooks: H,

@@ -1,4 +1,4 @@
-//! What a monitor tells of its object.
+//! What a monitor shows of its object.
 ghost use Rattle.std.specs.Prelude.{◌≡◌, ◌<◌, true, length, is_some, Some};
 ghost use Rattle.std.specs.Fn.{FnOnceReturnsAt};
 ghost use Rattle.deciding.specs.Balance.{available};
@@ -10,6 +10,7 @@ ghost use Rattle.history.specs.Sleepers.{sleepers};
 ghost use Rattle.monitor.specs.Lawful.{start_at};
 ghost use Rattle.monitor.specs.Observing.{IsLook};
 ghost use Rattle.monitor.specs.Shown.{IsSound};
+ghost use Rattle.word_lock.specs.Woken.{WasWoken};
 
 use crate::load::Load;
 use crate::monitor::Monitor;
@@ -18,8 +19,8 @@ use frame::hooks::Hooks;
 use history::entry::Mode;
 use std::sync::Wait;
 
-/// What each observer answers is true of the history that its pass has then seen. Others may have stepped
-/// before the caller reads it.
+/// What each observer returns is true of the history that its pass has then seen. Other threads may have
+/// stepped before the caller reads it.
 impl<H: Hooks + Drop, L: Load> Monitor<H, L> {
     /// The holds of a seat in a mode.
     pub fn holds<R: Wait>(&self, rt: &R, pass: &mut Pass, seat: u16, mode: Mode) -> u128
@@ -27,6 +28,7 @@ impl<H: Hooks + Drop, L: Load> Monitor<H, L> {
         requires seat { seat < self.now.header.seats }
         ensures looked { IsLook pass.old pass.new }
         ensures shows { IsSound pass.new }
+        ensures woken { WasWoken self.now }
         ensures value { result ≡ held (start_at pass.new.seen) pass.new.seen.entries seat mode }
     {
         let held = self.lock.lock(rt, &mut pass.token);
@@ -40,6 +42,7 @@ impl<H: Hooks + Drop, L: Load> Monitor<H, L> {
         requires is_of { pass.old.lock ≡ self.now }
         ensures looked { IsLook pass.old pass.new }
         ensures shows { IsSound pass.new }
+        ensures woken { WasWoken self.now }
         ensures value { result ≡ is_some (owner (counts (start_at pass.new.seen) pass.new.seen.entries)) }
     {
         let held = self.lock.lock(rt, &mut pass.token);
@@ -48,16 +51,17 @@ impl<H: Hooks + Drop, L: Load> Monitor<H, L> {
         is_held
     }
 
-    /// Whether a seat in line was told that it could go: by an entry that names it, or by its own lapse.
-    /// Since then it has neither left the line nor been answered `Sleep`.
+    /// Whether a seat in the wait queue is marked as told: an entry named it, or it lapsed. Since then it has
+    /// neither left the queue nor been answered `Sleep`.
     ///
-    /// Whoever is first in line and could go was told. That says nothing of a thread: one that was told may
+    /// If the head of the queue could go, it is marked as told. That says nothing of its thread, which may
     /// still have to wake and to look.
     pub fn is_told<R: Wait>(&self, rt: &R, pass: &mut Pass, seat: u16) -> bool
         requires is_of { pass.old.lock ≡ self.now }
         requires seat { seat < self.now.header.seats }
         ensures looked { IsLook pass.old pass.new }
         ensures shows { IsSound pass.new }
+        ensures woken { WasWoken self.now }
         ensures told { ready (start_at pass.new.seen) pass.new.seen.entries ≡ Some seat → result ≡ true }
         ensures stand { result ≡ true
             → is_placed (place_of seat (line (start_at pass.new.seen) pass.new.seen.entries)) ≡ true }
@@ -68,11 +72,12 @@ impl<H: Hooks + Drop, L: Load> Monitor<H, L> {
         is_told
     }
 
-    /// How many stand in line.
+    /// How many seats are in the wait queue.
     pub fn queue_length<R: Wait>(&self, rt: &R, pass: &mut Pass) -> u16
         requires is_of { pass.old.lock ≡ self.now }
         ensures looked { IsLook pass.old pass.new }
         ensures shows { IsSound pass.new }
+        ensures woken { WasWoken self.now }
         ensures value { result ≡ length (line (start_at pass.new.seen) pass.new.seen.entries) }
     {
         let held = self.lock.lock(rt, &mut pass.token);
@@ -81,11 +86,12 @@ impl<H: Hooks + Drop, L: Load> Monitor<H, L> {
         queue_length
     }
 
-    /// How many sleep on a condition.
+    /// How many seats wait on a condition.
     pub fn waiters<R: Wait>(&self, rt: &R, pass: &mut Pass, condition: u8) -> u16
         requires is_of { pass.old.lock ≡ self.now }
         ensures looked { IsLook pass.old pass.new }
         ensures shows { IsSound pass.new }
+        ensures woken { WasWoken self.now }
         ensures value { result ≡ length (sleepers (start_at pass.new.seen) pass.new.seen.entries condition) }
     {
         let held = self.lock.lock(rt, &mut pass.token);
@@ -94,11 +100,12 @@ impl<H: Hooks + Drop, L: Load> Monitor<H, L> {
         waiters
     }
 
-    /// The free permits of a semaphore, which may be below 0; else 0.
+    /// The free permits of a semaphore, which may be below 0. Other objects have 0.
     pub fn available<R: Wait>(&self, rt: &R, pass: &mut Pass) -> i64
         requires is_of { pass.old.lock ≡ self.now }
         ensures looked { IsLook pass.old pass.new }
         ensures shows { IsSound pass.new }
+        ensures woken { WasWoken self.now }
         ensures value { result ≡ available (start_at pass.new.seen) pass.new.seen.entries }
     {
         let held = self.lock.lock(rt, &mut pass.token);
@@ -107,11 +114,12 @@ impl<H: Hooks + Drop, L: Load> Monitor<H, L> {
         available
     }
 
-    /// The count of a latch, down from its opening number; else 0.
+    /// The count of a latch, down from its opening number. Other objects have 0.
     pub fn count<R: Wait>(&self, rt: &R, pass: &mut Pass) -> u32
         requires is_of { pass.old.lock ≡ self.now }
         ensures looked { IsLook pass.old pass.new }
         ensures shows { IsSound pass.new }
+        ensures woken { WasWoken self.now }
         ensures value { result ≡ count (start_at pass.new.seen) pass.new.seen.entries }
     {
         let held = self.lock.lock(rt, &mut pass.token);
@@ -120,13 +128,14 @@ impl<H: Hooks + Drop, L: Load> Monitor<H, L> {
         count
     }
 
-    /// Shows the load that lies under the lock to `look`, within one turn: nobody steps meanwhile, so let it be
-    /// short.
+    /// Shows the load that lies under the lock to `look`, within one turn: nobody steps meanwhile, so it
+    /// should be short.
     pub fn look_with<R: Wait, A, F: FnOnce(&L) -> A>(&self, rt: &R, pass: &mut Pass, look: F) -> A
         requires is_of { pass.old.lock ≡ self.now }
         requires callable { F.IsAlwaysCallable look }
         ensures looked { IsLook pass.old pass.new }
         ensures shows { IsSound pass.new }
+        ensures woken { WasWoken self.now }
         ensures saw { (load : L) × L.rests load (counts (start_at pass.new.seen) pass.new.seen.entries)
             × FnOnceReturnsAt F.FnOnce look load result }
     {

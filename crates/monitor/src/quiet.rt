@@ -1,11 +1,14 @@
 //! Reading and folding the history for a monitor in which nobody sleeps, as in a static library.
 //!
 //! A static library may neither sleep nor wake. Its steps are `step_quietly`, `begin_quietly` and
-//! `go_on_quietly`, and these two calls beside them. Each waits for nobody, and wakes nobody who waits for
-//! the object.
+//! `go_on_quietly`, and these calls beside them. Each waits for nobody, and wakes nobody who waits for the
+//! object.
 ghost use Rattle.std.specs.Prelude.{◌≡◌, IfNone, IfSome, MatchOption};
 ghost use Rattle.std.specs.Fn.{FnOnceReturnsAt};
+ghost use Rattle.deciding.specs.Balance.{available};
+ghost use Rattle.history.specs.Counts.{count};
 ghost use Rattle.history.specs.Entries.{HistoryView};
+ghost use Rattle.monitor.specs.Lawful.{start_at};
 ghost use Rattle.monitor.specs.Observing.{IsHistoryOf, IsLook};
 ghost use Rattle.monitor.specs.Shown.{IsSound};
 ghost use Rattle.monitor.specs.Stepping.{IsSame, IsTrim};
@@ -18,7 +21,7 @@ use history::entries::History;
 use history::fault::Fault;
 
 impl<H: Hooks + Drop, L: Load> Monitor<H, L> {
-    /// Shows the history to `read`, if nobody has the object: None changes nothing. Nobody steps meanwhile.
+    /// Shows the history to `read`. None, and no change, if somebody has the object. Nobody steps meanwhile.
     pub fn read_quietly<A, F: FnOnce(&History) -> A>(&self, pass: &mut Pass, read: F) -> Option<A>
         requires is_of { pass.old.lock ≡ self.now }
         requires callable { F.IsAlwaysCallable read }
@@ -36,8 +39,8 @@ impl<H: Hooks + Drop, L: Load> Monitor<H, L> {
         Some(answer)
     }
 
-    /// Folds all entries into the base, if nobody has the object: None changes nothing. Else it is
-    /// [`trim`](Monitor::trim).
+    /// Folds all entries into the base as [`trim`](Monitor::trim) does, unless another call has its turn: then
+    /// None, and nothing has changed.
     pub fn trim_quietly(&self, pass: &mut Pass) -> Option<Result<u64, Fault>>
         requires is_of { pass.old.lock ≡ self.now }
         ensures same { IsSame pass.old pass.new }
@@ -48,6 +51,42 @@ impl<H: Hooks + Drop, L: Load> Monitor<H, L> {
             return None;
         };
         let count = held.value.trim();
+        self.lock.unlock_quietly(&mut pass.token, held);
+        Some(count)
+    }
+
+    /// The free permits of a semaphore, as [`available`](Monitor::available) returns them, unless another call
+    /// has its turn: then None, and nothing has changed.
+    pub fn available_quietly(&self, pass: &mut Pass) -> Option<i64>
+        requires is_of { pass.old.lock ≡ self.now }
+        ensures busy { IfNone result (pass.new ≡ pass.old) }
+        ensures looked { IfSome result (λ _. IsLook pass.old pass.new) }
+        ensures shows { IsSound pass.new }
+        ensures value { IfSome result (λ permits.
+            permits ≡ available (start_at pass.new.seen) pass.new.seen.entries) }
+    {
+        let Some(held) = self.lock.lock_now(&mut pass.token) else {
+            return None;
+        };
+        let available = held.value.core().available();
+        self.lock.unlock_quietly(&mut pass.token, held);
+        Some(available)
+    }
+
+    /// The count of a latch, as [`count`](Monitor::count) returns it, unless another call has its turn: then
+    /// None, and nothing has changed.
+    pub fn count_quietly(&self, pass: &mut Pass) -> Option<u32>
+        requires is_of { pass.old.lock ≡ self.now }
+        ensures busy { IfNone result (pass.new ≡ pass.old) }
+        ensures looked { IfSome result (λ _. IsLook pass.old pass.new) }
+        ensures shows { IsSound pass.new }
+        ensures value { IfSome result (λ left.
+            left ≡ count (start_at pass.new.seen) pass.new.seen.entries) }
+    {
+        let Some(held) = self.lock.lock_now(&mut pass.token) else {
+            return None;
+        };
+        let count = held.value.core().count();
         self.lock.unlock_quietly(&mut pass.token, held);
         Some(count)
     }

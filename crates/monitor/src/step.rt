@@ -5,6 +5,7 @@ ghost use Rattle.monitor.specs.Load.{Brings, Moves, free_of, given_by, holds_of,
 ghost use Rattle.monitor.specs.Room.{IsEnteredIn, IsStepIn};
 ghost use Rattle.monitor.specs.Shown.{IsSound};
 ghost use Rattle.monitor.specs.Stepping.{IsSame, IsStep, IsStepNow, IsEntered, IsUnparked, named_in, now_of};
+ghost use Rattle.word_lock.specs.Woken.{WasWoken};
 
 use crate::load::{Empty, Load};
 use crate::monitor::Monitor;
@@ -18,7 +19,7 @@ use permit::Parking;
 use std::sync::Wait;
 use std::time::Clock;
 
-/// What `step_now` answers.
+/// What `step_now` returns.
 #[derive(Clone, Copy, Debug, PartialEq, Eq)]
 pub enum Now {
     Done(Answer),
@@ -32,16 +33,18 @@ impl<H: Hooks + Drop> Monitor<H> {
         ensures same { IsSame pass.old pass.new }
         ensures stepped { IsStep pass.old step result pass.new }
         ensures shows { IsSound pass.new }
+        ensures woken { WasWoken self.now }
     {
         self.step_with(rt, pass, &mut Empty {}, step)
     }
 
-    /// One step of the pass's seat, if nobody has the object. It waits for nobody.
+    /// One step of the pass's seat, unless another call has its turn. It waits for nobody.
     pub fn step_now(&self, pass: &mut Pass, step: Step) -> Result<Now, Fault>
         requires is_of { pass.old.lock ≡ self.now }
         ensures same { IsSame pass.old pass.new }
         ensures stepped { IsStepNow pass.old step result pass.new }
         ensures shows { IsSound pass.new }
+        ensures woken { WasWoken self.now }
     {
         self.step_now_with(pass, &mut Empty {}, step)
     }
@@ -63,6 +66,7 @@ impl<H: Hooks + Drop, L: Load> Monitor<H, L> {
         ensures same { IsSame pass.old pass.new }
         ensures stepped { IsStep pass.old step result pass.new }
         ensures shows { IsSound pass.new }
+        ensures woken { WasWoken self.now }
         ensures carries { L.carries load.new (holds_of pass.new) }
         ensures moves { Moves L.is_counted L.amount load.old (free_of pass.old) load.new (free_of pass.new) }
     {
@@ -73,7 +77,7 @@ impl<H: Hooks + Drop, L: Load> Monitor<H, L> {
         answer
     }
 
-    /// One step of the pass's seat, if nobody has the object. It waits for nobody.
+    /// One step of the pass's seat, unless another call has its turn. It waits for nobody.
     pub fn step_now_with(&self, pass: &mut Pass, load: &mut L, step: Step) -> Result<Now, Fault>
         requires is_of { pass.old.lock ≡ self.now }
         requires carries { L.carries load.old (holds_of pass.old) }
@@ -81,6 +85,7 @@ impl<H: Hooks + Drop, L: Load> Monitor<H, L> {
         ensures same { IsSame pass.old pass.new }
         ensures stepped { IsStepNow pass.old step result pass.new }
         ensures shows { IsSound pass.new }
+        ensures woken { WasWoken self.now }
         ensures carries { L.carries load.new (holds_of pass.new) }
         ensures moves { Moves L.is_counted L.amount load.old (free_of pass.old) load.new (free_of pass.new) }
     {
@@ -127,6 +132,7 @@ impl<H: Hooks + Drop, L: Load> Monitor<H, L> {
         ensures stepped { IsStepIn when_full pass.old step result pass.new }
         ensures unparked { IsUnparked (P.did parking.now) (named_in result) }
         ensures shows { IsSound pass.new }
+        ensures woken { WasWoken self.now }
         ensures carries { L.carries load.new (holds_of pass.new) }
         ensures moves { Moves L.is_counted L.amount load.old (free_of pass.old) load.new (free_of pass.new) }
     {
@@ -135,7 +141,7 @@ impl<H: Hooks + Drop, L: Load> Monitor<H, L> {
         answer
     }
 
-    /// A step of an idle seat, which is answered with its entry or a fault, and an unpark of the seat that it
+    /// A step of an idle seat. Returns its entry or a fault, and unparks the seat that the step
     /// names.
     pub fn enter<P: Parking, R: Wait + Clock>(
         &self,
@@ -153,13 +159,14 @@ impl<H: Hooks + Drop, L: Load> Monitor<H, L> {
         ensures same { IsSame pass.old pass.new }
         ensures entered { IsEntered (P.did parking.now) pass.old step result pass.new }
         ensures shows { IsSound pass.new }
+        ensures woken { WasWoken self.now }
         ensures carries { L.carries load.new (holds_of pass.new) }
         ensures moves { Moves L.is_counted L.amount load.old (free_of pass.old) load.new (free_of pass.new) }
     {
         self.enter_when_full(rt, parking, pass, load, step, WhenFull::Refuse)
     }
 
-    /// [`enter`](Monitor::enter), where the caller says what it does if the history is full.
+    /// [`enter`](Monitor::enter). `when_full` says what it does if the history is full.
     pub fn enter_when_full<P: Parking, R: Wait + Clock>(
         &self,
         rt: &R,
@@ -177,6 +184,7 @@ impl<H: Hooks + Drop, L: Load> Monitor<H, L> {
         ensures same { IsSame pass.old pass.new }
         ensures entered { IsEnteredIn when_full (P.did parking.now) pass.old step result pass.new }
         ensures shows { IsSound pass.new }
+        ensures woken { WasWoken self.now }
         ensures carries { L.carries load.new (holds_of pass.new) }
         ensures moves { Moves L.is_counted L.amount load.old (free_of pass.old) load.new (free_of pass.new) }
     {
@@ -188,12 +196,18 @@ impl<H: Hooks + Drop, L: Load> Monitor<H, L> {
     }
 
     // A signal of the pass's seat. It waits for the object.
-    fn signal_step<R: Wait>(&self, rt: &R, pass: &mut Pass, step: Step) -> Result<Answer, Fault>
+    pub(crate) fn signal_step<R: Wait>(
+        &self,
+        rt: &R,
+        pass: &mut Pass,
+        step: Step,
+    ) -> Result<Answer, Fault>
         requires is_of { pass.old.lock ≡ self.now }
         requires signals { is_signal step ≡ true }
         ensures same { IsSame pass.old pass.new }
         ensures stepped { IsStep pass.old step result pass.new }
         ensures shows { IsSound pass.new }
+        ensures woken { WasWoken self.now }
     {
         let mut held = self.lock.lock(rt, &mut pass.token);
         let answer = held.value.signal(pass.seat, step);
@@ -209,36 +223,40 @@ impl<H: Hooks + Drop, L: Load> Monitor<H, L> {
         parking: &P,
         pass: &mut Pass,
         step: Step,
+        when_full: WhenFull,
     ) -> Result<Answer, Fault>
         requires is_of { pass.old.lock ≡ self.now }
         requires places { self.now.header.seats ≤ P.seats parking.now }
         requires signals { is_signal step ≡ true }
         ensures same { IsSame pass.old pass.new }
-        ensures stepped { IsStep pass.old step result pass.new }
+        ensures stepped { IsStepIn when_full pass.old step result pass.new }
         ensures unparked { IsUnparked (P.did parking.now) (named_in result) }
         ensures shows { IsSound pass.new }
+        ensures woken { WasWoken self.now }
     {
-        let told = self.signal_step(rt, pass, step);
+        let told = self.signal_step_when_full(rt, pass, step, when_full);
         unpark(parking, named_in(told));
         told
     }
 
-    // A signal of an idle seat, which is answered with its entry or a fault.
+    // A signal of an idle seat. Returns its entry or a fault.
     pub(crate) fn tell<P: Parking, R: Wait + Clock>(
         &self,
         rt: &R,
         parking: &P,
         pass: &mut Pass,
         step: Step,
+        when_full: WhenFull,
     ) -> Result<Entry, Fault>
         requires is_of { pass.old.lock ≡ self.now }
         requires places { self.now.header.seats ≤ P.seats parking.now }
         requires signals { is_signal step ≡ true }
         ensures same { IsSame pass.old pass.new }
-        ensures entered { IsEntered (P.did parking.now) pass.old step result pass.new }
+        ensures entered { IsEnteredIn when_full (P.did parking.now) pass.old step result pass.new }
         ensures shows { IsSound pass.new }
+        ensures woken { WasWoken self.now }
     {
-        match self.signal_call(rt, parking, pass, step) {
+        match self.signal_call(rt, parking, pass, step, when_full) {
             Ok(Answer::Recorded(entry, _)) => Ok(entry),
             Ok(Answer::Sleep) => unreachable!(),
             Err(fault) => Err(fault),

@@ -5,7 +5,8 @@ ghost use Rattle.monitor.specs.Load.{Brings, Moves, free_of, holds_of};
 ghost use Rattle.monitor.specs.Settled.{IsSettled};
 ghost use Rattle.monitor.specs.Shown.{IsSound};
 ghost use Rattle.monitor.specs.Stepping.{IsSame};
-ghost use Rattle.monitor.specs.Waits.{IsReply, MayBegin, Waits, stage_asleep};
+ghost use Rattle.monitor.specs.Waits.{Waits, stage_asleep};
+ghost use Rattle.monitor.specs.inner.Waits.{IsReply, MayBegin};
 
 use crate::interrupts::Interrupts;
 use crate::load::Load;
@@ -21,17 +22,17 @@ use permit::Parking;
 use std::sync::Wait;
 use std::time::Clock;
 
-/// What else than a permit ends a park.
+/// What ends a park, besides a permit.
 #[derive(Clone, Copy, Debug, PartialEq, Eq)]
 pub struct Limits {
     pub until: Option<u64>,
     pub interruptible: bool,
 }
 
-/// How one who waits goes on.
+/// How a waiting seat goes on.
 #[derive(Clone, Copy)]
 pub(crate) enum Stage {
-    /// It has no time: it expires before it parks.
+    /// Its time is 0: it expires before it parks.
     Expires,
     /// It parks as its call says.
     Parks,
@@ -41,7 +42,7 @@ pub(crate) enum Stage {
     GivenUp,
 }
 
-// The stage behind a step that recorded nothing.
+// The stage after a step that recorded nothing.
 pub(crate) fn stage_asleep(stage: Stage, step: Step) -> Stage
     ensures { result ≡ stage_asleep stage step }
 {

@@ -1,4 +1,4 @@
-//! A count that goes down to 0, and those who wait for that.
+//! A count that goes down to 0, and threads that wait for that.
 ghost use Rattle.std.specs.Prelude.{◌≡◌, ◌≤◌, false};
 ghost use Rattle.history.specs.Phase.{waits};
 ghost use Rattle.history.specs.declared.entry.Mode.TheVariants.{S};
@@ -25,17 +25,17 @@ use std::time::Clock;
 /// throws.
 ///
 /// A call that finds the history full folds it and goes on, or returns `Err(HistoryFull)` if `when_full` says
-/// so. Then a count down may lack room too. Each call costs one entry, and one that waits two.
+/// so. Then `count_down` may lack room too. Each call costs one entry, and a call that waits costs two.
 #[derive(Clone, Copy)]
 pub struct Latch<'m> {
     pub monitor: &'m Monitor<LatchHooks>,
-    /// What a call does that finds the history full.
+    /// What a call does if it finds the history full.
     pub when_full: WhenFull,
 }
 
 impl<'m> Latch<'m> {
-    /// Over this monitor, which it borrows. A call that finds the history full folds it and goes on
-    /// ([`WhenFull::Trim`]).
+    /// Returns a front over this monitor, which it borrows. A call that finds the history full folds it and
+    /// goes on ([`WhenFull::Trim`]).
     pub fn of(monitor: &'m Monitor<LatchHooks>) -> Self
         ensures monitor { result.monitor.now ≡ monitor.now }
         ensures when_full { result.when_full ≡ Trim }
@@ -43,7 +43,7 @@ impl<'m> Latch<'m> {
         Latch::of_when_full(monitor, WhenFull::Trim)
     }
 
-    /// The same, where the caller says what a call does that finds the history full.
+    /// The same. `when_full` says what a call does if it finds the history full.
     pub fn of_when_full(monitor: &'m Monitor<LatchHooks>, when_full: WhenFull) -> Self
         ensures monitor { result.monitor.now ≡ monitor.now }
         ensures when_full { result.when_full ≡ when_full }
@@ -107,7 +107,7 @@ impl<'m> Latch<'m> {
         done(self.enter(rt, parking, pass, Step::Give(Mode::S, 1)))
     }
 
-    // An acquire, which makes room if this front does so.
+    // An acquire, which makes room if this front trims.
     fn acquire_as<P: Parking, R: Wait + Clock>(
         &self,
         rt: &R,
@@ -134,7 +134,7 @@ impl<'m> Latch<'m> {
         )
     }
 
-    // A step that doesn't wait, which makes room if this front does so.
+    // A step that doesn't wait, which makes room if this front trims.
     fn enter<P: Parking, R: Wait + Clock>(
         &self,
         rt: &R,

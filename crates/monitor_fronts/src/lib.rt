@@ -3,18 +3,18 @@
 //!
 //! *When the history is full.* Each call records its entries in the history of its monitor, which has places
 //! for `cap` entries. A front made by `of` trims ([`WhenFull::Trim`]): a call that finds no room folds all
-//! entries into the base of the history and goes on, in the same turn of the lock. So it runs on for ever in
-//! the memory of `cap` entries. Holds, waiters, permits and the number of calls stay. Two faults are left.
-//! `HistoryFull` comes only if a history without entries has no room: with at most one hold for each thread,
-//! 3 places for each and one more suffice. `TrimFull` comes only if more than 1,000,000,000,000,000 entries
-//! would be folded.
+//! entries into the base of the history and goes on, in the same turn of the lock. So it runs on forever in
+//! the memory of `cap` entries. Holds, waiters, permits and the number of calls stay. Two faults remain.
+//! `HistoryFull` comes only if a history without entries has no room. By the table of room in
+//! `docs/SPECIFICATION.md`, with at most one hold for each thread 3 places for each thread and one more
+//! suffice. `TrimFull` comes only if more than 1,000,000,000,000,000 entries would be folded.
 //!
 //! A front made by `of_when_full` may refuse instead ([`WhenFull::Refuse`]). A call that finds no room then
 //! returns `Err(HistoryFull)` and records nothing, and the history keeps every entry. An unlock by an owner
-//! has room always.
+//! always has room.
 //!
-//! *What a call costs.* One turn of the monitor's lock and one entry of 12 bytes; a call that waits takes a
-//! turn more for each time that it is woken, and an entry more. A fold takes time for each entry that it
+//! *What a call costs.* One turn of the monitor's lock and one entry of 12 bytes. A call that waits costs one
+//! more turn for each time that it is woken, and one more entry. A fold takes time for each entry that it
 //! folds, so on average a call that trims pays for as many entries as it makes.
 #![tactic(auto)]
 

@@ -1,4 +1,4 @@
-//! A lock whose owner may take it again.
+//! A lock whose owner may acquire it again.
 ghost use Rattle.std.specs.Prelude.{◌≡◌, ◌+◌, ◌<◌, ◌≤◌, false, true, IsOk};
 ghost use Rattle.history.specs.Object.{is_lock};
 ghost use Rattle.history.specs.Phase.{waits};
@@ -29,17 +29,17 @@ use std::time::Clock;
 ///
 /// A call that finds the history full folds it and goes on, or returns `Err(HistoryFull)` if `when_full` says
 /// so. An unlock by the owner never lacks room. A lock and an unlock cost one entry each, and a lock that
-/// waits two.
+/// waits costs two.
 #[derive(Clone, Copy)]
 pub struct ReentrantLock<'m> {
     pub monitor: &'m Monitor<LockHooks>,
-    /// What a call does that finds the history full.
+    /// What a call does if it finds the history full.
     pub when_full: WhenFull,
 }
 
 impl<'m> ReentrantLock<'m> {
-    /// Over this monitor, which it borrows. A call that finds the history full folds it and goes on
-    /// ([`WhenFull::Trim`]).
+    /// Returns a front over this monitor, which it borrows. A call that finds the history full folds it and
+    /// goes on ([`WhenFull::Trim`]).
     pub fn of(monitor: &'m Monitor<LockHooks>) -> Self
         ensures monitor { result.monitor.now ≡ monitor.now }
         ensures when_full { result.when_full ≡ Trim }
@@ -47,7 +47,7 @@ impl<'m> ReentrantLock<'m> {
         ReentrantLock::of_when_full(monitor, WhenFull::Trim)
     }
 
-    /// The same, where the caller says what a call does that finds the history full.
+    /// The same. `when_full` says what a call does if it finds the history full.
     pub fn of_when_full(monitor: &'m Monitor<LockHooks>, when_full: WhenFull) -> Self
         ensures monitor { result.monitor.now ≡ monitor.now }
         ensures when_full { result.when_full ≡ when_full }
@@ -94,8 +94,8 @@ impl<'m> ReentrantLock<'m> {
         done(self.acquire_as(rt, parking, pass, How::Interruptible))
     }
 
-    /// `ReentrantLock.tryLock()`: whether it got the lock. It goes past those who wait, in a fair
-    /// lock too, but not in a strict one.
+    /// `ReentrantLock.tryLock()`: whether it got the lock. It overtakes waiters, in a fair lock too, but not
+    /// in a strict one.
     pub fn try_lock<P: Parking, R: Wait + Clock>(
         &self,
         rt: &R,
@@ -114,9 +114,9 @@ impl<'m> ReentrantLock<'m> {
         whether(self.enter(rt, parking, pass, Step::Try(Mode::X, 1)))
     }
 
-    /// `ReentrantLock.tryLock(time, unit)`: whether it got the lock within `ms` milliseconds.
-    /// With 0 it doesn't wait, and under a fair or strict policy it doesn't go past those who
-    /// wait.
+    /// `ReentrantLock.tryLock(time, unit)`: whether it got the lock within `ms`
+    /// milliseconds. With 0 it doesn't wait, and under a fair or strict policy it doesn't
+    /// overtake waiters.
     pub fn try_lock_for<P: Parking, R: Wait + Clock>(
         &self,
         rt: &R,
@@ -263,7 +263,7 @@ impl<'m> ReentrantLock<'m> {
         done(self.enter(rt, parking, pass, Step::SignalAll(condition)))
     }
 
-    // An acquire, which makes room if this front does so.
+    // An acquire, which makes room if this front trims.
     fn acquire_as<P: Parking, R: Wait + Clock>(
         &self,
         rt: &R,
@@ -291,7 +291,7 @@ impl<'m> ReentrantLock<'m> {
         )
     }
 
-    // An await, which makes room if this front does so.
+    // An await, which makes room if this front trims.
     fn wait_as<P: Parking, R: Wait + Clock>(
         &self,
         rt: &R,
@@ -319,7 +319,7 @@ impl<'m> ReentrantLock<'m> {
         )
     }
 
-    // A step that doesn't wait, which makes room if this front does so.
+    // A step that doesn't wait, which makes room if this front trims.
     fn enter<P: Parking, R: Wait + Clock>(
         &self,
         rt: &R,

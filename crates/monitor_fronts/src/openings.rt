@@ -1,8 +1,8 @@
 //! How the monitor of each front type is opened: the constructors of `java.util.concurrent`.
 //!
-//! Each returns the monitor with an empty history, and a pass for each seat, in order. `cap` is the greatest
-//! number of entries of the history, those among them that are owed. A full history is no error of an
-//! opening: the front that is then made over the monitor says what its calls do. The only error is
+//! Each returns the monitor with an empty history, and a pass for each seat, in order. `cap` is the
+//! greatest number of entries of the history, owed ones included. An opening says nothing about a full
+//! history: the front that is made over the monitor says what its calls then do. The only error is
 //! `OutOfMemory`.
 
 ghost use Rattle.std.specs.Prelude.{◌≡◌, [], All, IfOk, IfErr, vec_capacity};

@@ -28,17 +28,17 @@ use std::time::Clock;
 ///
 /// A call that finds the history full folds it and goes on, or returns `Err(HistoryFull)` if `when_full` says
 /// so. An unlock by an owner never lacks room. A lock and an unlock cost one entry each, and a lock that
-/// waits two.
+/// waits costs two.
 #[derive(Clone, Copy)]
 pub struct ReadWriteLock<'m> {
     pub monitor: &'m Monitor<RwHooks>,
-    /// What a call does that finds the history full.
+    /// What a call does if it finds the history full.
     pub when_full: WhenFull,
 }
 
 impl<'m> ReadWriteLock<'m> {
-    /// Over this monitor, which it borrows. A call that finds the history full folds it and goes on
-    /// ([`WhenFull::Trim`]).
+    /// Returns a front over this monitor, which it borrows. A call that finds the history full folds it and
+    /// goes on ([`WhenFull::Trim`]).
     pub fn of(monitor: &'m Monitor<RwHooks>) -> Self
         ensures monitor { result.monitor.now ≡ monitor.now }
         ensures when_full { result.when_full ≡ Trim }
@@ -46,7 +46,7 @@ impl<'m> ReadWriteLock<'m> {
         ReadWriteLock::of_when_full(monitor, WhenFull::Trim)
     }
 
-    /// The same, where the caller says what a call does that finds the history full.
+    /// The same. `when_full` says what a call does if it finds the history full.
     pub fn of_when_full(monitor: &'m Monitor<RwHooks>, when_full: WhenFull) -> Self
         ensures monitor { result.monitor.now ≡ monitor.now }
         ensures when_full { result.when_full ≡ when_full }
@@ -91,8 +91,8 @@ impl<'m> ReadWriteLock<'m> {
         done(self.acquire_as(rt, parking, pass, Mode::X, How::Interruptible))
     }
 
-    /// `WriteLock.tryLock()`: whether it got the lock. It goes past those who wait, in a fair
-    /// lock too, but not in a strict one.
+    /// `WriteLock.tryLock()`: whether it got the lock. It overtakes waiters, in a fair lock too, but not in a
+    /// strict one.
     pub fn write_try_lock<P: Parking, R: Wait + Clock>(
         &self,
         rt: &R,
@@ -111,8 +111,8 @@ impl<'m> ReadWriteLock<'m> {
     }
 
     /// `WriteLock.tryLock(time, unit)`: whether it got the lock within `ms` milliseconds.
-    /// With 0 it doesn't wait, and under a fair or strict policy it doesn't go past those who
-    /// wait.
+    /// With 0 it doesn't wait, and under a fair or strict policy it doesn't overtake
+    /// waiters.
     pub fn write_try_lock_for<P: Parking, R: Wait + Clock>(
         &self,
         rt: &R,
@@ -288,8 +288,8 @@ impl<'m> ReadWriteLock<'m> {
         done(self.acquire_as(rt, parking, pass, Mode::S, How::Interruptible))
     }
 
-    /// `ReadLock.tryLock()`: whether it got the lock. It goes past those who wait, in a fair
-    /// lock too, but not in a strict one.
+    /// `ReadLock.tryLock()`: whether it got the lock. It overtakes waiters, in a fair lock too, but not in a
+    /// strict one.
     pub fn read_try_lock<P: Parking, R: Wait + Clock>(
         &self,
         rt: &R,
@@ -308,8 +308,8 @@ impl<'m> ReadWriteLock<'m> {
     }
 
     /// `ReadLock.tryLock(time, unit)`: whether it got the lock within `ms` milliseconds.
-    /// With 0 it doesn't wait, and under a fair or strict policy it doesn't go past those who
-    /// wait.
+    /// With 0 it doesn't wait, and under a fair or strict policy it doesn't overtake
+    /// waiters.
     pub fn read_try_lock_for<P: Parking, R: Wait + Clock>(
         &self,
         rt: &R,
@@ -346,7 +346,7 @@ impl<'m> ReadWriteLock<'m> {
         done(self.monitor.release(rt, parking, pass, Mode::S, 1))
     }
 
-    // An acquire, which makes room if this front does so.
+    // An acquire, which makes room if this front trims.
     fn acquire_as<P: Parking, R: Wait + Clock>(
         &self,
         rt: &R,
@@ -374,7 +374,7 @@ impl<'m> ReadWriteLock<'m> {
         )
     }
 
-    // An await, which makes room if this front does so.
+    // An await, which makes room if this front trims.
     fn wait_as<P: Parking, R: Wait + Clock>(
         &self,
         rt: &R,
@@ -401,7 +401,7 @@ impl<'m> ReadWriteLock<'m> {
         )
     }
 
-    // A step that doesn't wait, which makes room if this front does so.
+    // A step that doesn't wait, which makes room if this front trims.
     fn enter<P: Parking, R: Wait + Clock>(
         &self,
         rt: &R,

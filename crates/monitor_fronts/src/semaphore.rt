@@ -1,4 +1,4 @@
-//! Permits to take and to give.
+//! Permits to acquire and release.
 ghost use Rattle.std.specs.Prelude.{◌≡◌, ◌≤◌, false};
 ghost use Rattle.history.specs.Phase.{waits};
 ghost use Rattle.history.specs.declared.entry.Mode.TheVariants.{S};
@@ -26,17 +26,17 @@ use std::time::Clock;
 ///
 /// A call that finds the history full folds it and goes on, or returns `Err(HistoryFull)` if `when_full` says
 /// so. Then a release may lack room too. An acquire and a release cost one entry each, and an acquire that
-/// waits two.
+/// waits costs two.
 #[derive(Clone, Copy)]
 pub struct Semaphore<'m> {
     pub monitor: &'m Monitor<SemaphoreHooks>,
-    /// What a call does that finds the history full.
+    /// What a call does if it finds the history full.
     pub when_full: WhenFull,
 }
 
 impl<'m> Semaphore<'m> {
-    /// Over this monitor, which it borrows. A call that finds the history full folds it and goes on
-    /// ([`WhenFull::Trim`]).
+    /// Returns a front over this monitor, which it borrows. A call that finds the history full folds it and
+    /// goes on ([`WhenFull::Trim`]).
     pub fn of(monitor: &'m Monitor<SemaphoreHooks>) -> Self
         ensures monitor { result.monitor.now ≡ monitor.now }
         ensures when_full { result.when_full ≡ Trim }
@@ -44,7 +44,7 @@ impl<'m> Semaphore<'m> {
         Semaphore::of_when_full(monitor, WhenFull::Trim)
     }
 
-    /// The same, where the caller says what a call does that finds the history full.
+    /// The same. `when_full` says what a call does if it finds the history full.
     pub fn of_when_full(monitor: &'m Monitor<SemaphoreHooks>, when_full: WhenFull) -> Self
         ensures monitor { result.monitor.now ≡ monitor.now }
         ensures when_full { result.when_full ≡ when_full }
@@ -91,8 +91,8 @@ impl<'m> Semaphore<'m> {
         done(self.acquire_as(rt, parking, pass, n, How::Plain))
     }
 
-    /// `Semaphore.tryAcquire(permits)`: whether `n` permits were free. It goes past those who wait,
-    /// also where the semaphore is fair, but not where it is strict.
+    /// `Semaphore.tryAcquire(permits)`: whether `n` permits were free. It overtakes waiters, in a fair
+    /// semaphore too, but not in a strict one.
     pub fn try_acquire<P: Parking, R: Wait + Clock>(
         &self,
         rt: &R,
@@ -132,7 +132,7 @@ impl<'m> Semaphore<'m> {
         whether(self.acquire_as(rt, parking, pass, n, How::Timed(ms)))
     }
 
-    /// `Semaphore.release(permits)`: any pass may give permits, also more than it took.
+    /// `Semaphore.release(permits)`: any pass may release permits, also more than it acquired.
     pub fn release<P: Parking, R: Wait + Clock>(
         &self,
         rt: &R,
@@ -151,8 +151,8 @@ impl<'m> Semaphore<'m> {
         done(self.enter(rt, parking, pass, Step::Give(Mode::S, n)))
     }
 
-    /// `Semaphore.drainPermits()`: takes all that are free, and returns how many these were.
-    /// It takes none where fewer than 0 are free; Java's then makes them 0.
+    /// `Semaphore.drainPermits()`: takes all free permits, and returns how many these were. If fewer than 0
+    /// are free, it takes none; Java's then makes them 0.
     pub fn drain_permits<P: Parking, R: Wait + Clock>(
         &self,
         rt: &R,
@@ -170,7 +170,7 @@ impl<'m> Semaphore<'m> {
         number(self.enter(rt, parking, pass, Step::Drain))
     }
 
-    // An acquire, which makes room if this front does so.
+    // An acquire, which makes room if this front trims.
     fn acquire_as<P: Parking, R: Wait + Clock>(
         &self,
         rt: &R,
@@ -198,7 +198,7 @@ impl<'m> Semaphore<'m> {
         )
     }
 
-    // A step that doesn't wait, which makes room if this front does so.
+    // A step that doesn't wait, which makes room if this front trims.
     fn enter<P: Parking, R: Wait + Clock>(
         &self,
         rt: &R,

@@ -23,7 +23,7 @@ pub fn whether(reply: Result<Entry, Fault>) -> Result<bool, Fault>
     }
 }
 
-/// The same without the yes or no.
+/// The same, without returning whether it did.
 pub fn done(reply: Result<Entry, Fault>) -> Result<(), Fault>
     ensures { result ≡ done_of reply }
 {

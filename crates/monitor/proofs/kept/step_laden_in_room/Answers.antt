@@ -5,7 +5,7 @@ use Rattle.history.specs.declared.fault.Fault.{Fault}
 use Rattle.history.specs.declared.fault.Fault.TheVariants.{HistoryFull}
 use Rattle.history.specs.declared.step.Answer.{Answer}
 use Rattle.monitor.specs.Load.{Moves}
-use Rattle.monitor.specs.Room.{IsCoreStep}
+use Rattle.monitor.specs.inner.CoreSteps.{IsCoreStep}
 use Rattle.monitor.proofs.Freeing.{brings_still, moves_since}
 use Rattle.monitor.proofs.Rooms.{full_is, not_full, refused_stays, trimmed_holds}
 use Rattle.monitor.proofs.kept.step_laden_in_room.Goals.{After-trim_laden}

@@ -1,7 +1,7 @@
 use Rattle.std.proofs.Common.{subst}
 use Rattle.frame.specs.Core.{CoreView, counts_of}
 use Rattle.monitor.specs.Load.{Moves}
-use Rattle.monitor.specs.Room.{IsCoreStepIn}
+use Rattle.monitor.specs.inner.CoreSteps.{IsCoreStepIn}
 use Rattle.monitor.proofs.kept.Kept.step_in_room.Goals as goal
 
 pub returns-clause-stepped : goal.returns-clause-stepped

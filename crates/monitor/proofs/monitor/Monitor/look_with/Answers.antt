@@ -13,7 +13,7 @@ unlock-requires-clause-follows g c =
 looked : (g : _) (c : goal.After-unlock g) → Looked c.pass.inside.token c.unlock.new.token
     (point_of c.lock-held.result.value.laden.value.core) c.pass.inside.seat c.pass.inside.share
 looked g c =
-    look _ (held_ticket c.lock-held.result) _ _ _ _ c.lock-held.ensures.taken.1 c.unlock.ensures
+    look _ (held_ticket c.lock-held.result) _ _ _ _ c.lock-held.ensures.taken.1 c.unlock.ensures.token
     c.pass.invariant c.lock-held.ensures.begins c.lock-held.ensures.entries c.lock-held.ensures.fact.0.lawful
 
 pub invariant_of-pass : goal.invariant_of-pass

@@ -6,7 +6,7 @@ use Rattle.monitor.specs.Load.{free_of}
 use Rattle.monitor.specs.Machine.{begun}
 use Rattle.history.specs.declared.point.Point.{Point}
 use Rattle.monitor.specs.Room.{at_point}
-use Rattle.monitor.specs.Waits.{MayBegin}
+use Rattle.monitor.specs.inner.Waits.{MayBegin}
 use Rattle.monitor.specs.declared.machine.Next.TheVariants as next
 use Rattle.monitor.specs.declared.machine.Waiting.{Waiting}
 use Rattle.monitor.proofs.Acquiring.{found_none, found_one}

@@ -42,7 +42,7 @@ went : (g : _) (c : goal.After-pass-1 g) → Section c.pass.inside.token (held_t
     c.args.step c.signal-answer.result
 went g c = record {
   taken = c.lock-held.ensures.taken.1;
-  given = c.unlock.ensures;
+  given = c.unlock.ensures.token;
   was = c.pass.invariant;
   begins = c.lock-held.ensures.begins;
   entries = c.lock-held.ensures.entries;

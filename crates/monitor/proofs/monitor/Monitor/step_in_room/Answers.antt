@@ -56,7 +56,7 @@ around : (g : _) (c : goal.After-pass-1 g) → Around c.pass.inside.token (held_
     c.pass.inside.seat c.pass.inside.share
 around g c = record {
   taken = c.lock-held.ensures.taken.1;
-  given = c.unlock.ensures;
+  given = c.unlock.ensures.token;
   was = c.pass.invariant;
   begins = c.lock-held.ensures.begins;
   entries = c.lock-held.ensures.entries;

@@ -21,7 +21,7 @@ trims : (g : _) (c : goal.After-unlock g) → Trim c.pass.inside.token (held_tic
     (point_of c.trim-count.new.self.laden.value.core) c.pass.inside.seat c.pass.inside.share c.trim-count.result
 trims g c = record {
   taken = c.lock-held.ensures.taken.1;
-  given = c.unlock.ensures;
+  given = c.unlock.ensures.token;
   was = c.pass.invariant;
   begins = c.lock-held.ensures.begins;
   entries = c.lock-held.ensures.entries;
