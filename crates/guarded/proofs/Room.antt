@@ -1,5 +1,5 @@
 -- Calls that make room where there is none.
-use Rattle.std.proofs.Common.{◌≡◌, inl, inr, true, false, Result, Ok, Err, refl, sym, subst}
+use Rattle.std.proofs.Common.{◌≡◌, inl, inr, false, Result, Ok, Err, refl, sym, subst}
 use Rattle.history.specs.declared.entry.Entry.{Entry}
 use Rattle.history.specs.declared.fault.Fault.{Fault}
 use Rattle.history.specs.declared.fault.Fault.TheVariants.{HistoryFull, TrimFull}
@@ -18,7 +18,10 @@ use Rattle.monitor.specs.declared.room.WhenFull.TheVariants.{Refuse, Trim}
 use Rattle.monitor_fronts.specs.Told.{whether_of}
 use Rattle.monitor_fronts.proofs.Exactly.{waits_to_the_end}
 use Rattle.guarded.specs.Asking.{acquires}
-use Rattle.guarded.specs.Full.{InTurns, MakesRoom, Once, lacks_room}
+
+-- a call that says nothing of a full history
+abbrev Once : Type 1
+Once = Shown → Result Entry Fault → Shown → Type 0
 
 -- What holds of a call from any pass with the same own entries holds of one that makes room: a fold adds no entry
 -- of the pass, and to be refused because there are too many to fold is to be refused for want of room.
@@ -57,47 +60,3 @@ never_missed did w how old new r never same made =
     in_room (λ (from : Shown). λ (s : Result Entry Fault). whether_of s ≡ Ok false → ⊥) w _ _ old new r same
     (λ p. λ x. x) (λ x. λ told. let no : whether_of (Err TrimFull) ≡ Ok false = told in cc)
     (λ from. λ s. λ of. λ at. λ one. waits_to_the_end did from new how s never one) made
-
--- Signals, which make room by turns of their own.
-lacks_trims : (w : WhenFull) (r : Result Entry Fault) → lacks_room w r ≡ true →
-    (w ≡ Trim) × (r ≡ Err HistoryFull)
-lacks_trims Refuse r q = cc
-lacks_trims Trim (Ok e) q = cc
-lacks_trims Trim (Err HistoryFull) q = (refl, refl)
-lacks_trims Trim (Err _) q = cc
-
-pub direct : (w : WhenFull) (call : Once) (old mid new : Shown) (r : Result Entry Fault) → call old r mid →
-    MakesRoom w r mid (Ok false) new → InTurns w call old r new
-direct w call old mid new r x m = inl (subst (λ (z : Shown). call old r z) (sym m.1) x, m.0)
-
-found_full : (w : WhenFull) (call : Once) (old mid : Shown) (r : Result Entry Fault) → call old r mid →
-    lacks_room w r ≡ true → call old (Err HistoryFull) mid
-found_full w call old mid r x lacks =
-    subst (λ (z : Result Entry Fault). call old z mid) (lacks_trims w r lacks).1 x
-
-pub made_again : (w : WhenFull) (call : Once) (old mid folded new : Shown) (r s : Result Entry Fault) →
-    call old r mid → MakesRoom w r mid (Ok true) folded → IsSame mid folded → call folded s new →
-    InTurns w call old s new
-made_again w call old mid folded new r s x m same again =
-    inr (inl record {
-      trims = (lacks_trims w r m.0).0;
-      full = mid;
-      found_full = found_full w call old mid r x m.0;
-      folded = folded;
-      same = same;
-      count = m.1.0;
-      trim = m.1.1;
-      again = again;
-    })
-
-pub cannot_fold : (w : WhenFull) (call : Once) (old mid new : Shown) (r : Result Entry Fault) (f : Fault) →
-    call old r mid → MakesRoom w r mid (Err f) new → InTurns w call old (Err f) new
-cannot_fold w call old mid new r f x m =
-    inr (inr record {
-      trims = (lacks_trims w r m.0).0;
-      full = mid;
-      found_full = found_full w call old mid r x m.0;
-      fault = f;
-      trim = m.1;
-      is = refl;
-    })

@@ -16,7 +16,7 @@ use Rattle.monitor_fronts.specs.Told.{done_of, whether_of}
 use Rattle.permit.specs.Deed.{Deed}
 use Rattle.guarded.specs.declared.asking.Asked.{Asked}
 use Rattle.guarded.specs.declared.asking.Asked.TheVariants as asked
-use Rattle.guarded.specs.Full.{Call, InTurns, Once}
+use Rattle.guarded.specs.Full.{Call}
 
 -- the calls of the monitor
 abbrev pub acquires : (Deed → Type 0) → How → Call
@@ -33,11 +33,8 @@ abbrev pub signal_step : Bool → ℕ → Step
 signal_step true condition = SignalAll condition
 signal_step false condition = Signal condition
 
-abbrev pub signals_once : (Deed → Type 0) → Bool → ℕ → Once
-signals_once did all condition old reply new = IsEntered did old (signal_step all condition) reply new
-
 abbrev pub signals : (Deed → Type 0) → Bool → ℕ → Call
-signals did all condition w old reply new = InTurns w (signals_once did all condition) old reply new
+signals did all condition w old reply new = IsEnteredIn w did old (signal_step all condition) reply new
 
 abbrev pub call_of : (Deed → Type 0) → Asked → Call
 call_of did (asked.Acquire how) = acquires did how

@@ -1,4 +1,4 @@
-//! How items are taken from a pool, and put back.
+//! How items are acquired from a pool, and released into it.
 ghost use Rattle.std.specs.Prelude.{◌≡◌, ◌<◌, ◌≤◌, ◌^◌, ◌∷◌, [], IfErr, IfOk, IfSome, length};
 ghost use Rattle.monitor.specs.Shown.{IsSound};
 ghost use Rattle.monitor.specs.Stepping.{IsSame};
@@ -20,9 +20,9 @@ use std::collections::LinkedList;
 use std::sync::Wait;
 use std::time::Clock;
 
-/// Each acquire returns as many items as were asked for. After an `Err` or a `None` the pool has all items that it
-/// had. `HistoryFull` and `TrimFull` come as the page of this crate says, `OutOfMemory` if memory for the history
-/// is refused, `BadAmount` above 2147483647, and `Interrupted` where a method says so.
+/// Each acquire returns as many items as were asked for. After an `Err` or a `None` the pool has all items
+/// that it had. `HistoryFull` and `TrimFull` come as the page of this crate says, `OutOfMemory` if memory for
+/// the history is refused, `BadAmount` above 2147483647, and `Interrupted` from methods that say so.
 impl<T: Drop> Pool<T> {
     /// Waits until the pool has `n` items, or is interrupted: `Err(Interrupted)`, also if an interrupt was
     /// pending. The interrupt is taken. This is `Semaphore.acquire(permits)`.
@@ -265,7 +265,7 @@ impl<T: Drop> Pool<T> {
     }
 }
 
-// A list of one item. Where memory for its node is refused, the item comes back.
+// A list of one item. If memory for its node is refused, it returns the item.
 fn list_of<T>(alloc: Global, item: T) -> Result<LinkedList<T>, T>
     ensures ok { IfOk result (λ items. items ≡ item ∷ []) }
     ensures err { IfErr result (λ back. back ≡ item) }

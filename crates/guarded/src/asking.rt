@@ -4,7 +4,7 @@ use monitor::How;
 /// A call by which a pass may come to hold the lock.
 #[derive(Clone, Copy)]
 pub(crate) enum Asked {
-    /// Waits in line for the lock.
+    /// Waits in the queue for the lock.
     Acquire(How),
     /// Acquires the lock, past all waiters.
     Try,
@@ -15,7 +15,7 @@ pub(crate) enum Asked {
 /// A call by which a pass may come to read.
 #[derive(Clone, Copy)]
 pub(crate) enum Reading {
-    /// Waits in line for a read hold.
+    /// Waits in the queue for a read hold.
     Acquire(How),
     /// Acquires a read hold, past all waiters.
     Try,
@@ -24,7 +24,7 @@ pub(crate) enum Reading {
 /// A call of a pool.
 #[derive(Clone, Copy)]
 pub(crate) enum PoolCall {
-    /// Waits in line for this many items.
+    /// Waits in the queue for this many items.
     Acquire(u32, How),
     /// Acquires this many items, past all waiters.
     Try(u32),

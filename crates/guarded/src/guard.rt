@@ -53,7 +53,7 @@ impl<'a, T: Drop, P: Parking, R: Wait + Clock, H: Hooks + Drop> Guard<'a, T, P, 
         self.slot.value()
     }
 
-    /// Returns the value, to be changed.
+    /// Returns the value, to change it.
     pub fn value_mut(&mut self) -> &mut T
         requires there { IsFull self.old.slot }
         ensures* lends { sem 𝓛 (LendsValue T.row P.row R.row H.row H.Hooks self.entry result) }

@@ -27,12 +27,9 @@
 //!   only if there was no room. It returns `HistoryFull` only if a history without entries has no room, and
 //!   `TrimFull` only if more than 1000000000000000 entries would be folded.
 //!
-//! A [signal](Guard::signal) folds in a turn of its own and signals again. So it returns `HistoryFull` also if
-//! other threads filled the history between these turns.
-//!
-//! An `unlock` always has room and memory: both were reserved when the hold was recorded. So have `unread` and
-//! [`downgrade`](Guard::downgrade). A `release` of items may lack them, and then returns the items with the fault.
-//! That is why no guard releases an item where it is dropped.
+//! An `unlock` always has room and memory: both were reserved when the hold was recorded. The same holds for
+//! `unread` and [`downgrade`](Guard::downgrade). A `release` of items may lack them, and then returns the
+//! items with the fault. That is why a pool has no guards that release items when they are dropped.
 #![tactic(auto)]
 
 mod acquiring;

@@ -40,9 +40,9 @@ use std::marker::Model;
 use std::sync::Wait;
 use std::time::Clock;
 
-/// A lock that guards a value: `java.util.concurrent.locks.ReentrantLock` of Java SE 8 with its conditions, and
-/// `std::sync::Mutex` of Rust in what it guards. A pass stands for a thread. A contract sees which lock it is, with
-/// its header, and what it does if its history is full.
+/// A lock that guards a value: as a lock, `java.util.concurrent.locks.ReentrantLock` of Java SE 8 with its
+/// conditions; as a guard of a value, `std::sync::Mutex` of Rust. A pass stands for a thread. A contract sees
+/// which lock it is, with its header, and what it does if its history is full.
 #[derive(Drop)]
 pub struct Mutex<T: Drop, H: Hooks + Drop = LockHooks> {
     pub(crate) monitor: Monitor<H, Slot<T>>,
@@ -206,7 +206,7 @@ impl<T: Drop, H: Hooks + Drop> Mutex<T, H> {
         }
     }
 
-    // An acquire without a time.
+    // An acquire without a timeout.
     pub(crate) fn take<P: Parking, R: Wait + Clock>(
         &self,
         rt: &R,
@@ -230,7 +230,7 @@ impl<T: Drop, H: Hooks + Drop> Mutex<T, H> {
         }
     }
 
-    // Releases a hold. With the last one the value goes back into the lock.
+    // Releases a hold. With the last hold the value goes back into the lock.
     pub(crate) fn give<P: Parking, R: Wait + Clock>(
         &self,
         rt: &R,

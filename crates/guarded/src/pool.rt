@@ -46,8 +46,8 @@ use std::time::Clock;
 /// The pool always has as many items as permits are free. An item that was acquired may be given to another thread,
 /// and any pass may release it. An item that is dropped is gone from the pool.
 ///
-/// The item that was released last is acquired first. Items come and go as a `LinkedList`, which moves without
-/// memory: to acquire some takes time for each item, to release them doesn't.
+/// The item that was released last is acquired first. Items come and go as a `LinkedList`, which moves
+/// without memory. An acquire takes time for each item, a release doesn't.
 #[derive(Drop)]
 pub struct Pool<T: Drop> {
     monitor: Monitor<SemaphoreHooks, Shelf<T>>,
@@ -208,7 +208,7 @@ impl<T: Drop> Pool<T> {
         }
     }
 
-    // An acquire or a try. Returns the items, or None if there were too few in time.
+    // An acquire or a try. Returns the items, or None if too few were free in time.
     pub(crate) fn take<P: Parking, R: Wait + Clock>(
         &self,
         rt: &R,
@@ -247,7 +247,7 @@ impl<T: Drop> Pool<T> {
         }
     }
 
-    // An acquire without a time.
+    // An acquire without a timeout.
     pub(crate) fn fetch<P: Parking, R: Wait + Clock>(
         &self,
         rt: &R,

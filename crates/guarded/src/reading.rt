@@ -90,7 +90,7 @@ impl<T: Drop, H: Hooks + Drop> Mutex<T, H> {
         }
     }
 
-    // An acquire without a time.
+    // An acquire without a timeout.
     pub(crate) fn read_by<P: Parking, R: Wait + Clock>(
         &self,
         rt: &R,

@@ -42,16 +42,17 @@ use std::marker::Model;
 use std::sync::Wait;
 use std::time::Clock;
 
-/// A lock that guards a value: `java.util.concurrent.locks.ReentrantReadWriteLock` of Java SE 8 with the conditions
-/// of its write lock, and `std::sync::RwLock` of Rust in what it guards. A pass stands for a
-/// thread.
+/// A lock that guards a value: as a lock, `java.util.concurrent.locks.ReentrantReadWriteLock` of Java SE 8
+/// with the conditions of its write lock; as a guard of a value, `std::sync::RwLock` of Rust. A pass stands
+/// for a thread.
 ///
-/// A writer has the value, in a [`Guard`]. Readers hold the lock together, and the value stays in it: `read_with`
-/// shows it to one reader at a time, until its closure returns. There is no guard with a `&T`, since the value is under
-/// the monitor's lock, which is acquired for each look.
+/// A writer has the value, in a [`Guard`]. Readers hold the lock together, and the value stays in it:
+/// `read_with` shows it to one reader at a time, until its closure returns. There is no guard with a `&T`,
+/// since the value is under the monitor's lock, which each look acquires.
 ///
-/// A writer that acquires a read hold and then unlocks becomes a reader, and no other writer comes between. A reader
-/// can't become a writer: its `write` waits for its own read hold until an interrupt or its time ends it.
+/// A writer that acquires a read hold and then unlocks becomes a reader, and no other writer comes in
+/// between. A reader can't become a writer: its `write` waits for its own read hold until an interrupt or its
+/// time ends it.
 #[derive(Drop)]
 pub struct RwMutex<T: Drop> {
     pub(crate) mutex: Mutex<T, RwHooks>,
@@ -247,9 +248,9 @@ impl<T: Drop> RwMutex<T> {
     }
 }
 
-/// Each of these is called by a pass that doesn't write, and may read already: it then has one read hold more. After
-/// an `Err` it has as many as before. There are 65535 read holds for all passes together, and then
-/// `Err(TooManyHolds)`; the other faults are the monitor's, as at [`Mutex`].
+/// Each of these is called by a pass that doesn't write; it may read already. Afterwards it has one more read
+/// hold. After an `Err` it has as many as before. All passes together may have 65535 read holds; a call for
+/// more returns `Err(TooManyHolds)`; the other faults are the monitor's, as at [`Mutex`].
 impl<T: Drop> RwMutex<T> {
     /// Waits until nobody writes. An interrupt doesn't end the wait, and stays pending. This is `ReadLock.lock()` of
     /// Java SE 8.
@@ -353,8 +354,8 @@ impl<T: Drop> RwMutex<T> {
         self.mutex.look(rt, pass, look)
     }
 
-    /// Releases a read hold. It never lacks room or memory. `Err(OutOfPhase)` if the pass was left in the middle of
-    /// another call, by steps of its own on the monitor. This is `ReadLock.unlock()`.
+    /// Releases a read hold. It never lacks room or memory. `Err(OutOfPhase)` if its own steps on the monitor
+    /// left the pass in the middle of another call. This is `ReadLock.unlock()`.
     pub fn unread<P: Parking, R: Wait + Clock>(
         &self,
         rt: &R,
@@ -394,8 +395,8 @@ impl<T: Drop, P: Parking, R: Wait + Clock> Guard<'_, T, P, R, RwHooks> {
             .read_too(self.rt, self.parking, pass, &mut self.slot)
     }
 
-    /// Unlocks now, and keeps the read holds: a writer becomes a reader, and no other writer comes between. It can't
-    /// fail. This is `WriteLock.unlock()` by an owner that reads too.
+    /// Unlocks now, and keeps the read holds: a writer becomes a reader, and no other writer comes in
+    /// between. It can't fail. This is `WriteLock.unlock()` by an owner that reads too.
     pub fn downgrade(self)
         requires guards { Guards self.lock.now (P.seats self.parking.now) self.pass.now self.slot }
         requires last { holds self.pass.now ≡ 1 }

@@ -21,7 +21,7 @@ impl<T: Drop> Shelf<T> {
     }
 }
 
-// Leaves `free` items here. An acquire brought none, a release brought those that it releases.
+// Leaves `free` items here. An acquire brings none, a release brings the items that it releases.
 fn settle<T: Drop>(here: &mut LinkedList<T>, there: &mut LinkedList<T>, free: usize)
     requires { free < 2 ^ 63 }
     ensures takes { free < length here.old → there.old ≡ [] → (here.new ≡ take free here.old)

@@ -50,7 +50,7 @@ impl<T: Drop> Slot<T> {
     }
 }
 
-// The value moves if the first hold came or the last one went.
+// The value moves with the first hold acquired or the last one released.
 #[inline(always)]
 fn trade<T>(here: &mut Slot<T>, there: &mut Slot<T>, before: u128, after: u128)
     ensures here { here.new ≡ (if crosses before after then there.old else here.old) }

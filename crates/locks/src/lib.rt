@@ -4,7 +4,7 @@
 //! which they guard, pools that own the items which they hand out, and reentrant locks with conditions,
 //! read-write locks, semaphores and latches that guard no value.
 //!
-//! A program names this crate alone in `crates.txt`, as `mine: locks`. `docs/FIRST_HOUR.md` goes step by step
+//! A program names only this crate in `crates.txt`, as `mine: locks`. `docs/FIRST_HOUR.md` goes step by step
 //! from a fresh clone to a program of your own. The types are described in `CALLING.md` of the crates that
 //! define them: `guarded`, `monitor_fronts`, `monitor`, `permit` and `history`.
 //!
@@ -59,7 +59,7 @@
 //! lock, and the parking has a place for each thread. It is a word of `Rattle.locks.specs.Calling`, with the
 //! others that a caller's contracts mostly need. All other words of the contracts here are passed on too:
 //! what the page of a crate names `Rattle.guarded.specs.Asking` is `Rattle.locks.specs.Asking`. So a program
-//! that has contracts lists no other crate either.
+//! with contracts lists no other crate either.
 //!
 //! ## Which type for which need
 //!
@@ -90,7 +90,7 @@
 //!
 //! - *Exclusion.* The value is with one guard, or in the lock. Nobody writes while another thread reads. As
 //!   many items lie in a pool as permits are free. Each other item is with the one thread that owns it.
-//! - *The value's invariant*, a ghost field of its type, holds whenever a thread gets the value.
+//! - *The value's invariant*, of its type's `impl Model` or ghost field, holds each time a thread gets the value.
 //! - *Order.* No queued acquire is granted before an earlier one that still waits.
 //! - *Unlocking cannot fail.* It lacks neither memory nor room in the history, and a guard unlocks at each
 //!   way out. Releasing a semaphore can fail, since a thread may release permits that it did not acquire.
@@ -98,11 +98,11 @@
 //! - *The history.* Each call adds exactly the entries that its contract lists to one legal history, which
 //!   `close` returns.
 //! - *Errors.* After an `Err` the pass holds what it held before. The contract says what was recorded:
-//!   nothing, a refusal, or that the thread gave up waiting.
+//!   nothing, a refusal, or that the thread stopped waiting.
 //!
-//! Not promised: that a call which waits returns, that a woken thread runs soon, and that threads do not wait
-//! for one another in a circle. `docs/PROMISES.md` has all promises, `docs/PROOFS.md` says what is only
-//! tested.
+//! Not promised: that a call which waits returns, that a woken thread runs soon, and that threads do
+//! not deadlock. `docs/PROMISES.md` has all promises, and lists what is only tested and what nothing
+//! shows.
 //!
 //! ## What it costs
 //!
@@ -110,7 +110,8 @@
 //!   to 10 million with up to eight. Apart from a fair lock with eight threads, that is 0.14 to 0.23 times
 //!   what Java's classes reach when they keep a history too. `docs/PERFORMANCE.md` says how it was measured:
 //!   without a value under the lock.
-//! - *Moving the value.* A `Mutex` moves its value out and in at each pair. Put a large value into a `Box`.
+//! - *Moving the value.* A `Mutex` moves its value out and in at each pair. Put a large value into a
+//!   `Box`.
 //! - *Memory.* 12 bytes an entry, in pages of 1,024 entries. A pair that waits for nobody takes two entries,
 //!   one that waits takes three. A lock never keeps more than `cap` entries.
 //!
@@ -129,18 +130,17 @@
 //! | `HoldsRead` | a wait on a condition by a writer that reads too | end the read first |
 //! | `NoSuchCondition` | a condition that the lock lacks | they count from 0; open the lock with more |
 //! | `BadAmount` | more than 2147483647 permits at once | ask for less |
-//! | `OutOfPhase` | a pass that was left in the middle of another call of the monitor | end that call first |
+//! | `OutOfPhase` | a pass whose last call of the monitor has not ended | end that call first |
 //! | `WrongMode` | a step that the object does not have; no call of these types makes one | |
 //! | `TrimFull` | 1000000000000000 entries were folded | close the lock, and open a new one |
 //!
-//! With `WhenFull::Trim`, `HistoryFull` comes only if a history without entries has no room, or if other threads
-//! filled the history between the two turns of a guard's signal that made room.
+//! With `WhenFull::Trim`, `HistoryFull` comes only if a history without entries has no room.
 //!
 //! A try that did not get the lock returns `TryLockFault::Missed`, or `false`. A lock that is closed without
 //! all of its passes returns `CloseFault::MissingPass`, and everything with it.
 //!
-//! What has no fault: a thread that waits for a signal which nobody sends, two threads that wait for each
-//! other, and a thread that ends without giving back its permits. Give such a wait a time: `try_lock_for`,
+//! Some errors return no fault: a thread waits for a signal which nobody sends, two threads wait for each
+//! other, or a thread ends without releasing its permits. Give such a wait a timeout: `try_lock_for`,
 //! `wait_for`.
 #![tactic(auto)]
 
